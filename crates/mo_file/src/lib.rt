@@ -3,8 +3,14 @@
 //! manual).
 #![tactic(auto)]
 
+mod building;
+mod byte_order;
 mod counting;
+mod fault;
 mod key;
 
+pub use building::{BuildError, Pair};
+pub use byte_order::Order;
 pub use counting::Meter;
+pub use fault::MoError;
 pub use key::compare_key;
