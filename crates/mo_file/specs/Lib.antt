@@ -5,6 +5,7 @@ pub mod Header
 pub mod StringTable
 pub mod Fault
 pub mod Catalog
+pub mod Checking
 pub mod Layout
 pub mod Building
 pub mod Laws

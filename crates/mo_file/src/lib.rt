@@ -5,9 +5,12 @@
 
 mod building;
 mod byte_order;
+mod checking;
 mod counting;
 mod fault;
+mod header;
 mod key;
+mod strings;
 
 pub use building::{BuildError, Pair};
 pub use byte_order::Order;
