@@ -29,3 +29,9 @@ IsSortedBelow order bytes n = (i : ℕ) → i + 1 < n → ¬ IsUnsorted order by
 abbrev pub IsFirstBelow : (ℕ → Type 0) → ℕ → Option ℕ → Type 0
 IsFirstBelow P n None = (k : ℕ) → k < n → ¬ P k
 IsFirstBelow P n (Some i) = (i < n) × P i × ((k : ℕ) → k < i → ¬ P k)
+
+-- all of the file has been checked
+pub record IsChecked (header : Header) (bytes : List ℕ) : Type 0 where
+  pub read : IsHeader header bytes
+  pub strings : HasStrings header.order bytes
+  pub sorted : IsSortedBelow header.order bytes header.count

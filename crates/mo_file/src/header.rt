@@ -1,5 +1,5 @@
-ghost use Rattle.std.specs.Prelude.{MatchResult};
-ghost use Rattle.mo_file.specs.Fault.{IsFirstFault};
+ghost use Rattle.std.specs.Prelude.{◌≡◌, IfErr, MatchResult};
+ghost use Rattle.mo_file.specs.Fault.{IsFirstFault, looks_before};
 ghost use Rattle.mo_file.specs.Checking.{IsHeader};
 
 use crate::byte_order::{Order, word};
@@ -23,7 +23,8 @@ pub(crate) struct Header {
 impl Header {
     /// Reads the header and sees that both tables lie inside the file.
     pub(crate) fn read(bytes: &[u8]) -> Result<Header, MoError>
-        ensures { MatchResult result (λ header. IsHeader header bytes.now) (IsFirstFault bytes.now) }
+        ensures exact { MatchResult result (λ header. IsHeader header bytes.now) (IsFirstFault bytes.now) }
+        ensures no_look { IfErr result (λ e. looks_before e ≡ 0) }
     {
         if bytes.len() < HEADER_LEN {
             return Err(MoError::TooShort);

@@ -11,9 +11,11 @@ mod fault;
 mod header;
 mod key;
 mod strings;
+mod view;
 
 pub use building::{BuildError, Pair};
 pub use byte_order::Order;
 pub use counting::Meter;
 pub use fault::MoError;
 pub use key::compare_key;
+pub use view::MoView;
