@@ -42,6 +42,6 @@ module _ (order : Order) (bytes : List ℕ) where
   pub AreRising-messages_of : IsSortedBelow order bytes (message_count order bytes) → AreRising (keys (messages_of order bytes))
   AreRising-messages_of sorted = record {
     next = λ i lt.
-      let inside : i + 1 < message_count order bytes = omega (arith, length-map (messages_of order bytes) (λ m. key_of m.original), length-messages_of) in
-      rw (keys-at i (omega arith), keys-at (i + 1) inside) (not_unequal _ (sorted i inside));
+        let inside : i + 1 < message_count order bytes = omega (arith, length-map (messages_of order bytes) (λ m. key_of m.original), length-messages_of) in
+        rw (keys-at i (omega arith), keys-at (i + 1) inside) (not_unequal _ (sorted i inside));
   }
