@@ -1,5 +1,5 @@
 -- Building: the length of a layout, and the keys of pairs.
-use Rattle.std.proofs.Common.{◌≡◌, ℕ, ◌+◌, ◌*◌, ◌-◌, ◌<◌, List, [], ◌∷◌, ◌++◌, length, drop, get_or, map, refl, sym, ◌∙◌, ap, arith, length-append}
+use Rattle.std.proofs.Common.{◌≡◌, ℕ, ◌+◌, ◌*◌, ◌-◌, ◌<◌, List, [], ◌∷◌, ◌++◌, length, get_or, map, refl, sym, ◌∙◌, ap, arith, length-append}
 use Rattle.std.specs.List.{slice_range, sum_by}
 use Rattle.std.proofs.lemmas.List.{length-map, length-drop, get_or-map, get_or-drop, take_rest}
 use Rattle.std.proofs.lemmas.List.Sums.{sum_by-cons}
@@ -9,7 +9,7 @@ use Rattle.mo_file.specs.declared.pairs.Pair.{Pair}
 use Rattle.mo_file.specs.Header.{magic}
 use Rattle.mo_file.specs.Word.{word_bytes}
 use Rattle.mo_file.specs.Message.{Message, originals, translations}
-use Rattle.mo_file.specs.Layout.{layout, header, table, terminated, originals_place, translations_place}
+use Rattle.mo_file.specs.Layout.{layout, header, table, terminated}
 use Rattle.mo_file.specs.declared.pairs.Part.TheVariants.{Original, Translation}
 use Rattle.mo_file.specs.Key.{key_of, keys, key_at}
 use Rattle.mo_file.specs.Pairs.{message, messages_of_pairs, strings_of}

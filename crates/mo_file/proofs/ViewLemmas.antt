@@ -1,6 +1,6 @@
 -- The messages of a file: how many they are, what stands at a place, and that their keys rise.
-use Rattle.std.proofs.Common.{◌≡◌, ◌≢◌, ℕ, ◌+◌, ◌<◌, List, [], length, map, Option, Some, refl, sym, ◌∙◌, ap, arith}
-use Rattle.std.specs.List.{range_with_len, slice_get}
+use Rattle.std.proofs.Common.{◌≡◌, ◌≢◌, ℕ, ◌+◌, ◌<◌, List, [], length, map, Some, refl, ◌∙◌, ap, arith}
+use Rattle.std.specs.List.{slice_get}
 use Rattle.std.specs.Option.{option_map}
 use Rattle.std.specs.declared.cmp.Ordering.{Ordering}
 use Rattle.std.specs.declared.cmp.Ordering.TheVariants.{Less, Equal, Greater}
@@ -8,10 +8,10 @@ use Rattle.std.proofs.lemmas.List.{length-map}
 use Rattle.std.proofs.lemmas.List.FromFn.{length-map-range_with_len, get_or-map-range_with_len}
 use Rattle.std.proofs.lemmas.Option.{slice_get-map, slice_get-get_or, get_or_from_slice_get}
 use Rattle.mo_file.specs.declared.byte_order.Order.{Order}
-use Rattle.mo_file.specs.Message.{Message, originals, translations}
-use Rattle.mo_file.specs.Key.{key_of, key_cmp, keys, key_at, AreRising}
+use Rattle.mo_file.specs.Message.{Message}
+use Rattle.mo_file.specs.Key.{key_of, keys, key_at, AreRising}
 use Rattle.mo_file.specs.Header.{message_count}
-use Rattle.mo_file.specs.StringTable.{message_at, messages_of, original_at, translation_at}
+use Rattle.mo_file.specs.StringTable.{message_at, messages_of, original_at}
 use Rattle.mo_file.specs.Checking.{IsSortedBelow}
 
 not_unequal : (order : Ordering) → ¬ (order ≢ Less) → order ≡ Less

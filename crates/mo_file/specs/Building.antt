@@ -1,5 +1,5 @@
 -- Why messages aren't built to a file.
-use Rattle.std.specs.Prelude.{ℕ, ◌^◌, ◌<◌, ◌≤◌, List, length}
+use Rattle.std.specs.Prelude.{◌^◌, ◌<◌, ◌≤◌, List, length}
 use Rattle.mo_file.specs.declared.byte_order.Order.{Order}
 use Rattle.mo_file.specs.declared.building.BuildError.{BuildError}
 use Rattle.mo_file.specs.declared.building.BuildError.TheVariants.{TooLarge, NotSorted, OutOfMemory}

@@ -1,4 +1,4 @@
-use Rattle.std.proofs.Common.{arith, sym, ◌∙◌}
+use Rattle.std.proofs.Common.{arith}
 use Rattle.mo_file.proofs.BuildLemmas.{length-layout-strings, layout-pushed}
 use Rattle.mo_file.proofs.building.laid_out.Goals as goal
 
