@@ -1,5 +1,6 @@
 -- What is laid out is a valid file.
-use Rattle.std.proofs.Common.{◌≡◌, ℕ, suc, ◌+◌, ◌*◌, ◌^◌, ◌<◌, List, [], ◌∷◌, ◌++◌, length, Some, refl, sym, ◌∙◌, ap, subst, arith, append_assoc, length-append, inl, inr}
+use Rattle.std.proofs.Common.{◌≡◌, ℕ, suc, ◌+◌, ◌*◌, ◌^◌, ◌<◌, List, [], ◌∷◌, ◌++◌, length, Some, refl, sym, ◌∙◌}
+use Rattle.std.proofs.Common.{ap, subst, arith, append_assoc, length-append, inl, inr}
 use Rattle.std.specs.List.{slice_get}
 use Rattle.std.specs.Option.{option_map}
 use Rattle.std.proofs.lemmas.List.{append-nil, length-map, take_at}
@@ -17,7 +18,7 @@ use Rattle.mo_file.specs.Laws.{LayoutIsCatalog}
 use Rattle.mo_file.proofs.BuildLemmas.{length-header, length-layout, length-magic, length-table, length-word_bytes}
 use Rattle.mo_file.proofs.FaultLemmas.{faultless}
 use Rattle.mo_file.proofs.LayoutLemmas.{IsString, IsString-laid, StandsAt, word_at-StandsAt}
-use Rattle.mo_file.proofs.ViewLemmas.{keys-at, length-messages_of, messages_of-at}
+use Rattle.mo_file.proofs.ViewLemmas.{keys-at, length-keys-messages_of, length-messages_of, messages_of-at}
 
 -- two lists with the same message at each place
 same_at_each : (xs ys : List Message) → ((i : ℕ) → slice_get xs i ≡ slice_get ys i) → xs ≡ ys
@@ -69,7 +70,8 @@ module _ (order : Order) (messages : List Message) where
   body = original_entries ++ (translation_entries ++ (original_strings ++ translation_strings))
 
   -- a part of the layout
-  stands : (front part rest : List ℕ) (place : ℕ) → bytes ≡ front ++ (part ++ rest) → length front ≡ place → StandsAt bytes place part
+  stands : (front part rest : List ℕ) (place : ℕ) → bytes ≡ front ++ (part ++ rest) → length front ≡ place →
+      StandsAt bytes place part
   stands front part rest place is behind = record { front = front; rest = rest; is = is; behind = behind }
 
   shows : Shows order bytes
@@ -139,14 +141,16 @@ module _ (order : Order) (messages : List Message) where
         (simp (length-append, length-magic, length-word_bytes, length-table, length-map) (omega arith))
 
     -- the strings of message i
-    original_here : (i : ℕ) (m : Message) → slice_get messages i ≡ Some m → IsString order bytes (originals_table order bytes) i m.original
+    original_here : (i : ℕ) (m : Message) → slice_get messages i ≡ Some m →
+        IsString order bytes (originals_table order bytes) i m.original
     original_here i m is =
         let original = λ (x : Message). x.original in
         IsString-laid order bytes (originals_table order bytes) (originals_place messages) (originals messages) original_entries_stand
         original_strings_stand (omega (arith, small)) i m.original
         (slice_get-map original messages i ∙ ap (option_map original) is)
 
-    translation_here : (i : ℕ) (m : Message) → slice_get messages i ≡ Some m → IsString order bytes (translations_table order bytes) i m.translation
+    translation_here : (i : ℕ) (m : Message) → slice_get messages i ≡ Some m →
+        IsString order bytes (translations_table order bytes) i m.translation
     translation_here i m is =
         let translation = λ (x : Message). x.translation in
         IsString-laid order bytes (translations_table order bytes) (translations_place messages) (translations messages) translation_entries_stand
@@ -186,7 +190,10 @@ module _ (order : Order) (messages : List Message) where
         }
 
     -- each message is laid out with both its strings
-    both_laid : (i : ℕ) → i < message_count order bytes → (m : Message) × (slice_get messages i ≡ Some m) × IsString order bytes (originals_table order bytes) i m.original × IsString order bytes (translations_table order bytes) i m.translation
+    both_laid : (i : ℕ) → i < message_count order bytes →
+        (m : Message) × (slice_get messages i ≡ Some m)
+        × IsString order bytes (originals_table order bytes) i m.original
+        × IsString order bytes (translations_table order bytes) i m.translation
     both_laid i lt =
         elim (slice_get_cases messages i).1 [
           | inl here ↦ (here.0, here.2, original_here i here.0 here.2, translation_here i here.0 here.2)
@@ -210,12 +217,14 @@ module _ (order : Order) (messages : List Message) where
         let P : List Message → Type 0 = λ ms. AreRising (keys ms) in
         let risen = subst P lists rising in
         let inside : i + 1 < message_count order bytes = omega (arith, count_is) in
-        let listed : i + 1 < length (keys (messages_of order bytes)) = omega (arith, length-map (messages_of order bytes) (λ m. key_of m.original), length-messages_of order bytes) in
+        let listed : i + 1 < length (keys (messages_of order bytes)) = omega (arith, length-keys-messages_of order bytes) in
         unsorted (rw (keys-at order bytes i (omega arith), keys-at order bytes (i + 1) inside) at (risen.next i listed))
 
 pub layout_is_catalog : LayoutIsCatalog
 layout_is_catalog order messages rising fits = record {
   shows = shows order messages;
-  faultless = faultless (read_header order messages fits) (bytes order messages) (header_read order messages fits) (strings_laid order messages fits) (sorted order messages fits rising);
+  faultless =
+      faultless (read_header order messages fits) (bytes order messages) (header_read order messages fits)
+      (strings_laid order messages fits) (sorted order messages fits rising);
   lists = lists order messages fits;
 }
