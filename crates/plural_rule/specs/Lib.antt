@@ -1,0 +1,7 @@
+pub mod Expression
+pub mod Tokens
+pub mod Grammar
+pub mod Header
+pub mod PluralRule
+pub mod TreeCode
+pub mod PostOrder
