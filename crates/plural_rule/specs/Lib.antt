@@ -3,5 +3,4 @@ pub mod Tokens
 pub mod Grammar
 pub mod Header
 pub mod PluralRule
-pub mod TreeCode
 pub mod PostOrder

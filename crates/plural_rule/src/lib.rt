@@ -6,10 +6,15 @@
 //! uses more of the machine's stack for a deeper expression.
 #![tactic(auto)]
 
+mod evaluator;
+mod header;
+mod lexer;
 mod node;
 mod operator;
+mod parser;
 mod rule;
+#[cfg(test)]
+mod tests;
 mod token;
 
-pub use operator::Operator;
-pub use rule::{Reason, Rule, Source};
+pub use rule::{LIMIT, Reason, Rule, Source};

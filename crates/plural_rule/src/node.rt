@@ -1,10 +1,12 @@
-//! The nodes of an expression's table.
+//! The table of nodes that holds an expression.
 use crate::operator::Operator;
+use crate::rule::LIMIT;
+use arrayvec::ArrayVec;
 
 /// A node of an expression in a table, in which it stands behind its operands.
 ///
 /// An operand is named by its index in the table.
-#[derive(Clone, Copy, Debug, PartialEq, Eq, Drop)]
+#[derive(Clone, Copy, Drop)]
 pub enum Node {
     /// `n`, the count that the rule is asked for.
     Count,
@@ -23,3 +25,6 @@ impl Default for Node {
         Node::Count
     }
 }
+
+/// The nodes of an expression, the whole one's last.
+pub type Table = ArrayVec<Node, LIMIT>;

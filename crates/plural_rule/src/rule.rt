@@ -3,8 +3,9 @@ ghost use Rattle.std.specs.Prelude.{◌≡◌, ◌≤◌};
 ghost use Rattle.plural_rule.specs.Expression.{value, visited, nodes};
 ghost use Rattle.plural_rule.specs.PluralRule.{IsRuleOf};
 
-use crate::node::Node;
-use arrayvec::ArrayVec;
+use crate::node::{Node, Table};
+use crate::operator::Operator;
+use crate::{evaluator, header, lexer, parser};
 use std::marker::Model;
 
 /// The most bytes that an expression may have, and so the most nodes.
@@ -29,7 +30,7 @@ pub enum Reason {
     NoExpression,
     /// The number of plural forms or a numeral is 2^64 or more, or the expression isn't one of the grammar.
     Unreadable,
-    /// The expression has more bytes than `LIMIT`.
+    /// The expression has more than `LIMIT` bytes.
     TooLong,
 }
 
@@ -41,15 +42,14 @@ pub enum Reason {
 pub struct Rule {
     source: Source,
     number: u64,
-    table: ArrayVec<Node, LIMIT>,
+    table: Table,
 }
 
 impl Model for Rule {
     ghost use Rattle.std.specs.Prelude.{◌≡◌};
     ghost use Rattle.std.specs.Coded.{codes};
-    ghost use Rattle.plural_rule.specs.TreeCode.{tree_code};
     ghost use Rattle.plural_rule.specs.PluralRule.{Meaning};
-    ghost use Rattle.plural_rule.specs.PostOrder.{layout, tree_of};
+    ghost use Rattle.plural_rule.specs.PostOrder.{layout, tree_of, tree_code};
 
     ghost Value = { Meaning };
 
@@ -61,6 +61,29 @@ impl Model for Rule {
 }
 
 impl Rule {
+    /// The rule that a header text gives.
+    ///
+    /// The number of plural forms stands behind the first `nplurals=`, and the expression behind the
+    /// first `plural=`, up to `;`, a line feed or the end. Where one of them is missing or can't be
+    /// read, the rule is the default, and `source` says why.
+    pub fn parse(header: &[u8]) -> Rule
+        ensures { IsRuleOf LIMIT header.now result }
+    {
+        let mut table = Table::new();
+        let (source, number) = match read(header, &mut table) {
+            Ok(number) => (Source::Header, number),
+            Err(reason) => {
+                write_default(&mut table);
+                (Source::Default(reason), 2)
+            }
+        };
+        Rule {
+            source,
+            number,
+            table,
+        }
+    }
+
     /// Where the rule comes from.
     pub fn source(&self) -> Source
         ensures { result ≡ self.now.source }
@@ -74,4 +97,51 @@ impl Rule {
     {
         self.number
     }
+
+    /// How many nodes the expression has: `n`, numerals and operators.
+    pub fn nodes(&self) -> u32
+        ensures value { result ≡ nodes self.now.tree }
+        ensures limit { result ≤ LIMIT }
+        ensures some { 1 ≤ result }
+    {
+        self.table.len() as u32
+    }
+
+    /// The value of the expression at a count, or `None` where it is undefined, and the number of nodes that were evaluated.
+    pub fn eval(&self, count: u64) -> (Option<u64>, u32)
+        ensures value { result.0 ≡ value self.now.tree count }
+        ensures steps { result.1 ≡ visited self.now.tree count }
+        ensures bound { result.1 ≤ nodes self.now.tree }
+    {
+        evaluator::evaluate(self.table.as_slice(), count)
+    }
+}
+
+/// Reads a header's number, and its expression into the empty `table`.
+fn read(header: &[u8], table: &mut Table) -> Result<u64, Reason> {
+    let Some(digits) = header::number_digits(header) else {
+        return Err(Reason::NoNumber);
+    };
+    let Some(text) = header::expression(header) else {
+        return Err(Reason::NoExpression);
+    };
+    if text.len() > LIMIT {
+        return Err(Reason::TooLong);
+    }
+    let Some(number) = lexer::decimal_value(digits) else {
+        return Err(Reason::Unreadable);
+    };
+    if parser::parse(text, table) {
+        Ok(number)
+    } else {
+        Err(Reason::Unreadable)
+    }
+}
+
+/// Writes `n != 1` in place of what `table` holds.
+fn write_default(table: &mut Table) {
+    table.clear();
+    table.push(Node::Count);
+    table.push(Node::Number(1));
+    table.push(Node::Binary(Operator::NotEqual, 0, 1));
 }

@@ -2,7 +2,7 @@
 use crate::operator::Operator;
 
 /// A token of a plural expression.
-#[derive(Clone, Copy, Debug, PartialEq, Eq, Drop)]
+#[derive(Clone, Copy, Drop)]
 pub enum Token {
     /// `n`
     Count,
