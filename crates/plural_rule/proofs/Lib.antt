@@ -1,0 +1,3 @@
+pub mod Complete
+pub mod Lexing
+pub mod Sound

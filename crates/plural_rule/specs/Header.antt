@@ -1,7 +1,7 @@
 -- The two fields of a header text that make a plural rule.
 -- GNU gettext manual, "Plural forms" and "Filling in the Header Entry".
-use Rattle.std.specs.Prelude.{ℕ, Bool, not, ◌||◌, ◌==◌, nat_eq, List, [], ◌∷◌, Option, Some, None, option_map, option_and_then, length, drop, take_while, if◌then◌else◌, codes}
-use Rattle.std.specs.List.{starts_with, prefix_len}
+use Rattle.std.specs.Prelude.{ℕ, Bool, ◌||◌, ◌==◌, nat_eq, List, [], ◌∷◌, Option, Some, None, option_map, option_and_then, length, drop, take_while, if◌then◌else◌, codes}
+use Rattle.std.specs.List.{starts_with, prefix_len, before_first}
 use Rattle.plural_rule.specs.Tokens.{is_blank, is_digit, decimal_value}
 
 -- what stands behind the first place of a word in a text
@@ -26,10 +26,10 @@ leading_number text = number_of_digits (take_while is_digit (without_blanks text
 abbrev pub number_of : List ℕ → Option ℕ
 number_of header = option_and_then leading_number (behind_first (codes "nplurals=") header)
 
--- a byte that doesn't end an expression: no `;` and no LF
-abbrev pub is_inside : ℕ → Bool
-is_inside c = not (c == 59 || c == 10)
+-- a byte that ends an expression: `;` or LF
+abbrev pub is_end : ℕ → Bool
+is_end c = c == 59 || c == 10
 
 -- the text of the expression that a header names
 abbrev pub expression_of : List ℕ → Option (List ℕ)
-expression_of header = option_map (take_while is_inside) (behind_first (codes "plural=") header)
+expression_of header = option_map (before_first is_end) (behind_first (codes "plural=") header)

@@ -4,3 +4,4 @@ pub mod Grammar
 pub mod Header
 pub mod PluralRule
 pub mod PostOrder
+pub mod ShiftReduce

@@ -8,6 +8,7 @@
 
 mod evaluator;
 mod header;
+pub mod laws;
 mod lexer;
 mod node;
 mod operator;
