@@ -5,3 +5,5 @@ pub mod Header
 pub mod PluralRule
 pub mod PostOrder
 pub mod ShiftReduce
+pub mod ParserState
+pub mod Scanner

@@ -1,9 +1,17 @@
 //! The tokens of an expression's text, and the numerals and blanks of a header text.
+ghost use Rattle.std.specs.Prelude.{◌≡◌, ◌^◌, ◌<◌, ◌≤◌, [], ◌∷◌, length, take_while, slice_index, MatchOption, SomeIff, true, false};
+ghost use Rattle.plural_rule.specs.Tokens.{is_digit, AllDigits, decimal_value, operator_bytes, IsSpelling};
+ghost use Rattle.plural_rule.specs.Header.{without_blanks};
+ghost use Rattle.plural_rule.specs.Scanner.{IsTokenAt, HasNoToken};
+
 use crate::operator::Operator;
 use crate::token::Token;
 
 /// The text without the spaces and TABs at its front.
-pub fn without_blanks(text: &[u8]) -> &[u8] {
+pub fn without_blanks(text: &[u8]) -> &[u8]
+    ensures value { result.now ≡ without_blanks text.now }
+    ensures shorter { length result.now ≤ length text.now }
+{
     let blanks = text
         .iter()
         .take_while(|byte| **byte == b' ' || **byte == b'\t')
@@ -12,7 +20,9 @@ pub fn without_blanks(text: &[u8]) -> &[u8] {
 }
 
 /// The decimal digits at the front of the text.
-pub fn leading_digits(text: &[u8]) -> &[u8] {
+pub fn leading_digits(text: &[u8]) -> &[u8]
+    ensures { result.now ≡ take_while is_digit text.now }
+{
     let digits = text
         .iter()
         .take_while(|byte| b'0' <= **byte && **byte <= b'9')
@@ -21,7 +31,10 @@ pub fn leading_digits(text: &[u8]) -> &[u8] {
 }
 
 /// The number that decimal digits spell, or `None` where it is 2^64 or more.
-pub fn decimal_value(digits: &[u8]) -> Option<u64> {
+pub fn decimal_value(digits: &[u8]) -> Option<u64>
+    requires { AllDigits digits.now }
+    ensures { SomeIff result (decimal_value digits.now < 2 ^ 64) (decimal_value digits.now) }
+{
     let mut value: u64 = 0;
     for digit in digits {
         let Some(shifted) = value.checked_mul(10) else {
@@ -36,7 +49,10 @@ pub fn decimal_value(digits: &[u8]) -> Option<u64> {
 }
 
 /// The token at the front of a text that begins with no blank, and how many bytes it has.
-pub fn token(text: &[u8]) -> Option<(Token, usize)> {
+pub fn token(text: &[u8]) -> Option<(Token, usize)>
+    requires { 0 < length text.now }
+    ensures { MatchOption result (HasNoToken text.now) (λ r. IsTokenAt text.now r.0 r.1) }
+{
     let first = text[0];
     if b'0' <= first && first <= b'9' {
         return numeral(text);
@@ -53,7 +69,11 @@ pub fn token(text: &[u8]) -> Option<(Token, usize)> {
 }
 
 /// The numeral at the front of a text that begins with a digit.
-fn numeral(text: &[u8]) -> Option<(Token, usize)> {
+fn numeral(text: &[u8]) -> Option<(Token, usize)>
+    requires some { 0 < length text.now }
+    requires digit { is_digit (slice_index text.now 0) ≡ true }
+    ensures { MatchOption result (HasNoToken text.now) (λ r. IsTokenAt text.now r.0 r.1) }
+{
     let digits = leading_digits(text);
     match decimal_value(digits) {
         Some(value) => Some((Token::Number(value), digits.len())),
@@ -62,7 +82,10 @@ fn numeral(text: &[u8]) -> Option<(Token, usize)> {
 }
 
 /// The operator that two bytes spell.
-fn double(first: u8, second: u8) -> Option<Operator> {
+fn double(first: u8, second: u8) -> Option<Operator>
+    ensures { MatchOption result ((op : Operator) → operator_bytes op ≡ first ∷ second ∷ [] → ⊥)
+        (λ op. operator_bytes op ≡ first ∷ second ∷ []) }
+{
     match (first, second) {
         (b'|', b'|') => Some(Operator::Or),
         (b'&', b'&') => Some(Operator::And),
@@ -75,7 +98,10 @@ fn double(first: u8, second: u8) -> Option<Operator> {
 }
 
 /// The token that one byte spells, which isn't a digit.
-fn single(byte: u8) -> Option<Token> {
+fn single(byte: u8) -> Option<Token>
+    requires { is_digit byte ≡ false }
+    ensures { MatchOption result ((t : Token) → IsSpelling t (byte ∷ []) → ⊥) (λ t. IsSpelling t (byte ∷ [])) }
+{
     match byte {
         b'n' => Some(Token::Count),
         b'!' => Some(Token::Not),

@@ -2,6 +2,12 @@
 //!
 //! What waits for an operand stands in a stack of fixed size, so the machine's stack doesn't grow with
 //! the expression. Each operand that is complete stands at the end of the table.
+ghost use Rattle.std.specs.Prelude.{◌≡◌, ◌+◌, ◌-◌, ◌<◌, ◌≤◌, List, Some, true};
+ghost use Rattle.arrayvec.specs.ArrayVec.{array_vec_len};
+ghost use Rattle.plural_rule.specs.Expression.{Tree};
+ghost use Rattle.plural_rule.specs.ShiftReduce.{Waiting, reduce, want_step, have_step};
+ghost use Rattle.plural_rule.specs.ParserState.{IsWaiting, IsOperand, Answers, completed_node};
+
 use crate::lexer;
 use crate::node::{Node, Table};
 use crate::operator::Operator;
@@ -35,7 +41,9 @@ pub type Stack = ArrayVec<Pending, LIMIT>;
 
 impl Pending {
     /// The node that the operand at index `last` completes, where an operator of level `loosest` follows it.
-    fn completed(self, loosest: u8, last: u16) -> Option<Node> {
+    fn completed(self, loosest: u8, last: u16) -> Option<Node>
+        ensures { result ≡ completed_node loosest self last }
+    {
         match self {
             Pending::Not => Some(Node::Not(last)),
             Pending::Binary(operator, left) if loosest <= operator.level() => {
@@ -50,12 +58,23 @@ impl Pending {
 }
 
 /// The index of the last node.
-fn last_index(table: &Table) -> u16 {
+fn last_index(table: &Table) -> u16
+    requires { 0 < array_vec_len table.now }
+    ensures { result ≡ array_vec_len table.now - 1 }
+{
     (table.len() - 1) as u16
 }
 
 /// Completes what waits for the last operand and binds at least as tight as `loosest`.
-fn reduce(table: &mut Table, stack: &mut Stack, loosest: u8) {
+fn reduce(table: &mut Table, stack: &mut Stack, loosest: u8)
+    requires some { 0 < array_vec_len table.old }
+    requires room { array_vec_len table.old + array_vec_len stack.old ≤ LIMIT }
+    ensures reduced { (waiting : List Waiting) (tree : Tree) →
+        IsOperand table.old.items stack.old.items waiting tree →
+        IsOperand table.new.items stack.new.items (reduce loosest waiting tree).stack (reduce loosest waiting tree).tree }
+    ensures some { 0 < array_vec_len table.new }
+    ensures size { array_vec_len table.new + array_vec_len stack.new ≡ array_vec_len table.old + array_vec_len stack.old }
+{
     while let Some(top) = stack.pop() {
         let last = last_index(table);
         match top.completed(loosest, last) {
@@ -69,7 +88,14 @@ fn reduce(table: &mut Table, stack: &mut Stack, loosest: u8) {
 }
 
 /// Reads a token where an operand may begin: whether an operand is complete behind it, or `None` where it can't stand here.
-fn take_operand(table: &mut Table, stack: &mut Stack, token: Token) -> Option<bool> {
+fn take_operand(table: &mut Table, stack: &mut Stack, token: Token) -> Option<bool>
+    requires room { array_vec_len table.old + array_vec_len stack.old < LIMIT }
+    ensures step { (waiting : List Waiting) →
+        IsWaiting table.old.items stack.old.items waiting →
+        Answers (want_step waiting token) result table.new.items stack.new.items }
+    ensures some { result ≡ Some true → 0 < array_vec_len table.new }
+    ensures size { array_vec_len table.new + array_vec_len stack.new ≤ array_vec_len table.old + array_vec_len stack.old + 1 }
+{
     match token {
         Token::Count => {
             table.push(Node::Count);
@@ -92,7 +118,15 @@ fn take_operand(table: &mut Table, stack: &mut Stack, token: Token) -> Option<bo
 }
 
 /// The same behind a complete operand.
-fn take_operator(table: &mut Table, stack: &mut Stack, token: Token) -> Option<bool> {
+fn take_operator(table: &mut Table, stack: &mut Stack, token: Token) -> Option<bool>
+    requires some { 0 < array_vec_len table.old }
+    requires room { array_vec_len table.old + array_vec_len stack.old < LIMIT }
+    ensures step { (waiting : List Waiting) (tree : Tree) →
+        IsOperand table.old.items stack.old.items waiting tree →
+        Answers (have_step waiting tree token) result table.new.items stack.new.items }
+    ensures some { 0 < array_vec_len table.new }
+    ensures size { array_vec_len table.new + array_vec_len stack.new ≤ array_vec_len table.old + array_vec_len stack.old + 1 }
+{
     match token {
         Token::Binary(operator) => {
             reduce(table, stack, operator.level());
