@@ -9,7 +9,7 @@ use Rattle.plural_rule.specs.declared.token.Token.TheVariants.{Count, Number, No
 use Rattle.plural_rule.specs.Tokens.{is_blank, is_digit, AllDigits, decimal_value, operator_bytes, IsSpelling, IsLongest, Lexes, end, blank, token}
 
 -- what is known of bytes that spell a token, by a function of the bytes
-abbrev first_byte : List ℕ → ℕ
+abbrev pub first_byte : List ℕ → ℕ
 first_byte [] = 32
 first_byte (c ∷ rest) = c
 

@@ -2,3 +2,5 @@ pub mod Complete
 pub mod Lexing
 pub mod Sound
 pub mod ParserSteps
+pub mod Numerals
+pub mod Scanning
