@@ -156,7 +156,7 @@ blank-first t [] rest text c spelt e b = false≢true (sym (spelling-not_blank t
 blank-first t (x ∷ own) rest text c spelt e b =
     let same : x ≡ c = cc in false≢true (sym (spelling-not_blank t (x ∷ own) spelt) ∙ ap is_blank same ∙ b)
 
-no-spelling_of-nothing : (t : Token) (own rest : List ℕ) → IsSpelling t own → own ++ rest ≡ [] → ⊥
+pub no-spelling_of-nothing : (t : Token) (own rest : List ℕ) → IsSpelling t own → own ++ rest ≡ [] → ⊥
 no-spelling_of-nothing t [] rest spelt e = false≢true (sym (spelling-not_blank t [] spelt))
 no-spelling_of-nothing t (x ∷ own) rest spelt e = cc
 

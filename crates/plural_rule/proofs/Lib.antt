@@ -4,3 +4,4 @@ pub mod Sound
 pub mod ParserSteps
 pub mod Numerals
 pub mod Scanning
+pub mod ParserRun

@@ -17,7 +17,8 @@ fn is_blank(byte: u8) -> bool
 
 /// How many blanks the text begins with.
 fn blanks(text: &[u8]) -> usize
-    ensures { result ≡ prefix_len is_blank text.now }
+    ensures count { result ≡ prefix_len is_blank text.now }
+    ensures within { result ≤ length text.now }
 {
     for (index, byte) in text.iter().enumerate() {
         if !is_blank(*byte) {
@@ -29,7 +30,8 @@ fn blanks(text: &[u8]) -> usize
 
 /// How many decimal digits the text begins with.
 fn digits(text: &[u8]) -> usize
-    ensures { result ≡ prefix_len is_digit text.now }
+    ensures count { result ≡ prefix_len is_digit text.now }
+    ensures within { result ≤ length text.now }
 {
     for (index, byte) in text.iter().enumerate() {
         if !byte.is_ascii_digit() {
