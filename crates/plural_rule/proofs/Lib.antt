@@ -5,3 +5,4 @@ pub mod ParserSteps
 pub mod Numerals
 pub mod Scanning
 pub mod ParserRun
+pub mod Frames

@@ -211,32 +211,3 @@ reached-end text before after entries complete' false r h =
     let wrong : None ≡ Some tree =
         sym (ap outcome all ∙ ap (option_and_then finish) r.runs ∙ h) ∙ complete ts tree spells in
     cc
-
-pub finish-want : (state : State) (table : List Node) (entries : List Pending) → Represents table entries false state → finish state ≡ None
-finish-want (Want stack) table entries h = refl
-finish-want (Have stack tree) table entries h = absurd (false≢true h.0)
-
-alone-nothing : (w : Waiting) (stack waiting : List Waiting) (tree : Tree) → waiting ≡ w ∷ stack → alone waiting tree ≡ None
-alone-nothing w stack waiting tree e = ap (λ s. alone s tree) e
-
-operand-alone : (table : List Node) (entries : List Pending) (stack : List Waiting) (tree : Tree) → IsOperand table entries stack tree → MatchBool (length entries == 0) (HoldsTree (alone stack tree) table) (alone stack tree ≡ None)
-operand-alone table entries [] tree h =
-    let e : (length entries == 0) ≡ true = ap (λ xs. length xs == 0) h.entries_are in
-    rw e (record { tree = tree; read_is = refl; table_is = h.table_is })
-operand-alone table entries (w ∷ stack) tree h =
-    let some : length (pendings (w ∷ stack)) ≡ length (pendings stack) + 1 = length-append (pendings stack) _ in
-    let e : (length entries == 0) ≡ false = ne_eqb (length entries) 0 (λ z. absurd (omega (arith, some, ap length h.entries_are))) in
-    rw e refl
-
-pub finish-have : (state : State) (before after : List Node) (entries entries' : List Pending) → Represents before entries true state → ((waiting : List Waiting) (tree : Tree) → IsOperand before entries waiting tree → IsOperand after entries' (reduce 0 waiting tree).stack (reduce 0 waiting tree).tree) → MatchBool (length entries' == 0) (HoldsTree (finish state) after) (finish state ≡ None)
-finish-have (Want stack) before after entries entries' h reduces = absurd (false≢true (sym h.0))
-finish-have (Have stack tree) before after entries entries' h reduces =
-    operand-alone after entries' (reduce 0 stack tree).stack (reduce 0 stack tree).tree (reduces stack tree h.1)
-
-pub take-have : (state : State) (t : Token) (before after : List Node) (entries entries' : List Pending) (answer : Option Bool) → Represents before entries true state → ((waiting : List Waiting) (tree : Tree) → IsOperand before entries waiting tree → Answers (have_step waiting tree t) answer after entries') → Answers (step state t) answer after entries'
-take-have (Want stack) t before after entries entries' answer h takes = absurd (false≢true (sym h.0))
-take-have (Have stack tree) t before after entries entries' answer h takes = takes stack tree h.1
-
-pub take-want : (state : State) (t : Token) (before after : List Node) (entries entries' : List Pending) (answer : Option Bool) → Represents before entries false state → ((waiting : List Waiting) → IsWaiting before entries waiting → Answers (want_step waiting t) answer after entries') → Answers (step state t) answer after entries'
-take-want (Want stack) t before after entries entries' answer h takes = takes stack h.1
-take-want (Have stack tree) t before after entries entries' answer h takes = absurd (false≢true h.0)
