@@ -6,3 +6,4 @@ pub mod Numerals
 pub mod Scanning
 pub mod ParserRun
 pub mod Frames
+pub mod Subtrees

@@ -55,7 +55,7 @@ pub fn evaluate(table: &[Node], count: u64) -> (Option<u64>, u32)
     let mut frames = Frames::new();
     let mut place = table.len() - 1;
     let mut steps = 0;
-    loop {
+    'visits: loop {
         steps += 1;
         match visit(table, place, count, &mut frames) {
             Step::Visit(next) => place = next as usize,
@@ -67,6 +67,7 @@ pub fn evaluate(table: &[Node], count: u64) -> (Option<u64>, u32)
 /// The node at an index.
 fn node_at(table: &[Node], place: usize) -> Node
     requires laid { table.now ≡ layout 0 (tree_of table.now) }
+    requires limit { nodes (tree_of table.now) ≤ LIMIT }
     requires place { place < nodes (tree_of table.now) }
     ensures { IsNodeOf (tree_of table.now) (subtree (tree_of table.now) place) result }
 {
@@ -74,8 +75,10 @@ fn node_at(table: &[Node], place: usize) -> Node
 }
 
 /// Visits the node at an index: a leaf has its value, and any other node waits for its first operand.
+#[tactic(auto, using(crate::proofs::Frames::visits_not, crate::proofs::Frames::visits_binary, crate::proofs::Frames::visits_conditional, crate::proofs::Frames::remaining_more, crate::proofs::Frames::frames_more))]
 fn visit(table: &[Node], place: usize, count: u64, frames: &mut Frames) -> Step
     requires laid { table.now ≡ layout 0 (tree_of table.now) }
+    requires limit { nodes (tree_of table.now) ≤ LIMIT }
     requires place { place < nodes (tree_of table.now) }
     requires room { array_vec_len frames.old < LIMIT }
     requires frames { AreFramesOf (tree_of table.now) frames.old.items }
@@ -88,15 +91,22 @@ fn visit(table: &[Node], place: usize, count: u64, frames: &mut Frames) -> Step
     ensures frames { AreFramesOf (tree_of table.now) frames.new.items }
     ensures size { array_vec_len frames.new ≤ array_vec_len frames.old + 1 }
 {
-    let (frame, first) = match node_at(table, place) {
-        Node::Count => return resume(frames, count),
-        Node::Number(number) => return resume(frames, number),
-        Node::Not(operand) => (Frame::Not, operand),
-        Node::Binary(operator, left, right) => (Frame::First(operator, right), left),
-        Node::Conditional(condition, yes, no) => (Frame::Condition(yes, no), condition),
-    };
-    frames.push(frame);
-    Step::Visit(first)
+    match node_at(table, place) {
+        Node::Count => resume(frames, count),
+        Node::Number(number) => resume(frames, number),
+        Node::Not(operand) => {
+            frames.push(Frame::Not);
+            Step::Visit(operand)
+        }
+        Node::Binary(operator, left, right) => {
+            frames.push(Frame::First(operator, right));
+            Step::Visit(left)
+        }
+        Node::Conditional(condition, yes, no) => {
+            frames.push(Frame::Condition(yes, no));
+            Step::Visit(condition)
+        }
+    }
 }
 
 /// Hands a value to the nodes that wait for it, up to one that needs a further operand.
