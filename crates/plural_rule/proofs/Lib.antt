@@ -7,3 +7,4 @@ pub mod Scanning
 pub mod ParserRun
 pub mod Frames
 pub mod Subtrees
+pub mod Searches
