@@ -8,3 +8,4 @@ pub mod ParserRun
 pub mod Frames
 pub mod Subtrees
 pub mod Searches
+pub mod Rules

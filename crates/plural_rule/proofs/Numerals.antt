@@ -1,9 +1,10 @@
 -- Numbers that decimal digits spell.
-use Rattle.std.proofs.Common.{◌≡◌, ◌≢◌, ℕ, zero, suc, ◌+◌, ◌-◌, ◌*◌, ◌^◌, ◌<◌, ◌≤◌, Bool, true, false, List, [], ◌∷◌, ◌++◌, length, take, drop, get_or, refl, sym, ap, ◌∙◌, arith, subst, take-append-drop}
+use Rattle.std.proofs.Common.{◌≡◌, ◌≢◌, ℕ, zero, suc, ◌+◌, ◌-◌, ◌*◌, ◌^◌, ◌<◌, ◌≤◌, Bool, true, false, List, [], ◌∷◌, ◌++◌, length, take, drop, get_or, refl, sym, ap, ◌∙◌, arith, Some, take-append-drop}
 use Rattle.std.specs.Prelude.{fold}
 use Rattle.std.proofs.lemmas.List.Sums.{fold_more, fold-append}
 use Rattle.std.proofs.lemmas.Bool.Decides.{nat_tests}
 use Rattle.plural_rule.specs.Tokens.{is_digit, AllDigits, decimal_value}
+use Rattle.plural_rule.specs.Header.{number_of_digits}
 
 abbrev next_value : ℕ → ℕ → ℕ
 next_value v c = 10 * v + (c - 48)
@@ -30,3 +31,7 @@ AllDigits-get (c ∷ digits) (suc i) h l = AllDigits-get digits i h.1 (omega ari
 
 pub digit-range : (c : ℕ) → is_digit c ≡ true → (48 ≤ c) × (c ≤ 57)
 digit-range c h = (grind (arith, nat_tests), grind (arith, nat_tests))
+
+pub number_of_digits-some : (digits : List ℕ) → 0 < length digits → number_of_digits digits ≡ Some (decimal_value digits)
+number_of_digits-some [] h = absurd (omega arith)
+number_of_digits-some (c ∷ digits) h = refl
