@@ -9,3 +9,4 @@ pub mod Frames
 pub mod Subtrees
 pub mod Searches
 pub mod Rules
+pub mod Uniqueness

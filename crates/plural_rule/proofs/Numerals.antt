@@ -1,5 +1,5 @@
 -- Numbers that decimal digits spell.
-use Rattle.std.proofs.Common.{◌≡◌, ◌≢◌, ℕ, zero, suc, ◌+◌, ◌-◌, ◌*◌, ◌^◌, ◌<◌, ◌≤◌, Bool, true, false, List, [], ◌∷◌, ◌++◌, length, take, drop, get_or, refl, sym, ap, ◌∙◌, arith, Some, take-append-drop}
+use Rattle.std.proofs.Common.{◌≡◌, ℕ, zero, suc, ◌+◌, ◌-◌, ◌*◌, ◌<◌, ◌≤◌, true, List, [], ◌∷◌, length, take, drop, get_or, refl, sym, ap, ◌∙◌, arith, Some, take-append-drop}
 use Rattle.std.specs.Prelude.{fold}
 use Rattle.std.proofs.lemmas.List.Sums.{fold_more, fold-append}
 use Rattle.std.proofs.lemmas.Bool.Decides.{nat_tests}
@@ -21,7 +21,7 @@ decimal_value-more digits i h = fold_more next_value 0 digits i 0 h
 pub decimal_value-grows : (digits : List ℕ) (i : ℕ) → i < length digits → 10 * decimal_value (take i digits) + (get_or digits i 0 - 48) ≤ decimal_value digits
 decimal_value-grows digits i h =
     let whole : decimal_value digits ≡ fold next_value (decimal_value (take (i + 1) digits)) (drop (i + 1) digits) =
-        ap decimal_value (sym (take-append-drop (i + 1) digits)) ∙ fold-append next_value 0 (take (i + 1) digits) (drop (i + 1) digits) in
+    ap decimal_value (sym (take-append-drop (i + 1) digits)) ∙ fold-append next_value 0 (take (i + 1) digits) (drop (i + 1) digits) in
     omega (arith, decimal_value-more digits i h, grows (decimal_value (take (i + 1) digits)) (drop (i + 1) digits))
 
 pub AllDigits-get : (digits : List ℕ) (i : ℕ) → AllDigits digits → i < length digits → is_digit (get_or digits i 0) ≡ true

@@ -4,7 +4,7 @@ use Rattle.plural_rule.specs.declared.node.Node.{Node}
 use Rattle.plural_rule.specs.declared.rule.Source.TheVariants.{Header, Default}
 use Rattle.plural_rule.specs.declared.rule.Reason.{Reason}
 use Rattle.plural_rule.specs.Expression.{Tree}
-use Rattle.plural_rule.specs.PluralRule.{Meaning, IsReadable, IsReason, IsRuleOf, default_rule, default_tree}
+use Rattle.plural_rule.specs.PluralRule.{IsReadable, IsReason, IsRuleOf, default_tree}
 use Rattle.plural_rule.specs.PostOrder.{layout, tree_of, tree_of-layout}
 use Rattle.plural_rule.specs.ParserState.{HoldsRule}
 

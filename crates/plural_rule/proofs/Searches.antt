@@ -1,13 +1,13 @@
 -- The first place of a word in a text.
-use Rattle.std.proofs.Common.{◌≡◌, ◌≢◌, ℕ, zero, suc, ◌+◌, ◌-◌, ◌<◌, ◌≤◌, Bool, true, false, not, ◌||◌, ◌==◌, nat_eq, ◌⊎◌, inl, inr, List, [], ◌∷◌, ◌++◌, length, take, drop, get_or, Option, Some, None, refl, sym, ap, subst, ◌∙◌, arith, length-append, length-drop}
-use Rattle.std.specs.List.{starts_with, prefix_len, position_or_len, before_first}
+use Rattle.std.proofs.Common.{◌≡◌, ℕ, zero, suc, ◌+◌, ◌-◌, ◌<◌, Bool, true, false, not, nat_eq, inl, inr, List, [], ◌∷◌, length, take, drop, Some, None, refl, ap, ◌∙◌, arith, length-append, length-drop}
+use Rattle.std.specs.List.{starts_with, before_first}
 use Rattle.std.proofs.Math.Seq.{take-append_seam}
-use Rattle.std.proofs.lemmas.Bool.{false≢true, cases_Bool}
-use Rattle.std.proofs.lemmas.Bool.Decides.{nat_tests, Decides-eqb}
+use Rattle.std.proofs.lemmas.Bool.{cases_Bool}
+use Rattle.std.proofs.lemmas.Bool.Decides.{Decides-eqb}
 use Rattle.std.proofs.lemmas.Slice.Eq.{starts_is}
 use Rattle.std.proofs.lemmas.List.{take_all}
 use Rattle.std.proofs.lemmas.List.Sums.{prefix_len_is}
-use Rattle.memchr.specs.Find.{OccursAt, FindsNeedle, IsFirstByte, is_byte2}
+use Rattle.memchr.specs.Find.{OccursAt, IsFirstByte, is_byte2}
 use Rattle.memchr.proofs.lemmas.MatchLemmas.{OccursAt-part, OccursAt-from_part, OccursAt-split}
 use Rattle.plural_rule.specs.Header.{behind_first, is_end}
 
@@ -34,7 +34,7 @@ pub behind_first-none : (word text : List ℕ) → ((k : ℕ) → OccursAt text 
 behind_first-none word [] none = refl
 behind_first-none word (c ∷ rest) none =
     elim (cases_Bool (starts_with nat_eq (c ∷ rest) word)) [
-      inl e ↦ absurd (none 0 (starts-occurs word (c ∷ rest) e))
+      | inl e ↦ absurd (none 0 (starts-occurs word (c ∷ rest) e))
       | inr e ↦ rw e (behind_first-none word rest (λ k h. none (suc k) (occurs-later word rest c k h)))
     ]
 
@@ -46,11 +46,11 @@ behind_first-some word (c ∷ rest) zero some h none =
     rw e (ap (λ n. Some (drop n (c ∷ rest))) sum)
 behind_first-some word (c ∷ rest) (suc k) some h none =
     elim (cases_Bool (starts_with nat_eq (c ∷ rest) word)) [
-      inl e ↦ absurd (none 0 (omega arith) (starts-occurs word (c ∷ rest) e))
+      | inl e ↦ absurd (none 0 (omega arith) (starts-occurs word (c ∷ rest) e))
       | inr e ↦
-        let sum : suc (k + length word) ≡ suc k + length word = omega arith in
-        rw e
-        (behind_first-some word rest k some (occurs-earlier word rest c k h) (λ j l o. none (suc j) (omega arith) (occurs-later word rest c j o))
+          let sum : suc (k + length word) ≡ suc k + length word = omega arith in
+          rw e
+          (behind_first-some word rest k some (occurs-earlier word rest c k h) (λ j l o. none (suc j) (omega arith) (occurs-later word rest c j o))
           ∙ ap (λ n. Some (drop n (c ∷ rest))) sum)
     ]
 

@@ -1,6 +1,6 @@
 -- The rule that a header text gives, within a limit on the bytes of its expression.
 -- GNU gettext manual, "Plural forms".
-use Rattle.std.specs.Prelude.{◌≡◌, ℕ, ◌^◌, ◌<◌, ◌≤◌, ◌⊎◌, List, Option, Some, None, length}
+use Rattle.std.specs.Prelude.{◌≡◌, ℕ, ◌^◌, ◌<◌, ◌≤◌, ◌⊎◌, List, Some, None, length}
 use Rattle.plural_rule.specs.declared.operator.Operator.TheVariants.{NotEqual}
 use Rattle.plural_rule.specs.declared.rule.Source.{Source}
 use Rattle.plural_rule.specs.declared.rule.Source.TheVariants.{Header, Default}

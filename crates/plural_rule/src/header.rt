@@ -28,7 +28,11 @@ pub fn number_digits(header: &[u8]) -> Option<&[u8]>
         return None;
     };
     let digits = lexer::leading_digits(lexer::without_blanks(rest));
-    if digits.is_empty() { None } else { Some(digits) }
+    if digits.is_empty() {
+        None
+    } else {
+        Some(digits)
+    }
 }
 
 /// The text of the expression.
