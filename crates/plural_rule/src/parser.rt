@@ -38,7 +38,10 @@ impl Default for Pending {
 }
 
 /// What waits, the last one for the operand that is read next.
-pub type Stack = ArrayVec<Pending, LIMIT>;
+type Stack<const DEPTH: usize> = ArrayVec<Pending, DEPTH>;
+
+/// The most bytes of a text that is read with the smaller stack, which costs less to set up.
+const SHORT: usize = 256;
 
 impl Pending {
     /// The node that the operand at index `last` completes, where an operator of level `loosest` follows it.
@@ -67,9 +70,10 @@ fn last_index(table: &Table) -> u16
 }
 
 /// Completes what waits for the last operand and binds at least as tight as `loosest`.
-fn reduce(table: &mut Table, stack: &mut Stack, loosest: u8)
+fn reduce<const DEPTH: usize>(table: &mut Table, stack: &mut Stack<DEPTH>, loosest: u8)
     requires some { 0 < array_vec_len table.old }
-    requires room { array_vec_len table.old + array_vec_len stack.old ≤ LIMIT }
+    requires room { array_vec_len table.old + array_vec_len stack.old ≤ DEPTH }
+    requires depth { DEPTH ≤ LIMIT }
     ensures reduced { (waiting : List Waiting) (tree : Tree) →
         IsOperand table.old.items stack.old.items waiting tree →
         IsOperand table.new.items stack.new.items (reduce loosest waiting tree).stack (reduce loosest waiting tree).tree }
@@ -89,8 +93,13 @@ fn reduce(table: &mut Table, stack: &mut Stack, loosest: u8)
 }
 
 /// Reads a token where an operand may begin: whether an operand is complete behind it, or `None` where it can't stand here.
-fn take_operand(table: &mut Table, stack: &mut Stack, token: Token) -> Option<bool>
-    requires room { array_vec_len table.old + array_vec_len stack.old < LIMIT }
+fn take_operand<const DEPTH: usize>(
+    table: &mut Table,
+    stack: &mut Stack<DEPTH>,
+    token: Token,
+) -> Option<bool>
+    requires room { array_vec_len table.old + array_vec_len stack.old < DEPTH }
+    requires depth { DEPTH ≤ LIMIT }
     ensures step { (waiting : List Waiting) →
         IsWaiting table.old.items stack.old.items waiting →
         Answers (want_step waiting token) result table.new.items stack.new.items }
@@ -119,9 +128,14 @@ fn take_operand(table: &mut Table, stack: &mut Stack, token: Token) -> Option<bo
 }
 
 /// The same behind a complete operand.
-fn take_operator(table: &mut Table, stack: &mut Stack, token: Token) -> Option<bool>
+fn take_operator<const DEPTH: usize>(
+    table: &mut Table,
+    stack: &mut Stack<DEPTH>,
+    token: Token,
+) -> Option<bool>
     requires some { 0 < array_vec_len table.old }
-    requires room { array_vec_len table.old + array_vec_len stack.old < LIMIT }
+    requires room { array_vec_len table.old + array_vec_len stack.old < DEPTH }
+    requires depth { DEPTH ≤ LIMIT }
     ensures step { (waiting : List Waiting) (tree : Tree) →
         IsOperand table.old.items stack.old.items waiting tree →
         Answers (have_step waiting tree token) result table.new.items stack.new.items }
@@ -159,9 +173,15 @@ fn take_operator(table: &mut Table, stack: &mut Stack, token: Token) -> Option<b
 }
 
 /// Reads a token: whether an operand is complete behind it, or `None` where the token can't stand here.
-fn take(table: &mut Table, stack: &mut Stack, complete: bool, token: Token) -> Option<bool>
+fn take<const DEPTH: usize>(
+    table: &mut Table,
+    stack: &mut Stack<DEPTH>,
+    complete: bool,
+    token: Token,
+) -> Option<bool>
     requires some { complete ≡ true → 0 < array_vec_len table.old }
-    requires room { array_vec_len table.old + array_vec_len stack.old < LIMIT }
+    requires room { array_vec_len table.old + array_vec_len stack.old < DEPTH }
+    requires depth { DEPTH ≤ LIMIT }
     ensures step { (state : State) →
         Represents table.old.items stack.old.items complete state →
         Answers (step state token) result table.new.items stack.new.items }
@@ -176,9 +196,10 @@ fn take(table: &mut Table, stack: &mut Stack, complete: bool, token: Token) -> O
 }
 
 /// Whether the tokens end with a whole expression, which then stands alone in the table.
-fn finish(table: &mut Table, stack: &mut Stack, complete: bool) -> bool
+fn finish<const DEPTH: usize>(table: &mut Table, stack: &mut Stack<DEPTH>, complete: bool) -> bool
     requires some { complete ≡ true → 0 < array_vec_len table.old }
-    requires room { array_vec_len table.old + array_vec_len stack.old ≤ LIMIT }
+    requires room { array_vec_len table.old + array_vec_len stack.old ≤ DEPTH }
+    requires depth { DEPTH ≤ LIMIT }
     ensures { (state : State) →
         Represents table.old.items stack.old.items complete state →
         MatchBool result (HoldsTree (finish state) table.new.items) (finish state ≡ None) }
@@ -196,7 +217,22 @@ pub fn parse(text: &[u8], table: &mut Table) -> bool
     requires limit { length text.now ≤ LIMIT }
     ensures { MatchBool result (HoldsExpression text.now table.new.items) ((tree : Tree) → Spelt tree text.now → ⊥) }
 {
-    let mut stack = Stack::new();
+    if text.len() <= SHORT {
+        parse_within::<SHORT>(text, table)
+    } else {
+        parse_within::<LIMIT>(text, table)
+    }
+}
+
+/// The same of a text of at most `DEPTH` bytes.
+#[inline(never)]
+fn parse_within<const DEPTH: usize>(text: &[u8], table: &mut Table) -> bool
+    requires empty { table.old.items ≡ [] }
+    requires limit { length text.now ≤ DEPTH }
+    requires depth { DEPTH ≤ LIMIT }
+    ensures { MatchBool result (HoldsExpression text.now table.new.items) ((tree : Tree) → Spelt tree text.now → ⊥) }
+{
+    let mut stack = Stack::<DEPTH>::new();
     let mut complete = false;
     let mut rest = lexer::without_blanks(text);
     while !rest.is_empty() {

@@ -6,7 +6,7 @@ use Rattle.plural_rule.proofs.ParserSteps.{Reduces}
 use Rattle.plural_rule.proofs.parser.reduce.Given as goal
 
 abbrev pub invariant-loop-top : goal.invariant-loop-top
-invariant-loop-top l =
+invariant-loop-top g l =
     record {
       some : 0 < length l.table.items;
       size : length l.table.items + length l.stack.items ≡ length l.fn.table.items + length l.fn.stack.items;
@@ -14,4 +14,4 @@ invariant-loop-top l =
     }
 
 abbrev pub decreases-loop-top : goal.decreases-loop-top
-decreases-loop-top l = length l.stack.items
+decreases-loop-top g l = length l.stack.items

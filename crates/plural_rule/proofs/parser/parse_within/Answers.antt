@@ -1,7 +1,7 @@
 use Rattle.std.proofs.Common.{◌≡◌, ◌≢◌, ℕ, ◌<◌, List, [], ◌∷◌, length, refl, ap, arith, rules, take, drop, length-drop, Some, ◌-◌}
 use Rattle.std.proofs.lemmas.List.{take_all}
 use Rattle.plural_rule.proofs.ParserRun.{Reached, reached-start, reached-token, reached-end, no-token, no-place}
-use Rattle.plural_rule.proofs.parser.parse.Goals as goal
+use Rattle.plural_rule.proofs.parser.parse_within.Goals as goal
 
 nonempty : (text : List ℕ) → 0 < length text → text ≢ []
 nonempty text h e = absurd (omega (arith, ap length e))
@@ -11,7 +11,7 @@ empty [] h = refl
 empty (c ∷ text) h = absurd (omega arith)
 
 pub loop-rest-init : goal.loop-rest-init
-loop-rest-init c =
+loop-rest-init g c =
     record {
       reached = rw (c.without_blanks-rest.ensures.value, c.requires.empty, c.new-stack.ensures) (reached-start c.args.text.now);
       some = λ h. absurd cc;
@@ -19,18 +19,18 @@ loop-rest-init c =
     }
 
 pub returns-in_default : goal.returns-in_default
-returns-in_default c =
+returns-in_default g c =
     let r = c.loop-rest.invariant.reached in
     let some : 0 < length c.loop-rest.rest.now = search rules in
     no-token c.args.text.now c.loop-rest.rest.now _ _ _ r (nonempty c.loop-rest.rest.now some) c.in_default.ensures
 
 pub returns-in_default-take : goal.returns-in_default-take
-returns-in_default-take c =
+returns-in_default-take g c =
     let r = c.loop-rest.invariant.reached in
     no-place c.args.text.now c.loop-rest.rest.now c.in-Some.token c.in-Some.len _ _ _ _ _ r c.in-Some.ensures (c.in_default-take.ensures.step r.state r.represents)
 
 pub loop-rest-preserved : goal.loop-rest-preserved
-loop-rest-preserved c =
+loop-rest-preserved g c =
     let r = c.loop-rest.invariant.reached in
     let n = c.in-Some.len in
     let at = c.in-Some.ensures in
@@ -45,7 +45,7 @@ loop-rest-preserved c =
     }
 
 pub returns : goal.returns
-returns c =
+returns g c =
     let none : c.loop-rest.rest.now ≡ [] = empty c.loop-rest.rest.now (search rules) in
     let r : Reached c.args.text.now [] c.loop-rest.table.items c.loop-rest.stack.items c.loop-rest.complete = rw none at c.loop-rest.invariant.reached in
     reached-end c.args.text.now _ _ _ _ c.finish.result r (c.finish.ensures r.state r.represents)

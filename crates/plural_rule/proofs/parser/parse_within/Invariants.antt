@@ -1,9 +1,9 @@
 use Rattle.std.proofs.Common.{◌≡◌, ◌+◌, ◌<◌, ◌≤◌, true, length}
 use Rattle.plural_rule.proofs.ParserRun.{Reached}
-use Rattle.plural_rule.proofs.parser.parse.Given as goal
+use Rattle.plural_rule.proofs.parser.parse_within.Given as goal
 
 abbrev pub invariant-loop-rest : goal.invariant-loop-rest
-invariant-loop-rest l =
+invariant-loop-rest g l =
     record {
       reached : Reached l.fn.text l.rest l.table.items l.stack.items l.complete;
       some : l.complete ≡ true → 0 < length l.table.items;
@@ -11,4 +11,4 @@ invariant-loop-rest l =
     }
 
 abbrev pub decreases-loop-rest : goal.decreases-loop-rest
-decreases-loop-rest l = length l.rest
+decreases-loop-rest g l = length l.rest
