@@ -1,0 +1,3 @@
+pub mod BoundLemmas
+pub mod RisingLemmas
+pub mod SearchLemmas
