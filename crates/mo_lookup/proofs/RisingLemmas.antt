@@ -10,7 +10,7 @@ use Rattle.mo_file.specs.Key.{AreRising, key_at, key_cmp}
 pub equal_is_same : (x y : List ℕ) → key_cmp x y ≡ Equal → x ≡ y
 equal_is_same x y equal = exact_bytes x y equal
 
-less_is_other : (x y : List ℕ) → key_cmp x y ≡ Less → x ≢ y
+pub less_is_other : (x y : List ℕ) → key_cmp x y ≡ Less → x ≢ y
 less_is_other x y less same =
     let itself : key_cmp y y ≡ Equal = tied_itself nat_list_cmp_total y in
     let P : List ℕ → Type 0 = λ z. key_cmp z y ≡ Less in
@@ -34,7 +34,7 @@ rising_apart ks rising i (suc gap) inside =
     (rising_apart ks rising i gap (omega arith)) (rising.next (i + 1 + gap) (omega arith))
     )
 
-rising_between : (ks : List (List ℕ)) → AreRising ks → (i j : ℕ) → i < j → j < length ks → key_cmp (key_at ks i) (key_at ks j) ≡ Less
+pub rising_between : (ks : List (List ℕ)) → AreRising ks → (i j : ℕ) → i < j → j < length ks → key_cmp (key_at ks i) (key_at ks j) ≡ Less
 rising_between ks rising i j before inside =
     let e : i + 1 + (j - (i + 1)) ≡ j = omega arith in
     let P : ℕ → Type 0 = λ k. key_cmp (key_at ks i) (key_at ks k) ≡ Less in

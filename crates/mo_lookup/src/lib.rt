@@ -2,8 +2,15 @@
 
 #![tactic(auto)]
 
+mod answer;
 mod bounds;
+mod catalog;
+mod forms;
+mod query;
 mod search;
+mod view_keys;
 
+pub use answer::Answer;
 pub use bounds::{bound_halves, bound_is_logarithm};
-pub use search::{Keys, find};
+pub use catalog::Catalog;
+pub use search::{find, Keys};
