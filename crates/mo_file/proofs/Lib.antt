@@ -1,1 +1,4 @@
 pub mod KeyLemmas
+pub mod FaultLemmas
+pub mod ViewLemmas
+pub mod BuildLemmas

@@ -3,8 +3,22 @@
 //! manual).
 #![tactic(auto)]
 
+mod building;
+mod byte_order;
+mod checking;
 mod counting;
+mod fault;
+mod header;
 mod key;
+mod pairs;
+mod strings;
+mod view;
+mod writing;
 
+pub use building::{BuildError, build};
+pub use byte_order::Order;
 pub use counting::Meter;
+pub use fault::MoError;
 pub use key::compare_key;
+pub use pairs::Pair;
+pub use view::MoView;
