@@ -3,3 +3,4 @@ pub mod Place
 pub mod Query
 pub mod Answer
 pub mod Contents
+pub mod Chain

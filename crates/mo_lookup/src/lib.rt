@@ -5,6 +5,7 @@
 mod answer;
 mod bounds;
 mod catalog;
+mod chain;
 mod forms;
 mod query;
 mod search;
@@ -13,4 +14,5 @@ mod view_keys;
 pub use answer::Answer;
 pub use bounds::{bound_halves, bound_is_logarithm};
 pub use catalog::Catalog;
+pub use chain::{Chain, ChainAnswer};
 pub use search::{find, Keys};
