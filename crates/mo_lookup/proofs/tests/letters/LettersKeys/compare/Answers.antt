@@ -1,4 +1,4 @@
-use Rattle.std.proofs.Common.{◌≡◌, ◌<◌, ◌≤◌, arith}
+use Rattle.std.proofs.Common.{◌<◌, arith}
 use Rattle.mo_lookup.proofs.LetterLemmas.{length-letters, key_at-letters}
 use Rattle.mo_lookup.proofs.tests.letters.LettersKeys.compare.Goals as goal
 
