@@ -2,3 +2,5 @@ pub mod KeyLemmas
 pub mod FaultLemmas
 pub mod ViewLemmas
 pub mod BuildLemmas
+pub mod LayoutLemmas
+pub mod RoundTripLemmas

@@ -1,14 +1,18 @@
 ghost use Rattle.std.specs.Prelude.{◌≡◌, ◌-◌, ◌^◌, ◌<◌, length, min, IfErr, IfOk, OnOk};
-ghost use Rattle.mo_file.specs.Building.{Fits, IsBuildFault};
+ghost use Rattle.mo_file.specs.Building.{IsBuildFault};
 ghost use Rattle.mo_file.specs.Key.{AreRising, keys};
-ghost use Rattle.mo_file.specs.Layout.{layout};
+ghost use Rattle.mo_file.specs.Layout.{LayoutFits, layout};
 ghost use Rattle.mo_file.specs.Pairs.{messages_of_pairs};
 
 use crate::byte_order::Order;
+use crate::header::HEADER_LEN;
 use crate::pairs::{Pair, Part, are_rising};
-use crate::writing::{HEADER_LEN, push_header, push_strings, push_table};
+use crate::writing::{originals_place, push_header, push_strings, push_table};
 use std::alloc::{AllocError, Global};
 use thiserror::Error;
+
+/// What a file has for each pair beside the bytes of its strings: two entries and two NULs.
+const PAIR_OVERHEAD: u64 = 18;
 
 /// Why no file is built. Of two reasons that hold the first in this order is told.
 #[derive(Clone, Copy, Debug, PartialEq, Eq, Error)]
@@ -40,7 +44,7 @@ impl From<AllocError> for BuildError {
 /// without a hash table ("The Format of GNU MO Files"). The words are written in the given byte order.
 pub fn build(alloc: Global, order: Order, pairs: &[Pair]) -> Result<Vec<u8>, BuildError>
     ensures layout { IfOk result (λ bytes. bytes.items ≡ layout order (messages_of_pairs pairs.now)) }
-    ensures fits { OnOk result (Fits order (messages_of_pairs pairs.now)) }
+    ensures fits { OnOk result (LayoutFits order (messages_of_pairs pairs.now)) }
     ensures rising { OnOk result (AreRising (keys (messages_of_pairs pairs.now))) }
     ensures fault { IfErr result (IsBuildFault order (messages_of_pairs pairs.now)) }
 {
@@ -54,21 +58,22 @@ pub fn build(alloc: Global, order: Order, pairs: &[Pair]) -> Result<Vec<u8>, Bui
     Ok(laid_out(alloc, order, pairs, len as u32)?)
 }
 
-/// The length of the file, or 2^64 - 1 where it is longer.
+/// The length of the file in either byte order, or 2^64 - 1 where it is longer.
 fn layout_len(pairs: &[Pair]) -> u64
-    ensures { (order : Order) → result ≡ min (length (layout order (messages_of_pairs pairs.now))) (2 ^ 64 - 1) }
+    ensures { (order : Order)
+        → result ≡ min (length (layout order (messages_of_pairs pairs.now))) (2 ^ 64 - 1) }
 {
-    // Two entries of a table and two NULs come with each pair.
     let mut len = u64::from(HEADER_LEN);
     for pair in pairs {
         len = len
-            .saturating_add(18)
+            .saturating_add(PAIR_OVERHEAD)
             .saturating_add(pair.original.len() as u64)
             .saturating_add(pair.translation.len() as u64);
     }
     len
 }
 
+/// The file of pairs whose layout has this length.
 fn laid_out(alloc: Global, order: Order, pairs: &[Pair], len: u32) -> Result<Vec<u8>, AllocError>
     requires { len ≡ length (layout order (messages_of_pairs pairs.now)) }
     ensures { IfOk result (λ bytes. bytes.items ≡ layout order (messages_of_pairs pairs.now)) }
@@ -76,7 +81,7 @@ fn laid_out(alloc: Global, order: Order, pairs: &[Pair], len: u32) -> Result<Vec
     let count = pairs.len() as u32;
     let mut out = Vec::with_capacity(alloc, len as usize)?;
     push_header(&mut out, order, count)?;
-    let originals = HEADER_LEN + 16 * count;
+    let originals = originals_place(count);
     let translations = push_table(&mut out, order, pairs, Part::Original, originals)?;
     push_table(&mut out, order, pairs, Part::Translation, translations)?;
     push_strings(&mut out, pairs, Part::Original)?;

@@ -5,19 +5,21 @@ ghost use Rattle.mo_file.specs.Checking.{HasStrings, IsHeader, IsSortedBelow};
 use crate::counting::Meter;
 use crate::fault::MoError;
 use crate::header::Header;
-use crate::strings::{end_at, key_at};
+use crate::strings::{key_at, range_at};
 use std::cmp::Ordering;
 
 /// Sees that each string lies inside the file and that a NUL follows it.
 pub(crate) fn check_strings(header: Header, bytes: &[u8]) -> Result<(), MoError>
     requires { IsHeader header bytes.now }
-    ensures exact { MatchResult result (λ _. HasStrings header.order bytes.now) (IsFirstFault bytes.now) }
+    ensures exact { MatchResult result
+        (λ _. HasStrings header.order bytes.now)
+        (IsFirstFault bytes.now) }
     ensures no_look { IfErr result (λ e. looks_before e ≡ 0) }
 {
     let mut unterminated = None;
     for i in 0..header.count {
-        let original_end = end_at(header.order, bytes, header.originals, i);
-        let translation_end = end_at(header.order, bytes, header.translations, i);
+        let original_end = range_at(header.order, bytes, header.originals, i).end;
+        let translation_end = range_at(header.order, bytes, header.translations, i).end;
         if original_end > bytes.len() || translation_end > bytes.len() {
             return Err(MoError::StringOutside(i));
         }
@@ -43,8 +45,12 @@ pub(crate) fn check_order(header: Header, bytes: &[u8], meter: &mut Meter) -> Re
     requires read { IsHeader header bytes.now }
     requires strings { HasStrings header.order bytes.now }
     requires room { meter.old < 2 ^ 63 }
-    ensures sorted { MatchResult result (λ _. IsSortedBelow header.order bytes.now header.count) (IsFirstFault bytes.now) }
-    ensures cost { MatchResult result (λ _. meter.new ≡ meter.old + (header.count - 1)) (λ e. meter.new ≡ meter.old + looks_before e) }
+    ensures sorted { MatchResult result
+        (λ _. IsSortedBelow header.order bytes.now header.count)
+        (IsFirstFault bytes.now) }
+    ensures cost { MatchResult result
+        (λ _. meter.new ≡ meter.old + (header.count - 1))
+        (λ e. meter.new ≡ meter.old + looks_before e) }
 {
     if header.count == 0 {
         return Ok(());

@@ -1,6 +1,10 @@
 //! The binary message catalogue of GNU gettext: an MO file is built from sorted pairs, and one of
 //! unknown origin is checked and then read in place ("The Format of GNU MO Files" in the GNU gettext
 //! manual).
+//!
+//! [`build`] lays out a file. [`MoView::open`] checks one, and the view then reads its messages, which
+//! stand in rising order of their keys. A [`Meter`] counts the looks at originals, so that a search
+//! can promise how few it needs.
 #![tactic(auto)]
 
 mod building;
@@ -10,8 +14,11 @@ mod counting;
 mod fault;
 mod header;
 mod key;
+mod laws;
 mod pairs;
 mod strings;
+#[cfg(test)]
+mod tests;
 mod view;
 mod writing;
 
@@ -20,5 +27,6 @@ pub use byte_order::Order;
 pub use counting::Meter;
 pub use fault::MoError;
 pub use key::compare_key;
+pub use laws::{catalog_is_unique, layout_is_catalog};
 pub use pairs::Pair;
 pub use view::MoView;

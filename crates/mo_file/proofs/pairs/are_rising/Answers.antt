@@ -1,5 +1,5 @@
-use Rattle.std.proofs.Common.{rules, arith, ◌≡◌, ℕ, ◌+◌, ◌<◌, length, sym, ◌∙◌, ap, refl, below_more}
-use Rattle.mo_file.specs.Key.{AreRising, key_at, key_of, keys}
+use Rattle.std.proofs.Common.{arith, ◌≡◌, ◌+◌, ◌<◌, length, sym, ◌∙◌, ap, refl, below_more}
+use Rattle.mo_file.specs.Key.{key_at, key_of, keys}
 use Rattle.mo_file.specs.Pairs.{messages_of_pairs}
 use Rattle.mo_file.proofs.BuildLemmas.{keys-next, length-keys, length-rest}
 use Rattle.mo_file.proofs.pairs.are_rising.Goals as goal

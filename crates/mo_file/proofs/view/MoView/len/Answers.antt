@@ -1,5 +1,4 @@
-use Rattle.std.proofs.Common.{sym, ◌∙◌, length, ap}
-use Rattle.mo_file.specs.Key.{AreRising, keys}
+use Rattle.std.proofs.Common.{sym, ◌∙◌}
 use Rattle.mo_file.proofs.ViewLemmas.{length-messages_of, AreRising-messages_of}
 use Rattle.mo_file.proofs.view.MoView.len.Goals as goal
 
