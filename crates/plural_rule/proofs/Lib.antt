@@ -1,0 +1,12 @@
+pub mod Complete
+pub mod Lexing
+pub mod Sound
+pub mod ParserSteps
+pub mod Numerals
+pub mod Scanning
+pub mod ParserRun
+pub mod Frames
+pub mod Subtrees
+pub mod Searches
+pub mod Rules
+pub mod Uniqueness

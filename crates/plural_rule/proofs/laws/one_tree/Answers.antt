@@ -1,0 +1,5 @@
+use Rattle.plural_rule.proofs.Uniqueness.{one_tree}
+use Rattle.plural_rule.proofs.laws.one_tree.Goals as goal
+
+pub returns : goal.returns
+returns c = one_tree

@@ -1,0 +1,144 @@
+//! The value of an expression at a count.
+//!
+//! What waits for an operand stands in a stack of fixed size, so the machine's stack doesn't grow with
+//! the expression.
+ghost use Rattle.std.specs.Prelude.{◌≡◌, ℕ, ◌+◌, ◌<◌, ◌≤◌, Some};
+ghost use Rattle.arrayvec.specs.ArrayVec.{array_vec_len};
+ghost use Rattle.plural_rule.specs.Expression.{Tree, nodes, value, visited};
+ghost use Rattle.plural_rule.specs.PostOrder.{layout, tree_of};
+ghost use Rattle.plural_rule.specs.Evaluation.{subtree, IsNodeOf, Outcome, outcome_of, finished, finished_step, remaining, remaining_step, AreFramesOf, IsStepOf};
+
+use crate::node::Node;
+use crate::operator::{Operator, truth};
+use crate::rule::LIMIT;
+use arrayvec::ArrayVec;
+
+/// A node that waits for the value of an operand.
+#[derive(Clone, Copy, Drop)]
+pub enum Frame {
+    /// `!`
+    Not,
+    /// An operator before its first operand, with the index of the second.
+    First(Operator, u16),
+    /// An operator before its second operand, with the value of the first.
+    Second(Operator, u64),
+    /// `a ? b : c` before `a`, with the indices of `b` and `c`.
+    Condition(u16, u16),
+}
+
+impl Default for Frame {
+    fn default() -> Self {
+        Frame::Not
+    }
+}
+
+/// The nodes that wait, the last one for the operand that is evaluated next.
+pub type Frames = ArrayVec<Frame, LIMIT>;
+
+/// What to do next.
+#[derive(Clone, Copy, Drop)]
+pub enum Step {
+    /// Evaluate the node at this index.
+    Visit(u16),
+    /// Stop, with the value of the whole expression.
+    Stop(Option<u64>),
+}
+
+/// The value of the expression in `table` at `count`, or `None` where it is undefined, and how many nodes were visited.
+pub fn evaluate(table: &[Node], count: u64) -> (Option<u64>, u32)
+    requires laid { table.now ≡ layout 0 (tree_of table.now) }
+    requires limit { nodes (tree_of table.now) ≤ LIMIT }
+    ensures value { result.0 ≡ value (tree_of table.now) count }
+    ensures steps { result.1 ≡ visited (tree_of table.now) count }
+    ensures bound { result.1 ≤ nodes (tree_of table.now) }
+{
+    let mut frames = Frames::new();
+    let mut place = table.len() - 1;
+    let mut steps = 0;
+    'visits: loop {
+        steps += 1;
+        match visit(table, place, count, &mut frames) {
+            Step::Visit(next) => place = next as usize,
+            Step::Stop(value) => return (value, steps),
+        }
+    }
+}
+
+/// The node at an index.
+fn node_at(table: &[Node], place: usize) -> Node
+    requires laid { table.now ≡ layout 0 (tree_of table.now) }
+    requires limit { nodes (tree_of table.now) ≤ LIMIT }
+    requires place { place < nodes (tree_of table.now) }
+    ensures { IsNodeOf (tree_of table.now) (subtree (tree_of table.now) place) result }
+{
+    table[place]
+}
+
+/// Visits the node at an index: a leaf has its value, and any other node waits for its first operand.
+#[tactic(auto, using(crate::proofs::Frames::visits_not, crate::proofs::Frames::visits_binary, crate::proofs::Frames::visits_conditional, crate::proofs::Frames::remaining_more, crate::proofs::Frames::frames_more))]
+fn visit(table: &[Node], place: usize, count: u64, frames: &mut Frames) -> Step
+    requires laid { table.now ≡ layout 0 (tree_of table.now) }
+    requires limit { nodes (tree_of table.now) ≤ LIMIT }
+    requires place { place < nodes (tree_of table.now) }
+    requires room { array_vec_len frames.old < LIMIT }
+    requires frames { AreFramesOf (tree_of table.now) frames.old.items }
+    ensures outcome { (steps : ℕ) →
+        finished_step (tree_of table.now) count frames.new.items (steps + 1) result
+        ≡ finished (tree_of table.now) count frames.old.items (outcome_of (subtree (tree_of table.now) place) count steps) }
+    ensures remaining { remaining_step (tree_of table.now) result + remaining (tree_of table.now) frames.new.items + 1
+        ≤ nodes (subtree (tree_of table.now) place) + remaining (tree_of table.now) frames.old.items }
+    ensures step { IsStepOf (tree_of table.now) result }
+    ensures frames { AreFramesOf (tree_of table.now) frames.new.items }
+    ensures size { array_vec_len frames.new ≤ array_vec_len frames.old + 1 }
+{
+    match node_at(table, place) {
+        Node::Count => resume(frames, count),
+        Node::Number(number) => resume(frames, number),
+        Node::Not(operand) => {
+            frames.push(Frame::Not);
+            Step::Visit(operand)
+        }
+        Node::Binary(operator, left, right) => {
+            frames.push(Frame::First(operator, right));
+            Step::Visit(left)
+        }
+        Node::Conditional(condition, yes, no) => {
+            frames.push(Frame::Condition(yes, no));
+            Step::Visit(condition)
+        }
+    }
+}
+
+/// Hands a value to the nodes that wait for it, up to one that needs a further operand.
+#[tactic(auto, using(crate::proofs::Frames::finished_more, crate::proofs::Frames::remaining_more, crate::proofs::Frames::frames_more, crate::proofs::Frames::frames_split, crate::proofs::Frames::finished_undefined))]
+fn resume(frames: &mut Frames, operand: u64) -> Step
+    requires { array_vec_len frames.old ≤ LIMIT }
+    ensures outcome { (whole : Tree) (n steps : ℕ) →
+        finished_step whole n frames.new.items steps result
+        ≡ finished whole n frames.old.items (record { value = Some operand; steps = steps }) }
+    ensures remaining { (whole : Tree) →
+        remaining_step whole result + remaining whole frames.new.items ≤ remaining whole frames.old.items }
+    ensures step { (whole : Tree) → AreFramesOf whole frames.old.items → IsStepOf whole result }
+    ensures frames { (whole : Tree) → AreFramesOf whole frames.old.items → AreFramesOf whole frames.new.items }
+    ensures size { array_vec_len frames.new ≤ array_vec_len frames.old }
+{
+    let mut value = operand;
+    while let Some(frame) = frames.pop() {
+        match frame {
+            Frame::Not => value = truth(value == 0),
+            Frame::First(operator, right) => {
+                if operator.needs_right(value) {
+                    frames.push(Frame::Second(operator, value));
+                    return Step::Visit(right);
+                }
+                value = operator.settled();
+            }
+            Frame::Second(operator, left) => match operator.combined(left, value) {
+                Some(combined) => value = combined,
+                None => return Step::Stop(None),
+            },
+            Frame::Condition(yes, no) => return Step::Visit(if value == 0 { no } else { yes }),
+        }
+    }
+    Step::Stop(Some(value))
+}

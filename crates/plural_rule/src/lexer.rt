@@ -1,0 +1,158 @@
+//! The tokens of an expression's text, and the numerals and blanks of a header text.
+ghost use Rattle.std.specs.Prelude.{◌≡◌, ◌^◌, ◌<◌, ◌≤◌, [], ◌∷◌, length, take_while, slice_index, MatchOption, SomeIff, true, false};
+ghost use Rattle.std.specs.List.{prefix_len};
+ghost use Rattle.plural_rule.specs.Tokens.{is_blank, is_digit, AllDigits, decimal_value, operator_bytes, IsSpelling};
+ghost use Rattle.plural_rule.specs.Header.{without_blanks};
+ghost use Rattle.plural_rule.specs.Scanner.{IsTokenAt, HasNoToken, BeginsWithDouble, HasNoDouble};
+
+use crate::operator::Operator;
+use crate::token::Token;
+
+/// Whether a byte is a space or a TAB.
+fn is_blank(byte: u8) -> bool
+    ensures { result ≡ is_blank byte }
+{
+    byte == b' ' || byte == b'\t'
+}
+
+/// How many blanks the text begins with.
+fn blanks(text: &[u8]) -> usize
+    ensures count { result ≡ prefix_len is_blank text.now }
+    ensures within { result ≤ length text.now }
+{
+    for (index, byte) in text.iter().enumerate() {
+        if !is_blank(*byte) {
+            return index;
+        }
+    }
+    text.len()
+}
+
+/// How many decimal digits the text begins with.
+fn digits(text: &[u8]) -> usize
+    ensures count { result ≡ prefix_len is_digit text.now }
+    ensures within { result ≤ length text.now }
+{
+    for (index, byte) in text.iter().enumerate() {
+        if !byte.is_ascii_digit() {
+            return index;
+        }
+    }
+    text.len()
+}
+
+/// The text without the spaces and TABs at its front.
+pub fn without_blanks(text: &[u8]) -> &[u8]
+    ensures value { result.now ≡ without_blanks text.now }
+    ensures shorter { length result.now ≤ length text.now }
+{
+    &text[blanks(text)..]
+}
+
+/// The decimal digits at the front of the text.
+pub fn leading_digits(text: &[u8]) -> &[u8]
+    ensures { result.now ≡ take_while is_digit text.now }
+{
+    &text[..digits(text)]
+}
+
+/// The number that decimal digits spell, or `None` where it is 2^64 or more.
+pub fn decimal_value(digits: &[u8]) -> Option<u64>
+    requires { AllDigits digits.now }
+    ensures { SomeIff result (decimal_value digits.now < 2 ^ 64) (decimal_value digits.now) }
+{
+    let mut value: u64 = 0;
+    for digit in digits {
+        let Some(shifted) = value.checked_mul(10) else {
+            return None;
+        };
+        let Some(sum) = shifted.checked_add((*digit - b'0') as u64) else {
+            return None;
+        };
+        value = sum;
+    }
+    Some(value)
+}
+
+/// The token at the front of a text, the longest that fits, and how many bytes it has.
+///
+/// There is none where no token begins the text, or only a numeral of 2^64 or more.
+pub fn token(text: &[u8]) -> Option<(Token, usize)>
+    requires { 0 < length text.now }
+    ensures { MatchOption result (HasNoToken text.now) (λ r. IsTokenAt text.now r.0 r.1) }
+{
+    let first = text[0];
+    if first.is_ascii_digit() {
+        return numeral(text);
+    }
+    if let Some(operator) = double_at(text) {
+        return Some((Token::Binary(operator), 2));
+    }
+    match single(first) {
+        Some(token) => Some((token, 1)),
+        None => None,
+    }
+}
+
+/// The numeral at the front of a text that begins with a digit.
+fn numeral(text: &[u8]) -> Option<(Token, usize)>
+    requires some { 0 < length text.now }
+    requires digit { is_digit (slice_index text.now 0) ≡ true }
+    ensures { MatchOption result (HasNoToken text.now) (λ r. IsTokenAt text.now r.0 r.1) }
+{
+    let digits = leading_digits(text);
+    match decimal_value(digits) {
+        Some(value) => Some((Token::Number(value), digits.len())),
+        None => None,
+    }
+}
+
+/// The operator that the first two bytes of a text spell.
+fn double_at(text: &[u8]) -> Option<Operator>
+    ensures { MatchOption result (HasNoDouble text.now) (λ op. BeginsWithDouble text.now op) }
+{
+    if text.len() > 1 {
+        double(text[0], text[1])
+    } else {
+        None
+    }
+}
+
+/// The operator that two bytes spell.
+fn double(first: u8, second: u8) -> Option<Operator>
+    ensures { MatchOption result ((op : Operator) → operator_bytes op ≡ first ∷ second ∷ [] → ⊥)
+        (λ op. operator_bytes op ≡ first ∷ second ∷ []) }
+{
+    match (first, second) {
+        (b'|', b'|') => Some(Operator::Or),
+        (b'&', b'&') => Some(Operator::And),
+        (b'=', b'=') => Some(Operator::Equal),
+        (b'!', b'=') => Some(Operator::NotEqual),
+        (b'<', b'=') => Some(Operator::AtMost),
+        (b'>', b'=') => Some(Operator::AtLeast),
+        _ => None,
+    }
+}
+
+/// The token that one byte spells, which isn't a digit.
+fn single(byte: u8) -> Option<Token>
+    requires { is_digit byte ≡ false }
+    ensures { MatchOption result ((t : Token) → IsSpelling t (byte ∷ []) → ⊥) (λ t. IsSpelling t (byte ∷ [])) }
+{
+    match byte {
+        b'n' => Some(Token::Count),
+        b'!' => Some(Token::Not),
+        b'?' => Some(Token::Question),
+        b':' => Some(Token::Colon),
+        b'(' => Some(Token::Open),
+        b')' => Some(Token::Close),
+        b'<' => Some(Token::Binary(Operator::Less)),
+        b'>' => Some(Token::Binary(Operator::Greater)),
+        b'+' => Some(Token::Binary(Operator::Add)),
+        b'-' => Some(Token::Binary(Operator::Subtract)),
+        b'*' => Some(Token::Binary(Operator::Multiply)),
+        b'/' => Some(Token::Binary(Operator::Divide)),
+        b'%' => Some(Token::Binary(Operator::Remainder)),
+        _ => None,
+    }
+}
