@@ -1,0 +1,8 @@
+pub mod BoundLemmas
+pub mod RisingLemmas
+pub mod SearchLemmas
+pub mod FormLemmas
+pub mod QueryLemmas
+pub mod TranslationLemmas
+pub mod ChainLemmas
+pub mod LetterLemmas
