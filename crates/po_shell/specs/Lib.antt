@@ -1,0 +1,14 @@
+pub mod Device
+pub mod Counted
+pub mod Failing
+pub mod References
+pub mod Substitution
+pub mod Stream
+pub mod Holding
+pub mod Substituting
+pub mod Envsubst
+pub mod Counts
+pub mod CountSteps
+pub mod Escapes
+pub mod Locales
+pub mod LocaleSteps
