@@ -1,1 +1,4 @@
 pub mod Numbers
+pub mod Searches
+pub mod QuotedStrings
+pub mod Tokens
