@@ -2,3 +2,4 @@ pub mod Numbers
 pub mod Searches
 pub mod QuotedStrings
 pub mod Tokens
+pub mod Lines

@@ -4,11 +4,11 @@ use Rattle.po_syntax.specs.PoText.{SpellsLines, LinesStop, lines_of}
 use Rattle.po_syntax.specs.TextItem.{TextItem, views}
 use Rattle.po_syntax.proofs.text.read_lines.Given as goal
 
-abbrev pub invariant-loop : goal.invariant-loop
-invariant-loop l =
+abbrev pub invariant-loop-items : goal.invariant-loop-items
+invariant-loop-items l =
     ((more : List TextItem) → SpellsLines l.line (lines_of l.rest) more → SpellsLines 1 (lines_of l.text) (views l.items.items ++ more))
     × ((fault : PoFault) (line : ℕ) → LinesStop l.line (lines_of l.rest) fault line → LinesStop 1 (lines_of l.text) fault line)
     × (l.line + length l.rest ≤ length l.text + 1)
 
-abbrev pub decreases-loop : goal.decreases-loop
-decreases-loop l = length l.rest
+abbrev pub decreases-loop-items : goal.decreases-loop-items
+decreases-loop-items l = length l.rest
