@@ -3,3 +3,4 @@ pub mod Searches
 pub mod QuotedStrings
 pub mod Tokens
 pub mod Lines
+pub mod RawRuns
