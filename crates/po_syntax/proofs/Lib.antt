@@ -8,3 +8,6 @@ pub mod Uniqueness
 pub mod Totality
 pub mod QuotedForms
 pub mod Rests
+pub mod CleanLines
+pub mod TrimmedReturns
+pub mod ItemTexts
