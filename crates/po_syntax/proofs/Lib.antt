@@ -1,0 +1,13 @@
+pub mod Numbers
+pub mod Searches
+pub mod QuotedStrings
+pub mod Tokens
+pub mod Lines
+pub mod RawRuns
+pub mod Uniqueness
+pub mod Totality
+pub mod QuotedForms
+pub mod Rests
+pub mod CleanLines
+pub mod TrimmedReturns
+pub mod ItemTexts

@@ -1,0 +1,8 @@
+pub mod TextItem
+pub mod QuotedString
+pub mod Token
+pub mod Line
+pub mod TokenView
+pub mod ItemText
+pub mod PoText
+pub mod QuotedForm
