@@ -15,9 +15,9 @@ const DEFAULT_FOLDER: &[u8] = b"/usr/share/locale";
 // As many as a chain of catalogues can count.
 const MOST_CATALOGUES: usize = u32::MAX as usize;
 
-/// A compiled catalogue that could be read, with the path that names it in fault lines.
+/// A compiled catalogue's bytes, with the path that names it in fault lines.
 #[derive(Drop)]
-pub struct Compiled {
+pub struct CatalogueFile {
     path: String,
     bytes: Vec<u8>,
 }
@@ -28,7 +28,7 @@ pub fn find<'a, R: Files + Env>(
     alloc: Global,
     rt: &R,
     domain: Option<&str>,
-) -> Result<Vec<Compiled>, Fault<'a>> {
+) -> Result<Vec<CatalogueFile>, Fault<'a>> {
     match domain {
         Some(domain) => find_domain(alloc, rt, domain.as_bytes()),
         None => match environment::variable(alloc, rt, "TEXTDOMAIN")? {
@@ -39,7 +39,10 @@ pub fn find<'a, R: Files + Env>(
 }
 
 /// The catalogues, lent, with their paths for names.
-pub fn lent<'a>(alloc: Global, catalogues: &[Compiled]) -> Result<Vec<(&str, &[u8])>, Fault<'a>>
+pub fn lent<'a>(
+    alloc: Global,
+    catalogues: &[CatalogueFile],
+) -> Result<Vec<(&str, &[u8])>, Fault<'a>>
     ensures { IfOk result (λ all. length all.items ≤ MOST_CATALOGUES) }
 {
     let mut all = Vec::with_capacity(alloc, catalogues.len())?;
@@ -54,7 +57,7 @@ fn find_domain<'a, R: Files + Env>(
     alloc: Global,
     rt: &R,
     domain: &[u8],
-) -> Result<Vec<Compiled>, Fault<'a>> {
+) -> Result<Vec<CatalogueFile>, Fault<'a>> {
     let mut found = Vec::new(alloc);
     if domain.is_empty() || domain.contains(&b'/') {
         return Ok(found);
@@ -75,7 +78,11 @@ fn find_domain<'a, R: Files + Env>(
 }
 
 // A path that isn't UTF-8 is that of no file.
-fn read<'a>(alloc: Global, rt: &impl Files, path: Vec<u8>) -> Result<Option<Compiled>, Fault<'a>> {
+fn read<'a>(
+    alloc: Global,
+    rt: &impl Files,
+    path: Vec<u8>,
+) -> Result<Option<CatalogueFile>, Fault<'a>> {
     let Ok(path) = String::from_utf8(path) else {
         return Ok(None);
     };
@@ -83,7 +90,7 @@ fn read<'a>(alloc: Global, rt: &impl Files, path: Vec<u8>) -> Result<Option<Comp
         return Ok(None);
     };
     match read_file(alloc, file) {
-        Ok(bytes) => Ok(Some(Compiled { path, bytes })),
+        Ok(bytes) => Ok(Some(CatalogueFile { path, bytes })),
         Err(ToolFault::OutOfMemory) => Err(Fault::OutOfMemory),
         Err(_) => Ok(None),
     }

@@ -31,20 +31,16 @@ fn msgfmt<'a>(alloc: Global) -> Result<Command<'a>, AllocError> {
     Command::new(alloc, "msgfmt")
         .about("Compiles PO texts to one MO file")
         .arg(
-            words(
-                alloc,
-                "FILE",
-                "PO texts, joined in this order; - is standard input",
-            )
-            .num_args(1..)
-            .required(true),
+            words(alloc, "FILE", "PO texts to join; - is standard input")
+                .num_args(1..)
+                .required(true),
         )?
         .arg(
             value(
                 alloc,
                 "output-file",
                 "FILE",
-                "The MO file to write; - is standard output",
+                "MO file to write; - is standard output",
             )
             .short('o')
             .default_value(DEFAULT_OUTPUT),
@@ -52,14 +48,9 @@ fn msgfmt<'a>(alloc: Global) -> Result<Command<'a>, AllocError> {
         .arg(flag(alloc, "use-fuzzy", "Compile fuzzy entries too").short('f'))?
         .arg(flag(alloc, "statistics", "Count the messages on standard error"))?
         .arg(
-            value(
-                alloc,
-                "endianness",
-                "ORDER",
-                "The byte order of the MO file",
-            )
-            .value_parser(BYTE_ORDERS.as_slice())
-            .default_value("little"),
+            value(alloc, "endianness", "ORDER", "Byte order of the MO file")
+                .value_parser(BYTE_ORDERS.as_slice())
+                .default_value("little"),
         )?
         .arg(flag(alloc, "no-hash", "Write no hash table, as always"))?
         .arg(flag(
@@ -71,23 +62,21 @@ fn msgfmt<'a>(alloc: Global) -> Result<Command<'a>, AllocError> {
 
 fn gettext<'a>(alloc: Global) -> Result<Command<'a>, AllocError> {
     look_up(alloc, "gettext", "Prints the translation of a message")?
+        .override_usage(
+            "pokit gettext [OPTIONS] [TEXTDOMAIN] MSGID\n       pokit gettext [OPTIONS] -s [MSGID]...",
+        )
         .arg(words(
             alloc,
-            "WORD",
-            "[TEXTDOMAIN] MSGID, or with -s any number of MSGIDs",
+            "MSGID",
+            "The message, behind its text domain if given",
         )
         .num_args(0..))?
-        .arg(switch(
-            alloc,
-            "no-newline",
-            'n',
-            "With -s, write no newline at the end",
-        ))?
+        .arg(switch(alloc, "no-newline", 'n', "With -s, end without a newline"))?
         .arg(switch(
             alloc,
             "shell",
             's',
-            "Write the translations of all words, and a newline",
+            "Translate all words, and end with a newline",
         ))
 }
 
@@ -97,24 +86,16 @@ fn ngettext<'a>(alloc: Global) -> Result<Command<'a>, AllocError> {
         "ngettext",
         "Prints the translation of a message with a count",
     )?
-    .arg(words(alloc, "WORD", "[TEXTDOMAIN] MSGID MSGID-PLURAL COUNT").num_args(0..))
+    .override_usage("pokit ngettext [OPTIONS] [TEXTDOMAIN] MSGID MSGID-PLURAL COUNT")
+    .arg(words(alloc, "MSGID", "The message, its plural, and the count").num_args(0..))
 }
 
 fn envsubst<'a>(alloc: Global) -> Result<Command<'a>, AllocError> {
     Command::new(alloc, "envsubst")
         .about("Puts the values of variables into standard input")
-        .arg(words(
-            alloc,
-            "WORD",
-            "[SHELL-FORMAT]: only the variables in it are replaced",
-        )
-        .num_args(0..))?
-        .arg(flag(
-            alloc,
-            "variables",
-            "Print the names of the variables in SHELL-FORMAT",
-        )
-        .short('v'))
+        .override_usage("pokit envsubst [OPTIONS] [SHELL-FORMAT]")
+        .arg(words(alloc, "SHELL-FORMAT", "Replace only the variables in it").num_args(0..))?
+        .arg(flag(alloc, "variables", "Print the names of the variables in it").short('v'))
 }
 
 // What gettext and ngettext share.

@@ -15,7 +15,7 @@ pub fn run<'a, R: Env + Input + Print>(
     rt: &R,
     matches: &ArgMatches<'a>,
 ) -> Result<u8, Fault<'a>> {
-    let words = matches.get_strs("WORD").unwrap_or(&[]);
+    let words = matches.get_strs("SHELL-FORMAT").unwrap_or(&[]);
     match (matches.get_flag("variables"), words) {
         (true, [format]) => print_names(alloc, rt, format)?,
         (false, []) => substitute(alloc, rt, None)?,

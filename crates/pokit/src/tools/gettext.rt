@@ -17,7 +17,7 @@ pub fn run<'a, R: Files + Env + Print, E: Write + Drop>(
     matches: &ArgMatches<'a>,
 ) -> Result<u8, Fault<'a>> {
     let shell = matches.get_flag("shell");
-    let words = matches.get_strs("WORD").unwrap_or(&[]);
+    let words = matches.get_strs("MSGID").unwrap_or(&[]);
     let (domain, messages) = match words {
         _ if shell => (None, words),
         [_] => (None, words),

@@ -16,7 +16,7 @@ pub fn run<'a, R: Files + Env + Print, E: Write + Drop>(
     errors: E,
     matches: &ArgMatches<'a>,
 ) -> Result<u8, Fault<'a>> {
-    let words = matches.get_strs("WORD").unwrap_or(&[]);
+    let words = matches.get_strs("MSGID").unwrap_or(&[]);
     let (domain, id, plural, count) = match words {
         [id, plural, count] => (None, *id, *plural, *count),
         [domain, id, plural, count] => (Some(*domain), *id, *plural, *count),
