@@ -1,1 +1,28 @@
+//! The binary message catalogue of GNU gettext: an MO file is built from sorted pairs, and one of
+//! unknown origin is checked and then read in place ("The Format of GNU MO Files" in the GNU gettext
+//! manual).
 #![tactic(auto)]
+
+mod building;
+mod byte_order;
+mod checking;
+mod counting;
+mod fault;
+mod header;
+mod key;
+mod laws;
+mod pairs;
+mod strings;
+#[cfg(test)]
+mod tests;
+mod view;
+mod writing;
+
+pub use building::{BuildError, build};
+pub use byte_order::Order;
+pub use counting::Meter;
+pub use fault::MoError;
+pub use key::compare_key;
+pub use laws::{catalog_is_unique, layout_is_catalog};
+pub use pairs::Pair;
+pub use view::MoView;
