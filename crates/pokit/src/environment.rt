@@ -1,4 +1,6 @@
 // The environment's variables. Their values are bytes, and needn't be text.
+ghost use Rattle.std.specs.Prelude.{◌≡◌, ◌≢◌, ◌++◌, ◌∷◌, All, IfSome, IsNone};
+
 use po_shell::Environment;
 use std::alloc::{AllocError, Global};
 use std::env::{Env, FillError};
@@ -11,6 +13,8 @@ enum Query<'a> {
 }
 
 const FIRST_CAPACITY: usize = 256;
+
+const EQUALS: u8 = b'=';
 
 /// The variables that choose the locale and the folder of a catalogue.
 #[derive(Drop)]
@@ -65,8 +69,12 @@ pub fn entries(alloc: Global, env: &impl Env) -> Result<Vec<Vec<u8>>, AllocError
 }
 
 /// The name and the value of an entry. One without `=` has none.
-pub fn name_and_value(entry: &[u8]) -> Option<(&[u8], &[u8])> {
-    let at = entry.iter().position(|&byte| byte == b'=')?;
+pub fn name_and_value(entry: &[u8]) -> Option<(&[u8], &[u8])>
+    ensures parts { IfSome result (λ v. entry.now ≡ v.0.now ++ EQUALS ∷ v.1.now) }
+    ensures first { IfSome result (λ v. All (λ b. b ≢ EQUALS) v.0.now) }
+    ensures none { IsNone result → All (λ b. b ≢ EQUALS) entry.now }
+{
+    let at = entry.iter().position(|&byte| byte == EQUALS)?;
     Some((&entry[..at], &entry[at + 1..]))
 }
 
