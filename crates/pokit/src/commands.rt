@@ -1,0 +1,139 @@
+// The words that each tool takes, as `clap` commands.
+use clap::{Arg, ArgAction, Command};
+use std::alloc::{AllocError, Global};
+
+/// The MO file that msgfmt writes where the words name none.
+pub const DEFAULT_OUTPUT: &str = "messages.mo";
+
+static BYTE_ORDERS: [&str; 2] = ["little", "big"];
+
+/// The whole program. Where the first word names a tool, that one alone is built.
+pub fn program<'a>(alloc: Global, first: Option<&str>) -> Result<Command<'a>, AllocError> {
+    let program = Command::new(alloc, "pokit")
+        .about("Compiles message catalogues and looks messages up in them")
+        .disable_version_flag(true)
+        .disable_help_subcommand(true)
+        .subcommand_required(true);
+    match first {
+        Some("msgfmt") => program.subcommand(msgfmt(alloc)?),
+        Some("gettext") => program.subcommand(gettext(alloc)?),
+        Some("ngettext") => program.subcommand(ngettext(alloc)?),
+        Some("envsubst") => program.subcommand(envsubst(alloc)?),
+        _ => program
+            .subcommand(msgfmt(alloc)?)?
+            .subcommand(gettext(alloc)?)?
+            .subcommand(ngettext(alloc)?)?
+            .subcommand(envsubst(alloc)?),
+    }
+}
+
+fn msgfmt<'a>(alloc: Global) -> Result<Command<'a>, AllocError> {
+    Command::new(alloc, "msgfmt")
+        .about("Compiles PO texts to one MO file")
+        .arg(
+            words(alloc, "FILE", "PO texts to join; - is standard input")
+                .num_args(1..)
+                .required(true),
+        )?
+        .arg(
+            value(
+                alloc,
+                "output-file",
+                "FILE",
+                "MO file to write; - is standard output",
+            )
+            .short('o')
+            .default_value(DEFAULT_OUTPUT),
+        )?
+        .arg(flag(alloc, "use-fuzzy", "Compile fuzzy entries too").short('f'))?
+        .arg(flag(alloc, "statistics", "Count the messages on standard error"))?
+        .arg(
+            value(alloc, "endianness", "ORDER", "Byte order of the MO file")
+                .value_parser(BYTE_ORDERS.as_slice())
+                .default_value("little"),
+        )?
+        .arg(flag(alloc, "no-hash", "Write no hash table, as always"))?
+        .arg(flag(
+            alloc,
+            "profile-check",
+            "Refuse plural forms and newlines that don't fit",
+        ))
+}
+
+fn gettext<'a>(alloc: Global) -> Result<Command<'a>, AllocError> {
+    look_up(alloc, "gettext", "Prints the translation of a message")?
+        .override_usage(
+            "pokit gettext [OPTIONS] [TEXTDOMAIN] MSGID\n       pokit gettext [OPTIONS] -s [MSGID]...",
+        )
+        .arg(words(
+            alloc,
+            "MSGID",
+            "The message, behind its text domain if given",
+        )
+        .num_args(0..))?
+        .arg(switch(alloc, "no-newline", 'n', "With -s, end without a newline"))?
+        .arg(switch(
+            alloc,
+            "shell",
+            's',
+            "Translate all words, and end with a newline",
+        ))
+}
+
+fn ngettext<'a>(alloc: Global) -> Result<Command<'a>, AllocError> {
+    look_up(
+        alloc,
+        "ngettext",
+        "Prints the translation of a message with a count",
+    )?
+    .override_usage("pokit ngettext [OPTIONS] [TEXTDOMAIN] MSGID MSGID-PLURAL COUNT")
+    .arg(words(alloc, "MSGID", "The message, its plural, and the count").num_args(0..))
+}
+
+fn envsubst<'a>(alloc: Global) -> Result<Command<'a>, AllocError> {
+    Command::new(alloc, "envsubst")
+        .about("Puts the values of variables into standard input")
+        .override_usage("pokit envsubst [OPTIONS] [SHELL-FORMAT]")
+        .arg(words(alloc, "SHELL-FORMAT", "Replace only the variables in it").num_args(0..))?
+        .arg(flag(alloc, "variables", "Print the names of the variables in it").short('v'))
+}
+
+// What gettext and ngettext share.
+fn look_up<'a>(alloc: Global, name: &'a str, about: &'a str) -> Result<Command<'a>, AllocError> {
+    Command::new(alloc, name)
+        .about(about)
+        .arg(value(alloc, "domain", "TEXTDOMAIN", "The text domain").short('d'))?
+        .arg(value(alloc, "context", "CONTEXT", "The context of the message").short('c'))?
+        .arg(switch(alloc, "expand", 'e', "Expand escapes in the message"))?
+        .arg(switch(alloc, "no-expand", 'E', "No effect"))
+}
+
+// Words that are no options.
+fn words<'a>(alloc: Global, id: &'a str, help: &'a str) -> Arg<'a> {
+    Arg::new(alloc, id).help(help).action(ArgAction::Append)
+}
+
+// An option `--id NAME`.
+fn value<'a>(alloc: Global, id: &'a str, name: &'a str, help: &'a str) -> Arg<'a> {
+    Arg::new(alloc, id)
+        .long(id)
+        .value_name(name)
+        .help(help)
+        .action(ArgAction::Set)
+}
+
+// An option `--id` without a value.
+fn flag<'a>(alloc: Global, id: &'a str, help: &'a str) -> Arg<'a> {
+    Arg::new(alloc, id)
+        .long(id)
+        .help(help)
+        .action(ArgAction::SetTrue)
+}
+
+// An option of one letter, without a long name.
+fn switch<'a>(alloc: Global, id: &'a str, letter: char, help: &'a str) -> Arg<'a> {
+    Arg::new(alloc, id)
+        .short(letter)
+        .help(help)
+        .action(ArgAction::SetTrue)
+}

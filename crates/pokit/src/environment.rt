@@ -1,0 +1,110 @@
+// The environment's variables. Their values are bytes, and needn't be text.
+ghost use Rattle.std.specs.Prelude.{◌≡◌, ◌≢◌, ◌++◌, ◌∷◌, All, IfSome, IsNone};
+
+use po_shell::Environment;
+use std::alloc::{AllocError, Global};
+use std::env::{Env, FillError};
+
+// What of the environment is asked for.
+#[derive(Clone, Copy)]
+enum Query<'a> {
+    Variable(&'a str),
+    Entry(usize),
+}
+
+const FIRST_CAPACITY: usize = 256;
+
+const EQUALS: u8 = b'=';
+
+/// The variables that choose the locale and the folder of a catalogue.
+#[derive(Drop)]
+pub struct Variables {
+    lc_all: Option<Vec<u8>>,
+    lc_messages: Option<Vec<u8>>,
+    lang: Option<Vec<u8>>,
+    language: Option<Vec<u8>>,
+    textdomaindir: Option<Vec<u8>>,
+}
+
+impl Variables {
+    /// The variables as they stand in the environment.
+    pub fn read(alloc: Global, env: &impl Env) -> Result<Variables, AllocError> {
+        Ok(Variables {
+            lc_all: variable(alloc, env, "LC_ALL")?,
+            lc_messages: variable(alloc, env, "LC_MESSAGES")?,
+            lang: variable(alloc, env, "LANG")?,
+            language: variable(alloc, env, "LANGUAGE")?,
+            textdomaindir: variable(alloc, env, "TEXTDOMAINDIR")?,
+        })
+    }
+
+    /// The same, lent, with the text domain that was chosen.
+    pub fn environment<'a>(&'a self, domain: &'a [u8]) -> Environment<'a> {
+        Environment {
+            lc_all: bytes(&self.lc_all),
+            lc_messages: bytes(&self.lc_messages),
+            lang: bytes(&self.lang),
+            language: bytes(&self.language),
+            textdomain: Some(domain),
+            textdomaindir: bytes(&self.textdomaindir),
+        }
+    }
+}
+
+/// The value of the variable of this name, where it is set.
+pub fn variable(alloc: Global, env: &impl Env, name: &str) -> Result<Option<Vec<u8>>, AllocError> {
+    ask(alloc, env, Query::Variable(name))
+}
+
+/// All entries of the environment in order, each `NAME=value`.
+pub fn entries(alloc: Global, env: &impl Env) -> Result<Vec<Vec<u8>>, AllocError> {
+    let mut entries = Vec::new(alloc);
+    for place in 0..usize::MAX {
+        match ask(alloc, env, Query::Entry(place))? {
+            Some(entry) => entries.push(entry)?,
+            None => break,
+        }
+    }
+    Ok(entries)
+}
+
+/// The name and the value of an entry. One without `=` has none.
+pub fn name_and_value(entry: &[u8]) -> Option<(&[u8], &[u8])>
+    ensures parts { IfSome result (λ v. entry.now ≡ v.0.now ++ EQUALS ∷ v.1.now) }
+    ensures first { IfSome result (λ v. All (λ b. b ≢ EQUALS) v.0.now) }
+    ensures none { IsNone result → All (λ b. b ≢ EQUALS) entry.now }
+{
+    let at = entry.iter().position(|&byte| byte == EQUALS)?;
+    Some((&entry[..at], &entry[at + 1..]))
+}
+
+fn bytes(value: &Option<Vec<u8>>) -> Option<&[u8]> {
+    match value {
+        Some(value) => Some(value.as_slice()),
+        None => None,
+    }
+}
+
+// Doubles the room until the answer fits.
+fn ask(alloc: Global, env: &impl Env, query: Query<'_>) -> Result<Option<Vec<u8>>, AllocError> {
+    let mut capacity = FIRST_CAPACITY;
+    for _ in 0..usize::BITS {
+        let mut answer = vec![in alloc; 0; capacity]?;
+        match fill(env, query, answer.as_mut_slice()) {
+            Ok(length) => {
+                answer.truncate(length);
+                return Ok(Some(answer));
+            }
+            Err(FillError::NotPresent) => return Ok(None),
+            Err(FillError::TooLong) => capacity = capacity.saturating_mul(2),
+        }
+    }
+    Err(AllocError)
+}
+
+fn fill(env: &impl Env, query: Query<'_>, room: &mut [u8]) -> Result<usize, FillError> {
+    match query {
+        Query::Variable(name) => env.var(name, room),
+        Query::Entry(place) => env.var_at(place, room),
+    }
+}

@@ -1,0 +1,77 @@
+//! `pokit`: the GNU gettext catalogue tools in one program, a subcommand for each.
+#![tactic(auto)]
+
+mod catalogues;
+mod commands;
+mod environment;
+mod fault;
+mod files;
+mod tools;
+
+use clap::ArgMatches;
+use clap::error::ErrorKind;
+use fault::Fault;
+use std::process::ExitCode;
+use std::{env, io};
+
+fn main(rt: HostRuntime) -> ExitCode {
+    match arguments(&rt) {
+        Ok(words) => run(&rt, words.as_slice()),
+        Err(error) => tell(&rt, None, Fault::of_arguments(&error)),
+    }
+}
+
+// The words of the command line. They are text, all or none.
+fn arguments(rt: &HostRuntime) -> io::Result<Vec<String>> {
+    Ok(env::args(rt)?.collect(rt.alloc())?)
+}
+
+fn run(rt: &HostRuntime, words: &[String]) -> ExitCode {
+    let first = words.get(1).map(|word| word.as_str());
+    let parsed = match commands::program(rt.alloc(), first) {
+        Ok(command) => command.try_get_matches_from(words),
+        Err(_) => return tell(rt, first, Fault::OutOfMemory),
+    };
+    match parsed {
+        Ok(matches) => run_tool(rt, &matches),
+        Err(error) if error.kind() == ErrorKind::OutOfMemory => tell(rt, first, Fault::OutOfMemory),
+        Err(error) => {
+            let is_shown = error.print(rt).is_ok();
+            exit_code(is_shown && !error.use_stderr())
+        }
+    }
+}
+
+fn run_tool(rt: &HostRuntime, matches: &ArgMatches<'_>) -> ExitCode {
+    let Some((tool, matches)) = matches.subcommand() else {
+        return ExitCode::FAILURE;
+    };
+    let outcome = match tool {
+        "msgfmt" => tools::msgfmt::run(rt.alloc(), rt, rt.stderr(), matches),
+        "gettext" => tools::gettext::run(rt.alloc(), rt, rt.stderr(), matches),
+        "ngettext" => tools::ngettext::run(rt.alloc(), rt, rt.stderr(), matches),
+        "envsubst" => tools::envsubst::run(rt.alloc(), rt, matches),
+        _ => return ExitCode::FAILURE,
+    };
+    match outcome {
+        Ok(status) => exit_code(status == 0),
+        Err(fault) => tell(rt, Some(tool), fault),
+    }
+}
+
+// Prints the fault's line on standard error. Where that fails too, the status alone tells it.
+fn tell(rt: &impl Eprint, tool: Option<&str>, fault: Fault<'_>) -> ExitCode {
+    let _ = match tool {
+        Some(tool) => eprintln!(rt; "pokit {tool}: {fault}"),
+        None => eprintln!(rt; "pokit: {fault}"),
+    };
+    ExitCode::FAILURE
+}
+
+fn exit_code(is_well: bool) -> ExitCode {
+    if is_well {
+        ExitCode::SUCCESS
+    } else {
+        ExitCode::FAILURE
+    }
+}

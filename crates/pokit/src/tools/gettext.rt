@@ -1,0 +1,38 @@
+// Looks messages up.
+use crate::catalogues;
+use crate::fault::Fault;
+use crate::files::{STANDARD, write_run};
+use clap::ArgMatches;
+use po_tools::{GettextOptions, plan_gettext};
+use std::alloc::Global;
+use std::env::Env;
+use std::io::{Print, Write};
+use std::rt::Files;
+
+/// Runs `pokit gettext` and gives its status.
+pub fn run<'a, R: Files + Env + Print, E: Write + Drop>(
+    alloc: Global,
+    rt: &R,
+    errors: E,
+    matches: &ArgMatches<'a>,
+) -> Result<u8, Fault<'a>> {
+    let shell = matches.get_flag("shell");
+    let words = matches.get_strs("MSGID").unwrap_or(&[]);
+    let (domain, messages) = match words {
+        _ if shell => (None, words),
+        [_] => (None, words),
+        [domain, _] => (Some(*domain), &words[1..]),
+        _ => return Err(Fault::WrongArguments),
+    };
+    let found = catalogues::find(alloc, rt, domain.or(matches.get_str("domain")))?;
+    let options = GettextOptions {
+        messages,
+        context: matches.get_str("context"),
+        expand: matches.get_flag("expand"),
+        no_newline: matches.get_flag("no-newline"),
+        shell,
+    };
+    let lent = catalogues::lent(alloc, found.as_slice())?;
+    let run = plan_gettext(alloc, lent.as_slice(), &options)?;
+    write_run(rt, errors, &run, STANDARD)
+}
