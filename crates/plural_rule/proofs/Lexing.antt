@@ -16,37 +16,6 @@ first_byte (c ∷ rest) = c
 digit-not_blank : (c : ℕ) → is_digit c ≡ true → is_blank c ≡ false
 digit-not_blank c h = grind (arith, nat_tests)
 
--- no spelling begins with a blank, or is empty
-module _ (own : List ℕ) where
-  operator-not_blank : (op : Operator) → own ≡ operator_bytes op → is_blank (first_byte own) ≡ false
-  operator-not_blank Or h = ap (λ xs. is_blank (first_byte xs)) h
-  operator-not_blank And h = ap (λ xs. is_blank (first_byte xs)) h
-  operator-not_blank Equal h = ap (λ xs. is_blank (first_byte xs)) h
-  operator-not_blank NotEqual h = ap (λ xs. is_blank (first_byte xs)) h
-  operator-not_blank Less h = ap (λ xs. is_blank (first_byte xs)) h
-  operator-not_blank Greater h = ap (λ xs. is_blank (first_byte xs)) h
-  operator-not_blank AtMost h = ap (λ xs. is_blank (first_byte xs)) h
-  operator-not_blank AtLeast h = ap (λ xs. is_blank (first_byte xs)) h
-  operator-not_blank Add h = ap (λ xs. is_blank (first_byte xs)) h
-  operator-not_blank Subtract h = ap (λ xs. is_blank (first_byte xs)) h
-  operator-not_blank Multiply h = ap (λ xs. is_blank (first_byte xs)) h
-  operator-not_blank Divide h = ap (λ xs. is_blank (first_byte xs)) h
-  operator-not_blank Remainder h = ap (λ xs. is_blank (first_byte xs)) h
-
-digits-not_blank : (own : List ℕ) → own ≢ [] → AllDigits own → is_blank (first_byte own) ≡ false
-digits-not_blank [] n h = absurd (n refl)
-digits-not_blank (c ∷ rest) n h = digit-not_blank c h.0
-
-pub spelling-not_blank : (t : Token) (own : List ℕ) → IsSpelling t own → is_blank (first_byte own) ≡ false
-spelling-not_blank Count own h = ap (λ xs. is_blank (first_byte xs)) h
-spelling-not_blank (Number v) own h = digits-not_blank own h.0 h.1
-spelling-not_blank Not own h = ap (λ xs. is_blank (first_byte xs)) h
-spelling-not_blank (Binary op) own h = operator-not_blank own op h
-spelling-not_blank Question own h = ap (λ xs. is_blank (first_byte xs)) h
-spelling-not_blank Colon own h = ap (λ xs. is_blank (first_byte xs)) h
-spelling-not_blank Open own h = ap (λ xs. is_blank (first_byte xs)) h
-spelling-not_blank Close own h = ap (λ xs. is_blank (first_byte xs)) h
-
 -- the token that one byte spells, and the operator that two bytes spell
 abbrev of_one : ℕ → Token
 of_one c =
@@ -60,25 +29,41 @@ of_two c =
     if c == 124 then Or else if c == 38 then And else if c == 61 then Equal else if c == 33 then NotEqual
     else if c == 60 then AtMost else AtLeast
 
-abbrev token_of : List ℕ → Token
+abbrev pub token_of : List ℕ → Token
 token_of [] = Count
 token_of (c ∷ []) = if is_digit c then Number (decimal_value (c ∷ [])) else of_one c
 token_of (c ∷ d ∷ rest) = if is_digit c then Number (decimal_value (c ∷ d ∷ rest)) else Binary (of_two c)
 
-token_of-operator : (op : Operator) (own : List ℕ) → own ≡ operator_bytes op → token_of own ≡ Binary op
-token_of-operator Or own h = ap token_of h
-token_of-operator And own h = ap token_of h
-token_of-operator Equal own h = ap token_of h
-token_of-operator NotEqual own h = ap token_of h
-token_of-operator Less own h = ap token_of h
-token_of-operator Greater own h = ap token_of h
-token_of-operator AtMost own h = ap token_of h
-token_of-operator AtLeast own h = ap token_of h
-token_of-operator Add own h = ap token_of h
-token_of-operator Subtract own h = ap token_of h
-token_of-operator Multiply own h = ap token_of h
-token_of-operator Divide own h = ap token_of h
-token_of-operator Remainder own h = ap token_of h
+-- what the bytes of an operator are no spelling of, and what they are read as
+pub operator-facts : (op : Operator) → (is_blank (first_byte (operator_bytes op)) ≡ false) × (is_digit (first_byte (operator_bytes op)) ≡ false) × (token_of (operator_bytes op) ≡ Binary op)
+operator-facts Or = (refl, refl, refl)
+operator-facts And = (refl, refl, refl)
+operator-facts Equal = (refl, refl, refl)
+operator-facts NotEqual = (refl, refl, refl)
+operator-facts Less = (refl, refl, refl)
+operator-facts Greater = (refl, refl, refl)
+operator-facts AtMost = (refl, refl, refl)
+operator-facts AtLeast = (refl, refl, refl)
+operator-facts Add = (refl, refl, refl)
+operator-facts Subtract = (refl, refl, refl)
+operator-facts Multiply = (refl, refl, refl)
+operator-facts Divide = (refl, refl, refl)
+operator-facts Remainder = (refl, refl, refl)
+
+-- no spelling begins with a blank, or is empty
+digits-not_blank : (own : List ℕ) → own ≢ [] → AllDigits own → is_blank (first_byte own) ≡ false
+digits-not_blank [] n h = absurd (n refl)
+digits-not_blank (c ∷ rest) n h = digit-not_blank c h.0
+
+pub spelling-not_blank : (t : Token) (own : List ℕ) → IsSpelling t own → is_blank (first_byte own) ≡ false
+spelling-not_blank Count own h = ap (λ xs. is_blank (first_byte xs)) h
+spelling-not_blank (Number v) own h = digits-not_blank own h.0 h.1
+spelling-not_blank Not own h = ap (λ xs. is_blank (first_byte xs)) h
+spelling-not_blank (Binary op) own h = ap (λ xs. is_blank (first_byte xs)) h ∙ (operator-facts op).0
+spelling-not_blank Question own h = ap (λ xs. is_blank (first_byte xs)) h
+spelling-not_blank Colon own h = ap (λ xs. is_blank (first_byte xs)) h
+spelling-not_blank Open own h = ap (λ xs. is_blank (first_byte xs)) h
+spelling-not_blank Close own h = ap (λ xs. is_blank (first_byte xs)) h
 
 token_of-digits : (own : List ℕ) → own ≢ [] → AllDigits own → token_of own ≡ Number (decimal_value own)
 token_of-digits [] n h = absurd (n refl)
@@ -89,7 +74,7 @@ token_of-spelling : (t : Token) (own : List ℕ) → IsSpelling t own → token_
 token_of-spelling Count own h = ap token_of h
 token_of-spelling (Number v) own h = token_of-digits own h.0 h.1 ∙ ap Number h.2
 token_of-spelling Not own h = ap token_of h
-token_of-spelling (Binary op) own h = token_of-operator op own h
+token_of-spelling (Binary op) own h = ap token_of h ∙ (operator-facts op).2
 token_of-spelling Question own h = ap token_of h
 token_of-spelling Colon own h = ap token_of h
 token_of-spelling Open own h = ap token_of h

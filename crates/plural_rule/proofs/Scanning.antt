@@ -11,7 +11,7 @@ use Rattle.plural_rule.specs.declared.token.Token.{Token}
 use Rattle.plural_rule.specs.declared.token.Token.TheVariants.{Count, Number, Not, Binary, Question, Colon, Open, Close}
 use Rattle.plural_rule.specs.Tokens.{is_digit, AllDigits, decimal_value, operator_bytes, IsSpelling, IsLongest}
 use Rattle.plural_rule.specs.Scanner.{IsTokenAt, IsTooLarge, HasNoToken, BeginsWithDouble, HasNoDouble}
-use Rattle.plural_rule.proofs.Lexing.{one_front, first_byte, spelling-not_blank}
+use Rattle.plural_rule.proofs.Lexing.{one_front, first_byte, operator-facts, spelling-not_blank}
 
 -- two bytes or more that spell a token and begin with no digit are those of an operator
 pub record IsDouble (u : Token) (c d : ℕ) (more : List ℕ) : Type 0 where
@@ -45,26 +45,11 @@ double Open c d more n h = absurd cc
 double Close c d more n h = absurd cc
 
 -- bytes that spell a token and begin with a digit are digits
-digits-operator : (op : Operator) (bytes : List ℕ) → is_digit (first_byte bytes) ≡ true → bytes ≡ operator_bytes op → ⊥
-digits-operator Or bytes d h = false≢true (sym (ap (λ xs. is_digit (first_byte xs)) h) ∙ d)
-digits-operator And bytes d h = false≢true (sym (ap (λ xs. is_digit (first_byte xs)) h) ∙ d)
-digits-operator Equal bytes d h = false≢true (sym (ap (λ xs. is_digit (first_byte xs)) h) ∙ d)
-digits-operator NotEqual bytes d h = false≢true (sym (ap (λ xs. is_digit (first_byte xs)) h) ∙ d)
-digits-operator Less bytes d h = false≢true (sym (ap (λ xs. is_digit (first_byte xs)) h) ∙ d)
-digits-operator Greater bytes d h = false≢true (sym (ap (λ xs. is_digit (first_byte xs)) h) ∙ d)
-digits-operator AtMost bytes d h = false≢true (sym (ap (λ xs. is_digit (first_byte xs)) h) ∙ d)
-digits-operator AtLeast bytes d h = false≢true (sym (ap (λ xs. is_digit (first_byte xs)) h) ∙ d)
-digits-operator Add bytes d h = false≢true (sym (ap (λ xs. is_digit (first_byte xs)) h) ∙ d)
-digits-operator Subtract bytes d h = false≢true (sym (ap (λ xs. is_digit (first_byte xs)) h) ∙ d)
-digits-operator Multiply bytes d h = false≢true (sym (ap (λ xs. is_digit (first_byte xs)) h) ∙ d)
-digits-operator Divide bytes d h = false≢true (sym (ap (λ xs. is_digit (first_byte xs)) h) ∙ d)
-digits-operator Remainder bytes d h = false≢true (sym (ap (λ xs. is_digit (first_byte xs)) h) ∙ d)
-
 digits-only : (u : Token) (bytes : List ℕ) → is_digit (first_byte bytes) ≡ true → IsSpelling u bytes → AllDigits bytes
 digits-only Count bytes d h = absurd (false≢true (sym (ap (λ xs. is_digit (first_byte xs)) h) ∙ d))
 digits-only (Number v) bytes d h = h.1
 digits-only Not bytes d h = absurd (false≢true (sym (ap (λ xs. is_digit (first_byte xs)) h) ∙ d))
-digits-only (Binary op) bytes d h = absurd (digits-operator op bytes d h)
+digits-only (Binary op) bytes d h = absurd (false≢true (sym (ap (λ xs. is_digit (first_byte xs)) h ∙ (operator-facts op).1) ∙ d))
 digits-only Question bytes d h = absurd (false≢true (sym (ap (λ xs. is_digit (first_byte xs)) h) ∙ d))
 digits-only Colon bytes d h = absurd (false≢true (sym (ap (λ xs. is_digit (first_byte xs)) h) ∙ d))
 digits-only Open bytes d h = absurd (false≢true (sym (ap (λ xs. is_digit (first_byte xs)) h) ∙ d))

@@ -149,6 +149,7 @@ fn take_operator<const DEPTH: usize>(
             Some(false)
         }
         Token::Question => {
+            // What waits behind `:` binds no tighter than `?`, which groups to the right.
             reduce(table, stack, 1);
             stack.push(Pending::Question(last_index(table)));
             Some(false)
