@@ -9,6 +9,7 @@ use std::alloc::Global;
 /// A text with its escapes expanded.
 #[derive(Debug, Drop)]
 pub struct Expanded {
+    /// The text's bytes, without those of its escapes and with what these give.
     pub bytes: Vec<u8>,
     /// Whether a `\c` stands in the text, so that no newline is to be written behind it.
     pub no_newline: bool,

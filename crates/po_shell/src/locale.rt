@@ -14,11 +14,17 @@ use std::alloc::Global;
 /// The environment variables that choose a catalogue, as bytes; an unset one is `None`.
 #[derive(Clone, Copy)]
 pub struct Environment<'a> {
+    /// LC_ALL, which names the locale before all others.
     pub lc_all: Option<&'a [u8]>,
+    /// LC_MESSAGES, which names it where LC_ALL is unset or empty.
     pub lc_messages: Option<&'a [u8]>,
+    /// LANG, which names it where both are.
     pub lang: Option<&'a [u8]>,
+    /// LANGUAGE: languages in order of preference, with a colon between two.
     pub language: Option<&'a [u8]>,
+    /// TEXTDOMAIN: the domain of the messages.
     pub textdomain: Option<&'a [u8]>,
+    /// TEXTDOMAINDIR: the folder that the catalogues lie below.
     pub textdomaindir: Option<&'a [u8]>,
 }
 
