@@ -27,7 +27,8 @@ struct Escape {
 /// which gives no byte. Any other backslash stays.
 pub fn expand(alloc: Global, text: &[u8]) -> Result<Expanded, ToolFault>
     ensures bytes { IfOk result (λ expanded. expanded.bytes.items ≡ expansion text.now) }
-    ensures no_newline { IfOk result (λ expanded. expanded.no_newline ≡ has_no_newline text.now) }
+    ensures no_newline { IfOk result (λ expanded.
+        expanded.no_newline ≡ has_no_newline text.now) }
     ensures fault { OnErr result (result ≡ Err ToolFault.OutOfMemory) }
 {
     let mut bytes = Vec::with_capacity(alloc, text.len())?;

@@ -34,7 +34,8 @@ pub fn locale_candidates(
     alloc: Global,
     environment: &Environment<'_>,
 ) -> Result<Vec<Vec<u8>>, ToolFault>
-    ensures candidates { IfOk result (λ v. map (λ name. name.items) v.items ≡ candidates_of environment.now) }
+    ensures candidates { IfOk result (λ v. map (λ name. name.items) v.items
+        ≡ candidates_of environment.now) }
     ensures fault { OnErr result (result ≡ Err ToolFault.OutOfMemory) }
 {
     let mut candidates = Vec::new(alloc);
@@ -122,7 +123,8 @@ fn add_languages(
     languages: &[u8],
 ) -> Result<(), ToolFault>
     ensures added { OnOk result (map (λ name. name.items) candidates.new.items
-        ≡ fold with_name (map (λ name. name.items) candidates.old.items) (flat_map variants (language_parts languages.now))) }
+        ≡ fold with_name (map (λ name. name.items) candidates.old.items)
+        (flat_map variants (language_parts languages.now))) }
     ensures fault { OnErr result (result ≡ Err ToolFault.OutOfMemory) }
 {
     let mut rest = languages;
