@@ -1,5 +1,6 @@
 -- What a substituter is between two calls.
 use Rattle.std.specs.Prelude.{ℕ, Bool, List, Option}
+use Rattle.po_shell.specs.Substitution.{Values, values_of}
 
 -- the variables, the names to be replaced if they are given, the bytes held back, and whether a write has failed
 pub record Substituting : Type 0 where
@@ -7,3 +8,7 @@ pub record Substituting : Type 0 where
   pub only : Option (List (List ℕ))
   pub held : List ℕ
   pub has_failed : Bool
+
+-- what references become
+abbrev pub values_in : Substituting → Values
+values_in s = values_of s.vars s.only

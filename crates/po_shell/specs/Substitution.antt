@@ -57,3 +57,7 @@ pairs_in vars = map (λ v. (v.0.now, v.1.now)) vars
 -- the names that a slice of slices holds, if it is given
 abbrev pub names_given : Option (Bor (List (Bor (List ℕ)))) → Option (List (List ℕ))
 names_given only = option_map (λ names. map (λ n. n.now) names.now) only
+
+-- what references become under variables and names that slices hold
+abbrev pub values_given : List (Bor (List ℕ) × Bor (List ℕ)) → Option (Bor (List (Bor (List ℕ)))) → Values
+values_given vars only = values_of (pairs_in vars) (names_given only)

@@ -11,7 +11,8 @@ use crate::fault::ToolFault;
 pub fn put_all<W: ByteOut>(writer: &mut W, piece: &[u8]) -> Result<(), ToolFault>
     requires failures { W.failures writer.old < 2 ^ 64 - 1 }
     ensures ok { OnOk result (Appends (W.contents writer.old) (W.contents writer.new) piece.now) }
-    ensures prefix { OnErr result (AppendsPrefix (W.contents writer.old) (W.contents writer.new) piece.now) }
+    ensures prefix { OnErr result (AppendsPrefix
+        (W.contents writer.old) (W.contents writer.new) piece.now) }
     ensures fault { OnErr result (result ≡ Err ToolFault.WriteFault) }
     ensures no_failure { OnOk result (W.failures writer.new ≡ W.failures writer.old) }
     ensures cause { OnErr result (W.failures writer.new ≡ W.failures writer.old + 1) }

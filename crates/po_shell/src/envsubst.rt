@@ -1,7 +1,7 @@
 // Substitution of a whole input ("Invoking the envsubst program" of the GNU gettext manual).
 ghost use Rattle.std.specs.Prelude.{◌≡◌, ◌+◌, ◌^◌, ◌<◌, ◌≤◌, ◌⊎◌, ◌≢◌, OnOk, OnErr, IsErrOf, Err};
 ghost use Rattle.po_shell.specs.Envsubst.{Substitutes, StopsAtEnd, StopsWithin};
-ghost use Rattle.po_shell.specs.Substitution.{values_of, pairs_in, names_given};
+ghost use Rattle.po_shell.specs.Substitution.{values_given};
 
 use crate::device::{ByteIn, ByteOut};
 use crate::fault::ToolFault;
@@ -23,19 +23,32 @@ pub fn run_envsubst<R: ByteIn, W: ByteOut>(
     requires calls { R.calls reader.old < 2 ^ 63 }
     requires read_failures { R.failures reader.old < 2 ^ 63 }
     requires write_failures { W.failures writer.old < 2 ^ 63 }
-    ensures ok { OnOk result (Substitutes (values_of (pairs_in vars.now) (names_given only.entry)) (R.remaining reader.old) (W.contents writer.old) (W.contents writer.new)) }
+    ensures ok { OnOk result (Substitutes (values_given vars.now only.entry)
+        (R.remaining reader.old) (W.contents writer.old) (W.contents writer.new)) }
+
+    // What went out is a prefix of what the bytes that were read become, whatever comes next.
     ensures read_fault { IsErrOf result ToolFault.ReadFault
-        → StopsWithin (values_of (pairs_in vars.now) (names_given only.entry)) (R.remaining reader.old) (R.remaining reader.new) (W.contents writer.old) (W.contents writer.new) }
+        → StopsWithin (values_given vars.now only.entry)
+        (R.remaining reader.old) (R.remaining reader.new) (W.contents writer.old) (W.contents writer.new) }
+
+    // The same, or at the end of the input a prefix of what all of it becomes.
     ensures write_fault { IsErrOf result ToolFault.WriteFault
-        → StopsWithin (values_of (pairs_in vars.now) (names_given only.entry)) (R.remaining reader.old) (R.remaining reader.new) (W.contents writer.old) (W.contents writer.new)
-        ⊎ StopsAtEnd (values_of (pairs_in vars.now) (names_given only.entry)) (R.remaining reader.old) (W.contents writer.old) (W.contents writer.new) }
-    ensures no_failure { OnOk result ((R.failures reader.new ≡ R.failures reader.old) × (W.failures writer.new ≡ W.failures writer.old)) }
+        → StopsWithin (values_given vars.now only.entry)
+        (R.remaining reader.old) (R.remaining reader.new) (W.contents writer.old) (W.contents writer.new)
+        ⊎ StopsAtEnd (values_given vars.now only.entry)
+        (R.remaining reader.old) (W.contents writer.old) (W.contents writer.new) }
+    ensures no_read_failure { OnOk result (R.failures reader.new ≡ R.failures reader.old) }
+    ensures no_write_failure { OnOk result (W.failures writer.new ≡ W.failures writer.old) }
     ensures read_cause { IsErrOf result ToolFault.ReadFault
-        → (W.failures writer.new ≡ W.failures writer.old)
-        × ((R.failures reader.new ≡ R.failures reader.old + 1)
-        ⊎ ((R.failures reader.new ≡ R.failures reader.old) × (R.calls reader.new ≡ R.calls reader.old + MOST_READS))) }
+        → (R.failures reader.new ≡ R.failures reader.old + 1)
+        ⊎ ((R.failures reader.new ≡ R.failures reader.old)
+        × (R.calls reader.new ≡ R.calls reader.old + MOST_READS)) }
+    ensures read_cause_alone { IsErrOf result ToolFault.ReadFault
+        → W.failures writer.new ≡ W.failures writer.old }
     ensures write_cause { IsErrOf result ToolFault.WriteFault
-        → (R.failures reader.new ≡ R.failures reader.old) × (W.failures writer.new ≡ W.failures writer.old + 1) }
+        → W.failures writer.new ≡ W.failures writer.old + 1 }
+    ensures write_cause_alone { IsErrOf result ToolFault.WriteFault
+        → R.failures reader.new ≡ R.failures reader.old }
     ensures no_memory { result ≢ Err ToolFault.OutOfMemory }
     ensures calls { R.calls reader.new ≤ R.calls reader.old + MOST_READS }
 {

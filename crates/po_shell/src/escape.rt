@@ -9,6 +9,7 @@ use std::alloc::Global;
 /// A text with its escapes expanded.
 #[derive(Debug, Drop)]
 pub struct Expanded {
+    /// The text's bytes, without those of its escapes and with what these give.
     pub bytes: Vec<u8>,
     /// Whether a `\c` stands in the text, so that no newline is to be written behind it.
     pub no_newline: bool,
@@ -26,7 +27,8 @@ struct Escape {
 /// which gives no byte. Any other backslash stays.
 pub fn expand(alloc: Global, text: &[u8]) -> Result<Expanded, ToolFault>
     ensures bytes { IfOk result (λ expanded. expanded.bytes.items ≡ expansion text.now) }
-    ensures no_newline { IfOk result (λ expanded. expanded.no_newline ≡ has_no_newline text.now) }
+    ensures no_newline { IfOk result (λ expanded.
+        expanded.no_newline ≡ has_no_newline text.now) }
     ensures fault { OnErr result (result ≡ Err ToolFault.OutOfMemory) }
 {
     let mut bytes = Vec::with_capacity(alloc, text.len())?;

@@ -1,7 +1,7 @@
 // The bytes that may begin a reference, held back until the next ones decide.
 ghost use Rattle.std.specs.Prelude.{◌≡◌, ◌<◌, true, false, ◌∷◌, [], length};
 ghost use Rattle.po_shell.specs.Holding.{Decides, ComesOut, Replaces, Ending, is_undecided, is_begun_name, behind_dollar};
-ghost use Rattle.po_shell.specs.Substitution.{values_of, pairs_in, names_given};
+ghost use Rattle.po_shell.specs.Substitution.{values_given};
 
 use crate::reference::{LONGEST_NAME, begins_with, is_letter, is_name_byte};
 use crate::variable::replacement;
@@ -81,7 +81,7 @@ pub(crate) fn outcome_of<'a>(
 ) -> Outcome<'a>
     requires some { 0 < length held.now }
     requires undecided { is_undecided held.now ≡ true }
-    ensures { ComesOut (values_of (pairs_in vars.now) (names_given only.entry)) held.now next result }
+    ensures { ComesOut (values_given vars.now only.entry) held.now next result }
 {
     let (is_braced, name) = begun(held);
     match decide(is_braced, name, next) {
@@ -99,7 +99,7 @@ fn replace<'a>(
     name: &[u8],
     taken: usize,
 ) -> Outcome<'a>
-    ensures { Replaces (values_of (pairs_in vars.now) (names_given only.entry)) name.now taken result }
+    ensures { Replaces (values_given vars.now only.entry) name.now taken result }
 {
     match replacement(vars, only, name) {
         Some(value) => Outcome::Replaced(value, taken),
@@ -114,7 +114,7 @@ pub(crate) fn ending<'a>(
     held: &[u8],
 ) -> Option<&'a [u8]>
     requires { is_undecided held.now ≡ true }
-    ensures { Ending (values_of (pairs_in vars.now) (names_given only.entry)) held.now result }
+    ensures { Ending (values_given vars.now only.entry) held.now result }
 {
     if held.is_empty() {
         return None;

@@ -15,10 +15,13 @@ const PIECE: usize = 1 << 16;
 pub fn read_input<R: ByteIn>(alloc: Global, reader: &mut R) -> Result<Vec<u8>, ToolFault>
     requires calls { R.calls reader.old < 2 ^ 63 }
     requires failures { R.failures reader.old < 2 ^ 63 }
-    ensures input { IfOk result (λ v. IfSome (R.remaining reader.old) (λ xs. v.items ≡ take INPUT_LIMIT xs)) }
+    ensures input { IfOk result (λ v. IfSome (R.remaining reader.old)
+        (λ xs. v.items ≡ take INPUT_LIMIT xs)) }
     ensures no_failure { OnOk result (R.failures reader.new ≡ R.failures reader.old) }
-    ensures read_fault { IsErrOf result ToolFault.ReadFault → R.failures reader.new ≡ R.failures reader.old + 1 }
-    ensures out_of_memory { IsErrOf result ToolFault.OutOfMemory → R.failures reader.new ≡ R.failures reader.old }
+    ensures read_fault { IsErrOf result ToolFault.ReadFault
+        → R.failures reader.new ≡ R.failures reader.old + 1 }
+    ensures out_of_memory { IsErrOf result ToolFault.OutOfMemory
+        → R.failures reader.new ≡ R.failures reader.old }
     ensures no_write_fault { result ≢ Err ToolFault.WriteFault }
     ensures calls { R.calls reader.new ≤ R.calls reader.old + 4294967296 }
 {

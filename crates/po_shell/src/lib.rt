@@ -29,3 +29,6 @@ pub use input::{INPUT_LIMIT, read_input};
 pub use locale::{Environment, catalogue_path, locale_candidates};
 pub use reference::{LONGEST_NAME, names};
 pub use substituter::Substituter;
+
+#[cfg(test)]
+mod tests;

@@ -14,11 +14,17 @@ use std::alloc::Global;
 /// The environment variables that choose a catalogue, as bytes; an unset one is `None`.
 #[derive(Clone, Copy)]
 pub struct Environment<'a> {
+    /// LC_ALL, which names the locale before all others.
     pub lc_all: Option<&'a [u8]>,
+    /// LC_MESSAGES, which names it where LC_ALL is unset or empty.
     pub lc_messages: Option<&'a [u8]>,
+    /// LANG, which names it where both are.
     pub lang: Option<&'a [u8]>,
+    /// LANGUAGE: languages in order of preference, with a colon between two.
     pub language: Option<&'a [u8]>,
+    /// TEXTDOMAIN: the domain of the messages.
     pub textdomain: Option<&'a [u8]>,
+    /// TEXTDOMAINDIR: the folder that the catalogues lie below.
     pub textdomaindir: Option<&'a [u8]>,
 }
 
@@ -28,7 +34,8 @@ pub fn locale_candidates(
     alloc: Global,
     environment: &Environment<'_>,
 ) -> Result<Vec<Vec<u8>>, ToolFault>
-    ensures candidates { IfOk result (λ v. map (λ name. name.items) v.items ≡ candidates_of environment.now) }
+    ensures candidates { IfOk result (λ v. map (λ name. name.items) v.items
+        ≡ candidates_of environment.now) }
     ensures fault { OnErr result (result ≡ Err ToolFault.OutOfMemory) }
 {
     let mut candidates = Vec::new(alloc);
@@ -116,7 +123,8 @@ fn add_languages(
     languages: &[u8],
 ) -> Result<(), ToolFault>
     ensures added { OnOk result (map (λ name. name.items) candidates.new.items
-        ≡ fold with_name (map (λ name. name.items) candidates.old.items) (flat_map variants (language_parts languages.now))) }
+        ≡ fold with_name (map (λ name. name.items) candidates.old.items)
+        (flat_map variants (language_parts languages.now))) }
     ensures fault { OnErr result (result ≡ Err ToolFault.OutOfMemory) }
 {
     let mut rest = languages;

@@ -60,7 +60,8 @@ fn name_run(bytes: &[u8]) -> &[u8]
 // The name of the reference that a `$` begins, by the bytes behind it.
 #[tactic(auto, unfolding(crate::specs::References::reference_behind, crate::specs::References::braced_reference, crate::specs::References::bare_reference))]
 fn reference_name(behind: &[u8]) -> Option<&[u8]>
-    ensures { option_map (λ name. name.now) result ≡ option_map (λ r. r.name) (reference_behind behind.now) }
+    ensures { option_map (λ name. name.now) result
+        ≡ option_map (λ r. r.name) (reference_behind behind.now) }
 {
     if begins_with(b'{', behind) {
         let inner = &behind[1..];

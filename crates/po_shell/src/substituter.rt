@@ -5,7 +5,8 @@ ghost use Rattle.std.specs.Io.KnownBytes.{Appends, Keeps};
 ghost use Rattle.po_shell.specs.Device.{AppendsPrefix};
 ghost use Rattle.po_shell.specs.Holding.{is_undecided};
 ghost use Rattle.po_shell.specs.Stream.{Advances, Stops};
-ghost use Rattle.po_shell.specs.Substitution.{Values, values_of, substitution, pairs_in, names_given};
+ghost use Rattle.po_shell.specs.Substituting.{values_in};
+ghost use Rattle.po_shell.specs.Substitution.{Values, substitution, values_given, pairs_in, names_given};
 
 use crate::delivery::put_all;
 use crate::device::ByteOut;
@@ -36,7 +37,12 @@ impl<'a> Model for Substituter<'a> {
 
     ghost Value = { Substituting };
 
-    ghost view = { λ s. record { vars = pairs_in s.vars.now; only = names_given s.only; held = s.held.items; has_failed = s.has_failed } };
+    ghost view = { λ s. record {
+      vars = pairs_in s.vars.now;
+      only = names_given s.only;
+      held = s.held.items;
+      has_failed = s.has_failed;
+    } };
 
     ghost invariant = { λ s. is_undecided s.held.items ≡ true };
 }
@@ -62,17 +68,21 @@ impl<'a> Substituter<'a> {
     /// call answers `WriteFault` and writes nothing.
     pub fn feed<W: ByteOut>(&mut self, piece: &[u8], writer: &mut W) -> Result<(), ToolFault>
         requires failures { W.failures writer.old < 2 ^ 63 }
-        ensures ok { OnOk result (Advances (values_of self.old.vars self.old.only) (self.old.held ++ piece.now) self.new.held (W.contents writer.old) (W.contents writer.new)) }
-        ensures stops { OnErr result (Stops (values_of self.old.vars self.old.only) (self.old.held ++ piece.now) (W.contents writer.old) (W.contents writer.new)) }
+        ensures ok { OnOk result (Advances (values_in self.old) (self.old.held ++ piece.now) self.new.held
+            (W.contents writer.old) (W.contents writer.new)) }
+        ensures stops { OnErr result (Stops (values_in self.old) (self.old.held ++ piece.now)
+            (W.contents writer.old) (W.contents writer.new)) }
         ensures fault { OnErr result (result ≡ Err ToolFault.WriteFault) }
         ensures failed { self.old.has_failed ≡ true → IsErr result }
-        ensures quiet { self.old.has_failed ≡ true → Keeps (W.contents writer.old) (W.contents writer.new) }
+        ensures quiet { self.old.has_failed ≡ true
+            → Keeps (W.contents writer.old) (W.contents writer.new) }
         ensures has_failed { self.new.has_failed ≡ is_err result }
         ensures vars { self.new.vars ≡ self.old.vars }
         ensures only { self.new.only ≡ self.old.only }
         ensures limit { length self.new.held ≤ 257 }
         ensures no_failure { OnOk result (W.failures writer.new ≡ W.failures writer.old) }
-        ensures cause { OnErr result (W.failures writer.new ≡ W.failures writer.old + (if self.old.has_failed then 0 else 1)) }
+        ensures cause { OnErr result (W.failures writer.new
+            ≡ W.failures writer.old + (if self.old.has_failed then 0 else 1)) }
     {
         if self.has_failed {
             return Err(ToolFault::WriteFault);
@@ -85,13 +95,17 @@ impl<'a> Substituter<'a> {
     /// Ends the text: what is held back comes out, with the reference that it is, if it is one.
     pub fn finish<W: ByteOut>(self, writer: &mut W) -> Result<(), ToolFault>
         requires failures { W.failures writer.old < 2 ^ 63 }
-        ensures ok { OnOk result (Appends (W.contents writer.old) (W.contents writer.new) (substitution (values_of self.entry.vars self.entry.only) self.entry.held)) }
-        ensures prefix { OnErr result (AppendsPrefix (W.contents writer.old) (W.contents writer.new) (substitution (values_of self.entry.vars self.entry.only) self.entry.held)) }
+        ensures ok { OnOk result (Appends (W.contents writer.old) (W.contents writer.new)
+            (substitution (values_in self.entry) self.entry.held)) }
+        ensures prefix { OnErr result (AppendsPrefix (W.contents writer.old) (W.contents writer.new)
+            (substitution (values_in self.entry) self.entry.held)) }
         ensures fault { OnErr result (result ≡ Err ToolFault.WriteFault) }
         ensures failed { self.entry.has_failed ≡ true → IsErr result }
-        ensures quiet { self.entry.has_failed ≡ true → Keeps (W.contents writer.old) (W.contents writer.new) }
+        ensures quiet { self.entry.has_failed ≡ true
+            → Keeps (W.contents writer.old) (W.contents writer.new) }
         ensures no_failure { OnOk result (W.failures writer.new ≡ W.failures writer.old) }
-        ensures cause { OnErr result (W.failures writer.new ≡ W.failures writer.old + (if self.entry.has_failed then 0 else 1)) }
+        ensures cause { OnErr result (W.failures writer.new
+            ≡ W.failures writer.old + (if self.entry.has_failed then 0 else 1)) }
     {
         if self.has_failed {
             return Err(ToolFault::WriteFault);
@@ -114,8 +128,10 @@ fn pass<W: ByteOut>(
     requires undecided { is_undecided held.old.items ≡ true }
     requires failures { W.failures writer.old < 2 ^ 64 - 1 }
     ensures undecided { is_undecided held.new.items ≡ true }
-    ensures ok { OnOk result (Advances (values_of (pairs_in vars.now) (names_given only.entry)) (held.old.items ++ piece.now) held.new.items (W.contents writer.old) (W.contents writer.new)) }
-    ensures stops { OnErr result (Stops (values_of (pairs_in vars.now) (names_given only.entry)) (held.old.items ++ piece.now) (W.contents writer.old) (W.contents writer.new)) }
+    ensures ok { OnOk result (Advances (values_given vars.now only.entry) (held.old.items ++ piece.now) held.new.items
+        (W.contents writer.old) (W.contents writer.new)) }
+    ensures stops { OnErr result (Stops (values_given vars.now only.entry) (held.old.items ++ piece.now)
+        (W.contents writer.old) (W.contents writer.new)) }
     ensures fault { OnErr result (result ≡ Err ToolFault.WriteFault) }
     ensures no_failure { OnOk result (W.failures writer.new ≡ W.failures writer.old) }
     ensures cause { OnErr result (W.failures writer.new ≡ W.failures writer.old + 1) }
@@ -140,9 +156,13 @@ fn advance<W: ByteOut>(
     requires failures { W.failures writer.old < 2 ^ 64 - 1 }
     ensures undecided { is_undecided held.new.items ≡ true }
     ensures bound { IfOk result (λ taken. taken ≤ length piece.now) }
-    ensures progress { IfOk result (λ taken. min 1 (length held.new.items) < 2 * taken + min 1 (length held.old.items)) }
-    ensures ok { IfOk result (λ taken. Advances (values_of (pairs_in vars.now) (names_given only.entry)) (held.old.items ++ piece.now) (held.new.items ++ drop taken piece.now) (W.contents writer.old) (W.contents writer.new)) }
-    ensures stops { OnErr result (Stops (values_of (pairs_in vars.now) (names_given only.entry)) (held.old.items ++ piece.now) (W.contents writer.old) (W.contents writer.new)) }
+    ensures progress { IfOk result (λ taken.
+        min 1 (length held.new.items) < 2 * taken + min 1 (length held.old.items)) }
+    ensures ok { IfOk result (λ taken. Advances (values_given vars.now only.entry)
+        (held.old.items ++ piece.now) (held.new.items ++ drop taken piece.now)
+        (W.contents writer.old) (W.contents writer.new)) }
+    ensures stops { OnErr result (Stops (values_given vars.now only.entry) (held.old.items ++ piece.now)
+        (W.contents writer.old) (W.contents writer.new)) }
     ensures fault { OnErr result (result ≡ Err ToolFault.WriteFault) }
     ensures no_failure { OnOk result (W.failures writer.new ≡ W.failures writer.old) }
     ensures cause { OnErr result (W.failures writer.new ≡ W.failures writer.old + 1) }
@@ -176,8 +196,11 @@ fn copy_plain<W: ByteOut>(held: &mut Held, piece: &[u8], writer: &mut W) -> Resu
     ensures undecided { is_undecided held.new.items ≡ true }
     ensures bound { IfOk result (λ taken. taken ≤ length piece.now) }
     ensures progress { IfOk result (λ taken. 0 < taken) }
-    ensures ok { IfOk result (λ taken. (values : Values) → Advances values piece.now (held.new.items ++ drop taken piece.now) (W.contents writer.old) (W.contents writer.new)) }
-    ensures stops { OnErr result ((values : Values) → Stops values piece.now (W.contents writer.old) (W.contents writer.new)) }
+    ensures ok { IfOk result (λ taken. (values : Values) → Advances values piece.now
+        (held.new.items ++ drop taken piece.now)
+        (W.contents writer.old) (W.contents writer.new)) }
+    ensures stops { OnErr result ((values : Values) → Stops values piece.now
+        (W.contents writer.old) (W.contents writer.new)) }
     ensures fault { OnErr result (result ≡ Err ToolFault.WriteFault) }
     ensures no_failure { OnOk result (W.failures writer.new ≡ W.failures writer.old) }
     ensures cause { OnErr result (W.failures writer.new ≡ W.failures writer.old + 1) }

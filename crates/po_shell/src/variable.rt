@@ -1,7 +1,7 @@
 // What the references to a name become ("Invoking the envsubst program" of the GNU gettext manual).
 ghost use Rattle.std.specs.Prelude.{◌≡◌};
 ghost use Rattle.std.specs.Option.{option_map};
-ghost use Rattle.po_shell.specs.Substitution.{value_of, is_replaced, values_of, pairs_in, names_given};
+ghost use Rattle.po_shell.specs.Substitution.{value_of, is_replaced, values_given, pairs_in, names_given};
 
 // The value of the first variable of that name, and nothing where it is unset.
 fn value_of<'a>(vars: &[(&'a [u8], &'a [u8])], name: &[u8]) -> &'a [u8]
@@ -34,7 +34,8 @@ pub(crate) fn replacement<'a>(
     only: Option<&[&[u8]]>,
     name: &[u8],
 ) -> Option<&'a [u8]>
-    ensures { option_map (λ value. value.now) result ≡ values_of (pairs_in vars.now) (names_given only.entry) name.now }
+    ensures { option_map (λ value. value.now) result
+        ≡ values_given vars.now only.entry name.now }
 {
     if is_replaced(only, name) {
         Some(value_of(vars, name))
