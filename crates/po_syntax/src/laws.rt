@@ -1,5 +1,5 @@
 //! Laws of the definitions, each on an empty function: a crate that rests on one calls it.
-ghost use Rattle.std.specs.Prelude.{◌≡◌, ◌⊎◌, ◌<◌, ℕ, List, ◌++◌, All};
+ghost use Rattle.std.specs.Prelude.{◌≡◌, ◌⊎◌, ◌<◌, ◌≤◌, ℕ, List, ◌++◌, All, IsUtf8};
 ghost use Rattle.po_syntax.specs.declared.fault.PoFault.{PoFault};
 ghost use Rattle.po_syntax.specs.ItemText.{HoldsText};
 ghost use Rattle.po_syntax.specs.PoText.{SpellsText, TextFault};
@@ -42,4 +42,10 @@ pub fn quoted_form_spells()
 /// strings hold no NUL.
 pub fn items_hold_text()
     ensures { (text : List ℕ) (items : List TextItem) → SpellsText text items → All HoldsText items }
+{}
+
+/// The quoted form of a UTF-8 text is UTF-8, and that of any bytes holds no byte below space.
+pub fn quoted_form_holds_text()
+    ensures utf8 { (bytes : List ℕ) → IsUtf8 bytes → IsUtf8 (quoted bytes) }
+    ensures shown { (bytes : List ℕ) → All (λ b. b < 256) bytes → All (λ b. 32 ≤ b) (quoted bytes) }
 {}
