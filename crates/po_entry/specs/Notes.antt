@@ -4,26 +4,33 @@ use Rattle.std.specs.List.{slice_split, list_any}
 use Rattle.po_syntax.specs.declared.item.CommentKind.{CommentKind}
 use Rattle.po_syntax.specs.declared.item.CommentKind.TheVariants.{Translator, Extracted, Reference, Flags}
 use Rattle.po_syntax.specs.declared.item.Keyword.{Keyword}
-use Rattle.po_syntax.specs.declared.item.Keyword.TheVariants.{MsgCtxt, MsgId, MsgIdPlural, MsgStr, MsgStrAt}
+use Rattle.po_syntax.specs.declared.item.Keyword.TheVariants.{MsgCtxt, MsgId, MsgIdPlural}
 use Rattle.po_entry.specs.TextEntry.{TextPrevious}
-use Rattle.po_entry.specs.Bytes.{is_blank, trimmed}
-use Rattle.po_entry.specs.Head.{Note, PreviousText}
+use Rattle.po_syntax.specs.Token.{is_blank}
+use Rattle.po_entry.specs.Bytes.{trimmed}
+use Rattle.po_entry.specs.Head.{Note, PreviousText, rank}
 
-abbrev pub is_comment : Note → Bool
-is_comment note = elim note.kind [ Translator ↦ true | Extracted ↦ false | Reference ↦ false | Flags ↦ false ]
+abbrev pub same_kind : CommentKind → CommentKind → Bool
+same_kind Translator Translator = true
+same_kind Translator Extracted = false
+same_kind Translator Reference = false
+same_kind Translator Flags = false
+same_kind Extracted Translator = false
+same_kind Extracted Extracted = true
+same_kind Extracted Reference = false
+same_kind Extracted Flags = false
+same_kind Reference Translator = false
+same_kind Reference Extracted = false
+same_kind Reference Reference = true
+same_kind Reference Flags = false
+same_kind Flags Translator = false
+same_kind Flags Extracted = false
+same_kind Flags Reference = false
+same_kind Flags Flags = true
 
-abbrev pub is_extracted : Note → Bool
-is_extracted note = elim note.kind [ Translator ↦ false | Extracted ↦ true | Reference ↦ false | Flags ↦ false ]
-
-abbrev pub is_reference : Note → Bool
-is_reference note = elim note.kind [ Translator ↦ false | Extracted ↦ false | Reference ↦ true | Flags ↦ false ]
-
-abbrev pub is_flags : Note → Bool
-is_flags note = elim note.kind [ Translator ↦ false | Extracted ↦ false | Reference ↦ false | Flags ↦ true ]
-
--- the texts of the notes that pass a test
-abbrev pub texts_of : (Note → Bool) → List Note → List (List ℕ)
-texts_of test notes = map (λ (note : Note). note.text) (filter test notes)
+-- the texts of the comments of a kind
+abbrev pub texts_of : CommentKind → List Note → List (List ℕ)
+texts_of kind notes = map (λ (note : Note). note.text) (filter (λ (note : Note). same_kind kind note.kind) notes)
 
 abbrev pub is_not_empty : List ℕ → Bool
 is_not_empty text = not (length text == 0)
@@ -37,17 +44,17 @@ abbrev pub flag_words : List ℕ → List (List ℕ)
 flag_words text = filter is_not_empty (map trimmed (slice_split (λ b. b == 44) text))
 
 abbrev pub comments_of : List Note → List (List ℕ)
-comments_of notes = texts_of is_comment notes
+comments_of notes = texts_of Translator notes
 
 abbrev pub extracted_of : List Note → List (List ℕ)
-extracted_of notes = texts_of is_extracted notes
+extracted_of notes = texts_of Extracted notes
 
 abbrev pub references_of : List Note → List (List ℕ)
-references_of notes = flat_map words_of (texts_of is_reference notes)
+references_of notes = flat_map words_of (texts_of Reference notes)
 
 -- the words of all flag lines, in order
 abbrev pub flag_words_of : List Note → List (List ℕ)
-flag_words_of notes = flat_map flag_words (texts_of is_flags notes)
+flag_words_of notes = flat_map flag_words (texts_of Flags notes)
 
 abbrev pub is_fuzzy_word : List ℕ → Bool
 is_fuzzy_word word = bytes_eq word (codes "fuzzy")
@@ -62,18 +69,15 @@ with_flag flags word = if is_fuzzy_word word || list_any (bytes_eq word) flags t
 abbrev pub flags_of : List Note → List (List ℕ)
 flags_of notes = fold with_flag [] (flag_words_of notes)
 
-abbrev pub is_same_word : Keyword → Keyword → Bool
-is_same_word MsgCtxt keyword = elim keyword [ MsgCtxt ↦ true | MsgId ↦ false | MsgIdPlural ↦ false | MsgStr ↦ false | MsgStrAt _ ↦ false ]
-is_same_word MsgId keyword = elim keyword [ MsgCtxt ↦ false | MsgId ↦ true | MsgIdPlural ↦ false | MsgStr ↦ false | MsgStrAt _ ↦ false ]
-is_same_word MsgIdPlural keyword = elim keyword [ MsgCtxt ↦ false | MsgId ↦ false | MsgIdPlural ↦ true | MsgStr ↦ false | MsgStrAt _ ↦ false ]
-is_same_word MsgStr keyword = false
-is_same_word (MsgStrAt index) keyword = false
+-- whether two of the words of previous texts are the same
+abbrev pub same_word : Keyword → Keyword → Bool
+same_word a b = rank a == rank b
 
 -- the previous text of a word, if it is there
 abbrev pub previous_text : Keyword → List PreviousText → Option (List ℕ)
 previous_text keyword [] = None
 previous_text keyword (previous ∷ others) =
-    if is_same_word keyword previous.keyword then Some previous.text else previous_text keyword others
+    if same_word keyword previous.keyword then Some previous.text else previous_text keyword others
 
 abbrev pub previous_of : List PreviousText → TextPrevious
 previous_of previous =

@@ -1,6 +1,7 @@
 -- How a PO text reads as a list of entries (manual, "The Format of PO Files").
 use Rattle.std.specs.Prelude.{◌≡◌, ℕ, List, [], ◌∷◌, ◌++◌, All, IfSome, IsUtf8}
 use Rattle.po_syntax.specs.TextItem.{TextItem, Comment, Word, Str}
+use Rattle.po_syntax.specs.PoText.{SpellsText}
 use Rattle.po_entry.specs.TextEntry.{TextEntry, quoted_texts}
 use Rattle.po_entry.specs.Bytes.{Lacks}
 use Rattle.po_entry.specs.Header.{HasAdmittedCharset}
@@ -45,3 +46,11 @@ pub record HasReadableTexts (entry : TextEntry) : Type 0 where
   pub utf8 : All IsUtf8 (quoted_texts entry)
   pub context : IfSome entry.context (Lacks 4)
   pub id : Lacks 4 entry.id
+
+-- the text reads as these entries
+pub record ReadsText (text : List ℕ) (entries : List TextEntry) : Type 0 where
+  pub items : List TextItem
+  pub spelt : SpellsText text items
+  pub reads : Reads items entries
+  pub texts : All HasReadableTexts entries
+  pub charsets : All HasAdmittedCharset entries

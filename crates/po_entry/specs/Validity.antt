@@ -1,7 +1,9 @@
 -- What holds of every entry, and of every entry of a catalogue (manual, "The Format of PO Files").
-use Rattle.std.specs.Prelude.{◌≡◌, ◌≢◌, ◌⊎◌, ℕ, ◌<◌, false, List, [], ◌∷◌, ◌++◌, Option, Some, None, All, Contains, IfSome, IsUtf8, length, codes, slice_index}
+use Rattle.std.specs.Prelude.{◌≡◌, ◌≢◌, ◌⊎◌, ℕ, ◌<◌, false, List, [], ◌∷◌, ◌++◌, Option, None, All, Contains, IfSome, IsUtf8, length, codes, slice_index}
 use Rattle.po_entry.specs.TextEntry.{TextEntry, quoted_texts, comment_texts}
-use Rattle.po_entry.specs.Bytes.{Lacks, is_blank, last_byte, trimmed, AreDistinct}
+use Rattle.po_entry.specs.Bytes.{Lacks, trimmed, AreDistinct}
+use Rattle.po_syntax.specs.Token.{is_blank}
+use Rattle.po_syntax.specs.Line.{trim_returns}
 use Rattle.po_syntax.specs.declared.fault.PoFault.{PoFault}
 use Rattle.po_syntax.specs.declared.fault.PoError.{PoError}
 use Rattle.po_syntax.specs.declared.fault.PoFault.TheVariants.{NotUtf8, ForbiddenByte, ForeignCharset, OutOfMemory}
@@ -10,7 +12,7 @@ use Rattle.po_entry.specs.Header.{HasAdmittedCharset}
 -- the text of a comment is the rest of a line without CRs at its end
 pub record IsComment (text : List ℕ) : Type 0 where
   pub one_line : Lacks 10 text
-  pub no_final_return : last_byte text ≢ Some 13
+  pub no_final_return : trim_returns text ≡ text
 
 -- A translator's comment begins with no character that tells another kind of line: none of `.:,|~`.
 pub record IsTranslatorComment (text : List ℕ) : Type 0 where
