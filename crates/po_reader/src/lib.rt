@@ -2,6 +2,7 @@
 #![tactic(auto)]
 
 mod body;
+mod drafts;
 mod head;
 mod notes;
 mod place;
