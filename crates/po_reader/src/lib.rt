@@ -1,4 +1,5 @@
-//! The reader of a PO text's entries (GNU gettext manual, "The Format of PO Files").
+//! The reader of PO catalogues (GNU gettext manual, "The Format of PO Files"): a descent over the
+//! items of a text, one function for each level of an entry.
 #![tactic(auto)]
 
 mod body;
@@ -6,5 +7,10 @@ mod drafts;
 mod head;
 mod notes;
 mod place;
+mod reading;
 mod strings;
+#[cfg(test)]
+mod tests;
 mod words;
+
+pub use crate::reading::read;
