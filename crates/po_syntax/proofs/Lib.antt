@@ -4,3 +4,11 @@ pub mod QuotedStrings
 pub mod Tokens
 pub mod Lines
 pub mod RawRuns
+pub mod Uniqueness
+pub mod Totality
+pub mod QuotedForms
+pub mod Rests
+pub mod CleanLines
+pub mod TrimmedReturns
+pub mod ItemTexts
+pub mod QuotedTexts

@@ -1,7 +1,8 @@
 ghost use Rattle.std.specs.Prelude.{◌≡◌, ◌≢◌, ◌+◌, ◌<◌, ◌≤◌, ◌^◌, ◌∷◌, [], ◌++◌, List, length, vec_len, IfOk, IfErr, IfSome, OnOk, MatchOption};
 ghost use Rattle.po_syntax.specs.PoText.{SpellsText, TextFault, SpellsLines, LinesStop, line_number, without_mark, lines_of};
 ghost use Rattle.po_syntax.specs.Line.{SpellsLine, LineStops};
-ghost use Rattle.po_syntax.specs.TextItem.{TextItem, views};
+ghost use Rattle.po_syntax.specs.CodeView.{AddsItems};
+ghost use Rattle.po_syntax.specs.TextItem.{views};
 
 use crate::fault::{PoError, PoFault};
 use crate::item::Item;
@@ -26,13 +27,19 @@ fn line_number(text: &[u8], place: usize) -> u32
     requires small { length text.now < 2 ^ 31 }
     ensures { result ≡ line_number text.now place }
 {
-    let feeds = text.split_at(place).0.iter().filter(|b| **b == b'\n').count();
+    let feeds = text
+        .split_at(place)
+        .0
+        .iter()
+        .filter(|b| **b == b'\n')
+        .count();
     1 + feeds as u32
 }
 
 /// Cuts off the first line: its text, and what stands behind its LF, if it has one.
 fn first_line(text: &[u8]) -> (&[u8], Option<&[u8]>)
-    ensures cut { MatchOption result.1 (lines_of text.now ≡ result.0.now ∷ []) (λ rest. lines_of text.now ≡ result.0.now ∷ lines_of rest.now) }
+    ensures cut { MatchOption result.1 (lines_of text.now ≡ result.0.now ∷ [])
+        (λ rest. lines_of text.now ≡ result.0.now ∷ lines_of rest.now) }
     ensures less { IfSome result.1 (λ rest. length rest.now < length text.now) }
 {
     let Some(end) = memchr(b'\n', text) else {
@@ -49,14 +56,18 @@ fn add_numbered_line<'a>(
     text: &'a [u8],
     line: u32,
 ) -> Result<(), PoError>
-    ensures found { OnOk result ((spelt : List TextItem) × SpellsLine line text.now spelt × (views items.new.items ≡ views items.old.items ++ spelt)) }
+    ensures found { OnOk result
+        (AddsItems (SpellsLine line text.now) items.old.items items.new.items) }
     ensures fault { IfErr result (λ e. e.kind ≢ PoFault.OutOfMemory → LineStops text.now e.kind) }
     ensures line { IfErr result (λ e. e.kind ≢ PoFault.OutOfMemory → e.line ≡ line) }
     ensures memory { IfErr result (λ e. e.kind ≡ PoFault.OutOfMemory → e.line ≡ 0) }
 {
     match add_line(alloc, items, text, line) {
         Ok(()) => Ok(()),
-        Err(PoFault::OutOfMemory) => Err(PoError { kind: PoFault::OutOfMemory, line: 0 }),
+        Err(PoFault::OutOfMemory) => Err(PoError {
+            kind: PoFault::OutOfMemory,
+            line: 0,
+        }),
         Err(kind) => Err(PoError { kind, line }),
     }
 }
@@ -65,7 +76,8 @@ fn add_numbered_line<'a>(
 fn read_lines(alloc: Global, text: &[u8]) -> Result<Vec<Item<'_>>, PoError>
     requires { length text.now < 2 ^ 31 }
     ensures found { IfOk result (λ items. SpellsLines 1 (lines_of text.now) (views items.items)) }
-    ensures fault { IfErr result (λ e. e.kind ≢ PoFault.OutOfMemory → LinesStop 1 (lines_of text.now) e.kind e.line) }
+    ensures fault { IfErr result (λ e.
+        e.kind ≢ PoFault.OutOfMemory → LinesStop 1 (lines_of text.now) e.kind e.line) }
     ensures memory { IfErr result (λ e. e.kind ≡ PoFault.OutOfMemory → e.line ≡ 0) }
 {
     let mut items = Vec::new(alloc);
@@ -96,15 +108,24 @@ pub fn items(alloc: Global, text: &[u8]) -> Result<Vec<Item<'_>>, PoError>
     ensures few { IfOk result (λ items. vec_len items ≤ length text.now) }
 {
     if text.len() > MAX_LEN {
-        return Err(PoError { kind: PoFault::TooLarge, line: 0 });
+        return Err(PoError {
+            kind: PoFault::TooLarge,
+            line: 0,
+        });
     }
     if let Err(error) = from_utf8(text) {
         let line = line_number(text, error.valid_up_to());
-        return Err(PoError { kind: PoFault::NotUtf8, line });
+        return Err(PoError {
+            kind: PoFault::NotUtf8,
+            line,
+        });
     }
     if let Some(place) = memchr(0, text) {
         let line = line_number(text, place);
-        return Err(PoError { kind: PoFault::ForbiddenByte, line });
+        return Err(PoError {
+            kind: PoFault::ForbiddenByte,
+            line,
+        });
     }
     read_lines(alloc, without_mark(text))
 }
