@@ -1,1 +1,2 @@
+//! Catalogues as PO texts that read back (GNU gettext manual, "The Format of PO Files").
 #![tactic(auto)]
