@@ -1,1 +1,9 @@
 pub mod Numbers
+pub mod Searches
+pub mod QuotedStrings
+pub mod Tokens
+pub mod Lines
+pub mod RawRuns
+pub mod Uniqueness
+pub mod Totality
+pub mod QuotedForms
