@@ -7,3 +7,4 @@ pub mod RawRuns
 pub mod Uniqueness
 pub mod Totality
 pub mod QuotedForms
+pub mod Rests
