@@ -4,7 +4,7 @@ use Rattle.std.specs.List.{flat_map, join_by}
 use Rattle.po_syntax.specs.QuotedForm.{quoted}
 use Rattle.po_entry.specs.TextEntry.{TextEntry, TextPrevious}
 
--- a piece with a byte before it
+-- the first piece with a byte before it
 abbrev pub with_byte : ℕ → List (List ℕ) → List (List ℕ)
 with_byte b [] = (b ∷ []) ∷ []
 with_byte b (piece ∷ pieces) = (b ∷ piece) ∷ pieces
@@ -18,11 +18,15 @@ cut (b ∷ text) = if b == 10 then (10 ∷ []) ∷ cut text else with_byte b (cu
 abbrev pub string_line : List ℕ → List ℕ → List ℕ
 string_line prefix piece = prefix ++ quoted piece ++ 10 ∷ []
 
--- A keyword with its text: one string on its line; or where the text has more lines than one, an empty string there and then one string a line.
+-- What stands behind a keyword: the text as one string; or where a LF stands before its last byte, an empty string and then one string a line.
+abbrev pub text_lines : List ℕ → List ℕ → List ℕ
+text_lines prefix text =
+    if nat_lt 1 (length (cut text)) then string_line [] [] ++ flat_map (string_line prefix) (cut text)
+    else string_line [] text
+
+-- a keyword with its text; the prefix stands on each line
 abbrev pub keyword_lines : List ℕ → List ℕ → List ℕ → List ℕ
-keyword_lines prefix keyword text =
-    if nat_lt 1 (length (cut text)) then string_line (prefix ++ keyword ++ 32 ∷ []) [] ++ flat_map (string_line prefix) (cut text)
-    else string_line (prefix ++ keyword ++ 32 ∷ []) text
+keyword_lines prefix keyword text = prefix ++ keyword ++ 32 ∷ text_lines prefix text
 
 -- a keyword with a text that may be absent
 abbrev pub optional_lines : List ℕ → List ℕ → Option (List ℕ) → List ℕ
@@ -39,8 +43,8 @@ words_line mark separator [] = []
 words_line mark separator (word ∷ words) = mark ++ join_by (λ w. w) separator (word ∷ words) ++ 10 ∷ []
 
 -- the flags, `fuzzy` first
-abbrev pub all_flags : TextEntry → List (List ℕ)
-all_flags entry = if entry.fuzzy then codes "fuzzy" ∷ entry.flags else entry.flags
+abbrev pub all_flags : Bool → List (List ℕ) → List (List ℕ)
+all_flags fuzzy flags = if fuzzy then codes "fuzzy" ∷ flags else flags
 
 abbrev pub previous_prefix : Bool → List ℕ
 previous_prefix obsolete = if obsolete then codes "#~| " else codes "#| "
@@ -48,6 +52,7 @@ previous_prefix obsolete = if obsolete then codes "#~| " else codes "#| "
 abbrev pub own_prefix : Bool → List ℕ
 own_prefix obsolete = if obsolete then codes "#~ " else []
 
+-- the previous texts that there are
 abbrev pub previous_lines : List ℕ → TextPrevious → List ℕ
 previous_lines prefix previous =
     optional_lines prefix (codes "msgctxt") previous.context ++ optional_lines prefix (codes "msgid") previous.id
@@ -74,7 +79,7 @@ own_lines prefix entry =
 abbrev pub entry_lines : TextEntry → List ℕ
 entry_lines entry =
     comment_lines (codes "#") entry.comments ++ comment_lines (codes "#.") entry.extracted
-    ++ words_line (codes "#: ") (codes " ") entry.references ++ words_line (codes "#, ") (codes ", ") (all_flags entry)
+    ++ words_line (codes "#: ") (codes " ") entry.references ++ words_line (codes "#, ") (codes ", ") (all_flags entry.fuzzy entry.flags)
     ++ previous_lines (previous_prefix entry.obsolete) entry.previous ++ own_lines (own_prefix entry.obsolete) entry
 
 -- the live entries in order, then the obsolete ones in order
