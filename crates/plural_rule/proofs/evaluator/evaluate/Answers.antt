@@ -1,4 +1,4 @@
-use Rattle.std.proofs.Common.{◌≡◌, length, ap, arith}
+use Rattle.std.proofs.Common.{length, ap, arith}
 use Rattle.plural_rule.specs.PostOrder.{tree_of}
 use Rattle.plural_rule.proofs.ParserSteps.{length-layout}
 use Rattle.plural_rule.proofs.evaluator.evaluate.Goals as goal
