@@ -1,6 +1,6 @@
 // A device over memory that fails as a test wants it to.
-ghost use Rattle.std.specs.Prelude.{◌≡◌};
-ghost use Rattle.po_shell.specs.Failing.{failing_inner};
+ghost use Rattle.std.specs.Prelude.{◌≡◌, ◌↔◌, ◌-◌, ◌==◌, IsTrue, if◌then◌else◌};
+ghost use Rattle.po_shell.specs.Failing.{failing_inner, failing_calls_before, failing_most};
 
 use std::io::{self, ErrorKind, Read, Write};
 
@@ -18,7 +18,10 @@ impl<D> Failing<D> {
     /// The device that fails at the call of this number, counted from 1, and at no other; 0 is no
     /// call. Each other call moves `most` bytes at most, and a reader at least one.
     pub fn new(inner: D, failing_call: u64, most: usize) -> Self
-        ensures { failing_inner result ≡ inner }
+        ensures inner { failing_inner result ≡ inner }
+        ensures call { failing_calls_before result
+            ≡ (if failing_call == 0 then None else Some (failing_call - 1)) }
+        ensures most { failing_most result ≡ most }
     {
         Failing {
             inner,
@@ -36,7 +39,9 @@ impl<D> Failing<D> {
 
     // Counts a call, and says whether it is the one that fails.
     fn fails_now(&mut self) -> bool
+        ensures now { IsTrue result ↔ (failing_calls_before self.old ≡ Some 0) }
         ensures inner { failing_inner self.new ≡ failing_inner self.old }
+        ensures most { failing_most self.new ≡ failing_most self.old }
     {
         match self.calls_before {
             None => false,

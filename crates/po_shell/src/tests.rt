@@ -4,6 +4,9 @@ use std::alloc::Global;
 use std::process::Abort;
 use std::test::Fail;
 
+// Room for what a test writes, so that no writer grows.
+const ROOM: usize = 300;
+
 // What a text becomes that is fed in pieces of this size.
 fn substituted(
     alloc: Global,
@@ -12,7 +15,7 @@ fn substituted(
     vars: &[(&[u8], &[u8])],
     only: Option<&[&[u8]]>,
 ) -> Result<Vec<u8>, ToolFault> {
-    let mut writer = Counted::new(Vec::new(alloc));
+    let mut writer = Counted::new(Vec::with_capacity(alloc, ROOM)?);
     let mut substituter = Substituter::new(vars, only);
     let mut rest = text;
     while size > 0 && rest.len() > size {
@@ -32,7 +35,7 @@ fn substituted_in_two(
     back: &[u8],
     vars: &[(&[u8], &[u8])],
 ) -> Result<Vec<u8>, ToolFault> {
-    let mut writer = Counted::new(Vec::new(alloc));
+    let mut writer = Counted::new(Vec::with_capacity(alloc, ROOM)?);
     let mut substituter = Substituter::new(vars, None);
     substituter.feed(front, &mut writer)?;
     substituter.feed(back, &mut writer)?;
@@ -135,7 +138,7 @@ fn runs_over_a_reader_to_its_end(rt: HostRuntime) -> Result<(), Fail> {
     let text = b"$A and $A".as_slice();
     for most in 1..4 {
         let mut reader = Counted::new(Failing::new(text, 0, most));
-        let mut writer = Counted::new(Vec::new(rt.alloc()));
+        let mut writer = Counted::new(Vec::with_capacity(rt.alloc(), ROOM)?);
         run_envsubst(&mut reader, &mut writer, &vars, None)?;
         assert_eq!(rt; writer.into_inner().as_slice(), b"v and v".as_slice());
     }
@@ -154,7 +157,7 @@ fn tells_a_reader_that_fails(rt: HostRuntime) -> Result<(), Fail> {
             "at call {call}"
         );
         let mut reader = Counted::new(Failing::new(text, call as u64 + 1, 1));
-        let mut writer = Counted::new(Vec::new(rt.alloc()));
+        let mut writer = Counted::new(Vec::with_capacity(rt.alloc(), ROOM)?);
         let outcome = run_envsubst(&mut reader, &mut writer, &[], None);
         assert_eq!(rt; outcome, Err(ToolFault::ReadFault), "at call {call}");
         assert_eq!(rt; writer.into_inner().as_slice(), *wanted, "at call {call}");
@@ -172,7 +175,11 @@ fn tells_a_writer_that_fails(rt: HostRuntime) -> Result<(), Fail> {
         (1, 2, Some(ToolFault::WriteFault), b"".as_slice()),
         (0, 0, Some(ToolFault::WriteFault), b"".as_slice()),
     ] {
-        let mut writer = Counted::new(Failing::new(Vec::new(rt.alloc()), call, most));
+        let mut writer = Counted::new(Failing::new(
+            Vec::with_capacity(rt.alloc(), ROOM)?,
+            call,
+            most,
+        ));
         assert_eq!(rt; put_all(&mut writer, b"ab").err(), fault);
         assert_eq!(rt; writer.into_inner().into_inner().as_slice(), wanted);
     }
@@ -181,7 +188,7 @@ fn tells_a_writer_that_fails(rt: HostRuntime) -> Result<(), Fail> {
 
 #[test]
 fn writes_nothing_after_a_write_fault(rt: HostRuntime) -> Result<(), Fail> {
-    let mut writer = Counted::new(Failing::new(Vec::new(rt.alloc()), 2, 1));
+    let mut writer = Counted::new(Failing::new(Vec::with_capacity(rt.alloc(), ROOM)?, 2, 1));
     let mut substituter = Substituter::new(&[], None);
     assert_eq!(rt;
         substituter.feed(b"ab", &mut writer),
