@@ -11,3 +11,5 @@ pub mod SoundFields
 pub mod SoundCatalogue
 pub mod Loops
 pub mod SoundItems
+pub mod Once
+pub mod OneReading
