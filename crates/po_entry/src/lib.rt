@@ -8,6 +8,8 @@ mod copies;
 mod entry;
 mod fields;
 mod previous;
+#[cfg(test)]
+mod tests;
 mod texts;
 
 pub use crate::catalogue::Catalogue;

@@ -6,9 +6,10 @@ pub mod HeadEnds
 pub mod Places
 pub mod Trims
 pub mod Pieces
-pub mod SoundLines
-pub mod SoundTexts
 pub mod SoundEntries
 pub mod SoundFields
 pub mod SoundCatalogue
 pub mod Loops
+pub mod SoundItems
+pub mod Once
+pub mod OneReading

@@ -20,7 +20,7 @@ use Rattle.po_reader.specs.Drafts.{DraftsStop}
 use Rattle.po_reader.specs.Drafts as drafts
 use Rattle.po_reader.specs.Faults.{TextsStop, UnreadableTexts}
 use Rattle.po_reader.specs.Faults as faults
-use Rattle.po_reader.proofs.SoundLines.{SoundItem, SoundComment}
+use Rattle.po_reader.proofs.SoundItems.{SoundItem, SoundComment}
 use Rattle.po_reader.proofs.SoundEntries.{SoundNote, SoundPrevious, SoundBody, SoundHead, body_sound, head_sound}
 use Rattle.po_reader.proofs.SoundFields.{SoundReference, SoundFlagWord, SoundFlag, SoundFlags, kind_sound, references_sound, all_flag_words_sound, flags_sound, previous_lacks}
 

@@ -20,7 +20,7 @@ use Rattle.po_entry.specs.Body as body
 use Rattle.po_entry.specs.Head as head
 use Rattle.po_entry.specs.Head.{Note, PreviousText}
 use Rattle.po_entry.specs.Reads as reads
-use Rattle.po_reader.proofs.SoundLines.{SoundItem, SoundComment}
+use Rattle.po_reader.proofs.SoundItems.{SoundItem, SoundComment}
 
 -- the texts of a head's comments and previous texts, and of own lines
 abbrev pub SoundNote : Note → Type 0

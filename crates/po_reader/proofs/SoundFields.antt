@@ -14,7 +14,7 @@ use Rattle.po_entry.specs.Bytes.{Lacks, trimmed, without_end_blanks, AreDistinct
 use Rattle.po_entry.specs.Head.{Note, PreviousText, rank}
 use Rattle.po_entry.specs.Notes.{same_kind, texts_of, is_not_empty, is_comma, words_of, flag_words, references_of, flag_words_of, flags_of, is_fuzzy_word, with_flag, with_previous, previous_of}
 use Rattle.po_entry.specs.Validity.{IsText, IsComment, IsTranslatorComment, IsReference, IsFlag}
-use Rattle.po_reader.proofs.SoundLines.{SoundComment, IsLineText}
+use Rattle.po_reader.proofs.SoundItems.{SoundComment, IsLineText}
 use Rattle.po_reader.proofs.SoundEntries.{SoundNote, SoundPrevious}
 use Rattle.po_reader.proofs.Pieces.{utf8_behind, utf8_before, utf8_parts, all_parts, parts_fail, blank_is_ascii, All-left}
 use Rattle.po_reader.proofs.Trims.{end_keeps, start_keeps, ends_once}

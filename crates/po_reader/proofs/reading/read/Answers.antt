@@ -6,7 +6,7 @@ use Rattle.po_entry.specs.EntryText.{entry_of}
 use Rattle.po_entry.specs.Validity.{HasTexts}
 use Rattle.po_entry.specs.Reads.{ReadsText}
 use Rattle.po_reader.specs.Faults.IsReadFault.{in_text, in_items, in_texts, in_charset}
-use Rattle.po_reader.proofs.SoundTexts.{text_sound}
+use Rattle.po_reader.proofs.SoundItems.{items_sound}
 use Rattle.po_reader.proofs.SoundCatalogue.{entries_sound, drafts_valid, all_readable, stops_readable, draft_kind}
 use Rattle.po_reader.proofs.Results.{ok_step, ok_same, err_step}
 use Rattle.po_reader.proofs.reading.read.Goals as goal
@@ -26,7 +26,7 @@ pub returns-in_err-check_drafts-clause-fault : goal.returns-in_err-check_drafts-
 returns-in_err-check_drafts-clause-fault c =
     let p = err_from_is_err_and c.from_residual-in_err-check_drafts.result c.from_residual-in_err-check_drafts.ensures.1 in
     let reads = rw c.deref.ensures.value at c.in_ok-drafts.ensures.found in
-    let sound = entries_sound reads (text_sound _ _ c.in_ok-items.ensures.found) in
+    let sound = entries_sound reads (items_sound _ (c.items_hold_text.ensures _ _ c.in_ok-items.ensures.found)) in
     let stops = rw c.deref-3.ensures.value at c.in_err-check_drafts.ensures.fault in
     rw (p.1, p.2) (λ other. in_texts c.in_ok-items.ensures.found reads (stops_readable stops sound))
 
@@ -38,7 +38,7 @@ returns-in_err-check_drafts-clause-memory c =
 pub catalogue_of-requires : goal.catalogue_of-requires
 catalogue_of-requires c =
     let reads = rw c.deref.ensures.value at c.in_ok-drafts.ensures.found in
-    let sound = entries_sound reads (text_sound _ _ c.in_ok-items.ensures.found) in
+    let sound = entries_sound reads (items_sound _ (c.items_hold_text.ensures _ _ c.in_ok-items.ensures.found)) in
     let asked = rw c.deref-3.ensures.value at c.in_ok-check_drafts.ensures.ok in
     drafts_valid _ sound asked
 
