@@ -3,8 +3,24 @@
 //! manual).
 #![tactic(auto)]
 
+mod building;
+mod byte_order;
+mod checking;
 mod counting;
+mod fault;
+mod header;
 mod key;
+mod laws;
+mod pairs;
+mod strings;
+mod view;
+mod writing;
 
+pub use building::{BuildError, build};
+pub use byte_order::Order;
 pub use counting::Meter;
+pub use fault::MoError;
 pub use key::compare_key;
+pub use laws::{catalog_is_unique, layout_is_catalog};
+pub use pairs::Pair;
+pub use view::MoView;
