@@ -1,0 +1,6 @@
+pub mod BoundLemmas
+pub mod RisingLemmas
+pub mod SearchLemmas
+pub mod FormLemmas
+pub mod QueryLemmas
+pub mod TranslationLemmas

@@ -1,0 +1,5 @@
+pub mod Bound
+pub mod Place
+pub mod Query
+pub mod Answer
+pub mod Contents
