@@ -33,6 +33,9 @@ joined_from input headed (entries ∷ inputs) =
 abbrev pub joined : List (List TextEntry) → List InputEntry
 joined inputs = joined_from 0 false inputs
 
--- the same entries, whatever their inputs
+-- the entries, whatever their inputs
+abbrev pub entries_of : List InputEntry → List TextEntry
+entries_of entries = map (λ e. e.entry) entries
+
 abbrev pub joined_entries : List (List TextEntry) → List TextEntry
-joined_entries inputs = map (λ e. e.entry) (joined inputs)
+joined_entries inputs = entries_of (joined inputs)

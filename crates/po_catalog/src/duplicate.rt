@@ -1,9 +1,12 @@
-ghost use Rattle.std.specs.Prelude.{◌≡◌, map, MatchResult};
+ghost use Rattle.std.specs.Prelude.{◌≡◌, ◌<◌, ◌^◌, length, MatchResult, IsOkUnless};
 ghost use Rattle.po_syntax.specs.declared.fault.PoFault.TheVariants.{OutOfMemory};
 ghost use Rattle.po_catalog.specs.JoinedView.{input_entries};
+ghost use Rattle.po_catalog.specs.Joined.{joined, joined_entries, entries_of};
+ghost use Rattle.po_catalog.specs.Duplicate.{HasNoDuplicate, IsDuplicateFault, IsDuplicateErrorOf, join_memory, entry_memory};
 
-use crate::joining::JoinedEntry;
+use crate::joining::{JoinedEntry, add_entries, joined};
 use indexmap::IndexMap;
+use po_entry::Catalogue;
 use po_syntax::{PoError, PoFault};
 use std::alloc::{AllocError, AllocFailed, Global};
 use thiserror::Error;
@@ -44,8 +47,37 @@ impl<T: Drop> From<AllocFailed<T>> for JoinError {
     }
 }
 
+/// Whether no live entry of a catalogue repeats an earlier live one, by context and msgid. Refused
+/// with `Duplicate`, which names the line of the earlier entry, at the line of the earliest entry
+/// that repeats one; and for want of memory.
+pub fn duplicates(alloc: Global, catalogue: &Catalogue) -> Result<(), PoError>
+    ensures exact { MatchResult result (λ _. HasNoDuplicate catalogue.now) (IsDuplicateErrorOf catalogue.now) }
+    ensures only { HasNoDuplicate catalogue.now → IsOkUnless result entry_memory }
+{
+    let mut entries = Vec::new(alloc);
+    add_entries(&mut entries, catalogue.entries(), 0, false)?;
+    match first_duplicate(alloc, &entries) {
+        Ok(()) => Ok(()),
+        Err(error) => Err(error.error),
+    }
+}
+
+/// Whether no live entry of the joined list repeats an earlier live one, by context and msgid. Refused
+/// with `Duplicate`, which names the input and the line of the earlier entry, at the input and the
+/// line of the earliest entry that repeats one; and for want of memory.
+pub fn joined_duplicates(alloc: Global, catalogues: &[Catalogue]) -> Result<(), JoinError>
+    requires { length catalogues.now < 2 ^ 32 }
+    ensures exact { MatchResult result (λ _. HasNoDuplicate (joined_entries catalogues.now)) (IsDuplicateFault (joined catalogues.now)) }
+    ensures only { HasNoDuplicate (joined_entries catalogues.now) → IsOkUnless result join_memory }
+{
+    let entries = joined(alloc, catalogues)?;
+    first_duplicate(alloc, &entries)
+}
+
 /// Looks for the earliest live entry that repeats an earlier live one.
-pub fn first_duplicate(alloc: Global, entries: &[JoinedEntry<'_>]) -> Result<(), JoinError> {
+fn first_duplicate(alloc: Global, entries: &[JoinedEntry<'_>]) -> Result<(), JoinError>
+    ensures exact { MatchResult result (λ _. HasNoDuplicate (entries_of (input_entries entries.now))) (IsDuplicateFault (input_entries entries.now)) }
+{
     let mut seen = IndexMap::with_capacity(alloc, entries.len())?;
     for joined in entries {
         let entry = joined.entry;

@@ -1,9 +1,10 @@
-ghost use Rattle.std.specs.Prelude.{◌≡◌, ◌++◌, map, OnOk, IfOk};
-ghost use Rattle.po_catalog.specs.Joined.{in_input, is_live_header, kept_entries};
+ghost use Rattle.std.specs.Prelude.{◌≡◌, ◌++◌, ◌<◌, ◌^◌, length, map, OnOk, IfOk};
+ghost use Rattle.std.specs.List.{list_any};
+ghost use Rattle.po_catalog.specs.Joined.{in_input, is_live_header, kept_entries, joined};
 ghost use Rattle.po_catalog.specs.JoinedView.{input_entries};
 
-use po_entry::Entry;
-use std::alloc::AllocError;
+use po_entry::{Catalogue, Entry};
+use std::alloc::{AllocError, Global};
 
 /// An entry of one of several inputs.
 #[derive(Clone, Copy)]
@@ -14,15 +15,23 @@ pub struct JoinedEntry<'a> {
     pub entry: &'a Entry,
 }
 
-/// Whether the entry is a header that is not obsolete.
-fn is_live_header(entry: &Entry) -> bool
-    ensures { result ≡ is_live_header entry.now }
+/// The entries of several inputs in order, without the live headers of an input where an earlier
+/// input has a live header.
+pub fn joined(alloc: Global, catalogues: &[Catalogue]) -> Result<Vec<JoinedEntry<'_>>, AllocError>
+    requires { length catalogues.now < 2 ^ 32 }
+    ensures { IfOk result (λ entries. input_entries entries.items ≡ joined catalogues.now) }
 {
-    entry.is_header() && !entry.obsolete()
+    let mut joined = Vec::new(alloc);
+    let mut headed = false;
+    for (input, catalogue) in catalogues.iter().enumerate() {
+        add_entries(&mut joined, catalogue.entries(), input as u32, headed)?;
+        headed = headed || has_live_header(catalogue.entries());
+    }
+    Ok(joined)
 }
 
 /// Adds the entries of an input, without its live headers where an earlier input has one.
-pub fn add_entries<'a>(
+pub(crate) fn add_entries<'a>(
     joined: &mut Vec<JoinedEntry<'a>>,
     entries: &'a [Entry],
     input: u32,
@@ -36,4 +45,18 @@ pub fn add_entries<'a>(
         }
     }
     Ok(())
+}
+
+/// Whether an entry is a live header.
+fn has_live_header(entries: &[Entry]) -> bool
+    ensures { result ≡ list_any is_live_header entries.now }
+{
+    entries.iter().any(|entry| is_live_header(entry))
+}
+
+/// Whether the entry is a header that is not obsolete.
+fn is_live_header(entry: &Entry) -> bool
+    ensures { result ≡ is_live_header entry.now }
+{
+    entry.is_header() && !entry.obsolete()
 }

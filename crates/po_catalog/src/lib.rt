@@ -6,6 +6,6 @@ mod duplicate;
 mod joining;
 mod stats;
 
-pub use crate::duplicate::{JoinError, first_duplicate};
-pub use crate::joining::{JoinedEntry, add_entries};
-pub use crate::stats::Stats;
+pub use crate::duplicate::{JoinError, duplicates, joined_duplicates};
+pub use crate::joining::{JoinedEntry, joined};
+pub use crate::stats::{Stats, has_translation, joined_statistics, statistics};
