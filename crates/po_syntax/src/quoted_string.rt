@@ -23,7 +23,6 @@ fn split_plain(text: &[u8]) -> (&[u8], &[u8])
 fn add_pieces<'a>(bytes: &mut Vec<u8>, text: &'a [u8]) -> Result<&'a [u8], PoFault>
     ensures found { IfOk result (λ rest. (spelt : List ℕ) × IsQuoted text.now spelt rest.now × (bytes.new.items ≡ bytes.old.items ++ spelt)) }
     ensures fault { IfErr result (λ e. e ≢ PoFault.OutOfMemory → QuotedStops text.now e) }
-    ensures less { IfOk result (λ rest. length rest.now < length text.now) }
 {
     let mut rest = text;
     loop {
@@ -46,7 +45,6 @@ fn add_pieces<'a>(bytes: &mut Vec<u8>, text: &'a [u8]) -> Result<&'a [u8], PoFau
 pub(crate) fn quoted_string(alloc: Global, text: &[u8]) -> Result<(CowSlice<'_, u8>, &[u8]), PoFault>
     ensures found { IfOk result (λ p. IsQuoted text.now (cow_slice_items p.0) p.1.now) }
     ensures fault { IfErr result (λ e. e ≢ PoFault.OutOfMemory → QuotedStops text.now e) }
-    ensures less { IfOk result (λ p. length p.1.now < length text.now) }
 {
     let (plain, end) = split_plain(text);
     let Some((mark, after)) = end.split_first() else {

@@ -100,7 +100,7 @@ fn keyword<'a>(word: &[u8], rest: &'a [u8]) -> Result<(Keyword, &'a [u8]), PoFau
 /// The next token of a line, behind blanks.
 #[tactic(auto, unfolding(crate::specs::Token::first_token))]
 pub(crate) fn next_token(text: &[u8]) -> Result<Token<'_>, PoFault>
-    ensures found { MatchResult result (λ token. token_at text.now ≡ token_of token) (λ e. token_at text.now ≡ Halt e) }
+    ensures { MatchResult result (λ token. token_at text.now ≡ token_of token) (λ e. token_at text.now ≡ Halt e) }
 {
     let text = skip_blanks(text);
     let Some((first, rest)) = text.split_first() else {
