@@ -22,13 +22,6 @@ within_rises (suc most) (suc a) (suc b) le =
     let rest : halvings_within most (suc a / 2) ≤ halvings_within most (suc b / 2) = within_rises most (suc a / 2) (suc b / 2) (omega arith) in
     omega arith
 
-within_least : (most n : ℕ) → halvings_within most n ≤ n
-within_least zero n = omega arith
-within_least (suc most) zero = omega arith
-within_least (suc most) (suc n) =
-    let rest : halvings_within most (suc n / 2) ≤ suc n / 2 = within_least most (suc n / 2) in
-    omega arith
-
 pub search_bound-zero : search_bound 0 ≡ 0
 unfolding search_bound
 search_bound-zero = refl
@@ -45,10 +38,14 @@ search_bound-rises a b le =
     let rest : halvings_within b a ≤ halvings_within b b = within_rises b a b le in
     omega arith
 
--- no more comparisons than keys
-pub search_bound-least : (n : ℕ) → search_bound n ≤ n
+-- 32 comparisons at most where the number of keys fits 32 bits
+pub search_bound-small : (n : ℕ) → n < 2 ^ 32 → search_bound n ≤ 32
 unfolding search_bound
-search_bound-least n = within_least n n
+search_bound-small n short =
+    let largest : halvings_within 4294967295 4294967295 ≡ 32 = refl in
+    let more : halvings_within n n ≡ halvings_within 4294967295 n = within_same n 4294967295 n (omega arith) (omega arith) in
+    let rest : halvings_within 4294967295 n ≤ halvings_within 4294967295 4294967295 = within_rises 4294967295 n 4294967295 (omega arith) in
+    omega arith
 
 -- both halves of the logarithm, without its lower end's division
 twice : (k : ℕ) → 2 ^ (1 + k) ≡ 2 * 2 ^ k

@@ -4,3 +4,4 @@ pub mod SearchLemmas
 pub mod FormLemmas
 pub mod QueryLemmas
 pub mod TranslationLemmas
+pub mod ChainLemmas

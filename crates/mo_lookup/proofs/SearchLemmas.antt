@@ -5,7 +5,7 @@ use Rattle.std.specs.declared.cmp.Ordering.TheVariants.{Less, Equal, Greater}
 use Rattle.mo_file.specs.Key.{AreRising, key_at, key_cmp}
 use Rattle.mo_lookup.specs.Bound.{search_bound}
 use Rattle.mo_lookup.specs.Place.{IsPlaceOf}
-use Rattle.mo_lookup.proofs.BoundLemmas.{search_bound-halves, search_bound-rises, search_bound-least}
+use Rattle.mo_lookup.proofs.BoundLemmas.{search_bound-halves, search_bound-rises, search_bound-small}
 use Rattle.mo_lookup.proofs.RisingLemmas.{equal_is_same, none_up_to, none_from}
 
 -- the key isn't outside the range from low to high, and what was counted leaves room for the rest
@@ -69,16 +69,16 @@ IsSearch-greater ks key began counted low high middle is some half greater = rec
 
 -- the counter has room, and where a key is compared, the bound counts it
 pub IsSearch-counted : (ks : List (List ℕ)) (key : List ℕ) (began counted low high : ℕ) → IsSearch ks key began counted low high →
-    length ks < 2 ^ 32 → (counted ≤ began + search_bound (length ks)) × (counted < began + 2 ^ 32)
+    length ks < 2 ^ 32 → (counted ≤ began + search_bound (length ks)) × (counted ≤ began + 32)
 IsSearch-counted ks key began counted low high is short =
-    let least : search_bound (length ks) ≤ length ks = search_bound-least (length ks) in
+    let small : search_bound (length ks) ≤ 32 = search_bound-small (length ks) short in
     let cost = is.cost in
     (omega arith, omega arith)
 
 pub IsSearch-compared : (ks : List (List ℕ)) (key : List ℕ) (began counted low high : ℕ) → IsSearch ks key began counted low high →
-    length ks < 2 ^ 32 → low < high → (counted + 1 ≤ began + search_bound (length ks)) × (counted + 1 < began + 2 ^ 32)
+    length ks < 2 ^ 32 → low < high → (counted + 1 ≤ began + search_bound (length ks)) × (counted + 1 ≤ began + 32)
 IsSearch-compared ks key began counted low high is short some =
-    let least : search_bound (length ks) ≤ length ks = search_bound-least (length ks) in
+    let small : search_bound (length ks) ≤ 32 = search_bound-small (length ks) short in
     let cost = is.cost in
     let one : 1 + search_bound 0 ≤ search_bound (high - low) = half-cost (high - low) 0 (omega arith) (omega arith) in
     (omega arith, omega arith)

@@ -49,7 +49,7 @@ impl<'a> Model for Catalog<'a> {
 /// The text of a file's header entry, which stands under the empty key and so first; empty where there is none.
 /// For a file with messages this is one comparison.
 fn header_text<'a>(view: &MoView<'a>, meter: &mut Meter) -> &'a [u8]
-    requires { meter.old < 2 ^ 64 - 1 }
+    requires { meter.old < 2 ^ 63 + length view.now }
     ensures text { result.now ≡ header_text view.now }
     ensures rising { AreRising (keys view.now) }
     ensures rises { meter.old ≤ meter.new }
@@ -145,7 +145,7 @@ impl<'a> Catalog<'a> {
         }
         ensures rises { meter.old ≤ meter.new }
         ensures cost { meter.new ≤ meter.old + search_bound (length self.now.messages) }
-        ensures small { meter.new < meter.old + 2 ^ 32 }
+        ensures small { meter.new ≤ meter.old + 32 }
     {
         let mut keys = ViewKeys { view: &self.view, meter };
         match find(&mut keys, context, id) {

@@ -46,7 +46,7 @@ pub fn find<K: Keys>(keys: &mut K, context: Option<&[u8]>, id: &[u8]) -> Option<
     ensures unchanged { K.listed keys.new ≡ K.listed keys.old }
     ensures rises { K.counted keys.old ≤ K.counted keys.new }
     ensures cost { K.counted keys.new ≤ K.counted keys.old + search_bound (length (K.listed keys.old)) }
-    ensures small { K.counted keys.new < K.counted keys.old + 2 ^ 32 }
+    ensures small { K.counted keys.new ≤ K.counted keys.old + 32 }
     ensures same_counter { K.counter keys.new ≡ K.counter keys.old }
 {
     let mut low = 0;

@@ -22,6 +22,7 @@ returns-in_default c = record {
               header-none c.args.view.now
                   (none-empty _ c.len.ensures.rising (λ equal. c.in_default.not-Equal (c.compare.ensures.order ∙ equal)))
           );
+  rising = c.len.ensures.rising;
   rises = omega arith;
   cost = omega arith;
 }
