@@ -73,11 +73,6 @@ pub layout-pairs : (order : Order) (pairs : List Pair) →
     ++ terminated (strings_of Original pairs) ++ terminated (strings_of Translation pairs)
 layout-pairs order pairs = rw (originals-pairs pairs, translations-pairs pairs, length-map pairs message)
 
--- what is written part by part is the layout
-pub layout-pushed : (order : Order) (pairs : List Pair) (none some_header some_originals some_tables some_strings all : List ℕ) (place : ℕ) → none ≡ [] → some_header ≡ none ++ header order (length pairs) → some_originals ≡ some_header ++ table order (28 + 16 * length pairs) (strings_of Original pairs) → place ≡ 28 + 16 * length pairs + length (terminated (strings_of Original pairs)) → some_tables ≡ some_originals ++ table order place (strings_of Translation pairs) → some_strings ≡ some_tables ++ terminated (strings_of Original pairs) → all ≡ some_strings ++ terminated (strings_of Translation pairs) → all ≡ layout order (messages_of_pairs pairs)
-layout-pushed order pairs none some_header some_originals some_tables some_strings all place e0 e1 e2 e3 e4 e5 e6 =
-    rw (layout-pairs order pairs) (e6 ∙ rw (e5, e4, e3, e2, e1, e0))
-
 -- the key of a pair
 pub keys-pair : (pairs : List Pair) (i : ℕ) (pair : Pair) → i < length pairs → pair ≡ get_or pairs i pair → key_at (keys (messages_of_pairs pairs)) i ≡ key_of pair.original.items
 keys-pair pairs i pair lt is =

@@ -5,10 +5,14 @@ ghost use Rattle.mo_file.specs.Layout.{layout};
 ghost use Rattle.mo_file.specs.Pairs.{messages_of_pairs};
 
 use crate::byte_order::Order;
+use crate::header::HEADER_LEN;
 use crate::pairs::{Pair, Part, are_rising};
-use crate::writing::{HEADER_LEN, push_header, push_strings, push_table};
+use crate::writing::{originals_place, push_header, push_strings, push_table};
 use std::alloc::{AllocError, Global};
 use thiserror::Error;
+
+/// What a file has for each pair beside the bytes of its strings: two entries and two NULs.
+const PAIR_OVERHEAD: u64 = 18;
 
 /// Why no file is built. Of two reasons that hold the first in this order is told.
 #[derive(Clone, Copy, Debug, PartialEq, Eq, Error)]
@@ -58,11 +62,10 @@ pub fn build(alloc: Global, order: Order, pairs: &[Pair]) -> Result<Vec<u8>, Bui
 fn layout_len(pairs: &[Pair]) -> u64
     ensures { (order : Order) → result ≡ min (length (layout order (messages_of_pairs pairs.now))) (2 ^ 64 - 1) }
 {
-    // Two entries of a table and two NULs come with each pair.
     let mut len = u64::from(HEADER_LEN);
     for pair in pairs {
         len = len
-            .saturating_add(18)
+            .saturating_add(PAIR_OVERHEAD)
             .saturating_add(pair.original.len() as u64)
             .saturating_add(pair.translation.len() as u64);
     }
@@ -76,7 +79,7 @@ fn laid_out(alloc: Global, order: Order, pairs: &[Pair], len: u32) -> Result<Vec
     let count = pairs.len() as u32;
     let mut out = Vec::with_capacity(alloc, len as usize)?;
     push_header(&mut out, order, count)?;
-    let originals = HEADER_LEN + 16 * count;
+    let originals = originals_place(count);
     let translations = push_table(&mut out, order, pairs, Part::Original, originals)?;
     push_table(&mut out, order, pairs, Part::Translation, translations)?;
     push_strings(&mut out, pairs, Part::Original)?;

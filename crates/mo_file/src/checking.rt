@@ -5,7 +5,7 @@ ghost use Rattle.mo_file.specs.Checking.{HasStrings, IsHeader, IsSortedBelow};
 use crate::counting::Meter;
 use crate::fault::MoError;
 use crate::header::Header;
-use crate::strings::{end_at, key_at};
+use crate::strings::{key_at, range_at};
 use std::cmp::Ordering;
 
 /// Sees that each string lies inside the file and that a NUL follows it.
@@ -16,8 +16,8 @@ pub(crate) fn check_strings(header: Header, bytes: &[u8]) -> Result<(), MoError>
 {
     let mut unterminated = None;
     for i in 0..header.count {
-        let original_end = end_at(header.order, bytes, header.originals, i);
-        let translation_end = end_at(header.order, bytes, header.translations, i);
+        let original_end = range_at(header.order, bytes, header.originals, i).end;
+        let translation_end = range_at(header.order, bytes, header.translations, i).end;
         if original_end > bytes.len() || translation_end > bytes.len() {
             return Err(MoError::StringOutside(i));
         }

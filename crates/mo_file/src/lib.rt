@@ -13,6 +13,8 @@ mod key;
 mod laws;
 mod pairs;
 mod strings;
+#[cfg(test)]
+mod tests;
 mod view;
 mod writing;
 

@@ -3,14 +3,17 @@ ghost use Rattle.mo_file.specs.Layout.{header, table, terminated};
 ghost use Rattle.mo_file.specs.Pairs.{strings_of};
 
 use crate::byte_order::{BIG_MAGIC, LITTLE_MAGIC, Order, push_word};
+use crate::header::{ENTRY_LEN, HEADER_LEN};
 use crate::pairs::{Pair, Part};
 use std::alloc::AllocError;
 
-/// The length of a header, and so the place of the table of the originals.
-pub(crate) const HEADER_LEN: u32 = 28;
-
-/// The length of what a table has for one string.
-const ENTRY_LEN: u32 = 8;
+/// Where the originals begin in a file of so many messages: behind the header and both tables.
+pub(crate) fn originals_place(count: u32) -> u32
+    requires { 28 + 16 * count < 2 ^ 32 }
+    ensures { result ≡ 28 + 16 * count }
+{
+    HEADER_LEN + 2 * ENTRY_LEN * count
+}
 
 /// Appends the header of a file of so many messages.
 pub(crate) fn push_header(out: &mut Vec<u8>, order: Order, count: u32) -> Result<(), AllocError>
@@ -27,7 +30,7 @@ pub(crate) fn push_header(out: &mut Vec<u8>, order: Order, count: u32) -> Result
     push_word(out, order, HEADER_LEN)?;
     push_word(out, order, HEADER_LEN + ENTRY_LEN * count)?;
     push_word(out, order, 0)?;
-    push_word(out, order, HEADER_LEN + 2 * ENTRY_LEN * count)
+    push_word(out, order, originals_place(count))
 }
 
 /// Appends the table of strings of which the first is to stand at a place, and gives the place behind
