@@ -1,0 +1,4 @@
+pub mod TextLemmas
+pub mod FindLemmas
+pub mod MeaningLemmas
+pub mod SortLemmas

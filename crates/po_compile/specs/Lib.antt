@@ -1,0 +1,5 @@
+pub mod CompiledList
+pub mod CompiledMessages
+pub mod Meaning
+pub mod Compiling
+pub mod Headline
