@@ -19,6 +19,8 @@ mod view_keys;
 pub use answer::Answer;
 pub use catalog::Catalog;
 pub use chain::{Chain, ChainAnswer};
-pub use laws::{bound_halves, bound_is_logarithm, each_key_finds_its_translation, other_keys_find_none};
+pub use laws::{
+    bound_halves, bound_is_logarithm, each_key_finds_its_translation, other_keys_find_none,
+};
 pub use plural_rule::{Reason, Rule, Source};
-pub use search::{find, Keys};
+pub use search::{Keys, find};

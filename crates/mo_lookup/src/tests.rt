@@ -10,13 +10,14 @@ use std::test::Fail;
 
 /// The file of an empty list of messages.
 const EMPTY: [u8; 28] = [
-    0xde, 0x12, 0x04, 0x95, 0, 0, 0, 0, 0, 0, 0, 0, 0x1c, 0, 0, 0, 0x1c, 0, 0, 0, 0, 0, 0, 0, 0x1c, 0, 0, 0,
+    0xde, 0x12, 0x04, 0x95, 0, 0, 0, 0, 0, 0, 0, 0, 0x1c, 0, 0, 0, 0x1c, 0, 0, 0, 0, 0, 0, 0, 0x1c,
+    0, 0, 0,
 ];
 
 /// The file of the message `a`, translated as `b`.
 const ONE: [u8; 48] = [
-    0xde, 0x12, 0x04, 0x95, 0, 0, 0, 0, 1, 0, 0, 0, 0x1c, 0, 0, 0, 0x24, 0, 0, 0, 0, 0, 0, 0, 0x2c, 0, 0, 0, 1, 0, 0, 0,
-    0x2c, 0, 0, 0, 1, 0, 0, 0, 0x2e, 0, 0, 0, b'a', 0, b'b', 0,
+    0xde, 0x12, 0x04, 0x95, 0, 0, 0, 0, 1, 0, 0, 0, 0x1c, 0, 0, 0, 0x24, 0, 0, 0, 0, 0, 0, 0, 0x2c,
+    0, 0, 0, 1, 0, 0, 0, 0x2c, 0, 0, 0, 1, 0, 0, 0, 0x2e, 0, 0, 0, b'a', 0, b'b', 0,
 ];
 
 /// The bytes of a file with these originals and translations, in rising order of their keys.
@@ -158,7 +159,10 @@ fn a_context_ends_at_eot(rt: HostRuntime) -> Result<(), Fail> {
 
 #[test]
 fn form_zero_stands_in_for_a_form_that_is_not_there(rt: HostRuntime) -> Result<(), Fail> {
-    let bytes = file(rt.alloc(), &[(b"", b"nplurals=3; plural=n;"), (b"f\0fs", b"a\0")])?;
+    let bytes = file(
+        rt.alloc(),
+        &[(b"", b"nplurals=3; plural=n;"), (b"f\0fs", b"a\0")],
+    )?;
     let catalog = Catalog::open(bytes.as_slice(), &mut Meter::new())?;
     assert!(rt; catalog.rule().source() == Source::Header);
     for (count, text) in [(0, b"a".as_slice()), (1, b""), (2, b"a"), (3, b"a")] {
@@ -168,11 +172,18 @@ fn form_zero_stands_in_for_a_form_that_is_not_there(rt: HostRuntime) -> Result<(
         assert_eq!(rt; answer.steps, 1);
     }
 
-    let bytes = file(rt.alloc(), &[(b"", b"nplurals=0; plural=0;"), (b"f\0fs", b"a\0b")])?;
+    let bytes = file(
+        rt.alloc(),
+        &[(b"", b"nplurals=0; plural=0;"), (b"f\0fs", b"a\0b")],
+    )?;
     let catalog = Catalog::open(bytes.as_slice(), &mut Meter::new())?;
     assert!(rt; catalog.rule().source() == Source::Header);
     for count in [0, 1, 2] {
-        assert_eq!(rt; look_plural(&catalog, count).text, b"a".as_slice(), "at {count}");
+        assert_eq!(rt;
+            look_plural(&catalog, count).text,
+            b"a".as_slice(),
+            "at {count}"
+        );
     }
     Ok(())
 }
@@ -180,7 +191,10 @@ fn form_zero_stands_in_for_a_form_that_is_not_there(rt: HostRuntime) -> Result<(
 #[test]
 fn a_chain_asks_up_to_the_first_that_has_the_message(rt: HostRuntime) -> Result<(), Fail> {
     let second = file(rt.alloc(), &[(b"a", b"1"), (b"b", b"2")])?;
-    let third = file(rt.alloc(), &[(b"", b"nplurals=3; plural=n;"), (b"f\0fs", b"0\x001\x002")])?;
+    let third = file(
+        rt.alloc(),
+        &[(b"", b"nplurals=3; plural=n;"), (b"f\0fs", b"0\x001\x002")],
+    )?;
     let members = [
         Catalog::open(&ONE, &mut Meter::new())?,
         Catalog::open(second.as_slice(), &mut Meter::new())?,

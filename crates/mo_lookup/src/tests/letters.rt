@@ -26,7 +26,7 @@ impl Letters {
 }
 
 impl Keys for Letters {
-    ghost listed = { λ keys. map (λ i. 98 + 2 * i ∷ []) (range_with_len 0 keys.many) };
+    ghost listed = { λ keys. map (λ i. (98 + 2 * i) ∷ []) (range_with_len 0 keys.many) };
 
     ghost counted = { λ keys. keys.compared };
 
