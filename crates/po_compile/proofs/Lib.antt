@@ -2,3 +2,4 @@ pub mod TextLemmas
 pub mod FindLemmas
 pub mod MeaningLemmas
 pub mod SortLemmas
+pub mod ReadingLemmas

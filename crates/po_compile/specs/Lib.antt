@@ -2,4 +2,5 @@ pub mod CompiledList
 pub mod CompiledMessages
 pub mod Meaning
 pub mod Compiling
+pub mod Accepted
 pub mod Headline

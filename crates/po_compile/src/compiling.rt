@@ -1,20 +1,51 @@
 ghost use Rattle.std.specs.Prelude.{◌≡◌, ◌<◌, ◌^◌, length, All, MatchResult, IfOk, OnOk};
 ghost use Rattle.mo_file.specs.Pairs.{messages_of_pairs};
+ghost use Rattle.po_entry.specs.TextEntry.{slice_texts};
 ghost use Rattle.po_entry.specs.Validity.{IsCatalogueEntry};
 ghost use Rattle.po_catalog.specs.Joined.{joined_entries};
 ghost use Rattle.po_catalog.specs.Duplicate.{HasNoDuplicate};
 ghost use Rattle.po_catalog.specs.Statistics.{stats_of};
+ghost use Rattle.po_compile.specs.Accepted.{AreCompiled, IsCompileFault, IsTextCompiled, IsTextCompileFault};
 ghost use Rattle.po_compile.specs.CompiledList.{compiled_list};
 ghost use Rattle.po_compile.specs.CompiledMessages.{messages_of_entries};
 ghost use Rattle.po_compile.specs.Compiling.{IsCompiled, IsLayoutFault, layout_error};
 
 use crate::messages::{messages_of, sort_messages};
 use crate::options::{Compiled, Options};
+use crate::reading::{read_all, read_distinct};
 use mo_file::{BuildError, Pair, build};
 use po_catalog::{JoinError, Stats, joined, joined_statistics};
 use po_entry::Catalogue;
 use po_syntax::{PoError, PoFault};
 use std::alloc::{AllocError, Global};
+
+/// Compiles PO texts to one MO file. An empty list of texts is compiled as one empty text is.
+///
+/// Refused, input by input, with the fault of `read`, then of `duplicates`; then with that of `joined_duplicates`;
+/// then with `TooLarge`, at line 0 of input 0, where the file would have more than 4,294,967,295 bytes.
+/// `OutOfMemory`, at line 0 of input 0, may come in place of any answer.
+pub fn compile_all(alloc: Global, texts: &[&[u8]], options: Options) -> Result<Compiled, JoinError>
+    requires { length texts.now < 2 ^ 32 }
+    ensures { MatchResult result (AreCompiled options (slice_texts texts.now)) (IsCompileFault options (slice_texts texts.now)) }
+{
+    let catalogues = read_all(alloc, texts)?;
+    compile_catalogues(alloc, catalogues, options)
+}
+
+/// Compiles a PO text to an MO file. Refused with the fault of `read`, then of `duplicates`; then with `TooLarge`, at
+/// line 0, where the file would have more than 4,294,967,295 bytes. `OutOfMemory`, at line 0, may come in place of
+/// any answer.
+pub fn compile(alloc: Global, text: &[u8], options: Options) -> Result<Compiled, PoError>
+    ensures { MatchResult result (IsTextCompiled options text.now) (IsTextCompileFault options text.now) }
+{
+    let catalogue = read_distinct(alloc, text)?;
+    let mut catalogues = Vec::with_capacity(alloc, 1)?;
+    catalogues.push(catalogue)?;
+    match compile_catalogues(alloc, catalogues, options) {
+        Ok(compiled) => Ok(compiled),
+        Err(error) => Err(error.error),
+    }
+}
 
 /// Compiles the joined list of catalogues, in which `joined_duplicates` finds none. It gives the catalogues up,
 /// so that their memory is free before the file is laid out. Refused with `TooLarge`, at line 0 of input 0, where

@@ -5,6 +5,8 @@ mod compiling;
 pub mod laws;
 mod messages;
 mod options;
+mod reading;
 
-pub use crate::compiling::compile_catalogues;
+pub use crate::compiling::{compile, compile_all, compile_catalogues};
 pub use crate::options::{Compiled, Options};
+pub use crate::reading::read_all;
