@@ -43,18 +43,21 @@ rising_apart ks rising i (suc gap) inside =
     let e : i + 1 + suc gap ≡ i + 1 + gap + 1 = omega arith in
     rw e (nat_list_cmp_total.trans (key_at ks i) (key_at ks (i + 1 + gap)) (key_at ks (i + 1 + gap + 1)) (rising_apart ks rising i gap (omega arith)) (rising.next (i + 1 + gap) (omega arith)))
 
+pub rising_below : (ks : List (List ℕ)) → AreRising ks → (i j : ℕ) → i < j → j < length ks → key_cmp (key_at ks i) (key_at ks j) ≡ Less
+rising_below ks rising i j below inside =
+    let e : i + 1 + (j - (i + 1)) ≡ j = omega arith in
+    subst (λ k. key_cmp (key_at ks i) (key_at ks k) ≡ Less) e (rising_apart ks rising i (j - (i + 1)) (omega arith))
+
 rising_differ : (ks : List (List ℕ)) → AreRising ks → (i j : ℕ) → i < j → j < length ks → key_at ks i ≢ key_at ks j
 rising_differ ks rising i j below inside same =
-    let e : i + 1 + (j - (i + 1)) ≡ j = omega arith in
-    let less : key_cmp (key_at ks i) (key_at ks j) ≡ Less = subst (λ k. key_cmp (key_at ks i) (key_at ks k) ≡ Less) e (rising_apart ks rising i (j - (i + 1)) (omega arith)) in
-    let less' : key_cmp (key_at ks j) (key_at ks j) ≡ Less = subst (λ k. key_cmp k (key_at ks j) ≡ Less) same less in
+    let less : key_cmp (key_at ks j) (key_at ks j) ≡ Less = subst (λ k. key_cmp k (key_at ks j) ≡ Less) same (rising_below ks rising i j below inside) in
     let equal : key_cmp (key_at ks j) (key_at ks j) ≡ Equal = tied_itself nat_list_cmp_total (key_at ks j) in
     cc
 
 one_place : (ks : List (List ℕ)) → AreRising ks → (i j : ℕ) → i < length ks → j < length ks → key_at ks i ≡ key_at ks j → i ≡ j
 one_place ks rising i j a b same =
     ⊎_elim (λ below. absurd (rising_differ ks rising i j below b same))
-      (λ above. ⊎_elim (λ below. absurd (rising_differ ks rising j i below a (sym same))) (λ le. omega arith) (cases_lt j i)) (cases_lt i j)
+    (λ above. ⊎_elim (λ below. absurd (rising_differ ks rising j i below a (sym same))) (λ le. omega arith) (cases_lt j i)) (cases_lt i j)
 
 key_at_place : (messages : List Message) (i : ℕ) (m : Message) → i < length messages → get_or messages i m ≡ m → key_at (keys messages) i ≡ key_of m.original
 key_at_place messages i m inside is =
@@ -67,7 +70,7 @@ pub one_message : (messages : List Message) → AreRising (keys messages) → (m
 one_message messages rising m n at_m at_n same =
     let long : length (keys messages) ≡ length messages = length-map messages (λ (m : Message). key_of m.original) in
     let place : at_m.0 ≡ at_n.0 = one_place (keys messages) rising at_m.0 at_n.0 (omega (arith, at_m.1)) (omega (arith, at_n.1))
-        (key_at_place messages at_m.0 m at_m.1 at_m.2 ∙ same ∙ sym (key_at_place messages at_n.0 n at_n.1 at_n.2)) in
+    (key_at_place messages at_m.0 m at_m.1 at_m.2 ∙ same ∙ sym (key_at_place messages at_n.0 n at_n.1 at_n.2)) in
     sym at_m.2 ∙ ap (λ i. get_or messages i m) place ∙ get_or_default messages at_n.0 m n at_n.1 ∙ at_n.2
 
 abbrev pub has_key : List ℕ → Message → Bool

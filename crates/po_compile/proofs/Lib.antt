@@ -3,3 +3,4 @@ pub mod FindLemmas
 pub mod MeaningLemmas
 pub mod SortLemmas
 pub mod ReadingLemmas
+pub mod OneListLemmas

@@ -59,7 +59,7 @@ clean_entry entry valid =
       id_nul = All-head NoNul entry.id [] (All-right NoNul (before_context ++ context) id to_id);
       id_eot = valid.id;
       forms_nul = All-right NoNul (((before_context ++ context) ++ id) ++ plural) entry.forms all;
-      some_form = valid.some_form
+      some_form = valid.some_form;
     }
 
 pub key_of-original : (entry : TextEntry) → IsClean entry → key_of (original_of entry) ≡ query_key entry.context entry.id
@@ -113,11 +113,11 @@ same_test context id clean entry c =
     let parts = both (is_clean (unwrap_or context [])) (is_clean id) clean in
     let key = key_of-original entry c in
     one_answer (has_key (query_key context id) (message_of entry)) (is_message context id entry)
-      (bytes_eq-Decides (key_of (original_of entry)) (query_key context id))
-      (Decides-like (is_message context id entry)
-        (λ e. key ∙ ap (λ c. query_key c entry.id) e.0 ∙ ap (query_key context) e.1)
-        (λ e. query_key_is_one entry.context context entry.id id c.context_eot (clean_context context parts.0) c.id_eot (clean_text id parts.1) (sym key ∙ e))
-        (Decides-and (option_eq bytes_eq entry.context context) (bytes_eq entry.id id) (option_decides entry.context context) (bytes_eq-Decides entry.id id)))
+    (bytes_eq-Decides (key_of (original_of entry)) (query_key context id))
+    (Decides-like (is_message context id entry)
+    (λ e. key ∙ ap (λ c. query_key c entry.id) e.0 ∙ ap (query_key context) e.1)
+    (λ e. query_key_is_one entry.context context entry.id id c.context_eot (clean_context context parts.0) c.id_eot (clean_text id parts.1) (sym key ∙ e))
+    (Decides-and (option_eq bytes_eq entry.context context) (bytes_eq entry.id id) (option_decides entry.context context) (bytes_eq-Decides entry.id id)))
 
 found_message : (b : Bool) (entry : TextEntry) (rest : Option TextEntry) → cond b (Some (message_of entry)) (option_map message_of rest) ≡ option_map message_of (cond b (Some entry) rest)
 found_message true entry rest = refl
@@ -139,7 +139,7 @@ translation_of_definition : (entries : List TextEntry) (messages : List Message)
     → translation_under (query_key context id) messages ≡ option_map translation_of (find (is_message context id) entries)
 translation_of_definition entries messages all are context id clean =
     ap (option_map (λ (m : Message). m.translation))
-      (find_permuted (query_key context id) (messages_of_entries entries) messages are.all are.rising ∙ find_messages context id clean entries all)
+    (find_permuted (query_key context id) (messages_of_entries entries) messages are.all are.rising ∙ find_messages context id clean entries all)
     ∙ once_more (find (is_message context id) entries)
   where
     once_more : (e : Option TextEntry) → option_map (λ (m : Message). m.translation) (option_map message_of e) ≡ option_map translation_of e
@@ -166,7 +166,7 @@ header_of_found entries test all (Some e) is =
 found_if_clean : (entries : List TextEntry) (messages : List Message) → All IsClean entries → AreMessagesOf entries messages
     → (query : Query) (b : Bool) → is_clean_key query.context query.id ≡ b
     → cond b (option_map forms (translation_under (query_key query.context query.id) messages)) None
-        ≡ option_map (λ (e : TextEntry). e.forms) (cond b (find (is_message query.context query.id) entries) None)
+    ≡ option_map (λ (e : TextEntry). e.forms) (cond b (find (is_message query.context query.id) entries) None)
 found_if_clean entries messages all are query true clean =
     ap (option_map forms) (translation_of_definition entries messages all are query.context query.id clean)
     ∙ forms_of_found entries (is_message query.context query.id) all (find (is_message query.context query.id) entries) refl
@@ -182,5 +182,5 @@ mean_entries entries messages valid are =
     let all : All IsClean entries = All-weaker IsEntry IsClean clean_entry entries valid in
     record {
       rule = λ rule contents. subst (λ text. IsRuleOf expression_limit text rule) (header_text_is entries messages all are) contents.rule_of_header;
-      answers = λ rule query. ap (λ found. answer found rule query) (found_if_clean entries messages all are query (is_clean_key query.context query.id) refl)
+      answers = λ rule query. ap (λ found. answer found rule query) (found_if_clean entries messages all are query (is_clean_key query.context query.id) refl);
     }

@@ -64,13 +64,20 @@ module _ (texts : List (Bor (List ℕ))) (i : ℕ) (text : Bor (List ℕ)) (insi
       → (error ≡ entry_memory) ⊎ ((error.kind ≢ OutOfMemory) × IsTextFault text.now error) → IsReadingFault (slice_texts texts) (fault_of_input i error)
   refused_input catalogues error each why =
       ⊎_elim (λ memory. inl (ap (fault_of_input i) memory))
-        (λ fault.
-          let input = input_of_fault i error.kind fault.0 in
-          let long : i ≡ length (slice_texts (take i texts)) = omega (arith, length-take i texts, length-map (take i texts) (λ (s : Bor (List ℕ)). s.now)) in
-          inr (inl (record {
-            before = slice_texts (take i texts); text = text.now; after = slice_texts (drop (suc i) texts); order = split_texts;
-            catalogues = catalogues; faultless = each; input = input ∙ long; first_input = input ∙ long; fault = fault.1
-          }))) why
+      (λ fault.
+      let input = input_of_fault i error.kind fault.0 in
+      let long : i ≡ length (slice_texts (take i texts)) = omega (arith, length-take i texts, length-map (take i texts) (λ (s : Bor (List ℕ)). s.now)) in
+      inr (inl (record {
+        before = slice_texts (take i texts);
+        text = text.now;
+        after = slice_texts (drop (suc i) texts);
+        order = split_texts;
+        catalogues = catalogues;
+        faultless = each;
+        input = input ∙ long;
+        first_input = input ∙ long;
+        fault = fault.1;
+      }))) why
 
 pub read_few : (texts : List (Bor (List ℕ))) (i : ℕ) (catalogues : List (List TextEntry)) → AllZip ReadsDistinct (slice_texts (take i texts)) catalogues → length catalogues ≤ length texts
 read_few texts i catalogues each =
@@ -85,7 +92,7 @@ pub joined_refused : (texts : List (List ℕ)) (catalogues : List (List TextEntr
     → IsDuplicateFault (joined catalogues) error → IsReadingFault texts error
 joined_refused texts catalogues error each fault =
     ⊎_elim (λ memory. inl memory)
-      (λ found. inr (inr (record { catalogues = catalogues; each = each; first = found.0; later = found.1; duplicate = found.2; error_is = found.3 }))) fault
+    (λ found. inr (inr (record { catalogues = catalogues; each = each; first = found.0; later = found.1; duplicate = found.2; error_is = found.3 }))) fault
 
 -- as many catalogues as texts
 pub read_count : (texts : List (Bor (List ℕ))) (catalogues : List (List TextEntry)) → AllZip ReadsDistinct (slice_texts texts) catalogues → length texts ≡ length catalogues
@@ -105,6 +112,9 @@ pub text_refused : (options : Options) (text : List ℕ) (entries : List TextEnt
     → IsLayoutFault options (joined_entries (entries ∷ [])) error → IsTextCompileFault options text error.error
 text_refused options text entries error read fault =
     ⊎_elim (λ memory. inl (ap (λ (e : JoinError). e.error) memory))
-      (λ large. inr (inr (record {
-        entries = entries; read = read; large = subst (HasLargeLayout options) (joined_one entries) large.1; error_is = ap (λ (e : JoinError). e.error) large.0
-      }))) fault
+    (λ large. inr (inr (record {
+      entries = entries;
+      read = read;
+      large = subst (HasLargeLayout options) (joined_one entries) large.1;
+      error_is = ap (λ (e : JoinError). e.error) large.0;
+    }))) fault

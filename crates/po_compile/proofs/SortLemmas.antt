@@ -51,12 +51,12 @@ record IsKeyed (m : Message) : Type 0 where
 
 keyed : (entry : TextEntry) → IsClean entry → IsKeyed (message_of entry)
 keyed entry clean = record {
-    key = query_key entry.context entry.id;
-    plural = entry.plural;
-    is = refl;
-    no_nul = query_key_lacks entry.context entry.id clean.context_nul clean.id_nul;
-    key_is = key_of-original entry clean
-  }
+  key = query_key entry.context entry.id;
+  plural = entry.plural;
+  is = refl;
+  no_nul = query_key_lacks entry.context entry.id clean.context_nul clean.id_nul;
+  key_is = key_of-original entry clean;
+}
 
 zero_below : (b : ℕ) → b ≢ 0 → nat_cmp 0 b ≡ Less
 zero_below b h = by_order (nat_cmp 0 b) refl
@@ -98,8 +98,8 @@ keys_rise : (a b : Message) → IsKeyed a → IsKeyed b → key_of a.original �
 keys_rise a b ka kb apart up =
     let apart' : kb.key ≢ ka.key = λ e. apart (ka.key_is ∙ sym e ∙ sym kb.key_is) in
     let stand : key_cmp b.original a.original ≡ key_cmp kb.key ka.key =
-        ap (λ x. key_cmp x a.original) kb.is ∙ ap (λ x. key_cmp (kb.key ++ plural_part kb.plural) x) ka.is
-        ∙ originals_stand kb.key ka.key kb.plural ka.plural kb.no_nul ka.no_nul apart' in
+    ap (λ x. key_cmp x a.original) kb.is ∙ ap (λ x. key_cmp (kb.key ++ plural_part kb.plural) x) ka.is
+    ∙ originals_stand kb.key ka.key kb.plural ka.plural kb.no_nul ka.no_nul apart' in
     let greater = not_less_nor_equal (key_cmp kb.key ka.key) (ap is_lt (sym stand) ∙ up) (λ e. apart' (exact_bytes kb.key ka.key e)) in
     ap (λ x. key_cmp x (key_of b.original)) ka.key_is ∙ ap (key_cmp ka.key) kb.key_is
     ∙ nat_list_cmp_total.antisymm ka.key kb.key ∙ ap ordering_reverse greater
@@ -108,7 +108,7 @@ keys_rise a b ka kb apart up =
 keys_differ : (e f : TextEntry) → IsClean e → IsClean f → ¬ IsSameMessage e f → key_of (original_of e) ≢ key_of (original_of f)
 keys_differ e f ce cf apart same =
     apart (query_key_is_one e.context f.context e.id f.id ce.context_eot cf.context_eot ce.id_eot cf.id_eot
-      (sym (key_of-original e ce) ∙ same ∙ key_of-original f cf))
+    (sym (key_of-original e ce) ∙ same ∙ key_of-original f cf))
 
 distinct_keys : (entries : List TextEntry) → All IsClean entries → AllDiffer entries → AllPairs (λ x y. x ≢ y) (keys (messages_of_entries entries))
 distinct_keys [] clean differ = λ i j d below inside. absurd (omega arith)
@@ -116,9 +116,9 @@ distinct_keys (entry ∷ entries) clean differ =
     let key : Message → List ℕ = λ m. key_of m.original in
     let others = distinct_keys entries (All-tail IsClean entry entries clean) (λ i j d below inside. differ (suc i) (suc j) d (omega arith) (omega arith)) in
     let apart : All (λ f. key_of (original_of entry) ≢ key_of (original_of f)) entries =
-        λ k d inside. keys_differ entry (get_or entries k d) (All-head IsClean entry entries clean) (clean (suc k) d (omega arith)) (differ zero (suc k) d (omega arith) (omega arith)) in
+    λ k d inside. keys_differ entry (get_or entries k d) (All-head IsClean entry entries clean) (clean (suc k) d (omega arith)) (differ zero (suc k) d (omega arith) (omega arith)) in
     AllPairs-cons (λ x y. x ≢ y) (key_of (original_of entry)) (keys (messages_of_entries entries))
-      (All-map (λ y. key_of (original_of entry) ≢ y) key (messages_of_entries entries) (All-map (λ m. key_of (original_of entry) ≢ key m) message_of entries apart)) others
+    (All-map (λ y. key_of (original_of entry) ≢ y) key (messages_of_entries entries) (All-map (λ m. key_of (original_of entry) ≢ key m) message_of entries apart)) others
 
 first_pair : (pairs : List Pair) → 0 < length pairs → Pair
 first_pair [] some = absurd (omega arith)
@@ -136,25 +136,30 @@ pub sorted_messages : (entries : List TextEntry) (before after : List Pair) → 
     → IsSortedBy (λ (a b : Pair). is_lt (key_cmp a.original.items b.original.items)) after → AreMessagesOf entries (messages_of_pairs after)
 sorted_messages entries before after clean differ is permuted sorted =
     let all : IsPermutation (messages_of_entries entries) (messages_of_pairs after) =
-        subst (λ ms. IsPermutation ms (messages_of_pairs after)) is (IsPermutation-map message before after permuted) in
+    subst (λ ms. IsPermutation ms (messages_of_pairs after)) is (IsPermutation-map message before after permuted) in
     let key : Message → List ℕ = λ m. key_of m.original in
     let distinct = AllPairs-from_IsDistinct bytes_eq-Decides (keys (messages_of_pairs after))
-        (IsDistinct-IsPermutation bytes_eq nat_list_eq_equiv.symm (keys (messages_of_entries entries)) (keys (messages_of_pairs after))
-          (IsPermutation-map key (messages_of_entries entries) (messages_of_pairs after) all)
-          (IsDistinct-from_AllPairs bytes_eq-Decides (keys (messages_of_entries entries)) (distinct_keys entries clean differ))) in
+    (IsDistinct-IsPermutation bytes_eq nat_list_eq_equiv.symm (keys (messages_of_entries entries)) (keys (messages_of_pairs after))
+    (IsPermutation-map key (messages_of_entries entries) (messages_of_pairs after) all)
+    (IsDistinct-from_AllPairs bytes_eq-Decides (keys (messages_of_entries entries)) (distinct_keys entries clean differ))) in
     let keyed_all : All IsKeyed (messages_of_pairs after) =
-        All-permutation IsKeyed (messages_of_entries entries) (messages_of_pairs after) all (All-map IsKeyed message_of entries (All-weaker IsClean (λ e. IsKeyed (message_of e)) keyed entries clean)) in
-    record { all = all; rising = record { next = λ i inside.
-      let long = length-map (messages_of_pairs after) key in
-      let long' = length-map after message in
-      let x = first_pair after (omega (arith, long, long')) in
-      let here = key_at_pair after i x (omega (arith, long, long')) in
-      let next = key_at_pair after (i + 1) x (omega (arith, long, long')) in
-      let keyed_here = subst IsKeyed (get_or-map message after i x) (keyed_all i (message x) (omega (arith, long))) in
-      let keyed_next = subst IsKeyed (get_or-map message after (i + 1) x) (keyed_all (i + 1) (message x) (omega (arith, long))) in
-      let apart = distinct i (i + 1) [] (omega arith) inside in
-      let rise = keys_rise (message (get_or after i x)) (message (get_or after (i + 1) x)) keyed_here keyed_next (λ e. apart (here ∙ e ∙ sym next)) (sorted i x (omega arith) (omega (arith, long, long'))) in
-      ap (λ k. key_cmp k (key_at (keys (messages_of_pairs after)) (i + 1))) here ∙ ap (key_cmp (key_of (get_or after i x).original.items)) next ∙ rise } }
+    All-permutation IsKeyed (messages_of_entries entries) (messages_of_pairs after) all (All-map IsKeyed message_of entries (All-weaker IsClean (λ e. IsKeyed (message_of e)) keyed entries clean)) in
+    record {
+      all = all;
+      rising = record {
+        next = λ i inside.
+            let long = length-map (messages_of_pairs after) key in
+            let long' = length-map after message in
+            let x = first_pair after (omega (arith, long, long')) in
+            let here = key_at_pair after i x (omega (arith, long, long')) in
+            let next = key_at_pair after (i + 1) x (omega (arith, long, long')) in
+            let keyed_here = subst IsKeyed (get_or-map message after i x) (keyed_all i (message x) (omega (arith, long))) in
+            let keyed_next = subst IsKeyed (get_or-map message after (i + 1) x) (keyed_all (i + 1) (message x) (omega (arith, long))) in
+            let apart = distinct i (i + 1) [] (omega arith) inside in
+            let rise = keys_rise (message (get_or after i x)) (message (get_or after (i + 1) x)) keyed_here keyed_next (λ e. apart (here ∙ e ∙ sym next)) (sorted i x (omega arith) (omega (arith, long, long'))) in
+            ap (λ k. key_cmp k (key_at (keys (messages_of_pairs after)) (i + 1))) here ∙ ap (key_cmp (key_of (get_or after i x).original.items)) next ∙ rise;
+      };
+    }
 
 filter_both : (p q : TextEntry → Bool) (a b : Bool) (x : TextEntry) (xs : List TextEntry) → p x ≡ a → q x ≡ b
     → cond (a && b) (x ∷ filter q (filter p xs)) (filter q (filter p xs)) ≡ filter q (cond a (x ∷ filter p xs) (filter p xs))
@@ -171,7 +176,7 @@ pub compiled_differ : (use_fuzzy : Bool) (entries : List TextEntry) → HasNoDup
 compiled_differ use_fuzzy entries none =
     let wanted : TextEntry → Bool = λ e. has_translation e && (use_fuzzy || not e.fuzzy || is_header e) in
     subst AllDiffer (sym (filter_twice is_live wanted entries))
-      (AllPairs-filter (λ a b. ¬ IsSameMessage a b) wanted (filter is_live entries) none)
+    (AllPairs-filter (λ a b. ¬ IsSameMessage a b) wanted (filter is_live entries) none)
 
 pub compiled_valid : (use_fuzzy : Bool) (entries : List TextEntry) → All IsCatalogueEntry entries → All IsEntry (compiled_list use_fuzzy entries)
 compiled_valid use_fuzzy entries valid =
@@ -186,12 +191,11 @@ terminated_long (s ∷ strings) =
 pub count_below_layout : (order : Order) (messages : List Message) → length messages ≤ length (layout order messages)
 count_below_layout order messages =
     let front = header order (length messages) ++ table order (originals_place messages) (originals messages)
-        ++ table order (translations_place messages) (translations messages) in
+    ++ table order (translations_place messages) (translations messages) in
     let long = length-append (front ++ terminated (originals messages)) (terminated (translations messages)) in
     let long' = length-append front (terminated (originals messages)) in
     let original : Message → List ℕ = λ m. m.original in
     omega (arith, long, long', terminated_long (originals messages), length-map messages original)
-
 
 -- the sorted messages of a list that holds valid entries and no duplicate
 pub compiled_messages : (use_fuzzy : Bool) (entries : List TextEntry) (before after : List Pair) → All IsCatalogueEntry entries → HasNoDuplicate entries
@@ -199,7 +203,7 @@ pub compiled_messages : (use_fuzzy : Bool) (entries : List TextEntry) (before af
     → IsSortedBy (λ (a b : Pair). is_lt (key_cmp a.original.items b.original.items)) after → AreMessagesOf (compiled_list use_fuzzy entries) (messages_of_pairs after)
 compiled_messages use_fuzzy entries before after valid none is permuted sorted =
     sorted_messages (compiled_list use_fuzzy entries) before after
-      (All-weaker IsEntry IsClean clean_entry (compiled_list use_fuzzy entries) (compiled_valid use_fuzzy entries valid)) (compiled_differ use_fuzzy entries none) is permuted sorted
+    (All-weaker IsEntry IsClean clean_entry (compiled_list use_fuzzy entries) (compiled_valid use_fuzzy entries valid)) (compiled_differ use_fuzzy entries none) is permuted sorted
 
 -- the faults of a file that isn't built of sorted messages
 pub layout_refused : (options : Options) (entries : List TextEntry) (messages : List Message) → AreMessagesOf (compiled_list options.use_fuzzy entries) messages

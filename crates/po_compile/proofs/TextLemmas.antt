@@ -21,8 +21,8 @@ no_nul b h = false_from_ne_true (is_nul b) (λ e. h ((Decides-eqb b 0).0 e))
 front_of_key : (key rest : List ℕ) → Lacks 0 key → ((length key < length (key ++ rest)) → is_nul (get_or (key ++ rest) (length key) 0) ≡ true) → key_of (key ++ rest) ≡ key
 front_of_key key rest lacks ends =
     let at : position_or_len is_nul (key ++ rest) ≡ length key =
-        position_or_len_is is_nul (key ++ rest) (length key) 0 (omega (arith, length-append key rest))
-        (λ k inside. ap is_nul (get_or_append_left key rest 0 k inside) ∙ no_nul (get_or key k 0) (lacks k 0 inside)) ends in
+    position_or_len_is is_nul (key ++ rest) (length key) 0 (omega (arith, length-append key rest))
+    (λ k inside. ap is_nul (get_or_append_left key rest 0 k inside) ∙ no_nul (get_or key k 0) (lacks k 0 inside)) ends in
     ap (λ n. take n (key ++ rest)) at ∙ take-append_seam key rest
 
 pub key_of-plural_part : (key : List ℕ) (plural : Option (List ℕ)) → Lacks 0 key → key_of (key ++ plural_part plural) ≡ key
@@ -78,5 +78,5 @@ pub join_more : (form : List ℕ) (forms : List (Vec ℕ)) (i : ℕ) (next : Vec
 join_more form forms i next inside is =
     let items : Vec ℕ → List ℕ = λ v. v.items in
     let more : texts (take (i + 1) forms) ≡ texts (take i forms) ++ next.items ∷ [] =
-        ap texts (take_more forms i next inside) ∙ map-append items (take i forms) (get_or forms i next ∷ []) ∙ ap (λ (v : Vec ℕ). texts (take i forms) ++ v.items ∷ []) (sym is) in
+    ap texts (take_more forms i next inside) ∙ map-append items (take i forms) (get_or forms i next ∷ []) ∙ ap (λ (v : Vec ℕ). texts (take i forms) ++ v.items ∷ []) (sym is) in
     ap (λ l. join_with_byte 0 (form ∷ l)) more ∙ join-push form (texts (take i forms)) next.items

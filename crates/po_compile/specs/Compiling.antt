@@ -2,6 +2,7 @@
 use Rattle.std.specs.Prelude.{◌≡◌, ◌⊎◌, ◌^◌, ◌<◌, ◌≤◌, List, length}
 use Rattle.mo_file.specs.Message.{Message}
 use Rattle.mo_file.specs.Layout.{layout}
+use Rattle.mo_file.specs.Catalog.{IsCatalog}
 use Rattle.mo_file.specs.declared.building.BuildError.{BuildError}
 use Rattle.mo_file.specs.declared.building.BuildError.TheVariants.{TooLarge as Large, NotSorted, OutOfMemory as NoMemory}
 use Rattle.po_entry.specs.TextEntry.{TextEntry}
@@ -11,15 +12,19 @@ use Rattle.po_catalog.specs.Statistics.{stats_of}
 use Rattle.po_catalog.specs.declared.duplicate.JoinError.{JoinError}
 use Rattle.po_compile.specs.CompiledList.{compiled_list}
 use Rattle.po_compile.specs.CompiledMessages.{AreMessagesOf}
+use Rattle.po_compile.specs.Meaning.{MeansEntries}
 use Rattle.po_compile.specs.declared.options.Options.{Options}
 use Rattle.po_compile.specs.declared.options.Compiled.{Compiled}
 
--- the file is the layout of the compiled entries' messages; with it go their number and the statistics of all entries
+-- The file is the layout of the compiled entries' messages. It is valid, holds these messages, and answers each query as
+-- the entries do. With it go their number and the statistics of all entries.
 pub record IsCompiled (options : Options) (entries : List TextEntry) (compiled : Compiled) : Type 0 where
   pub messages : List Message
   pub are_messages : AreMessagesOf (compiled_list options.use_fuzzy entries) messages
   pub bytes : compiled.bytes.items ≡ layout options.order messages
   pub small : length (layout options.order messages) < 2 ^ 32
+  pub catalog : IsCatalog options.order compiled.bytes.items messages
+  pub means : MeansEntries (compiled_list options.use_fuzzy entries) messages
   pub count : compiled.n ≡ length (compiled_list options.use_fuzzy entries)
   pub stats : compiled.stats ≡ stats_of entries
 

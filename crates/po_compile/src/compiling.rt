@@ -10,10 +10,11 @@ ghost use Rattle.po_compile.specs.CompiledList.{compiled_list};
 ghost use Rattle.po_compile.specs.CompiledMessages.{messages_of_entries};
 ghost use Rattle.po_compile.specs.Compiling.{IsCompiled, IsLayoutFault, layout_error};
 
+use crate::laws::messages_mean_entries;
 use crate::messages::{messages_of, sort_messages};
 use crate::options::{Compiled, Options};
 use crate::reading::{read_all, read_distinct};
-use mo_file::{BuildError, Pair, build};
+use mo_file::{BuildError, Pair, build, layout_is_catalog};
 use po_catalog::{JoinError, Stats, joined, joined_statistics};
 use po_entry::Catalogue;
 use po_syntax::{PoError, PoFault};
@@ -62,6 +63,8 @@ pub fn compile_catalogues(
     let (mut pairs, stats) = messages_and_statistics(alloc, &catalogues, options.use_fuzzy)?;
     drop(catalogues);
     sort_messages(&mut pairs);
+    layout_is_catalog();
+    messages_mean_entries();
     match build(alloc, options.order, &pairs) {
         Ok(bytes) => Ok(Compiled {
             bytes,

@@ -12,7 +12,7 @@ ghost use Rattle.po_compile.specs.CompiledList.{is_compiled, compiled_list};
 ghost use Rattle.po_compile.specs.CompiledMessages.{plural_part, original_of, message_of, messages_of_entries};
 
 use mo_file::Pair;
-use po_catalog::{has_translation, JoinedEntry};
+use po_catalog::{JoinedEntry, has_translation};
 use po_entry::Entry;
 use std::alloc::{AllocError, Global};
 
@@ -20,7 +20,9 @@ use std::alloc::{AllocError, Global};
 fn is_compiled(entry: &Entry, use_fuzzy: bool) -> bool
     ensures { result ≡ is_compiled use_fuzzy entry.now }
 {
-    !entry.obsolete() && has_translation(entry) && (use_fuzzy || !entry.fuzzy() || entry.is_header())
+    !entry.obsolete()
+        && has_translation(entry)
+        && (use_fuzzy || !entry.fuzzy() || entry.is_header())
 }
 
 /// The messages of the entries that are compiled, in the order of the text.
@@ -63,7 +65,9 @@ fn message_of(alloc: Global, entry: &Entry) -> Result<Pair, AllocError>
 fn original_of(alloc: Global, entry: &Entry) -> Result<Vec<u8>, AllocError>
     ensures { IfOk result (λ original. original.items ≡ original_of entry.now) }
 {
-    let len = text_len(entry.context()).saturating_add(entry.id().len()).saturating_add(text_len(entry.plural()));
+    let len = text_len(entry.context())
+        .saturating_add(entry.id().len())
+        .saturating_add(text_len(entry.plural()));
     let mut original = Vec::with_capacity(alloc, len)?;
     push_key(&mut original, entry.context(), entry.id())?;
     push_plural(&mut original, entry.plural())?;

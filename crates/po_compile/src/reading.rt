@@ -3,7 +3,7 @@ ghost use Rattle.po_entry.specs.TextEntry.{slice_texts};
 ghost use Rattle.po_catalog.specs.Duplicate.{entry_memory};
 ghost use Rattle.po_compile.specs.Accepted.{AreRead, fault_of_input, IsReadingFault, IsTextFault, ReadsDistinct};
 
-use po_catalog::{duplicates, joined_duplicates, JoinError};
+use po_catalog::{JoinError, duplicates, joined_duplicates};
 use po_entry::Catalogue;
 use po_reader::read;
 use po_syntax::{PoError, PoFault};

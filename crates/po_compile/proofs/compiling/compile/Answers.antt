@@ -17,11 +17,11 @@ returns-in-Ok c =
     record {
       entries = c.in_ok-catalogue.catalogue;
       read = c.in_ok-catalogue.ensures;
-      is_compiled = subst (λ entries. IsCompiled c.args.options entries c.in-Ok.compiled) (ap joined_entries one ∙ joined_one c.in_ok-catalogue.catalogue) c.in-Ok.ensures
+      is_compiled = subst (λ entries. IsCompiled c.args.options entries c.in-Ok.compiled) (ap joined_entries one ∙ joined_one c.in_ok-catalogue.catalogue) c.in-Ok.ensures;
     }
 
 pub returns-in-Err : goal.returns-in-Err
 returns-in-Err c =
     let one = c.in_ok-push.ensures.items ∙ ap (λ cs. cs ++ c.in_ok-catalogue.catalogue ∷ []) c.in_ok-catalogues.ensures.items in
     text_refused c.args.options c.args.text.now c.in_ok-catalogue.catalogue c.in-Err.error c.in_ok-catalogue.ensures
-      (subst (λ cs. IsLayoutFault c.args.options (joined_entries cs) c.in-Err.error) one c.in-Err.ensures)
+    (subst (λ cs. IsLayoutFault c.args.options (joined_entries cs) c.in-Err.error) one c.in-Err.ensures)

@@ -17,7 +17,7 @@ loop-input-preserved c =
     let text = get_or texts c.loop-input.input none in
     let here = get_or_default texts c.loop-input.input none text c.loop-input-test.true in
     subst (AllZip ReadsDistinct (slice_texts (take (c.loop-input.input + 1) texts))) (sym c.in_ok-push-in-Ok.ensures.items)
-      (read_more texts c.loop-input.input text c.loop-input-test.true here c.loop-input.catalogues.items c.in-Ok.catalogue c.loop-input.invariant c.in-Ok.ensures)
+    (read_more texts c.loop-input.input text c.loop-input-test.true here c.loop-input.catalogues.items c.in-Ok.catalogue c.loop-input.invariant c.in-Ok.ensures)
 
 pub returns-in-Err : goal.returns-in-Err
 returns-in-Err c =
@@ -26,7 +26,7 @@ returns-in-Err c =
     let text = get_or texts c.loop-input.input none in
     let here = get_or_default texts c.loop-input.input none text c.loop-input-test.true in
     subst (IsReadingFault (slice_texts texts)) (sym c.fault_of_input.ensures)
-      (refused_input texts c.loop-input.input text c.loop-input-test.true here c.loop-input.catalogues.items c.in-Err.error c.loop-input.invariant c.in-Err.ensures)
+    (refused_input texts c.loop-input.input text c.loop-input-test.true here c.loop-input.catalogues.items c.in-Err.error c.loop-input.invariant c.in-Err.ensures)
 
 pub joined_duplicates-requires : goal.joined_duplicates-requires
 joined_duplicates-requires c =
@@ -39,6 +39,6 @@ returns-in_err-joined_duplicates c =
     let texts = c.args.texts.now in
     let all = read_to_end texts c.loop-input.input c.loop-input.catalogues.items c.loop-input-test.false c.loop-input.invariant in
     let refused = joined_refused (slice_texts texts) c.loop-input.catalogues.items c.in_err-joined_duplicates.field-0.0 all
-        (subst (λ cs. IsDuplicateFault (joined cs) c.in_err-joined_duplicates.field-0.0) c.deref.ensures.value c.in_err-joined_duplicates.ensures.exact) in
+    (subst (λ cs. IsDuplicateFault (joined cs) c.in_err-joined_duplicates.field-0.0) c.deref.ensures.value c.in_err-joined_duplicates.ensures.exact) in
     let p = err_from_is_err_and c.from_residual-in_err-joined_duplicates.result c.from_residual-in_err-joined_duplicates.ensures.1 in
     rw (p.1, p.2) refused
