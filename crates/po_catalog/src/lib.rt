@@ -11,3 +11,4 @@ pub use crate::joining::{JoinedEntry, joined};
 pub use crate::stats::{Stats, has_translation, joined_statistics, statistics};
 pub use po_entry::{Catalogue, Entry, Previous};
 pub use po_reader::read;
+pub use po_writer::write;
