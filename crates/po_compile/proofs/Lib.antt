@@ -4,3 +4,4 @@ pub mod MeaningLemmas
 pub mod SortLemmas
 pub mod ReadingLemmas
 pub mod OneListLemmas
+pub mod HeadlineLemmas

@@ -99,13 +99,13 @@ pub read_count : (texts : List (Bor (List ℕ))) (catalogues : List (List TextEn
 read_count texts catalogues each =
     sym (length-map texts (λ (s : Bor (List ℕ)). s.now)) ∙ zip_length (slice_texts texts) catalogues each
 
+pub entries_of_input : (input : ℕ) (entries : List TextEntry) → entries_of (map (in_input input) entries) ≡ entries
+entries_of_input input [] = refl
+entries_of_input input (x ∷ xs) = ap (λ l. x ∷ l) (entries_of_input input xs)
+
 -- the joined list of one catalogue is that catalogue
 pub joined_one : (entries : List TextEntry) → joined_entries (entries ∷ []) ≡ entries
-joined_one entries = ap entries_of (append-nil (map (in_input 0) entries)) ∙ by_entry entries
-  where
-    by_entry : (xs : List TextEntry) → entries_of (map (in_input 0) xs) ≡ xs
-    by_entry [] = refl
-    by_entry (x ∷ xs) = ap (λ l. x ∷ l) (by_entry xs)
+joined_one entries = ap entries_of (append-nil (map (in_input 0) entries)) ∙ entries_of_input 0 entries
 
 -- a layout of one text that is refused
 pub text_refused : (options : Options) (text : List ℕ) (entries : List TextEntry) (error : JoinError) → ReadsDistinct text entries

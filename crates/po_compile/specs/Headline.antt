@@ -1,5 +1,5 @@
 -- Laws of compiling: what is looked up in a compiled catalogue is what its entries mean.
-use Rattle.std.specs.Prelude.{◌≡◌, List, All}
+use Rattle.std.specs.Prelude.{◌≡◌, ℕ, List, All}
 use Rattle.mo_file.specs.Message.{Message}
 use Rattle.mo_file.specs.Layout.{layout}
 use Rattle.mo_file.specs.Catalog.{IsCatalog}
@@ -22,3 +22,12 @@ abbrev pub MessagesMeanEntries : Type 0
 MessagesMeanEntries =
     (entries : List TextEntry) (messages : List Message) → All IsEntry entries
     → AreMessagesOf entries messages → MeansEntries entries messages
+
+-- For texts that are accepted: the layout of their messages is a valid file, and what is looked up in it is what their
+-- entries mean.
+abbrev pub LookUpMeansEntries : Type 0
+LookUpMeansEntries =
+    (options : Options) (texts : List (List ℕ)) (catalogues : List (List TextEntry)) (messages : List Message)
+    → AreAccepted options texts catalogues → AreMessagesOf (compiled_list options.use_fuzzy (joined_entries catalogues)) messages
+    → IsCatalog options.order (layout options.order messages) messages
+    × MeansEntries (compiled_list options.use_fuzzy (joined_entries catalogues)) messages

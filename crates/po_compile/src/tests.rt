@@ -14,7 +14,8 @@ const LITTLE: Options = Options {
 
 const ONE_MESSAGE: &[u8] = b"msgid \"a\"\nmsgstr \"b\"\n";
 
-const FUZZY_AND_OBSOLETE: &[u8] = b"#, fuzzy\nmsgid \"\"\nmsgstr \"Content-Type: text/plain; charset=UTF-8\\n\"\n\nmsgid \"a\"\nmsgstr \"A\"\n\n#, fuzzy\nmsgid \"b\"\nmsgstr \"B\"\n\nmsgid \"c\"\nmsgstr \"\"\n\n#~ msgid \"d\"\n#~ msgstr \"D\"\n";
+const FUZZY_AND_OBSOLETE: &[u8] =
+    b"#, fuzzy\nmsgid \"\"\nmsgstr \"Content-Type: text/plain; charset=UTF-8\\n\"\n\nmsgid \"a\"\nmsgstr \"A\"\n\n#, fuzzy\nmsgid \"b\"\nmsgstr \"B\"\n\nmsgid \"c\"\nmsgstr \"\"\n\n#~ msgid \"d\"\n#~ msgstr \"D\"\n";
 
 fn compiled(rt: &impl Abort, alloc: Global, text: &[u8], options: Options) -> Compiled {
     match compile(alloc, text, options) {
@@ -55,7 +56,10 @@ fn assert_look(
 fn empty_text(rt: HostRuntime) -> Result<(), Fail> {
     let empty = compiled(&rt, rt.alloc(), b"", LITTLE);
     assert_eq!(rt; empty.n, 0);
-    assert!(rt; empty.bytes.as_slice() == b"\xde\x12\x04\x95\0\0\0\0\0\0\0\0\x1c\0\0\0\x1c\0\0\0\0\0\0\0\x1c\0\0\0".as_slice());
+    assert!(rt;
+        empty.bytes.as_slice()
+            == b"\xde\x12\x04\x95\0\0\0\0\0\0\0\0\x1c\0\0\0\x1c\0\0\0\0\0\0\0\x1c\0\0\0".as_slice()
+    );
     assert_look(&rt, &empty.bytes, None, b"x", None, b"x", false);
     match compile_all(rt.alloc(), &[], LITTLE) {
         Ok(none) => assert!(rt; none.bytes.as_slice() == empty.bytes.as_slice()),
@@ -68,7 +72,10 @@ fn empty_text(rt: HostRuntime) -> Result<(), Fail> {
 fn one_message(rt: HostRuntime) -> Result<(), Fail> {
     let little = compiled(&rt, rt.alloc(), ONE_MESSAGE, LITTLE);
     assert_eq!(rt; little.n, 1);
-    assert!(rt; little.bytes.as_slice() == b"\xde\x12\x04\x95\0\0\0\0\x01\0\0\0\x1c\0\0\0\x24\0\0\0\0\0\0\0\x2c\0\0\0\x01\0\0\0\x2c\0\0\0\x01\0\0\0\x2e\0\0\0a\0b\0".as_slice());
+    assert!(rt;
+        little.bytes.as_slice()
+            == b"\xde\x12\x04\x95\0\0\0\0\x01\0\0\0\x1c\0\0\0\x24\0\0\0\0\0\0\0\x2c\0\0\0\x01\0\0\0\x2c\0\0\0\x01\0\0\0\x2e\0\0\0a\0b\0".as_slice()
+    );
     assert_look(&rt, &little.bytes, None, b"a", None, b"b", true);
     assert_look(&rt, &little.bytes, None, b"z", None, b"z", false);
     let big = compiled(
@@ -80,14 +87,18 @@ fn one_message(rt: HostRuntime) -> Result<(), Fail> {
             order: Order::Big,
         },
     );
-    assert!(rt; big.bytes.as_slice() == b"\x95\x04\x12\xde\0\0\0\0\0\0\0\x01\0\0\0\x1c\0\0\0\x24\0\0\0\0\0\0\0\x2c\0\0\0\x01\0\0\0\x2c\0\0\0\x01\0\0\0\x2ea\0b\0".as_slice());
+    assert!(rt;
+        big.bytes.as_slice()
+            == b"\x95\x04\x12\xde\0\0\0\0\0\0\0\x01\0\0\0\x1c\0\0\0\x24\0\0\0\0\0\0\0\x2c\0\0\0\x01\0\0\0\x2c\0\0\0\x01\0\0\0\x2ea\0b\0".as_slice()
+    );
     assert_look(&rt, &big.bytes, None, b"a", None, b"b", true);
     Ok(())
 }
 
 #[test]
 fn three_contexts(rt: HostRuntime) -> Result<(), Fail> {
-    let text = b"msgctxt \"\"\nmsgid \"x\"\nmsgstr \"1\"\n\nmsgctxt \"c\"\nmsgid \"x\"\nmsgstr \"2\"\n\nmsgid \"x\"\nmsgstr \"3\"\n";
+    let text =
+        b"msgctxt \"\"\nmsgid \"x\"\nmsgstr \"1\"\n\nmsgctxt \"c\"\nmsgid \"x\"\nmsgstr \"2\"\n\nmsgid \"x\"\nmsgstr \"3\"\n";
     let three = compiled(&rt, rt.alloc(), text.as_slice(), LITTLE);
     assert_eq!(rt; three.bytes.len(), 91);
     assert!(rt; &three.bytes[76..] == b"\x04x\0c\x04x\0x\x001\x002\x003\0".as_slice());
@@ -99,7 +110,12 @@ fn three_contexts(rt: HostRuntime) -> Result<(), Fail> {
 
 #[test]
 fn two_messages(rt: HostRuntime) -> Result<(), Fail> {
-    let two = compiled(&rt, rt.alloc(), b"msgid \"b\"\nmsgstr \"1\"\nmsgid \"a\"\nmsgstr \"2\"\n", LITTLE);
+    let two = compiled(
+        &rt,
+        rt.alloc(),
+        b"msgid \"b\"\nmsgstr \"1\"\nmsgid \"a\"\nmsgstr \"2\"\n",
+        LITTLE,
+    );
     assert_eq!(rt; two.n, 2);
     assert_eq!(rt; two.bytes.len(), 68);
     assert!(rt; &two.bytes[60..] == b"a\0b\x002\x001\0".as_slice());
@@ -131,18 +147,34 @@ fn fuzzy_and_obsolete(rt: HostRuntime) -> Result<(), Fail> {
     assert!(rt; with.stats == stats);
     assert_look(&rt, &with.bytes, None, b"b", None, b"B", true);
     let line = with.stats.line(rt.alloc())?;
-    assert!(rt; line.as_slice() == b"1 translated message, 1 fuzzy translation, 1 untranslated message.\n".as_slice());
+    assert!(rt;
+        line.as_slice()
+            == b"1 translated message, 1 fuzzy translation, 1 untranslated message.\n".as_slice()
+    );
     Ok(())
 }
 
 #[test]
 fn escapes(rt: HostRuntime) -> Result<(), Fail> {
-    let escaped = compiled(&rt, rt.alloc(), b"msgid \"a\"\nmsgstr \"\\101\\x41\\xc3\\xa9\"\n", LITTLE);
+    let escaped = compiled(
+        &rt,
+        rt.alloc(),
+        b"msgid \"a\"\nmsgstr \"\\101\\x41\\xc3\\xa9\"\n",
+        LITTLE,
+    );
     assert_look(&rt, &escaped.bytes, None, b"a", None, b"AA\xc3\xa9", true);
-    let joined = compiled(&rt, rt.alloc(), b"msgid \"a\"\nmsgstr \"\\xc3\" \"\\xa9\"\n", LITTLE);
+    let joined = compiled(
+        &rt,
+        rt.alloc(),
+        b"msgid \"a\"\nmsgstr \"\\xc3\" \"\\xa9\"\n",
+        LITTLE,
+    );
     assert_look(&rt, &joined.bytes, None, b"a", None, b"\xc3\xa9", true);
     for (text, kind) in [
-        (b"msgid \"a\"\nmsgstr \"\\xff\"\n".as_slice(), PoFault::NotUtf8),
+        (
+            b"msgid \"a\"\nmsgstr \"\\xff\"\n".as_slice(),
+            PoFault::NotUtf8,
+        ),
         (b"msgid \"a\"\nmsgstr \"\\0\"\n", PoFault::ForbiddenByte),
         (b"msgid \"a\"\nmsgstr \"\\q\"\n", PoFault::BadEscape),
         (b"msgid \"a\"\nmsgstr \"\\400\"\n", PoFault::BadEscape),
@@ -155,20 +187,55 @@ fn escapes(rt: HostRuntime) -> Result<(), Fail> {
 
 #[test]
 fn duplicate(rt: HostRuntime) -> Result<(), Fail> {
-    let lines = refused(&rt, rt.alloc(), b"msgid \"a\"\nmsgstr \"A\"\nmsgid \"a\"\nmsgstr \"B\"\n");
-    assert!(rt; lines == PoError { kind: PoFault::Duplicate(1), line: 3 });
-    let comment = refused(&rt, rt.alloc(), b"msgid \"a\"\nmsgstr \"A\"\n\n# x\nmsgid \"a\"\nmsgstr \"B\"\n");
-    assert!(rt; comment == PoError { kind: PoFault::Duplicate(1), line: 5 });
-    let context = compiled(&rt, rt.alloc(), b"msgid \"a\"\nmsgstr \"A\"\n\n# x\nmsgctxt \"c\"\nmsgid \"a\"\nmsgstr \"B\"\n", LITTLE);
+    let lines = refused(
+        &rt,
+        rt.alloc(),
+        b"msgid \"a\"\nmsgstr \"A\"\nmsgid \"a\"\nmsgstr \"B\"\n",
+    );
+    assert!(rt;
+        lines
+            == PoError {
+                kind: PoFault::Duplicate(1),
+                line: 3
+            }
+    );
+    let comment = refused(
+        &rt,
+        rt.alloc(),
+        b"msgid \"a\"\nmsgstr \"A\"\n\n# x\nmsgid \"a\"\nmsgstr \"B\"\n",
+    );
+    assert!(rt;
+        comment
+            == PoError {
+                kind: PoFault::Duplicate(1),
+                line: 5
+            }
+    );
+    let context = compiled(
+        &rt,
+        rt.alloc(),
+        b"msgid \"a\"\nmsgstr \"A\"\n\n# x\nmsgctxt \"c\"\nmsgid \"a\"\nmsgstr \"B\"\n",
+        LITTLE,
+    );
     assert_eq!(rt; context.n, 2);
-    let obsolete = compiled(&rt, rt.alloc(), b"msgid \"a\"\nmsgstr \"A\"\n\n#~ msgid \"a\"\n#~ msgstr \"B\"\n", LITTLE);
+    let obsolete = compiled(
+        &rt,
+        rt.alloc(),
+        b"msgid \"a\"\nmsgstr \"A\"\n\n#~ msgid \"a\"\n#~ msgstr \"B\"\n",
+        LITTLE,
+    );
     assert_eq!(rt; obsolete.n, 1);
     Ok(())
 }
 
 #[test]
 fn unclean_query(rt: HostRuntime) -> Result<(), Fail> {
-    let one = compiled(&rt, rt.alloc(), b"msgctxt \"a\"\nmsgid \"b\"\nmsgstr \"c\"\n", LITTLE);
+    let one = compiled(
+        &rt,
+        rt.alloc(),
+        b"msgctxt \"a\"\nmsgid \"b\"\nmsgstr \"c\"\n",
+        LITTLE,
+    );
     assert_look(&rt, &one.bytes, None, b"a\x04b", None, b"a\x04b", false);
     assert_look(&rt, &one.bytes, Some(b"a"), b"b", None, b"c", true);
     Ok(())
@@ -176,10 +243,19 @@ fn unclean_query(rt: HostRuntime) -> Result<(), Fail> {
 
 #[test]
 fn form_0(rt: HostRuntime) -> Result<(), Fail> {
-    let text = b"msgid \"\"\nmsgstr \"Plural-Forms: nplurals=3; plural=n;\\n\"\n\nmsgid \"f\"\nmsgid_plural \"fs\"\nmsgstr[0] \"a\"\nmsgstr[1] \"\"\n";
+    let text =
+        b"msgid \"\"\nmsgstr \"Plural-Forms: nplurals=3; plural=n;\\n\"\n\nmsgid \"f\"\nmsgid_plural \"fs\"\nmsgstr[0] \"a\"\nmsgstr[1] \"\"\n";
     let plural = compiled(&rt, rt.alloc(), text.as_slice(), LITTLE);
     for (count, form) in [(0, b"a".as_slice()), (1, b""), (2, b"a"), (3, b"a")] {
-        assert_look(&rt, &plural.bytes, None, b"f", Some((b"fs", count)), form, true);
+        assert_look(
+            &rt,
+            &plural.bytes,
+            None,
+            b"f",
+            Some((b"fs", count)),
+            form,
+            true,
+        );
     }
     Ok(())
 }
@@ -213,7 +289,12 @@ fn two_inputs(rt: HostRuntime) -> Result<(), Fail> {
             line: 1,
         },
     };
-    assert_refused(&rt, rt.alloc(), &[ONE_MESSAGE, b"msgid \"a\"\n"], unfinished);
+    assert_refused(
+        &rt,
+        rt.alloc(),
+        &[ONE_MESSAGE, b"msgid \"a\"\n"],
+        unfinished,
+    );
     Ok(())
 }
 
@@ -236,7 +317,15 @@ fn two_headers(rt: HostRuntime) -> Result<(), Fail> {
             line: 3,
         },
     };
-    assert_refused(&rt, rt.alloc(), &[first, b"msgid \"\"\nmsgstr \"a\"\nmsgid \"\"\nmsgstr \"b\"\n"], twice);
+    assert_refused(
+        &rt,
+        rt.alloc(),
+        &[
+            first,
+            b"msgid \"\"\nmsgstr \"a\"\nmsgid \"\"\nmsgstr \"b\"\n",
+        ],
+        twice,
+    );
     Ok(())
 }
 
