@@ -6,6 +6,7 @@ mod catalogue;
 mod charset;
 mod copies;
 mod entry;
+mod equality;
 mod fields;
 mod previous;
 #[cfg(test)]

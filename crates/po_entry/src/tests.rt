@@ -18,7 +18,9 @@ fn built_entry(rt: HostRuntime) -> Result<(), Fail> {
     entry.set_fuzzy(true);
     entry.set_obsolete(true);
     let copy = entry.copy(rt.alloc())?;
-    assert!(rt; copy.fuzzy() && copy.obsolete());
+    assert!(rt; copy.fuzzy() && copy.obsolete() && copy == entry);
+    entry.set_fuzzy(false);
+    assert!(rt; copy != entry);
     assert_eq!(rt; copy.id(), b"a".as_slice());
     let mut catalogue = Catalogue::new(rt.alloc());
     assert!(rt; catalogue.push(copy).is_ok());

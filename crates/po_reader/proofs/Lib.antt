@@ -13,3 +13,4 @@ pub mod Loops
 pub mod SoundItems
 pub mod Once
 pub mod OneReading
+pub mod OneFault

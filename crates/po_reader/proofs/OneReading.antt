@@ -99,15 +99,15 @@ reads_or_stop {end} {line} {kind} (entry h own more) (stop.later {rest = after} 
     let bodies = body_once own (subst (λ (i : List TextItem). body.IsBody i b after) (sym heads.2) also) in
     reads_or_stop more (subst (λ (i : List TextItem). stop.EntriesStop end i kind line) (sym bodies.1) s)
 
-unreadable : (read : TextEntry) (kind : PoFault) → HasReadableTexts read → fault.UnreadableTexts read kind → ⊥
+pub unreadable : (read : TextEntry) (kind : PoFault) → HasReadableTexts read → fault.UnreadableTexts read kind → ⊥
 unreadable read kind h (fault.not_utf8 some) = some h.utf8
 unreadable read kind h (fault.forbidden utf8 some) = some h.no_eot
 
-texts_go_on : {kind : PoFault} {line : ℕ} {entries : List TextEntry} → fault.TextsStop entries kind line → All HasReadableTexts entries → ⊥
+pub texts_go_on : {kind : PoFault} {line : ℕ} {entries : List TextEntry} → fault.TextsStop entries kind line → All HasReadableTexts entries → ⊥
 texts_go_on {kind} (fault.TextsStop.here {entry = read} {entries = entries} f l) h = unreadable read kind (All-head HasReadableTexts read entries h) f
 texts_go_on (fault.TextsStop.later {entry = read} {entries = entries} r s) h = texts_go_on s (All-tail HasReadableTexts read entries h)
 
-charsets_go_on : {line : ℕ} {entries : List TextEntry} → fault.CharsetStops entries line → All HasAdmittedCharset entries → ⊥
+pub charsets_go_on : {line : ℕ} {entries : List TextEntry} → fault.CharsetStops entries line → All HasAdmittedCharset entries → ⊥
 charsets_go_on (fault.CharsetStops.here {entry = read} {entries = entries} f l) h = f (All-head HasAdmittedCharset read entries h)
 charsets_go_on (fault.CharsetStops.later {entry = read} {entries = entries} r s) h = charsets_go_on s (All-tail HasAdmittedCharset read entries h)
 

@@ -23,3 +23,14 @@ pub fn no_fault_where_entries()
     syntax::one_reading();
     syntax::no_fault_where_items();
 }
+
+/// A text has at most one first fault, on one line.
+pub fn one_fault()
+    ensures { (text : List ℕ) (fault other : PoFault) (line place : ℕ)
+        → IsReadFault text fault line → IsReadFault text other place
+        → (fault ≡ other) × (line ≡ place) }
+{
+    syntax::one_reading();
+    syntax::no_fault_where_items();
+    syntax::one_fault();
+}
