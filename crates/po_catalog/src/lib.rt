@@ -5,6 +5,8 @@
 mod duplicate;
 mod joining;
 mod stats;
+#[cfg(test)]
+mod tests;
 
 pub use crate::duplicate::{JoinError, duplicates, joined_duplicates};
 pub use crate::joining::{JoinedEntry, joined};

@@ -1,3 +1,5 @@
+ghost use Rattle.std.specs.Prelude.{◌<◌, ◌^◌, length};
+
 use crate::{Compiled, Options, compile, compile_all};
 use mo_file::{Meter, Order};
 use mo_lookup::Catalog;
@@ -41,10 +43,9 @@ fn assert_look(
     text: &[u8],
     found: bool,
 ) {
-    let mut meter = Meter::new();
-    match Catalog::open(bytes, &mut meter) {
+    match Catalog::open(bytes, &mut Meter::new()) {
         Ok(catalog) => {
-            let answer = catalog.look(context, id, plural, &mut meter);
+            let answer = catalog.look(context, id, plural, &mut Meter::new());
             assert!(rt; answer.text == text);
             assert_eq!(rt; answer.found, found);
         }
@@ -329,10 +330,9 @@ fn two_headers(rt: HostRuntime) -> Result<(), Fail> {
     Ok(())
 }
 
-fn assert_refused(rt: &impl Abort, alloc: Global, texts: &[&[u8]], wanted: JoinError) {
-    if texts.len() > 9 {
-        return;
-    }
+fn assert_refused(rt: &impl Abort, alloc: Global, texts: &[&[u8]], wanted: JoinError)
+    requires { length texts.now < 2 ^ 32 }
+{
     match compile_all(alloc, texts, LITTLE) {
         Ok(_) => panic!(rt; "accepted"),
         Err(error) => assert!(rt; error == wanted),
