@@ -8,6 +8,7 @@ mod copies;
 mod entry;
 mod equality;
 mod fields;
+pub mod laws;
 mod previous;
 #[cfg(test)]
 mod tests;

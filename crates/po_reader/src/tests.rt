@@ -157,6 +157,19 @@ fn texts_of_entries(rt: HostRuntime) -> Result<(), Fail> {
     Ok(())
 }
 
+// An entry that was built equals the one that was read, whose line is left aside.
+#[test]
+fn built_entry(rt: HostRuntime) -> Result<(), Fail> {
+    let catalogue = read(rt.alloc(), b"\nmsgid \"a\"\nmsgstr \"b\"\n")?;
+    let built = Entry::message(rt.alloc(), None, b"a", None, &[b"b"])?;
+    let other = Entry::message(rt.alloc(), None, b"a", None, &[b"c"])?;
+    let entries = catalogue.entries();
+    assert_eq!(rt; entries.len(), 1);
+    assert_eq!(rt; entries[0].line(), 2);
+    assert!(rt; entries[0] == built && entries[0] != other);
+    Ok(())
+}
+
 // Texts with the fault that the format tells, and its line.
 #[test]
 fn refused_texts(rt: HostRuntime) -> Result<(), Fail> {
