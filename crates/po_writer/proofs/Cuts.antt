@@ -1,8 +1,9 @@
 -- A text cut after each LF.
 use Rattle.std.proofs.Common.{◌≡◌, ◌==◌, nat_lt, not, if◌then◌else◌, refl, sym, ℕ, zero, suc, ◌+◌, ◌<◌, ◌≤◌, Bool, true, false, List, [], ◌∷◌, length, take, drop, Some, None, arith, add-one}
+use Rattle.std.specs.List.{onto_first}
 use Rattle.std.proofs.lemmas.Bool.{false_from_ne_true, eqb-true, lt-ltb, ne_eqb}
 use Rattle.memchr.specs.Find.{IsFirstByte, Passes, is_byte}
-use Rattle.po_writer.specs.WrittenText.{cut, with_byte}
+use Rattle.po_writer.specs.WrittenText.{cut}
 
 abbrev NoFeedBelow : List ℕ → ℕ → Type 0
 NoFeedBelow text end = (k : ℕ) → k < end → Passes (is_byte 10) text k → ⊥
@@ -26,16 +27,16 @@ pub cut_whole : (text : List ℕ) → 0 < length text → IsFirstByte (is_byte 1
 cut_whole [] some h = absurd (omega arith)
 cut_whole (b ∷ text) some h = no_cut b text (λ k below. h k (omega arith) below)
 
-with_byte-some : (b : ℕ) (pieces : List (List ℕ)) → 0 < length (with_byte b pieces)
-with_byte-some b [] = omega arith
-with_byte-some b (piece ∷ pieces) = omega arith
+onto_first-some : (b : ℕ) (pieces : List (List ℕ)) → 0 < length (onto_first b pieces)
+onto_first-some b [] = omega arith
+onto_first-some b (piece ∷ pieces) = omega arith
 
 if_some : (feed : Bool) (pieces others : List (List ℕ)) → 0 < length pieces → 0 < length others → 0 < length (if feed then pieces else others)
 if_some true pieces others h g = h
 if_some false pieces others h g = g
 
 cut_some : (b : ℕ) (text : List ℕ) → 0 < length (cut (b ∷ text))
-cut_some b text = if_some (b == 10) ((10 ∷ []) ∷ cut text) (with_byte b (cut text)) (omega arith) (with_byte-some b (cut text))
+cut_some b text = if_some (b == 10) ((10 ∷ []) ∷ cut text) (onto_first b (cut text)) (omega arith) (onto_first-some b (cut text))
 
 two_or_more : (line rest : List ℕ) → not (length rest == 0) ≡ nat_lt 1 (length (line ∷ cut rest))
 two_or_more line [] = refl

@@ -1,18 +1,13 @@
 -- The text that a catalogue is written as (manual, "The Format of PO Files"). No line is wrapped.
 use Rattle.std.specs.Prelude.{ℕ, ◌+◌, ◌==◌, Bool, true, false, not, nat_lt, List, [], ◌∷◌, ◌++◌, length, filter, Option, None, Some, codes, decimal, if◌then◌else◌}
-use Rattle.std.specs.List.{flat_map, join_by}
+use Rattle.std.specs.List.{flat_map, join_by, onto_first}
 use Rattle.po_syntax.specs.QuotedForm.{quoted}
 use Rattle.po_entry.specs.TextEntry.{TextEntry, TextPrevious}
-
--- the first piece with a byte before it
-abbrev pub with_byte : ℕ → List (List ℕ) → List (List ℕ)
-with_byte b [] = (b ∷ []) ∷ []
-with_byte b (piece ∷ pieces) = (b ∷ piece) ∷ pieces
 
 -- a text cut after each LF
 abbrev pub cut : List ℕ → List (List ℕ)
 cut [] = []
-cut (b ∷ text) = if b == 10 then (10 ∷ []) ∷ cut text else with_byte b (cut text)
+cut (b ∷ text) = if b == 10 then (10 ∷ []) ∷ cut text else onto_first b (cut text)
 
 -- the quoted form on a line of its own
 abbrev pub string_line : List ℕ → List ℕ → List ℕ

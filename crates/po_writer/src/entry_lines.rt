@@ -9,7 +9,7 @@ use po_entry::{Entry, Previous};
 use po_syntax::PoError;
 
 /// Appends a line for each comment, behind the mark of its kind.
-fn push_comments(out: &mut Vec<u8>, mark: &[u8], comments: &[Vec<u8>]) -> Result<(), PoError>
+pub(crate) fn push_comments(out: &mut Vec<u8>, mark: &[u8], comments: &[Vec<u8>]) -> Result<(), PoError>
     ensures appended { OnOk result (out.new.items ≡ out.old.items ++ comment_lines mark.now (texts comments.now)) }
     ensures memory { IfErr result (λ e. e ≡ out_of_memory) }
 {
@@ -34,7 +34,7 @@ fn push_further(out: &mut Vec<u8>, separator: &[u8], words: &[Vec<u8>]) -> Resul
 }
 
 /// Appends a line of words, where there are any.
-fn push_words(
+pub(crate) fn push_words(
     out: &mut Vec<u8>,
     mark: &[u8],
     separator: &[u8],
@@ -54,7 +54,7 @@ fn push_words(
 }
 
 /// Appends the line of flags, `fuzzy` first, where there are any.
-fn push_flags(out: &mut Vec<u8>, fuzzy: bool, flags: &[Vec<u8>]) -> Result<(), PoError>
+pub(crate) fn push_flags(out: &mut Vec<u8>, fuzzy: bool, flags: &[Vec<u8>]) -> Result<(), PoError>
     ensures appended { OnOk result (out.new.items ≡ out.old.items ++ words_line (codes "#, ") (codes ", ") (all_flags fuzzy (texts flags.now))) }
     ensures memory { IfErr result (λ e. e ≡ out_of_memory) }
 {
@@ -68,7 +68,7 @@ fn push_flags(out: &mut Vec<u8>, fuzzy: bool, flags: &[Vec<u8>]) -> Result<(), P
 }
 
 /// Appends the previous texts that there are.
-fn push_previous(out: &mut Vec<u8>, prefix: &[u8], previous: &Previous) -> Result<(), PoError>
+pub(crate) fn push_previous(out: &mut Vec<u8>, prefix: &[u8], previous: &Previous) -> Result<(), PoError>
     ensures appended { OnOk result (out.new.items ≡ out.old.items ++ previous_lines prefix.now previous.now) }
     ensures memory { IfErr result (λ e. e ≡ out_of_memory) }
 {

@@ -3,6 +3,8 @@
 
 mod entry_lines;
 mod keyword_lines;
+#[cfg(test)]
+mod tests;
 mod text;
 
 pub use crate::text::write;
