@@ -1,0 +1,37 @@
+-- The key by which a message is looked up ("The Format of GNU MO Files"): a context stands before
+-- the msgid with a byte 4 (EOT) between them, and a plural form stands after it behind a NUL.
+use Rattle.std.specs.Prelude.{◌≡◌, ℕ, ◌+◌, ◌<◌, ◌==◌, Bool, List, [], ◌∷◌, ◌++◌, length, map, slice_index_or, Option, None, Some}
+use Rattle.std.specs.Ordering.{nat_cmp}
+use Rattle.std.specs.declared.cmp.Ordering.{Ordering}
+use Rattle.std.specs.declared.cmp.Ordering.TheVariants.{Less}
+use Rattle.std.specs.Cmp.Lexicographic.{slice_cmp}
+use Rattle.std.specs.List.{before_first}
+use Rattle.mo_file.specs.Message.{Message}
+
+abbrev pub is_nul : ℕ → Bool
+is_nul byte = byte == 0
+
+-- the key of an original: its bytes before its first NUL, or all of them
+abbrev pub key_of : List ℕ → List ℕ
+key_of original = before_first is_nul original
+
+-- the key that a query asks for, by its context, where it has one, and its msgid
+abbrev pub query_key : Option (List ℕ) → List ℕ → List ℕ
+query_key None id = id
+query_key (Some context) id = context ++ 4 ∷ id
+
+-- how two keys stand to each other: by unsigned bytes, a prefix before what is longer
+abbrev pub key_cmp : List ℕ → List ℕ → Ordering
+key_cmp x y = slice_cmp nat_cmp x y
+
+-- the keys of a list of messages
+abbrev pub keys : List Message → List (List ℕ)
+keys messages = map (λ m. key_of m.original) messages
+
+-- the key at a place
+abbrev pub key_at : List (List ℕ) → ℕ → List ℕ
+key_at ks i = slice_index_or ks i []
+
+-- each key is above the one before it
+pub record AreRising (ks : List (List ℕ)) : Type 0 where
+  pub next : (i : ℕ) → i + 1 < length ks → key_cmp (key_at ks i) (key_at ks (i + 1)) ≡ Less

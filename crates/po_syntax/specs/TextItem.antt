@@ -1,0 +1,29 @@
+-- What contracts see of an item of a PO text: its bytes are a list, wherever they are kept.
+use Rattle.std.specs.Prelude.{ℕ, List, map}
+use Rattle.std.specs.Cow.{cow_slice_items}
+use Rattle.po_syntax.specs.declared.item.CommentKind.{CommentKind}
+use Rattle.po_syntax.specs.declared.item.Keyword.{Keyword}
+use Rattle.po_syntax.specs.declared.item.Marks.{Marks}
+use Rattle.po_syntax.specs.declared.item.Item.{Item}
+use Rattle.po_syntax.specs.declared.item.Item.TheVariants as code
+
+-- An item, with its line: a comment with its text, a keyword, or the bytes that a quoted string spells.
+pub data TextItem : Type 0 where
+  Comment : CommentKind → List ℕ → ℕ → TextItem
+  Word : Keyword → Marks → ℕ → TextItem
+  Str : List ℕ → Marks → ℕ → TextItem
+
+-- the line of an item
+abbrev pub line_of : TextItem → ℕ
+line_of (Comment kind text line) = line
+line_of (Word keyword marks line) = line
+line_of (Str bytes marks line) = line
+
+-- what contracts see of the code's item
+abbrev pub view : Item → TextItem
+view (code.Comment kind text line) = Comment kind text.now line
+view (code.Word keyword marks line) = Word keyword marks line
+view (code.Str bytes marks line) = Str (cow_slice_items bytes) marks line
+
+abbrev pub views : List Item → List TextItem
+views items = map view items

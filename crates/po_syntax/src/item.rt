@@ -1,0 +1,50 @@
+use std::borrow::CowSlice;
+
+/// The keyword that a word of a PO text is (manual, "The Format of PO Files").
+#[derive(Clone, Copy, Debug, PartialEq, Eq)]
+pub enum Keyword {
+    /// `msgctxt`: a context follows.
+    MsgCtxt,
+    /// `msgid`: an original follows.
+    MsgId,
+    /// `msgid_plural`: the plural of an original follows.
+    MsgIdPlural,
+    /// `msgstr` without an index: a translation follows.
+    MsgStr,
+    /// `msgstr[i]`: the plural form with this index, counted from 0, follows.
+    MsgStrAt(u32),
+}
+
+/// What a comment is for, by the character behind its `#`.
+#[derive(Clone, Copy, Debug, PartialEq, Eq)]
+pub enum CommentKind {
+    /// `#` and any other character: a comment of the translator.
+    Translator,
+    /// `#.`: a comment extracted from the program.
+    Extracted,
+    /// `#:`: references to the program.
+    Reference,
+    /// `#,`: flags.
+    Flags,
+}
+
+/// The marks of a line, which its words and strings bear.
+#[derive(Clone, Copy, Debug, PartialEq, Eq)]
+pub struct Marks {
+    /// `#~`: the line belongs to an obsolete entry.
+    pub obsolete: bool,
+    /// `#|` or `#~|`: the line tells a previous context or original.
+    pub previous: bool,
+}
+
+/// An item of a PO text, with its line, counted from 1. It borrows from the text, and owns a
+/// string's bytes only where an escape makes them differ from the text's.
+#[derive(Drop)]
+pub enum Item<'a> {
+    /// A comment: its text behind the characters that tell its kind, without trailing CRs.
+    Comment(CommentKind, &'a [u8], u32),
+    /// A keyword, under the marks of its line.
+    Word(Keyword, Marks, u32),
+    /// The bytes that one quoted string spells, under the marks of its line.
+    Str(CowSlice<'a, u8>, Marks, u32),
+}
