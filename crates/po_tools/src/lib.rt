@@ -1,1 +1,4 @@
+//! The tools of pokit as functions of their inputs: what each writes, tells and answers.
 #![tactic(auto)]
+
+mod fault_text;
