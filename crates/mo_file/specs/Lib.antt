@@ -1,2 +1,11 @@
 pub mod Message
 pub mod Key
+pub mod Word
+pub mod Header
+pub mod StringTable
+pub mod Fault
+pub mod Catalog
+pub mod Checking
+pub mod Layout
+pub mod Building
+pub mod Laws

@@ -3,8 +3,17 @@
 //! manual).
 #![tactic(auto)]
 
+mod building;
+mod byte_order;
+mod checking;
 mod counting;
+mod fault;
+mod header;
 mod key;
+mod strings;
 
+pub use building::{BuildError, Pair};
+pub use byte_order::Order;
 pub use counting::Meter;
+pub use fault::MoError;
 pub use key::compare_key;

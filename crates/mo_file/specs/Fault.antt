@@ -1,0 +1,89 @@
+-- The faults for which bytes aren't an MO file ("The Format of GNU MO Files"), and which of them is
+-- told.
+use Rattle.std.specs.Prelude.{◌≡◌, ◌≢◌, ℕ, ◌+◌, ◌*◌, ◌/◌, ◌<◌, ◌⊎◌, List, length, Some, slice_get}
+use Rattle.std.specs.declared.cmp.Ordering.TheVariants.{Less}
+use Rattle.mo_file.specs.declared.byte_order.Order.{Order}
+use Rattle.mo_file.specs.declared.fault.MoError.{MoError}
+use Rattle.mo_file.specs.declared.fault.MoError.TheVariants.{TooShort, BadMagic, BadRevision, TableOutside, StringOutside, NoTerminator, NotSorted}
+use Rattle.mo_file.specs.Header.{Shows, revision, message_count, originals_table, translations_table}
+use Rattle.mo_file.specs.StringTable.{end_at, original_at}
+use Rattle.mo_file.specs.Key.{key_of, key_cmp}
+
+-- the original or the translation of message i ends behind the file
+abbrev pub IsOutside : Order → List ℕ → ℕ → Type 0
+IsOutside order bytes i =
+    (length bytes < end_at order bytes (originals_table order bytes) i)
+    ⊎ (length bytes < end_at order bytes (translations_table order bytes) i)
+
+-- no NUL follows the original or the translation of message i
+abbrev pub IsUnterminated : Order → List ℕ → ℕ → Type 0
+IsUnterminated order bytes i =
+    (slice_get bytes (end_at order bytes (originals_table order bytes) i) ≢ Some 0)
+    ⊎ (slice_get bytes (end_at order bytes (translations_table order bytes) i) ≢ Some 0)
+
+-- the key of message i + 1 isn't above that of message i
+abbrev pub IsUnsorted : Order → List ℕ → ℕ → Type 0
+IsUnsorted order bytes i =
+    key_cmp (key_of (original_at order bytes i)) (key_of (original_at order bytes (i + 1))) ≢ Less
+
+-- the faults behind the magic number, of bytes that are read in this order
+abbrev pub HasFaultIn : Order → List ℕ → MoError → Type 0
+HasFaultIn order bytes TooShort = ⊥
+HasFaultIn order bytes BadMagic = ⊥
+HasFaultIn order bytes BadRevision = 1 < revision order bytes / 65536
+HasFaultIn order bytes TableOutside =
+    (length bytes < originals_table order bytes + 8 * message_count order bytes)
+    ⊎ (length bytes < translations_table order bytes + 8 * message_count order bytes)
+HasFaultIn order bytes (StringOutside i) = (i < message_count order bytes) × IsOutside order bytes i
+HasFaultIn order bytes (NoTerminator i) = (i < message_count order bytes) × IsUnterminated order bytes i
+HasFaultIn order bytes (NotSorted i) =
+    (j : ℕ) × (i ≡ j + 1) × (i < message_count order bytes) × IsUnsorted order bytes j
+
+-- these bytes have this fault
+abbrev pub HasFault : List ℕ → MoError → Type 0
+HasFault bytes TooShort = length bytes < 28
+HasFault bytes BadMagic = (order : Order) → ¬ Shows order bytes
+HasFault bytes BadRevision = (order : Order) × Shows order bytes × HasFaultIn order bytes BadRevision
+HasFault bytes TableOutside = (order : Order) × Shows order bytes × HasFaultIn order bytes TableOutside
+HasFault bytes (StringOutside i) = (order : Order) × Shows order bytes × HasFaultIn order bytes (StringOutside i)
+HasFault bytes (NoTerminator i) = (order : Order) × Shows order bytes × HasFaultIn order bytes (NoTerminator i)
+HasFault bytes (NotSorted i) = (order : Order) × Shows order bytes × HasFaultIn order bytes (NotSorted i)
+
+-- the order in which kinds of faults are told
+abbrev pub kind : MoError → ℕ
+kind TooShort = 1
+kind BadMagic = 2
+kind BadRevision = 3
+kind TableOutside = 4
+kind (StringOutside i) = 5
+kind (NoTerminator i) = 6
+kind (NotSorted i) = 7
+
+-- the message that a fault names
+abbrev pub place : MoError → ℕ
+place TooShort = 0
+place BadMagic = 0
+place BadRevision = 0
+place TableOutside = 0
+place (StringOutside i) = i
+place (NoTerminator i) = i
+place (NotSorted i) = i
+
+-- a fault is told before another by its kind, then by its message
+abbrev pub IsBefore : MoError → MoError → Type 0
+IsBefore f e = (kind f < kind e) ⊎ ((kind f ≡ kind e) × (place f < place e))
+
+-- the fault that is told of these bytes
+pub record IsFirstFault (bytes : List ℕ) (e : MoError) : Type 0 where
+  pub holds : HasFault bytes e
+  pub first : (f : MoError) → IsBefore f e → ¬ HasFault bytes f
+
+-- the comparisons of neighbouring keys that come before a fault is found
+abbrev pub looks_before : MoError → ℕ
+looks_before TooShort = 0
+looks_before BadMagic = 0
+looks_before BadRevision = 0
+looks_before TableOutside = 0
+looks_before (StringOutside i) = 0
+looks_before (NoTerminator i) = 0
+looks_before (NotSorted i) = i

@@ -1,0 +1,19 @@
+-- Laws of the format.
+use Rattle.std.specs.Prelude.{◌≡◌, ℕ, ◌^◌, ◌<◌, List, length}
+use Rattle.mo_file.specs.declared.byte_order.Order.{Order}
+use Rattle.mo_file.specs.Key.{keys, AreRising}
+use Rattle.mo_file.specs.Layout.{layout}
+use Rattle.mo_file.specs.Catalog.{IsCatalog}
+use Rattle.mo_file.specs.Message.{Message}
+
+-- what is laid out in the order of its keys is a valid file with these very messages
+abbrev pub LayoutIsCatalog : Type 0
+LayoutIsCatalog =
+    (order : Order) (messages : List Message) → AreRising (keys messages) → length (layout order messages) < 2 ^ 32
+    → IsCatalog order (layout order messages) messages
+
+-- a file is valid in one byte order at most, and holds one list of messages
+abbrev pub CatalogIsUnique : Type 0
+CatalogIsUnique =
+    (bytes : List ℕ) (order order' : Order) (messages messages' : List Message) → IsCatalog order bytes messages
+    → IsCatalog order' bytes messages' → (order ≡ order') × (messages ≡ messages')

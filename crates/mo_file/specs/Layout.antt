@@ -1,0 +1,37 @@
+-- How a list of messages is laid out as an MO file: the header, the two tables, all originals and all
+-- translations, without padding and without a hash table ("The Format of GNU MO Files").
+use Rattle.std.specs.Prelude.{ℕ, ◌+◌, ◌*◌, List, [], ◌∷◌, ◌++◌, length}
+use Rattle.mo_file.specs.declared.byte_order.Order.{Order}
+use Rattle.mo_file.specs.Word.{word_bytes}
+use Rattle.mo_file.specs.Header.{magic}
+use Rattle.mo_file.specs.Message.{Message, originals, translations}
+
+-- the strings, each with its NUL
+abbrev pub terminated : List (List ℕ) → List ℕ
+terminated [] = []
+terminated (s ∷ ss) = (s ++ 0 ∷ []) ++ terminated ss
+
+-- the lengths and offsets of strings of which the first stands at this place
+abbrev pub table : Order → ℕ → List (List ℕ) → List ℕ
+table order at [] = []
+table order at (s ∷ ss) = (word_bytes order (length s) ++ word_bytes order at) ++ table order (at + length s + 1) ss
+
+-- revision 0, the number of messages, the places of the tables, and a hash table of no entries
+abbrev pub header : Order → ℕ → List ℕ
+header order count =
+    magic order ++ word_bytes order 0 ++ word_bytes order count ++ word_bytes order 28 ++ word_bytes order (28 + 8 * count)
+    ++ word_bytes order 0 ++ word_bytes order (28 + 16 * count)
+
+-- where the originals begin
+abbrev pub originals_place : List Message → ℕ
+originals_place messages = 28 + 16 * length messages
+
+-- where the translations begin
+abbrev pub translations_place : List Message → ℕ
+translations_place messages = originals_place messages + length (terminated (originals messages))
+
+abbrev pub layout : Order → List Message → List ℕ
+layout order messages =
+    header order (length messages) ++ table order (originals_place messages) (originals messages)
+    ++ table order (translations_place messages) (translations messages) ++ terminated (originals messages)
+    ++ terminated (translations messages)

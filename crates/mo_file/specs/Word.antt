@@ -1,0 +1,15 @@
+-- The 32-bit words of an MO file, in either byte order ("The Format of GNU MO Files").
+use Rattle.std.specs.Prelude.{ℕ, List, drop}
+use Rattle.byteorder.specs.Endian.{big_bytes, big_number, little_bytes, little_number}
+use Rattle.mo_file.specs.declared.byte_order.Order.{Order}
+use Rattle.mo_file.specs.declared.byte_order.Order.TheVariants.{Little, Big}
+
+-- the word that stands at a place
+unfoldable pub word_at : Order → List ℕ → ℕ → ℕ
+word_at Little bytes at = little_number 4 (drop at bytes)
+word_at Big bytes at = big_number 4 (drop at bytes)
+
+-- the four bytes of a word
+unfoldable pub word_bytes : Order → ℕ → List ℕ
+word_bytes Little number = little_bytes 4 number
+word_bytes Big number = big_bytes 4 number

@@ -1,0 +1,63 @@
+ghost use Rattle.std.specs.Prelude.{◌≡◌, ◌+◌, ◌≤◌, ◌++◌, length, MatchOption, OnOk};
+ghost use Rattle.mo_file.specs.Header.{Shows};
+ghost use Rattle.mo_file.specs.Word.{word_at, word_bytes};
+
+use byteorder::{BigEndian, ByteOrder, LittleEndian};
+use std::alloc::AllocError;
+
+/// The first four bytes of a file in little endian order: the magic number 0x950412de.
+pub(crate) const LITTLE_MAGIC: [u8; 4] = [0xde, 0x12, 0x04, 0x95];
+
+/// The first four bytes of a file in big endian order.
+pub(crate) const BIG_MAGIC: [u8; 4] = [0x95, 0x04, 0x12, 0xde];
+
+/// The byte order of the 32-bit words of an MO file ("The Format of GNU MO Files"): the machine that
+/// reads a file tells it from the magic number.
+#[derive(Clone, Copy, Debug, PartialEq, Eq)]
+pub enum Order {
+    /// The lowest byte of a word first.
+    Little,
+    /// The highest byte of a word first.
+    Big,
+}
+
+impl Order {
+    /// The byte order that the magic number at the start of a file shows, or `None` where no magic
+    /// number stands there.
+    pub fn of_file(bytes: &[u8]) -> Option<Order>
+        ensures { MatchOption result ((order : Order) → ¬ Shows order bytes.now) (λ order. Shows order bytes.now) }
+    {
+        if bytes.starts_with(&LITTLE_MAGIC) {
+            Some(Order::Little)
+        } else if bytes.starts_with(&BIG_MAGIC) {
+            Some(Order::Big)
+        } else {
+            None
+        }
+    }
+}
+
+/// The word at a place.
+#[tactic(auto, unfolding(crate::specs::Word::word_at))]
+pub(crate) fn word(order: Order, bytes: &[u8], at: usize) -> u32
+    requires { at + 4 ≤ length bytes.now }
+    ensures { result ≡ word_at order bytes.now at }
+{
+    match order {
+        Order::Little => LittleEndian::read_u32(&bytes[at..]),
+        Order::Big => BigEndian::read_u32(&bytes[at..]),
+    }
+}
+
+/// Appends a word.
+#[tactic(auto, unfolding(crate::specs::Word::word_bytes))]
+pub(crate) fn push_word(out: &mut Vec<u8>, order: Order, number: u32) -> Result<(), AllocError>
+    ensures { OnOk result (out.new.items ≡ out.old.items ++ word_bytes order number) }
+{
+    let mut bytes = [0; 4];
+    match order {
+        Order::Little => LittleEndian::write_u32(&mut bytes, number),
+        Order::Big => BigEndian::write_u32(&mut bytes, number),
+    }
+    out.extend_from_slice(&bytes)
+}

@@ -1,0 +1,74 @@
+ghost use Rattle.std.specs.Prelude.{◌≡◌, ◌+◌, ◌-◌, ◌^◌, ◌<◌, ◌↔◌, Some, IsTrue, MatchResult, slice_get};
+ghost use Rattle.mo_file.specs.Key.{key_of as key_before_nul};
+ghost use Rattle.mo_file.specs.StringTable.{original_at};
+ghost use Rattle.mo_file.specs.Fault.{IsFirstFault, looks_before};
+ghost use Rattle.mo_file.specs.Checking.{HasStrings, IsHeader, IsSortedBelow};
+
+use crate::counting::Meter;
+use crate::fault::MoError;
+use crate::header::Header;
+use crate::key::key_of;
+use crate::strings::{end_at, string_at};
+use std::cmp::Ordering;
+
+/// Sees that each string lies inside the file and that a NUL follows it.
+pub(crate) fn check_strings(header: Header, bytes: &[u8]) -> Result<(), MoError>
+    requires { IsHeader header bytes.now }
+    ensures { MatchResult result (λ _. HasStrings header.order bytes.now) (IsFirstFault bytes.now) }
+{
+    let mut unterminated = None;
+    for i in 0..header.count {
+        let original_end = end_at(header.order, bytes, header.originals, i);
+        let translation_end = end_at(header.order, bytes, header.translations, i);
+        if original_end > bytes.len() || translation_end > bytes.len() {
+            return Err(MoError::StringOutside(i));
+        }
+        let terminated = is_nul(bytes, original_end) && is_nul(bytes, translation_end);
+        if !terminated && unterminated.is_none() {
+            unterminated = Some(i);
+        }
+    }
+    match unterminated {
+        Some(i) => Err(MoError::NoTerminator(i)),
+        None => Ok(()),
+    }
+}
+
+fn is_nul(bytes: &[u8], at: usize) -> bool
+    ensures { IsTrue result ↔ (slice_get bytes.now at ≡ Some 0) }
+{
+    bytes.get(at) == Some(&0)
+}
+
+/// Sees that the keys rise strictly, by one look at each two neighbours.
+pub(crate) fn check_order(header: Header, bytes: &[u8], meter: &mut Meter) -> Result<(), MoError>
+    requires read { IsHeader header bytes.now }
+    requires strings { HasStrings header.order bytes.now }
+    requires room { meter.old < 2 ^ 63 }
+    ensures sorted { MatchResult result (λ _. IsSortedBelow header.order bytes.now header.count) (IsFirstFault bytes.now) }
+    ensures cost { MatchResult result (λ _. meter.new ≡ meter.old + (header.count - 1)) (λ e. meter.new ≡ meter.old + looks_before e) }
+{
+    if header.count == 0 {
+        return Ok(());
+    }
+    let mut key = key_at(header, bytes, 0);
+    for i in 0..header.count - 1 {
+        let next = key_at(header, bytes, i + 1);
+        meter.add_one();
+        match key.cmp(next) {
+            Ordering::Less => key = next,
+            _ => return Err(MoError::NotSorted(i + 1)),
+        }
+    }
+    Ok(())
+}
+
+/// The key of message `i`.
+fn key_at(header: Header, bytes: &[u8], i: u32) -> &[u8]
+    requires read { IsHeader header bytes.now }
+    requires strings { HasStrings header.order bytes.now }
+    requires inside { i < header.count }
+    ensures { result.now ≡ key_before_nul (original_at header.order bytes.now i) }
+{
+    key_of(string_at(header.order, bytes, header.originals, i))
+}

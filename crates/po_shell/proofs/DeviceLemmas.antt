@@ -1,0 +1,30 @@
+-- Lemmas on what writers and readers do piece by piece.
+use Rattle.std.proofs.Common.{◌≡◌, ℕ, ◌+◌, ◌-◌, ◌≤◌, ◌<◌, List, [], ◌++◌, length, take, drop, Option, Some, None, IfSome, sym, ap, subst, ◌∙◌, append-nil}
+use Rattle.std.proofs.lemmas.List.{take_rest, take_all, take_at}
+use Rattle.std.proofs.Math.Seq.{take-add}
+use Rattle.std.proofs.KnownBytes.{Appends-trans}
+use Rattle.std.specs.Io.KnownBytes.{Appends, Consumes, IsAtEnd}
+
+-- the first n + k of xs: the first n, then the first k of what `&xs[n..]` is
+pub take-rest : (n k : ℕ) (xs : List ℕ) → take (n + k) xs ≡ take n xs ++ take k (take (length xs - n) (drop n xs))
+take-rest n k xs = take-add n k xs ∙ ap (λ l. take n xs ++ take k l) (sym (take_rest xs n))
+
+-- after the first n bytes the writer took the next k
+pub Appends-rest : (a b c : Option (List ℕ)) (n k : ℕ) (xs : List ℕ) → Appends a b (take n xs) → Appends b c (take k (take (length xs - n) (drop n xs))) → Appends a c (take (n + k) xs)
+Appends-rest a b c n k xs first next = subst (Appends a c) (sym (take-rest n k xs)) (Appends-trans a b c _ _ first next)
+
+-- a reader that is asked for n bytes, and gave them, gave the first n
+pub taken-full : (n : ℕ) (a b : Option (List ℕ)) (bs : List ℕ) → Consumes a b bs → length bs ≡ n → IfSome a (λ xs. bs ≡ take n xs)
+taken-full n None b bs p e = tt
+taken-full n (Some xs) None bs p e = absurd p
+taken-full n (Some xs) (Some ys) bs p e = sym (ap (take n) p ∙ take_at bs ys n e)
+
+-- one that gave no more, for which there was room, had no more
+pub taken-end : (n : ℕ) (a b c : Option (List ℕ)) (bs : List ℕ) (count : ℕ) (room : List ℕ) → Consumes a b bs → Consumes b c (take count room) × (count ≡ 0 → 0 < length room → IsAtEnd c) → count ≡ 0 → 0 < length room → length bs ≤ n
+    → IfSome a (λ xs. bs ≡ take n xs)
+taken-end n None b c bs count room p q none some l = tt
+taken-end n (Some xs) None c bs count room p q none some l = absurd p
+taken-end n (Some xs) (Some ys) None bs count room p q none some l = absurd q.0
+taken-end n (Some xs) (Some ys) (Some zs) bs count room p q none some l =
+    let nothing : ys ≡ [] = q.0 ∙ ap (λ m. take m room ++ zs) none ∙ q.1 none some in
+    sym (ap (take n) (p ∙ ap (λ r. bs ++ r) nothing ∙ append-nil bs) ∙ take_all n bs l)

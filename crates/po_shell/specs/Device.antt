@@ -1,0 +1,18 @@
+-- What readers and writers count, and what a writer has taken after a fault.
+use Rattle.std.specs.Prelude.{ℕ, List, length, take, nat_eq, not, ◌&&◌, if◌then◌else◌, Result, Ok, Err}
+use Rattle.std.specs.Prelude.{Option}
+use Rattle.std.specs.Io.KnownBytes.{Appends}
+
+-- how many failures a call of a reader is: an `Err` is one
+abbrev pub failure_of_read : {T E : Type 0} → Result T E → ℕ
+failure_of_read (Ok _) = 0
+failure_of_read (Err _) = 1
+
+-- how many failures a call of a writer is: an `Err` is one, and so is an `Ok` that took no byte of a piece that isn't empty
+abbrev pub failure_of_write : {E : Type 0} → Result ℕ E → List ℕ → ℕ
+failure_of_write (Ok n) piece = if nat_eq n 0 && not (nat_eq (length piece) 0) then 1 else 0
+failure_of_write (Err _) piece = 1
+
+-- known bytes grew by the first bytes of bs, or by all of them
+abbrev pub AppendsPrefix : Option (List ℕ) → Option (List ℕ) → List ℕ → Type 0
+AppendsPrefix old new bs = (n : ℕ) × Appends old new (take n bs)

@@ -1,0 +1,36 @@
+// The ways in which a tool can be refused by its surroundings.
+ghost use Rattle.std.specs.Prelude.{◌≡◌};
+ghost use Rattle.po_shell.specs.declared.fault.ToolFault.TheVariants.{OutOfMemory};
+
+use std::alloc::{AllocError, AllocFailed};
+use thiserror::Error;
+
+/// Why a tool gave up, whatever its input says.
+#[derive(Clone, Copy, Debug, PartialEq, Eq, Error)]
+pub enum ToolFault {
+    /// A read failed, or a reader was asked as often as it may be and had no end.
+    #[error("read fault")]
+    ReadFault,
+    /// A write failed, or took no byte of a piece that isn't empty.
+    #[error("write fault")]
+    WriteFault,
+    /// Memory couldn't grow.
+    #[error("out of memory")]
+    OutOfMemory,
+}
+
+impl From<AllocError> for ToolFault {
+    ghost from_gives = { λ _ fault. fault ≡ OutOfMemory };
+
+    fn from(_error: AllocError) -> ToolFault {
+        ToolFault::OutOfMemory
+    }
+}
+
+impl<T: Drop> From<AllocFailed<T>> for ToolFault {
+    ghost from_gives = { λ _ fault. fault ≡ OutOfMemory };
+
+    fn from(_failed: AllocFailed<T>) -> ToolFault {
+        ToolFault::OutOfMemory
+    }
+}
