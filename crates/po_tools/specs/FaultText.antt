@@ -1,6 +1,8 @@
 -- The texts of faults, and the one line on standard error that tells a fault: this project's own
 -- words, since the manual leaves them open.
 use Rattle.std.specs.Prelude.{ℕ, List, [], ◌∷◌, ◌++◌, codes, decimal, ◌==◌, if◌then◌else◌}
+use Rattle.mo_file.specs.declared.fault.MoError.{MoError}
+use Rattle.mo_file.specs.declared.fault.MoError.TheVariants.{TooShort, BadMagic, BadRevision, TableOutside, StringOutside, NoTerminator, NotSorted}
 use Rattle.po_syntax.specs.declared.fault.PoFault.{PoFault}
 use Rattle.po_syntax.specs.declared.fault.PoFault.TheVariants.{NotUtf8, BadToken, UnterminatedString, BadEscape, ForbiddenByte, BadOrder, BadPluralIndex, MixedObsolete, Duplicate, ForeignCharset, TooLarge, OutOfMemory}
 
@@ -18,6 +20,16 @@ po_text (Duplicate line) = codes "duplicate of the message at line " ++ decimal 
 po_text ForeignCharset = codes "charset is not UTF-8"
 po_text TooLarge = codes "too large"
 po_text OutOfMemory = codes "out of memory"
+
+-- what is wrong with an MO file
+abbrev pub mo_text : MoError → List ℕ
+mo_text TooShort = codes "file too short"
+mo_text BadMagic = codes "bad magic number"
+mo_text BadRevision = codes "unknown revision"
+mo_text TableOutside = codes "table outside the file"
+mo_text (StringOutside i) = codes "string " ++ decimal i ++ codes " outside the file"
+mo_text (NoTerminator i) = codes "string " ++ decimal i ++ codes " without a final NUL"
+mo_text (NotSorted i) = codes "string " ++ decimal i ++ codes " out of order"
 
 -- a duplicate of a message of an earlier file
 abbrev pub duplicate_text : List ℕ → ℕ → List ℕ

@@ -1,7 +1,8 @@
 ghost use Rattle.std.specs.Prelude.{◌≡◌, ◌++◌, ◌∷◌, ℕ, List, [], codes, decimal, OnOk};
-ghost use Rattle.po_tools.specs.FaultText.{po_text, duplicate_text, place};
+ghost use Rattle.po_tools.specs.FaultText.{po_text, mo_text, duplicate_text, place};
 
 use itoa::Buffer;
+use mo_file::MoError;
 use po_syntax::PoFault;
 use std::alloc::AllocError;
 
@@ -46,6 +47,26 @@ pub(crate) fn push_po_text(out: &mut Vec<u8>, fault: PoFault) -> Result<(), Allo
         PoFault::ForeignCharset => "charset is not UTF-8",
         PoFault::TooLarge => "too large",
         PoFault::OutOfMemory => "out of memory",
+    };
+    out.extend_from_slice(text.as_bytes())
+}
+
+/// Appends what is wrong with an MO file.
+pub(crate) fn push_mo_text(out: &mut Vec<u8>, fault: MoError) -> Result<(), AllocError>
+    ensures { OnOk result (out.new.items ≡ out.old.items ++ mo_text fault) }
+{
+    let text = match fault {
+        MoError::TooShort => "file too short",
+        MoError::BadMagic => "bad magic number",
+        MoError::BadRevision => "unknown revision",
+        MoError::TableOutside => "table outside the file",
+        MoError::StringOutside(i) => {
+            return push_numbered(out, "string ", i.into(), " outside the file");
+        }
+        MoError::NoTerminator(i) => {
+            return push_numbered(out, "string ", i.into(), " without a final NUL");
+        }
+        MoError::NotSorted(i) => return push_numbered(out, "string ", i.into(), " out of order"),
     };
     out.extend_from_slice(text.as_bytes())
 }

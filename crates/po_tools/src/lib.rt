@@ -2,3 +2,6 @@
 #![tactic(auto)]
 
 mod fault_text;
+mod run;
+
+pub use run::{Run, deliver};
