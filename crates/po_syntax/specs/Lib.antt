@@ -1,1 +1,7 @@
 pub mod TextItem
+pub mod QuotedString
+pub mod Token
+pub mod Line
+pub mod TokenView
+pub mod PoText
+pub mod QuotedForm

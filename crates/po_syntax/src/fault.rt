@@ -76,3 +76,19 @@ impl<T: Drop> From<AllocFailed<T>> for PoError {
         }
     }
 }
+
+impl From<AllocError> for PoFault {
+    ghost from_gives = { λ _ fault. fault ≡ OutOfMemory };
+
+    fn from(_error: AllocError) -> PoFault {
+        PoFault::OutOfMemory
+    }
+}
+
+impl<T: Drop> From<AllocFailed<T>> for PoFault {
+    ghost from_gives = { λ _ fault. fault ≡ OutOfMemory };
+
+    fn from(_error: AllocFailed<T>) -> PoFault {
+        PoFault::OutOfMemory
+    }
+}

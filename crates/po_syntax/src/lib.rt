@@ -2,8 +2,18 @@
 //! (GNU gettext manual, "The Format of PO Files").
 #![tactic(auto)]
 
+mod escape;
 mod fault;
 mod item;
+mod line;
+mod quoted_string;
+mod quoting;
+#[cfg(test)]
+mod tests;
+mod text;
+mod token;
 
 pub use crate::fault::{PoError, PoFault};
 pub use crate::item::{CommentKind, Item, Keyword, Marks};
+pub use crate::quoting::quote;
+pub use crate::text::items;

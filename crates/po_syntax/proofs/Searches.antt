@@ -1,0 +1,36 @@
+-- What a search for a byte finds, in the words of lists.
+use Rattle.std.proofs.Common.{◌≡◌, ◌==◌, ℕ, ◌+◌, ◌<◌, ◌≤◌, Bool, true, false, List, [], ◌∷◌, length, take, drop, get_or, Option, Some, None, unwrap_or, position, arith}
+use Rattle.std.specs.List.{position_or_len, slice_split}
+use Rattle.std.proofs.lemmas.List.Sums.{position_or_len_is}
+use Rattle.std.proofs.lemmas.List.Splits.{slice_split_none, slice_split_first}
+use Rattle.std.proofs.lemmas.Bool.{cond-true, cond-false, lt-ltb, le-ltb, false_from_ne_true}
+use Rattle.std.proofs.lemmas.Grind.{get_or_default_zero}
+use Rattle.std.proofs.lemmas.List.{drop-drop}
+use Rattle.memchr.specs.Find.{IsFirstByte, is_byte}
+use Rattle.po_syntax.specs.PoText.{lines_of}
+
+-- the place found, or the length where none is
+pub found_or_len : (test : ℕ → Bool) (text : List ℕ) (found : Option ℕ) → IsFirstByte test text found → position_or_len test text ≡ unwrap_or found (length text)
+found_or_len test text None h =
+    position_or_len_is test text (length text) 0 (omega arith) (λ k inside. false_from_ne_true _ (h k (omega arith) inside)) (λ beyond. absurd (omega arith))
+found_or_len test text (Some place) h =
+    let inside : place < length text = omega (arith, h.0.high) in
+    position_or_len_is test text place 0 (omega arith) (λ k before. false_from_ne_true _ (h.0.before k (omega arith) before)) (λ _. h.1)
+
+-- the place found is the first position that passes
+pub position_found : (test : ℕ → Bool) (text : List ℕ) (found : Option ℕ) → IsFirstByte test text found → position test text ≡ found
+position_found test text None h =
+    rw (found_or_len test text None h) (cond-false _ _ _ (le-ltb (length text) (length text) (omega arith)))
+position_found test text (Some place) h =
+    rw (found_or_len test text (Some place) h) (cond-true _ _ _ (lt-ltb place (length text) (omega (arith, h.0.high))))
+
+-- a text without LF is its only line
+pub one_line : (text : List ℕ) → IsFirstByte (is_byte 10) text None → lines_of text ≡ text ∷ []
+one_line text h = slice_split_none _ text (λ k d inside. rw (get_or_default_zero text k d inside) (false_from_ne_true _ (h k (omega arith) inside)))
+
+-- the first line ends before the first LF, and the others are those behind it
+pub line_cut : (text : List ℕ) (place : ℕ) → IsFirstByte (is_byte 10) text (Some place) → lines_of text ≡ take place text ∷ lines_of (drop 1 (drop place text))
+line_cut text place h =
+    let first : position_or_len (is_byte 10) text ≡ place = found_or_len (is_byte 10) text (Some place) h in
+    let inside : place < length text = omega (arith, h.0.high) in
+    rw drop-drop (rw first at (slice_split_first (is_byte 10) text 0 (rw first inside)))

@@ -1,0 +1,15 @@
+use Rattle.std.proofs.Common.{◌≡◌, ◌++◌, List, length}
+use Rattle.po_syntax.specs.declared.fault.PoFault.{PoFault}
+use Rattle.po_syntax.specs.Line.{SpellsTokens, TokensStop}
+use Rattle.po_syntax.specs.TextItem.{TextItem, views}
+use Rattle.po_syntax.proofs.line.add_tokens.Given as goal
+
+abbrev pub invariant-loop-inside : goal.invariant-loop-inside
+invariant-loop-inside l =
+    (spelt : List TextItem)
+    × (views l.items.items ≡ views l.initial.items.items ++ spelt)
+    × ((more : List TextItem) → SpellsTokens l.marks l.line l.rest more → SpellsTokens l.marks l.line l.text (spelt ++ more))
+    × ((fault : PoFault) → TokensStop l.rest fault → TokensStop l.text fault)
+
+abbrev pub decreases-loop-inside : goal.decreases-loop-inside
+decreases-loop-inside l = length l.rest

@@ -1,0 +1,37 @@
+use Rattle.std.proofs.Common.{◌∙◌, [], ◌∷◌, ◌++◌, append_assoc, append-nil, arith}
+use Rattle.std.proofs.lemmas.Result.{err_from_is_err_and}
+use Rattle.po_syntax.specs.QuotedString.{ended, spelt, here, later}
+use Rattle.po_syntax.proofs.QuotedStrings.{quote_ends, escape_begins, stops_at_end, escape-rest}
+use Rattle.po_syntax.proofs.quoted_string.add_pieces.Goals as goal
+
+pub returns-in_default-clause-fault : goal.returns-in_default-clause-fault
+returns-in_default-clause-fault c = λ _. c.loop-mark.invariant.3 _ (c.split_plain.ensures.stops _ (stops_at_end _ c.in_default.ensures.cases))
+
+pub returns-then-mark-eq34-clause-found : goal.returns-then-mark-eq34-clause-found
+returns-then-mark-eq34-clause-found c =
+    let plain = c.split_plain.result.0.now in
+    let ends = ended (quote_ends _ _ _ c.in-Some.ensures.cases.0 c.if-mark-eq34.true) in (
+      c.loop-mark.invariant.0 ++ plain,
+      c.loop-mark.invariant.2 _ _ (rw append-nil at (c.split_plain.ensures.spelt [] _ ends)),
+      rw (c.in_ok-extend_from_slice.ensures.items, c.loop-mark.invariant.1, append_assoc),
+    )
+
+pub returns-in_err-byte-clause-fault : goal.returns-in_err-byte-clause-fault
+returns-in_err-byte-clause-fault c =
+    let p = err_from_is_err_and c.from_residual-in_err-byte.result c.from_residual-in_err-byte.ensures.1 in
+    let begins = escape_begins _ _ _ c.in-Some.ensures.cases.0 c.split_plain.ensures.special c.if-mark-eq34.false in
+    rw (p.1, p.2) (λ _. c.loop-mark.invariant.3 _ (c.split_plain.ensures.stops _ (here (begins ∙ c.in_err-byte.ensures))))
+
+pub loop-mark-smaller : goal.loop-mark-smaller
+loop-mark-smaller c = omega (arith, c.split_plain.ensures.parts, c.in-Some.ensures.cases, escape-rest _ c.in_ok-byte.ensures)
+
+pub loop-mark-preserved : goal.loop-mark-preserved
+loop-mark-preserved c =
+    let plain = c.split_plain.result.0.now in
+    let byte = c.in_ok-byte.byte ∷ [] in
+    let begins = escape_begins _ _ _ c.in-Some.ensures.cases.0 c.split_plain.ensures.special c.if-mark-eq34.false in (
+      c.loop-mark.invariant.0 ++ (plain ++ byte),
+      rw (c.in_ok-push.ensures.items, c.in_ok-extend_from_slice.ensures.items, c.loop-mark.invariant.1) (simp append_assoc),
+      λ more end h. simp append_assoc (c.loop-mark.invariant.2 _ _ (c.split_plain.ensures.spelt (c.in_ok-byte.byte ∷ more) _ (spelt (begins ∙ c.in_ok-byte.ensures) h))),
+      λ fault h. c.loop-mark.invariant.3 _ (c.split_plain.ensures.stops _ (later (begins ∙ c.in_ok-byte.ensures) h)),
+    )

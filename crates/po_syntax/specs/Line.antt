@@ -1,0 +1,90 @@
+-- The lines of a PO text: comments, and tokens under marks (manual, "The Format of PO Files").
+use Rattle.std.specs.Prelude.{◌≡◌, ℕ, ◌-◌, ◌==◌, true, false, if◌then◌else◌, List, [], ◌∷◌, length, take}
+use Rattle.std.specs.List.{suffix_len}
+use Rattle.po_syntax.specs.declared.fault.PoFault.{PoFault}
+use Rattle.po_syntax.specs.declared.fault.PoFault.TheVariants.{BadToken}
+use Rattle.po_syntax.specs.declared.item.CommentKind.{CommentKind}
+use Rattle.po_syntax.specs.declared.item.CommentKind.TheVariants.{Translator, Extracted, Reference, Flags}
+use Rattle.po_syntax.specs.declared.item.Keyword.{Keyword}
+use Rattle.po_syntax.specs.declared.item.Marks.{Marks}
+use Rattle.po_syntax.specs.QuotedString.{IsQuoted, QuotedStops}
+use Rattle.po_syntax.specs.TextItem.{TextItem, Comment, Word, Str}
+use Rattle.po_syntax.specs.Token.{Nothing, Open, Key, Halt, token_at, skip_blanks}
+
+-- What a line is by its first bytes: a comment with its text; tokens under marks; or neither.
+pub data Shape : Type 0 where
+  Note : CommentKind → List ℕ → Shape
+  Tokens : Marks → List ℕ → Shape
+  NoShape : Shape
+
+-- the comment behind its `#`; `#|` and `#~` begin none
+abbrev pub note_shape : List ℕ → Shape
+note_shape [] = Note Translator []
+note_shape (b ∷ rest) =
+    if b == 46 then Note Extracted rest
+    else if b == 58 then Note Reference rest
+    else if b == 44 then Note Flags rest
+    else if b == 124 then NoShape
+    else if b == 126 then NoShape
+    else Note Translator (b ∷ rest)
+
+-- behind `#~` and blanks: a comment, or tokens
+unfoldable pub obsolete_shape : List ℕ → Shape
+obsolete_shape [] = Tokens (record { obsolete = true; previous = false }) []
+obsolete_shape (b ∷ rest) =
+    if b == 35 then note_shape rest
+    else Tokens (record { obsolete = true; previous = false }) (b ∷ rest)
+
+-- behind `#~`
+unfoldable pub tilde_shape : List ℕ → Shape
+tilde_shape [] = obsolete_shape []
+tilde_shape (b ∷ rest) =
+    if b == 124 then Tokens (record { obsolete = true; previous = true }) rest
+    else obsolete_shape (skip_blanks (b ∷ rest))
+
+-- behind `#`
+unfoldable pub hash_shape : List ℕ → Shape
+hash_shape [] = note_shape []
+hash_shape (b ∷ rest) =
+    if b == 124 then Tokens (record { obsolete = false; previous = true }) rest
+    else if b == 126 then tilde_shape rest
+    else note_shape (b ∷ rest)
+
+unfoldable pub first_shape : List ℕ → Shape
+first_shape [] = Tokens (record { obsolete = false; previous = false }) []
+first_shape (b ∷ rest) =
+    if b == 35 then hash_shape rest
+    else Tokens (record { obsolete = false; previous = false }) (b ∷ rest)
+
+-- blanks may stand before a line
+abbrev pub shape_of : List ℕ → Shape
+shape_of line = first_shape (skip_blanks line)
+
+-- a comment's text ends before the CRs at its end
+abbrev pub trim_returns : List ℕ → List ℕ
+trim_returns text = take (length text - suffix_len (λ b. b == 13) text) text
+
+-- under these marks, on the line of this number, the text spells these items
+pub data SpellsTokens (marks : Marks) (line : ℕ) : List ℕ → List TextItem → Type 0 where
+  none : {text : List ℕ} → token_at text ≡ Nothing → SpellsTokens marks line text []
+  word : {text rest : List ℕ} {keyword : Keyword} {items : List TextItem} → token_at text ≡ Key keyword rest → SpellsTokens marks line rest items
+    → SpellsTokens marks line text (Word keyword marks line ∷ items)
+  string : {text inner bytes rest : List ℕ} {items : List TextItem} → token_at text ≡ Open inner → IsQuoted inner bytes rest → SpellsTokens marks line rest items
+    → SpellsTokens marks line text (Str bytes marks line ∷ items)
+
+-- the first place where no token goes on has this fault
+pub data TokensStop : List ℕ → PoFault → Type 0 where
+  halt : {text : List ℕ} {fault : PoFault} → token_at text ≡ Halt fault → TokensStop text fault
+  in_string : {text inner : List ℕ} {fault : PoFault} → token_at text ≡ Open inner → QuotedStops inner fault → TokensStop text fault
+  after_word : {text rest : List ℕ} {keyword : Keyword} {fault : PoFault} → token_at text ≡ Key keyword rest → TokensStop rest fault → TokensStop text fault
+  after_string : {text inner bytes rest : List ℕ} {fault : PoFault} → token_at text ≡ Open inner → IsQuoted inner bytes rest → TokensStop rest fault → TokensStop text fault
+
+-- the line of this number spells these items
+pub data SpellsLine (line : ℕ) : List ℕ → List TextItem → Type 0 where
+  comment : {text rest : List ℕ} {kind : CommentKind} → shape_of text ≡ Note kind rest → SpellsLine line text (Comment kind (trim_returns rest) line ∷ [])
+  tokens : {text rest : List ℕ} {marks : Marks} {items : List TextItem} → shape_of text ≡ Tokens marks rest → SpellsTokens marks line rest items → SpellsLine line text items
+
+-- the line spells no items: its first fault is this one
+pub data LineStops : List ℕ → PoFault → Type 0 where
+  no_shape : {text : List ℕ} → shape_of text ≡ NoShape → LineStops text BadToken
+  in_tokens : {text rest : List ℕ} {marks : Marks} {fault : PoFault} → shape_of text ≡ Tokens marks rest → TokensStop rest fault → LineStops text fault

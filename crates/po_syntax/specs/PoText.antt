@@ -1,0 +1,54 @@
+-- The items of a PO text, and its first fault (manual, "The Format of PO Files").
+use Rattle.std.specs.Prelude.{◌≡◌, ℕ, ◌+◌, ◌^◌, ◌<◌, ◌≤◌, ◌⊎◌, ◌==◌, List, [], ◌∷◌, ◌++◌, take, drop, length, if◌then◌else◌, IsUtf8, position, count_by, Some, None}
+use Rattle.std.specs.List.{slice_split, starts_with}
+use Rattle.std.specs.Str.Lossy.{utf8_valid_len}
+use Rattle.std.specs.Prelude.{nat_eq}
+use Rattle.po_syntax.specs.declared.fault.PoFault.{PoFault}
+use Rattle.po_syntax.specs.declared.fault.PoFault.TheVariants.{NotUtf8, ForbiddenByte, TooLarge}
+use Rattle.po_syntax.specs.Line.{SpellsLine, LineStops}
+use Rattle.po_syntax.specs.TextItem.{TextItem}
+
+-- at most 2,147,483,647 bytes
+abbrev pub IsSmall : List ℕ → Type 0
+IsSmall text = length text < 2 ^ 31
+
+abbrev pub HasNoNul : List ℕ → Type 0
+HasNoNul text = position (λ b. b == 0) text ≡ None
+
+-- the number of the line on which this place of the text stands, counted from 1
+abbrev pub line_number : List ℕ → ℕ → ℕ
+line_number text place = 1 + count_by (λ b. b == 10) (take place text)
+
+-- the text behind a byte order mark at its start
+abbrev pub without_mark : List ℕ → List ℕ
+without_mark text = if starts_with nat_eq text (0xEF ∷ 0xBB ∷ 0xBF ∷ []) then drop 3 text else text
+
+-- the lines of a text, cut at LF
+abbrev pub lines_of : List ℕ → List (List ℕ)
+lines_of text = slice_split (λ b. b == 10) text
+
+-- the lines from this number on spell these items
+abbrev pub SpellsLines : ℕ → List (List ℕ) → List TextItem → Type 0
+SpellsLines number [] items = items ≡ []
+SpellsLines number (line ∷ lines) items = (here : List TextItem) × (later : List TextItem) × SpellsLine number line here × SpellsLines (number + 1) lines later × (items ≡ here ++ later)
+
+-- the first line, from this number on, that spells nothing has this number and this fault
+abbrev pub LinesStop : ℕ → List (List ℕ) → PoFault → ℕ → Type 0
+LinesStop number [] fault at = ⊥
+LinesStop number (line ∷ lines) fault at =
+    (LineStops line fault × (at ≡ number)) ⊎ ((here : List TextItem) × SpellsLine number line here × LinesStop (number + 1) lines fault at)
+
+-- the text spells these items
+pub record SpellsText (text : List ℕ) (items : List TextItem) : Type 0 where
+  pub small : IsSmall text
+  pub utf8 : IsUtf8 text
+  pub no_nul : HasNoNul text
+  pub lines : SpellsLines 1 (lines_of (without_mark text)) items
+
+-- The first fault of a text, with its line: it is too long; it is not UTF-8; it holds a NUL; or a
+-- line stops.
+pub data TextFault : List ℕ → PoFault → ℕ → Type 0 where
+  too_large : {text : List ℕ} → 2 ^ 31 ≤ length text → TextFault text TooLarge 0
+  not_utf8 : {text : List ℕ} {line : ℕ} → IsSmall text → (IsUtf8 text → ⊥) → line ≡ line_number text (utf8_valid_len text) → TextFault text NotUtf8 line
+  nul : {text : List ℕ} {line place : ℕ} → IsSmall text → IsUtf8 text → position (λ b. b == 0) text ≡ Some place → line ≡ line_number text place → TextFault text ForbiddenByte line
+  stops : {text : List ℕ} {fault : PoFault} {line : ℕ} → IsSmall text → IsUtf8 text → HasNoNul text → LinesStop 1 (lines_of (without_mark text)) fault line → TextFault text fault line

@@ -1,0 +1,72 @@
+-- A string between double quotes, with the escapes of C (manual, "The Format of PO Files").
+-- A text here is what is left of a line, so that its end is the line's end.
+use Rattle.std.specs.Prelude.{◌≡◌, ℕ, ◌==◌, nat_lt, if◌then◌else◌, List, [], ◌∷◌, take, drop, Option, Some, None}
+use Rattle.std.specs.List.{prefix_len}
+use Rattle.std.specs.Char.{is_digit}
+use Rattle.std.specs.Str.Parse.{digits_value}
+use Rattle.po_syntax.specs.declared.fault.PoFault.{PoFault}
+use Rattle.po_syntax.specs.declared.fault.PoFault.TheVariants.{UnterminatedString, BadEscape, ForbiddenByte}
+
+-- One step inside a quoted string: its end, with the text behind it; a byte, with the text behind
+-- what spells it; or a fault.
+pub data Step : Type 0 where
+  End : List ℕ → Step
+  Byte : ℕ → List ℕ → Step
+  Stop : PoFault → Step
+
+-- how many digits of a base the text begins with
+abbrev pub digit_count : ℕ → List ℕ → ℕ
+digit_count base text = prefix_len (λ b. is_digit b base) text
+
+-- the byte with a number: not NUL, and at most 255
+abbrev pub numbered : ℕ → List ℕ → Step
+numbered number rest =
+    if number == 0 then Stop ForbiddenByte
+    else if nat_lt number 256 then Byte number rest
+    else Stop BadEscape
+
+-- the byte whose number the first digits of the text write
+abbrev pub number_step : ℕ → ℕ → List ℕ → Step
+number_step base count text = numbered (digits_value base (take count text)) (drop count text)
+
+-- the byte that a letter or mark behind a backslash stands for: `a b f n r t v`, `\` and `"`
+abbrev pub letter_value : ℕ → Option ℕ
+letter_value letter =
+    if letter == 97 then Some 7
+    else if letter == 98 then Some 8
+    else if letter == 102 then Some 12
+    else if letter == 110 then Some 10
+    else if letter == 114 then Some 13
+    else if letter == 116 then Some 9
+    else if letter == 118 then Some 11
+    else if letter == 92 then Some 92
+    else if letter == 34 then Some 34
+    else None
+
+abbrev pub letter_step : Option ℕ → List ℕ → Step
+letter_step None rest = Stop BadEscape
+letter_step (Some byte) rest = Byte byte rest
+
+-- What stands behind a backslash: one to three octal digits, as many as there are; `x` and hex
+-- digits, all that follow, at least one; or a letter.
+unfoldable pub escape_at : List ℕ → Step
+escape_at [] = Stop BadEscape
+escape_at (b ∷ text) =
+    if is_digit b 8 then number_step 8 (digit_count 8 (take 3 (b ∷ text))) (b ∷ text)
+    else if b == 120 then (if digit_count 16 text == 0 then Stop BadEscape else number_step 16 (digit_count 16 text) text)
+    else letter_step (letter_value b) text
+
+-- any byte but the closing quote and the backslash stands for itself
+unfoldable pub step_at : List ℕ → Step
+step_at [] = Stop UnterminatedString
+step_at (b ∷ text) = if b == 34 then End text else if b == 92 then escape_at text else Byte b text
+
+-- Behind an opening quote the text spells these bytes, and the rest stands behind the closing quote.
+pub data IsQuoted : List ℕ → List ℕ → List ℕ → Type 0 where
+  ended : {text rest : List ℕ} → step_at text ≡ End rest → IsQuoted text [] rest
+  spelt : {text next bytes rest : List ℕ} {b : ℕ} → step_at text ≡ Byte b next → IsQuoted next bytes rest → IsQuoted text (b ∷ bytes) rest
+
+-- Behind an opening quote the first place where nothing goes on has this fault.
+pub data QuotedStops : List ℕ → PoFault → Type 0 where
+  here : {text : List ℕ} {fault : PoFault} → step_at text ≡ Stop fault → QuotedStops text fault
+  later : {text next : List ℕ} {b : ℕ} {fault : PoFault} → step_at text ≡ Byte b next → QuotedStops next fault → QuotedStops text fault

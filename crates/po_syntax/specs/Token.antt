@@ -1,0 +1,74 @@
+-- The tokens of a line: keywords, with the index of a plural form, and opening quotes
+-- (manual, "The Format of PO Files").
+use Rattle.std.specs.Prelude.{ℕ, ◌^◌, Bool, ◌||◌, ◌==◌, nat_lt, if◌then◌else◌, List, [], ◌∷◌, take, drop, codes, bytes_eq}
+use Rattle.std.specs.List.{prefix_len}
+use Rattle.std.specs.Char.{is_ascii_alphanumeric}
+use Rattle.std.specs.Str.Parse.{digits_value}
+use Rattle.po_syntax.specs.declared.fault.PoFault.{PoFault}
+use Rattle.po_syntax.specs.declared.fault.PoFault.TheVariants.{BadToken, BadPluralIndex}
+use Rattle.po_syntax.specs.declared.item.Keyword.{Keyword}
+use Rattle.po_syntax.specs.declared.item.Keyword.TheVariants.{MsgCtxt, MsgId, MsgIdPlural, MsgStr, MsgStrAt}
+use Rattle.po_syntax.specs.QuotedString.{digit_count}
+
+-- The next token of a line: none, at its end; an opening quote or a keyword, with the text behind
+-- it; or a fault.
+pub data Token : Type 0 where
+  Nothing : Token
+  Open : List ℕ → Token
+  Key : Keyword → List ℕ → Token
+  Halt : PoFault → Token
+
+-- space, TAB, VT, FF and CR
+abbrev pub is_blank : ℕ → Bool
+is_blank b = b == 32 || b == 9 || b == 11 || b == 12 || b == 13
+
+abbrev pub skip_blanks : List ℕ → List ℕ
+skip_blanks text = drop (prefix_len is_blank text) text
+
+-- an ASCII letter, a digit or `_`
+abbrev pub is_word_byte : ℕ → Bool
+is_word_byte b = is_ascii_alphanumeric b || b == 95
+
+-- a closing bracket is wanted behind an index
+abbrev pub close_token : ℕ → List ℕ → Token
+close_token index [] = Halt BadToken
+close_token index (b ∷ rest) = if b == 93 then Key (MsgStrAt index) rest else Halt BadToken
+
+-- behind an opening bracket and blanks: decimal digits, blanks and the closing bracket
+unfoldable pub index_token : List ℕ → Token
+index_token text =
+    let count = digit_count 10 text in
+    let index = digits_value 10 (take count text) in
+    if count == 0 then Halt BadToken
+    else if nat_lt index (2 ^ 32) then close_token index (skip_blanks (drop count text))
+    else Halt BadPluralIndex
+
+-- `msgstr` alone, or with an index where an opening bracket is the next byte behind blanks
+abbrev pub bracket_token : List ℕ → List ℕ → Token
+bracket_token rest [] = Key MsgStr rest
+bracket_token rest (b ∷ inside) = if b == 91 then index_token (skip_blanks inside) else Key MsgStr rest
+
+-- a word must be a keyword
+unfoldable pub keyword_token : List ℕ → List ℕ → Token
+keyword_token word rest =
+    if bytes_eq word (codes "msgctxt") then Key MsgCtxt rest
+    else if bytes_eq word (codes "msgid") then Key MsgId rest
+    else if bytes_eq word (codes "msgid_plural") then Key MsgIdPlural rest
+    else if bytes_eq word (codes "msgstr") then bracket_token rest (skip_blanks rest)
+    else Halt BadToken
+
+-- a word is the longest run of its bytes
+abbrev pub word_token : List ℕ → Token
+word_token text =
+    let count = prefix_len is_word_byte text in keyword_token (take count text) (drop count text)
+
+unfoldable pub first_token : List ℕ → Token
+first_token [] = Nothing
+first_token (b ∷ rest) =
+    if b == 34 then Open rest
+    else if is_word_byte b then word_token (b ∷ rest)
+    else Halt BadToken
+
+-- blanks may stand before a token
+abbrev pub token_at : List ℕ → Token
+token_at text = first_token (skip_blanks text)

@@ -1,0 +1,91 @@
+ghost use Rattle.std.specs.Prelude.{◌≡◌, ◌^◌, ◌<◌, ◌≤◌, length, All, MatchResult, SomeIff};
+ghost use Rattle.std.specs.Char.{digit_value};
+ghost use Rattle.std.specs.Str.Parse.{digits_value};
+ghost use Rattle.po_syntax.specs.QuotedString.{Byte, Stop, digit_count, escape_at, letter_value, number_step};
+
+use crate::fault::PoFault;
+
+/// How many digits of a base the text begins with.
+pub(crate) fn digit_count(base: u32, text: &[u8]) -> usize
+    requires least { 2 ≤ base }
+    requires most { base ≤ 36 }
+    ensures count { result ≡ digit_count base text.now }
+    ensures within { result ≤ length text.now }
+{
+    text.iter()
+        .take_while(|b| (**b as char).is_digit(base))
+        .count()
+}
+
+/// The number that digits of a base write; none from 2^32 on.
+pub(crate) fn number_of(base: u32, digits: &[u8]) -> Option<u32>
+    requires least { 2 ≤ base }
+    requires most { base ≤ 36 }
+    requires digits { All (λ b. digit_value b < base) digits.now }
+    ensures { SomeIff result (digits_value base digits.now < 2 ^ 32) (digits_value base digits.now) }
+{
+    let mut number: u32 = 0;
+    for digit in digits {
+        let digit = (*digit as char).to_digit(base)?;
+        number = number.checked_mul(base)?.checked_add(digit)?;
+    }
+    Some(number)
+}
+
+/// The byte that the first `count` bytes of the text, digits of the base, number.
+fn numbered_byte(base: u32, count: usize, text: &[u8]) -> Result<(u8, &[u8]), PoFault>
+    requires least { 2 ≤ base }
+    requires most { base ≤ 36 }
+    requires digits { count ≤ digit_count base text.now }
+    ensures { MatchResult result (λ p. number_step base count text.now ≡ Byte p.0 p.1.now) (λ e. number_step base count text.now ≡ Stop e) }
+{
+    let (digits, rest) = text.split_at(count);
+    match number_of(base, digits) {
+        Some(0) => Err(PoFault::ForbiddenByte),
+        Some(number) if number < 256 => Ok((number as u8, rest)),
+        _ => Err(PoFault::BadEscape),
+    }
+}
+
+/// The byte that a letter or mark behind a backslash stands for.
+fn letter_value(letter: u8) -> Option<u8>
+    ensures { result ≡ letter_value letter }
+{
+    match letter {
+        b'a' => Some(7),
+        b'b' => Some(8),
+        b'f' => Some(12),
+        b'n' => Some(b'\n'),
+        b'r' => Some(b'\r'),
+        b't' => Some(b'\t'),
+        b'v' => Some(11),
+        b'\\' => Some(b'\\'),
+        b'"' => Some(b'"'),
+        _ => None,
+    }
+}
+
+/// The byte that an escape stands for, read behind its backslash, and the text behind it.
+#[tactic(auto, unfolding(crate::specs::QuotedString::escape_at))]
+pub(crate) fn escape(text: &[u8]) -> Result<(u8, &[u8]), PoFault>
+    ensures { MatchResult result (λ p. escape_at text.now ≡ Byte p.0 p.1.now) (λ e. escape_at text.now ≡ Stop e) }
+{
+    let Some((first, rest)) = text.split_first() else {
+        return Err(PoFault::BadEscape);
+    };
+    if (*first as char).is_digit(8) {
+        let most = text.len().min(3);
+        return numbered_byte(8, digit_count(8, &text[..most]), text);
+    }
+    if *first == b'x' {
+        let count = digit_count(16, rest);
+        if count == 0 {
+            return Err(PoFault::BadEscape);
+        }
+        return numbered_byte(16, count, rest);
+    }
+    match letter_value(*first) {
+        Some(byte) => Ok((byte, rest)),
+        None => Err(PoFault::BadEscape),
+    }
+}

@@ -1,0 +1,134 @@
+ghost use Rattle.std.specs.Prelude.{◌≡◌, ◌≢◌, ◌++◌, List, ◌≤◌, length, IfErr, OnOk, MatchOption};
+ghost use Rattle.std.specs.Prelude.{◌==◌};
+ghost use Rattle.std.specs.List.{suffix_len};
+ghost use Rattle.po_syntax.specs.Line.{NoShape, shape_of, first_shape, hash_shape, tilde_shape, note_shape, trim_returns, SpellsTokens, TokensStop, SpellsLine, LineStops};
+ghost use Rattle.po_syntax.specs.TextItem.{TextItem, views};
+ghost use Rattle.po_syntax.specs.TokenView.{shape_seen};
+
+use crate::fault::PoFault;
+use crate::item::{CommentKind, Item, Marks};
+use crate::quoted_string::quoted_string;
+use crate::token::{Token, next_token, skip_blanks};
+use std::alloc::Global;
+
+/// What a line is by its first bytes, with the text behind them.
+enum Shape<'a> {
+    Comment(CommentKind, &'a [u8]),
+    Tokens(Marks, &'a [u8]),
+}
+
+/// The comment behind its `#`; none at `#|` and `#~`.
+fn comment(text: &[u8]) -> Option<Shape<'_>>
+    ensures { MatchOption result (note_shape text.now ≡ NoShape) (λ shape. note_shape text.now ≡ shape_seen shape) }
+{
+    match text.split_first() {
+        Some((b'.', rest)) => Some(Shape::Comment(CommentKind::Extracted, rest)),
+        Some((b':', rest)) => Some(Shape::Comment(CommentKind::Reference, rest)),
+        Some((b',', rest)) => Some(Shape::Comment(CommentKind::Flags, rest)),
+        Some((b'|' | b'~', _)) => None,
+        _ => Some(Shape::Comment(CommentKind::Translator, text)),
+    }
+}
+
+/// The shape of a line, read behind `#~`.
+#[tactic(auto, unfolding(crate::specs::Line::tilde_shape, crate::specs::Line::obsolete_shape))]
+fn obsolete(text: &[u8]) -> Option<Shape<'_>>
+    ensures { MatchOption result (tilde_shape text.now ≡ NoShape) (λ shape. tilde_shape text.now ≡ shape_seen shape) }
+{
+    if let Some((b'|', rest)) = text.split_first() {
+        let marks = Marks { obsolete: true, previous: true };
+        return Some(Shape::Tokens(marks, rest));
+    }
+    let text = skip_blanks(text);
+    match text.split_first() {
+        Some((b'#', rest)) => comment(rest),
+        _ => Some(Shape::Tokens(Marks { obsolete: true, previous: false }, text)),
+    }
+}
+
+/// The shape of a line, read behind its first `#`.
+#[tactic(auto, unfolding(crate::specs::Line::hash_shape))]
+fn hash(text: &[u8]) -> Option<Shape<'_>>
+    ensures { MatchOption result (hash_shape text.now ≡ NoShape) (λ shape. hash_shape text.now ≡ shape_seen shape) }
+{
+    match text.split_first() {
+        Some((b'|', rest)) => Some(Shape::Tokens(Marks { obsolete: false, previous: true }, rest)),
+        Some((b'~', rest)) => obsolete(rest),
+        _ => comment(text),
+    }
+}
+
+/// The shape of a line; none where it is no comment and bears no tokens.
+#[tactic(auto, unfolding(crate::specs::Line::first_shape))]
+fn shape_of(line: &[u8]) -> Option<Shape<'_>>
+    ensures { MatchOption result (shape_of line.now ≡ NoShape) (λ shape. shape_of line.now ≡ shape_seen shape) }
+{
+    let text = skip_blanks(line);
+    match text.split_first() {
+        Some((b'#', rest)) => hash(rest),
+        _ => Some(Shape::Tokens(Marks { obsolete: false, previous: false }, text)),
+    }
+}
+
+/// How many CRs the text ends with.
+fn return_count(text: &[u8]) -> usize
+    ensures count { result ≡ suffix_len (λ b. b == 13) text.now }
+    ensures within { result ≤ length text.now }
+{
+    text.iter().rev().take_while(|b| **b == b'\r').count()
+}
+
+/// The text without the CRs at its end.
+fn trim_returns(text: &[u8]) -> &[u8]
+    ensures { result.now ≡ trim_returns text.now }
+{
+    text.split_at(text.len() - return_count(text)).0
+}
+
+/// Appends the items of a line's tokens.
+fn add_tokens<'a>(
+    alloc: Global,
+    items: &mut Vec<Item<'a>>,
+    text: &'a [u8],
+    marks: Marks,
+    line: u32,
+) -> Result<(), PoFault>
+    ensures found { OnOk result ((spelt : List TextItem) × SpellsTokens marks line text.now spelt × (views items.new.items ≡ views items.old.items ++ spelt)) }
+    ensures fault { IfErr result (λ e. e ≢ PoFault.OutOfMemory → TokensStop text.now e) }
+{
+    let mut rest = text;
+    loop {
+        match next_token(rest)? {
+            Token::End => return Ok(()),
+            Token::Quote(inside) => {
+                let (bytes, after) = quoted_string(alloc, inside)?;
+                items.push(Item::Str(bytes, marks, line))?;
+                rest = after;
+            }
+            Token::Word(keyword, after) => {
+                items.push(Item::Word(keyword, marks, line))?;
+                rest = after;
+            }
+        }
+    }
+}
+
+/// Appends the items of the line with this number.
+pub(crate) fn add_line<'a>(
+    alloc: Global,
+    items: &mut Vec<Item<'a>>,
+    text: &'a [u8],
+    line: u32,
+) -> Result<(), PoFault>
+    ensures found { OnOk result ((spelt : List TextItem) × SpellsLine line text.now spelt × (views items.new.items ≡ views items.old.items ++ spelt)) }
+    ensures fault { IfErr result (λ e. e ≢ PoFault.OutOfMemory → LineStops text.now e) }
+{
+    match shape_of(text) {
+        None => Err(PoFault::BadToken),
+        Some(Shape::Tokens(marks, rest)) => add_tokens(alloc, items, rest, marks, line),
+        Some(Shape::Comment(kind, rest)) => {
+            items.push(Item::Comment(kind, trim_returns(rest), line))?;
+            Ok(())
+        }
+    }
+}

@@ -1,0 +1,91 @@
+ghost use Rattle.std.specs.Prelude.{◌≡◌, ◌≤◌, ◌++◌, length, take, OnOk, OnErr, IfErr, alloc_error};
+ghost use Rattle.std.specs.List.{prefix_len};
+ghost use Rattle.po_syntax.specs.declared.fault.PoFault.TheVariants.{OutOfMemory};
+ghost use Rattle.po_syntax.specs.QuotedForm.{is_raw, quoted, written_byte, written_bytes};
+
+use crate::fault::PoError;
+use std::alloc::AllocError;
+
+/// Whether a byte stands for itself inside a quoted string that is written.
+fn is_raw(byte: u8) -> bool
+    ensures { result ≡ is_raw byte }
+{
+    byte >= 32 && byte != b'"' && byte != b'\\' && byte != 127
+}
+
+fn raw_count(bytes: &[u8]) -> usize
+    ensures count { result ≡ prefix_len is_raw bytes.now }
+    ensures within { result ≤ length bytes.now }
+{
+    bytes.iter().take_while(|b| is_raw(**b)).count()
+}
+
+/// Splits off the bytes that are written as they are.
+fn split_raw(bytes: &[u8]) -> (&[u8], &[u8])
+    ensures parts { result.0.now ++ result.1.now ≡ bytes.now }
+    ensures raw { written_bytes result.0.now ≡ result.0.now }
+{
+    bytes.split_at(raw_count(bytes))
+}
+
+/// Appends what is written for one byte.
+#[tactic(auto, unfolding(crate::specs::QuotedForm::written_byte))]
+fn write_byte(byte: u8, out: &mut Vec<u8>) -> Result<(), AllocError>
+    ensures ok { OnOk result (out.new.items ≡ out.old.items ++ written_byte byte) }
+    ensures err { OnErr result (out.new.items ≡ out.old.items) }
+{
+    match byte {
+        7 => out.extend_from_slice(b"\\a"),
+        8 => out.extend_from_slice(b"\\b"),
+        b'\t' => out.extend_from_slice(b"\\t"),
+        b'\n' => out.extend_from_slice(b"\\n"),
+        11 => out.extend_from_slice(b"\\v"),
+        12 => out.extend_from_slice(b"\\f"),
+        b'\r' => out.extend_from_slice(b"\\r"),
+        b'"' => out.extend_from_slice(b"\\\""),
+        b'\\' => out.extend_from_slice(b"\\\\"),
+        0..32 | 127 => out.extend_from_slice(&[
+            b'\\',
+            b'0' + byte / 64,
+            b'0' + byte / 8 % 8,
+            b'0' + byte % 8,
+        ]),
+        _ => out.extend_from_slice(&[byte]),
+    }
+}
+
+/// Appends the quoted form; after a refusal `out` begins with what it was.
+fn write_quoted(bytes: &[u8], out: &mut Vec<u8>) -> Result<(), AllocError>
+    ensures ok { OnOk result (out.new.items ≡ out.old.items ++ quoted bytes.now) }
+    ensures err { OnErr result (take (length out.old.items) out.new.items ≡ out.old.items) }
+{
+    out.extend_from_slice(b"\"")?;
+    let mut rest = bytes;
+    loop {
+        let (raw, special) = split_raw(rest);
+        out.extend_from_slice(raw)?;
+        let Some((byte, after)) = special.split_first() else {
+            break;
+        };
+        write_byte(*byte, out)?;
+        rest = after;
+    }
+    out.extend_from_slice(b"\"")
+}
+
+/// Appends the quoted form of a text, as PO files are written (manual, "The Format of PO Files").
+/// Want of memory is the only refusal, and it leaves `out` as it was.
+pub fn quote(bytes: &[u8], out: &mut Vec<u8>) -> Result<(), PoError>
+    ensures ok { OnOk result (out.new.items ≡ out.old.items ++ quoted bytes.now) }
+    ensures err { OnErr result (out.new.items ≡ out.old.items) }
+    ensures memory { IfErr result (λ e. e ≡ record { kind = OutOfMemory; line = 0 }) }
+{
+    let len = out.len();
+    match write_quoted(bytes, out) {
+        Ok(()) => Ok(()),
+        Err(error) => {
+            out.truncate(len);
+            Err(PoError::from(error))
+        }
+    }
+}

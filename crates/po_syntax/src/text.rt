@@ -1,0 +1,110 @@
+ghost use Rattle.std.specs.Prelude.{◌≡◌, ◌≢◌, ◌+◌, ◌<◌, ◌≤◌, ◌^◌, ◌∷◌, [], ◌++◌, List, length, vec_len, IfOk, IfErr, IfSome, OnOk, MatchOption};
+ghost use Rattle.po_syntax.specs.PoText.{SpellsText, TextFault, SpellsLines, LinesStop, line_number, without_mark, lines_of};
+ghost use Rattle.po_syntax.specs.Line.{SpellsLine, LineStops};
+ghost use Rattle.po_syntax.specs.TextItem.{TextItem, views};
+
+use crate::fault::{PoError, PoFault};
+use crate::item::Item;
+use crate::line::add_line;
+use memchr::memchr;
+use simdutf8::compat::from_utf8;
+use std::alloc::Global;
+
+/// The longest text that is read, in bytes.
+const MAX_LEN: usize = 2_147_483_647;
+
+/// The text behind a byte order mark at its start.
+fn without_mark(text: &[u8]) -> &[u8]
+    ensures { result.now ≡ without_mark text.now }
+{
+    text.strip_prefix(b"\xef\xbb\xbf").unwrap_or(text)
+}
+
+/// The number of the line on which a place of the text stands, counted from 1.
+fn line_number(text: &[u8], place: usize) -> u32
+    requires inside { place ≤ length text.now }
+    requires small { length text.now < 2 ^ 31 }
+    ensures { result ≡ line_number text.now place }
+{
+    let feeds = text.split_at(place).0.iter().filter(|b| **b == b'\n').count();
+    1 + feeds as u32
+}
+
+/// Cuts off the first line: its text, and what stands behind its LF, if it has one.
+fn first_line(text: &[u8]) -> (&[u8], Option<&[u8]>)
+    ensures cut { MatchOption result.1 (lines_of text.now ≡ result.0.now ∷ []) (λ rest. lines_of text.now ≡ result.0.now ∷ lines_of rest.now) }
+    ensures less { IfSome result.1 (λ rest. length rest.now < length text.now) }
+{
+    let Some(end) = memchr(b'\n', text) else {
+        return (text, None);
+    };
+    let (line, rest) = text.split_at(end);
+    (line, Some(rest.split_at(1).1))
+}
+
+/// Appends the items of the line with this number, and tells its fault with the number.
+fn add_numbered_line<'a>(
+    alloc: Global,
+    items: &mut Vec<Item<'a>>,
+    text: &'a [u8],
+    line: u32,
+) -> Result<(), PoError>
+    ensures found { OnOk result ((spelt : List TextItem) × SpellsLine line text.now spelt × (views items.new.items ≡ views items.old.items ++ spelt)) }
+    ensures fault { IfErr result (λ e. e.kind ≢ PoFault.OutOfMemory → LineStops text.now e.kind) }
+    ensures line { IfErr result (λ e. e.kind ≢ PoFault.OutOfMemory → e.line ≡ line) }
+    ensures memory { IfErr result (λ e. e.kind ≡ PoFault.OutOfMemory → e.line ≡ 0) }
+{
+    match add_line(alloc, items, text, line) {
+        Ok(()) => Ok(()),
+        Err(PoFault::OutOfMemory) => Err(PoError { kind: PoFault::OutOfMemory, line: 0 }),
+        Err(kind) => Err(PoError { kind, line }),
+    }
+}
+
+/// The items of the lines of a text.
+fn read_lines(alloc: Global, text: &[u8]) -> Result<Vec<Item<'_>>, PoError>
+    requires { length text.now < 2 ^ 31 }
+    ensures found { IfOk result (λ items. SpellsLines 1 (lines_of text.now) (views items.items)) }
+    ensures fault { IfErr result (λ e. e.kind ≢ PoFault.OutOfMemory → LinesStop 1 (lines_of text.now) e.kind e.line) }
+    ensures memory { IfErr result (λ e. e.kind ≡ PoFault.OutOfMemory → e.line ≡ 0) }
+{
+    let mut items = Vec::new(alloc);
+    let mut rest = text;
+    let mut line = 1;
+    loop {
+        let (first, behind) = first_line(rest);
+        add_numbered_line(alloc, &mut items, first, line)?;
+        let Some(behind) = behind else {
+            return Ok(items);
+        };
+        rest = behind;
+        line += 1;
+    }
+}
+
+/// Reads the items of a PO text (manual, "The Format of PO Files").
+///
+/// Refusals, the first that holds: `TooLarge`, without a line, above 2,147,483,647 bytes; `NotUtf8`
+/// at the first byte that is not; `ForbiddenByte` at the first NUL; then the leftmost fault of a
+/// line, `BadToken`, `BadEscape`, `ForbiddenByte` for an escape of value 0, `BadPluralIndex`, or
+/// `UnterminatedString` on the line of its opening quote. `OutOfMemory`, without a line, may come
+/// in place of any answer.
+pub fn items(alloc: Global, text: &[u8]) -> Result<Vec<Item<'_>>, PoError>
+    ensures found { IfOk result (λ items. SpellsText text.now (views items.items)) }
+    ensures fault { IfErr result (λ e. e.kind ≢ PoFault.OutOfMemory → TextFault text.now e.kind e.line) }
+    ensures memory { IfErr result (λ e. e.kind ≡ PoFault.OutOfMemory → e.line ≡ 0) }
+    ensures few { IfOk result (λ items. vec_len items ≤ length text.now) }
+{
+    if text.len() > MAX_LEN {
+        return Err(PoError { kind: PoFault::TooLarge, line: 0 });
+    }
+    if let Err(error) = from_utf8(text) {
+        let line = line_number(text, error.valid_up_to());
+        return Err(PoError { kind: PoFault::NotUtf8, line });
+    }
+    if let Some(place) = memchr(0, text) {
+        let line = line_number(text, place);
+        return Err(PoError { kind: PoFault::ForbiddenByte, line });
+    }
+    read_lines(alloc, without_mark(text))
+}

@@ -1,0 +1,118 @@
+ghost use Rattle.std.specs.Prelude.{◌≡◌, ◌<◌, ◌≤◌, length, IfOk, MatchResult};
+ghost use Rattle.std.specs.List.{prefix_len};
+ghost use Rattle.po_syntax.specs.Token.{Key, Halt, is_blank, is_word_byte, skip_blanks, index_token, bracket_token, keyword_token, token_at};
+ghost use Rattle.po_syntax.specs.TokenView.{token_of};
+
+use crate::escape::{digit_count, number_of};
+use crate::fault::PoFault;
+use crate::item::Keyword;
+
+/// The next token of a line, with the text behind it.
+pub(crate) enum Token<'a> {
+    /// The line's end.
+    End,
+    /// An opening quote.
+    Quote(&'a [u8]),
+    /// A keyword, with the index of a plural form.
+    Word(Keyword, &'a [u8]),
+}
+
+fn is_blank(byte: u8) -> bool
+    ensures { result ≡ is_blank byte }
+{
+    matches!(byte, b' ' | b'\t' | 11 | 12 | b'\r')
+}
+
+fn is_word_byte(byte: u8) -> bool
+    ensures { result ≡ is_word_byte byte }
+{
+    byte.is_ascii_alphanumeric() || byte == b'_'
+}
+
+fn blank_count(text: &[u8]) -> usize
+    ensures count { result ≡ prefix_len is_blank text.now }
+    ensures within { result ≤ length text.now }
+{
+    text.iter().take_while(|b| is_blank(**b)).count()
+}
+
+fn word_len(text: &[u8]) -> usize
+    ensures count { result ≡ prefix_len is_word_byte text.now }
+    ensures within { result ≤ length text.now }
+{
+    text.iter().take_while(|b| is_word_byte(**b)).count()
+}
+
+/// The text behind the blanks at its start: space, TAB, VT, FF and CR.
+pub(crate) fn skip_blanks(text: &[u8]) -> &[u8]
+    ensures { result.now ≡ skip_blanks text.now }
+{
+    text.split_at(blank_count(text)).1
+}
+
+/// The keyword of a plural form, read behind the bracket and the blanks before its index.
+#[tactic(auto, unfolding(crate::specs::Token::index_token))]
+fn plural_form(text: &[u8]) -> Result<(Keyword, &[u8]), PoFault>
+    ensures { MatchResult result (λ p. index_token text.now ≡ Key p.0 p.1.now) (λ e. index_token text.now ≡ Halt e) }
+{
+    let count = digit_count(10, text);
+    if count == 0 {
+        return Err(PoFault::BadToken);
+    }
+    let (digits, rest) = text.split_at(count);
+    let Some(index) = number_of(10, digits) else {
+        return Err(PoFault::BadPluralIndex);
+    };
+    match skip_blanks(rest).split_first() {
+        Some((b']', rest)) => Ok((Keyword::MsgStrAt(index), rest)),
+        _ => Err(PoFault::BadToken),
+    }
+}
+
+/// The keyword that begins with `msgstr`, read behind that word.
+fn translation(rest: &[u8]) -> Result<(Keyword, &[u8]), PoFault>
+    ensures { MatchResult result (λ p. bracket_token rest.now (skip_blanks rest.now) ≡ Key p.0 p.1.now) (λ e. bracket_token rest.now (skip_blanks rest.now) ≡ Halt e) }
+{
+    match skip_blanks(rest).split_first() {
+        Some((b'[', inside)) => plural_form(skip_blanks(inside)),
+        _ => Ok((Keyword::MsgStr, rest)),
+    }
+}
+
+/// The keyword that a word is, and the text behind it.
+#[tactic(auto, unfolding(crate::specs::Token::keyword_token))]
+fn keyword<'a>(word: &[u8], rest: &'a [u8]) -> Result<(Keyword, &'a [u8]), PoFault>
+    ensures { MatchResult result (λ p. keyword_token word.now rest.now ≡ Key p.0 p.1.now) (λ e. keyword_token word.now rest.now ≡ Halt e) }
+{
+    if word == b"msgctxt".as_slice() {
+        Ok((Keyword::MsgCtxt, rest))
+    } else if word == b"msgid".as_slice() {
+        Ok((Keyword::MsgId, rest))
+    } else if word == b"msgid_plural".as_slice() {
+        Ok((Keyword::MsgIdPlural, rest))
+    } else if word == b"msgstr".as_slice() {
+        translation(rest)
+    } else {
+        Err(PoFault::BadToken)
+    }
+}
+
+/// The next token of a line, behind blanks.
+#[tactic(auto, unfolding(crate::specs::Token::first_token))]
+pub(crate) fn next_token(text: &[u8]) -> Result<Token<'_>, PoFault>
+    ensures { MatchResult result (λ token. token_at text.now ≡ token_of token) (λ e. token_at text.now ≡ Halt e) }
+{
+    let text = skip_blanks(text);
+    let Some((first, rest)) = text.split_first() else {
+        return Ok(Token::End);
+    };
+    if *first == b'"' {
+        return Ok(Token::Quote(rest));
+    }
+    if !is_word_byte(*first) {
+        return Err(PoFault::BadToken);
+    }
+    let (word, rest) = text.split_at(word_len(text));
+    let (keyword, rest) = keyword(word, rest)?;
+    Ok(Token::Word(keyword, rest))
+}
