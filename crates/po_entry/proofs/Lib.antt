@@ -1,0 +1,4 @@
+pub mod Lists
+pub mod Changes
+pub mod Checks
+pub mod Headers

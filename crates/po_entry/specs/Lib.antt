@@ -1,0 +1,11 @@
+pub mod TextEntry
+pub mod EntryText
+pub mod Bytes
+pub mod Header
+pub mod Validity
+pub mod Strings
+pub mod Words
+pub mod Body
+pub mod Head
+pub mod Notes
+pub mod Reads

@@ -1,1 +1,17 @@
+//! The entries of a PO catalogue, and the catalogue that holds them (GNU gettext manual, "The
+//! Format of PO Files").
 #![tactic(auto)]
+
+mod catalogue;
+mod charset;
+mod copies;
+mod entry;
+mod fields;
+mod previous;
+mod texts;
+
+pub use crate::catalogue::Catalogue;
+pub use crate::entry::Entry;
+pub use crate::fields::Fields;
+pub use crate::previous::Previous;
+pub use crate::texts::check_texts;

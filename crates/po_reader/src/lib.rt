@@ -1,1 +1,7 @@
+//! The reader of a PO text's entries (GNU gettext manual, "The Format of PO Files").
 #![tactic(auto)]
+
+mod body;
+mod place;
+mod strings;
+mod words;

@@ -1,0 +1,55 @@
+-- An entry stays one when its forms are emptied, or its previous texts go.
+use Rattle.std.proofs.Common.{◌≡◌, ℕ, List, [], ◌∷◌, ◌++◌, length, map, append_assoc, refl, sym, ap, ◌∙◌, arith}
+use Rattle.std.specs.Prelude.{All, IsUtf8, option_to_list}
+use Rattle.std.proofs.lemmas.List.Elements.{All-nil, All-cons, All-head, All-tail, All-append}
+use Rattle.std.proofs.lemmas.List.{length-map}
+use Rattle.std.proofs.lemmas.Str.{IsUtf8-nil}
+use Rattle.po_entry.specs.TextEntry.{TextEntry, quoted_texts, previous_texts, no_previous}
+use Rattle.po_entry.specs.Bytes.{Lacks}
+use Rattle.po_entry.specs.Validity.{IsEntry, IsText}
+use Rattle.po_entry.proofs.Lists.{All-left, All-right}
+
+-- the texts of the quoted strings but the forms
+abbrev unformed_texts : TextEntry → List (List ℕ)
+unformed_texts entry =
+    previous_texts entry.previous ++ option_to_list entry.context ++ (entry.id ∷ []) ++ option_to_list entry.plural
+
+IsText-nil : IsText []
+IsText-nil = record { utf8 = IsUtf8-nil; no_nul = All-nil _ }
+
+emptied_texts : (forms : List (List ℕ)) → All IsText (map (λ _. []) forms)
+emptied_texts [] = All-nil IsText
+emptied_texts (form ∷ forms) = All-cons IsText [] (map (λ _. []) forms) IsText-nil (emptied_texts forms)
+
+pub IsEntry-emptied : (entry : TextEntry) → IsEntry entry → IsEntry (record entry { forms = map (λ _. []) entry.forms })
+IsEntry-emptied entry h = record {
+  comment_texts = h.comment_texts;
+  quoted_texts = All-append IsText (unformed_texts entry) (map (λ _. []) entry.forms) (All-left IsText (unformed_texts entry) entry.forms h.quoted_texts) (emptied_texts entry.forms);
+  comments = h.comments;
+  extracted = h.extracted;
+  references = h.references;
+  flags = h.flags;
+  distinct_flags = h.distinct_flags;
+  context = h.context;
+  id = h.id;
+  some_form = rw length-map h.some_form;
+  one_form = λ single. rw length-map (h.one_form single);
+}
+
+pub IsEntry-without_previous : (entry : TextEntry) → IsEntry entry → IsEntry (record entry { previous = no_previous })
+IsEntry-without_previous entry h = record {
+  comment_texts = h.comment_texts;
+  quoted_texts = All-right IsText (previous_texts entry.previous) (option_to_list entry.context ++ (entry.id ∷ []) ++ option_to_list entry.plural ++ entry.forms)
+      (rw joined h.quoted_texts);
+  comments = h.comments;
+  extracted = h.extracted;
+  references = h.references;
+  flags = h.flags;
+  distinct_flags = h.distinct_flags;
+  context = h.context;
+  id = h.id;
+  some_form = h.some_form;
+  one_form = h.one_form;
+} where
+  joined : previous_texts entry.previous ++ (option_to_list entry.context ++ (entry.id ∷ []) ++ option_to_list entry.plural ++ entry.forms) ≡ quoted_texts entry
+  joined = simp append_assoc

@@ -1,0 +1,36 @@
+-- What holds of each element of two lists joined.
+use Rattle.std.proofs.Common.{◌≡◌, ℕ, ◌+◌, ◌<◌, List, [], ◌∷◌, ◌++◌, Bool, true, false, length, take, set, map, refl, arith, add-one}
+use Rattle.std.specs.Global.{Vec}
+use Rattle.std.proofs.Math.Seq.{take-suc-set}
+use Rattle.po_entry.specs.TextEntry.{texts}
+use Rattle.std.specs.Prelude.{All, if◌then◌else◌}
+use Rattle.std.proofs.lemmas.List.Elements.{All-nil, All-cons, All-head, All-tail, All-push}
+
+pub All-left : {X : Type 0} (P : X → Type 0) (xs ys : List X) → All P (xs ++ ys) → All P xs
+All-left P [] ys h = All-nil P
+All-left P (x ∷ xs) ys h = All-cons P x xs (All-head P x (xs ++ ys) h) (All-left P xs ys (All-tail P x (xs ++ ys) h))
+
+pub All-right : {X : Type 0} (P : X → Type 0) (xs ys : List X) → All P (xs ++ ys) → All P ys
+All-right P [] ys h = h
+All-right P (x ∷ xs) ys h = All-right P xs ys (All-tail P x (xs ++ ys) h)
+
+-- what a push that may be refused leaves
+pub All-pushed : {X : Type 0} (P : X → Type 0) (ok : Bool) (xs : List X) (x : X) → All P xs → P x → All P (if ok then xs ++ x ∷ [] else xs)
+All-pushed P true xs x h here = All-push P xs x h here
+All-pushed P false xs x h here = h
+
+-- vectors that are all empty hold as many empty texts as there are
+pub all_empty : (xs ys : List (Vec ℕ)) → length xs ≡ length ys → All (λ v. v.items ≡ []) xs → texts xs ≡ map (λ _. []) (texts ys)
+all_empty [] [] e h = refl
+all_empty [] (y ∷ ys) e h = absurd (omega (arith, e))
+all_empty (x ∷ xs) [] e h = absurd (omega (arith, e))
+all_empty (x ∷ xs) (y ∷ ys) e h =
+    let P : Vec ℕ → Type 0 = λ v. v.items ≡ [] in
+    let same : length xs ≡ length ys = omega (arith, e) in
+    let first : x.items ≡ [] = All-head P x xs h in
+    let rest : texts xs ≡ map (λ _. []) (texts ys) = all_empty xs ys same (All-tail P x xs h) in
+    cc
+
+-- one more place of a list written
+pub All-written : {X : Type 0} (P : X → Type 0) (xs : List X) (i : ℕ) (x : X) → i < length xs → All P (take i xs) → P x → All P (take (i + 1) (set xs i x))
+All-written P xs i x below so_far here = rw (add-one, take-suc-set) (All-push P (take i xs) x so_far here)

@@ -1,0 +1,66 @@
+-- The own lines of an entry, from its context or msgid to its last form (manual, "The Format of PO Files").
+use Rattle.std.specs.Prelude.{◌≡◌, ℕ, ◌+◌, Bool, true, false, ◌||◌, ◌&&◌, not, List, [], ◌∷◌, Option, Some, None, if◌then◌else◌}
+use Rattle.po_syntax.specs.declared.fault.PoFault.{PoFault}
+use Rattle.po_syntax.specs.declared.item.Keyword.{Keyword}
+use Rattle.po_syntax.specs.declared.item.Keyword.TheVariants.{MsgCtxt, MsgId, MsgIdPlural, MsgStr, MsgStrAt}
+use Rattle.po_syntax.specs.declared.item.Marks.{Marks}
+use Rattle.po_syntax.specs.TextItem.{TextItem, Comment, Word, Str}
+use Rattle.po_entry.specs.Strings.{IsStrings, own_marks}
+use Rattle.po_entry.specs.Words.{Wanted, Id, Translation, Form, IsWorded}
+
+-- an own `msgstr` with an index stands here
+abbrev pub begins_form : List TextItem → Bool
+begins_form [] = false
+begins_form (Comment kind text line ∷ rest) = false
+begins_form (Word (MsgStrAt index) marks line ∷ rest) = not marks.previous
+begins_form (Word MsgCtxt marks line ∷ rest) = false
+begins_form (Word MsgId marks line ∷ rest) = false
+begins_form (Word MsgIdPlural marks line ∷ rest) = false
+begins_form (Word MsgStr marks line ∷ rest) = false
+begins_form (Str bytes marks line ∷ rest) = false
+
+-- these items begin with the plural forms from this index on, all that follow each other, and go on with the rest
+pub data IsForms (obsolete : Bool) : ℕ → List TextItem → List (List ℕ) → List TextItem → Type 0 where
+  last : {index line : ℕ} {keyword : Keyword} {items rest : List TextItem} {form : List ℕ} → IsWorded (Form index) obsolete items keyword line form rest → begins_form rest ≡ false → IsForms obsolete index items (form ∷ []) rest
+  more : {index line : ℕ} {keyword : Keyword} {items behind rest : List TextItem} {form : List ℕ} {forms : List (List ℕ)} → IsWorded (Form index) obsolete items keyword line form behind → begins_form behind ≡ true
+      → IsForms obsolete (index + 1) behind forms rest → IsForms obsolete index items (form ∷ forms) rest
+
+-- these items begin with what follows a msgid: its translation, or its plural and then the plural forms from index 0 on
+pub data IsTranslation (obsolete : Bool) : List TextItem → Option (List ℕ) → List (List ℕ) → List TextItem → Type 0 where
+  single : {line : ℕ} {items rest : List TextItem} {form : List ℕ} → IsWorded Translation obsolete items MsgStr line form rest → IsTranslation obsolete items None (form ∷ []) rest
+  plural : {line : ℕ} {items behind rest : List TextItem} {plural : List ℕ} {forms : List (List ℕ)} → IsWorded Translation obsolete items MsgIdPlural line plural behind → IsForms obsolete 0 behind forms rest
+      → IsTranslation obsolete items (Some plural) forms rest
+
+-- what an entry's own lines say
+pub record Body : Type 0 where
+  pub context : Option (List ℕ)
+  pub id : List ℕ
+  pub plural : Option (List ℕ)
+  pub forms : List (List ℕ)
+  pub obsolete : Bool
+  pub line : ℕ
+
+-- What stands where an entry's own lines may begin: `msgctxt`, or `msgid` with its line; or something else. The first word's obsolete mark is the entry's.
+pub data Start : Type 0 where
+  WithContext : Bool → List TextItem → Start
+  WithoutContext : Bool → ℕ → List TextItem → Start
+  NoStart : Start
+
+abbrev pub body_start : List TextItem → Start
+body_start [] = NoStart
+body_start (Comment kind text line ∷ rest) = NoStart
+body_start (Word MsgCtxt marks line ∷ rest) = if marks.previous then NoStart else WithContext marks.obsolete rest
+body_start (Word MsgId marks line ∷ rest) = if marks.previous then NoStart else WithoutContext marks.obsolete line rest
+body_start (Word MsgIdPlural marks line ∷ rest) = NoStart
+body_start (Word MsgStr marks line ∷ rest) = NoStart
+body_start (Word (MsgStrAt index) marks line ∷ rest) = NoStart
+body_start (Str bytes marks line ∷ rest) = NoStart
+
+-- these items begin with an entry's own lines, and go on with the rest
+pub data IsBody : List TextItem → Body → List TextItem → Type 0 where
+  without_context : {obsolete : Bool} {line : ℕ} {items text behind rest : List TextItem} {id : List ℕ} {plural : Option (List ℕ)} {forms : List (List ℕ)} → body_start items ≡ WithoutContext obsolete line text
+      → IsStrings (own_marks obsolete) text id behind → IsTranslation obsolete behind plural forms rest
+      → IsBody items (record { context = None; id = id; plural = plural; forms = forms; obsolete = obsolete; line = line }) rest
+  with_context : {obsolete : Bool} {keyword : Keyword} {line : ℕ} {items text middle behind rest : List TextItem} {context id : List ℕ} {plural : Option (List ℕ)} {forms : List (List ℕ)} → body_start items ≡ WithContext obsolete text
+      → IsStrings (own_marks obsolete) text context middle → IsWorded Id obsolete middle keyword line id behind → IsTranslation obsolete behind plural forms rest
+      → IsBody items (record { context = Some context; id = id; plural = plural; forms = forms; obsolete = obsolete; line = line }) rest

@@ -1,0 +1,21 @@
+-- Texts, as the parts of an entry are told apart (manual, "The Format of PO Files").
+use Rattle.std.specs.Prelude.{◌≢◌, ℕ, ◌-◌, List, [], ◌∷◌, All, Contains, length, take}
+use Rattle.std.specs.List.{suffix_len}
+use Rattle.po_syntax.specs.Token.{is_blank, skip_blanks}
+
+-- the text holds no such byte
+abbrev pub Lacks : ℕ → List ℕ → Type 0
+Lacks byte text = All (λ b. b ≢ byte) text
+
+-- the text without the blanks at its end
+abbrev pub without_end_blanks : List ℕ → List ℕ
+without_end_blanks text = take (length text - suffix_len is_blank text) text
+
+-- the text without the blanks at its ends
+abbrev pub trimmed : List ℕ → List ℕ
+trimmed text = without_end_blanks (skip_blanks text)
+
+-- no text stands twice in the list
+abbrev pub AreDistinct : List (List ℕ) → Type 0
+AreDistinct [] = Unit {0}
+AreDistinct (text ∷ texts) = (Contains texts text → ⊥) × AreDistinct texts

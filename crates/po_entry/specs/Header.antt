@@ -1,0 +1,41 @@
+-- The header of a catalogue, and the charset that it names (manual, "Filling in the Header Entry").
+use Rattle.std.specs.Prelude.{◌≡◌, ℕ, Bool, true, false, ◌||◌, ◌==◌, nat_eq, List, [], ◌∷◌, Option, None, Some, Contains, map, drop, length, codes, is_none, ◌&&◌, if◌then◌else◌}
+use Rattle.std.specs.List.{starts_with, before_first}
+use Rattle.std.specs.Char.{to_ascii_lowercase}
+use Rattle.po_entry.specs.TextEntry.{TextEntry}
+
+-- a header has no context and an empty msgid, and may be obsolete
+abbrev pub is_header : TextEntry → Bool
+is_header entry = is_none entry.context && length entry.id == 0
+
+-- what stands behind the first `charset=`; nothing where there is none
+abbrev pub behind_charset : List ℕ → List ℕ
+behind_charset [] = []
+behind_charset (b ∷ text) =
+    if starts_with nat_eq (b ∷ text) (codes "charset=") then drop 8 (b ∷ text) else behind_charset text
+
+-- a space, TAB, CR, LF or semicolon ends a charset's name
+abbrev pub ends_name : ℕ → Bool
+ends_name b = b == 32 || b == 9 || b == 13 || b == 10 || b == 59
+
+-- the charset that a header's text names; the empty word where it names none
+abbrev pub charset_of : List ℕ → List ℕ
+charset_of text = before_first ends_name (behind_charset text)
+
+-- no name, UTF-8, its part ASCII, and the word of a template, in lowercase
+abbrev pub admitted_names : List (List ℕ)
+admitted_names =
+    [] ∷ codes "utf-8" ∷ codes "utf8" ∷ codes "us-ascii" ∷ codes "ascii" ∷ codes "charset" ∷ []
+
+-- a charset's name is admitted, whatever the case of its letters
+abbrev pub IsAdmittedName : List ℕ → Type 0
+IsAdmittedName name = Contains admitted_names (map to_ascii_lowercase name)
+
+-- the first form of an entry
+abbrev pub first_form : List (List ℕ) → List ℕ
+first_form [] = []
+first_form (form ∷ forms) = form
+
+-- the charset of an entry is admitted, if the entry is a header
+abbrev pub HasAdmittedCharset : TextEntry → Type 0
+HasAdmittedCharset entry = is_header entry ≡ true → IsAdmittedName (charset_of (first_form entry.forms))

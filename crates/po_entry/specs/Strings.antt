@@ -1,0 +1,45 @@
+-- The quoted strings of one text: one or more, directly behind their word and under its marks, joined (manual, "The Format of PO Files").
+use Rattle.std.specs.Prelude.{◌≡◌, ℕ, Bool, true, false, ◌&&◌, ◌||◌, not, List, [], ◌∷◌, ◌++◌, if◌then◌else◌}
+use Rattle.po_syntax.specs.declared.fault.PoFault.{PoFault}
+use Rattle.po_syntax.specs.declared.fault.PoFault.TheVariants.{BadOrder, MixedObsolete}
+use Rattle.po_syntax.specs.declared.item.Marks.{Marks}
+use Rattle.po_syntax.specs.TextItem.{TextItem, Comment, Word, Str}
+
+abbrev pub same_bool : Bool → Bool → Bool
+same_bool true b = b
+same_bool false b = not b
+
+abbrev pub same_marks : Marks → Marks → Bool
+same_marks a b = same_bool a.obsolete b.obsolete && same_bool a.previous b.previous
+
+-- the marks of an entry's own lines
+abbrev pub own_marks : Bool → Marks
+own_marks obsolete = record { obsolete = obsolete; previous = false }
+
+-- What stands where a string under these marks is wanted: the string, with the items behind it, or a fault.
+pub data StringStep : Type 0 where
+  Take : List ℕ → List TextItem → StringStep
+  Refuse : PoFault → StringStep
+
+-- A string under other marks: between own lines that differ in their obsolete mark alone they are mixed, else the string is out of order.
+abbrev pub stray_string : Marks → Marks → PoFault
+stray_string wanted found = if wanted.previous || found.previous then BadOrder else MixedObsolete
+
+abbrev pub string_step : Marks → List TextItem → StringStep
+string_step wanted [] = Refuse BadOrder
+string_step wanted (Comment kind text line ∷ rest) = Refuse BadOrder
+string_step wanted (Word keyword marks line ∷ rest) = Refuse BadOrder
+string_step wanted (Str bytes marks line ∷ rest) =
+    if same_marks wanted marks then Take bytes rest else Refuse (stray_string wanted marks)
+
+abbrev pub begins_string : List TextItem → Bool
+begins_string [] = false
+begins_string (Comment kind text line ∷ rest) = false
+begins_string (Word keyword marks line ∷ rest) = false
+begins_string (Str bytes marks line ∷ rest) = true
+
+-- these items begin with the strings of a text under these marks, all that follow each other, and go on with the rest
+pub data IsStrings (marks : Marks) : List TextItem → List ℕ → List TextItem → Type 0 where
+  last : {items rest : List TextItem} {bytes : List ℕ} → string_step marks items ≡ Take bytes rest → begins_string rest ≡ false → IsStrings marks items bytes rest
+  more : {items behind rest : List TextItem} {bytes others : List ℕ} → string_step marks items ≡ Take bytes behind → begins_string behind ≡ true → IsStrings marks behind others rest
+      → IsStrings marks items (bytes ++ others) rest

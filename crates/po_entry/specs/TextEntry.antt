@@ -1,0 +1,75 @@
+-- What contracts see of an entry of a catalogue: its texts are lists of bytes (manual, "The Format of PO Files").
+use Rattle.std.specs.Prelude.{ℕ, Bool, false, List, [], ◌∷◌, ◌++◌, map, Option, None, option_map, option_to_list}
+use Rattle.std.specs.Global.{Vec}
+use Rattle.std.specs.Borrow.{Bor}
+
+-- the previous context, msgid and msgid_plural of an entry, as far as it has them
+pub record TextPrevious : Type 0 where
+  pub context : Option (List ℕ)
+  pub id : Option (List ℕ)
+  pub plural : Option (List ℕ)
+
+abbrev pub no_previous : TextPrevious
+no_previous = record { context = None; id = None; plural = None }
+
+-- The fields of an entry. `flags` are those other than `fuzzy`; `line` is the line of its msgid, 0 where it has none.
+pub record TextEntry : Type 0 where
+  pub comments : List (List ℕ)
+  pub extracted : List (List ℕ)
+  pub references : List (List ℕ)
+  pub fuzzy : Bool
+  pub flags : List (List ℕ)
+  pub previous : TextPrevious
+  pub context : Option (List ℕ)
+  pub id : List ℕ
+  pub plural : Option (List ℕ)
+  pub forms : List (List ℕ)
+  pub obsolete : Bool
+  pub line : ℕ
+
+-- the texts that a list of vectors holds
+abbrev pub texts : List (Vec ℕ) → List (List ℕ)
+texts vectors = map (λ v. v.items) vectors
+
+-- the text that a vector holds, where there is one
+abbrev pub optional_text : Option (Vec ℕ) → Option (List ℕ)
+optional_text vector = option_map (λ v. v.items) vector
+
+-- the texts that a list of slices holds
+abbrev pub slice_texts : List (Bor (List ℕ)) → List (List ℕ)
+slice_texts slices = map (λ s. s.now) slices
+
+-- a live entry of these texts, without comments, previous texts and a line
+abbrev pub message_of : Option (List ℕ) → List ℕ → Option (List ℕ) → List (List ℕ) → TextEntry
+message_of context id plural forms = record {
+  comments = [];
+  extracted = [];
+  references = [];
+  fuzzy = false;
+  flags = [];
+  previous = no_previous;
+  context = context;
+  id = id;
+  plural = plural;
+  forms = forms;
+  obsolete = false;
+  line = 0;
+}
+
+-- the entry, were it on this line
+abbrev pub with_line : ℕ → TextEntry → TextEntry
+with_line line entry = record entry { line = line }
+
+-- the texts of the previous fields that there are
+abbrev pub previous_texts : TextPrevious → List (List ℕ)
+previous_texts previous =
+    option_to_list previous.context ++ option_to_list previous.id ++ option_to_list previous.plural
+
+-- the texts that an entry's quoted strings spell
+abbrev pub quoted_texts : TextEntry → List (List ℕ)
+quoted_texts entry =
+    previous_texts entry.previous ++ option_to_list entry.context ++ (entry.id ∷ []) ++ option_to_list entry.plural ++ entry.forms
+
+-- the texts that an entry's comments hold
+abbrev pub comment_texts : TextEntry → List (List ℕ)
+comment_texts entry = entry.comments ++ entry.extracted ++ entry.references ++ entry.flags

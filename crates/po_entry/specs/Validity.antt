@@ -1,0 +1,86 @@
+-- What holds of every entry, and of every entry of a catalogue (manual, "The Format of PO Files").
+use Rattle.std.specs.Prelude.{◌≡◌, ◌≢◌, ◌⊎◌, ℕ, ◌<◌, false, List, [], ◌∷◌, ◌++◌, Option, None, All, Contains, IfSome, IsUtf8, length, codes, slice_index}
+use Rattle.po_entry.specs.TextEntry.{TextEntry, quoted_texts, comment_texts}
+use Rattle.po_entry.specs.Bytes.{Lacks, trimmed, AreDistinct}
+use Rattle.po_syntax.specs.Token.{is_blank}
+use Rattle.po_syntax.specs.Line.{trim_returns}
+use Rattle.po_syntax.specs.declared.fault.PoFault.{PoFault}
+use Rattle.po_syntax.specs.declared.fault.PoError.{PoError}
+use Rattle.po_syntax.specs.declared.fault.PoFault.TheVariants.{NotUtf8, ForbiddenByte, ForeignCharset, OutOfMemory}
+use Rattle.po_entry.specs.Header.{HasAdmittedCharset}
+
+-- the text of a comment is the rest of a line without CRs at its end
+pub record IsComment (text : List ℕ) : Type 0 where
+  pub one_line : Lacks 10 text
+  pub no_final_return : trim_returns text ≡ text
+
+-- A translator's comment begins with no character that tells another kind of line: none of `.:,|~`.
+pub record IsTranslatorComment (text : List ℕ) : Type 0 where
+  pub comment : IsComment text
+  pub plain : (rest : List ℕ) (b : ℕ) → text ≡ b ∷ rest → Contains (codes ".:,|~") b → ⊥
+
+-- a reference is a word between blanks, on one line
+pub record IsReference (text : List ℕ) : Type 0 where
+  pub some_byte : text ≢ []
+  pub no_blank : All (λ b. is_blank b ≡ false) text
+  pub one_line : Lacks 10 text
+
+-- a flag is a trimmed word between commas, other than `fuzzy`
+pub record IsFlag (text : List ℕ) : Type 0 where
+  pub some_byte : text ≢ []
+  pub no_blank_ends : trimmed text ≡ text
+  pub no_comma : Lacks 44 text
+  pub one_line : Lacks 10 text
+  pub not_fuzzy : text ≢ codes "fuzzy"
+
+-- a text that an entry may hold
+pub record IsText (text : List ℕ) : Type 0 where
+  pub utf8 : IsUtf8 text
+  pub no_nul : Lacks 0 text
+
+-- an entry, but for the charset of a header
+pub record IsEntry (entry : TextEntry) : Type 0 where
+  pub comment_texts : All IsText (comment_texts entry)
+  pub quoted_texts : All IsText (quoted_texts entry)
+  pub comments : All IsTranslatorComment entry.comments
+  pub extracted : All IsComment entry.extracted
+  pub references : All IsReference entry.references
+  pub flags : All IsFlag entry.flags
+  pub distinct_flags : AreDistinct entry.flags
+  pub context : IfSome entry.context (Lacks 4)
+  pub id : Lacks 4 entry.id
+  pub some_form : 0 < length entry.forms
+  pub one_form : entry.plural ≡ None → length entry.forms ≡ 1
+
+-- an entry that a catalogue may hold
+pub record IsCatalogueEntry (entry : TextEntry) : Type 0 where
+  pub valid : IsEntry entry
+  pub charset : HasAdmittedCharset entry
+
+-- no NUL in a text of the quoted strings, and no EOT in the entry's own context and msgid
+pub record IsClean (entry : TextEntry) : Type 0 where
+  pub no_nul : All (Lacks 0) (quoted_texts entry)
+  pub context : IfSome entry.context (Lacks 4)
+  pub id : Lacks 4 entry.id
+
+-- why an entry can't have these texts: one is not UTF-8; or all are, and one holds a byte that it may not hold
+pub data TextsFault (entry : TextEntry) : PoFault → Type 0 where
+  not_utf8 : (All IsUtf8 (quoted_texts entry) → ⊥) → TextsFault entry NotUtf8
+  forbidden : All IsUtf8 (quoted_texts entry) → (IsClean entry → ⊥) → TextsFault entry ForbiddenByte
+
+-- the texts of the quoted strings can stand in an entry
+pub record HasTexts (entry : TextEntry) : Type 0 where
+  pub utf8 : All IsUtf8 (quoted_texts entry)
+  pub clean : IsClean entry
+
+abbrev pub out_of_memory : PoError
+out_of_memory = record { kind = OutOfMemory; line = 0 }
+
+-- An entry comes back from a catalogue with its line, as a header whose charset is not admitted, or for want of memory.
+abbrev pub IsRefusedEntry : TextEntry → PoError → Type 0
+IsRefusedEntry entry error =
+    ((HasAdmittedCharset entry → ⊥) × (error ≡ record { kind = ForeignCharset; line = entry.line })) ⊎ (error ≡ out_of_memory)
+
+-- A built entry is refused without a line: for its texts, or for want of memory.
+abbrev pub RefusesMessage : TextEntry → PoError → Type 0
+RefusesMessage entry error = (error.line ≡ 0) × ((error.kind ≡ OutOfMemory) ⊎ TextsFault entry error.kind)

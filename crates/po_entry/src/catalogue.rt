@@ -1,0 +1,87 @@
+ghost use Rattle.std.specs.Prelude.{◌≡◌, IfErr, OnOk, OnErr, All, [], ◌∷◌, ◌++◌};
+ghost use Rattle.po_entry.specs.Header.{HasAdmittedCharset};
+ghost use Rattle.po_entry.specs.Validity.{IsCatalogueEntry, IsRefusedEntry};
+
+use crate::charset::has_admitted_charset;
+use crate::entry::Entry;
+use po_syntax::{PoError, PoFault};
+use std::alloc::Global;
+use std::marker::Model;
+
+/// A catalogue: a list of entries, in which the charset of each header, live or obsolete, is
+/// admitted (GNU gettext manual, "Filling in the Header Entry").
+#[derive(Debug, Drop)]
+pub struct Catalogue {
+    entries: Vec<Entry>,
+}
+
+impl Model for Catalogue {
+    ghost use Rattle.std.specs.Prelude.{List, All};
+    ghost use Rattle.po_entry.specs.TextEntry.{TextEntry};
+    ghost use Rattle.po_entry.specs.Validity.{IsCatalogueEntry};
+
+    ghost Value = { List TextEntry };
+
+    ghost view = { λ c. c.entries.items };
+
+    ghost invariant = { λ c. All IsCatalogueEntry c.entries.items };
+}
+
+impl Catalogue {
+    /// The empty catalogue. It takes no memory.
+    pub fn new(alloc: Global) -> Catalogue
+        ensures { result ≡ [] }
+    {
+        Catalogue {
+            entries: Vec::new(alloc),
+        }
+    }
+
+    /// The entries, in order.
+    pub fn entries(&self) -> &[Entry]
+        ensures entries { result.now ≡ self.now }
+        ensures valid { All IsCatalogueEntry result.now }
+    {
+        &self.entries
+    }
+
+    /// Adds an entry at the end. It comes back where it is refused: with `ForeignCharset` and its
+    /// line where it is a header whose charset is not admitted, or for want of memory.
+    pub fn push(&mut self, entry: Entry) -> Result<(), (Entry, PoError)>
+        ensures ok { OnOk result (self.new ≡ self.old ++ entry ∷ []) }
+        ensures admitted { OnOk result (HasAdmittedCharset entry) }
+        ensures unchanged { OnErr result (self.new ≡ self.old) }
+        ensures returned { IfErr result (λ p. p.0 ≡ entry) }
+        ensures fault { IfErr result (λ p. IsRefusedEntry entry p.1) }
+    {
+        if !has_admitted_charset(&entry) {
+            let line = entry.line();
+            return Err((
+                entry,
+                PoError {
+                    kind: PoFault::ForeignCharset,
+                    line,
+                },
+            ));
+        }
+        entry.invariant();
+        match self.entries.push(entry) {
+            Ok(()) => Ok(()),
+            Err(failed) => Err((
+                failed.value,
+                PoError {
+                    kind: PoFault::OutOfMemory,
+                    line: 0,
+                },
+            )),
+        }
+    }
+
+    /// The entries, in order, without their catalogue.
+    pub fn into_entries(self) -> Vec<Entry>
+        ensures entries { result.items ≡ self }
+        ensures valid { All IsCatalogueEntry result.items }
+    {
+        self.entries
+    }
+}

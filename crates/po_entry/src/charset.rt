@@ -1,0 +1,65 @@
+ghost use Rattle.std.specs.Prelude.{◌≡◌, IsTrue, ◌↔◌, position};
+ghost use Rattle.po_entry.specs.Header.{HasAdmittedCharset, IsAdmittedName, charset_of, behind_charset, ends_name};
+
+use crate::entry::Entry;
+
+/// Whether the charset of an entry is admitted, if the entry is a header.
+pub fn has_admitted_charset(entry: &Entry) -> bool
+    ensures { IsTrue result ↔ HasAdmittedCharset entry.now }
+{
+    if !entry.is_header() {
+        return true;
+    }
+    match entry.forms().first() {
+        Some(form) => is_admitted_name(charset_of(form)),
+        None => true,
+    }
+}
+
+fn is_admitted_name(name: &[u8]) -> bool
+    ensures { IsTrue result ↔ IsAdmittedName name.now }
+{
+    name.is_empty()
+        | name.eq_ignore_ascii_case(b"UTF-8")
+        | name.eq_ignore_ascii_case(b"UTF8")
+        | name.eq_ignore_ascii_case(b"US-ASCII")
+        | name.eq_ignore_ascii_case(b"ASCII")
+        | name.eq_ignore_ascii_case(b"CHARSET")
+}
+
+/// The charset that a header's text names, up to a space, TAB, CR, LF or semicolon; empty where
+/// it names none.
+fn charset_of(header: &[u8]) -> &[u8]
+    ensures { result.now ≡ charset_of header.now }
+{
+    let name = behind_charset(header);
+    match name_len(name) {
+        Some(len) => &name[..len],
+        None => name,
+    }
+}
+
+fn name_len(name: &[u8]) -> Option<usize>
+    ensures { result ≡ position ends_name name.now }
+{
+    name.iter().position(|b| ends_name(*b))
+}
+
+fn ends_name(b: u8) -> bool
+    ensures { result ≡ ends_name b }
+{
+    matches!(b, b' ' | b'\t' | b'\r' | b'\n' | b';')
+}
+
+fn behind_charset(header: &[u8]) -> &[u8]
+    ensures { result.now ≡ behind_charset header.now }
+{
+    let mut rest = header;
+    while let Some((_, next)) = rest.split_first() {
+        if rest.starts_with(b"charset=") {
+            return &rest[8..];
+        }
+        rest = next;
+    }
+    rest
+}

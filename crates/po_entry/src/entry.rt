@@ -1,0 +1,243 @@
+ghost use Rattle.std.specs.Prelude.{◌≡◌, ◌<◌, IfOk, IfErr, IsOkUnless, Some, None, IsTrue, ◌↔◌, map, [], true, false, length, option_copied};
+ghost use Rattle.po_entry.specs.TextEntry.{texts, slice_texts, message_of, optional_text, no_previous};
+ghost use Rattle.po_entry.specs.EntryText.{entry_of};
+ghost use Rattle.po_entry.specs.Header.{is_header};
+ghost use Rattle.po_entry.specs.Validity.{IsEntry, RefusesMessage, out_of_memory};
+
+use crate::copies::{copy_optional, copy_slices, empty_texts};
+use crate::fields::Fields;
+use crate::previous::Previous;
+use crate::texts::check_texts;
+use po_syntax::PoError;
+use std::alloc::Global;
+use std::marker::Model;
+
+/// An entry of a catalogue: its comments, its texts and its marks (GNU gettext manual, "The
+/// Format of PO Files"). No text holds a NUL, all are UTF-8, and each part can be written so that
+/// it reads back.
+#[derive(Debug, Drop)]
+pub struct Entry {
+    fields: Fields,
+}
+
+impl Model for Entry {
+    ghost use Rattle.po_entry.specs.TextEntry.{TextEntry};
+    ghost use Rattle.po_entry.specs.EntryText.{entry_of};
+    ghost use Rattle.po_entry.specs.Validity.{IsEntry};
+
+    ghost Value = { TextEntry };
+
+    ghost view = { λ e. entry_of e.fields };
+
+    ghost invariant = { λ e. IsEntry (entry_of e.fields) };
+}
+
+impl Entry {
+    /// A live entry of these texts, without comments, at line 0. Refused with `NotUtf8` where a
+    /// text is not UTF-8, then with `ForbiddenByte` for a NUL, or for an EOT in the context or the
+    /// msgid.
+    pub fn message(
+        alloc: Global,
+        context: Option<&[u8]>,
+        id: &[u8],
+        plural: Option<&[u8]>,
+        forms: &[&[u8]],
+    ) -> Result<Entry, PoError>
+        requires some_form { 0 < length forms.now }
+        requires one_form { plural ≡ None → length forms.now ≡ 1 }
+        ensures entry { IfOk result (λ e. e ≡ message_of (option_copied context.entry) id.now (option_copied plural.entry) (slice_texts forms.now)) }
+        ensures valid { IfOk result IsEntry }
+        ensures fault { IfErr result (λ e. RefusesMessage (message_of (option_copied context.entry) id.now (option_copied plural.entry) (slice_texts forms.now)) e) }
+    {
+        let fields = Fields {
+            comments: Vec::new(alloc),
+            extracted: Vec::new(alloc),
+            references: Vec::new(alloc),
+            fuzzy: false,
+            flags: Vec::new(alloc),
+            previous: Previous::none(),
+            context: copy_optional(alloc, context)?,
+            id: id.to_vec(alloc)?,
+            plural: copy_optional(alloc, plural)?,
+            forms: copy_slices(alloc, forms)?,
+            obsolete: false,
+            line: 0,
+        };
+        match check_texts(&fields) {
+            Ok(()) => Ok(Entry { fields }),
+            Err(kind) => Err(PoError { kind, line: 0 }),
+        }
+    }
+
+    /// The entry of these fields.
+    pub fn of_fields(
+        comments: Vec<Vec<u8>>,
+        extracted: Vec<Vec<u8>>,
+        references: Vec<Vec<u8>>,
+        fuzzy: bool,
+        flags: Vec<Vec<u8>>,
+        previous: Previous,
+        context: Option<Vec<u8>>,
+        id: Vec<u8>,
+        plural: Option<Vec<u8>>,
+        forms: Vec<Vec<u8>>,
+        obsolete: bool,
+        line: u32,
+    ) -> Entry
+        requires { IsEntry (record { comments = texts comments.items; extracted = texts extracted.items; references = texts references.items; fuzzy = fuzzy; flags = texts flags.items; previous = previous; context = optional_text context; id = id.items; plural = optional_text plural; forms = texts forms.items; obsolete = obsolete; line = line }) }
+        ensures { result ≡ record { comments = texts comments.items; extracted = texts extracted.items; references = texts references.items; fuzzy = fuzzy; flags = texts flags.items; previous = previous; context = optional_text context; id = id.items; plural = optional_text plural; forms = texts forms.items; obsolete = obsolete; line = line } }
+    {
+        Entry {
+            fields: Fields {
+                comments,
+                extracted,
+                references,
+                fuzzy,
+                flags,
+                previous,
+                context,
+                id,
+                plural,
+                forms,
+                obsolete,
+                line,
+            },
+        }
+    }
+
+    /// A copy of the entry, with its line; refused only by want of memory.
+    pub fn copy(&self, alloc: Global) -> Result<Entry, PoError>
+        ensures copy { IfOk result (λ e. e ≡ self.now) }
+        ensures memory { IsOkUnless result out_of_memory }
+    {
+        let fields = self.fields.copy(alloc)?;
+        Ok(Entry { fields })
+    }
+
+    /// The translator's comments, each without its `#`.
+    pub fn comments(&self) -> &[Vec<u8>]
+        ensures { texts result.now ≡ self.now.comments }
+    {
+        &self.fields.comments
+    }
+
+    /// The comments extracted from the program, each without its `#.`.
+    pub fn extracted(&self) -> &[Vec<u8>]
+        ensures { texts result.now ≡ self.now.extracted }
+    {
+        &self.fields.extracted
+    }
+
+    /// The references to the program, in order.
+    pub fn references(&self) -> &[Vec<u8>]
+        ensures { texts result.now ≡ self.now.references }
+    {
+        &self.fields.references
+    }
+
+    /// Whether the entry is marked as fuzzy: its translation may not fit its original any more.
+    pub fn fuzzy(&self) -> bool
+        ensures { result ≡ self.now.fuzzy }
+    {
+        self.fields.fuzzy
+    }
+
+    /// The flags other than `fuzzy`, in order.
+    pub fn flags(&self) -> &[Vec<u8>]
+        ensures { texts result.now ≡ self.now.flags }
+    {
+        &self.fields.flags
+    }
+
+    /// The previous texts.
+    pub fn previous(&self) -> &Previous
+        ensures { result.now ≡ self.now.previous }
+    {
+        &self.fields.previous
+    }
+
+    /// The context, where the entry has one. An empty context differs from none.
+    pub fn context(&self) -> Option<&[u8]>
+        ensures { option_copied result ≡ self.now.context }
+    {
+        self.fields.context.as_deref()
+    }
+
+    /// The msgid.
+    pub fn id(&self) -> &[u8]
+        ensures { result.now ≡ self.now.id }
+    {
+        &self.fields.id
+    }
+
+    /// The plural of the msgid, where the entry has one.
+    pub fn plural(&self) -> Option<&[u8]>
+        ensures { option_copied result ≡ self.now.plural }
+    {
+        self.fields.plural.as_deref()
+    }
+
+    /// The translation: one form, or the plural forms from index 0 on.
+    pub fn forms(&self) -> &[Vec<u8>]
+        ensures { texts result.now ≡ self.now.forms }
+    {
+        &self.fields.forms
+    }
+
+    /// Whether the entry is obsolete, and stands on `#~` lines.
+    pub fn obsolete(&self) -> bool
+        ensures { result ≡ self.now.obsolete }
+    {
+        self.fields.obsolete
+    }
+
+    /// The line of the entry's `msgid`, counted from 1; 0 where it was not read from a text.
+    pub fn line(&self) -> u32
+        ensures { result ≡ self.now.line }
+    {
+        self.fields.line
+    }
+
+    /// Whether the entry is a header: without a context, and with an empty msgid. It may be obsolete.
+    pub fn is_header(&self) -> bool
+        ensures { result ≡ is_header self.now }
+    {
+        self.fields.context.is_none() && self.fields.id.is_empty()
+    }
+
+    /// What holds of every entry, for a proof; it does nothing.
+    pub fn invariant(&self)
+        ensures { IsEntry self.now }
+    {
+        let _ = &self.fields;
+    }
+
+    /// Marks the entry as fuzzy, or takes the mark away.
+    pub fn set_fuzzy(&mut self, fuzzy: bool)
+        ensures { self.new ≡ record self.old { fuzzy = fuzzy } }
+    {
+        self.fields.fuzzy = fuzzy;
+    }
+
+    /// Makes the entry obsolete, or live.
+    pub fn set_obsolete(&mut self, obsolete: bool)
+        ensures { self.new ≡ record self.old { obsolete = obsolete } }
+    {
+        self.fields.obsolete = obsolete;
+    }
+
+    /// Drops the previous texts.
+    pub fn clear_previous(&mut self)
+        ensures { self.new ≡ record self.old { previous = no_previous } }
+    {
+        self.fields.previous = Previous::none();
+    }
+
+    /// Makes each form empty, and keeps how many there are.
+    pub fn empty_forms(&mut self)
+        requires { is_header self.old ≡ false }
+        ensures { self.new ≡ record self.old { forms = map (λ _. []) self.old.forms } }
+    {
+        empty_texts(&mut self.fields.forms);
+    }
+}

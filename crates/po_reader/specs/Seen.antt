@@ -1,0 +1,25 @@
+-- What contracts see of the steps that the code takes. Internal to this crate.
+use Rattle.std.specs.Prelude.{ℕ, List, Bool, Option}
+use Rattle.po_reader.specs.declared.words.Wanted.{Wanted}
+use Rattle.po_reader.specs.declared.words.Wanted.TheVariants as code
+use Rattle.po_reader.specs.declared.body.Start.{Start}
+use Rattle.po_reader.specs.declared.body.Start.TheVariants as start
+use Rattle.po_reader.specs.declared.body.Body.{Body}
+use Rattle.po_syntax.specs.TextItem.{TextItem}
+use Rattle.po_entry.specs.TextEntry.{texts, optional_text}
+use Rattle.po_entry.specs.Words as spec
+use Rattle.po_entry.specs.Body as body
+
+abbrev pub wanted_of : Wanted → spec.Wanted
+wanted_of code.Id = spec.Id
+wanted_of code.Translation = spec.Translation
+wanted_of (code.Form index) = spec.Form index
+
+-- the start with the items behind its word
+abbrev pub start_seen : Start → List TextItem → body.Start
+start_seen (start.WithContext obsolete) rest = body.WithContext obsolete rest
+start_seen (start.WithoutContext obsolete line) rest = body.WithoutContext obsolete line rest
+
+abbrev pub body_seen : Body → body.Body
+body_seen own =
+    record { context = optional_text own.context; id = own.id.items; plural = optional_text own.plural; forms = texts own.forms.items; obsolete = own.obsolete; line = own.line }

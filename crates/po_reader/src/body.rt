@@ -1,0 +1,167 @@
+ghost use Rattle.std.specs.Prelude.{◌≡◌, ◌≢◌, ◌+◌, ◌<◌, ◌≤◌, drop, length, IfOk, IfErr, IfSome, MatchOption, ◌^◌};
+ghost use Rattle.po_syntax.specs.TextItem.{view, views};
+ghost use Rattle.po_entry.specs.Body.{begins_form, body_start, IsForms, IsTranslation, IsBody};
+ghost use Rattle.po_entry.specs.Body as spec;
+ghost use Rattle.po_entry.specs.TextEntry.{texts, optional_text};
+ghost use Rattle.po_reader.specs.Stops.{FormsStop, TranslationStops, BodyStops};
+ghost use Rattle.po_reader.specs.Seen.{start_seen, body_seen};
+
+use crate::place::item_at;
+use crate::strings::strings_of;
+use crate::words::{Wanted, wanted_word};
+use po_syntax::{Item, Keyword, Marks, PoError, PoFault};
+use std::alloc::Global;
+
+fn begins_form(items: &[Item<'_>], at: usize) -> bool
+    requires { at ≤ length items.now }
+    ensures { result ≡ begins_form (views (drop at items.now)) }
+{
+    match item_at(items, at) {
+        Some(Item::Word(Keyword::MsgStrAt(_), marks, _)) => !marks.previous,
+        _ => false,
+    }
+}
+
+/// The plural forms from index 0 on, and the place behind them.
+fn forms_of(
+    alloc: Global,
+    items: &[Item<'_>],
+    from: usize,
+    obsolete: bool,
+    end: u32,
+) -> Result<(Vec<Vec<u8>>, usize), PoError>
+    requires within { from ≤ length items.now }
+    requires few { length items.now < 2 ^ 32 }
+    ensures found { IfOk result (λ p. IsForms obsolete 0 (views (drop from items.now)) (texts p.0.items) (views (drop p.1 items.now))) }
+    ensures within { IfOk result (λ p. p.1 ≤ length items.now) }
+    ensures further { IfOk result (λ p. from < p.1) }
+    ensures fault { IfErr result (λ e. e.kind ≢ PoFault.OutOfMemory → FormsStop end obsolete 0 (views (drop from items.now)) e.kind e.line) }
+    ensures memory { IfErr result (λ e. e.kind ≡ PoFault.OutOfMemory → e.line ≡ 0) }
+{
+    let mut forms = Vec::new(alloc);
+    let mut at = from;
+    let mut index = 0;
+    loop {
+        let form = wanted_word(alloc, items, at, Wanted::Form(index), obsolete, end)?;
+        forms.push(form.text)?;
+        at = form.behind;
+        if !begins_form(items, at) {
+            return Ok((forms, at));
+        }
+        index += 1;
+    }
+}
+
+/// What follows a msgid: its plural, if it has one, and its forms.
+#[derive(Drop)]
+struct Translation {
+    plural: Option<Vec<u8>>,
+    forms: Vec<Vec<u8>>,
+    /// The place of the item behind them.
+    behind: usize,
+}
+
+fn translation_of(
+    alloc: Global,
+    items: &[Item<'_>],
+    from: usize,
+    obsolete: bool,
+    end: u32,
+) -> Result<Translation, PoError>
+    requires within { from ≤ length items.now }
+    requires few { length items.now < 2 ^ 32 }
+    ensures found { IfOk result (λ t. IsTranslation obsolete (views (drop from items.now)) (optional_text t.plural) (texts t.forms.items) (views (drop t.behind items.now))) }
+    ensures within { IfOk result (λ t. t.behind ≤ length items.now) }
+    ensures further { IfOk result (λ t. from < t.behind) }
+    ensures fault { IfErr result (λ e. e.kind ≢ PoFault.OutOfMemory → TranslationStops end obsolete (views (drop from items.now)) e.kind e.line) }
+    ensures memory { IfErr result (λ e. e.kind ≡ PoFault.OutOfMemory → e.line ≡ 0) }
+{
+    let first = wanted_word(alloc, items, from, Wanted::Translation, obsolete, end)?;
+    if let Keyword::MsgIdPlural = first.keyword {
+        let (forms, behind) = forms_of(alloc, items, first.behind, obsolete, end)?;
+        return Ok(Translation { plural: Some(first.text), forms, behind });
+    }
+    let mut forms = Vec::with_capacity(alloc, 1)?;
+    forms.push(first.text)?;
+    Ok(Translation { plural: None, forms, behind: first.behind })
+}
+
+/// The own lines of an entry.
+#[derive(Drop)]
+pub(crate) struct Body {
+    pub(crate) context: Option<Vec<u8>>,
+    pub(crate) id: Vec<u8>,
+    pub(crate) plural: Option<Vec<u8>>,
+    pub(crate) forms: Vec<Vec<u8>>,
+    pub(crate) obsolete: bool,
+    pub(crate) line: u32,
+    /// The place of the item behind them.
+    pub(crate) behind: usize,
+}
+
+/// What an entry's own lines begin with.
+#[derive(Clone, Copy)]
+enum Start {
+    /// `msgctxt`, with the entry's obsolete mark.
+    WithContext(bool),
+    /// `msgid`, with the entry's obsolete mark and the line.
+    WithoutContext(bool, u32),
+}
+
+fn start_at(items: &[Item<'_>], at: usize) -> Option<Start>
+    requires { at ≤ length items.now }
+    ensures start { MatchOption result (body_start (views (drop at items.now)) ≡ spec.NoStart) (λ start. body_start (views (drop at items.now)) ≡ start_seen start (views (drop (at + 1) items.now))) }
+    ensures within { IfSome result (λ _. at < length items.now) }
+{
+    match item_at(items, at) {
+        Some(Item::Word(Keyword::MsgCtxt, marks, _)) if !marks.previous => {
+            Some(Start::WithContext(marks.obsolete))
+        }
+        Some(Item::Word(Keyword::MsgId, marks, line)) if !marks.previous => {
+            Some(Start::WithoutContext(marks.obsolete, *line))
+        }
+        _ => None,
+    }
+}
+
+/// The own lines of an entry from a place on, where they begin.
+pub(crate) fn body_of(
+    alloc: Global,
+    items: &[Item<'_>],
+    from: usize,
+    end: u32,
+) -> Result<Body, PoError>
+    requires within { from ≤ length items.now }
+    requires few { length items.now < 2 ^ 32 }
+    requires begins { body_start (views (drop from items.now)) ≢ spec.NoStart }
+    ensures found { IfOk result (λ b. IsBody (views (drop from items.now)) (body_seen b) (views (drop b.behind items.now))) }
+    ensures within { IfOk result (λ b. b.behind ≤ length items.now) }
+    ensures further { IfOk result (λ b. from < b.behind) }
+    ensures fault { IfErr result (λ e. e.kind ≢ PoFault.OutOfMemory → BodyStops end (views (drop from items.now)) e.kind e.line) }
+    ensures memory { IfErr result (λ e. e.kind ≡ PoFault.OutOfMemory → e.line ≡ 0) }
+{
+    let (context, obsolete, line, id, behind) = match start_at(items, from) {
+        None => unreachable!(),
+        Some(Start::WithoutContext(obsolete, line)) => {
+            let marks = Marks { obsolete, previous: false };
+            let (id, behind) = strings_of(alloc, items, from + 1, marks, end)?;
+            (None, obsolete, line, id, behind)
+        }
+        Some(Start::WithContext(obsolete)) => {
+            let marks = Marks { obsolete, previous: false };
+            let (context, middle) = strings_of(alloc, items, from + 1, marks, end)?;
+            let id = wanted_word(alloc, items, middle, Wanted::Id, obsolete, end)?;
+            (Some(context), obsolete, id.line, id.text, id.behind)
+        }
+    };
+    let translation = translation_of(alloc, items, behind, obsolete, end)?;
+    Ok(Body {
+        context,
+        id,
+        plural: translation.plural,
+        forms: translation.forms,
+        obsolete,
+        line,
+        behind: translation.behind,
+    })
+}
