@@ -1,12 +1,12 @@
 -- Faults: one byte order is shown, and which fault comes first.
-use Rattle.std.proofs.Common.{◌≡◌, ℕ, ◌+◌, ◌*◌, ◌/◌, ◌<◌, ◌≤◌, ◌⊎◌, List, length, refl, sym, ◌∙◌, ap, subst, arith, rules, inl, inr}
+use Rattle.std.proofs.Common.{◌≡◌, ℕ, ◌+◌, ◌<◌, List, refl, ap, subst, arith, inl, inr}
 use Rattle.mo_file.specs.declared.byte_order.Order.{Order}
 use Rattle.mo_file.specs.declared.byte_order.Order.TheVariants.{Little, Big}
 use Rattle.mo_file.specs.declared.fault.MoError.{MoError}
 use Rattle.mo_file.specs.declared.fault.MoError.TheVariants.{TooShort, BadMagic, BadRevision, TableOutside, StringOutside, NoTerminator, NotSorted}
 use Rattle.mo_file.specs.declared.header.Header.{Header}
-use Rattle.mo_file.specs.Header.{Shows, magic, message_count, originals_table, translations_table}
-use Rattle.mo_file.specs.Fault.{HasFault, HasFaultIn, IsBefore, IsFirstFault, IsUnsorted, IsOutside, IsUnterminated}
+use Rattle.mo_file.specs.Header.{Shows}
+use Rattle.mo_file.specs.Fault.{HasFault, HasFaultIn, IsFirstFault, IsUnsorted}
 use Rattle.mo_file.specs.Checking.{HasStrings, IsHeader, IsSortedBelow}
 
 -- a file shows one byte order
@@ -26,23 +26,31 @@ module _ (header : Header) (bytes : List ℕ) (read : IsHeader header bytes) (st
   shown : (f : MoError) → ((order' : Order) × Shows order' bytes × HasFaultIn order' bytes f) → HasFaultIn header.order bytes f
   shown f fault = HasFaultIn-shown bytes header.order f read.shows fault
 
-  -- only keys are left to be faulty, behind those that rise
-  none_before_unsorted : (i : ℕ) → IsSortedBelow header.order bytes (i + 1) → (f : MoError) → IsBefore f (NotSorted (i + 1)) → ¬ HasFault bytes f
-  none_before_unsorted i sorted TooShort before has = omega (arith, read.long)
-  none_before_unsorted i sorted BadMagic before has = has header.order read.shows
-  none_before_unsorted i sorted BadRevision before has = let fault = shown BadRevision has in omega (arith, read.known)
-  none_before_unsorted i sorted TableOutside before has =
+  -- only keys are left to be faulty
+  only_keys : (f : MoError) → HasFault bytes f → (i : ℕ) × (f ≡ NotSorted (i + 1)) × (i + 1 < header.count) × IsUnsorted header.order bytes i
+  only_keys TooShort has = absurd (omega (arith, read.long))
+  only_keys BadMagic has = absurd (has header.order read.shows)
+  only_keys BadRevision has = let fault = shown BadRevision has in absurd (omega (arith, read.known))
+  only_keys TableOutside has =
       let fault = shown TableOutside has in
-      grind (arith, read.count, read.originals, read.translations, read.originals_inside, read.translations_inside)
-  none_before_unsorted i sorted (StringOutside k) before has = let fault = shown (StringOutside k) has in strings.inside k fault.0 fault.1
-  none_before_unsorted i sorted (NoTerminator k) before has = let fault = shown (NoTerminator k) has in strings.terminated k fault.0 fault.1
-  none_before_unsorted i sorted (NotSorted k) before has =
+      absurd (grind (arith, read.count, read.originals, read.translations, read.originals_inside, read.translations_inside))
+  only_keys (StringOutside k) has = let fault = shown (StringOutside k) has in absurd (strings.inside k fault.0 fault.1)
+  only_keys (NoTerminator k) has = let fault = shown (NoTerminator k) has in absurd (strings.terminated k fault.0 fault.1)
+  only_keys (NotSorted k) has =
       let fault = shown (NotSorted k) has in
-      sorted fault.0 (omega arith) fault.3
+      let inside : fault.0 + 1 < header.count = omega (arith, fault.1, fault.2, read.count) in
+      (fault.0, ap NotSorted fault.1, inside, fault.3)
 
   -- the first key that isn't above the one before it is told
   pub first_unsorted : (i : ℕ) → IsSortedBelow header.order bytes (i + 1) → i + 1 < header.count → IsUnsorted header.order bytes i → IsFirstFault bytes (NotSorted (i + 1))
   first_unsorted i sorted inside unsorted = record {
     holds = (header.order, read.shows, (i, refl, omega (arith, read.count), unsorted));
-    first = none_before_unsorted i sorted;
+    first = λ f before has.
+        let fault = only_keys f has in
+        let earlier = rw fault.1 at before in
+        sorted fault.0 (elim earlier [ inl other_kind ↦ absurd (omega arith) | inr same_kind ↦ omega (arith, same_kind.1) ]) fault.3;
   }
+
+  -- a file that has been checked has no fault
+  pub faultless : IsSortedBelow header.order bytes header.count → (f : MoError) → ¬ HasFault bytes f
+  faultless sorted f has = let fault = only_keys f has in sorted fault.0 fault.2 fault.3

@@ -1,2 +1,6 @@
 pub mod KeyLemmas
 pub mod FaultLemmas
+pub mod ViewLemmas
+pub mod BuildLemmas
+pub mod LayoutLemmas
+pub mod RoundTripLemmas

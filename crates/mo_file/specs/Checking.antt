@@ -1,5 +1,5 @@
 -- Internal: what has been checked of a file while it is opened.
-use Rattle.std.specs.Prelude.{◌≡◌, ◌≢◌, ℕ, ◌+◌, ◌*◌, ◌/◌, ◌<◌, ◌≤◌, List, length, Option, None, Some}
+use Rattle.std.specs.Prelude.{◌≡◌, ℕ, ◌+◌, ◌*◌, ◌/◌, ◌<◌, ◌≤◌, List, length, Option, None, Some}
 use Rattle.mo_file.specs.declared.byte_order.Order.{Order}
 use Rattle.mo_file.specs.declared.header.Header.{Header}
 use Rattle.mo_file.specs.Header.{Shows, revision, message_count, originals_table, translations_table}
@@ -29,3 +29,9 @@ IsSortedBelow order bytes n = (i : ℕ) → i + 1 < n → ¬ IsUnsorted order by
 abbrev pub IsFirstBelow : (ℕ → Type 0) → ℕ → Option ℕ → Type 0
 IsFirstBelow P n None = (k : ℕ) → k < n → ¬ P k
 IsFirstBelow P n (Some i) = (i < n) × P i × ((k : ℕ) → k < i → ¬ P k)
+
+-- all of the file has been checked
+pub record IsChecked (header : Header) (bytes : List ℕ) : Type 0 where
+  pub read : IsHeader header bytes
+  pub strings : HasStrings header.order bytes
+  pub sorted : IsSortedBelow header.order bytes header.count

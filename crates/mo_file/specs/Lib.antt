@@ -7,5 +7,6 @@ pub mod Fault
 pub mod Catalog
 pub mod Checking
 pub mod Layout
+pub mod Pairs
 pub mod Building
 pub mod Laws

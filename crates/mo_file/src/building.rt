@@ -1,24 +1,88 @@
+ghost use Rattle.std.specs.Prelude.{◌≡◌, ◌-◌, ◌^◌, ◌<◌, length, min, IfErr, IfOk, OnOk};
+ghost use Rattle.mo_file.specs.Building.{Fits, IsBuildFault};
+ghost use Rattle.mo_file.specs.Key.{AreRising, keys};
+ghost use Rattle.mo_file.specs.Layout.{layout};
+ghost use Rattle.mo_file.specs.Pairs.{messages_of_pairs};
+
+use crate::byte_order::Order;
+use crate::header::HEADER_LEN;
+use crate::pairs::{Pair, Part, are_rising};
+use crate::writing::{originals_place, push_header, push_strings, push_table};
+use std::alloc::{AllocError, Global};
 use thiserror::Error;
 
-/// An original and its translation, as they stand in a file, without the NUL that ends each. The
-/// original is the key, or for an entry with a plural the key, a NUL and the plural; the key is the
-/// msgid, or the context, a byte 4 (EOT) and the msgid ("The Format of GNU MO Files").
-#[derive(Debug, Drop)]
-pub struct Pair {
-    pub original: Vec<u8>,
-    pub translation: Vec<u8>,
-}
+/// What a file has for each pair beside the bytes of its strings: two entries and two NULs.
+const PAIR_OVERHEAD: u64 = 18;
 
 /// Why no file is built. Of two reasons that hold the first in this order is told.
 #[derive(Clone, Copy, Debug, PartialEq, Eq, Error)]
 pub enum BuildError {
-    /// The file would have more than 4,294,967,295 bytes, so that offsets of 32 bits don't reach its end.
+    /// The file would have more than 4,294,967,295 bytes, so that 32 bits don't reach its end.
     #[error("too large")]
     TooLarge,
-    /// The keys of the pairs don't rise strictly.
+    /// The keys of the pairs don't rise strictly by unsigned bytes, a prefix before what is longer.
     #[error("not sorted by key")]
     NotSorted,
     /// There is no memory for the file.
     #[error("out of memory")]
     OutOfMemory,
+}
+
+impl From<AllocError> for BuildError {
+    ghost use Rattle.std.specs.Prelude.{◌≡◌};
+    ghost use Rattle.mo_file.specs.declared.building.BuildError.TheVariants.{OutOfMemory};
+
+    ghost from_gives = { λ _ e. e ≡ OutOfMemory };
+
+    fn from(_e: AllocError) -> BuildError {
+        BuildError::OutOfMemory
+    }
+}
+
+/// The MO file of pairs that are sorted by their keys: the header, the table of the originals, that of
+/// the translations, all originals and all translations, each followed by a NUL, without padding and
+/// without a hash table ("The Format of GNU MO Files"). The words are written in the given byte order.
+pub fn build(alloc: Global, order: Order, pairs: &[Pair]) -> Result<Vec<u8>, BuildError>
+    ensures layout { IfOk result (λ bytes. bytes.items ≡ layout order (messages_of_pairs pairs.now)) }
+    ensures fits { OnOk result (Fits order (messages_of_pairs pairs.now)) }
+    ensures rising { OnOk result (AreRising (keys (messages_of_pairs pairs.now))) }
+    ensures fault { IfErr result (IsBuildFault order (messages_of_pairs pairs.now)) }
+{
+    let len = layout_len(pairs);
+    if len > u64::from(u32::MAX) {
+        return Err(BuildError::TooLarge);
+    }
+    if !are_rising(pairs) {
+        return Err(BuildError::NotSorted);
+    }
+    Ok(laid_out(alloc, order, pairs, len as u32)?)
+}
+
+/// The length of the file, or 2^64 - 1 where it is longer.
+fn layout_len(pairs: &[Pair]) -> u64
+    ensures { (order : Order) → result ≡ min (length (layout order (messages_of_pairs pairs.now))) (2 ^ 64 - 1) }
+{
+    let mut len = u64::from(HEADER_LEN);
+    for pair in pairs {
+        len = len
+            .saturating_add(PAIR_OVERHEAD)
+            .saturating_add(pair.original.len() as u64)
+            .saturating_add(pair.translation.len() as u64);
+    }
+    len
+}
+
+fn laid_out(alloc: Global, order: Order, pairs: &[Pair], len: u32) -> Result<Vec<u8>, AllocError>
+    requires { len ≡ length (layout order (messages_of_pairs pairs.now)) }
+    ensures { IfOk result (λ bytes. bytes.items ≡ layout order (messages_of_pairs pairs.now)) }
+{
+    let count = pairs.len() as u32;
+    let mut out = Vec::with_capacity(alloc, len as usize)?;
+    push_header(&mut out, order, count)?;
+    let originals = originals_place(count);
+    let translations = push_table(&mut out, order, pairs, Part::Original, originals)?;
+    push_table(&mut out, order, pairs, Part::Translation, translations)?;
+    push_strings(&mut out, pairs, Part::Original)?;
+    push_strings(&mut out, pairs, Part::Translation)?;
+    Ok(out)
 }

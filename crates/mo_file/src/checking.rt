@@ -1,25 +1,23 @@
-ghost use Rattle.std.specs.Prelude.{◌≡◌, ◌+◌, ◌-◌, ◌^◌, ◌<◌, ◌↔◌, Some, IsTrue, MatchResult, slice_get};
-ghost use Rattle.mo_file.specs.Key.{key_of as key_before_nul};
-ghost use Rattle.mo_file.specs.StringTable.{original_at};
+ghost use Rattle.std.specs.Prelude.{◌≡◌, ◌+◌, ◌-◌, ◌^◌, ◌<◌, ◌↔◌, Some, IfErr, IsTrue, MatchResult, slice_get};
 ghost use Rattle.mo_file.specs.Fault.{IsFirstFault, looks_before};
 ghost use Rattle.mo_file.specs.Checking.{HasStrings, IsHeader, IsSortedBelow};
 
 use crate::counting::Meter;
 use crate::fault::MoError;
 use crate::header::Header;
-use crate::key::key_of;
-use crate::strings::{end_at, string_at};
+use crate::strings::{key_at, range_at};
 use std::cmp::Ordering;
 
 /// Sees that each string lies inside the file and that a NUL follows it.
 pub(crate) fn check_strings(header: Header, bytes: &[u8]) -> Result<(), MoError>
     requires { IsHeader header bytes.now }
-    ensures { MatchResult result (λ _. HasStrings header.order bytes.now) (IsFirstFault bytes.now) }
+    ensures exact { MatchResult result (λ _. HasStrings header.order bytes.now) (IsFirstFault bytes.now) }
+    ensures no_look { IfErr result (λ e. looks_before e ≡ 0) }
 {
     let mut unterminated = None;
     for i in 0..header.count {
-        let original_end = end_at(header.order, bytes, header.originals, i);
-        let translation_end = end_at(header.order, bytes, header.translations, i);
+        let original_end = range_at(header.order, bytes, header.originals, i).end;
+        let translation_end = range_at(header.order, bytes, header.translations, i).end;
         if original_end > bytes.len() || translation_end > bytes.len() {
             return Err(MoError::StringOutside(i));
         }
@@ -61,14 +59,4 @@ pub(crate) fn check_order(header: Header, bytes: &[u8], meter: &mut Meter) -> Re
         }
     }
     Ok(())
-}
-
-/// The key of message `i`.
-fn key_at(header: Header, bytes: &[u8], i: u32) -> &[u8]
-    requires read { IsHeader header bytes.now }
-    requires strings { HasStrings header.order bytes.now }
-    requires inside { i < header.count }
-    ensures { result.now ≡ key_before_nul (original_at header.order bytes.now i) }
-{
-    key_of(string_at(header.order, bytes, header.originals, i))
 }

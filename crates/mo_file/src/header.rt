@@ -1,12 +1,15 @@
-ghost use Rattle.std.specs.Prelude.{MatchResult};
-ghost use Rattle.mo_file.specs.Fault.{IsFirstFault};
+ghost use Rattle.std.specs.Prelude.{◌≡◌, IfErr, MatchResult};
+ghost use Rattle.mo_file.specs.Fault.{IsFirstFault, looks_before};
 ghost use Rattle.mo_file.specs.Checking.{IsHeader};
 
 use crate::byte_order::{Order, word};
 use crate::fault::MoError;
 
-/// Seven words of 4 bytes.
-const HEADER_LEN: usize = 28;
+/// The length of a header: seven words of 4 bytes.
+pub(crate) const HEADER_LEN: u32 = 28;
+
+/// The length of what a table has for a string: a word for its length and one for its offset.
+pub(crate) const ENTRY_LEN: u32 = 8;
 
 /// The words of a header that say where the strings of a file stand.
 #[derive(Clone, Copy)]
@@ -23,9 +26,10 @@ pub(crate) struct Header {
 impl Header {
     /// Reads the header and sees that both tables lie inside the file.
     pub(crate) fn read(bytes: &[u8]) -> Result<Header, MoError>
-        ensures { MatchResult result (λ header. IsHeader header bytes.now) (IsFirstFault bytes.now) }
+        ensures exact { MatchResult result (λ header. IsHeader header bytes.now) (IsFirstFault bytes.now) }
+        ensures no_look { IfErr result (λ e. looks_before e ≡ 0) }
     {
-        if bytes.len() < HEADER_LEN {
+        if bytes.len() < HEADER_LEN as usize {
             return Err(MoError::TooShort);
         }
         let Some(order) = Order::of_file(bytes) else {
@@ -37,7 +41,7 @@ impl Header {
         let count = word(order, bytes, 8);
         let originals = word(order, bytes, 12);
         let translations = word(order, bytes, 16);
-        let table_len = 8 * count as usize;
+        let table_len = ENTRY_LEN as usize * count as usize;
         if originals as usize + table_len > bytes.len()
             || translations as usize + table_len > bytes.len()
         {

@@ -10,10 +10,19 @@ mod counting;
 mod fault;
 mod header;
 mod key;
+mod laws;
+mod pairs;
 mod strings;
+#[cfg(test)]
+mod tests;
+mod view;
+mod writing;
 
-pub use building::{BuildError, Pair};
+pub use building::{BuildError, build};
 pub use byte_order::Order;
 pub use counting::Meter;
 pub use fault::MoError;
 pub use key::compare_key;
+pub use laws::{catalog_is_unique, layout_is_catalog};
+pub use pairs::Pair;
+pub use view::MoView;

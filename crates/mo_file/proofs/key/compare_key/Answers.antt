@@ -1,4 +1,4 @@
-use Rattle.std.proofs.Common.{sym, ◌∙◌, ap, ◌∷◌}
+use Rattle.std.proofs.Common.{sym, ◌∙◌}
 use Rattle.mo_file.proofs.KeyLemmas.{key_cmp-shorter, key_cmp-equal, key_cmp-unequal}
 use Rattle.mo_file.proofs.key.compare_key.Goals as goal
 

@@ -1,0 +1,184 @@
+-- What is laid out is a valid file.
+use Rattle.std.proofs.Common.{◌≡◌, ℕ, suc, ◌+◌, ◌*◌, ◌^◌, ◌<◌, List, [], ◌∷◌, ◌++◌, length, Some, refl, sym, ◌∙◌, ap, subst, arith, append_assoc, length-append, inl, inr}
+use Rattle.std.specs.List.{slice_get}
+use Rattle.std.specs.Option.{option_map}
+use Rattle.std.proofs.lemmas.List.{append-nil, length-map, take_at}
+use Rattle.std.proofs.lemmas.Option.{slice_get-map, slice_get_cases, slice_get_past}
+use Rattle.mo_file.specs.declared.byte_order.Order.{Order}
+use Rattle.mo_file.specs.declared.header.Header.{Header}
+use Rattle.mo_file.specs.Word.{word_bytes}
+use Rattle.mo_file.specs.Header.{Shows, magic, revision, message_count, originals_table, translations_table}
+use Rattle.mo_file.specs.Message.{Message, originals, translations}
+use Rattle.mo_file.specs.Key.{AreRising, key_of, keys}
+use Rattle.mo_file.specs.StringTable.{messages_of, message_at}
+use Rattle.mo_file.specs.Layout.{header, layout, originals_place, table, terminated, translations_place}
+use Rattle.mo_file.specs.Checking.{HasStrings, IsHeader, IsSortedBelow}
+use Rattle.mo_file.specs.Laws.{LayoutIsCatalog}
+use Rattle.mo_file.proofs.BuildLemmas.{length-header, length-layout, length-magic, length-table, length-word_bytes}
+use Rattle.mo_file.proofs.FaultLemmas.{faultless}
+use Rattle.mo_file.proofs.LayoutLemmas.{IsString, IsString-laid, word_at-behind}
+use Rattle.mo_file.proofs.ViewLemmas.{keys-at, length-messages_of, messages_of-at}
+
+-- two lists with the same message at each place
+same_at_each : (xs ys : List Message) → ((i : ℕ) → slice_get xs i ≡ slice_get ys i) → xs ≡ ys
+same_at_each [] [] same = refl
+same_at_each [] (y ∷ ys) same = let first = same 0 in cc
+same_at_each (x ∷ xs) [] same = let first = same 0 in cc
+same_at_each (x ∷ xs) (y ∷ ys) same =
+    let first = same 0 in
+    let rest = same_at_each xs ys (λ i. same (suc i)) in
+    cc
+
+module _ (order : Order) (messages : List Message) where
+  abbrev bytes : List ℕ
+  bytes = layout order messages
+
+  abbrev count : ℕ
+  count = length messages
+
+  -- both tables and all strings
+  abbrev body : List ℕ
+  body =
+      table order (originals_place messages) (originals messages)
+      ++ (table order (translations_place messages) (translations messages)
+      ++ (terminated (originals messages) ++ terminated (translations messages)))
+
+  -- the words of the header behind the second
+  abbrev behind_count : List ℕ
+  behind_count =
+      word_bytes order 28
+      ++ (word_bytes order (28 + 8 * count) ++ (word_bytes order 0 ++ (word_bytes order (28 + 16 * count) ++ body)))
+
+  shows : Shows order bytes
+  shows =
+      let split : bytes ≡ magic order ++ (word_bytes order 0 ++ (word_bytes order count ++ behind_count)) = simp append_assoc in
+      rw split (take_at (magic order) _ 4 (length-magic order))
+
+  revision_is : revision order bytes ≡ 0
+  revision_is =
+      word_at-behind order bytes (magic order) (word_bytes order count ++ behind_count) 4 0 (simp append_assoc) (length-magic order) (omega arith)
+
+  module _ (fits : length bytes < 2 ^ 32) where
+    small : 28 + 16 * count + length (terminated (originals messages)) + length (terminated (translations messages)) < 2 ^ 32
+    small = rw (length-layout order messages) at fits
+
+    count_is : message_count order bytes ≡ count
+    count_is =
+        word_at-behind order bytes (magic order ++ word_bytes order 0) behind_count 8 count (simp append_assoc)
+        (simp (length-append, length-magic, length-word_bytes)) (omega (arith, small))
+
+    originals_table_is : originals_table order bytes ≡ 28
+    originals_table_is =
+        word_at-behind order bytes (magic order ++ (word_bytes order 0 ++ word_bytes order count))
+        (word_bytes order (28 + 8 * count) ++ (word_bytes order 0 ++ (word_bytes order (28 + 16 * count) ++ body))) 12 28
+        (simp append_assoc) (simp (length-append, length-magic, length-word_bytes)) (omega arith)
+
+    translations_table_is : translations_table order bytes ≡ 28 + 8 * count
+    translations_table_is =
+        word_at-behind order bytes (magic order ++ (word_bytes order 0 ++ (word_bytes order count ++ word_bytes order 28)))
+        (word_bytes order 0 ++ (word_bytes order (28 + 16 * count) ++ body)) 16 (28 + 8 * count)
+        (simp append_assoc) (simp (length-append, length-magic, length-word_bytes)) (omega (arith, small))
+
+    original_laid : (i : ℕ) (s : List ℕ) → slice_get (originals messages) i ≡ Some s → IsString order bytes (originals_table order bytes) i s
+    original_laid =
+        let head = header order count in
+        let first = table order (originals_place messages) (originals messages) in
+        let second = table order (translations_place messages) (translations messages) in
+        let strings = terminated (originals messages) in
+        IsString-laid order bytes head (second ++ (strings ++ terminated (translations messages)))
+        (head ++ (first ++ second)) (terminated (translations messages))
+        (originals_table order bytes) (originals_place messages) (originals messages)
+        (simp append_assoc) (length-header order count ∙ sym originals_table_is)
+        (simp append_assoc) (simp (length-append, length-magic, length-word_bytes, length-table, length-map) (omega arith))
+        (omega (arith, small))
+
+    translation_laid : (i : ℕ) (s : List ℕ) → slice_get (translations messages) i ≡ Some s → IsString order bytes (translations_table order bytes) i s
+    translation_laid =
+        let head = header order count in
+        let first = table order (originals_place messages) (originals messages) in
+        let second = table order (translations_place messages) (translations messages) in
+        let strings = terminated (originals messages) in
+        IsString-laid order bytes (head ++ first) (strings ++ terminated (translations messages))
+        (head ++ (first ++ (second ++ strings))) []
+        (translations_table order bytes) (translations_place messages) (translations messages)
+        (simp append_assoc) (simp (length-append, length-magic, length-word_bytes, length-table, length-map) (omega (arith, translations_table_is)))
+        (simp (append_assoc, append-nil)) (simp (length-append, length-magic, length-word_bytes, length-table, length-map) (omega arith))
+        (omega (arith, small))
+
+    -- the strings of message i
+    original_here : (i : ℕ) (m : Message) → slice_get messages i ≡ Some m → IsString order bytes (originals_table order bytes) i m.original
+    original_here i m is =
+        let original = λ (x : Message). x.original in
+        original_laid i m.original (slice_get-map original messages i ∙ ap (option_map original) is)
+
+    translation_here : (i : ℕ) (m : Message) → slice_get messages i ≡ Some m → IsString order bytes (translations_table order bytes) i m.translation
+    translation_here i m is =
+        let translation = λ (x : Message). x.translation in
+        translation_laid i m.translation (slice_get-map translation messages i ∙ ap (option_map translation) is)
+
+    message_laid : (i : ℕ) (m : Message) → slice_get messages i ≡ Some m → message_at order bytes i ≡ m
+    message_laid i m is = rw ((original_here i m is).string, (translation_here i m is).string)
+
+    at_each : (i : ℕ) → slice_get messages i ≡ slice_get (messages_of order bytes) i
+    at_each i =
+        elim (slice_get_cases messages i).1 [
+          | inl here ↦ let inside : i < message_count order bytes = omega (arith, count_is, here.1) in
+              here.2 ∙ ap Some (sym (message_laid i here.0 here.2)) ∙ sym (messages_of-at order bytes i inside)
+          | inr past ↦ past.1 ∙ sym (slice_get_past (messages_of order bytes) i (omega (arith, length-messages_of order bytes, count_is, past.0)))
+        ]
+
+    lists : messages ≡ messages_of order bytes
+    lists = same_at_each messages (messages_of order bytes) at_each
+
+    -- what the header of the layout is read as
+    abbrev read_header : Header
+    read_header = record { order = order; count = count; originals = 28; translations = 28 + 8 * count }
+
+    header_read : IsHeader read_header bytes
+    header_read =
+        let len = length-layout order messages in
+        record {
+          long = omega arith;
+          shows = shows;
+          known = rw revision_is (omega arith);
+          count = sym count_is;
+          originals = sym originals_table_is;
+          translations = sym translations_table_is;
+          originals_inside = omega arith;
+          translations_inside = omega arith;
+        }
+
+    -- each message is laid out with both its strings
+    both_laid : (i : ℕ) → i < message_count order bytes → (m : Message) × (slice_get messages i ≡ Some m) × IsString order bytes (originals_table order bytes) i m.original × IsString order bytes (translations_table order bytes) i m.translation
+    both_laid i lt =
+        elim (slice_get_cases messages i).1 [
+          | inl here ↦ (here.0, here.2, original_here i here.0 here.2, translation_here i here.0 here.2)
+          | inr past ↦ absurd (omega (arith, count_is, past.0))
+        ]
+
+    strings_laid : HasStrings order bytes
+    strings_laid = record {
+      inside = λ i lt outside.
+          let both = both_laid i lt in
+          let original = both.2.inside in
+          let translation = both.3.inside in
+          elim outside [ inl h ↦ omega arith | inr h ↦ omega arith ];
+      terminated = λ i lt unterminated.
+          let both = both_laid i lt in
+          elim unterminated [ inl h ↦ h both.2.terminated | inr h ↦ h both.3.terminated ];
+    }
+
+    sorted : AreRising (keys messages) → IsSortedBelow order bytes count
+    sorted rising i lt unsorted =
+        let P : List Message → Type 0 = λ ms. AreRising (keys ms) in
+        let risen = subst P lists rising in
+        let inside : i + 1 < message_count order bytes = omega (arith, count_is) in
+        let listed : i + 1 < length (keys (messages_of order bytes)) = omega (arith, length-map (messages_of order bytes) (λ m. key_of m.original), length-messages_of order bytes) in
+        unsorted (rw (keys-at order bytes i (omega arith), keys-at order bytes (i + 1) inside) at (risen.next i listed))
+
+pub layout_is_catalog : LayoutIsCatalog
+layout_is_catalog order messages rising fits = record {
+  shows = shows order messages;
+  faultless = faultless (read_header order messages fits) (bytes order messages) (header_read order messages fits) (strings_laid order messages fits) (sorted order messages fits rising);
+  lists = lists order messages fits;
+}

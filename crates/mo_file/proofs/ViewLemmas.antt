@@ -1,0 +1,47 @@
+-- The messages of a file: how many they are, what stands at a place, and that their keys rise.
+use Rattle.std.proofs.Common.{◌≡◌, ◌≢◌, ℕ, ◌+◌, ◌<◌, List, [], length, map, Some, refl, ◌∙◌, ap, arith}
+use Rattle.std.specs.List.{slice_get}
+use Rattle.std.specs.Option.{option_map}
+use Rattle.std.specs.declared.cmp.Ordering.{Ordering}
+use Rattle.std.specs.declared.cmp.Ordering.TheVariants.{Less, Equal, Greater}
+use Rattle.std.proofs.lemmas.List.{length-map}
+use Rattle.std.proofs.lemmas.List.FromFn.{length-map-range_with_len, get_or-map-range_with_len}
+use Rattle.std.proofs.lemmas.Option.{slice_get-map, slice_get-get_or, get_or_from_slice_get}
+use Rattle.mo_file.specs.declared.byte_order.Order.{Order}
+use Rattle.mo_file.specs.Message.{Message}
+use Rattle.mo_file.specs.Key.{key_of, keys, key_at, AreRising}
+use Rattle.mo_file.specs.Header.{message_count}
+use Rattle.mo_file.specs.StringTable.{message_at, messages_of, original_at}
+use Rattle.mo_file.specs.Checking.{IsSortedBelow}
+
+not_unequal : (order : Ordering) → ¬ (order ≢ Less) → order ≡ Less
+not_unequal Less less = refl
+not_unequal Equal less = absurd (less (λ is. cc))
+not_unequal Greater less = absurd (less (λ is. cc))
+
+module _ (order : Order) (bytes : List ℕ) where
+  pub length-messages_of : length (messages_of order bytes) ≡ message_count order bytes
+  unfolding messages_of
+  length-messages_of = length-map-range_with_len (message_at order bytes) 0 (message_count order bytes)
+
+  -- message i is what the tables have at i
+  pub messages_of-at : (i : ℕ) → i < message_count order bytes → slice_get (messages_of order bytes) i ≡ Some (message_at order bytes i)
+  unfolding messages_of
+  messages_of-at i lt =
+      slice_get-get_or (messages_of order bytes) i (message_at order bytes i) (omega (arith, length-messages_of))
+      ∙ ap Some (get_or-map-range_with_len (message_at order bytes) 0 (message_count order bytes) i i (message_at order bytes i) lt (omega arith))
+
+  module _ {A : Type 0} (f : Message → A) where
+    -- what is read of each message, at a place
+    pub map-messages_of-at : (i : ℕ) → i < message_count order bytes → slice_get (map f (messages_of order bytes)) i ≡ Some (f (message_at order bytes i))
+    map-messages_of-at i lt = slice_get-map f (messages_of order bytes) i ∙ ap (option_map f) (messages_of-at i lt)
+
+  pub keys-at : (i : ℕ) → i < message_count order bytes → key_at (keys (messages_of order bytes)) i ≡ key_of (original_at order bytes i)
+  keys-at i lt = get_or_from_slice_get (keys (messages_of order bytes)) i _ [] (map-messages_of-at (λ m. key_of m.original) i lt)
+
+  pub AreRising-messages_of : IsSortedBelow order bytes (message_count order bytes) → AreRising (keys (messages_of order bytes))
+  AreRising-messages_of sorted = record {
+    next = λ i lt.
+        let inside : i + 1 < message_count order bytes = omega (arith, length-map (messages_of order bytes) (λ m. key_of m.original), length-messages_of) in
+        rw (keys-at i (omega arith), keys-at (i + 1) inside) (not_unequal _ (sorted i inside));
+  }

@@ -1,0 +1,34 @@
+use Rattle.std.proofs.Common.{◌∙◌, arith}
+use Rattle.mo_file.proofs.BuildLemmas.{length-layout-strings, layout-pairs}
+use Rattle.mo_file.proofs.building.laid_out.Goals as goal
+
+pub overflow_cast-count : goal.overflow_cast-count
+overflow_cast-count c = let len = length-layout-strings c.args.order c.args.pairs.now in omega arith
+
+pub push_header-requires : goal.push_header-requires
+push_header-requires c = let len = length-layout-strings c.args.order c.args.pairs.now in omega arith
+
+pub originals_place-originals-requires : goal.originals_place-originals-requires
+originals_place-originals-requires c = let len = length-layout-strings c.args.order c.args.pairs.now in omega arith
+
+pub push_table-requires : goal.push_table-requires
+push_table-requires c = let len = length-layout-strings c.args.order c.args.pairs.now in omega arith
+
+pub push_table-requires-2 : goal.push_table-requires-2
+push_table-requires-2 c =
+    let len = length-layout-strings c.args.order c.args.pairs.now in
+    omega (arith, c.in_ok-translations.ensures.place)
+
+-- the parts are written one behind the other
+pub returns : goal.returns
+returns c =
+    rw (layout-pairs c.args.order c.args.pairs.now) (c.in_ok-push_strings-2.ensures
+    ∙ rw (
+      c.in_ok-push_strings.ensures,
+      c.in_ok-push_table.ensures.entries,
+      c.in_ok-translations.ensures.entries,
+      c.in_ok-translations.ensures.place,
+      c.originals_place-originals.ensures,
+      c.in_ok-push_header.ensures,
+      c.in_ok-out.ensures.items,
+    ))

@@ -1,0 +1,11 @@
+use Rattle.std.proofs.Common.{sym, ◌∙◌}
+use Rattle.mo_file.proofs.ViewLemmas.{length-messages_of, AreRising-messages_of}
+use Rattle.mo_file.proofs.view.MoView.len.Goals as goal
+
+pub returns-clause-count : goal.returns-clause-count
+returns-clause-count c =
+    rw (← c.self.view_is) (c.self.invariant.read.count ∙ sym (length-messages_of _ _))
+
+pub returns-clause-rising : goal.returns-clause-rising
+returns-clause-rising c =
+    rw (← c.self.view_is) (AreRising-messages_of _ _ (rw c.self.invariant.read.count at c.self.invariant.sorted))

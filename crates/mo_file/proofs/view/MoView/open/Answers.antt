@@ -1,0 +1,8 @@
+use Rattle.std.proofs.Common.{arith}
+use Rattle.mo_file.proofs.ViewLemmas.{length-messages_of}
+use Rattle.mo_file.proofs.view.MoView.open.Goals as goal
+
+pub returns-clause-cost : goal.returns-clause-cost
+returns-clause-cost c =
+    let counted = length-messages_of c.in_ok-header.header.order c.args.bytes.now in
+    omega (arith, c.in_ok-check_order.ensures.cost, c.in_ok-header.ensures.exact.count)

@@ -1,0 +1,12 @@
+use Rattle.std.proofs.Common.{◌≡◌, ◌+◌, ◌++◌, length, drop}
+use Rattle.mo_file.specs.Layout.{table, terminated}
+use Rattle.mo_file.specs.Pairs.{strings_of}
+use Rattle.mo_file.proofs.writing.push_table.Given as goal
+
+abbrev pub invariant-loop-pair : goal.invariant-loop-pair
+invariant-loop-pair l = record {
+  entries : l.out.items ++ table l.order l.at (strings_of l.part (drop l.pair-index l.pairs))
+      ≡ l.initial.out.items ++ table l.order l.place (strings_of l.part l.pairs);
+  places : l.at + length (terminated (strings_of l.part (drop l.pair-index l.pairs)))
+      ≡ l.place + length (terminated (strings_of l.part l.pairs));
+}

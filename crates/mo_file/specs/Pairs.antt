@@ -1,0 +1,21 @@
+-- The pairs that a file is built from, as messages.
+use Rattle.std.specs.Prelude.{ℕ, List, map}
+use Rattle.mo_file.specs.declared.pairs.Pair.{Pair}
+use Rattle.mo_file.specs.declared.pairs.Part.{Part}
+use Rattle.mo_file.specs.declared.pairs.Part.TheVariants.{Original, Translation}
+use Rattle.mo_file.specs.Message.{Message}
+
+abbrev pub message : Pair → Message
+message pair = record { original = pair.original.items; translation = pair.translation.items }
+
+abbrev pub messages_of_pairs : List Pair → List Message
+messages_of_pairs pairs = map message pairs
+
+-- one string of a pair
+abbrev pub string_of : Part → Pair → List ℕ
+string_of Original pair = pair.original.items
+string_of Translation pair = pair.translation.items
+
+-- that string of each pair
+abbrev pub strings_of : Part → List Pair → List (List ℕ)
+strings_of part pairs = map (string_of part) pairs

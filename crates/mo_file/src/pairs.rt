@@ -1,0 +1,54 @@
+ghost use Rattle.std.specs.Prelude.{◌≡◌, ◌↔◌, IsTrue};
+ghost use Rattle.mo_file.specs.Key.{AreRising, keys};
+ghost use Rattle.mo_file.specs.Pairs.{messages_of_pairs};
+
+use crate::key::key_of;
+use std::cmp::Ordering;
+
+/// An original and its translation, as they stand in a file, without the NUL that ends each. The
+/// original is the key, or for an entry with a plural the key, a NUL and the plural; the key is the
+/// msgid, or the context, a byte 4 (EOT) and the msgid. The translation is the forms with a NUL
+/// between them ("The Format of GNU MO Files").
+#[derive(Debug, Drop)]
+pub struct Pair {
+    pub original: Vec<u8>,
+    pub translation: Vec<u8>,
+}
+
+/// Which string of a pair is meant.
+#[derive(Clone, Copy)]
+pub(crate) enum Part {
+    Original,
+    Translation,
+}
+
+impl Pair {
+    ghost use Rattle.mo_file.specs.Pairs.{string_of};
+
+    pub(crate) fn string(&self, part: Part) -> &[u8]
+        ensures { result.now ≡ string_of part self.now }
+    {
+        match part {
+            Part::Original => &self.original,
+            Part::Translation => &self.translation,
+        }
+    }
+}
+
+/// Whether each key is above the one before it.
+pub(crate) fn are_rising(pairs: &[Pair]) -> bool
+    ensures { IsTrue result ↔ AreRising (keys (messages_of_pairs pairs.now)) }
+{
+    if pairs.is_empty() {
+        return true;
+    }
+    let mut key = key_of(&pairs[0].original);
+    for pair in &pairs[1..] {
+        let next = key_of(&pair.original);
+        match key.cmp(next) {
+            Ordering::Less => key = next,
+            _ => return false,
+        }
+    }
+    true
+}

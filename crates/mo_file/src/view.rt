@@ -1,0 +1,97 @@
+ghost use Rattle.std.specs.Prelude.{◌≡◌, ◌+◌, ◌-◌, ◌^◌, ◌<◌, ℕ, List, Some, length, IsOk, MatchResult, slice_get};
+ghost use Rattle.std.specs.Option.{option_copied};
+ghost use Rattle.mo_file.specs.declared.byte_order.Order.{Order};
+ghost use Rattle.mo_file.specs.Catalog.{IsCatalog};
+ghost use Rattle.mo_file.specs.Fault.{IsFirstFault, looks_before};
+ghost use Rattle.mo_file.specs.Key.{AreRising, key_at, key_cmp, keys, query_key};
+ghost use Rattle.mo_file.specs.Message.{Message, originals, translations};
+
+use crate::checking::{check_order, check_strings};
+use crate::counting::Meter;
+use crate::fault::MoError;
+use crate::header::Header;
+use crate::key::compare_key;
+use crate::strings::{key_at, original_at, translation_at};
+use std::cmp::Ordering;
+use std::marker::Model;
+
+/// The messages of an MO file, read in place from its bytes ("The Format of GNU MO Files"). They
+/// stand in rising order of their keys.
+#[derive(Drop)]
+pub struct MoView<'a> {
+    bytes: &'a [u8],
+    header: Header,
+}
+
+impl<'a> Model for MoView<'a> {
+    ghost use Rattle.std.specs.Prelude.{List};
+    ghost use Rattle.mo_file.specs.Message.{Message};
+    ghost use Rattle.mo_file.specs.StringTable.{messages_of};
+    ghost use Rattle.mo_file.specs.Checking.{IsChecked};
+
+    ghost Value = { List Message };
+
+    ghost view = { λ v. messages_of v.header.order v.bytes.now };
+
+    ghost invariant = { λ v. IsChecked v.header v.bytes.now };
+}
+
+impl<'a> MoView<'a> {
+    /// Checks bytes of any origin, of either byte order, and takes no memory. Strings may lie anywhere
+    /// in the file and may overlap; a hash table and all bytes that no string needs are ignored.
+    ///
+    /// One tick of the meter is one comparison of two neighbouring keys.
+    pub fn open(bytes: &'a [u8], meter: &mut Meter) -> Result<MoView<'a>, MoError>
+        requires { meter.old < 2 ^ 63 }
+        ensures exact { MatchResult result (λ messages. (order : Order) × IsCatalog order bytes.now messages) (IsFirstFault bytes.now) }
+
+        // So a refused file has no order and no list for which it is valid.
+        ensures only { (order : Order) (messages : List Message) → IsCatalog order bytes.now messages → IsOk result }
+        ensures cost { MatchResult result (λ messages. meter.new ≡ meter.old + (length messages - 1)) (λ e. meter.new ≡ meter.old + looks_before e) }
+    {
+        let header = Header::read(bytes)?;
+        check_strings(header, bytes)?;
+        check_order(header, bytes, meter)?;
+        Ok(MoView { bytes, header })
+    }
+
+    /// How many messages the file has.
+    pub fn len(&self) -> u32
+        ensures count { result ≡ length self.now }
+        ensures rising { AreRising (keys self.now) }
+    {
+        self.header.count
+    }
+
+    /// Where the key of message `i` stands against the key that a query asks for, as [`compare_key`]
+    /// answers. It is one look.
+    pub fn compare(&self, i: u32, context: Option<&[u8]>, id: &[u8], meter: &mut Meter) -> Ordering
+        requires inside { i < length self.now }
+        requires room { meter.old < 2 ^ 64 - 1 }
+        ensures order { result ≡ key_cmp (key_at (keys self.now) i) (query_key (option_copied context.entry) id.now) }
+        ensures cost { meter.new ≡ meter.old + 1 }
+    {
+        meter.add_one();
+        compare_key(key_at(self.header, self.bytes, i), context, id)
+    }
+
+    /// The original of message `i`: its key, and for an entry with a plural a NUL and the plural. It
+    /// is one look.
+    pub fn original(&self, i: u32, meter: &mut Meter) -> &'a [u8]
+        requires inside { i < length self.now }
+        requires room { meter.old < 2 ^ 64 - 1 }
+        ensures value { slice_get (originals self.now) i ≡ Some result.now }
+        ensures cost { meter.new ≡ meter.old + 1 }
+    {
+        meter.add_one();
+        original_at(self.header, self.bytes, i)
+    }
+
+    /// The translation of message `i`: its forms with a NUL between them.
+    pub fn translation(&self, i: u32) -> &'a [u8]
+        requires { i < length self.now }
+        ensures { slice_get (translations self.now) i ≡ Some result.now }
+    {
+        translation_at(self.header, self.bytes, i)
+    }
+}

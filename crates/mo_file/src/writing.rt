@@ -1,0 +1,68 @@
+ghost use Rattle.std.specs.Prelude.{◌≡◌, ◌+◌, ◌*◌, ◌^◌, ◌<◌, ◌++◌, length, IfOk, OnOk};
+ghost use Rattle.mo_file.specs.Layout.{header, table, terminated};
+ghost use Rattle.mo_file.specs.Pairs.{strings_of};
+
+use crate::byte_order::{BIG_MAGIC, LITTLE_MAGIC, Order, push_word};
+use crate::header::{ENTRY_LEN, HEADER_LEN};
+use crate::pairs::{Pair, Part};
+use std::alloc::AllocError;
+
+/// Where the originals begin in a file of so many messages: behind the header and both tables.
+pub(crate) fn originals_place(count: u32) -> u32
+    requires { 28 + 16 * count < 2 ^ 32 }
+    ensures { result ≡ 28 + 16 * count }
+{
+    HEADER_LEN + 2 * ENTRY_LEN * count
+}
+
+/// Appends the header of a file of so many messages.
+pub(crate) fn push_header(out: &mut Vec<u8>, order: Order, count: u32) -> Result<(), AllocError>
+    requires { 28 + 16 * count < 2 ^ 32 }
+    ensures { OnOk result (out.new.items ≡ out.old.items ++ header order count) }
+{
+    let magic = match order {
+        Order::Little => LITTLE_MAGIC,
+        Order::Big => BIG_MAGIC,
+    };
+    out.extend_from_slice(&magic)?;
+    push_word(out, order, 0)?;
+    push_word(out, order, count)?;
+    push_word(out, order, HEADER_LEN)?;
+    push_word(out, order, HEADER_LEN + ENTRY_LEN * count)?;
+    push_word(out, order, 0)?;
+    push_word(out, order, originals_place(count))
+}
+
+/// Appends the table of strings of which the first is to stand at a place, and gives the place behind
+/// the NUL of the last.
+pub(crate) fn push_table(
+    out: &mut Vec<u8>,
+    order: Order,
+    pairs: &[Pair],
+    part: Part,
+    place: u32,
+) -> Result<u32, AllocError>
+    requires { place + length (terminated (strings_of part pairs.now)) < 2 ^ 32 }
+    ensures entries { OnOk result (out.new.items ≡ out.old.items ++ table order place (strings_of part pairs.now)) }
+    ensures place { IfOk result (λ end. end ≡ place + length (terminated (strings_of part pairs.now))) }
+{
+    let mut at = place;
+    for pair in pairs {
+        let len = pair.string(part).len() as u32;
+        push_word(out, order, len)?;
+        push_word(out, order, at)?;
+        at += len + 1;
+    }
+    Ok(at)
+}
+
+/// Appends the strings, each with its NUL.
+pub(crate) fn push_strings(out: &mut Vec<u8>, pairs: &[Pair], part: Part) -> Result<(), AllocError>
+    ensures { OnOk result (out.new.items ≡ out.old.items ++ terminated (strings_of part pairs.now)) }
+{
+    for pair in pairs {
+        out.extend_from_slice(pair.string(part))?;
+        out.push(0)?;
+    }
+    Ok(())
+}
