@@ -1,0 +1,7 @@
+pub mod BoundLemmas
+pub mod RisingLemmas
+pub mod SearchLemmas
+pub mod FormLemmas
+pub mod QueryLemmas
+pub mod TranslationLemmas
+pub mod ChainLemmas

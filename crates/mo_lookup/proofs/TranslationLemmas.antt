@@ -1,0 +1,106 @@
+-- The translation under a key, by the place of the key among rising keys.
+use Rattle.std.proofs.Common.{◌≡◌, ◌≢◌, ℕ, ◌+◌, ◌<◌, ◌≤◌, Bool, true, false, List, [], ◌∷◌, Option, None, Some, length, map, subst, get_or, slice_get, slice_index_or, refl, sym, ◌∙◌, ap, inl, inr, arith}
+use Rattle.std.specs.declared.cmp.Ordering.TheVariants.{Less, Equal, Greater}
+use Rattle.std.specs.List.{position_or_len, find}
+use Rattle.std.specs.Option.{option_map, option_map_or, option_and_then}
+use Rattle.std.specs.Str.{bytes_eq}
+use Rattle.std.proofs.lemmas.List.{get_or-map, length-map}
+use Rattle.std.proofs.lemmas.List.Sums.{position_or_len_is}
+use Rattle.std.proofs.lemmas.List.Folds.{find_at}
+use Rattle.std.proofs.lemmas.Option.{slice_get-map, slice_get_past}
+use Rattle.std.proofs.lemmas.Slice.Eq.{bytes_eq-Decides}
+use Rattle.std.proofs.lemmas.Bool.{cases_lt}
+use Rattle.mo_file.specs.Message.{Message, translations}
+use Rattle.mo_file.specs.Key.{AreRising, key_of, keys, key_at, key_cmp}
+use Rattle.mo_lookup.specs.Place.{IsPlaceOf}
+use Rattle.mo_lookup.specs.Answer.{form_at}
+use Rattle.mo_lookup.specs.Contents.{forms, header_text, translation_under}
+use Rattle.mo_lookup.proofs.FormLemmas.{not_true}
+use Rattle.mo_lookup.proofs.RisingLemmas.{equal_is_same, less_is_other, rising_between}
+
+-- what is read behind the end of a list of messages
+no_message : Message
+no_message = record { original = []; translation = [] }
+
+key_at-original : (messages : List Message) (i : ℕ) → i < length messages →
+    key_at (keys messages) i ≡ key_of (get_or messages i no_message).original
+key_at-original messages i inside = get_or-map (λ m. key_of m.original) messages i no_message [] inside
+
+-- a message is found by the test on its key exactly where its key is the one that is asked for
+tested-other : (messages : List Message) (key : List ℕ) (i : ℕ) → i < length messages → key_at (keys messages) i ≢ key →
+    bytes_eq (key_of (get_or messages i no_message).original) key ≡ false
+tested-other messages key i inside other =
+    let decides = bytes_eq-Decides (key_of (get_or messages i no_message).original) key in
+    not_true _ (λ same. other (key_at-original messages i inside ∙ decides.0 same))
+
+tested-same : (messages : List Message) (key : List ℕ) (i : ℕ) → i < length messages → key_at (keys messages) i ≡ key →
+    bytes_eq (key_of (get_or messages i no_message).original) key ≡ true
+tested-same messages key i inside same =
+    let decides = bytes_eq-Decides (key_of (get_or messages i no_message).original) key in
+    decides.1 (sym (key_at-original messages i inside) ∙ same)
+
+-- what is found is the message at the place of the first key that is the one
+under-place : (messages : List Message) (key : List ℕ) (place : ℕ) → position_or_len (λ m. bytes_eq (key_of m.original) key) messages ≡ place →
+    translation_under key messages ≡ slice_get (translations messages) place
+under-place messages key place first =
+    ap (option_map (λ m. m.translation)) (find_at (λ m. bytes_eq (key_of m.original) key) messages ∙ ap (slice_get messages) first)
+    ∙ sym (slice_get-map (λ m. m.translation) messages place)
+
+-- where key i is the one, translation i stands under it
+pub under-found : (messages : List Message) (key : List ℕ) (i : ℕ) → AreRising (keys messages) → i < length (keys messages) →
+    key_at (keys messages) i ≡ key → translation_under key messages ≡ slice_get (translations messages) i
+under-found messages key i rising inside same =
+    let short : i < length messages = omega (arith, length-map messages (λ m. key_of m.original)) in
+    let before : (k : ℕ) → k < i → key_at (keys messages) k ≢ key =
+        λ k lt. rw (← same) (less_is_other _ _ (rising_between (keys messages) rising k i lt inside)) in
+    under-place messages key i
+        (
+            position_or_len_is (λ m. bytes_eq (key_of m.original) key) messages i no_message (omega arith)
+                (λ k lt. tested-other messages key k (omega arith) (before k lt)) (λ lt. tested-same messages key i lt same)
+        )
+
+-- where no key is the one, no translation stands under it
+pub under-none : (messages : List Message) (key : List ℕ) → ((i : ℕ) → i < length (keys messages) → key_at (keys messages) i ≢ key) →
+    translation_under key messages ≡ None
+under-none messages key none =
+    let same_length : length (keys messages) ≡ length messages = length-map messages (λ m. key_of m.original) in
+    under-place messages key (length messages)
+        (
+            position_or_len_is (λ m. bytes_eq (key_of m.original) key) messages (length messages) no_message (omega arith)
+                (λ k lt. tested-other messages key k lt (none k (omega arith))) (λ lt. absurd (omega arith))
+        )
+    ∙ slice_get_past (translations messages) (length messages) (omega (arith, length-map messages (λ m. m.translation)))
+
+-- what a search of the keys finds
+pub under-searched : (messages : List Message) (key : List ℕ) (place : Option ℕ) → AreRising (keys messages) → IsPlaceOf (keys messages) key place →
+    translation_under key messages ≡ option_and_then (slice_get (translations messages)) place
+under-searched messages key None rising none = under-none messages key none
+under-searched messages key (Some i) rising is = under-found messages key i rising is.0 is.1
+
+not_below_empty : (x : List ℕ) → key_cmp x [] ≢ Less
+not_below_empty [] less = (cc)
+not_below_empty (b ∷ bs) less = (cc)
+
+-- where the first key isn't empty, none is
+pub none-empty : (ks : List (List ℕ)) → AreRising ks → key_cmp (key_at ks 0) [] ≢ Equal → (i : ℕ) → i < length ks → key_at ks i ≢ []
+none-empty ks rising unequal i inside empty =
+    elim (cases_lt 0 i) [
+      inl behind ↦
+        let P : List ℕ → Type 0 = λ k. key_cmp (key_at ks 0) k ≡ Less in
+        not_below_empty (key_at ks 0) (subst P empty (rising_between ks rising 0 i behind inside))
+    | inr first ↦
+        let at : 0 ≡ i = omega arith in
+        unequal (ap (λ k. key_cmp k []) (ap (key_at ks) at ∙ empty))
+    ]
+
+-- the header text, where the first key is empty
+pub header-first : (messages : List Message) (translation : List ℕ) → AreRising (keys messages) → 0 < length (keys messages) →
+    key_cmp (key_at (keys messages) 0) [] ≡ Equal → slice_get (translations messages) 0 ≡ Some translation →
+    header_text messages ≡ form_at (forms translation) 0
+header-first messages translation rising some equal first =
+    ap (λ t. option_map_or (λ t. form_at (forms t) 0) t [])
+        (under-found messages [] 0 rising some (equal_is_same (key_at (keys messages) 0) [] equal) ∙ first)
+
+-- the header text, where no key is empty
+pub header-none : (messages : List Message) → ((i : ℕ) → i < length (keys messages) → key_at (keys messages) i ≢ []) → header_text messages ≡ []
+header-none messages none = ap (λ t. option_map_or (λ t. form_at (forms t) 0) t []) (under-none messages [] none)

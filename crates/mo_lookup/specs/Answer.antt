@@ -1,0 +1,45 @@
+-- What a query is answered (GNU gettext manual, "Plural forms").
+use Rattle.std.specs.Prelude.{ℕ, ◌==◌, Bool, true, false, nat_lt, min, List, [], length, slice_index_or, Option, None, Some, if◌then◌else◌}
+use Rattle.plural_rule.specs.Expression.{value, visited}
+use Rattle.plural_rule.specs.PluralRule.{Meaning}
+use Rattle.mo_lookup.specs.declared.answer.Answer.{Answer}
+use Rattle.mo_lookup.specs.Query.{Query}
+
+-- the text, whether it is a translation, and how many nodes of the plural expression were evaluated for it
+pub record Outcome : Type 0 where
+  pub text : List ℕ
+  pub found : Bool
+  pub steps : ℕ
+
+-- what the result of a look-up says
+abbrev pub outcome_of : Answer → Outcome
+outcome_of answer = record { text = answer.text.now; found = answer.found; steps = answer.steps }
+
+-- a form of a translation
+abbrev pub form_at : List (List ℕ) → ℕ → List ℕ
+form_at forms index = slice_index_or forms index []
+
+-- the form that the value of a rule selects: form 0 where it is undefined, or isn't below the number of plural forms and of those that are there
+abbrev pub selected_form : List (List ℕ) → ℕ → Option ℕ → List ℕ
+selected_form forms number None = form_at forms 0
+selected_form forms number (Some index) = if nat_lt index (min number (length forms)) then form_at forms index else form_at forms 0
+
+-- the msgid, or for a count that isn't 1 the plural
+abbrev pub untranslated_text : List ℕ → Option (List ℕ × ℕ) → List ℕ
+untranslated_text id None = id
+untranslated_text id (Some plural) = if plural.1 == 1 then id else plural.0
+
+-- the answer where there is no translation
+abbrev pub untranslated : Query → Outcome
+untranslated query = record { text = untranslated_text query.id query.plural; found = false; steps = 0 }
+
+-- the answer from the forms of a translation
+abbrev pub translated : List (List ℕ) → Meaning → Option (List ℕ × ℕ) → Outcome
+translated forms rule None = record { text = form_at forms 0; found = true; steps = 0 }
+translated forms rule (Some plural) =
+    record { text = selected_form forms rule.number (value rule.tree plural.1); found = true; steps = visited rule.tree plural.1 }
+
+-- the answer to a query, from the forms of its translation, where it has one, and the plural rule
+abbrev pub answer : Option (List (List ℕ)) → Meaning → Query → Outcome
+answer None rule query = untranslated query
+answer (Some forms) rule query = translated forms rule query.plural

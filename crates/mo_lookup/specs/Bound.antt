@@ -1,0 +1,20 @@
+-- The bound of the binary search of "The Format of GNU MO Files": how often a list can be halved.
+use Rattle.std.specs.Prelude.{ℕ, zero, suc, ◌+◌, ◌-◌, ◌/◌, ◌^◌, ◌<◌, ◌≤◌, ◌≡◌}
+
+-- how often n can be halved, up to `most` times
+abbrev pub halvings_within : ℕ → ℕ → ℕ
+halvings_within zero n = 0
+halvings_within (suc most) zero = 0
+halvings_within (suc most) (suc n) = 1 + halvings_within most (suc n / 2)
+
+-- the most comparisons that a search of n keys by halves makes
+unfoldable pub search_bound : ℕ → ℕ
+search_bound n = halvings_within n n
+
+-- no comparison for no keys, and one more than for half as many
+abbrev pub BoundHalves : Type 0
+BoundHalves = (search_bound 0 ≡ 0) × ((n : ℕ) → 0 < n → search_bound n ≡ 1 + search_bound (n / 2))
+
+-- so it is the whole part of the binary logarithm of n, and one
+abbrev pub BoundIsLogarithm : Type 0
+BoundIsLogarithm = (n : ℕ) → 0 < n → (2 ^ (search_bound n - 1) ≤ n) × (n < 2 ^ search_bound n)

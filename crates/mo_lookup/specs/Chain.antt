@@ -1,0 +1,45 @@
+-- What a chain of catalogues answers: the first one that translates a query does (GNU gettext manual, "The LANGUAGE variable").
+use Rattle.std.specs.Prelude.{◌≡◌, ℕ, ◌+◌, Bool, List, Some, length, min, slice_get, if◌then◌else◌}
+use Rattle.std.specs.List.{find, position_or_len, sum_by}
+use Rattle.std.specs.Option.{is_some, option_map_or}
+use Rattle.plural_rule.specs.Expression.{nodes}
+use Rattle.mo_lookup.specs.declared.chain.ChainAnswer.{ChainAnswer}
+use Rattle.mo_lookup.specs.Bound.{search_bound}
+use Rattle.mo_lookup.specs.Query.{Query, is_clean_key}
+use Rattle.mo_lookup.specs.Answer.{Outcome, untranslated}
+use Rattle.mo_lookup.specs.Contents.{Contents, forms_found, told, translation_under}
+
+-- what the result of a look-up in a chain says
+abbrev pub chain_outcome_of : ChainAnswer → Outcome
+chain_outcome_of answer = record { text = answer.text.now; found = answer.found; steps = answer.steps }
+
+-- whether a catalogue translates a query
+abbrev pub translates : Query → Contents → Bool
+translates query contents = is_some (forms_found contents.messages query)
+
+-- what a chain answers
+abbrev pub chain_told : List Contents → Query → Outcome
+chain_told chain query = option_map_or (λ contents. told contents query) (find (translates query) chain) (untranslated query)
+
+-- how many catalogues of a chain are asked: those up to the first that translates the query, else all; none where the query isn't clean
+abbrev pub asked : List Contents → Query → ℕ
+asked chain query =
+    if is_clean_key query.context query.id then min (length chain) (position_or_len (translates query) chain + 1) else 0
+
+-- the most comparisons that asking these catalogues takes
+abbrev pub chain_bound : List Contents → ℕ
+chain_bound catalogues = sum_by (λ contents. search_bound (length contents.messages)) catalogues
+
+-- the nodes of the plural expression of the catalogue that answers
+abbrev pub answering_nodes : List Contents → Query → ℕ
+answering_nodes chain query = option_map_or (λ contents. nodes contents.rule.tree) (find (translates query) chain) 0
+
+-- whether a catalogue has a key
+abbrev pub has_key : List ℕ → Contents → Bool
+has_key key contents = is_some (translation_under key contents.messages)
+
+-- the first catalogue of a chain that has a key, its place, and its translation under the key
+pub record IsFirstWith (key : List ℕ) (chain : List Contents) (place : ℕ) (contents : Contents) (translation : List ℕ) : Type 0 where
+  pub first : place ≡ position_or_len (has_key key) chain
+  pub there : slice_get chain place ≡ Some contents
+  pub under : translation_under key contents.messages ≡ Some translation

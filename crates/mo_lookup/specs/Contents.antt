@@ -1,0 +1,46 @@
+-- What the messages of an MO file answer (GNU gettext manual, "The Format of GNU MO Files" and "Plural forms").
+use Rattle.std.specs.Prelude.{ℕ, Bool, List, [], Option, None, option_map, if◌then◌else◌}
+use Rattle.std.specs.List.{find, slice_split}
+use Rattle.std.specs.Option.{option_map_or}
+use Rattle.std.specs.Str.{bytes_eq}
+use Rattle.plural_rule.specs.PluralRule.{Meaning, IsRuleOf}
+use Rattle.mo_file.specs.Key.{AreRising, is_nul, key_of, keys, query_key}
+use Rattle.mo_file.specs.Message.{Message}
+use Rattle.mo_lookup.specs.Query.{Query, is_clean_key}
+use Rattle.mo_lookup.specs.Answer.{Outcome, form_at, answer}
+
+-- the messages of a catalogue, and its plural rule
+pub record Contents : Type 0 where
+  pub messages : List Message
+  pub rule : Meaning
+
+-- the translation that stands under a key
+abbrev pub translation_under : List ℕ → List Message → Option (List ℕ)
+translation_under key messages = option_map (λ m. m.translation) (find (λ m. bytes_eq (key_of m.original) key) messages)
+
+-- the forms of a translation: the pieces between its NULs
+abbrev pub forms : List ℕ → List (List ℕ)
+forms translation = slice_split is_nul translation
+
+-- the header text: the first form under the empty key, or the empty text
+abbrev pub header_text : List Message → List ℕ
+header_text messages = option_map_or (λ translation. form_at (forms translation) 0) (translation_under [] messages) []
+
+-- the most bytes of a plural expression that is read
+abbrev pub expression_limit : ℕ
+expression_limit = 4096
+
+-- the keys of the messages rise, and the rule is that of their header text
+pub record AreContents (messages : List Message) (rule : Meaning) : Type 0 where
+  pub rising : AreRising (keys messages)
+  pub rule_of_header : IsRuleOf expression_limit (header_text messages) rule
+
+-- the forms that translate a query, none where it isn't clean
+abbrev pub forms_found : List Message → Query → Option (List (List ℕ))
+forms_found messages query =
+    if is_clean_key query.context query.id then option_map forms (translation_under (query_key query.context query.id) messages)
+    else None
+
+-- what a catalogue answers
+abbrev pub told : Contents → Query → Outcome
+told contents query = answer (forms_found contents.messages query) contents.rule query

@@ -1,0 +1,31 @@
+-- What is asked of a catalogue (GNU gettext manual, "Contexts" and "Plural forms").
+use Rattle.std.specs.Prelude.{ℕ, Bool, not, ◌==◌, ◌||◌, ◌&&◌, List, [], Option, option_map}
+use Rattle.std.specs.Borrow.{Bor}
+use Rattle.std.specs.List.{list_any}
+use Rattle.std.specs.Option.{option_copied, unwrap_or}
+
+-- a context, or none; a msgid; and where a plural form is asked for, the plural and the count
+pub record Query : Type 0 where
+  pub context : Option (List ℕ)
+  pub id : List ℕ
+  pub plural : Option (List ℕ × ℕ)
+
+-- the plural and the count that the argument of a call gives
+abbrev pub given : Option (Bor (List ℕ) × ℕ) → Option (List ℕ × ℕ)
+given plural = option_map (λ p. (p.0.now, p.1)) plural
+
+-- the query that the arguments of a call make
+abbrev pub query : Option (Bor (List ℕ)) → List ℕ → Option (Bor (List ℕ) × ℕ) → Query
+query context id plural = record { context = option_copied context; id = id; plural = given plural }
+
+-- a byte that no context and no msgid holds: NUL ends a string of the file, and EOT (4) ends a context
+abbrev pub is_separator : ℕ → Bool
+is_separator byte = byte == 0 || byte == 4
+
+-- whether a text holds no separator
+abbrev pub is_clean : List ℕ → Bool
+is_clean text = not (list_any is_separator text)
+
+-- whether a context and a msgid hold no separator; what isn't clean, no catalogue translates
+abbrev pub is_clean_key : Option (List ℕ) → List ℕ → Bool
+is_clean_key context id = is_clean (unwrap_or context []) && is_clean id

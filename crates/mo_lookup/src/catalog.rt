@@ -1,0 +1,168 @@
+//! A catalogue: an MO file of any origin, and the plural rule of its header.
+
+ghost use Rattle.std.specs.Prelude.{◌≡◌, ℕ, ◌+◌, ◌-◌, ◌^◌, ◌<◌, ◌≤◌, List, length, min, map, option_map, MatchResult, IsOk, IfOk, false, if◌then◌else◌};
+ghost use Rattle.std.specs.Option.{option_copied};
+ghost use Rattle.plural_rule.specs.Expression.{nodes};
+ghost use Rattle.plural_rule.specs.PluralRule.{IsRuleOf};
+ghost use Rattle.mo_file.specs.declared.byte_order.Order.{Order};
+ghost use Rattle.mo_file.specs.Message.{Message};
+ghost use Rattle.mo_file.specs.Key.{AreRising, keys, query_key};
+ghost use Rattle.mo_file.specs.Catalog.{IsCatalog};
+ghost use Rattle.mo_file.specs.Fault.{IsFirstFault, looks_before};
+ghost use Rattle.mo_lookup.specs.Bound.{search_bound};
+ghost use Rattle.mo_lookup.specs.Query.{query, given, is_clean_key};
+ghost use Rattle.mo_lookup.specs.Contents.{AreContents, expression_limit, header_text, forms, told, translation_under};
+ghost use Rattle.mo_lookup.specs.Answer.{outcome_of, translated};
+
+use crate::answer::Answer;
+use crate::forms::{first_form, selected_form};
+use crate::query::{is_clean_key, untranslated_text};
+use crate::search::find;
+use crate::view_keys::ViewKeys;
+use mo_file::{Meter, MoError, MoView};
+use plural_rule::Rule;
+use std::cmp::Ordering;
+use std::marker::Model;
+
+/// A catalogue of translations in the bytes of an MO file, of whatever origin, in which messages are looked up
+/// ("The Format of GNU MO Files" and "Plural forms").
+#[derive(Drop)]
+pub struct Catalog<'a> {
+    view: MoView<'a>,
+    rule: Rule,
+}
+
+impl<'a> Model for Catalog<'a> {
+    ghost use Rattle.std.specs.Coded.{codes};
+    ghost use Rattle.plural_rule.specs.contracts.rule.Rule.{the_row as rule_row};
+    ghost use Rattle.mo_lookup.specs.Contents.{Contents, AreContents};
+
+    ghost Value = { Contents };
+
+    ghost coded = { Prim.hlevel (codes, rule_row.coded) };
+
+    ghost view = { λ c. record { messages = c.view; rule = c.rule } };
+
+    ghost invariant = { λ c. AreContents c.view c.rule };
+}
+
+/// The text of a file's header entry, which stands under the empty key and so first; empty where there is none.
+/// For a file with messages this is one comparison.
+fn header_text<'a>(view: &MoView<'a>, meter: &mut Meter) -> &'a [u8]
+    requires { meter.old < 2 ^ 63 + length view.now }
+    ensures text { result.now ≡ header_text view.now }
+    ensures rising { AreRising (keys view.now) }
+    ensures rises { meter.old ≤ meter.new }
+    ensures cost { meter.new ≤ meter.old + min 1 (length view.now) }
+{
+    if view.len() == 0 {
+        return b"";
+    }
+    match view.compare(0, None, b"", meter) {
+        Ordering::Equal => first_form(view.translation(0)),
+        _ => b"",
+    }
+}
+
+impl<'a> Catalog<'a> {
+    /// Opens the bytes of an MO file in either byte order. They are checked whole, and refused with the first fault
+    /// in the order of `MoError` exactly where they are no valid file. The meter rises by at most the number of
+    /// messages; where a key is out of order, by at most the place of the message that is told; else where the
+    /// bytes are refused, not at all.
+    pub fn open(bytes: &'a [u8], meter: &mut Meter) -> Result<Catalog<'a>, MoError>
+        requires { meter.old < 2 ^ 63 }
+        ensures exact {
+            MatchResult result (λ catalog. (order : Order) × IsCatalog order bytes.now catalog.messages)
+                (IsFirstFault bytes.now)
+        }
+        ensures only { (order : Order) (messages : List Message) → IsCatalog order bytes.now messages → IsOk result }
+        ensures contents { IfOk result (λ catalog. AreContents catalog.messages catalog.rule) }
+        ensures cost {
+            MatchResult result (λ catalog. meter.new ≤ meter.old + length catalog.messages)
+                (λ fault. meter.new ≤ meter.old + looks_before fault)
+        }
+        ensures rises { meter.old ≤ meter.new }
+    {
+        let view = MoView::open(bytes, meter)?;
+        let header = header_text(&view, meter);
+        Ok(Catalog { rule: Rule::parse(header), view })
+    }
+
+    /// How many messages the file has, its header entry among them.
+    pub fn len(&self) -> u32
+        ensures { result ≡ length self.now.messages }
+    {
+        self.view.len()
+    }
+
+    /// The plural rule of the file's header entry, or the default rule with the reason for it.
+    pub fn rule(&self) -> &Rule
+        ensures rule { result.now ≡ self.now.rule }
+        ensures header { IsRuleOf expression_limit (header_text self.now.messages) self.now.rule }
+    {
+        &self.rule
+    }
+
+    /// Looks up the message of a context, or of none, and a msgid. Where a plural and a count are given, the count
+    /// selects the plural form; the given plural isn't compared with the catalogue's.
+    ///
+    /// A message that isn't there is answered by the msgid, or by the plural for a count that isn't 1, and so is
+    /// without a comparison a context or a msgid that holds a byte 0 or 4. The meter counts the comparisons.
+    pub fn look(
+        &self,
+        context: Option<&[u8]>,
+        id: &'a [u8],
+        plural: Option<(&'a [u8], u64)>,
+        meter: &mut Meter,
+    ) -> Answer<'a>
+        requires { meter.old < 2 ^ 63 }
+        ensures told { outcome_of result ≡ told self.now (query context.entry id.now plural.entry) }
+        ensures counted { meter.new ≡ meter.old + result.comparisons }
+        ensures bound { result.comparisons ≤ search_bound (length self.now.messages) }
+        ensures unclean { is_clean_key (option_copied context.entry) id.now ≡ false → result.comparisons ≡ 0 }
+        ensures nodes { result.steps ≤ nodes self.now.rule.tree }
+    {
+        let before = meter.count();
+        let translation = if is_clean_key(context, id) { self.translation(context, id, meter) } else { None };
+        let comparisons = (meter.count() - before) as u32;
+        let (text, steps) = match translation {
+            Some(translation) => self.form(translation, plural),
+            None => (untranslated_text(id, plural), 0),
+        };
+        Answer {
+            text,
+            found: translation.is_some(),
+            comparisons,
+            steps,
+        }
+    }
+
+    /// The translation under the key of a context and a msgid, which the search finds or not.
+    pub(crate) fn translation(&self, context: Option<&[u8]>, id: &[u8], meter: &mut Meter) -> Option<&'a [u8]>
+        requires { meter.old < 2 ^ 63 }
+        ensures found {
+            option_copied result ≡ translation_under (query_key (option_copied context.entry) id.now) self.now.messages
+        }
+        ensures rises { meter.old ≤ meter.new }
+        ensures cost { meter.new ≤ meter.old + search_bound (length self.now.messages) }
+        ensures small { meter.new ≤ meter.old + 32 }
+    {
+        let mut keys = ViewKeys { view: &self.view, meter };
+        match find(&mut keys, context, id) {
+            Some(place) => Some(self.view.translation(place)),
+            None => None,
+        }
+    }
+
+    /// The form of a translation, form 0 where no plural is asked for, and the nodes that were evaluated for it.
+    pub(crate) fn form(&self, translation: &'a [u8], plural: Option<(&[u8], u64)>) -> (&'a [u8], u32)
+        ensures text { result.0.now ≡ (translated (forms translation.now) self.now.rule (given plural.entry)).text }
+        ensures steps { result.1 ≡ (translated (forms translation.now) self.now.rule (given plural.entry)).steps }
+        ensures nodes { result.1 ≤ nodes self.now.rule.tree }
+    {
+        match plural {
+            Some((_, count)) => selected_form(translation, &self.rule, count),
+            None => (first_form(translation), 0),
+        }
+    }
+}

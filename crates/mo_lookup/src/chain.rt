@@ -1,0 +1,147 @@
+//! A chain of catalogues, of which the first that has a message answers for it.
+
+ghost use Rattle.std.specs.Prelude.{◌≡◌, ◌+◌, ◌*◌, ◌^◌, ◌<◌, ◌≤◌, ℕ, List, Some, length, take, MatchOption};
+ghost use Rattle.std.specs.List.{position_or_len};
+ghost use Rattle.std.specs.Option.{option_copied};
+ghost use Rattle.mo_file.specs.Key.{query_key};
+ghost use Rattle.mo_lookup.specs.Query.{query};
+ghost use Rattle.mo_lookup.specs.Chain.{answering_nodes, asked, chain_bound, chain_outcome_of, chain_told, has_key, IsFirstWith};
+
+use crate::catalog::Catalog;
+use crate::query::{is_clean_key, untranslated_text};
+use mo_file::Meter;
+use std::marker::Model;
+
+/// What a look-up in a chain answers: a slice of a catalogue's bytes or of the query, and what it took.
+#[derive(Clone, Copy, Debug, PartialEq, Eq)]
+pub struct ChainAnswer<'q> {
+    /// The translation's form, or where no catalogue has one the msgid or the plural that was asked for.
+    pub text: &'q [u8],
+    /// Whether a catalogue of the chain has a translation.
+    pub found: bool,
+    /// How many keys of the catalogues that were asked were compared with the query's.
+    pub comparisons: u64,
+    /// How many nodes of the answering catalogue's plural expression were evaluated.
+    pub steps: u32,
+    /// How many catalogues were asked: with a translation, the place of the one that has it, counted from 1.
+    pub asked: u32,
+}
+
+/// Catalogues in the order in which they are asked, as for the languages of a user's choice.
+#[derive(Drop)]
+pub struct Chain<'c, 'a> {
+    members: &'c [Catalog<'a>],
+}
+
+impl<'c, 'a> Model for Chain<'c, 'a> {
+    ghost use Rattle.std.specs.Prelude.{◌^◌, ◌<◌, List, length};
+    ghost use Rattle.std.specs.Coded.{codes};
+    ghost use Rattle.plural_rule.specs.contracts.rule.Rule.{the_row as rule_row};
+    ghost use Rattle.mo_lookup.specs.Contents.{Contents};
+
+    ghost Value = { List Contents };
+
+    ghost coded = { Prim.hlevel (codes, rule_row.coded) };
+
+    ghost view = { λ c. c.members.now };
+
+    ghost invariant = { λ c. length c.members.now < 2 ^ 32 };
+}
+
+impl<'c, 'a> Chain<'c, 'a> {
+    /// The chain of these catalogues, in this order.
+    pub fn new(members: &'c [Catalog<'a>]) -> Chain<'c, 'a>
+        requires { length members.now < 2 ^ 32 }
+        ensures { result ≡ members.now }
+    {
+        Chain { members }
+    }
+
+    /// Looks up a message as `Catalog::look` does, in one catalogue after the other up to the first that has it,
+    /// whose plural rule then selects the form. The meter counts the comparisons.
+    pub fn look(
+        &self,
+        context: Option<&[u8]>,
+        id: &'a [u8],
+        plural: Option<(&'a [u8], u64)>,
+        meter: &mut Meter,
+    ) -> ChainAnswer<'a>
+        requires { meter.old < 2 ^ 62 }
+        ensures told { chain_outcome_of result ≡ chain_told self.now (query context.entry id.now plural.entry) }
+        ensures asked { result.asked ≡ asked self.now (query context.entry id.now plural.entry) }
+        ensures counted { meter.new ≡ meter.old + result.comparisons }
+        ensures bound { result.comparisons ≤ chain_bound (take result.asked self.now) }
+        ensures nodes { result.steps ≤ answering_nodes self.now (query context.entry id.now plural.entry) }
+    {
+        if !is_clean_key(context, id) {
+            return ChainAnswer {
+                text: untranslated_text(id, plural),
+                found: false,
+                comparisons: 0,
+                steps: 0,
+                asked: 0,
+            };
+        }
+        let before = meter.count();
+        let first = first_with(self.members, context, id, meter);
+        let comparisons = meter.count() - before;
+        match first {
+            Some(First { place, catalog, translation }) => {
+                let (text, steps) = catalog.form(translation, plural);
+                ChainAnswer {
+                    text,
+                    found: true,
+                    comparisons,
+                    steps,
+                    asked: place + 1,
+                }
+            }
+            None => ChainAnswer {
+                text: untranslated_text(id, plural),
+                found: false,
+                comparisons,
+                steps: 0,
+                asked: self.members.len() as u32,
+            },
+        }
+    }
+}
+
+/// The first catalogue that has a key, its place counted from 0, and its translation under the key.
+struct First<'c, 'a> {
+    place: u32,
+    catalog: &'c Catalog<'a>,
+    translation: &'a [u8],
+}
+
+/// The first of some catalogues that has the key of a context and a msgid.
+fn first_with<'c, 'a>(
+    catalogs: &'c [Catalog<'a>],
+    context: Option<&[u8]>,
+    id: &[u8],
+    meter: &mut Meter,
+) -> Option<First<'c, 'a>>
+    requires few { length catalogs.now < 2 ^ 32 }
+    requires room { meter.old < 2 ^ 62 }
+    ensures found {
+        let key = query_key (option_copied context.entry) id.now in
+        MatchOption result (position_or_len (has_key key) catalogs.now ≡ length catalogs.now)
+            (λ first. IsFirstWith key catalogs.now first.place first.catalog.now first.translation.now)
+    }
+    ensures rises { meter.old ≤ meter.new }
+    ensures bound {
+        let first = position_or_len (has_key (query_key (option_copied context.entry) id.now)) catalogs.now in
+        meter.new ≤ meter.old + chain_bound (take (first + 1) catalogs.now)
+    }
+{
+    for (place, catalog) in catalogs.iter().enumerate() {
+        if let Some(translation) = catalog.translation(context, id, meter) {
+            return Some(First {
+                place: place as u32,
+                catalog,
+                translation,
+            });
+        }
+    }
+    None
+}

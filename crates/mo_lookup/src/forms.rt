@@ -1,0 +1,61 @@
+//! The forms of a translation ("Plural forms"): the pieces between its NULs.
+
+ghost use Rattle.std.specs.Prelude.{◌≡◌, ◌≤◌, [], ◌∷◌, slice_get, MatchOption};
+ghost use Rattle.std.specs.Option.{option_copied};
+ghost use Rattle.plural_rule.specs.Expression.{nodes, value, visited};
+ghost use Rattle.mo_lookup.specs.Answer.{form_at, selected_form};
+ghost use Rattle.mo_lookup.specs.Contents.{forms};
+
+use memchr::memchr;
+use plural_rule::Rule;
+
+/// Form 0 of a translation, which each translation has.
+pub(crate) fn first_form(translation: &[u8]) -> &[u8]
+    ensures { result.now ≡ form_at (forms translation.now) 0 }
+{
+    match memchr(0, translation) {
+        Some(end) => &translation[..end],
+        None => translation,
+    }
+}
+
+/// The forms of a translation behind its first, or None where it has one form alone.
+fn other_forms(translation: &[u8]) -> Option<&[u8]>
+    ensures {
+        MatchOption result (forms translation.now ≡ translation.now ∷ [])
+            (λ others. forms translation.now ≡ form_at (forms translation.now) 0 ∷ forms others.now)
+    }
+{
+    match memchr(0, translation) {
+        Some(end) => Some(&translation[end + 1..]),
+        None => None,
+    }
+}
+
+/// The form of a translation with this index, counted from 0, or None where it has fewer forms.
+fn form(translation: &[u8], index: u64) -> Option<&[u8]>
+    ensures { option_copied result ≡ slice_get (forms translation.now) index }
+{
+    let mut rest = translation;
+    for _ in 0..index {
+        rest = other_forms(rest)?;
+    }
+    Some(first_form(rest))
+}
+
+/// The form that a rule selects for a count, and the nodes of its expression that were evaluated.
+pub(crate) fn selected_form<'t>(translation: &'t [u8], rule: &Rule, count: u64) -> (&'t [u8], u32)
+    ensures text { result.0.now ≡ selected_form (forms translation.now) rule.now.number (value rule.now.tree count) }
+    ensures steps { result.1 ≡ visited rule.now.tree count }
+    ensures nodes { result.1 ≤ nodes rule.now.tree }
+{
+    let (value, steps) = rule.eval(count);
+    let selected = match value {
+        Some(index) if index < rule.nplurals() => form(translation, index),
+        _ => None,
+    };
+    match selected {
+        Some(text) => (text, steps),
+        None => (first_form(translation), steps),
+    }
+}

@@ -1,0 +1,63 @@
+//! The binary search of "The Format of GNU MO Files".
+
+ghost use Rattle.std.specs.Prelude.{ℕ, ◌≡◌, ◌+◌, ◌-◌, ◌^◌, ◌<◌, ◌≤◌, List, length};
+ghost use Rattle.std.specs.Option.{option_copied};
+ghost use Rattle.mo_file.specs.Key.{AreRising, key_at, key_cmp, query_key};
+ghost use Rattle.mo_lookup.specs.Bound.{search_bound};
+ghost use Rattle.mo_lookup.specs.Place.{IsPlaceOf};
+
+use std::cmp::Ordering;
+
+/// A list of keys in strictly rising order, which a search sees by comparing alone, and a count of the comparisons.
+pub trait Keys {
+    /// The keys.
+    ghost listed: { Self → List (List ℕ) };
+
+    /// How many comparisons were made.
+    ghost counted: { Self → ℕ };
+
+    /// The name of the loan of the counter, for keys that borrow it; any number where they own it.
+    ghost counter: { Self → ℕ };
+
+    /// How many keys there are.
+    fn len(&self) -> u32
+        ensures count { result ≡ length (listed self.now) }
+        ensures rising { AreRising (listed self.now) };
+
+    /// How key `i` stands against the key of `context` and `id`, by unsigned bytes; this is one comparison.
+    fn compare(&mut self, i: u32, context: Option<&[u8]>, id: &[u8]) -> Ordering
+        requires inside { i < length (listed self.old) }
+        requires room { counted self.old < 2 ^ 64 - 1 }
+        ensures order { result ≡ key_cmp (key_at (listed self.old) i) (query_key (option_copied context.entry) id.now) }
+        ensures unchanged { listed self.new ≡ listed self.old }
+        ensures cost { counted self.new ≡ counted self.old + 1 }
+        ensures same_counter { counter self.new ≡ counter self.old };
+
+    /// How many comparisons were made.
+    fn count(&self) -> u64
+        ensures { result ≡ counted self.now };
+}
+
+/// The place of the key of `context` and `id`, found by halves, or None where no key is it. It makes at most one
+/// comparison for each time that the number of keys can be halved.
+pub fn find<K: Keys>(keys: &mut K, context: Option<&[u8]>, id: &[u8]) -> Option<u32>
+    requires { K.counted keys.old < 2 ^ 63 }
+    ensures place { IsPlaceOf (K.listed keys.old) (query_key (option_copied context.entry) id.now) result }
+    ensures unchanged { K.listed keys.new ≡ K.listed keys.old }
+    ensures rises { K.counted keys.old ≤ K.counted keys.new }
+    ensures cost { K.counted keys.new ≤ K.counted keys.old + search_bound (length (K.listed keys.old)) }
+    ensures small { K.counted keys.new ≤ K.counted keys.old + 32 }
+    ensures same_counter { K.counter keys.new ≡ K.counter keys.old }
+{
+    let mut low = 0;
+    let mut high = keys.len();
+    'halving: while low < high {
+        let middle = low + (high - low) / 2;
+        match keys.compare(middle, context, id) {
+            Ordering::Equal => return Some(middle),
+            Ordering::Less => low = middle + 1,
+            Ordering::Greater => high = middle,
+        }
+    }
+    None
+}
