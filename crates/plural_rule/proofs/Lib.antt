@@ -1,0 +1,4 @@
+pub mod Complete
+pub mod Lexing
+pub mod Sound
+pub mod ParserSteps

@@ -1,0 +1,2 @@
+pub mod StatisticsLemmas
+pub mod DuplicateLemmas

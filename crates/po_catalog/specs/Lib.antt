@@ -1,0 +1,4 @@
+pub mod Joined
+pub mod JoinedView
+pub mod Duplicate
+pub mod Statistics

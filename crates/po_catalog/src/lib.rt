@@ -1,1 +1,11 @@
+//! Catalogues of PO entries: their duplicates, their statistics, and the list that several of them join to
+//! (GNU gettext manual, "The Format of PO Files" and "Invoking the msgfmt Program").
 #![tactic(auto)]
+
+mod duplicate;
+mod joining;
+mod stats;
+
+pub use crate::duplicate::{JoinError, duplicates, joined_duplicates};
+pub use crate::joining::{JoinedEntry, joined};
+pub use crate::stats::{Stats, has_translation, joined_statistics, statistics};

@@ -1,0 +1,201 @@
+-- What a text spells begins with at most one longest token.
+use Rattle.std.proofs.Common.{◌≡◌, ◌≢◌, ℕ, zero, suc, ◌+◌, ◌-◌, ◌<◌, ◌≤◌, ◌==◌, Bool, true, false, ◌⊎◌, inl, inr, List, [], ◌∷◌, ◌++◌, length, refl, sym, ap, subst, ◌∙◌, append_assoc, append-nil, arith, if◌then◌else◌, codes}
+use Rattle.std.proofs.lemmas.Bool.{false≢true}
+use Rattle.std.proofs.lemmas.Bool.Decides.{nat_tests}
+use Rattle.plural_rule.specs.declared.operator.Operator.{Operator}
+use Rattle.plural_rule.specs.declared.operator.Operator.TheVariants.{Or, And, Equal, NotEqual, Less, Greater, AtMost, AtLeast, Add, Subtract, Multiply, Divide, Remainder}
+use Rattle.plural_rule.specs.declared.token.Token.{Token}
+use Rattle.plural_rule.specs.declared.token.Token.TheVariants.{Count, Number, Not, Binary, Question, Colon, Open, Close}
+use Rattle.plural_rule.specs.Tokens.{is_blank, is_digit, AllDigits, decimal_value, operator_bytes, IsSpelling, IsLongest, Lexes, end, blank, token}
+
+-- what is known of bytes that spell a token, by a function of the bytes
+abbrev first_byte : List ℕ → ℕ
+first_byte [] = 32
+first_byte (c ∷ rest) = c
+
+digit-not_blank : (c : ℕ) → is_digit c ≡ true → is_blank c ≡ false
+digit-not_blank c h = grind (arith, nat_tests)
+
+-- no spelling begins with a blank, or is empty
+module _ (own : List ℕ) where
+  operator-not_blank : (op : Operator) → own ≡ operator_bytes op → is_blank (first_byte own) ≡ false
+  operator-not_blank Or h = ap (λ xs. is_blank (first_byte xs)) h
+  operator-not_blank And h = ap (λ xs. is_blank (first_byte xs)) h
+  operator-not_blank Equal h = ap (λ xs. is_blank (first_byte xs)) h
+  operator-not_blank NotEqual h = ap (λ xs. is_blank (first_byte xs)) h
+  operator-not_blank Less h = ap (λ xs. is_blank (first_byte xs)) h
+  operator-not_blank Greater h = ap (λ xs. is_blank (first_byte xs)) h
+  operator-not_blank AtMost h = ap (λ xs. is_blank (first_byte xs)) h
+  operator-not_blank AtLeast h = ap (λ xs. is_blank (first_byte xs)) h
+  operator-not_blank Add h = ap (λ xs. is_blank (first_byte xs)) h
+  operator-not_blank Subtract h = ap (λ xs. is_blank (first_byte xs)) h
+  operator-not_blank Multiply h = ap (λ xs. is_blank (first_byte xs)) h
+  operator-not_blank Divide h = ap (λ xs. is_blank (first_byte xs)) h
+  operator-not_blank Remainder h = ap (λ xs. is_blank (first_byte xs)) h
+
+digits-not_blank : (own : List ℕ) → own ≢ [] → AllDigits own → is_blank (first_byte own) ≡ false
+digits-not_blank [] n h = absurd (n refl)
+digits-not_blank (c ∷ rest) n h = digit-not_blank c h.0
+
+pub spelling-not_blank : (t : Token) (own : List ℕ) → IsSpelling t own → is_blank (first_byte own) ≡ false
+spelling-not_blank Count own h = ap (λ xs. is_blank (first_byte xs)) h
+spelling-not_blank (Number v) own h = digits-not_blank own h.0 h.1
+spelling-not_blank Not own h = ap (λ xs. is_blank (first_byte xs)) h
+spelling-not_blank (Binary op) own h = operator-not_blank own op h
+spelling-not_blank Question own h = ap (λ xs. is_blank (first_byte xs)) h
+spelling-not_blank Colon own h = ap (λ xs. is_blank (first_byte xs)) h
+spelling-not_blank Open own h = ap (λ xs. is_blank (first_byte xs)) h
+spelling-not_blank Close own h = ap (λ xs. is_blank (first_byte xs)) h
+
+-- the token that one byte spells, and the operator that two bytes spell
+abbrev of_one : ℕ → Token
+of_one c =
+    if c == 110 then Count else if c == 33 then Not else if c == 63 then Question else if c == 58 then Colon
+    else if c == 40 then Open else if c == 41 then Close else if c == 60 then Binary Less else if c == 62 then Binary Greater
+    else if c == 43 then Binary Add else if c == 45 then Binary Subtract else if c == 42 then Binary Multiply
+    else if c == 47 then Binary Divide else Binary Remainder
+
+abbrev of_two : ℕ → Operator
+of_two c =
+    if c == 124 then Or else if c == 38 then And else if c == 61 then Equal else if c == 33 then NotEqual
+    else if c == 60 then AtMost else AtLeast
+
+abbrev token_of : List ℕ → Token
+token_of [] = Count
+token_of (c ∷ []) = if is_digit c then Number (decimal_value (c ∷ [])) else of_one c
+token_of (c ∷ d ∷ rest) = if is_digit c then Number (decimal_value (c ∷ d ∷ rest)) else Binary (of_two c)
+
+token_of-operator : (op : Operator) (own : List ℕ) → own ≡ operator_bytes op → token_of own ≡ Binary op
+token_of-operator Or own h = ap token_of h
+token_of-operator And own h = ap token_of h
+token_of-operator Equal own h = ap token_of h
+token_of-operator NotEqual own h = ap token_of h
+token_of-operator Less own h = ap token_of h
+token_of-operator Greater own h = ap token_of h
+token_of-operator AtMost own h = ap token_of h
+token_of-operator AtLeast own h = ap token_of h
+token_of-operator Add own h = ap token_of h
+token_of-operator Subtract own h = ap token_of h
+token_of-operator Multiply own h = ap token_of h
+token_of-operator Divide own h = ap token_of h
+token_of-operator Remainder own h = ap token_of h
+
+token_of-digits : (own : List ℕ) → own ≢ [] → AllDigits own → token_of own ≡ Number (decimal_value own)
+token_of-digits [] n h = absurd (n refl)
+token_of-digits (c ∷ []) n h = rw (h.0)
+token_of-digits (c ∷ d ∷ rest) n h = rw (h.0)
+
+token_of-spelling : (t : Token) (own : List ℕ) → IsSpelling t own → token_of own ≡ t
+token_of-spelling Count own h = ap token_of h
+token_of-spelling (Number v) own h = token_of-digits own h.0 h.1 ∙ ap Number h.2
+token_of-spelling Not own h = ap token_of h
+token_of-spelling (Binary op) own h = token_of-operator op own h
+token_of-spelling Question own h = ap token_of h
+token_of-spelling Colon own h = ap token_of h
+token_of-spelling Open own h = ap token_of h
+token_of-spelling Close own h = ap token_of h
+
+-- of two fronts of a text one goes on from the other
+pub record GoesOn (xs us ys vs : List ℕ) : Type 0 where
+  pub more : List ℕ
+  pub longer : ys ≡ xs ++ more
+  pub rest : us ≡ more ++ vs
+
+pub fronts : (xs us ys vs : List ℕ) → xs ++ us ≡ ys ++ vs → GoesOn xs us ys vs ⊎ GoesOn ys vs xs us
+fronts [] us ys vs h = inl (record { more = ys; longer = refl; rest = h })
+fronts (x ∷ xs) us [] vs h = inr (record { more = x ∷ xs; longer = refl; rest = sym h })
+fronts (x ∷ xs) us (y ∷ ys) vs h =
+    let heads : x ≡ y = cc in
+    let tails : xs ++ us ≡ ys ++ vs = cc in
+    elim (fronts xs us ys vs tails) [
+      inl g ↦ inl (record { more = g.more; longer = let e = g.longer in cc; rest = g.rest })
+      | inr g ↦ inr (record { more = g.more; longer = let e = g.longer in cc; rest = g.rest })
+    ]
+
+-- a longest spelling isn't a shorter front of another spelling
+longest-ends : (u : Token) (own rest other behind more : List ℕ) → IsLongest own rest → IsSpelling u other → other ≡ own ++ more → rest ≡ more ++ behind → more ≡ []
+longest-ends u own rest other behind [] longest spelt e f = refl
+longest-ends u own rest other behind (m ∷ more) longest spelt e f =
+    absurd (longest u (m ∷ more) behind f (λ h. cc) (subst (IsSpelling u) e spelt))
+
+-- the longest token at the front of a text is one alone
+pub record SameFront (t u : Token) (own rest other behind : List ℕ) : Type 0 where
+  pub same_token : t ≡ u
+  pub same_bytes : own ≡ other
+  pub same_rest : rest ≡ behind
+
+pub one_front : (t u : Token) (own rest other behind : List ℕ) → IsSpelling t own → IsLongest own rest → IsSpelling u other → IsLongest other behind → own ++ rest ≡ other ++ behind → SameFront t u own rest other behind
+one_front t u own rest other behind spelt longest spelt' longest' h =
+    elim (fronts own rest other behind h) [
+      inl g ↦
+        let none : g.more ≡ [] = longest-ends u own rest other behind g.more longest spelt' g.longer g.rest in
+        let bytes : other ≡ own = g.longer ∙ ap (λ m. own ++ m) none ∙ append-nil own in
+        record {
+          same_token = sym (token_of-spelling t own spelt) ∙ ap token_of (sym bytes) ∙ token_of-spelling u other spelt';
+          same_bytes = sym bytes;
+          same_rest = g.rest ∙ ap (λ m. m ++ behind) none;
+        }
+      | inr g ↦
+        let none : g.more ≡ [] = longest-ends t other behind own rest g.more longest' spelt g.longer g.rest in
+        let bytes : own ≡ other = g.longer ∙ ap (λ m. other ++ m) none ∙ append-nil other in
+        record {
+          same_token = sym (token_of-spelling t own spelt) ∙ ap token_of bytes ∙ token_of-spelling u other spelt';
+          same_bytes = bytes;
+          same_rest = sym (g.rest ∙ ap (λ m. m ++ rest) none);
+        }
+    ]
+
+-- what stands behind a first token
+pub record Behind (t : Token) (rest : List ℕ) (ts : List Token) : Type 0 where
+  pub later : List Token
+  pub is : ts ≡ t ∷ later
+  pub lexes : Lexes rest later
+
+blank-first : (t : Token) (own rest text : List ℕ) (c : ℕ) → IsSpelling t own → own ++ rest ≡ c ∷ text → is_blank c ≡ true → ⊥
+blank-first t [] rest text c spelt e b = false≢true (sym (spelling-not_blank t [] spelt))
+blank-first t (x ∷ own) rest text c spelt e b =
+    let same : x ≡ c = cc in false≢true (sym (spelling-not_blank t (x ∷ own) spelt) ∙ ap is_blank same ∙ b)
+
+no-spelling_of-nothing : (t : Token) (own rest : List ℕ) → IsSpelling t own → own ++ rest ≡ [] → ⊥
+no-spelling_of-nothing t [] rest spelt e = false≢true (sym (spelling-not_blank t [] spelt))
+no-spelling_of-nothing t (x ∷ own) rest spelt e = cc
+
+-- a text that begins with a longest token spells it first
+behind : (t : Token) (own rest text : List ℕ) (ts : List Token) → IsSpelling t own → IsLongest own rest → text ≡ own ++ rest → Lexes text ts → Behind t rest ts
+behind t own rest text ts spelt longest e end = absurd (no-spelling_of-nothing t own rest spelt (sym e))
+behind t own rest text ts spelt longest e (blank {c} {text = text'} b d) = absurd (blank-first t own rest text' c spelt (sym e) b)
+behind t own rest text ts spelt longest e (token {rest = rest'} {ts = ts'} u other spelt' longest' d) =
+    let same = one_front t u own rest other rest' spelt longest spelt' longest' (sym e) in
+    record {
+      later = ts';
+      is = ap (λ x. x ∷ ts') (sym same.same_token);
+      lexes = subst (λ r. Lexes r ts') (sym same.same_rest) d;
+    }
+
+pub Lexes-token : (t : Token) (own rest : List ℕ) (ts : List Token) → IsSpelling t own → IsLongest own rest → Lexes (own ++ rest) ts → Behind t rest ts
+Lexes-token t own rest ts spelt longest d = behind t own rest (own ++ rest) ts spelt longest refl d
+
+behind-blank : (c : ℕ) (text whole : List ℕ) (ts : List Token) → is_blank c ≡ true → whole ≡ c ∷ text → Lexes whole ts → Lexes text ts
+behind-blank c text whole ts b e end = absurd cc
+behind-blank c text whole ts b e (blank {text = text'} {ts = ts'} b' d) =
+    let same : text' ≡ text = cc in subst (λ r. Lexes r ts') same d
+behind-blank c text whole ts b e (token {rest} u own spelt longest d) = absurd (blank-first u own rest text c spelt e b)
+
+pub Lexes-blank : (c : ℕ) (text : List ℕ) (ts : List Token) → is_blank c ≡ true → Lexes (c ∷ text) ts → Lexes text ts
+Lexes-blank c text ts b d = behind-blank c text (c ∷ text) ts b refl d
+
+nothing : (text : List ℕ) (ts : List Token) → text ≡ [] → Lexes text ts → ts ≡ []
+nothing text ts e end = refl
+nothing text ts e (blank b d) = absurd cc
+nothing text ts e (token {rest} u own spelt longest d) = absurd (no-spelling_of-nothing u own rest spelt e)
+
+pub Lexes-nothing : (ts : List Token) → Lexes [] ts → ts ≡ []
+Lexes-nothing ts d = nothing [] ts refl d
+
+-- a text spells at most one list of tokens
+pub one_list : {text : List ℕ} {ts : List Token} → Lexes text ts → (us : List Token) → Lexes text us → ts ≡ us
+one_list end us d = sym (Lexes-nothing us d)
+one_list (blank {c} {text} b d) us e = one_list d us (Lexes-blank c text us b e)
+one_list (token {rest} {ts} t own spelt longest d) us e =
+    let b = Lexes-token t own rest us spelt longest e in
+    ap (λ xs. t ∷ xs) (one_list d b.later b.lexes) ∙ sym b.is

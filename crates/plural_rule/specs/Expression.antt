@@ -1,0 +1,97 @@
+-- A plural expression as a tree, its value, and how many of its nodes an evaluation visits.
+-- GNU gettext manual, "Plural forms"; C standard, "Expressions", over unsigned numbers of 64 bits.
+use Rattle.std.specs.Prelude.{ℕ, ◌+◌, ◌-◌, ◌*◌, ◌/◌, ◌%◌, ◌^◌, Bool, true, false, not, nat_lt, nat_le, ◌==◌, Option, Some, None, option_and_then, if◌then◌else◌}
+use Rattle.plural_rule.specs.declared.operator.Operator.{Operator}
+use Rattle.plural_rule.specs.declared.operator.Operator.TheVariants.{Or, And, Equal, NotEqual, Less, Greater, AtMost, AtLeast, Add, Subtract, Multiply, Divide, Remainder}
+
+-- an expression: n, a numeral, `!a`, two operands, or `a ? b : c`
+pub data Tree : Type 0 where
+  Count : Tree
+  Number : ℕ → Tree
+  Not : Tree → Tree
+  Binary : Operator → Tree → Tree → Tree
+  Conditional : Tree → Tree → Tree → Tree
+
+-- how many nodes a tree has
+abbrev pub nodes : Tree → ℕ
+nodes Count = 1
+nodes (Number v) = 1
+nodes (Not a) = 1 + nodes a
+nodes (Binary op a b) = 1 + nodes a + nodes b
+nodes (Conditional a b c) = 1 + nodes a + nodes b + nodes c
+
+-- the number that stands for a truth value
+abbrev pub truth : Bool → ℕ
+truth true = 1
+truth false = 0
+
+-- whether a number counts as false
+abbrev pub is_zero : ℕ → Bool
+is_zero x = x == 0
+
+-- whether the second operand is evaluated, where the first one's value is x
+abbrev pub needs_right : Operator → ℕ → Bool
+needs_right Or x = is_zero x
+needs_right And x = not (is_zero x)
+needs_right _ x = true
+
+-- the value where the second operand isn't evaluated
+abbrev pub settled : Operator → ℕ
+settled Or = 1
+settled _ = 0
+
+-- x divided by y in some way, which is undefined for 0
+abbrev pub divided : ℕ → ℕ → Option ℕ
+divided y quotient = if is_zero y then None else Some quotient
+
+-- the value where both operands are evaluated, to x and y
+abbrev pub combined : Operator → ℕ → ℕ → Option ℕ
+combined Or x y = Some (truth (not (is_zero y)))
+combined And x y = Some (truth (not (is_zero y)))
+combined Equal x y = Some (truth (x == y))
+combined NotEqual x y = Some (truth (not (x == y)))
+combined Less x y = Some (truth (nat_lt x y))
+combined Greater x y = Some (truth (nat_lt y x))
+combined AtMost x y = Some (truth (nat_le x y))
+combined AtLeast x y = Some (truth (nat_le y x))
+combined Add x y = Some ((x + y) % 2 ^ 64)
+combined Subtract x y = Some ((x + (2 ^ 64 - y)) % 2 ^ 64)
+combined Multiply x y = Some ((x * y) % 2 ^ 64)
+combined Divide x y = divided y (x / y)
+combined Remainder x y = divided y (x % y)
+
+-- the value of two operands from theirs, the first one's first
+abbrev pub binary_value : Operator → Option ℕ → Option ℕ → Option ℕ
+binary_value op None right = None
+binary_value op (Some x) right = if needs_right op x then option_and_then (combined op x) right else Some (settled op)
+
+-- the second of three where the condition isn't 0, the third where it is, and `undefined` where it has no value
+abbrev pub chosen : {A : Type 0} → Option ℕ → A → A → A → A
+chosen None then_case else_case undefined = undefined
+chosen (Some x) then_case else_case undefined = if is_zero x then else_case else then_case
+
+-- the value of `!a`
+abbrev pub negated : Option ℕ → Option ℕ
+negated None = None
+negated (Some x) = Some (truth (is_zero x))
+
+-- the value at a count, or none where it is undefined: it divides by 0
+abbrev pub value : Tree → ℕ → Option ℕ
+value Count n = Some n
+value (Number v) n = Some v
+value (Not a) n = negated (value a n)
+value (Binary op a b) n = binary_value op (value a n) (value b n)
+value (Conditional a b c) n = chosen (value a n) (value b n) (value c n) None
+
+-- the nodes visited in a second operand that has `steps` of them, where the first one's value is known
+abbrev pub visited_right : Operator → Option ℕ → ℕ → ℕ
+visited_right op None steps = 0
+visited_right op (Some x) steps = if needs_right op x then steps else 0
+
+-- how many nodes the evaluation at a count visits: operands from the left, none that isn't needed, and none behind an undefined one
+abbrev pub visited : Tree → ℕ → ℕ
+visited Count n = 1
+visited (Number v) n = 1
+visited (Not a) n = 1 + visited a n
+visited (Binary op a b) n = 1 + visited a n + visited_right op (value a n) (visited b n)
+visited (Conditional a b c) n = 1 + visited a n + chosen (value a n) (visited b n) (visited c n) 0

@@ -1,0 +1,41 @@
+-- The trees that tokens spell, by levels of precedence.
+-- GNU gettext manual, "Plural forms"; C standard, "Expressions": from "Conditional operator" (level 0) to "Unary operators" (level 7).
+use Rattle.std.specs.Prelude.{ℕ, suc, ◌^◌, ◌<◌, List, [], ◌∷◌, ◌++◌}
+use Rattle.plural_rule.specs.declared.operator.Operator.{Operator}
+use Rattle.plural_rule.specs.declared.operator.Operator.TheVariants.{Or, And, Equal, NotEqual, Less, Greater, AtMost, AtLeast, Add, Subtract, Multiply, Divide, Remainder}
+use Rattle.plural_rule.specs.declared.token.Token.{Token}
+use Rattle.plural_rule.specs.declared.token.Token.TheVariants.{Count as CountToken, Number as NumberToken, Not as NotToken, Binary as BinaryToken, Question, Colon, Open, Close}
+use Rattle.plural_rule.specs.Expression.{Tree, Count, Number, Not, Binary, Conditional}
+use Rattle.plural_rule.specs.Tokens.{Lexes}
+
+-- the level of an operator: the higher, the tighter it binds
+abbrev pub level : Operator → ℕ
+level Or = 1
+level And = 2
+level Equal = 3
+level NotEqual = 3
+level Less = 4
+level Greater = 4
+level AtMost = 4
+level AtLeast = 4
+level Add = 5
+level Subtract = 5
+level Multiply = 6
+level Divide = 6
+level Remainder = 6
+
+-- the tokens spell the tree as an operand of this level; operators of two operands group to the left, `?:` to the right
+pub data Spells : ℕ → List Token → Tree → Type 0 where
+  tighter : {k : ℕ} {ts : List Token} {t : Tree} → Spells (suc k) ts t → Spells k ts t
+  conditional : {xs ys zs : List Token} {a b c : Tree} → Spells 1 xs a → Spells 0 ys b → Spells 0 zs c
+      → Spells 0 (xs ++ Question ∷ (ys ++ Colon ∷ zs)) (Conditional a b c)
+  binary : {xs ys : List Token} {a b : Tree} (op : Operator) → Spells (level op) xs a → Spells (suc (level op)) ys b
+      → Spells (level op) (xs ++ BinaryToken op ∷ ys) (Binary op a b)
+  negation : {xs : List Token} {a : Tree} → Spells 7 xs a → Spells 7 (NotToken ∷ xs) (Not a)
+  parentheses : {xs : List Token} {a : Tree} → Spells 0 xs a → Spells 7 (Open ∷ (xs ++ Close ∷ [])) a
+  count : Spells 7 (CountToken ∷ []) Count
+  numeral : (v : ℕ) → v < 2 ^ 64 → Spells 7 (NumberToken v ∷ []) (Number v)
+
+-- the text spells the tree
+abbrev pub Spelt : Tree → List ℕ → Type 0
+Spelt tree text = (ts : List Token) × Lexes text ts × Spells 0 ts tree

@@ -1,0 +1,35 @@
+-- The two fields of a header text that make a plural rule.
+-- GNU gettext manual, "Plural forms" and "Filling in the Header Entry".
+use Rattle.std.specs.Prelude.{ℕ, Bool, ◌||◌, ◌==◌, nat_eq, List, [], ◌∷◌, Option, Some, None, option_map, option_and_then, length, drop, take_while, if◌then◌else◌, codes}
+use Rattle.std.specs.List.{starts_with, prefix_len, before_first}
+use Rattle.plural_rule.specs.Tokens.{is_blank, is_digit, decimal_value}
+
+-- what stands behind the first place of a word in a text
+abbrev pub behind_first : List ℕ → List ℕ → Option (List ℕ)
+behind_first word [] = None
+behind_first word (c ∷ rest) = if starts_with nat_eq (c ∷ rest) word then Some (drop (length word) (c ∷ rest)) else behind_first word rest
+
+-- the text without the blanks at its front
+abbrev pub without_blanks : List ℕ → List ℕ
+without_blanks text = drop (prefix_len is_blank text) text
+
+-- the number that one digit or more spell
+abbrev pub number_of_digits : List ℕ → Option ℕ
+number_of_digits [] = None
+number_of_digits (c ∷ rest) = Some (decimal_value (c ∷ rest))
+
+-- the number at the front of a text, behind blanks
+abbrev pub leading_number : List ℕ → Option ℕ
+leading_number text = number_of_digits (take_while is_digit (without_blanks text))
+
+-- the number of plural forms that a header names
+abbrev pub number_of : List ℕ → Option ℕ
+number_of header = option_and_then leading_number (behind_first (codes "nplurals=") header)
+
+-- a byte that ends an expression: `;` or LF
+abbrev pub is_end : ℕ → Bool
+is_end c = c == 59 || c == 10
+
+-- the text of the expression that a header names
+abbrev pub expression_of : List ℕ → Option (List ℕ)
+expression_of header = option_map (before_first is_end) (behind_first (codes "plural=") header)

@@ -1,0 +1,70 @@
+-- Internal: how the parser's table and stack stand for what waits and for a complete operand.
+use Rattle.std.specs.Prelude.{◌≡◌, ℕ, ◌+◌, ◌-◌, nat_le, ◌==◌, Bool, true, false, List, [], ◌∷◌, ◌++◌, Option, Some, None, if◌then◌else◌}
+use Rattle.plural_rule.specs.declared.node.Node.{Node}
+use Rattle.plural_rule.specs.declared.node.Node.TheVariants.{Not as NotNode, Binary as BinaryNode, Conditional as ConditionalNode}
+use Rattle.plural_rule.specs.declared.parser.Pending.{Pending}
+use Rattle.plural_rule.specs.declared.parser.Pending.TheVariants.{Not as NotPending, Open as OpenPending, Binary as BinaryPending, Question as QuestionPending, Colon as ColonPending}
+use Rattle.plural_rule.specs.Expression.{Tree, nodes}
+use Rattle.plural_rule.specs.Grammar.{level}
+use Rattle.plural_rule.specs.PostOrder.{layout}
+use Rattle.plural_rule.specs.ShiftReduce.{Waiting, WaitNot, WaitOpen, WaitBinary, WaitQuestion, WaitColon, State, Want, Have}
+
+-- how many nodes stand in the table for what waits
+abbrev pub size : List Waiting → ℕ
+size [] = 0
+size (WaitNot ∷ stack) = size stack
+size (WaitOpen ∷ stack) = size stack
+size (WaitBinary op a ∷ stack) = size stack + nodes a
+size (WaitQuestion a ∷ stack) = size stack + nodes a
+size (WaitColon a b ∷ stack) = size stack + nodes a + nodes b
+
+-- these nodes
+abbrev pub laid : List Waiting → List Node
+laid [] = []
+laid (WaitNot ∷ stack) = laid stack
+laid (WaitOpen ∷ stack) = laid stack
+laid (WaitBinary op a ∷ stack) = laid stack ++ layout (size stack) a
+laid (WaitQuestion a ∷ stack) = laid stack ++ layout (size stack) a
+laid (WaitColon a b ∷ stack) = (laid stack ++ layout (size stack) a) ++ layout (size stack + nodes a) b
+
+-- the parser's entry for what waits, whose operands stand in the table from index base on
+abbrev pub pending : ℕ → Waiting → Pending
+pending base WaitNot = NotPending
+pending base WaitOpen = OpenPending
+pending base (WaitBinary op a) = BinaryPending op (base + nodes a - 1)
+pending base (WaitQuestion a) = QuestionPending (base + nodes a - 1)
+pending base (WaitColon a b) = ColonPending (base + nodes a - 1) (base + nodes a + nodes b - 1)
+
+-- the parser's stack, oldest first
+abbrev pub pendings : List Waiting → List Pending
+pendings [] = []
+pendings (w ∷ stack) = pendings stack ++ pending (size stack) w ∷ []
+
+-- the node that the operand at index `last` completes, where an operator of level k follows it
+abbrev pub completed_node : ℕ → Pending → ℕ → Option Node
+completed_node k NotPending last = Some (NotNode last)
+completed_node k OpenPending last = None
+completed_node k (BinaryPending op i) last = if nat_le k (level op) then Some (BinaryNode op i last) else None
+completed_node k (QuestionPending i) last = None
+completed_node k (ColonPending i j) last = if k == 0 then Some (ConditionalNode i j last) else None
+
+-- table and stack stand for what waits
+pub record IsWaiting (table : List Node) (entries : List Pending) (stack : List Waiting) : Type 0 where
+  pub table_is : table ≡ laid stack
+  pub entries_are : entries ≡ pendings stack
+
+-- table and stack stand for what waits and an operand behind it
+pub record IsOperand (table : List Node) (entries : List Pending) (stack : List Waiting) (tree : Tree) : Type 0 where
+  pub table_is : table ≡ laid stack ++ layout (size stack) tree
+  pub entries_are : entries ≡ pendings stack
+
+-- table, stack and whether an operand is complete stand for a state
+abbrev pub Represents : List Node → List Pending → Bool → State → Type 0
+Represents table entries complete (Want stack) = (complete ≡ false) × IsWaiting table entries stack
+Represents table entries complete (Have stack tree) = (complete ≡ true) × IsOperand table entries stack tree
+
+-- the answer to a token stands for the state behind it
+abbrev pub Answers : Option State → Option Bool → List Node → List Pending → Type 0
+Answers None answer table entries = answer ≡ None
+Answers (Some state) None table entries = ⊥
+Answers (Some state) (Some complete) table entries = Represents table entries complete state

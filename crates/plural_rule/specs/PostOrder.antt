@@ -1,0 +1,80 @@
+-- Internal: the table of nodes that holds a tree, operands before their node, each named by its index.
+use Rattle.std.specs.Prelude.{◌≡◌, ℕ, ◌+◌, ◌-◌, ◌<◌, List, [], ◌∷◌, ◌++◌, nat_lt, if◌then◌else◌, refl}
+use Rattle.std.specs.Coded.{Coded, code_by, coded_list}
+use Rattle.std.proofs.Common.{◌∙◌, ap, sym, append_assoc, append-nil}
+use Rattle.plural_rule.specs.declared.operator.Operator.{Operator}
+use Rattle.plural_rule.specs.declared.node.Node.{Node}
+use Rattle.plural_rule.specs.declared.node.Node.TheVariants.{Count as CountNode, Number as NumberNode, Not as NotNode, Binary as BinaryNode, Conditional as ConditionalNode}
+use Rattle.plural_rule.specs.Expression.{Tree, Count, Number, Not, Binary, Conditional, nodes}
+
+-- the nodes of a tree, the first of which stands at index base
+abbrev pub layout : ℕ → Tree → List Node
+layout base Count = CountNode ∷ []
+layout base (Number v) = NumberNode v ∷ []
+layout base (Not a) = layout base a ++ NotNode (base + nodes a - 1) ∷ []
+layout base (Binary op a b) =
+    layout base a ++ (layout (base + nodes a) b ++ BinaryNode op (base + nodes a - 1) (base + nodes a + nodes b - 1) ∷ [])
+layout base (Conditional a b c) =
+    layout base a ++ (layout (base + nodes a) b ++ (layout (base + nodes a + nodes b) c
+    ++ ConditionalNode (base + nodes a - 1) (base + nodes a + nodes b - 1) (base + nodes a + nodes b + nodes c - 1) ∷ []))
+
+-- the trees read so far, newest first, behind one more node
+abbrev pub with_node : Node → List Tree → List Tree
+with_node CountNode trees = Count ∷ trees
+with_node (NumberNode v) trees = Number v ∷ trees
+with_node (NotNode i) [] = []
+with_node (NotNode i) (a ∷ trees) = Not a ∷ trees
+with_node (BinaryNode op i j) [] = []
+with_node (BinaryNode op i j) (b ∷ []) = []
+with_node (BinaryNode op i j) (b ∷ a ∷ trees) = Binary op a b ∷ trees
+with_node (ConditionalNode i j k) [] = []
+with_node (ConditionalNode i j k) (c ∷ []) = []
+with_node (ConditionalNode i j k) (c ∷ b ∷ []) = []
+with_node (ConditionalNode i j k) (c ∷ b ∷ a ∷ trees) = Conditional a b c ∷ trees
+
+-- the same behind a list of nodes
+abbrev pub with_nodes : List Tree → List Node → List Tree
+with_nodes trees [] = trees
+with_nodes trees (node ∷ rest) = with_nodes (with_node node trees) rest
+
+abbrev pub newest : List Tree → Tree
+newest [] = Count
+newest (t ∷ trees) = t
+
+-- the tree that a table holds
+unfoldable pub tree_of : List Node → Tree
+tree_of table = newest (with_nodes [] table)
+
+with_nodes-layout : (t : Tree) (base : ℕ) (trees : List Tree) (rest : List Node) → with_nodes trees (layout base t ++ rest) ≡ with_nodes (t ∷ trees) rest
+with_nodes-layout Count base trees rest = refl
+with_nodes-layout (Number v) base trees rest = refl
+with_nodes-layout (Not a) base trees rest =
+    let last = NotNode (base + nodes a - 1) in
+    ap (with_nodes trees) (append_assoc (layout base a) (last ∷ []) rest) ∙ with_nodes-layout a base trees (last ∷ rest)
+with_nodes-layout (Binary op a b) base trees rest =
+    let last = BinaryNode op (base + nodes a - 1) (base + nodes a + nodes b - 1) in
+    let second = layout (base + nodes a) b in
+    ap (with_nodes trees) (append_assoc (layout base a) (second ++ last ∷ []) rest)
+    ∙ with_nodes-layout a base trees ((second ++ last ∷ []) ++ rest)
+    ∙ ap (with_nodes (a ∷ trees)) (append_assoc second (last ∷ []) rest)
+    ∙ with_nodes-layout b (base + nodes a) (a ∷ trees) (last ∷ rest)
+with_nodes-layout (Conditional a b c) base trees rest =
+    let last = ConditionalNode (base + nodes a - 1) (base + nodes a + nodes b - 1) (base + nodes a + nodes b + nodes c - 1) in
+    let second = layout (base + nodes a) b in
+    let third = layout (base + nodes a + nodes b) c in
+    ap (with_nodes trees) (append_assoc (layout base a) (second ++ (third ++ last ∷ [])) rest)
+    ∙ with_nodes-layout a base trees ((second ++ (third ++ last ∷ [])) ++ rest)
+    ∙ ap (with_nodes (a ∷ trees)) (append_assoc second (third ++ last ∷ []) rest)
+    ∙ with_nodes-layout b (base + nodes a) (a ∷ trees) ((third ++ last ∷ []) ++ rest)
+    ∙ ap (with_nodes (b ∷ a ∷ trees)) (append_assoc third (last ∷ []) rest)
+    ∙ with_nodes-layout c (base + nodes a + nodes b) (b ∷ a ∷ trees) (last ∷ rest)
+
+-- a table holds the one tree of which it is the layout
+pub tree_of-layout : (t : Tree) (base : ℕ) → tree_of (layout base t) ≡ t
+unfolding tree_of
+tree_of-layout t base =
+    ap (λ table. newest (with_nodes [] table)) (sym (append-nil (layout base t))) ∙ ap newest (with_nodes-layout t base [] [])
+
+-- a tree is stored as data by its table
+abbrev pub tree_code : Coded Node → Coded Tree
+tree_code node_code = code_by (List Node) (coded_list node_code) (layout 0) tree_of (λ t. tree_of-layout t 0)

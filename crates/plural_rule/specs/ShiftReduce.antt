@@ -1,0 +1,91 @@
+-- Internal: reading tokens by operator precedence, over trees.
+use Rattle.std.specs.Prelude.{ℕ, ◌^◌, nat_le, nat_lt, ◌==◌, List, [], ◌∷◌, Option, Some, None, option_and_then, if◌then◌else◌}
+use Rattle.plural_rule.specs.declared.operator.Operator.{Operator}
+use Rattle.plural_rule.specs.declared.token.Token.{Token}
+use Rattle.plural_rule.specs.declared.token.Token.TheVariants.{Count as CountToken, Number as NumberToken, Not as NotToken, Binary as BinaryToken, Question, Colon, Open, Close}
+use Rattle.plural_rule.specs.Expression.{Tree, Count, Number, Not, Binary, Conditional}
+use Rattle.plural_rule.specs.Grammar.{level}
+
+-- what waits for its last operand: `!`, `(`, `a op`, `a ?` and `a ? b :`
+pub data Waiting : Type 0 where
+  WaitNot : Waiting
+  WaitOpen : Waiting
+  WaitBinary : Operator → Tree → Waiting
+  WaitQuestion : Tree → Waiting
+  WaitColon : Tree → Tree → Waiting
+
+-- what waits, newest first, and a complete operand
+pub record Operand : Type 0 where
+  pub stack : List Waiting
+  pub tree : Tree
+
+-- an operand is wanted, or one is complete
+pub data State : Type 0 where
+  Want : List Waiting → State
+  Have : List Waiting → Tree → State
+
+-- the tree that a last operand completes, where an operator of this level follows it
+abbrev pub completed : ℕ → Waiting → Tree → Option Tree
+completed k WaitNot t = Some (Not t)
+completed k WaitOpen t = None
+completed k (WaitBinary op a) t = if nat_le k (level op) then Some (Binary op a t) else None
+completed k (WaitQuestion a) t = None
+completed k (WaitColon a b) t = if k == 0 then Some (Conditional a b t) else None
+
+-- the operand behind what binds at least as tight as level k
+abbrev pub reduce_by : (Tree → Operand) → Waiting → List Waiting → Tree → Option Tree → Operand
+reduce_by go w stack t None = record { stack = w ∷ stack; tree = t }
+reduce_by go w stack t (Some u) = go u
+
+abbrev pub reduce : ℕ → List Waiting → Tree → Operand
+reduce k [] t = record { stack = []; tree = t }
+reduce k (w ∷ stack) t = reduce_by (reduce k stack) w stack t (completed k w t)
+
+-- what `:` and `)` do behind an operand
+abbrev pub at_colon : List Waiting → Tree → Option State
+at_colon [] b = None
+at_colon (WaitQuestion a ∷ stack) b = Some (Want (WaitColon a b ∷ stack))
+at_colon (_ ∷ stack) b = None
+
+abbrev pub at_close : List Waiting → Tree → Option State
+at_close [] a = None
+at_close (WaitOpen ∷ stack) a = Some (Have stack a)
+at_close (_ ∷ stack) a = None
+
+-- the state behind a token, or none where it can't stand here
+abbrev pub want_step : List Waiting → Token → Option State
+want_step stack CountToken = Some (Have stack Count)
+want_step stack (NumberToken v) = if nat_lt v (2 ^ 64) then Some (Have stack (Number v)) else None
+want_step stack NotToken = Some (Want (WaitNot ∷ stack))
+want_step stack Open = Some (Want (WaitOpen ∷ stack))
+want_step stack _ = None
+
+abbrev pub have_step : List Waiting → Tree → Token → Option State
+have_step stack t (BinaryToken op) =
+    let o = reduce (level op) stack t in Some (Want (WaitBinary op o.tree ∷ o.stack))
+have_step stack t Question = let o = reduce 1 stack t in Some (Want (WaitQuestion o.tree ∷ o.stack))
+have_step stack t Colon = let o = reduce 0 stack t in at_colon o.stack o.tree
+have_step stack t Close = let o = reduce 0 stack t in at_close o.stack o.tree
+have_step stack t _ = None
+
+abbrev pub step : State → Token → Option State
+step (Want stack) token = want_step stack token
+step (Have stack t) token = have_step stack t token
+
+-- the state behind tokens
+abbrev pub run : State → List Token → Option State
+run state [] = Some state
+run state (token ∷ ts) = option_and_then (λ next. run next ts) (step state token)
+
+-- the tree of a state at the end of the tokens
+abbrev pub alone : List Waiting → Tree → Option Tree
+alone [] t = Some t
+alone (w ∷ stack) t = None
+
+abbrev pub finish : State → Option Tree
+finish (Want stack) = None
+finish (Have stack t) = let o = reduce 0 stack t in alone o.stack o.tree
+
+-- the tree that tokens spell
+abbrev pub outcome : List Token → Option Tree
+outcome ts = option_and_then finish (run (Want []) ts)

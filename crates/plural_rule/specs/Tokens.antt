@@ -1,0 +1,60 @@
+-- The tokens that a text spells, each the longest that fits, with blanks between them.
+-- GNU gettext manual, "Plural forms"; C standard, "Lexical elements".
+use Rattle.std.specs.Prelude.{◌≡◌, ◌≢◌, ℕ, ◌+◌, ◌-◌, ◌*◌, Bool, true, ◌&&◌, ◌||◌, ◌==◌, nat_le, List, [], ◌∷◌, ◌++◌, IsTrue, fold, codes}
+use Rattle.plural_rule.specs.declared.operator.Operator.{Operator}
+use Rattle.plural_rule.specs.declared.operator.Operator.TheVariants.{Or, And, Equal, NotEqual, Less, Greater, AtMost, AtLeast, Add, Subtract, Multiply, Divide, Remainder}
+use Rattle.plural_rule.specs.declared.token.Token.{Token}
+use Rattle.plural_rule.specs.declared.token.Token.TheVariants.{Count, Number, Not, Binary, Question, Colon, Open, Close}
+
+-- a space or a TAB
+abbrev pub is_blank : ℕ → Bool
+is_blank c = c == 32 || c == 9
+
+-- a decimal digit
+abbrev pub is_digit : ℕ → Bool
+is_digit c = nat_le 48 c && nat_le c 57
+
+abbrev pub AllDigits : List ℕ → Type 0
+AllDigits [] = Unit {0}
+AllDigits (c ∷ rest) = IsTrue (is_digit c) × AllDigits rest
+
+-- the number that decimal digits spell
+abbrev pub decimal_value : List ℕ → ℕ
+decimal_value digits = fold (λ v c. 10 * v + (c - 48)) 0 digits
+
+-- the bytes of an operator
+abbrev pub operator_bytes : Operator → List ℕ
+operator_bytes Or = codes "||"
+operator_bytes And = codes "&&"
+operator_bytes Equal = codes "=="
+operator_bytes NotEqual = codes "!="
+operator_bytes Less = codes "<"
+operator_bytes Greater = codes ">"
+operator_bytes AtMost = codes "<="
+operator_bytes AtLeast = codes ">="
+operator_bytes Add = codes "+"
+operator_bytes Subtract = codes "-"
+operator_bytes Multiply = codes "*"
+operator_bytes Divide = codes "/"
+operator_bytes Remainder = codes "%"
+
+-- the bytes spell the token: a numeral is one digit or more, every other token has one spelling
+abbrev pub IsSpelling : Token → List ℕ → Type 0
+IsSpelling Count bytes = bytes ≡ codes "n"
+IsSpelling (Number v) bytes = (bytes ≢ []) × AllDigits bytes × (decimal_value bytes ≡ v)
+IsSpelling Not bytes = bytes ≡ codes "!"
+IsSpelling (Binary op) bytes = bytes ≡ operator_bytes op
+IsSpelling Question bytes = bytes ≡ codes "?"
+IsSpelling Colon bytes = bytes ≡ codes ":"
+IsSpelling Open bytes = bytes ≡ codes "("
+IsSpelling Close bytes = bytes ≡ codes ")"
+
+-- no spelling is longer: with what follows, none begins with these bytes and goes on
+abbrev pub IsLongest : List ℕ → List ℕ → Type 0
+IsLongest own rest = (t : Token) (more behind : List ℕ) → rest ≡ more ++ behind → more ≢ [] → IsSpelling t (own ++ more) → ⊥
+
+-- the text spells the tokens
+pub data Lexes : List ℕ → List Token → Type 0 where
+  end : Lexes [] []
+  blank : {c : ℕ} {text : List ℕ} {ts : List Token} → IsTrue (is_blank c) → Lexes text ts → Lexes (c ∷ text) ts
+  token : {rest : List ℕ} {ts : List Token} (t : Token) (own : List ℕ) → IsSpelling t own → IsLongest own rest → Lexes rest ts → Lexes (own ++ rest) (t ∷ ts)

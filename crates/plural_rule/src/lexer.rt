@@ -1,0 +1,121 @@
+//! The tokens of an expression's text, and the numerals and blanks of a header text.
+ghost use Rattle.std.specs.Prelude.{◌≡◌, ◌^◌, ◌<◌, ◌≤◌, [], ◌∷◌, length, take_while, slice_index, MatchOption, SomeIff, true, false};
+ghost use Rattle.plural_rule.specs.Tokens.{is_digit, AllDigits, decimal_value, operator_bytes, IsSpelling};
+ghost use Rattle.plural_rule.specs.Header.{without_blanks};
+ghost use Rattle.plural_rule.specs.Scanner.{IsTokenAt, HasNoToken};
+
+use crate::operator::Operator;
+use crate::token::Token;
+
+/// The text without the spaces and TABs at its front.
+pub fn without_blanks(text: &[u8]) -> &[u8]
+    ensures value { result.now ≡ without_blanks text.now }
+    ensures shorter { length result.now ≤ length text.now }
+{
+    let blanks = text
+        .iter()
+        .take_while(|byte| **byte == b' ' || **byte == b'\t')
+        .count();
+    &text[blanks..]
+}
+
+/// The decimal digits at the front of the text.
+pub fn leading_digits(text: &[u8]) -> &[u8]
+    ensures { result.now ≡ take_while is_digit text.now }
+{
+    let digits = text
+        .iter()
+        .take_while(|byte| b'0' <= **byte && **byte <= b'9')
+        .count();
+    &text[..digits]
+}
+
+/// The number that decimal digits spell, or `None` where it is 2^64 or more.
+pub fn decimal_value(digits: &[u8]) -> Option<u64>
+    requires { AllDigits digits.now }
+    ensures { SomeIff result (decimal_value digits.now < 2 ^ 64) (decimal_value digits.now) }
+{
+    let mut value: u64 = 0;
+    for digit in digits {
+        let Some(shifted) = value.checked_mul(10) else {
+            return None;
+        };
+        let Some(sum) = shifted.checked_add((*digit - b'0') as u64) else {
+            return None;
+        };
+        value = sum;
+    }
+    Some(value)
+}
+
+/// The token at the front of a text that begins with no blank, and how many bytes it has.
+pub fn token(text: &[u8]) -> Option<(Token, usize)>
+    requires { 0 < length text.now }
+    ensures { MatchOption result (HasNoToken text.now) (λ r. IsTokenAt text.now r.0 r.1) }
+{
+    let first = text[0];
+    if b'0' <= first && first <= b'9' {
+        return numeral(text);
+    }
+    if text.len() > 1 {
+        if let Some(operator) = double(first, text[1]) {
+            return Some((Token::Binary(operator), 2));
+        }
+    }
+    match single(first) {
+        Some(token) => Some((token, 1)),
+        None => None,
+    }
+}
+
+/// The numeral at the front of a text that begins with a digit.
+fn numeral(text: &[u8]) -> Option<(Token, usize)>
+    requires some { 0 < length text.now }
+    requires digit { is_digit (slice_index text.now 0) ≡ true }
+    ensures { MatchOption result (HasNoToken text.now) (λ r. IsTokenAt text.now r.0 r.1) }
+{
+    let digits = leading_digits(text);
+    match decimal_value(digits) {
+        Some(value) => Some((Token::Number(value), digits.len())),
+        None => None,
+    }
+}
+
+/// The operator that two bytes spell.
+fn double(first: u8, second: u8) -> Option<Operator>
+    ensures { MatchOption result ((op : Operator) → operator_bytes op ≡ first ∷ second ∷ [] → ⊥)
+        (λ op. operator_bytes op ≡ first ∷ second ∷ []) }
+{
+    match (first, second) {
+        (b'|', b'|') => Some(Operator::Or),
+        (b'&', b'&') => Some(Operator::And),
+        (b'=', b'=') => Some(Operator::Equal),
+        (b'!', b'=') => Some(Operator::NotEqual),
+        (b'<', b'=') => Some(Operator::AtMost),
+        (b'>', b'=') => Some(Operator::AtLeast),
+        _ => None,
+    }
+}
+
+/// The token that one byte spells, which isn't a digit.
+fn single(byte: u8) -> Option<Token>
+    requires { is_digit byte ≡ false }
+    ensures { MatchOption result ((t : Token) → IsSpelling t (byte ∷ []) → ⊥) (λ t. IsSpelling t (byte ∷ [])) }
+{
+    match byte {
+        b'n' => Some(Token::Count),
+        b'!' => Some(Token::Not),
+        b'?' => Some(Token::Question),
+        b':' => Some(Token::Colon),
+        b'(' => Some(Token::Open),
+        b')' => Some(Token::Close),
+        b'<' => Some(Token::Binary(Operator::Less)),
+        b'>' => Some(Token::Binary(Operator::Greater)),
+        b'+' => Some(Token::Binary(Operator::Add)),
+        b'-' => Some(Token::Binary(Operator::Subtract)),
+        b'*' => Some(Token::Binary(Operator::Multiply)),
+        b'/' => Some(Token::Binary(Operator::Divide)),
+        b'%' => Some(Token::Binary(Operator::Remainder)),
+        _ => None,
+    }
+}

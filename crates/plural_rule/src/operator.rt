@@ -1,0 +1,100 @@
+//! The operators of two operands in a plural expression.
+ghost use Rattle.std.specs.Prelude.{◌≡◌};
+ghost use Rattle.plural_rule.specs.Expression.{combined, needs_right, settled, truth};
+ghost use Rattle.plural_rule.specs.Grammar.{level};
+
+/// An operator of two operands, with the meaning that it has in C for unsigned numbers of 64 bits.
+#[derive(Clone, Copy, Drop)]
+pub enum Operator {
+    /// `||`
+    Or,
+    /// `&&`
+    And,
+    /// `==`
+    Equal,
+    /// `!=`
+    NotEqual,
+    /// `<`
+    Less,
+    /// `>`
+    Greater,
+    /// `<=`
+    AtMost,
+    /// `>=`
+    AtLeast,
+    /// `+`
+    Add,
+    /// `-`
+    Subtract,
+    /// `*`
+    Multiply,
+    /// `/`
+    Divide,
+    /// `%`
+    Remainder,
+}
+
+impl Operator {
+    /// How tight the operator binds, from 1 for `||` to 6 for `*`, `/` and `%`.
+    pub fn level(self) -> u8
+        ensures { result ≡ level self }
+    {
+        match self {
+            Operator::Or => 1,
+            Operator::And => 2,
+            Operator::Equal | Operator::NotEqual => 3,
+            Operator::Less | Operator::Greater | Operator::AtMost | Operator::AtLeast => 4,
+            Operator::Add | Operator::Subtract => 5,
+            Operator::Multiply | Operator::Divide | Operator::Remainder => 6,
+        }
+    }
+
+    /// Whether the second operand is evaluated, where the first one's value is `left`.
+    pub fn needs_right(self, left: u64) -> bool
+        ensures { result ≡ needs_right self left }
+    {
+        match self {
+            Operator::Or => left == 0,
+            Operator::And => left != 0,
+            _ => true,
+        }
+    }
+
+    /// The value where the second operand isn't evaluated.
+    pub fn settled(self) -> u64
+        ensures { result ≡ settled self }
+    {
+        match self {
+            Operator::Or => 1,
+            _ => 0,
+        }
+    }
+
+    /// The value where both operands are evaluated, or `None` for a division by 0.
+    pub fn combined(self, left: u64, right: u64) -> Option<u64>
+        ensures { result ≡ combined self left right }
+    {
+        let value = match self {
+            Operator::Or | Operator::And => truth(right != 0),
+            Operator::Equal => truth(left == right),
+            Operator::NotEqual => truth(left != right),
+            Operator::Less => truth(left < right),
+            Operator::Greater => truth(right < left),
+            Operator::AtMost => truth(left <= right),
+            Operator::AtLeast => truth(right <= left),
+            Operator::Add => left.wrapping_add(right),
+            Operator::Subtract => left.wrapping_sub(right),
+            Operator::Multiply => left.wrapping_mul(right),
+            Operator::Divide => return left.checked_div(right),
+            Operator::Remainder => return left.checked_rem(right),
+        };
+        Some(value)
+    }
+}
+
+/// 1 for true, and 0 for false.
+pub fn truth(holds: bool) -> u64
+    ensures { result ≡ truth holds }
+{
+    if holds { 1 } else { 0 }
+}

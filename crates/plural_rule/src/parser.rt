@@ -1,0 +1,184 @@
+//! Reads an expression by operator precedence.
+//!
+//! What waits for an operand stands in a stack of fixed size, so the machine's stack doesn't grow with
+//! the expression. Each operand that is complete stands at the end of the table.
+ghost use Rattle.std.specs.Prelude.{◌≡◌, ◌+◌, ◌-◌, ◌<◌, ◌≤◌, List, Some, true};
+ghost use Rattle.arrayvec.specs.ArrayVec.{array_vec_len};
+ghost use Rattle.plural_rule.specs.Expression.{Tree};
+ghost use Rattle.plural_rule.specs.ShiftReduce.{Waiting, reduce, want_step, have_step};
+ghost use Rattle.plural_rule.specs.ParserState.{IsWaiting, IsOperand, Answers, completed_node};
+
+use crate::lexer;
+use crate::node::{Node, Table};
+use crate::operator::Operator;
+use crate::rule::LIMIT;
+use crate::token::Token;
+use arrayvec::ArrayVec;
+
+/// What waits for its last operand, with the indices of the operands before it.
+#[derive(Clone, Copy, Drop)]
+pub enum Pending {
+    /// `!`
+    Not,
+    /// `(`
+    Open,
+    /// `a` and an operator
+    Binary(Operator, u16),
+    /// `a ?`
+    Question(u16),
+    /// `a ? b :`
+    Colon(u16, u16),
+}
+
+impl Default for Pending {
+    fn default() -> Self {
+        Pending::Not
+    }
+}
+
+/// What waits, the last one for the operand that is read next.
+pub type Stack = ArrayVec<Pending, LIMIT>;
+
+impl Pending {
+    /// The node that the operand at index `last` completes, where an operator of level `loosest` follows it.
+    fn completed(self, loosest: u8, last: u16) -> Option<Node>
+        ensures { result ≡ completed_node loosest self last }
+    {
+        match self {
+            Pending::Not => Some(Node::Not(last)),
+            Pending::Binary(operator, left) if loosest <= operator.level() => {
+                Some(Node::Binary(operator, left, last))
+            }
+            Pending::Colon(condition, yes) if loosest == 0 => {
+                Some(Node::Conditional(condition, yes, last))
+            }
+            _ => None,
+        }
+    }
+}
+
+/// The index of the last node.
+fn last_index(table: &Table) -> u16
+    requires { 0 < array_vec_len table.now }
+    ensures { result ≡ array_vec_len table.now - 1 }
+{
+    (table.len() - 1) as u16
+}
+
+/// Completes what waits for the last operand and binds at least as tight as `loosest`.
+fn reduce(table: &mut Table, stack: &mut Stack, loosest: u8)
+    requires some { 0 < array_vec_len table.old }
+    requires room { array_vec_len table.old + array_vec_len stack.old ≤ LIMIT }
+    ensures reduced { (waiting : List Waiting) (tree : Tree) →
+        IsOperand table.old.items stack.old.items waiting tree →
+        IsOperand table.new.items stack.new.items (reduce loosest waiting tree).stack (reduce loosest waiting tree).tree }
+    ensures some { 0 < array_vec_len table.new }
+    ensures size { array_vec_len table.new + array_vec_len stack.new ≡ array_vec_len table.old + array_vec_len stack.old }
+{
+    while let Some(top) = stack.pop() {
+        let last = last_index(table);
+        match top.completed(loosest, last) {
+            Some(node) => table.push(node),
+            None => {
+                stack.push(top);
+                return;
+            }
+        }
+    }
+}
+
+/// Reads a token where an operand may begin: whether an operand is complete behind it, or `None` where it can't stand here.
+fn take_operand(table: &mut Table, stack: &mut Stack, token: Token) -> Option<bool>
+    requires room { array_vec_len table.old + array_vec_len stack.old < LIMIT }
+    ensures step { (waiting : List Waiting) →
+        IsWaiting table.old.items stack.old.items waiting →
+        Answers (want_step waiting token) result table.new.items stack.new.items }
+    ensures some { result ≡ Some true → 0 < array_vec_len table.new }
+    ensures size { array_vec_len table.new + array_vec_len stack.new ≤ array_vec_len table.old + array_vec_len stack.old + 1 }
+{
+    match token {
+        Token::Count => {
+            table.push(Node::Count);
+            Some(true)
+        }
+        Token::Number(number) => {
+            table.push(Node::Number(number));
+            Some(true)
+        }
+        Token::Not => {
+            stack.push(Pending::Not);
+            Some(false)
+        }
+        Token::Open => {
+            stack.push(Pending::Open);
+            Some(false)
+        }
+        _ => None,
+    }
+}
+
+/// The same behind a complete operand.
+fn take_operator(table: &mut Table, stack: &mut Stack, token: Token) -> Option<bool>
+    requires some { 0 < array_vec_len table.old }
+    requires room { array_vec_len table.old + array_vec_len stack.old < LIMIT }
+    ensures step { (waiting : List Waiting) (tree : Tree) →
+        IsOperand table.old.items stack.old.items waiting tree →
+        Answers (have_step waiting tree token) result table.new.items stack.new.items }
+    ensures some { 0 < array_vec_len table.new }
+    ensures size { array_vec_len table.new + array_vec_len stack.new ≤ array_vec_len table.old + array_vec_len stack.old + 1 }
+{
+    match token {
+        Token::Binary(operator) => {
+            reduce(table, stack, operator.level());
+            stack.push(Pending::Binary(operator, last_index(table)));
+            Some(false)
+        }
+        Token::Question => {
+            reduce(table, stack, 1);
+            stack.push(Pending::Question(last_index(table)));
+            Some(false)
+        }
+        Token::Colon => {
+            reduce(table, stack, 0);
+            let Some(Pending::Question(condition)) = stack.pop() else {
+                return None;
+            };
+            stack.push(Pending::Colon(condition, last_index(table)));
+            Some(false)
+        }
+        Token::Close => {
+            reduce(table, stack, 0);
+            let Some(Pending::Open) = stack.pop() else {
+                return None;
+            };
+            Some(true)
+        }
+        _ => None,
+    }
+}
+
+/// Writes the expression that a text spells into the empty `table`, and tells whether it spells one.
+pub fn parse(text: &[u8], table: &mut Table) -> bool {
+    let mut stack = Stack::new();
+    let mut has_operand = false;
+    let mut rest = lexer::without_blanks(text);
+    while !rest.is_empty() {
+        let Some((token, len)) = lexer::token(rest) else {
+            return false;
+        };
+        let taken = if has_operand {
+            take_operator(table, &mut stack, token)
+        } else {
+            take_operand(table, &mut stack, token)
+        };
+        let Some(complete) = taken else {
+            return false;
+        };
+        has_operand = complete;
+        rest = lexer::without_blanks(&rest[len..]);
+    }
+    if has_operand {
+        reduce(table, &mut stack, 0);
+    }
+    has_operand && stack.is_empty()
+}

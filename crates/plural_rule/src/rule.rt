@@ -1,0 +1,147 @@
+//! The rule of a header text.
+ghost use Rattle.std.specs.Prelude.{◌≡◌, ◌≤◌};
+ghost use Rattle.plural_rule.specs.Expression.{value, visited, nodes};
+ghost use Rattle.plural_rule.specs.PluralRule.{IsRuleOf};
+
+use crate::node::{Node, Table};
+use crate::operator::Operator;
+use crate::{evaluator, header, lexer, parser};
+use std::marker::Model;
+
+/// The most bytes that an expression may have, and so the most nodes.
+pub const LIMIT: usize = 4096;
+
+/// Where a rule comes from.
+#[derive(Clone, Copy, Debug, PartialEq, Eq, Drop)]
+pub enum Source {
+    /// The header text names it.
+    Header,
+    /// The header text names no rule that can be read, so the rule is `nplurals=2; plural=n != 1;`.
+    Default(Reason),
+}
+
+/// Why a header text gives the default rule. Where several hold, the first of `NoNumber`, `NoExpression`,
+/// `TooLong`, `Unreadable` is told.
+#[derive(Clone, Copy, Debug, PartialEq, Eq, Drop)]
+pub enum Reason {
+    /// There is no `nplurals=` with a number behind it.
+    NoNumber,
+    /// There is no `plural=`.
+    NoExpression,
+    /// The number of plural forms or a numeral is 2^64 or more, or the expression isn't one of the grammar.
+    Unreadable,
+    /// The expression has more than `LIMIT` bytes.
+    TooLong,
+}
+
+/// A plural rule: the number of plural forms, and the expression that chooses one for a count.
+///
+/// It takes no memory of its own: its table lies in the value, which is large, so pass it by reference.
+/// See the GNU gettext manual, "Plural forms".
+#[derive(Drop)]
+pub struct Rule {
+    source: Source,
+    number: u64,
+    table: Table,
+}
+
+impl Model for Rule {
+    ghost use Rattle.std.specs.Prelude.{◌≡◌};
+    ghost use Rattle.std.specs.Coded.{codes};
+    ghost use Rattle.plural_rule.specs.PluralRule.{Meaning};
+    ghost use Rattle.plural_rule.specs.PostOrder.{layout, tree_of, tree_code};
+
+    ghost Value = { Meaning };
+
+    ghost coded = { Prim.hlevel (codes, tree_code (Prim.hlevel codes)) };
+
+    ghost view = { λ r. record { source = r.source; number = r.number; tree = tree_of r.table.items } };
+
+    ghost invariant = { λ r. r.table.items ≡ layout 0 (tree_of r.table.items) };
+}
+
+impl Rule {
+    /// The rule that a header text gives.
+    ///
+    /// The number of plural forms stands behind the first `nplurals=`, and the expression behind the
+    /// first `plural=`, up to `;`, a line feed or the end. Where one of them is missing or can't be
+    /// read, the rule is the default, and `source` says why.
+    pub fn parse(header: &[u8]) -> Rule
+        ensures { IsRuleOf LIMIT header.now result }
+    {
+        let mut table = Table::new();
+        let (source, number) = match read(header, &mut table) {
+            Ok(number) => (Source::Header, number),
+            Err(reason) => {
+                write_default(&mut table);
+                (Source::Default(reason), 2)
+            }
+        };
+        Rule {
+            source,
+            number,
+            table,
+        }
+    }
+
+    /// Where the rule comes from.
+    pub fn source(&self) -> Source
+        ensures { result ≡ self.now.source }
+    {
+        self.source
+    }
+
+    /// The number of plural forms.
+    pub fn nplurals(&self) -> u64
+        ensures { result ≡ self.now.number }
+    {
+        self.number
+    }
+
+    /// How many nodes the expression has: `n`, numerals and operators.
+    pub fn nodes(&self) -> u32
+        ensures value { result ≡ nodes self.now.tree }
+        ensures limit { result ≤ LIMIT }
+        ensures some { 1 ≤ result }
+    {
+        self.table.len() as u32
+    }
+
+    /// The value of the expression at a count, or `None` where it is undefined, and the number of nodes that were evaluated.
+    pub fn eval(&self, count: u64) -> (Option<u64>, u32)
+        ensures value { result.0 ≡ value self.now.tree count }
+        ensures steps { result.1 ≡ visited self.now.tree count }
+        ensures bound { result.1 ≤ nodes self.now.tree }
+    {
+        evaluator::evaluate(self.table.as_slice(), count)
+    }
+}
+
+/// Reads a header's number, and its expression into the empty `table`.
+fn read(header: &[u8], table: &mut Table) -> Result<u64, Reason> {
+    let Some(digits) = header::number_digits(header) else {
+        return Err(Reason::NoNumber);
+    };
+    let Some(text) = header::expression(header) else {
+        return Err(Reason::NoExpression);
+    };
+    if text.len() > LIMIT {
+        return Err(Reason::TooLong);
+    }
+    let Some(number) = lexer::decimal_value(digits) else {
+        return Err(Reason::Unreadable);
+    };
+    if parser::parse(text, table) {
+        Ok(number)
+    } else {
+        Err(Reason::Unreadable)
+    }
+}
+
+/// Writes `n != 1` in place of what `table` holds.
+fn write_default(table: &mut Table) {
+    table.clear();
+    table.push(Node::Count);
+    table.push(Node::Number(1));
+    table.push(Node::Binary(Operator::NotEqual, 0, 1));
+}

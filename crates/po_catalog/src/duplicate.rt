@@ -1,0 +1,100 @@
+ghost use Rattle.std.specs.Prelude.{◌≡◌, ◌<◌, ◌^◌, length, MatchResult, IsOkUnless};
+ghost use Rattle.po_syntax.specs.declared.fault.PoFault.TheVariants.{OutOfMemory};
+ghost use Rattle.po_catalog.specs.JoinedView.{input_entries};
+ghost use Rattle.po_catalog.specs.Joined.{joined, joined_entries, entries_of};
+ghost use Rattle.po_catalog.specs.Duplicate.{HasNoDuplicate, IsDuplicateFault, IsDuplicateErrorOf, join_memory, entry_memory};
+
+use crate::joining::{JoinedEntry, add_entries, joined};
+use indexmap::IndexMap;
+use po_entry::Catalogue;
+use po_syntax::{PoError, PoFault};
+use std::alloc::{AllocError, AllocFailed, Global};
+use thiserror::Error;
+
+/// A fault of one of several inputs.
+#[derive(Clone, Copy, Debug, PartialEq, Eq, Error)]
+#[error("input {input}: {error}")]
+pub struct JoinError {
+    /// The input with the fault, counted from 0; 0 where the fault is of no input.
+    pub input: u32,
+    /// For a duplicate the input of the earlier entry, else `input`.
+    pub first_input: u32,
+    /// The fault.
+    pub error: PoError,
+}
+
+impl From<AllocError> for JoinError {
+    ghost from_gives = { λ _ e. e ≡ record { input = 0; first_input = 0; error = record { kind = OutOfMemory; line = 0 } } };
+
+    fn from(error: AllocError) -> JoinError {
+        JoinError {
+            input: 0,
+            first_input: 0,
+            error: error.into(),
+        }
+    }
+}
+
+impl<T: Drop> From<AllocFailed<T>> for JoinError {
+    ghost from_gives = { λ _ e. e ≡ record { input = 0; first_input = 0; error = record { kind = OutOfMemory; line = 0 } } };
+
+    fn from(error: AllocFailed<T>) -> JoinError {
+        JoinError {
+            input: 0,
+            first_input: 0,
+            error: error.into(),
+        }
+    }
+}
+
+/// Whether no live entry of a catalogue repeats an earlier live one, by context and msgid. Refused
+/// with `Duplicate`, which names the line of the earlier entry, at the line of the earliest entry
+/// that repeats one; and for want of memory.
+pub fn duplicates(alloc: Global, catalogue: &Catalogue) -> Result<(), PoError>
+    ensures exact { MatchResult result (λ _. HasNoDuplicate catalogue.now) (IsDuplicateErrorOf catalogue.now) }
+    ensures only { HasNoDuplicate catalogue.now → IsOkUnless result entry_memory }
+{
+    let mut entries = Vec::new(alloc);
+    add_entries(&mut entries, catalogue.entries(), 0, false)?;
+    match first_duplicate(alloc, &entries) {
+        Ok(()) => Ok(()),
+        Err(error) => Err(error.error),
+    }
+}
+
+/// Whether no live entry of the joined list repeats an earlier live one, by context and msgid. Refused
+/// with `Duplicate`, which names the input and the line of the earlier entry, at the input and the
+/// line of the earliest entry that repeats one; and for want of memory.
+pub fn joined_duplicates(alloc: Global, catalogues: &[Catalogue]) -> Result<(), JoinError>
+    requires { length catalogues.now < 2 ^ 32 }
+    ensures exact { MatchResult result (λ _. HasNoDuplicate (joined_entries catalogues.now)) (IsDuplicateFault (joined catalogues.now)) }
+    ensures only { HasNoDuplicate (joined_entries catalogues.now) → IsOkUnless result join_memory }
+{
+    let entries = joined(alloc, catalogues)?;
+    first_duplicate(alloc, &entries)
+}
+
+/// Looks for the earliest live entry that repeats an earlier live one.
+fn first_duplicate(alloc: Global, entries: &[JoinedEntry<'_>]) -> Result<(), JoinError>
+    ensures exact { MatchResult result (λ _. HasNoDuplicate (entries_of (input_entries entries.now))) (IsDuplicateFault (input_entries entries.now)) }
+{
+    let mut seen = IndexMap::with_capacity(alloc, entries.len())?;
+    for joined in entries {
+        let entry = joined.entry;
+        if entry.obsolete() {
+            continue;
+        }
+        let place = (joined.input, entry.line());
+        if let Some((first_input, line)) = seen.insert((entry.context(), entry.id()), place)? {
+            return Err(JoinError {
+                input: joined.input,
+                first_input,
+                error: PoError {
+                    kind: PoFault::Duplicate(line),
+                    line: entry.line(),
+                },
+            });
+        }
+    }
+    Ok(())
+}

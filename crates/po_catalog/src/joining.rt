@@ -1,0 +1,62 @@
+ghost use Rattle.std.specs.Prelude.{◌≡◌, ◌++◌, ◌<◌, ◌^◌, length, map, OnOk, IfOk};
+ghost use Rattle.std.specs.List.{list_any};
+ghost use Rattle.po_catalog.specs.Joined.{in_input, is_live_header, kept_entries, joined};
+ghost use Rattle.po_catalog.specs.JoinedView.{input_entries};
+
+use po_entry::{Catalogue, Entry};
+use std::alloc::{AllocError, Global};
+
+/// An entry of one of several inputs.
+#[derive(Clone, Copy)]
+pub struct JoinedEntry<'a> {
+    /// The input, counted from 0.
+    pub input: u32,
+    /// The entry.
+    pub entry: &'a Entry,
+}
+
+/// The entries of several inputs in order, without the live headers of an input where an earlier
+/// input has a live header.
+pub fn joined(alloc: Global, catalogues: &[Catalogue]) -> Result<Vec<JoinedEntry<'_>>, AllocError>
+    requires { length catalogues.now < 2 ^ 32 }
+    ensures { IfOk result (λ entries. input_entries entries.items ≡ joined catalogues.now) }
+{
+    let mut joined = Vec::new(alloc);
+    let mut headed = false;
+    for (input, catalogue) in catalogues.iter().enumerate() {
+        add_entries(&mut joined, catalogue.entries(), input as u32, headed)?;
+        headed = headed || has_live_header(catalogue.entries());
+    }
+    Ok(joined)
+}
+
+/// Adds the entries of an input, without its live headers where an earlier input has one.
+pub(crate) fn add_entries<'a>(
+    joined: &mut Vec<JoinedEntry<'a>>,
+    entries: &'a [Entry],
+    input: u32,
+    headed: bool,
+) -> Result<(), AllocError>
+    ensures { OnOk result (input_entries joined.new.items ≡ input_entries joined.old.items ++ map (in_input input) (kept_entries headed entries.now)) }
+{
+    for entry in entries {
+        if !(headed && is_live_header(entry)) {
+            joined.push(JoinedEntry { input, entry })?;
+        }
+    }
+    Ok(())
+}
+
+/// Whether an entry is a live header.
+fn has_live_header(entries: &[Entry]) -> bool
+    ensures { result ≡ list_any is_live_header entries.now }
+{
+    entries.iter().any(|entry| is_live_header(entry))
+}
+
+/// Whether the entry is a header that is not obsolete.
+fn is_live_header(entry: &Entry) -> bool
+    ensures { result ≡ is_live_header entry.now }
+{
+    entry.is_header() && !entry.obsolete()
+}
