@@ -1,2 +1,3 @@
 pub mod FaultText
 pub mod Run
+pub mod Profile

@@ -2,6 +2,8 @@
 #![tactic(auto)]
 
 mod fault_text;
+mod profile;
 mod run;
 
+pub use profile::CheckFault;
 pub use run::{Run, deliver};
