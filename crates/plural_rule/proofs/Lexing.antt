@@ -9,7 +9,7 @@ use Rattle.plural_rule.specs.declared.token.Token.TheVariants.{Count, Number, No
 use Rattle.plural_rule.specs.Tokens.{is_blank, is_digit, AllDigits, decimal_value, operator_bytes, IsSpelling, IsLongest, Lexes, end, blank, token}
 
 -- what is known of bytes that spell a token, by a function of the bytes
-abbrev first_byte : List ℕ → ℕ
+abbrev pub first_byte : List ℕ → ℕ
 first_byte [] = 32
 first_byte (c ∷ rest) = c
 
@@ -156,7 +156,7 @@ blank-first t [] rest text c spelt e b = false≢true (sym (spelling-not_blank t
 blank-first t (x ∷ own) rest text c spelt e b =
     let same : x ≡ c = cc in false≢true (sym (spelling-not_blank t (x ∷ own) spelt) ∙ ap is_blank same ∙ b)
 
-no-spelling_of-nothing : (t : Token) (own rest : List ℕ) → IsSpelling t own → own ++ rest ≡ [] → ⊥
+pub no-spelling_of-nothing : (t : Token) (own rest : List ℕ) → IsSpelling t own → own ++ rest ≡ [] → ⊥
 no-spelling_of-nothing t [] rest spelt e = false≢true (sym (spelling-not_blank t [] spelt))
 no-spelling_of-nothing t (x ∷ own) rest spelt e = cc
 

@@ -2,3 +2,8 @@ pub mod Complete
 pub mod Lexing
 pub mod Sound
 pub mod ParserSteps
+pub mod Numerals
+pub mod Scanning
+pub mod ParserRun
+pub mod Frames
+pub mod Subtrees

@@ -7,3 +7,4 @@ pub mod PostOrder
 pub mod ShiftReduce
 pub mod ParserState
 pub mod Scanner
+pub mod Evaluation

@@ -5,7 +5,7 @@ use Rattle.plural_rule.specs.declared.node.Node.TheVariants.{Not as NotNode, Bin
 use Rattle.plural_rule.specs.declared.parser.Pending.{Pending}
 use Rattle.plural_rule.specs.declared.parser.Pending.TheVariants.{Not as NotPending, Open as OpenPending, Binary as BinaryPending, Question as QuestionPending, Colon as ColonPending}
 use Rattle.plural_rule.specs.Expression.{Tree, nodes}
-use Rattle.plural_rule.specs.Grammar.{level}
+use Rattle.plural_rule.specs.Grammar.{level, Spelt}
 use Rattle.plural_rule.specs.PostOrder.{layout}
 use Rattle.plural_rule.specs.ShiftReduce.{Waiting, WaitNot, WaitOpen, WaitBinary, WaitQuestion, WaitColon, State, Want, Have}
 
@@ -68,3 +68,15 @@ abbrev pub Answers : Option State → Option Bool → List Node → List Pending
 Answers None answer table entries = answer ≡ None
 Answers (Some state) None table entries = ⊥
 Answers (Some state) (Some complete) table entries = Represents table entries complete state
+
+-- the table holds the tree that was read
+pub record HoldsTree (read : Option Tree) (table : List Node) : Type 0 where
+  pub tree : Tree
+  pub read_is : read ≡ Some tree
+  pub table_is : table ≡ layout 0 tree
+
+-- the table holds the tree that the text spells
+pub record HoldsExpression (text : List ℕ) (table : List Node) : Type 0 where
+  pub tree : Tree
+  pub spelt : Spelt tree text
+  pub table_is : table ≡ layout 0 tree

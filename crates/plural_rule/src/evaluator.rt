@@ -2,6 +2,12 @@
 //!
 //! What waits for an operand stands in a stack of fixed size, so the machine's stack doesn't grow with
 //! the expression.
+ghost use Rattle.std.specs.Prelude.{◌≡◌, ℕ, ◌+◌, ◌<◌, ◌≤◌, Some};
+ghost use Rattle.arrayvec.specs.ArrayVec.{array_vec_len};
+ghost use Rattle.plural_rule.specs.Expression.{Tree, nodes, value, visited};
+ghost use Rattle.plural_rule.specs.PostOrder.{layout, tree_of};
+ghost use Rattle.plural_rule.specs.Evaluation.{subtree, IsNodeOf, Outcome, outcome_of, finished, finished_step, remaining, remaining_step, AreFramesOf, IsStepOf};
+
 use crate::node::Node;
 use crate::operator::{Operator, truth};
 use crate::rule::LIMIT;
@@ -39,34 +45,83 @@ pub enum Step {
 }
 
 /// The value of the expression in `table` at `count`, or `None` where it is undefined, and how many nodes were visited.
-pub fn evaluate(table: &[Node], count: u64) -> (Option<u64>, u32) {
+pub fn evaluate(table: &[Node], count: u64) -> (Option<u64>, u32)
+    requires laid { table.now ≡ layout 0 (tree_of table.now) }
+    requires limit { nodes (tree_of table.now) ≤ LIMIT }
+    ensures value { result.0 ≡ value (tree_of table.now) count }
+    ensures steps { result.1 ≡ visited (tree_of table.now) count }
+    ensures bound { result.1 ≤ nodes (tree_of table.now) }
+{
     let mut frames = Frames::new();
     let mut place = table.len() - 1;
     let mut steps = 0;
-    loop {
+    'visits: loop {
         steps += 1;
-        match visit(table[place], count, &mut frames) {
+        match visit(table, place, count, &mut frames) {
             Step::Visit(next) => place = next as usize,
             Step::Stop(value) => return (value, steps),
         }
     }
 }
 
-/// Begins a node: a leaf has its value, and any other node waits for its first operand.
-fn visit(node: Node, count: u64, frames: &mut Frames) -> Step {
-    let (frame, first) = match node {
-        Node::Count => return resume(frames, count),
-        Node::Number(number) => return resume(frames, number),
-        Node::Not(operand) => (Frame::Not, operand),
-        Node::Binary(operator, left, right) => (Frame::First(operator, right), left),
-        Node::Conditional(condition, yes, no) => (Frame::Condition(yes, no), condition),
-    };
-    frames.push(frame);
-    Step::Visit(first)
+/// The node at an index.
+fn node_at(table: &[Node], place: usize) -> Node
+    requires laid { table.now ≡ layout 0 (tree_of table.now) }
+    requires limit { nodes (tree_of table.now) ≤ LIMIT }
+    requires place { place < nodes (tree_of table.now) }
+    ensures { IsNodeOf (tree_of table.now) (subtree (tree_of table.now) place) result }
+{
+    table[place]
+}
+
+/// Visits the node at an index: a leaf has its value, and any other node waits for its first operand.
+#[tactic(auto, using(crate::proofs::Frames::visits_not, crate::proofs::Frames::visits_binary, crate::proofs::Frames::visits_conditional, crate::proofs::Frames::remaining_more, crate::proofs::Frames::frames_more))]
+fn visit(table: &[Node], place: usize, count: u64, frames: &mut Frames) -> Step
+    requires laid { table.now ≡ layout 0 (tree_of table.now) }
+    requires limit { nodes (tree_of table.now) ≤ LIMIT }
+    requires place { place < nodes (tree_of table.now) }
+    requires room { array_vec_len frames.old < LIMIT }
+    requires frames { AreFramesOf (tree_of table.now) frames.old.items }
+    ensures outcome { (steps : ℕ) →
+        finished_step (tree_of table.now) count frames.new.items (steps + 1) result
+        ≡ finished (tree_of table.now) count frames.old.items (outcome_of (subtree (tree_of table.now) place) count steps) }
+    ensures remaining { remaining_step (tree_of table.now) result + remaining (tree_of table.now) frames.new.items + 1
+        ≤ nodes (subtree (tree_of table.now) place) + remaining (tree_of table.now) frames.old.items }
+    ensures step { IsStepOf (tree_of table.now) result }
+    ensures frames { AreFramesOf (tree_of table.now) frames.new.items }
+    ensures size { array_vec_len frames.new ≤ array_vec_len frames.old + 1 }
+{
+    match node_at(table, place) {
+        Node::Count => resume(frames, count),
+        Node::Number(number) => resume(frames, number),
+        Node::Not(operand) => {
+            frames.push(Frame::Not);
+            Step::Visit(operand)
+        }
+        Node::Binary(operator, left, right) => {
+            frames.push(Frame::First(operator, right));
+            Step::Visit(left)
+        }
+        Node::Conditional(condition, yes, no) => {
+            frames.push(Frame::Condition(yes, no));
+            Step::Visit(condition)
+        }
+    }
 }
 
 /// Hands a value to the nodes that wait for it, up to one that needs a further operand.
-fn resume(frames: &mut Frames, operand: u64) -> Step {
+#[tactic(auto, using(crate::proofs::Frames::finished_more, crate::proofs::Frames::remaining_more, crate::proofs::Frames::frames_more, crate::proofs::Frames::frames_split, crate::proofs::Frames::finished_undefined))]
+fn resume(frames: &mut Frames, operand: u64) -> Step
+    requires { array_vec_len frames.old ≤ LIMIT }
+    ensures outcome { (whole : Tree) (n steps : ℕ) →
+        finished_step whole n frames.new.items steps result
+        ≡ finished whole n frames.old.items (record { value = Some operand; steps = steps }) }
+    ensures remaining { (whole : Tree) →
+        remaining_step whole result + remaining whole frames.new.items ≤ remaining whole frames.old.items }
+    ensures step { (whole : Tree) → AreFramesOf whole frames.old.items → IsStepOf whole result }
+    ensures frames { (whole : Tree) → AreFramesOf whole frames.old.items → AreFramesOf whole frames.new.items }
+    ensures size { array_vec_len frames.new ≤ array_vec_len frames.old }
+{
     let mut value = operand;
     while let Some(frame) = frames.pop() {
         match frame {

@@ -1,33 +1,59 @@
 //! The tokens of an expression's text, and the numerals and blanks of a header text.
 ghost use Rattle.std.specs.Prelude.{◌≡◌, ◌^◌, ◌<◌, ◌≤◌, [], ◌∷◌, length, take_while, slice_index, MatchOption, SomeIff, true, false};
-ghost use Rattle.plural_rule.specs.Tokens.{is_digit, AllDigits, decimal_value, operator_bytes, IsSpelling};
+ghost use Rattle.std.specs.List.{prefix_len};
+ghost use Rattle.plural_rule.specs.Tokens.{is_blank, is_digit, AllDigits, decimal_value, operator_bytes, IsSpelling};
 ghost use Rattle.plural_rule.specs.Header.{without_blanks};
-ghost use Rattle.plural_rule.specs.Scanner.{IsTokenAt, HasNoToken};
+ghost use Rattle.plural_rule.specs.Scanner.{IsTokenAt, HasNoToken, BeginsWithDouble, HasNoDouble};
 
 use crate::operator::Operator;
 use crate::token::Token;
+
+/// Whether a byte is a space or a TAB.
+fn is_blank(byte: u8) -> bool
+    ensures { result ≡ is_blank byte }
+{
+    byte == b' ' || byte == b'\t'
+}
+
+/// How many blanks the text begins with.
+fn blanks(text: &[u8]) -> usize
+    ensures count { result ≡ prefix_len is_blank text.now }
+    ensures within { result ≤ length text.now }
+{
+    for (index, byte) in text.iter().enumerate() {
+        if !is_blank(*byte) {
+            return index;
+        }
+    }
+    text.len()
+}
+
+/// How many decimal digits the text begins with.
+fn digits(text: &[u8]) -> usize
+    ensures count { result ≡ prefix_len is_digit text.now }
+    ensures within { result ≤ length text.now }
+{
+    for (index, byte) in text.iter().enumerate() {
+        if !byte.is_ascii_digit() {
+            return index;
+        }
+    }
+    text.len()
+}
 
 /// The text without the spaces and TABs at its front.
 pub fn without_blanks(text: &[u8]) -> &[u8]
     ensures value { result.now ≡ without_blanks text.now }
     ensures shorter { length result.now ≤ length text.now }
 {
-    let blanks = text
-        .iter()
-        .take_while(|byte| **byte == b' ' || **byte == b'\t')
-        .count();
-    &text[blanks..]
+    &text[blanks(text)..]
 }
 
 /// The decimal digits at the front of the text.
 pub fn leading_digits(text: &[u8]) -> &[u8]
     ensures { result.now ≡ take_while is_digit text.now }
 {
-    let digits = text
-        .iter()
-        .take_while(|byte| b'0' <= **byte && **byte <= b'9')
-        .count();
-    &text[..digits]
+    &text[..digits(text)]
 }
 
 /// The number that decimal digits spell, or `None` where it is 2^64 or more.
@@ -48,19 +74,19 @@ pub fn decimal_value(digits: &[u8]) -> Option<u64>
     Some(value)
 }
 
-/// The token at the front of a text that begins with no blank, and how many bytes it has.
+/// The token at the front of a text, the longest that fits, and how many bytes it has.
+///
+/// There is none where no token begins the text, or only a numeral of 2^64 or more.
 pub fn token(text: &[u8]) -> Option<(Token, usize)>
     requires { 0 < length text.now }
     ensures { MatchOption result (HasNoToken text.now) (λ r. IsTokenAt text.now r.0 r.1) }
 {
     let first = text[0];
-    if b'0' <= first && first <= b'9' {
+    if first.is_ascii_digit() {
         return numeral(text);
     }
-    if text.len() > 1 {
-        if let Some(operator) = double(first, text[1]) {
-            return Some((Token::Binary(operator), 2));
-        }
+    if let Some(operator) = double_at(text) {
+        return Some((Token::Binary(operator), 2));
     }
     match single(first) {
         Some(token) => Some((token, 1)),
@@ -78,6 +104,17 @@ fn numeral(text: &[u8]) -> Option<(Token, usize)>
     match decimal_value(digits) {
         Some(value) => Some((Token::Number(value), digits.len())),
         None => None,
+    }
+}
+
+/// The operator that the first two bytes of a text spell.
+fn double_at(text: &[u8]) -> Option<Operator>
+    ensures { MatchOption result (HasNoDouble text.now) (λ op. BeginsWithDouble text.now op) }
+{
+    if text.len() > 1 {
+        double(text[0], text[1])
+    } else {
+        None
     }
 }
 

@@ -2,11 +2,12 @@
 //!
 //! What waits for an operand stands in a stack of fixed size, so the machine's stack doesn't grow with
 //! the expression. Each operand that is complete stands at the end of the table.
-ghost use Rattle.std.specs.Prelude.{◌≡◌, ◌+◌, ◌-◌, ◌<◌, ◌≤◌, List, Some, true};
+ghost use Rattle.std.specs.Prelude.{◌≡◌, ◌+◌, ◌-◌, ◌<◌, ◌≤◌, List, [], Some, None, true, length, MatchBool};
 ghost use Rattle.arrayvec.specs.ArrayVec.{array_vec_len};
 ghost use Rattle.plural_rule.specs.Expression.{Tree};
-ghost use Rattle.plural_rule.specs.ShiftReduce.{Waiting, reduce, want_step, have_step};
-ghost use Rattle.plural_rule.specs.ParserState.{IsWaiting, IsOperand, Answers, completed_node};
+ghost use Rattle.plural_rule.specs.ShiftReduce.{Waiting, State, reduce, want_step, have_step, step, finish};
+ghost use Rattle.plural_rule.specs.ParserState.{IsWaiting, IsOperand, Represents, Answers, HoldsTree, HoldsExpression, completed_node};
+ghost use Rattle.plural_rule.specs.Grammar.{Spelt};
 
 use crate::lexer;
 use crate::node::{Node, Table};
@@ -157,28 +158,56 @@ fn take_operator(table: &mut Table, stack: &mut Stack, token: Token) -> Option<b
     }
 }
 
+/// Reads a token: whether an operand is complete behind it, or `None` where the token can't stand here.
+fn take(table: &mut Table, stack: &mut Stack, complete: bool, token: Token) -> Option<bool>
+    requires some { complete ≡ true → 0 < array_vec_len table.old }
+    requires room { array_vec_len table.old + array_vec_len stack.old < LIMIT }
+    ensures step { (state : State) →
+        Represents table.old.items stack.old.items complete state →
+        Answers (step state token) result table.new.items stack.new.items }
+    ensures some { result ≡ Some true → 0 < array_vec_len table.new }
+    ensures size { array_vec_len table.new + array_vec_len stack.new ≤ array_vec_len table.old + array_vec_len stack.old + 1 }
+{
+    if complete {
+        take_operator(table, stack, token)
+    } else {
+        take_operand(table, stack, token)
+    }
+}
+
+/// Whether the tokens end with a whole expression, which then stands alone in the table.
+fn finish(table: &mut Table, stack: &mut Stack, complete: bool) -> bool
+    requires some { complete ≡ true → 0 < array_vec_len table.old }
+    requires room { array_vec_len table.old + array_vec_len stack.old ≤ LIMIT }
+    ensures { (state : State) →
+        Represents table.old.items stack.old.items complete state →
+        MatchBool result (HoldsTree (finish state) table.new.items) (finish state ≡ None) }
+{
+    if !complete {
+        return false;
+    }
+    reduce(table, stack, 0);
+    stack.is_empty()
+}
+
 /// Writes the expression that a text spells into the empty `table`, and tells whether it spells one.
-pub fn parse(text: &[u8], table: &mut Table) -> bool {
+pub fn parse(text: &[u8], table: &mut Table) -> bool
+    requires empty { table.old.items ≡ [] }
+    requires limit { length text.now ≤ LIMIT }
+    ensures { MatchBool result (HoldsExpression text.now table.new.items) ((tree : Tree) → Spelt tree text.now → ⊥) }
+{
     let mut stack = Stack::new();
-    let mut has_operand = false;
+    let mut complete = false;
     let mut rest = lexer::without_blanks(text);
     while !rest.is_empty() {
         let Some((token, len)) = lexer::token(rest) else {
             return false;
         };
-        let taken = if has_operand {
-            take_operator(table, &mut stack, token)
-        } else {
-            take_operand(table, &mut stack, token)
-        };
-        let Some(complete) = taken else {
+        let Some(taken) = take(table, &mut stack, complete, token) else {
             return false;
         };
-        has_operand = complete;
+        complete = taken;
         rest = lexer::without_blanks(&rest[len..]);
     }
-    if has_operand {
-        reduce(table, &mut stack, 0);
-    }
-    has_operand && stack.is_empty()
+    finish(table, &mut stack, complete)
 }

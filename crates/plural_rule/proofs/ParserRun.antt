@@ -1,0 +1,213 @@
+-- The parser between two tokens of a text.
+use Rattle.std.proofs.Common.{◌≡◌, ◌≢◌, ℕ, zero, suc, ◌+◌, ◌-◌, ◌^◌, ◌<◌, ◌≤◌, Bool, true, false, nat_lt, ◌==◌, MatchBool, length-append, ◌⊎◌, inl, inr, List, [], ◌∷◌, ◌++◌, length, take, drop, Option, Some, None, option_and_then, refl, sym, ap, ◌∙◌, arith, subst, append_assoc, append-nil, take-append-drop}
+use Rattle.std.specs.List.{prefix_len}
+use Rattle.std.proofs.lemmas.Bool.{false≢true, cases_Bool, ne_eqb}
+use Rattle.std.proofs.lemmas.Bool.Decides.{nat_tests}
+use Rattle.plural_rule.specs.declared.node.Node.{Node}
+use Rattle.plural_rule.specs.declared.parser.Pending.{Pending}
+use Rattle.plural_rule.specs.declared.token.Token.{Token}
+use Rattle.plural_rule.specs.declared.token.Token.TheVariants.{Count as CountToken, Number as NumberToken, Not as NotToken, Binary as BinaryToken, Question, Colon, Open, Close}
+use Rattle.plural_rule.specs.Expression.{Tree}
+use Rattle.plural_rule.specs.Tokens.{is_blank, IsSpelling, IsLongest, Lexes, end, blank, token}
+use Rattle.plural_rule.specs.Grammar.{Spelt, Spells}
+use Rattle.plural_rule.specs.Header.{without_blanks}
+use Rattle.plural_rule.specs.Scanner.{IsTokenAt, IsTooLarge, HasNoToken}
+use Rattle.plural_rule.specs.PostOrder.{layout}
+use Rattle.plural_rule.specs.ShiftReduce.{State, Want, Have, Operand, Waiting, step, want_step, have_step, run, reduce, alone, finish, outcome}
+use Rattle.plural_rule.specs.ParserState.{Represents, Answers, IsOperand, IsWaiting, HoldsTree, HoldsExpression, pendings}
+use Rattle.plural_rule.proofs.Complete.{complete}
+use Rattle.plural_rule.proofs.Sound.{sound}
+use Rattle.plural_rule.proofs.Lexing.{first_byte, Behind, Lexes-token, Lexes-blank, Lexes-nothing, spelling-not_blank, no-spelling_of-nothing}
+
+-- blanks at the front change nothing
+without_blanks-blank : (c : ℕ) (text : List ℕ) → is_blank c ≡ true → without_blanks (c ∷ text) ≡ without_blanks text
+without_blanks-blank c text b =
+    let n = prefix_len is_blank text in
+    let one : 1 + n ≡ suc n = omega arith in
+    rw b (ap (λ k. drop k (c ∷ text)) one)
+
+without_blanks-other : (c : ℕ) (text : List ℕ) → is_blank c ≡ false → without_blanks (c ∷ text) ≡ c ∷ text
+without_blanks-other c text b = rw b refl
+
+pub with-blanks : (text : List ℕ) (ts : List Token) → Lexes (without_blanks text) ts → Lexes text ts
+with-blanks [] ts d = d
+with-blanks (c ∷ text) ts d =
+    elim (cases_Bool (is_blank c)) [
+      inl b ↦ blank b (with-blanks text ts (subst (λ x. Lexes x ts) (without_blanks-blank c text b) d))
+      | inr b ↦ subst (λ x. Lexes x ts) (without_blanks-other c text b) d
+    ]
+
+pub no-blanks : (text : List ℕ) (ts : List Token) → Lexes text ts → Lexes (without_blanks text) ts
+no-blanks [] ts d = d
+no-blanks (c ∷ text) ts d =
+    elim (cases_Bool (is_blank c)) [
+      inl b ↦ subst (λ x. Lexes x ts) (sym (without_blanks-blank c text b)) (no-blanks text ts (Lexes-blank c text ts b d))
+      | inr b ↦ subst (λ x. Lexes x ts) (sym (without_blanks-other c text b)) d
+    ]
+
+abbrev BeginsWithNoBlank : List ℕ → Type 0
+BeginsWithNoBlank text = text ≢ [] → is_blank (first_byte text) ≡ false
+
+begins : (text : List ℕ) → BeginsWithNoBlank (without_blanks text)
+begins [] n = absurd (n refl)
+begins (c ∷ text) n =
+    elim (cases_Bool (is_blank c)) [
+      inl b ↦
+        let e = without_blanks-blank c text b in
+        ap (λ x. is_blank (first_byte x)) e ∙ begins text (λ h. n (e ∙ h))
+      | inr b ↦ ap (λ x. is_blank (first_byte x)) (without_blanks-other c text b) ∙ b
+    ]
+
+of-next : (xs ys : List Token) → ((s : State) → run s (xs ++ ys) ≡ option_and_then (λ next. run next ys) (run s xs)) → (next : Option State) → option_and_then (λ s. run s (xs ++ ys)) next ≡ option_and_then (λ s. run s ys) (option_and_then (λ s. run s xs) next)
+of-next xs ys go None = refl
+of-next xs ys go (Some s) = go s
+
+pub run-append : (xs ys : List Token) (state : State) → run state (xs ++ ys) ≡ option_and_then (λ next. run next ys) (run state xs)
+run-append [] ys state = refl
+run-append (x ∷ xs) ys state = of-next xs ys (λ s. run-append xs ys s) (step state x)
+
+-- the tokens of a text behind those read
+pub record Split (read : List Token) (rest : List ℕ) (ts : List Token) : Type 0 where
+  pub later : List Token
+  pub is : ts ≡ read ++ later
+  pub lexes : Lexes rest later
+
+-- the parser has read the text up to a rest
+pub record Reached (text rest : List ℕ) (table : List Node) (entries : List Pending) (complete : Bool) : Type 0 where
+  pub state : State
+  pub read : List Token
+  pub runs : run (Want []) read ≡ Some state
+  pub gives : (ts : List Token) → Lexes rest ts → Lexes text (read ++ ts)
+  pub only : (ts : List Token) → Lexes text ts → Split read rest ts
+  pub begins : rest ≢ [] → is_blank (first_byte rest) ≡ false
+  pub represents : Represents table entries complete state
+
+pub reached-start : (text : List ℕ) → Reached text (without_blanks text) [] [] false
+reached-start text =
+    record {
+      state = Want [];
+      read = [];
+      runs = refl;
+      gives = with-blanks text;
+      only = λ ts d. record { later = ts; is = refl; lexes = no-blanks text ts d };
+      begins = begins text;
+      represents = (refl, record { table_is = refl; entries_are = refl });
+    }
+
+-- the state behind one more token
+record Next (next : Option State) (table : List Node) (entries : List Pending) (complete : Bool) : Type 0 where
+  after : State
+  is : next ≡ Some after
+  represents : Represents table entries complete after
+
+next-some : (next : Option State) (table : List Node) (entries : List Pending) (complete : Bool) → Answers next (Some complete) table entries → Next next table entries complete
+next-some None table entries complete a = absurd cc
+next-some (Some s) table entries complete a = record { after = s; is = refl; represents = a }
+
+pub reached-token : (text rest : List ℕ) (t : Token) (n : ℕ) (before after : List Node) (entries entries' : List Pending) (complete complete' : Bool) → (r : Reached text rest before entries complete) → IsTokenAt rest t n → Answers (step r.state t) (Some complete') after entries' → Reached text (without_blanks (drop n rest)) after entries' complete'
+reached-token text rest t n before after entries entries' complete complete' r at answers =
+    let next = next-some (step r.state t) after entries' complete' answers in
+    let whole : take n rest ++ drop n rest ≡ rest = take-append-drop n rest in
+    record {
+      state = next.after;
+      read = r.read ++ t ∷ [];
+      runs = run-append r.read (t ∷ []) (Want []) ∙ ap (option_and_then (λ s. run s (t ∷ []))) r.runs ∙ ap (option_and_then (λ s. run s [])) next.is;
+      gives = λ ts d.
+          let own : Lexes rest (t ∷ ts) =
+              subst (λ x. Lexes x (t ∷ ts)) whole (token t (take n rest) at.spelling at.longest (with-blanks (drop n rest) ts d)) in
+          subst (Lexes text) (sym (append_assoc r.read (t ∷ []) ts)) (r.gives (t ∷ ts) own);
+      only = λ ts d.
+          let s = r.only ts d in
+          let b = Lexes-token t (take n rest) (drop n rest) s.later at.spelling at.longest (subst (λ x. Lexes x s.later) (sym whole) s.lexes) in
+          record {
+            later = b.later;
+            is = s.is ∙ ap (λ x. r.read ++ x) b.is ∙ sym (append_assoc r.read (t ∷ []) b.later);
+            lexes = no-blanks (drop n rest) b.later b.lexes;
+          };
+      begins = begins (drop n rest);
+      represents = next.represents;
+    }
+
+-- the first token of a text
+record First (rest : List ℕ) (ts : List Token) : Type 0 where
+  front : Token
+  own : List ℕ
+  behind : List ℕ
+  later : List Token
+  ts_is : ts ≡ front ∷ later
+  rest_is : rest ≡ own ++ behind
+  spelling : IsSpelling front own
+  longest : IsLongest own behind
+
+first : (rest text : List ℕ) (ts : List Token) → rest ≢ [] → is_blank (first_byte rest) ≡ false → text ≡ rest → Lexes text ts → First rest ts
+first rest text ts n b e end = absurd (n (sym e))
+first rest text ts n b e (blank {c} {text = text'} blank' d) =
+    absurd (false≢true (sym b ∙ ap (λ x. is_blank (first_byte x)) (sym e) ∙ blank'))
+first rest text ts n b e (token {rest = behind} {ts = later} t own spelt longest d) =
+    record { front = t; own = own; behind = behind; later = later; ts_is = refl; rest_is = sym e; spelling = spelt; longest = longest }
+
+-- a token that can't stand in a state
+refused : (read later : List Token) (t : Token) (state : State) (tree : Tree) → run (Want []) read ≡ Some state → step state t ≡ None → Spells 0 (read ++ t ∷ later) tree → ⊥
+refused read later t state tree runs none spells =
+    let stops : run (Want []) (read ++ t ∷ later) ≡ None =
+        run-append read (t ∷ later) (Want []) ∙ ap (option_and_then (λ s. run s (t ∷ later))) runs ∙ ap (option_and_then (λ s. run s later)) none in
+    let wrong : None ≡ Some tree = sym (ap (option_and_then finish) stops) ∙ complete (read ++ t ∷ later) tree spells in
+    cc
+
+too_large : (state : State) (t : Token) → IsTooLarge t → step state t ≡ None
+too_large (Want stack) CountToken h = absurd h
+too_large (Want stack) (NumberToken v) h = let e : nat_lt v (2 ^ 64) ≡ false = grind (arith, nat_tests) in rw e refl
+too_large (Want stack) NotToken h = absurd h
+too_large (Want stack) (BinaryToken op) h = absurd h
+too_large (Want stack) Question h = absurd h
+too_large (Want stack) Colon h = absurd h
+too_large (Want stack) Open h = absurd h
+too_large (Want stack) Close h = absurd h
+too_large (Have stack t) CountToken h = absurd h
+too_large (Have stack t) (NumberToken v) h = refl
+too_large (Have stack t) NotToken h = absurd h
+too_large (Have stack t) (BinaryToken op) h = absurd h
+too_large (Have stack t) Question h = absurd h
+too_large (Have stack t) Colon h = absurd h
+too_large (Have stack t) Open h = absurd h
+too_large (Have stack t) Close h = absurd h
+
+abbrev pub SpellsNothing : List ℕ → Type 0
+SpellsNothing text = (tree : Tree) → Spelt tree text → ⊥
+
+pub no-token : (text rest : List ℕ) (table : List Node) (entries : List Pending) (complete : Bool) → Reached text rest table entries complete → rest ≢ [] → HasNoToken rest → SpellsNothing text
+no-token text rest table entries complete r n none tree (ts, lexes, spells) =
+    let s = r.only ts lexes in
+    let f = first rest rest s.later n (r.begins n) refl s.lexes in
+    let large = none f.front f.own f.behind f.rest_is f.spelling f.longest in
+    refused r.read f.later f.front r.state tree r.runs (too_large r.state f.front large)
+    (subst (λ x. Spells 0 x tree) (s.is ∙ ap (λ x. r.read ++ x) f.ts_is) spells)
+
+stands-not : (next : Option State) (table : List Node) (entries : List Pending) → Answers next None table entries → next ≡ None
+stands-not None table entries a = refl
+stands-not (Some s) table entries a = absurd a
+
+pub no-place : (text rest : List ℕ) (t : Token) (n : ℕ) (before after : List Node) (entries entries' : List Pending) (complete : Bool) → (r : Reached text rest before entries complete) → IsTokenAt rest t n → Answers (step r.state t) None after entries' → SpellsNothing text
+no-place text rest t n before after entries entries' complete r at answers tree (ts, lexes, spells) =
+    let s = r.only ts lexes in
+    let whole : take n rest ++ drop n rest ≡ rest = take-append-drop n rest in
+    let b = Lexes-token t (take n rest) (drop n rest) s.later at.spelling at.longest (subst (λ x. Lexes x s.later) (sym whole) s.lexes) in
+    refused r.read b.later t r.state tree r.runs (stands-not (step r.state t) after entries' answers)
+    (subst (λ x. Spells 0 x tree) (s.is ∙ ap (λ x. r.read ++ x) b.is) spells)
+
+-- at the end of the text
+pub reached-end : (text : List ℕ) (before after : List Node) (entries : List Pending) (complete whole : Bool) → (r : Reached text [] before entries complete) → MatchBool whole (HoldsTree (finish r.state) after) (finish r.state ≡ None) → MatchBool whole (HoldsExpression text after) (SpellsNothing text)
+reached-end text before after entries complete true r h =
+    let read : outcome r.read ≡ Some h.tree = ap (option_and_then finish) r.runs ∙ h.read_is in
+    record {
+      tree = h.tree;
+      spelt = (r.read, subst (Lexes text) (append-nil r.read) (r.gives [] end), sound r.read h.tree read);
+      table_is = h.table_is;
+    }
+reached-end text before after entries complete' false r h =
+    λ tree (ts, lexes, spells).
+    let s = r.only ts lexes in
+    let all : ts ≡ r.read = s.is ∙ ap (λ x. r.read ++ x) (Lexes-nothing s.later s.lexes) ∙ append-nil r.read in
+    let wrong : None ≡ Some tree =
+        sym (ap outcome all ∙ ap (option_and_then finish) r.runs ∙ h) ∙ complete ts tree spells in
+    cc

@@ -1,0 +1,187 @@
+-- The token at the front of a text.
+use Rattle.std.proofs.Common.{◌≡◌, ◌≢◌, ℕ, zero, suc, ◌+◌, ◌-◌, ◌^◌, ◌<◌, ◌≤◌, Bool, true, false, ◌⊎◌, inl, inr, List, [], ◌∷◌, ◌++◌, length, take, drop, get_or, refl, sym, ap, ◌∙◌, arith, subst, take-append-drop, length-drop, drop-cons, append-nil}
+use Rattle.std.specs.Prelude.{take_while}
+use Rattle.std.specs.List.{prefix_len}
+use Rattle.std.proofs.lemmas.Bool.{false≢true, cases_Bool, cond-true, cond-false}
+use Rattle.std.proofs.lemmas.List.Sums.{prefix_len_stops, prefix_len-le-length, take_while-cons}
+use Rattle.std.proofs.lemmas.List.Folds.{length-prefix_len}
+use Rattle.plural_rule.specs.declared.operator.Operator.{Operator}
+use Rattle.plural_rule.specs.declared.operator.Operator.TheVariants.{Or, And, Equal, NotEqual, Less, Greater, AtMost, AtLeast, Add, Subtract, Multiply, Divide, Remainder}
+use Rattle.plural_rule.specs.declared.token.Token.{Token}
+use Rattle.plural_rule.specs.declared.token.Token.TheVariants.{Count, Number, Not, Binary, Question, Colon, Open, Close}
+use Rattle.plural_rule.specs.Tokens.{is_digit, AllDigits, decimal_value, operator_bytes, IsSpelling, IsLongest}
+use Rattle.plural_rule.specs.Scanner.{IsTokenAt, IsTooLarge, HasNoToken, BeginsWithDouble, HasNoDouble}
+use Rattle.plural_rule.proofs.Lexing.{one_front, first_byte, spelling-not_blank}
+
+-- two bytes or more that spell a token and begin with no digit are those of an operator
+pub record IsDouble (u : Token) (c d : ℕ) (more : List ℕ) : Type 0 where
+  pub operator : Operator
+  pub bytes : operator_bytes operator ≡ c ∷ d ∷ []
+  pub ends : more ≡ []
+
+double-operator : (op : Operator) (c d : ℕ) (more : List ℕ) → c ∷ d ∷ more ≡ operator_bytes op → IsDouble (Binary op) c d more
+double-operator Or c d more h = record { operator = Or; bytes = cc; ends = cc }
+double-operator And c d more h = record { operator = And; bytes = cc; ends = cc }
+double-operator Equal c d more h = record { operator = Equal; bytes = cc; ends = cc }
+double-operator NotEqual c d more h = record { operator = NotEqual; bytes = cc; ends = cc }
+double-operator Less c d more h = absurd cc
+double-operator Greater c d more h = absurd cc
+double-operator AtMost c d more h = record { operator = AtMost; bytes = cc; ends = cc }
+double-operator AtLeast c d more h = record { operator = AtLeast; bytes = cc; ends = cc }
+double-operator Add c d more h = absurd cc
+double-operator Subtract c d more h = absurd cc
+double-operator Multiply c d more h = absurd cc
+double-operator Divide c d more h = absurd cc
+double-operator Remainder c d more h = absurd cc
+
+pub double : (u : Token) (c d : ℕ) (more : List ℕ) → is_digit c ≡ false → IsSpelling u (c ∷ d ∷ more) → IsDouble u c d more
+double Count c d more n h = absurd cc
+double (Number v) c d more n h = absurd (false≢true (sym n ∙ h.1.0))
+double Not c d more n h = absurd cc
+double (Binary op) c d more n h = double-operator op c d more h
+double Question c d more n h = absurd cc
+double Colon c d more n h = absurd cc
+double Open c d more n h = absurd cc
+double Close c d more n h = absurd cc
+
+-- bytes that spell a token and begin with a digit are digits
+digits-operator : (op : Operator) (bytes : List ℕ) → is_digit (first_byte bytes) ≡ true → bytes ≡ operator_bytes op → ⊥
+digits-operator Or bytes d h = false≢true (sym (ap (λ xs. is_digit (first_byte xs)) h) ∙ d)
+digits-operator And bytes d h = false≢true (sym (ap (λ xs. is_digit (first_byte xs)) h) ∙ d)
+digits-operator Equal bytes d h = false≢true (sym (ap (λ xs. is_digit (first_byte xs)) h) ∙ d)
+digits-operator NotEqual bytes d h = false≢true (sym (ap (λ xs. is_digit (first_byte xs)) h) ∙ d)
+digits-operator Less bytes d h = false≢true (sym (ap (λ xs. is_digit (first_byte xs)) h) ∙ d)
+digits-operator Greater bytes d h = false≢true (sym (ap (λ xs. is_digit (first_byte xs)) h) ∙ d)
+digits-operator AtMost bytes d h = false≢true (sym (ap (λ xs. is_digit (first_byte xs)) h) ∙ d)
+digits-operator AtLeast bytes d h = false≢true (sym (ap (λ xs. is_digit (first_byte xs)) h) ∙ d)
+digits-operator Add bytes d h = false≢true (sym (ap (λ xs. is_digit (first_byte xs)) h) ∙ d)
+digits-operator Subtract bytes d h = false≢true (sym (ap (λ xs. is_digit (first_byte xs)) h) ∙ d)
+digits-operator Multiply bytes d h = false≢true (sym (ap (λ xs. is_digit (first_byte xs)) h) ∙ d)
+digits-operator Divide bytes d h = false≢true (sym (ap (λ xs. is_digit (first_byte xs)) h) ∙ d)
+digits-operator Remainder bytes d h = false≢true (sym (ap (λ xs. is_digit (first_byte xs)) h) ∙ d)
+
+digits-only : (u : Token) (bytes : List ℕ) → is_digit (first_byte bytes) ≡ true → IsSpelling u bytes → AllDigits bytes
+digits-only Count bytes d h = absurd (false≢true (sym (ap (λ xs. is_digit (first_byte xs)) h) ∙ d))
+digits-only (Number v) bytes d h = h.1
+digits-only Not bytes d h = absurd (false≢true (sym (ap (λ xs. is_digit (first_byte xs)) h) ∙ d))
+digits-only (Binary op) bytes d h = absurd (digits-operator op bytes d h)
+digits-only Question bytes d h = absurd (false≢true (sym (ap (λ xs. is_digit (first_byte xs)) h) ∙ d))
+digits-only Colon bytes d h = absurd (false≢true (sym (ap (λ xs. is_digit (first_byte xs)) h) ∙ d))
+digits-only Open bytes d h = absurd (false≢true (sym (ap (λ xs. is_digit (first_byte xs)) h) ∙ d))
+digits-only Close bytes d h = absurd (false≢true (sym (ap (λ xs. is_digit (first_byte xs)) h) ∙ d))
+
+-- the digits at the front of a text
+pub AllDigits-take_while : (text : List ℕ) → AllDigits (take_while is_digit text)
+AllDigits-take_while [] = tt
+AllDigits-take_while (c ∷ text) =
+    elim (cases_Bool (is_digit c)) [
+      inl e ↦
+        let cons : take_while is_digit (c ∷ text) ≡ c ∷ take_while is_digit text = take_while-cons is_digit c text ∙ cond-true (is_digit c) _ _ e in
+        subst AllDigits (sym cons) (e, AllDigits-take_while text)
+      | inr e ↦
+        let none : take_while is_digit (c ∷ text) ≡ [] = take_while-cons is_digit c text ∙ cond-false (is_digit c) _ _ e in
+        subst AllDigits (sym none) tt
+    ]
+
+AllDigits-append : (xs ys : List ℕ) → AllDigits (xs ++ ys) → AllDigits ys
+AllDigits-append [] ys h = h
+AllDigits-append (x ∷ xs) ys h = AllDigits-append xs ys h.1
+
+-- no digit follows them
+stops : (text more behind : List ℕ) → drop (prefix_len is_digit text) text ≡ more ++ behind → AllDigits more → more ≡ []
+stops text [] behind e a = refl
+stops text (m ∷ more) behind e a =
+    let k = prefix_len is_digit text in
+    let lengths : length text - k ≡ suc (length (more ++ behind)) = sym (length-drop k text) ∙ ap length e in
+    let within : k < length text = omega arith in
+    let front : drop k text ≡ get_or text k 0 ∷ drop (suc k) text = drop-cons text k 0 within in
+    let same : get_or text k 0 ≡ m = cc in
+    absurd (false≢true (sym (prefix_len_stops is_digit text 0 within) ∙ ap is_digit same ∙ a.0))
+
+-- the digits at the front of a text, where there are some, are the longest that spell a token
+pub record Numeral (text : List ℕ) : Type 0 where
+  pub some : take_while is_digit text ≢ []
+  pub longest : IsLongest (take_while is_digit text) (drop (prefix_len is_digit text) text)
+
+first-digit : (text : List ℕ) (more : List ℕ) → is_digit (first_byte text) ≡ true → is_digit (first_byte (take_while is_digit text ++ more)) ≡ true
+first-digit [] more d = absurd (false≢true d)
+first-digit (c ∷ text) more d =
+    let cons : take_while is_digit (c ∷ text) ≡ c ∷ take_while is_digit text = take_while-cons is_digit c text ∙ cond-true (is_digit c) _ _ d in
+    rw cons d
+
+pub first_byte-get : (text : List ℕ) → 0 < length text → first_byte text ≡ get_or text 0 0
+first_byte-get [] h = absurd (omega arith)
+first_byte-get (c ∷ text) h = refl
+
+pub numeral : (text : List ℕ) → is_digit (first_byte text) ≡ true → Numeral text
+numeral text d =
+    record {
+      some = λ e. false≢true (ap (λ xs. is_digit (first_byte (xs ++ []))) (sym e) ∙ first-digit text [] d);
+      longest = λ u more behind e n h.
+          n (stops text more behind e (AllDigits-append (take_while is_digit text) more (digits-only u (take_while is_digit text ++ more) (first-digit text more d) h)));
+    }
+
+-- the numeral at the front of a text
+pub numeral-token : (text : List ℕ) (v : ℕ) → is_digit (first_byte text) ≡ true → v ≡ decimal_value (take_while is_digit text) → IsTokenAt text (Number v) (length (take_while is_digit text))
+numeral-token text v d e =
+    let n = numeral text d in
+    let k : length (take_while is_digit text) ≡ prefix_len is_digit text = length-prefix_len is_digit text in
+    let some : 0 < length (take_while is_digit text) = nonempty (take_while is_digit text) n.some in
+    record {
+      some = some;
+      within = omega (arith, prefix_len-le-length is_digit text);
+      spelling = rw k (n.some, AllDigits-take_while text, sym e);
+      longest = rw k n.longest;
+    }
+  where
+    nonempty : (xs : List ℕ) → xs ≢ [] → 0 < length xs
+    nonempty [] h = absurd (h refl)
+    nonempty (x ∷ xs) h = omega arith
+
+-- a numeral at the front that doesn't fit 64 bits
+pub numeral-none : (text : List ℕ) → is_digit (first_byte text) ≡ true → 2 ^ 64 ≤ decimal_value (take_while is_digit text) → HasNoToken text
+numeral-none text d large t own rest e spelt longest =
+    let n = numeral text d in
+    let k = prefix_len is_digit text in
+    let same = one_front (Number (decimal_value (take_while is_digit text))) t (take_while is_digit text) (drop k text) own rest
+        (n.some, AllDigits-take_while text, refl) n.longest spelt longest (take-append-drop k text ∙ e) in
+    subst IsTooLarge same.same_token large
+
+pub double-token : (text : List ℕ) (op : Operator) → is_digit (get_or text 0 0) ≡ false → BeginsWithDouble text op → IsTokenAt text (Binary op) 2
+double-token [] op n h = absurd (omega arith)
+double-token (c ∷ []) op n h = absurd (omega arith)
+double-token (c ∷ d ∷ rest) op n h =
+    record {
+      some = omega arith;
+      within = omega arith;
+      spelling = sym h.bytes;
+      longest = λ u more behind e s spelt. s (double u c d more n spelt).ends;
+    }
+
+pub single-token : (text : List ℕ) (t : Token) → 0 < length text → is_digit (get_or text 0 0) ≡ false → IsSpelling t (get_or text 0 0 ∷ []) → HasNoDouble text → IsTokenAt text t 1
+single-token [] t l n h no_double = absurd (omega arith)
+single-token (c ∷ rest) t l n h no_double =
+    record { some = omega arith; within = omega arith; spelling = h; longest = λ u more behind e s spelt. longest rest more behind u no_double e s spelt }
+  where
+    longest : (rest more behind : List ℕ) (u : Token) → HasNoDouble (c ∷ rest) → rest ≡ more ++ behind → more ≢ [] → IsSpelling u (c ∷ more) → ⊥
+    longest rest [] behind u no_double e s spelt = s refl
+    longest [] (m ∷ more) behind u no_double e s spelt = cc
+    longest (d ∷ rest) (m ∷ more) behind u no_double e s spelt =
+        let same : m ≡ d = cc in
+        let two = double u c m more n spelt in
+        no_double two.operator (record { two = omega arith; bytes = two.bytes ∙ ap (λ x. c ∷ x ∷ []) same })
+
+pub single-none : (text : List ℕ) → 0 < length text → is_digit (get_or text 0 0) ≡ false → ((t : Token) → IsSpelling t (get_or text 0 0 ∷ []) → ⊥) → HasNoDouble text → HasNoToken text
+single-none [] l n none no_double t own rest e spelt longest = absurd (omega arith)
+single-none (c ∷ text) l n none no_double t own rest e spelt longest = absurd (no-front text own t no_double e spelt)
+  where
+    no-front : (text own : List ℕ) (t : Token) → HasNoDouble (c ∷ text) → c ∷ text ≡ own ++ rest → IsSpelling t own → ⊥
+    no-front text [] t no_double e spelt = false≢true (sym (spelling-not_blank t [] spelt))
+    no-front text (x ∷ []) t no_double e spelt =
+        let same : x ≡ c = cc in none t (subst (λ y. IsSpelling t (y ∷ [])) same spelt)
+    no-front [] (x ∷ y ∷ own) t no_double e spelt = cc
+    no-front (d ∷ text) (x ∷ y ∷ own) t no_double e spelt =
+        let same : x ≡ c = cc in
+        let same' : y ≡ d = cc in
+        let two = double t x y own (ap is_digit same ∙ n) spelt in
+        no_double two.operator (record { two = omega arith; bytes = two.bytes ∙ ap (λ z. z ∷ y ∷ []) same ∙ ap (λ z. c ∷ z ∷ []) same' })

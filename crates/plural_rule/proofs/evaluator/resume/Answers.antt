@@ -1,0 +1,74 @@
+use Rattle.std.proofs.Common.{◌≡◌, ℕ, ◌+◌, Some, refl, sym, ap, ◌∙◌, arith}
+use Rattle.plural_rule.specs.declared.evaluator.Frame.TheVariants.{Not as NotFrame, First, Second, Condition}
+use Rattle.plural_rule.specs.Expression.{Tree, settled, needs_right}
+use Rattle.plural_rule.specs.Evaluation.{Outcome, resumed}
+use Rattle.plural_rule.proofs.Frames.{finished_pop, frames_pop, frames_more, remaining_pop}
+use Rattle.plural_rule.proofs.evaluator.resume.Goals as goal
+
+pub loop-frame-preserved-in-Not : goal.loop-frame-preserved-in-Not
+loop-frame-preserved-in-Not c =
+    let split = c.in-Some.ensures.items in
+    record {
+      outcome = λ whole n steps.
+          finished_pop whole n c.loop-frame.frames.items c.pop.new.self.items c.in-Some.frame _ _ _ split (c.loop-frame.invariant.outcome whole n steps)
+          (rw (c.in-Not.is, c.truth-value.ensures) refl);
+      remaining = λ whole. omega (arith, c.loop-frame.invariant.remaining whole, remaining_pop whole _ _ _ split);
+      frames = λ whole h. (frames_pop whole _ _ _ _ split c.in-Not.is (c.loop-frame.invariant.frames whole h)).0;
+      size = omega (arith, c.in-Some.ensures.len, c.loop-frame.invariant.size);
+    }
+
+pub returns-then-needs_right-clause-step : goal.returns-then-needs_right-clause-step
+returns-then-needs_right-clause-step c whole h =
+    (frames_pop whole _ _ _ _ c.in-Some.ensures.items c.in-First.is (c.loop-frame.invariant.frames whole h)).1
+
+pub returns-then-needs_right-clause-frames : goal.returns-then-needs_right-clause-frames
+returns-then-needs_right-clause-frames c whole h =
+    rw c.push.ensures.items
+    (frames_more whole _ _ (frames_pop whole _ _ _ _ c.in-Some.ensures.items c.in-First.is (c.loop-frame.invariant.frames whole h)).0 tt)
+
+pub loop-frame-preserved-in-First : goal.loop-frame-preserved-in-First
+loop-frame-preserved-in-First c =
+    let split = c.in-Some.ensures.items in
+    let no_right = sym c.needs_right.ensures ∙ c.if-needs_right.false in
+    record {
+      outcome = λ whole n steps.
+          let none : steps + 0 ≡ steps = omega arith in
+          finished_pop whole n c.loop-frame.frames.items c.pop.new.self.items c.in-Some.frame _ _ _ split (c.loop-frame.invariant.outcome whole n steps)
+          (rw (c.in-First.is, no_right, c.settled-value.ensures, none) refl);
+      remaining = λ whole. omega (arith, c.loop-frame.invariant.remaining whole, remaining_pop whole _ _ _ split);
+      frames = λ whole h. (frames_pop whole _ _ _ _ split c.in-First.is (c.loop-frame.invariant.frames whole h)).0;
+      size = omega (arith, c.in-Some.ensures.len, c.loop-frame.invariant.size);
+    }
+
+pub loop-frame-preserved : goal.loop-frame-preserved
+loop-frame-preserved c =
+    let split = c.in-Some.ensures.items in
+    let value = sym c.combined.ensures ∙ c.in-Some-combined.is in
+    record {
+      outcome = λ whole n steps.
+          finished_pop whole n c.loop-frame.frames.items c.pop.new.self.items c.in-Some.frame _ _ _ split (c.loop-frame.invariant.outcome whole n steps)
+          (rw (c.in-Second.is, value) refl);
+      remaining = λ whole. omega (arith, c.loop-frame.invariant.remaining whole, remaining_pop whole _ _ _ split);
+      frames = λ whole h. (frames_pop whole _ _ _ _ split c.in-Second.is (c.loop-frame.invariant.frames whole h)).0;
+      size = omega (arith, c.in-Some.ensures.len, c.loop-frame.invariant.size);
+    }
+
+pub returns-in-None-clause-frames : goal.returns-in-None-clause-frames
+returns-in-None-clause-frames c whole h =
+    (frames_pop whole _ _ _ _ c.in-Some.ensures.items c.in-Second.is (c.loop-frame.invariant.frames whole h)).0
+
+pub returns-then-value-eq0-clause-step : goal.returns-then-value-eq0-clause-step
+returns-then-value-eq0-clause-step c whole h =
+    (frames_pop whole _ _ _ _ c.in-Some.ensures.items c.in-Condition.is (c.loop-frame.invariant.frames whole h)).1.1
+
+pub returns-then-value-eq0-clause-frames : goal.returns-then-value-eq0-clause-frames
+returns-then-value-eq0-clause-frames c whole h =
+    (frames_pop whole _ _ _ _ c.in-Some.ensures.items c.in-Condition.is (c.loop-frame.invariant.frames whole h)).0
+
+pub returns-else-value-eq0-clause-step : goal.returns-else-value-eq0-clause-step
+returns-else-value-eq0-clause-step c whole h =
+    (frames_pop whole _ _ _ _ c.in-Some.ensures.items c.in-Condition.is (c.loop-frame.invariant.frames whole h)).1.0
+
+pub returns-else-value-eq0-clause-frames : goal.returns-else-value-eq0-clause-frames
+returns-else-value-eq0-clause-frames c whole h =
+    (frames_pop whole _ _ _ _ c.in-Some.ensures.items c.in-Condition.is (c.loop-frame.invariant.frames whole h)).0

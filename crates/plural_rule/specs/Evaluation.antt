@@ -1,0 +1,99 @@
+-- Internal: an evaluation that is under way, with nodes that wait for an operand.
+use Rattle.std.specs.Prelude.{◌≡◌, ℕ, ◌+◌, ◌-◌, ◌<◌, List, [], ◌∷◌, Option, Some, None, nat_lt, if◌then◌else◌, option_and_then}
+use Rattle.plural_rule.specs.declared.operator.Operator.{Operator}
+use Rattle.plural_rule.specs.declared.node.Node.{Node}
+use Rattle.plural_rule.specs.declared.node.Node.TheVariants.{Count as CountNode, Number as NumberNode, Not as NotNode, Binary as BinaryNode, Conditional as ConditionalNode}
+use Rattle.plural_rule.specs.declared.evaluator.Frame.{Frame}
+use Rattle.plural_rule.specs.declared.evaluator.Frame.TheVariants.{Not as NotFrame, First, Second, Condition}
+use Rattle.plural_rule.specs.declared.evaluator.Step.{Step}
+use Rattle.plural_rule.specs.declared.evaluator.Step.TheVariants.{Visit, Stop}
+use Rattle.plural_rule.specs.Expression.{Tree, Count, Number, Not, Binary, Conditional, nodes, negated, binary_value, combined, chosen, value, visited, visited_right}
+
+-- the part of a tree whose node stands at an index of the tree's table
+abbrev pub subtree : Tree → ℕ → Tree
+subtree Count i = Count
+subtree (Number v) i = Number v
+subtree (Not a) i = if nat_lt i (nodes a) then subtree a i else Not a
+subtree (Binary op a b) i =
+    if nat_lt i (nodes a) then subtree a i
+    else if nat_lt i (nodes a + nodes b) then subtree b (i - nodes a) else Binary op a b
+subtree (Conditional a b c) i =
+    if nat_lt i (nodes a) then subtree a i
+    else if nat_lt i (nodes a + nodes b) then subtree b (i - nodes a)
+    else if nat_lt i (nodes a + nodes b + nodes c) then subtree c (i - nodes a - nodes b) else Conditional a b c
+
+-- the node is that of a part of the whole tree, and names the indices of its operands
+abbrev pub IsNodeOf : Tree → Tree → Node → Type 0
+IsNodeOf whole part CountNode = part ≡ Count
+IsNodeOf whole part (NumberNode v) = part ≡ Number v
+IsNodeOf whole part (NotNode i) = (i < nodes whole) × (part ≡ Not (subtree whole i))
+IsNodeOf whole part (BinaryNode op i j) =
+    (i < nodes whole) × (j < nodes whole) × (part ≡ Binary op (subtree whole i) (subtree whole j))
+IsNodeOf whole part (ConditionalNode i j k) =
+    (i < nodes whole) × (j < nodes whole) × (k < nodes whole)
+    × (part ≡ Conditional (subtree whole i) (subtree whole j) (subtree whole k))
+
+-- a value, and how many nodes were visited for it
+pub record Outcome : Type 0 where
+  pub value : Option ℕ
+  pub steps : ℕ
+
+-- the outcome of a tree, after some steps
+abbrev pub outcome_of : Tree → ℕ → ℕ → Outcome
+outcome_of tree n steps = record { value = value tree n; steps = steps + visited tree n }
+
+-- the outcome of a node that waits, from that of the operand that it waits for
+abbrev pub resumed : Tree → ℕ → Frame → Outcome → Outcome
+resumed whole n NotFrame o = record { value = negated o.value; steps = o.steps }
+resumed whole n (First op j) o =
+    record {
+      value = binary_value op o.value (value (subtree whole j) n);
+      steps = o.steps + visited_right op o.value (visited (subtree whole j) n);
+    }
+resumed whole n (Second op left) o = record { value = option_and_then (combined op left) o.value; steps = o.steps }
+resumed whole n (Condition j k) o =
+    record {
+      value = chosen o.value (value (subtree whole j) n) (value (subtree whole k) n) None;
+      steps = o.steps + chosen o.value (visited (subtree whole j) n) (visited (subtree whole k) n) 0;
+    }
+
+-- the outcome of the whole expression, from that of the operand for which the last node waits
+abbrev pub finished : Tree → ℕ → List Frame → Outcome → Outcome
+finished whole n [] o = o
+finished whole n (frame ∷ frames) o = resumed whole n frame (finished whole n frames o)
+
+-- the same from what is done next
+abbrev pub finished_step : Tree → ℕ → List Frame → ℕ → Step → Outcome
+finished_step whole n frames steps (Visit i) = finished whole n frames (outcome_of (subtree whole i) n steps)
+finished_step whole n frames steps (Stop v) = record { value = v; steps = steps }
+
+-- how many nodes may still be visited for what waits
+abbrev pub remaining_frame : Tree → Frame → ℕ
+remaining_frame whole NotFrame = 0
+remaining_frame whole (First op j) = nodes (subtree whole j)
+remaining_frame whole (Second op left) = 0
+remaining_frame whole (Condition j k) = nodes (subtree whole j) + nodes (subtree whole k)
+
+abbrev pub remaining : Tree → List Frame → ℕ
+remaining whole [] = 0
+remaining whole (frame ∷ frames) = remaining_frame whole frame + remaining whole frames
+
+-- the same for what is done next
+abbrev pub remaining_step : Tree → Step → ℕ
+remaining_step whole (Visit i) = nodes (subtree whole i)
+remaining_step whole (Stop v) = 0
+
+-- the indices that what waits names are those of nodes
+abbrev pub IsFrameOf : Tree → Frame → Type 0
+IsFrameOf whole NotFrame = Unit {0}
+IsFrameOf whole (First op j) = j < nodes whole
+IsFrameOf whole (Second op left) = Unit {0}
+IsFrameOf whole (Condition j k) = (j < nodes whole) × (k < nodes whole)
+
+abbrev pub AreFramesOf : Tree → List Frame → Type 0
+AreFramesOf whole [] = Unit {0}
+AreFramesOf whole (frame ∷ frames) = IsFrameOf whole frame × AreFramesOf whole frames
+
+abbrev pub IsStepOf : Tree → Step → Type 0
+IsStepOf whole (Visit i) = i < nodes whole
+IsStepOf whole (Stop v) = Unit {0}
