@@ -1,10 +1,10 @@
 -- The first catalogue of a chain that has a key.
-use Rattle.std.proofs.Common.{◌≡◌, ◌≢◌, ℕ, zero, suc, ◌+◌, ◌-◌, ◌*◌, ◌<◌, ◌≤◌, Bool, true, false, List, [], ◌∷◌, Option, None, Some, length, min, cond, take, drop, get_or, slice_get, refl, sym, ◌∙◌, ap, arith}
+use Rattle.std.proofs.Common.{◌≡◌, ℕ, suc, ◌+◌, ◌*◌, ◌<◌, ◌≤◌, Bool, true, false, List, [], ◌∷◌, Option, None, Some, length, min, cond, take, drop, get_or, slice_get, refl, sym, ◌∙◌, ap, arith}
 use Rattle.std.proofs.Math.Seq.{drop-cons}
 use Rattle.std.proofs.lemmas.List.Folds.{find_at}
 use Rattle.std.proofs.lemmas.Option.{slice_get-get_or, slice_get_past, slice_get_within}
 use Rattle.std.specs.List.{find, position_or_len}
-use Rattle.std.specs.Option.{is_some, option_map, option_map_or, option_and_then}
+use Rattle.std.specs.Option.{is_some, option_map, option_map_or}
 use Rattle.plural_rule.specs.Expression.{nodes}
 use Rattle.plural_rule.specs.PluralRule.{Meaning}
 use Rattle.mo_file.specs.Key.{query_key}
@@ -26,7 +26,7 @@ first-at : (test : Contents → Bool) (chain : List Contents) (place : ℕ) (con
     contents ≡ get_or chain place contents → test contents ≡ true → place ≡ position_or_len test chain
 first-at test chain place contents first inside is holds =
     let cut : drop place chain ≡ contents ∷ drop (suc place) chain =
-        drop-cons chain place contents inside ∙ ap (λ x. x ∷ drop (suc place) chain) (sym is) in
+    drop-cons chain place contents inside ∙ ap (λ x. x ∷ drop (suc place) chain) (sym is) in
     let none : position_or_len test (drop place chain) ≡ 0 = rw (cut, holds) refl in
     omega arith
 
@@ -68,8 +68,7 @@ pub chain-none : (chain : List Contents) (query : Query) → is_clean_key query.
     (find (translates query) chain ≡ None) × (asked chain query ≡ length chain)
 chain-none chain query clean none =
     let first : position_or_len (translates query) chain ≡ length chain =
-        same-position (translates query) (has_key (query_key query.context query.id)) (translates-clean query clean) chain ∙ none in
-    (
+    same-position (translates query) (has_key (query_key query.context query.id)) (translates-clean query clean) chain ∙ none in (
       find_at (translates query) chain ∙ ap (slice_get chain) first ∙ slice_get_past chain (length chain) (omega arith),
       omega (arith, asked-clean chain query clean),
     )
@@ -86,7 +85,7 @@ pub chain-found : (chain : List Contents) (query : Query) (place : ℕ) (content
     Answers chain query contents translation (place + 1)
 chain-found chain query place contents translation clean is =
     let first : position_or_len (translates query) chain ≡ place =
-        same-position (translates query) (has_key (query_key query.context query.id)) (translates-clean query clean) chain ∙ sym is.first in
+    same-position (translates query) (has_key (query_key query.context query.id)) (translates-clean query clean) chain ∙ sym is.first in
     let inside : place < length chain = slice_get_within chain place contents is.there in
     record {
       first = find_at (translates query) chain ∙ ap (slice_get chain) first ∙ is.there;
@@ -115,7 +114,7 @@ pub Answers-nodes : (chain : List Contents) (query : Query) (contents : Contents
     Answers chain query contents translation count → steps ≤ nodes contents.rule.tree → steps ≤ answering_nodes chain query
 Answers-nodes chain query contents translation count steps is le =
     let tree : answering_nodes chain query ≡ nodes contents.rule.tree =
-        ap (λ c. option_map_or (λ contents. nodes contents.rule.tree) c 0) is.first in
+    ap (λ c. option_map_or (λ contents. nodes contents.rule.tree) c 0) is.first in
     omega arith
 
 -- what is told where no catalogue answers

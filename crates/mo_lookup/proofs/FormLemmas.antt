@@ -1,5 +1,5 @@
 -- The forms of a translation, by its first NUL.
-use Rattle.std.proofs.Common.{◌≡◌, ℕ, zero, suc, ◌+◌, ◌-◌, ◌<◌, ◌≤◌, Bool, true, false, List, [], ◌∷◌, Option, None, Some, length, take, drop, slice_get, slice_index_or, refl, sym, ◌∙◌, ap, arith, length-drop}
+use Rattle.std.proofs.Common.{◌≡◌, ℕ, ◌+◌, ◌-◌, Bool, true, false, List, [], ◌∷◌, Some, length, take, drop, slice_get, refl, sym, ◌∙◌, ap, arith, length-drop}
 use Rattle.std.proofs.lemmas.List.{take_all}
 use Rattle.std.specs.List.{position_or_len}
 use Rattle.std.proofs.lemmas.List.Sums.{position_or_len_is}
@@ -21,7 +21,7 @@ pub forms-first : (text : List ℕ) (end : ℕ) → NoneBefore (Passes (is_byte 
 forms-first text end none here =
     let inside = none.high in
     let place : position_or_len is_nul text ≡ end =
-        position_or_len_is is_nul text end 0 (omega arith) (λ k lt. not_true _ (none.before k (omega arith) lt)) (λ _. here) in
+    position_or_len_is is_nul text end 0 (omega arith) (λ k lt. not_true _ (none.before k (omega arith) lt)) (λ _. here) in
     slice_split_first is_nul text 0 (omega arith) ∙ ap (λ n. take n text ∷ forms (drop (n + 1) text)) place
 
 -- a translation without NUL is its one form
@@ -35,7 +35,7 @@ pub forms-cut : (text : List ℕ) (end : ℕ) → NoneBefore (Passes (is_byte 0)
 forms-cut text end none here =
     let cut : forms text ≡ take end text ∷ forms (drop (end + 1) text) = forms-first text end none here in
     let behind : take (length text - (end + 1)) (drop (end + 1) text) ≡ drop (end + 1) text =
-        take_all (length text - (end + 1)) (drop (end + 1) text) (omega (arith, length-drop (end + 1) text)) in
+    take_all (length text - (end + 1)) (drop (end + 1) text) (omega (arith, length-drop (end + 1) text)) in
     rw behind (cut ∙ ap (λ f. f ∷ forms (drop (end + 1) text)) (sym (ap (λ fs. form_at fs 0) cut)))
 
 -- there is always a first form

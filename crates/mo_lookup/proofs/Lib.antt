@@ -5,3 +5,4 @@ pub mod FormLemmas
 pub mod QueryLemmas
 pub mod TranslationLemmas
 pub mod ChainLemmas
+pub mod LetterLemmas

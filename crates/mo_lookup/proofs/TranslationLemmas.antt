@@ -1,7 +1,7 @@
 -- The translation under a key, by the place of the key among rising keys.
-use Rattle.std.proofs.Common.{◌≡◌, ◌≢◌, ℕ, ◌+◌, ◌<◌, ◌≤◌, Bool, true, false, List, [], ◌∷◌, Option, None, Some, length, map, subst, get_or, slice_get, slice_index_or, refl, sym, ◌∙◌, ap, inl, inr, arith}
-use Rattle.std.specs.declared.cmp.Ordering.TheVariants.{Less, Equal, Greater}
-use Rattle.std.specs.List.{position_or_len, find}
+use Rattle.std.proofs.Common.{◌≡◌, ◌≢◌, ℕ, ◌<◌, true, false, List, [], ◌∷◌, Option, None, Some, length, subst, get_or, slice_get, sym, ◌∙◌, ap, inl, inr, arith}
+use Rattle.std.specs.declared.cmp.Ordering.TheVariants.{Less, Equal}
+use Rattle.std.specs.List.{position_or_len}
 use Rattle.std.specs.Option.{option_map, option_map_or, option_and_then}
 use Rattle.std.specs.Str.{bytes_eq}
 use Rattle.std.proofs.lemmas.List.{get_or-map, length-map}
@@ -52,12 +52,12 @@ pub under-found : (messages : List Message) (key : List ℕ) (i : ℕ) → AreRi
 under-found messages key i rising inside same =
     let short : i < length messages = omega (arith, length-map messages (λ m. key_of m.original)) in
     let before : (k : ℕ) → k < i → key_at (keys messages) k ≢ key =
-        λ k lt. rw (← same) (less_is_other _ _ (rising_between (keys messages) rising k i lt inside)) in
+    λ k lt. rw (← same) (less_is_other _ _ (rising_between (keys messages) rising k i lt inside)) in
     under-place messages key i
-        (
-            position_or_len_is (λ m. bytes_eq (key_of m.original) key) messages i no_message (omega arith)
-                (λ k lt. tested-other messages key k (omega arith) (before k lt)) (λ lt. tested-same messages key i lt same)
-        )
+    (
+    position_or_len_is (λ m. bytes_eq (key_of m.original) key) messages i no_message (omega arith)
+    (λ k lt. tested-other messages key k (omega arith) (before k lt)) (λ lt. tested-same messages key i lt same)
+    )
 
 -- where no key is the one, no translation stands under it
 pub under-none : (messages : List Message) (key : List ℕ) → ((i : ℕ) → i < length (keys messages) → key_at (keys messages) i ≢ key) →
@@ -65,10 +65,10 @@ pub under-none : (messages : List Message) (key : List ℕ) → ((i : ℕ) → i
 under-none messages key none =
     let same_length : length (keys messages) ≡ length messages = length-map messages (λ m. key_of m.original) in
     under-place messages key (length messages)
-        (
-            position_or_len_is (λ m. bytes_eq (key_of m.original) key) messages (length messages) no_message (omega arith)
-                (λ k lt. tested-other messages key k lt (none k (omega arith))) (λ lt. absurd (omega arith))
-        )
+    (
+    position_or_len_is (λ m. bytes_eq (key_of m.original) key) messages (length messages) no_message (omega arith)
+    (λ k lt. tested-other messages key k lt (none k (omega arith))) (λ lt. absurd (omega arith))
+    )
     ∙ slice_get_past (translations messages) (length messages) (omega (arith, length-map messages (λ m. m.translation)))
 
 -- what a search of the keys finds
@@ -85,12 +85,12 @@ not_below_empty (b ∷ bs) less = (cc)
 pub none-empty : (ks : List (List ℕ)) → AreRising ks → key_cmp (key_at ks 0) [] ≢ Equal → (i : ℕ) → i < length ks → key_at ks i ≢ []
 none-empty ks rising unequal i inside empty =
     elim (cases_lt 0 i) [
-      inl behind ↦
-        let P : List ℕ → Type 0 = λ k. key_cmp (key_at ks 0) k ≡ Less in
-        not_below_empty (key_at ks 0) (subst P empty (rising_between ks rising 0 i behind inside))
-    | inr first ↦
-        let at : 0 ≡ i = omega arith in
-        unequal (ap (λ k. key_cmp k []) (ap (key_at ks) at ∙ empty))
+      | inl behind ↦
+          let P : List ℕ → Type 0 = λ k. key_cmp (key_at ks 0) k ≡ Less in
+          not_below_empty (key_at ks 0) (subst P empty (rising_between ks rising 0 i behind inside))
+      | inr first ↦
+          let at : 0 ≡ i = omega arith in
+          unequal (ap (λ k. key_cmp k []) (ap (key_at ks) at ∙ empty))
     ]
 
 -- the header text, where the first key is empty
@@ -99,7 +99,7 @@ pub header-first : (messages : List Message) (translation : List ℕ) → AreRis
     header_text messages ≡ form_at (forms translation) 0
 header-first messages translation rising some equal first =
     ap (λ t. option_map_or (λ t. form_at (forms t) 0) t [])
-        (under-found messages [] 0 rising some (equal_is_same (key_at (keys messages) 0) [] equal) ∙ first)
+    (under-found messages [] 0 rising some (equal_is_same (key_at (keys messages) 0) [] equal) ∙ first)
 
 -- the header text, where no key is empty
 pub header-none : (messages : List Message) → ((i : ℕ) → i < length (keys messages) → key_at (keys messages) i ≢ []) → header_text messages ≡ []

@@ -1,5 +1,5 @@
 -- What the messages of an MO file answer (GNU gettext manual, "The Format of GNU MO Files" and "Plural forms").
-use Rattle.std.specs.Prelude.{ℕ, Bool, List, [], Option, None, option_map, if◌then◌else◌}
+use Rattle.std.specs.Prelude.{ℕ, List, [], Option, None, option_map, if◌then◌else◌}
 use Rattle.std.specs.List.{find, slice_split}
 use Rattle.std.specs.Option.{option_map_or}
 use Rattle.std.specs.Str.{bytes_eq}

@@ -4,3 +4,6 @@ pub mod Query
 pub mod Answer
 pub mod Contents
 pub mod Chain
+pub mod Laws
+pub use Rattle.plural_rule.specs.Expression
+pub use Rattle.plural_rule.specs.PluralRule

@@ -1,6 +1,6 @@
 //! A catalogue: an MO file of any origin, and the plural rule of its header.
 
-ghost use Rattle.std.specs.Prelude.{◌≡◌, ℕ, ◌+◌, ◌-◌, ◌^◌, ◌<◌, ◌≤◌, List, length, min, map, option_map, MatchResult, IsOk, IfOk, false, if◌then◌else◌};
+ghost use Rattle.std.specs.Prelude.{◌≡◌, ◌+◌, ◌^◌, ◌<◌, ◌≤◌, List, length, min, MatchResult, IsOk, IfOk, false};
 ghost use Rattle.std.specs.Option.{option_copied};
 ghost use Rattle.plural_rule.specs.Expression.{nodes};
 ghost use Rattle.plural_rule.specs.PluralRule.{IsRuleOf};
@@ -68,24 +68,23 @@ impl<'a> Catalog<'a> {
     /// Opens the bytes of an MO file in either byte order. They are checked whole, and refused with the first fault
     /// in the order of `MoError` exactly where they are no valid file. The meter rises by at most the number of
     /// messages; where a key is out of order, by at most the place of the message that is told; else where the
-    /// bytes are refused, not at all.
+    /// bytes are refused, not at all. Before the call its count is below 2^63.
     pub fn open(bytes: &'a [u8], meter: &mut Meter) -> Result<Catalog<'a>, MoError>
         requires { meter.old < 2 ^ 63 }
-        ensures exact {
-            MatchResult result (λ catalog. (order : Order) × IsCatalog order bytes.now catalog.messages)
-                (IsFirstFault bytes.now)
-        }
+        ensures exact { MatchResult result (λ catalog. (order : Order) × IsCatalog order bytes.now catalog.messages)
+            (IsFirstFault bytes.now) }
         ensures only { (order : Order) (messages : List Message) → IsCatalog order bytes.now messages → IsOk result }
         ensures contents { IfOk result (λ catalog. AreContents catalog.messages catalog.rule) }
-        ensures cost {
-            MatchResult result (λ catalog. meter.new ≤ meter.old + length catalog.messages)
-                (λ fault. meter.new ≤ meter.old + looks_before fault)
-        }
+        ensures cost { MatchResult result (λ catalog. meter.new ≤ meter.old + length catalog.messages)
+            (λ fault. meter.new ≤ meter.old + looks_before fault) }
         ensures rises { meter.old ≤ meter.new }
     {
         let view = MoView::open(bytes, meter)?;
         let header = header_text(&view, meter);
-        Ok(Catalog { rule: Rule::parse(header), view })
+        Ok(Catalog {
+            rule: Rule::parse(header),
+            view,
+        })
     }
 
     /// How many messages the file has, its header entry among them.
@@ -107,7 +106,8 @@ impl<'a> Catalog<'a> {
     /// selects the plural form; the given plural isn't compared with the catalogue's.
     ///
     /// A message that isn't there is answered by the msgid, or by the plural for a count that isn't 1, and so is
-    /// without a comparison a context or a msgid that holds a byte 0 or 4. The meter counts the comparisons.
+    /// without a comparison a context or a msgid that holds a byte 0 or 4. The meter counts the comparisons; before
+    /// the call its count is below 2^63.
     pub fn look(
         &self,
         context: Option<&[u8]>,
@@ -123,7 +123,11 @@ impl<'a> Catalog<'a> {
         ensures nodes { result.steps ≤ nodes self.now.rule.tree }
     {
         let before = meter.count();
-        let translation = if is_clean_key(context, id) { self.translation(context, id, meter) } else { None };
+        let translation = if is_clean_key(context, id) {
+            self.translation(context, id, meter)
+        } else {
+            None
+        };
         let comparisons = (meter.count() - before) as u32;
         let (text, steps) = match translation {
             Some(translation) => self.form(translation, plural),
@@ -138,24 +142,32 @@ impl<'a> Catalog<'a> {
     }
 
     /// The translation under the key of a context and a msgid, which the search finds or not.
-    pub(crate) fn translation(&self, context: Option<&[u8]>, id: &[u8], meter: &mut Meter) -> Option<&'a [u8]>
+    pub(crate) fn translation(
+        &self,
+        context: Option<&[u8]>,
+        id: &[u8],
+        meter: &mut Meter,
+    ) -> Option<&'a [u8]>
         requires { meter.old < 2 ^ 63 }
-        ensures found {
-            option_copied result ≡ translation_under (query_key (option_copied context.entry) id.now) self.now.messages
-        }
+        ensures found { option_copied result ≡ translation_under (query_key (option_copied context.entry) id.now) self.now.messages }
         ensures rises { meter.old ≤ meter.new }
         ensures cost { meter.new ≤ meter.old + search_bound (length self.now.messages) }
         ensures small { meter.new ≤ meter.old + 32 }
     {
-        let mut keys = ViewKeys { view: &self.view, meter };
-        match find(&mut keys, context, id) {
-            Some(place) => Some(self.view.translation(place)),
-            None => None,
-        }
+        let mut keys = ViewKeys {
+            view: &self.view,
+            meter,
+        };
+        let place = find(&mut keys, context, id)?;
+        Some(self.view.translation(place))
     }
 
     /// The form of a translation, form 0 where no plural is asked for, and the nodes that were evaluated for it.
-    pub(crate) fn form(&self, translation: &'a [u8], plural: Option<(&[u8], u64)>) -> (&'a [u8], u32)
+    pub(crate) fn form(
+        &self,
+        translation: &'a [u8],
+        plural: Option<(&[u8], u64)>,
+    ) -> (&'a [u8], u32)
         ensures text { result.0.now ≡ (translated (forms translation.now) self.now.rule (given plural.entry)).text }
         ensures steps { result.1 ≡ (translated (forms translation.now) self.now.rule (given plural.entry)).steps }
         ensures nodes { result.1 ≤ nodes self.now.rule.tree }

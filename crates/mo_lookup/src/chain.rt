@@ -1,6 +1,6 @@
 //! A chain of catalogues, of which the first that has a message answers for it.
 
-ghost use Rattle.std.specs.Prelude.{◌≡◌, ◌+◌, ◌*◌, ◌^◌, ◌<◌, ◌≤◌, ℕ, List, Some, length, take, MatchOption};
+ghost use Rattle.std.specs.Prelude.{◌≡◌, ◌+◌, ◌^◌, ◌<◌, ◌≤◌, length, take, MatchOption};
 ghost use Rattle.std.specs.List.{position_or_len};
 ghost use Rattle.std.specs.Option.{option_copied};
 ghost use Rattle.mo_file.specs.Key.{query_key};
@@ -49,7 +49,7 @@ impl<'c, 'a> Model for Chain<'c, 'a> {
 }
 
 impl<'c, 'a> Chain<'c, 'a> {
-    /// The chain of these catalogues, in this order.
+    /// The chain of these catalogues, in this order: at most 4,294,967,295.
     pub fn new(members: &'c [Catalog<'a>]) -> Chain<'c, 'a>
         requires { length members.now < 2 ^ 32 }
         ensures { result ≡ members.now }
@@ -58,7 +58,8 @@ impl<'c, 'a> Chain<'c, 'a> {
     }
 
     /// Looks up a message as `Catalog::look` does, in one catalogue after the other up to the first that has it,
-    /// whose plural rule then selects the form. The meter counts the comparisons.
+    /// whose plural rule then selects the form. A context or a msgid that holds a byte 0 or 4 is asked of none. The
+    /// meter counts the comparisons; before the call its count is below 2^62.
     pub fn look(
         &self,
         context: Option<&[u8]>,
@@ -85,29 +86,28 @@ impl<'c, 'a> Chain<'c, 'a> {
         let before = meter.count();
         let first = first_with(self.members, context, id, meter);
         let comparisons = meter.count() - before;
-        match first {
-            Some(First { place, catalog, translation }) => {
-                let (text, steps) = catalog.form(translation, plural);
-                ChainAnswer {
-                    text,
-                    found: true,
-                    comparisons,
-                    steps,
-                    asked: place + 1,
-                }
-            }
-            None => ChainAnswer {
+        let Some(first) = first else {
+            return ChainAnswer {
                 text: untranslated_text(id, plural),
                 found: false,
                 comparisons,
                 steps: 0,
                 asked: self.members.len() as u32,
-            },
+            };
+        };
+        let (text, steps) = first.catalog.form(first.translation, plural);
+        ChainAnswer {
+            text,
+            found: true,
+            comparisons,
+            steps,
+            asked: first.place + 1,
         }
     }
 }
 
 /// The first catalogue that has a key, its place counted from 0, and its translation under the key.
+#[derive(Drop)]
 struct First<'c, 'a> {
     place: u32,
     catalog: &'c Catalog<'a>,
@@ -123,16 +123,12 @@ fn first_with<'c, 'a>(
 ) -> Option<First<'c, 'a>>
     requires few { length catalogs.now < 2 ^ 32 }
     requires room { meter.old < 2 ^ 62 }
-    ensures found {
-        let key = query_key (option_copied context.entry) id.now in
+    ensures found { let key = query_key (option_copied context.entry) id.now in
         MatchOption result (position_or_len (has_key key) catalogs.now ≡ length catalogs.now)
-            (λ first. IsFirstWith key catalogs.now first.place first.catalog.now first.translation.now)
-    }
+        (λ first. IsFirstWith key catalogs.now first.place first.catalog.now first.translation.now) }
     ensures rises { meter.old ≤ meter.new }
-    ensures bound {
-        let first = position_or_len (has_key (query_key (option_copied context.entry) id.now)) catalogs.now in
-        meter.new ≤ meter.old + chain_bound (take (first + 1) catalogs.now)
-    }
+    ensures bound { let first = position_or_len (has_key (query_key (option_copied context.entry) id.now)) catalogs.now in
+        meter.new ≤ meter.old + chain_bound (take (first + 1) catalogs.now) }
 {
     for (place, catalog) in catalogs.iter().enumerate() {
         if let Some(translation) = catalog.translation(context, id, meter) {

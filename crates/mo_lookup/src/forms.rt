@@ -21,15 +21,11 @@ pub(crate) fn first_form(translation: &[u8]) -> &[u8]
 
 /// The forms of a translation behind its first, or None where it has one form alone.
 fn other_forms(translation: &[u8]) -> Option<&[u8]>
-    ensures {
-        MatchOption result (forms translation.now ≡ translation.now ∷ [])
-            (λ others. forms translation.now ≡ form_at (forms translation.now) 0 ∷ forms others.now)
-    }
+    ensures { MatchOption result (forms translation.now ≡ translation.now ∷ [])
+        (λ others. forms translation.now ≡ form_at (forms translation.now) 0 ∷ forms others.now) }
 {
-    match memchr(0, translation) {
-        Some(end) => Some(&translation[end + 1..]),
-        None => None,
-    }
+    let end = memchr(0, translation)?;
+    Some(&translation[end + 1..])
 }
 
 /// The form of a translation with this index, counted from 0, or None where it has fewer forms.

@@ -1,8 +1,5 @@
-use Rattle.std.proofs.Common.{◌≡◌, ◌+◌, ◌*◌, ◌≤◌, drop, take}
-use Rattle.std.specs.List.{position_or_len}
 use Rattle.std.specs.Option.{option_copied}
 use Rattle.mo_file.specs.Key.{query_key}
-use Rattle.mo_lookup.specs.Chain.{chain_bound, has_key}
 use Rattle.mo_lookup.proofs.ChainLemmas.{HaveNot}
 use Rattle.mo_lookup.proofs.chain.first_with.Given as goal
 

@@ -1,4 +1,4 @@
-use Rattle.std.proofs.Common.{◌≡◌, List, [], sym, ap}
+use Rattle.std.proofs.Common.{sym, ap}
 use Rattle.mo_lookup.specs.Answer.{form_at}
 use Rattle.mo_lookup.proofs.FormLemmas.{forms-first, forms-one}
 use Rattle.mo_lookup.proofs.forms.first_form.Goals as goal

@@ -1,4 +1,4 @@
-use Rattle.std.proofs.Common.{◌≡◌, ◌-◌, Some, sym, ◌∙◌, ap, arith}
+use Rattle.std.proofs.Common.{◌-◌, Some, sym, ◌∙◌, ap, arith}
 use Rattle.mo_lookup.proofs.FormLemmas.{form-zero}
 use Rattle.mo_lookup.proofs.forms.form.Goals as goal
 
