@@ -1,5 +1,6 @@
 -- Building: the length of a layout, and the keys of pairs.
-use Rattle.std.proofs.Common.{◌≡◌, ℕ, ◌+◌, ◌*◌, ◌-◌, ◌<◌, List, [], ◌∷◌, ◌++◌, length, get_or, map, refl, sym, ◌∙◌, ap, arith, length-append}
+use Rattle.std.proofs.Common.{◌≡◌, ℕ, ◌+◌, ◌*◌, ◌-◌, ◌<◌, List, [], ◌∷◌, ◌++◌, length, get_or, map, refl, sym}
+use Rattle.std.proofs.Common.{◌∙◌, ap, arith, length-append}
 use Rattle.std.specs.List.{slice_range, sum_by}
 use Rattle.std.proofs.lemmas.List.{length-map, length-drop, get_or-map, get_or-drop, take_rest}
 use Rattle.std.proofs.lemmas.List.Sums.{sum_by-cons}
@@ -30,39 +31,50 @@ length-magic Big = refl
 pub length-header : (order : Order) (count : ℕ) → length (header order count) ≡ 28
 length-header order count = simp (length-append, length-magic, length-word_bytes)
 
-pub length-table : (order : Order) (place : ℕ) (strings : List (List ℕ)) → length (table order place strings) ≡ 8 * length strings
+pub length-table : (order : Order) (place : ℕ) (strings : List (List ℕ)) →
+    length (table order place strings) ≡ 8 * length strings
 length-table order place [] = refl
 length-table order place (s ∷ ss) = simp (length-append, length-word_bytes, length-table order (place + length s + 1) ss) (omega arith)
 
 -- how long a layout is
-pub length-layout : (order : Order) (messages : List Message) → length (layout order messages) ≡ 28 + 16 * length messages + length (terminated (originals messages)) + length (terminated (translations messages))
+pub length-layout : (order : Order) (messages : List Message) →
+    length (layout order messages) ≡ 28 + 16 * length messages + length (terminated (originals messages)) + length (terminated (translations messages))
 length-layout order messages = simp (length-append, length-magic, length-word_bytes, length-table, length-map) (omega arith)
 
 pub originals-pairs : (pairs : List Pair) → originals (messages_of_pairs pairs) ≡ strings_of Original pairs
 originals-pairs [] = refl
 originals-pairs (p ∷ ps) = ap (λ ss. p.original.items ∷ ss) (originals-pairs ps)
 
-pub translations-pairs : (pairs : List Pair) → translations (messages_of_pairs pairs) ≡ strings_of Translation pairs
+pub translations-pairs : (pairs : List Pair) →
+    translations (messages_of_pairs pairs) ≡ strings_of Translation pairs
 translations-pairs [] = refl
 translations-pairs (p ∷ ps) = ap (λ ss. p.translation.items ∷ ss) (translations-pairs ps)
 
-pub keys-pairs : (pairs : List Pair) → keys (messages_of_pairs pairs) ≡ map (λ pair. key_of pair.original.items) pairs
+pub keys-pairs : (pairs : List Pair) →
+    keys (messages_of_pairs pairs) ≡ map (λ pair. key_of pair.original.items) pairs
 keys-pairs [] = refl
 keys-pairs (p ∷ ps) = ap (λ ks. key_of p.original.items ∷ ks) (keys-pairs ps)
 
 -- how long the layout of pairs is, by its parts
-pub length-layout-strings : (order : Order) (pairs : List Pair) → length (layout order (messages_of_pairs pairs)) ≡ 28 + 16 * length pairs + length (terminated (strings_of Original pairs)) + length (terminated (strings_of Translation pairs))
+pub length-layout-strings : (order : Order) (pairs : List Pair) →
+    length (layout order (messages_of_pairs pairs))
+    ≡ 28 + 16 * length pairs + length (terminated (strings_of Original pairs))
+    + length (terminated (strings_of Translation pairs))
 length-layout-strings order pairs =
     length-layout order (messages_of_pairs pairs) ∙ rw (originals-pairs pairs, translations-pairs pairs, length-map pairs message)
 
-sum_by-pair_len : (pairs : List Pair) → sum_by pair_len pairs ≡ 16 * length pairs + length (terminated (strings_of Original pairs)) + length (terminated (strings_of Translation pairs))
+sum_by-pair_len : (pairs : List Pair) →
+    sum_by pair_len pairs
+    ≡ 16 * length pairs + length (terminated (strings_of Original pairs))
+    + length (terminated (strings_of Translation pairs))
 sum_by-pair_len [] = refl
 sum_by-pair_len (p ∷ ps) =
     sum_by-cons pair_len p ps
     ∙ simp length-append (omega (arith, sum_by-pair_len ps))
 
 -- the same, pair by pair
-pub length-layout-pairs : (order : Order) (pairs : List Pair) → length (layout order (messages_of_pairs pairs)) ≡ 28 + sum_by pair_len pairs
+pub length-layout-pairs : (order : Order) (pairs : List Pair) →
+    length (layout order (messages_of_pairs pairs)) ≡ 28 + sum_by pair_len pairs
 length-layout-pairs order pairs = omega (arith, length-layout-strings order pairs, sum_by-pair_len pairs)
 
 -- the layout of pairs, by its parts
@@ -74,7 +86,8 @@ pub layout-pairs : (order : Order) (pairs : List Pair) →
 layout-pairs order pairs = rw (originals-pairs pairs, translations-pairs pairs, length-map pairs message)
 
 -- the key of a pair
-pub keys-pair : (pairs : List Pair) (i : ℕ) (pair : Pair) → i < length pairs → pair ≡ get_or pairs i pair → key_at (keys (messages_of_pairs pairs)) i ≡ key_of pair.original.items
+pub keys-pair : (pairs : List Pair) (i : ℕ) (pair : Pair) → i < length pairs → pair ≡ get_or pairs i pair →
+    key_at (keys (messages_of_pairs pairs)) i ≡ key_of pair.original.items
 keys-pair pairs i pair lt is =
     rw (keys-pairs pairs) (get_or-map (λ q. key_of q.original.items) pairs i pair [] lt)
     ∙ ap (λ (q : Pair). key_of q.original.items) (sym is)
@@ -83,7 +96,10 @@ pub length-keys : (pairs : List Pair) → length (keys (messages_of_pairs pairs)
 length-keys pairs = simp length-map
 
 -- the key of a pair behind the first
-pub keys-next : (pairs : List Pair) (i : ℕ) (pair : Pair) → i < length (slice_range pairs 1 (length pairs)) → pair ≡ get_or (slice_range pairs 1 (length pairs)) i pair → key_at (keys (messages_of_pairs pairs)) (i + 1) ≡ key_of pair.original.items
+pub keys-next : (pairs : List Pair) (i : ℕ) (pair : Pair) →
+    i < length (slice_range pairs 1 (length pairs)) →
+    pair ≡ get_or (slice_range pairs 1 (length pairs)) i pair →
+    key_at (keys (messages_of_pairs pairs)) (i + 1) ≡ key_of pair.original.items
 keys-next pairs i pair lt is =
     let inside = rw (take_rest pairs 1, length-drop 1 pairs) at lt in
     let after : 1 + i ≡ i + 1 = omega arith in

@@ -3,31 +3,36 @@ use Rattle.std.proofs.Common.{◌≡◌, ℕ, ◌+◌, ◌<◌, List, refl, ap, 
 use Rattle.mo_file.specs.declared.byte_order.Order.{Order}
 use Rattle.mo_file.specs.declared.byte_order.Order.TheVariants.{Little, Big}
 use Rattle.mo_file.specs.declared.fault.MoError.{MoError}
-use Rattle.mo_file.specs.declared.fault.MoError.TheVariants.{TooShort, BadMagic, BadRevision, TableOutside, StringOutside, NoTerminator, NotSorted}
+use Rattle.mo_file.specs.declared.fault.MoError.TheVariants.{TooShort, BadMagic, BadRevision, TableOutside}
+use Rattle.mo_file.specs.declared.fault.MoError.TheVariants.{StringOutside, NoTerminator, NotSorted}
 use Rattle.mo_file.specs.declared.header.Header.{Header}
 use Rattle.mo_file.specs.Header.{Shows}
 use Rattle.mo_file.specs.Fault.{HasFault, HasFaultIn, IsFirstFault, IsUnsorted}
 use Rattle.mo_file.specs.Checking.{HasStrings, IsHeader, IsSortedBelow}
 
 -- a file shows one byte order
-pub Shows-unique : (bytes : List ℕ) (order order' : Order) → Shows order bytes → Shows order' bytes → order' ≡ order
+pub Shows-unique : (bytes : List ℕ) (order order' : Order) → Shows order bytes → Shows order' bytes →
+    order' ≡ order
 Shows-unique bytes Little Little shows shows' = refl
 Shows-unique bytes Big Big shows shows' = refl
 Shows-unique bytes Little Big shows shows' = cc
 Shows-unique bytes Big Little shows shows' = cc
 
 -- faults behind the magic number are those in the order that it shows
-pub HasFaultIn-shown : (bytes : List ℕ) (order : Order) (f : MoError) → Shows order bytes → ((order' : Order) × Shows order' bytes × HasFaultIn order' bytes f) → HasFaultIn order bytes f
+pub HasFaultIn-shown : (bytes : List ℕ) (order : Order) (f : MoError) → Shows order bytes →
+    ((order' : Order) × Shows order' bytes × HasFaultIn order' bytes f) → HasFaultIn order bytes f
 HasFaultIn-shown bytes order f shows fault =
     let P : Order → Type 0 = λ o. HasFaultIn o bytes f in
     subst P (Shows-unique bytes order fault.0 shows fault.1) fault.2
 
 module _ (header : Header) (bytes : List ℕ) (read : IsHeader header bytes) (strings : HasStrings header.order bytes) where
-  shown : (f : MoError) → ((order' : Order) × Shows order' bytes × HasFaultIn order' bytes f) → HasFaultIn header.order bytes f
+  shown : (f : MoError) → ((order' : Order) × Shows order' bytes × HasFaultIn order' bytes f) →
+      HasFaultIn header.order bytes f
   shown f fault = HasFaultIn-shown bytes header.order f read.shows fault
 
   -- only keys are left to be faulty
-  only_keys : (f : MoError) → HasFault bytes f → (i : ℕ) × (f ≡ NotSorted (i + 1)) × (i + 1 < header.count) × IsUnsorted header.order bytes i
+  only_keys : (f : MoError) → HasFault bytes f →
+      (i : ℕ) × (f ≡ NotSorted (i + 1)) × (i + 1 < header.count) × IsUnsorted header.order bytes i
   only_keys TooShort has = absurd (omega (arith, read.long))
   only_keys BadMagic has = absurd (has header.order read.shows)
   only_keys BadRevision has = let fault = shown BadRevision has in absurd (omega (arith, read.known))
@@ -42,7 +47,8 @@ module _ (header : Header) (bytes : List ℕ) (read : IsHeader header bytes) (st
       (fault.0, ap NotSorted fault.1, inside, fault.3)
 
   -- the first key that isn't above the one before it is told
-  pub first_unsorted : (i : ℕ) → IsSortedBelow header.order bytes (i + 1) → i + 1 < header.count → IsUnsorted header.order bytes i → IsFirstFault bytes (NotSorted (i + 1))
+  pub first_unsorted : (i : ℕ) → IsSortedBelow header.order bytes (i + 1) → i + 1 < header.count →
+      IsUnsorted header.order bytes i → IsFirstFault bytes (NotSorted (i + 1))
   first_unsorted i sorted inside unsorted = record {
     holds = (header.order, read.shows, (i, refl, omega (arith, read.count), unsorted));
     first = λ f before has.

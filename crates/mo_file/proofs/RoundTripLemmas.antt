@@ -1,5 +1,6 @@
 -- What is laid out is a valid file.
-use Rattle.std.proofs.Common.{◌≡◌, ℕ, suc, ◌+◌, ◌*◌, ◌^◌, ◌<◌, List, [], ◌∷◌, ◌++◌, length, Some, refl, sym, ◌∙◌, ap, subst, arith, append_assoc, length-append, inl, inr}
+use Rattle.std.proofs.Common.{◌≡◌, ℕ, suc, ◌+◌, ◌*◌, ◌^◌, ◌<◌, List, [], ◌∷◌, ◌++◌, length, Some, refl, sym, ◌∙◌}
+use Rattle.std.proofs.Common.{ap, subst, arith, append_assoc, length-append, inl, inr}
 use Rattle.std.specs.List.{slice_get}
 use Rattle.std.specs.Option.{option_map}
 use Rattle.std.proofs.lemmas.List.{append-nil, length-map, take_at}
@@ -16,8 +17,8 @@ use Rattle.mo_file.specs.Checking.{HasStrings, IsHeader, IsSortedBelow}
 use Rattle.mo_file.specs.Laws.{LayoutIsCatalog}
 use Rattle.mo_file.proofs.BuildLemmas.{length-header, length-layout, length-magic, length-table, length-word_bytes}
 use Rattle.mo_file.proofs.FaultLemmas.{faultless}
-use Rattle.mo_file.proofs.LayoutLemmas.{IsString, IsString-laid, word_at-behind}
-use Rattle.mo_file.proofs.ViewLemmas.{keys-at, length-messages_of, messages_of-at}
+use Rattle.mo_file.proofs.LayoutLemmas.{IsString, IsString-laid, StandsAt, word_at-StandsAt}
+use Rattle.mo_file.proofs.ViewLemmas.{keys-at, length-keys-messages_of, length-messages_of, messages_of-at}
 
 -- two lists with the same message at each place
 same_at_each : (xs ys : List Message) → ((i : ℕ) → slice_get xs i ≡ slice_get ys i) → xs ≡ ys
@@ -36,85 +37,125 @@ module _ (order : Order) (messages : List Message) where
   abbrev count : ℕ
   count = length messages
 
-  -- both tables and all strings
-  abbrev body : List ℕ
-  body =
-      table order (originals_place messages) (originals messages)
-      ++ (table order (translations_place messages) (translations messages)
-      ++ (terminated (originals messages) ++ terminated (translations messages)))
+  -- the words of the header
+  abbrev revision_word : List ℕ
+  revision_word = word_bytes order 0
 
-  -- the words of the header behind the second
-  abbrev behind_count : List ℕ
-  behind_count =
-      word_bytes order 28
-      ++ (word_bytes order (28 + 8 * count) ++ (word_bytes order 0 ++ (word_bytes order (28 + 16 * count) ++ body)))
+  abbrev count_word : List ℕ
+  count_word = word_bytes order count
+
+  abbrev originals_word : List ℕ
+  originals_word = word_bytes order 28
+
+  abbrev translations_word : List ℕ
+  translations_word = word_bytes order (28 + 8 * count)
+
+  abbrev hash_words : List ℕ
+  hash_words = word_bytes order 0 ++ word_bytes order (28 + 16 * count)
+
+  -- the two tables, and the two rows of strings
+  abbrev original_entries : List ℕ
+  original_entries = table order (originals_place messages) (originals messages)
+
+  abbrev translation_entries : List ℕ
+  translation_entries = table order (translations_place messages) (translations messages)
+
+  abbrev original_strings : List ℕ
+  original_strings = terminated (originals messages)
+
+  abbrev translation_strings : List ℕ
+  translation_strings = terminated (translations messages)
+
+  abbrev body : List ℕ
+  body = original_entries ++ (translation_entries ++ (original_strings ++ translation_strings))
+
+  -- a part of the layout
+  stands : (front part rest : List ℕ) (place : ℕ) → bytes ≡ front ++ (part ++ rest) → length front ≡ place →
+      StandsAt bytes place part
+  stands front part rest place is behind = record { front = front; rest = rest; is = is; behind = behind }
 
   shows : Shows order bytes
   shows =
-      let split : bytes ≡ magic order ++ (word_bytes order 0 ++ (word_bytes order count ++ behind_count)) = simp append_assoc in
-      rw split (take_at (magic order) _ 4 (length-magic order))
+      let rest = revision_word ++ (count_word ++ (originals_word ++ (translations_word ++ (hash_words ++ body)))) in
+      let split : bytes ≡ magic order ++ rest = simp append_assoc in
+      rw split (take_at (magic order) rest 4 (length-magic order))
 
   revision_is : revision order bytes ≡ 0
   revision_is =
-      word_at-behind order bytes (magic order) (word_bytes order count ++ behind_count) 4 0 (simp append_assoc) (length-magic order) (omega arith)
+      let rest = count_word ++ (originals_word ++ (translations_word ++ (hash_words ++ body))) in
+      word_at-StandsAt order bytes 4 0
+      (stands (magic order) revision_word rest 4 (simp append_assoc) (length-magic order))
+      (omega arith)
 
   module _ (fits : length bytes < 2 ^ 32) where
-    small : 28 + 16 * count + length (terminated (originals messages)) + length (terminated (translations messages)) < 2 ^ 32
+    small : 28 + 16 * count + length original_strings + length translation_strings < 2 ^ 32
     small = rw (length-layout order messages) at fits
 
     count_is : message_count order bytes ≡ count
     count_is =
-        word_at-behind order bytes (magic order ++ word_bytes order 0) behind_count 8 count (simp append_assoc)
-        (simp (length-append, length-magic, length-word_bytes)) (omega (arith, small))
+        let front = magic order ++ revision_word in
+        let rest = originals_word ++ (translations_word ++ (hash_words ++ body)) in
+        word_at-StandsAt order bytes 8 count
+        (stands front count_word rest 8 (simp append_assoc) (simp (length-append, length-magic, length-word_bytes)))
+        (omega (arith, small))
 
     originals_table_is : originals_table order bytes ≡ 28
     originals_table_is =
-        word_at-behind order bytes (magic order ++ (word_bytes order 0 ++ word_bytes order count))
-        (word_bytes order (28 + 8 * count) ++ (word_bytes order 0 ++ (word_bytes order (28 + 16 * count) ++ body))) 12 28
-        (simp append_assoc) (simp (length-append, length-magic, length-word_bytes)) (omega arith)
+        let front = magic order ++ (revision_word ++ count_word) in
+        let rest = translations_word ++ (hash_words ++ body) in
+        word_at-StandsAt order bytes 12 28
+        (stands front originals_word rest 12 (simp append_assoc) (simp (length-append, length-magic, length-word_bytes)))
+        (omega arith)
 
     translations_table_is : translations_table order bytes ≡ 28 + 8 * count
     translations_table_is =
-        word_at-behind order bytes (magic order ++ (word_bytes order 0 ++ (word_bytes order count ++ word_bytes order 28)))
-        (word_bytes order 0 ++ (word_bytes order (28 + 16 * count) ++ body)) 16 (28 + 8 * count)
-        (simp append_assoc) (simp (length-append, length-magic, length-word_bytes)) (omega (arith, small))
-
-    original_laid : (i : ℕ) (s : List ℕ) → slice_get (originals messages) i ≡ Some s → IsString order bytes (originals_table order bytes) i s
-    original_laid =
-        let head = header order count in
-        let first = table order (originals_place messages) (originals messages) in
-        let second = table order (translations_place messages) (translations messages) in
-        let strings = terminated (originals messages) in
-        IsString-laid order bytes head (second ++ (strings ++ terminated (translations messages)))
-        (head ++ (first ++ second)) (terminated (translations messages))
-        (originals_table order bytes) (originals_place messages) (originals messages)
-        (simp append_assoc) (length-header order count ∙ sym originals_table_is)
-        (simp append_assoc) (simp (length-append, length-magic, length-word_bytes, length-table, length-map) (omega arith))
+        let front = magic order ++ (revision_word ++ (count_word ++ originals_word)) in
+        word_at-StandsAt order bytes 16 (28 + 8 * count)
+        (stands front translations_word (hash_words ++ body) 16 (simp append_assoc) (simp (length-append, length-magic, length-word_bytes)))
         (omega (arith, small))
 
-    translation_laid : (i : ℕ) (s : List ℕ) → slice_get (translations messages) i ≡ Some s → IsString order bytes (translations_table order bytes) i s
-    translation_laid =
-        let head = header order count in
-        let first = table order (originals_place messages) (originals messages) in
-        let second = table order (translations_place messages) (translations messages) in
-        let strings = terminated (originals messages) in
-        IsString-laid order bytes (head ++ first) (strings ++ terminated (translations messages))
-        (head ++ (first ++ (second ++ strings))) []
-        (translations_table order bytes) (translations_place messages) (translations messages)
-        (simp append_assoc) (simp (length-append, length-magic, length-word_bytes, length-table, length-map) (omega (arith, translations_table_is)))
-        (simp (append_assoc, append-nil)) (simp (length-append, length-magic, length-word_bytes, length-table, length-map) (omega arith))
-        (omega (arith, small))
+    -- where the tables and the strings stand
+    original_entries_stand : StandsAt bytes (originals_table order bytes) original_entries
+    original_entries_stand =
+        let front = header order count in
+        let rest = translation_entries ++ (original_strings ++ translation_strings) in
+        stands front original_entries rest (originals_table order bytes) (simp append_assoc) (length-header order count ∙ sym originals_table_is)
+
+    translation_entries_stand : StandsAt bytes (translations_table order bytes) translation_entries
+    translation_entries_stand =
+        let front = header order count ++ original_entries in
+        let rest = original_strings ++ translation_strings in
+        stands front translation_entries rest (translations_table order bytes) (simp append_assoc)
+        (simp (length-append, length-magic, length-word_bytes, length-table, length-map) (omega (arith, translations_table_is)))
+
+    original_strings_stand : StandsAt bytes (originals_place messages) original_strings
+    original_strings_stand =
+        let front = header order count ++ (original_entries ++ translation_entries) in
+        stands front original_strings translation_strings (originals_place messages) (simp append_assoc)
+        (simp (length-append, length-magic, length-word_bytes, length-table, length-map) (omega arith))
+
+    translation_strings_stand : StandsAt bytes (translations_place messages) translation_strings
+    translation_strings_stand =
+        let front = header order count ++ (original_entries ++ (translation_entries ++ original_strings)) in
+        stands front translation_strings [] (translations_place messages) (simp (append_assoc, append-nil))
+        (simp (length-append, length-magic, length-word_bytes, length-table, length-map) (omega arith))
 
     -- the strings of message i
-    original_here : (i : ℕ) (m : Message) → slice_get messages i ≡ Some m → IsString order bytes (originals_table order bytes) i m.original
+    original_here : (i : ℕ) (m : Message) → slice_get messages i ≡ Some m →
+        IsString order bytes (originals_table order bytes) i m.original
     original_here i m is =
         let original = λ (x : Message). x.original in
-        original_laid i m.original (slice_get-map original messages i ∙ ap (option_map original) is)
+        IsString-laid order bytes (originals_table order bytes) (originals_place messages) (originals messages) original_entries_stand
+        original_strings_stand (omega (arith, small)) i m.original
+        (slice_get-map original messages i ∙ ap (option_map original) is)
 
-    translation_here : (i : ℕ) (m : Message) → slice_get messages i ≡ Some m → IsString order bytes (translations_table order bytes) i m.translation
+    translation_here : (i : ℕ) (m : Message) → slice_get messages i ≡ Some m →
+        IsString order bytes (translations_table order bytes) i m.translation
     translation_here i m is =
         let translation = λ (x : Message). x.translation in
-        translation_laid i m.translation (slice_get-map translation messages i ∙ ap (option_map translation) is)
+        IsString-laid order bytes (translations_table order bytes) (translations_place messages) (translations messages) translation_entries_stand
+        translation_strings_stand (omega (arith, small)) i m.translation
+        (slice_get-map translation messages i ∙ ap (option_map translation) is)
 
     message_laid : (i : ℕ) (m : Message) → slice_get messages i ≡ Some m → message_at order bytes i ≡ m
     message_laid i m is = rw ((original_here i m is).string, (translation_here i m is).string)
@@ -149,7 +190,10 @@ module _ (order : Order) (messages : List Message) where
         }
 
     -- each message is laid out with both its strings
-    both_laid : (i : ℕ) → i < message_count order bytes → (m : Message) × (slice_get messages i ≡ Some m) × IsString order bytes (originals_table order bytes) i m.original × IsString order bytes (translations_table order bytes) i m.translation
+    both_laid : (i : ℕ) → i < message_count order bytes →
+        (m : Message) × (slice_get messages i ≡ Some m)
+        × IsString order bytes (originals_table order bytes) i m.original
+        × IsString order bytes (translations_table order bytes) i m.translation
     both_laid i lt =
         elim (slice_get_cases messages i).1 [
           | inl here ↦ (here.0, here.2, original_here i here.0 here.2, translation_here i here.0 here.2)
@@ -173,12 +217,14 @@ module _ (order : Order) (messages : List Message) where
         let P : List Message → Type 0 = λ ms. AreRising (keys ms) in
         let risen = subst P lists rising in
         let inside : i + 1 < message_count order bytes = omega (arith, count_is) in
-        let listed : i + 1 < length (keys (messages_of order bytes)) = omega (arith, length-map (messages_of order bytes) (λ m. key_of m.original), length-messages_of order bytes) in
+        let listed : i + 1 < length (keys (messages_of order bytes)) = omega (arith, length-keys-messages_of order bytes) in
         unsorted (rw (keys-at order bytes i (omega arith), keys-at order bytes (i + 1) inside) at (risen.next i listed))
 
 pub layout_is_catalog : LayoutIsCatalog
 layout_is_catalog order messages rising fits = record {
   shows = shows order messages;
-  faultless = faultless (read_header order messages fits) (bytes order messages) (header_read order messages fits) (strings_laid order messages fits) (sorted order messages fits rising);
+  faultless =
+      faultless (read_header order messages fits) (bytes order messages) (header_read order messages fits)
+      (strings_laid order messages fits) (sorted order messages fits rising);
   lists = lists order messages fits;
 }

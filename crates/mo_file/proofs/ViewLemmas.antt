@@ -25,7 +25,8 @@ module _ (order : Order) (bytes : List ℕ) where
   length-messages_of = length-map-range_with_len (message_at order bytes) 0 (message_count order bytes)
 
   -- message i is what the tables have at i
-  pub messages_of-at : (i : ℕ) → i < message_count order bytes → slice_get (messages_of order bytes) i ≡ Some (message_at order bytes i)
+  pub messages_of-at : (i : ℕ) → i < message_count order bytes →
+      slice_get (messages_of order bytes) i ≡ Some (message_at order bytes i)
   unfolding messages_of
   messages_of-at i lt =
       slice_get-get_or (messages_of order bytes) i (message_at order bytes i) (omega (arith, length-messages_of))
@@ -33,15 +34,21 @@ module _ (order : Order) (bytes : List ℕ) where
 
   module _ {A : Type 0} (f : Message → A) where
     -- what is read of each message, at a place
-    pub map-messages_of-at : (i : ℕ) → i < message_count order bytes → slice_get (map f (messages_of order bytes)) i ≡ Some (f (message_at order bytes i))
+    pub map-messages_of-at : (i : ℕ) → i < message_count order bytes →
+        slice_get (map f (messages_of order bytes)) i ≡ Some (f (message_at order bytes i))
     map-messages_of-at i lt = slice_get-map f (messages_of order bytes) i ∙ ap (option_map f) (messages_of-at i lt)
 
-  pub keys-at : (i : ℕ) → i < message_count order bytes → key_at (keys (messages_of order bytes)) i ≡ key_of (original_at order bytes i)
+  pub keys-at : (i : ℕ) → i < message_count order bytes →
+      key_at (keys (messages_of order bytes)) i ≡ key_of (original_at order bytes i)
   keys-at i lt = get_or_from_slice_get (keys (messages_of order bytes)) i _ [] (map-messages_of-at (λ m. key_of m.original) i lt)
 
-  pub AreRising-messages_of : IsSortedBelow order bytes (message_count order bytes) → AreRising (keys (messages_of order bytes))
+  pub length-keys-messages_of : length (keys (messages_of order bytes)) ≡ message_count order bytes
+  length-keys-messages_of = length-map (messages_of order bytes) (λ m. key_of m.original) ∙ length-messages_of
+
+  pub AreRising-messages_of : IsSortedBelow order bytes (message_count order bytes) →
+      AreRising (keys (messages_of order bytes))
   AreRising-messages_of sorted = record {
     next = λ i lt.
-        let inside : i + 1 < message_count order bytes = omega (arith, length-map (messages_of order bytes) (λ m. key_of m.original), length-messages_of) in
+        let inside : i + 1 < message_count order bytes = omega (arith, length-keys-messages_of) in
         rw (keys-at i (omega arith), keys-at (i + 1) inside) (not_unequal _ (sorted i inside));
   }

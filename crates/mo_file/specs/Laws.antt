@@ -1,15 +1,15 @@
 -- Laws of the format.
-use Rattle.std.specs.Prelude.{◌≡◌, ℕ, ◌^◌, ◌<◌, List, length}
+use Rattle.std.specs.Prelude.{◌≡◌, ℕ, List}
 use Rattle.mo_file.specs.declared.byte_order.Order.{Order}
 use Rattle.mo_file.specs.Key.{keys, AreRising}
-use Rattle.mo_file.specs.Layout.{layout}
+use Rattle.mo_file.specs.Layout.{layout, LayoutFits}
 use Rattle.mo_file.specs.Catalog.{IsCatalog}
 use Rattle.mo_file.specs.Message.{Message}
 
 -- what is laid out in the order of its keys is a valid file with these very messages
 abbrev pub LayoutIsCatalog : Type 0
 LayoutIsCatalog =
-    (order : Order) (messages : List Message) → AreRising (keys messages) → length (layout order messages) < 2 ^ 32
+    (order : Order) (messages : List Message) → AreRising (keys messages) → LayoutFits order messages
     → IsCatalog order (layout order messages) messages
 
 -- a file is valid in one byte order at most, and holds one list of messages

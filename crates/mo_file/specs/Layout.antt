@@ -1,6 +1,6 @@
 -- How a list of messages is laid out as an MO file: the header, the two tables, all originals and all
 -- translations, without padding and without a hash table ("The Format of GNU MO Files").
-use Rattle.std.specs.Prelude.{ℕ, ◌+◌, ◌*◌, List, [], ◌∷◌, ◌++◌, length}
+use Rattle.std.specs.Prelude.{ℕ, ◌+◌, ◌*◌, ◌^◌, ◌<◌, List, [], ◌∷◌, ◌++◌, length}
 use Rattle.mo_file.specs.declared.byte_order.Order.{Order}
 use Rattle.mo_file.specs.Word.{word_bytes}
 use Rattle.mo_file.specs.Header.{magic}
@@ -16,11 +16,17 @@ abbrev pub table : Order → ℕ → List (List ℕ) → List ℕ
 table order at [] = []
 table order at (s ∷ ss) = (word_bytes order (length s) ++ word_bytes order at) ++ table order (at + length s + 1) ss
 
--- revision 0, the number of messages, the places of the tables, and a hash table of no entries
+-- revision 0, the number of messages, the places of the two tables, and a hash table of no entries
+-- where the strings begin
 abbrev pub header : Order → ℕ → List ℕ
 header order count =
-    magic order ++ word_bytes order 0 ++ word_bytes order count ++ word_bytes order 28 ++ word_bytes order (28 + 8 * count)
-    ++ word_bytes order 0 ++ word_bytes order (28 + 16 * count)
+    magic order
+    ++ word_bytes order 0
+    ++ word_bytes order count
+    ++ word_bytes order 28
+    ++ word_bytes order (28 + 8 * count)
+    ++ word_bytes order 0
+    ++ word_bytes order (28 + 16 * count)
 
 -- where the originals begin
 abbrev pub originals_place : List Message → ℕ
@@ -30,8 +36,15 @@ originals_place messages = 28 + 16 * length messages
 abbrev pub translations_place : List Message → ℕ
 translations_place messages = originals_place messages + length (terminated (originals messages))
 
+-- the whole file
 abbrev pub layout : Order → List Message → List ℕ
 layout order messages =
-    header order (length messages) ++ table order (originals_place messages) (originals messages)
-    ++ table order (translations_place messages) (translations messages) ++ terminated (originals messages)
+    header order (length messages)
+    ++ table order (originals_place messages) (originals messages)
+    ++ table order (translations_place messages) (translations messages)
+    ++ terminated (originals messages)
     ++ terminated (translations messages)
+
+-- 32 bits reach the end of the layout
+abbrev pub LayoutFits : Order → List Message → Type 0
+LayoutFits order messages = length (layout order messages) < 2 ^ 32

@@ -1,7 +1,7 @@
 ghost use Rattle.std.specs.Prelude.{◌≡◌, ◌-◌, ◌^◌, ◌<◌, length, min, IfErr, IfOk, OnOk};
-ghost use Rattle.mo_file.specs.Building.{Fits, IsBuildFault};
+ghost use Rattle.mo_file.specs.Building.{IsBuildFault};
 ghost use Rattle.mo_file.specs.Key.{AreRising, keys};
-ghost use Rattle.mo_file.specs.Layout.{layout};
+ghost use Rattle.mo_file.specs.Layout.{LayoutFits, layout};
 ghost use Rattle.mo_file.specs.Pairs.{messages_of_pairs};
 
 use crate::byte_order::Order;
@@ -44,7 +44,7 @@ impl From<AllocError> for BuildError {
 /// without a hash table ("The Format of GNU MO Files"). The words are written in the given byte order.
 pub fn build(alloc: Global, order: Order, pairs: &[Pair]) -> Result<Vec<u8>, BuildError>
     ensures layout { IfOk result (λ bytes. bytes.items ≡ layout order (messages_of_pairs pairs.now)) }
-    ensures fits { OnOk result (Fits order (messages_of_pairs pairs.now)) }
+    ensures fits { OnOk result (LayoutFits order (messages_of_pairs pairs.now)) }
     ensures rising { OnOk result (AreRising (keys (messages_of_pairs pairs.now))) }
     ensures fault { IfErr result (IsBuildFault order (messages_of_pairs pairs.now)) }
 {
@@ -58,9 +58,10 @@ pub fn build(alloc: Global, order: Order, pairs: &[Pair]) -> Result<Vec<u8>, Bui
     Ok(laid_out(alloc, order, pairs, len as u32)?)
 }
 
-/// The length of the file, or 2^64 - 1 where it is longer.
+/// The length of the file in either byte order, or 2^64 - 1 where it is longer.
 fn layout_len(pairs: &[Pair]) -> u64
-    ensures { (order : Order) → result ≡ min (length (layout order (messages_of_pairs pairs.now))) (2 ^ 64 - 1) }
+    ensures { (order : Order)
+        → result ≡ min (length (layout order (messages_of_pairs pairs.now))) (2 ^ 64 - 1) }
 {
     let mut len = u64::from(HEADER_LEN);
     for pair in pairs {
@@ -72,6 +73,7 @@ fn layout_len(pairs: &[Pair]) -> u64
     len
 }
 
+/// The file of pairs whose layout has this length.
 fn laid_out(alloc: Global, order: Order, pairs: &[Pair], len: u32) -> Result<Vec<u8>, AllocError>
     requires { len ≡ length (layout order (messages_of_pairs pairs.now)) }
     ensures { IfOk result (λ bytes. bytes.items ≡ layout order (messages_of_pairs pairs.now)) }

@@ -25,7 +25,9 @@ impl Order {
     /// The byte order that the magic number at the start of a file shows, or `None` where no magic
     /// number stands there.
     pub fn of_file(bytes: &[u8]) -> Option<Order>
-        ensures { MatchOption result ((order : Order) → ¬ Shows order bytes.now) (λ order. Shows order bytes.now) }
+        ensures { MatchOption result
+            ((order : Order) → ¬ Shows order bytes.now)
+            (λ order. Shows order bytes.now) }
     {
         if bytes.starts_with(&LITTLE_MAGIC) {
             Some(Order::Little)

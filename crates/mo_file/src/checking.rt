@@ -11,7 +11,9 @@ use std::cmp::Ordering;
 /// Sees that each string lies inside the file and that a NUL follows it.
 pub(crate) fn check_strings(header: Header, bytes: &[u8]) -> Result<(), MoError>
     requires { IsHeader header bytes.now }
-    ensures exact { MatchResult result (λ _. HasStrings header.order bytes.now) (IsFirstFault bytes.now) }
+    ensures exact { MatchResult result
+        (λ _. HasStrings header.order bytes.now)
+        (IsFirstFault bytes.now) }
     ensures no_look { IfErr result (λ e. looks_before e ≡ 0) }
 {
     let mut unterminated = None;
@@ -43,8 +45,12 @@ pub(crate) fn check_order(header: Header, bytes: &[u8], meter: &mut Meter) -> Re
     requires read { IsHeader header bytes.now }
     requires strings { HasStrings header.order bytes.now }
     requires room { meter.old < 2 ^ 63 }
-    ensures sorted { MatchResult result (λ _. IsSortedBelow header.order bytes.now header.count) (IsFirstFault bytes.now) }
-    ensures cost { MatchResult result (λ _. meter.new ≡ meter.old + (header.count - 1)) (λ e. meter.new ≡ meter.old + looks_before e) }
+    ensures sorted { MatchResult result
+        (λ _. IsSortedBelow header.order bytes.now header.count)
+        (IsFirstFault bytes.now) }
+    ensures cost { MatchResult result
+        (λ _. meter.new ≡ meter.old + (header.count - 1))
+        (λ e. meter.new ≡ meter.old + looks_before e) }
 {
     if header.count == 0 {
         return Ok(());

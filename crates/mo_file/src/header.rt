@@ -26,7 +26,9 @@ pub(crate) struct Header {
 impl Header {
     /// Reads the header and sees that both tables lie inside the file.
     pub(crate) fn read(bytes: &[u8]) -> Result<Header, MoError>
-        ensures exact { MatchResult result (λ header. IsHeader header bytes.now) (IsFirstFault bytes.now) }
+        ensures exact { MatchResult result
+            (λ header. IsHeader header bytes.now)
+            (IsFirstFault bytes.now) }
         ensures no_look { IfErr result (λ e. looks_before e ≡ 0) }
     {
         if bytes.len() < HEADER_LEN as usize {
@@ -35,7 +37,7 @@ impl Header {
         let Some(order) = Order::of_file(bytes) else {
             return Err(MoError::BadMagic);
         };
-        if word(order, bytes, 4) / 65536 > 1 {
+        if word(order, bytes, 4) >> 16 > 1 {
             return Err(MoError::BadRevision);
         }
         let count = word(order, bytes, 8);

@@ -49,11 +49,10 @@ fn opened(bytes: &[u8]) -> Result<u32, MoError> {
     Ok(MoView::open(bytes, &mut meter)?.len())
 }
 
-/// The file of one message with a word changed.
-fn with_word(at: usize, word: [u8; 4]) -> [u8; 48]
+/// A file with a word changed.
+fn with_word(mut bytes: [u8; 48], at: usize, word: [u8; 4]) -> [u8; 48]
     requires { at ≤ 44 }
 {
-    let mut bytes = ONE_MESSAGE;
     bytes[at..at + 4].copy_from_slice(&word);
     bytes
 }
@@ -138,27 +137,34 @@ fn tells_the_byte_order(rt: HostRuntime) {
 fn tells_damage(rt: HostRuntime) {
     assert_eq!(rt; opened(&ONE_MESSAGE), Ok(1));
     assert_eq!(rt;
-        opened(&with_word(0, [0xdf, 0x12, 0x04, 0x95])),
+        opened(&with_word(ONE_MESSAGE, 0, [0xdf, 0x12, 0x04, 0x95])),
         Err(MoError::BadMagic)
     );
     assert_eq!(rt;
-        opened(&with_word(4, [0, 0, 2, 0])),
+        opened(&with_word(ONE_MESSAGE, 4, [0, 0, 2, 0])),
         Err(MoError::BadRevision)
     );
-    assert_eq!(rt; opened(&with_word(4, [1, 0, 0, 0])), Ok(1));
-    assert_eq!(rt; opened(&with_word(4, [1, 0, 1, 0])), Ok(1));
-    assert_eq!(rt; opened(&with_word(8, [255; 4])), Err(MoError::TableOutside));
-    assert_eq!(rt; opened(&with_word(20, [3, 0, 0, 0])), Ok(1), "a hash table");
+    assert_eq!(rt; opened(&with_word(ONE_MESSAGE, 4, [1, 0, 0, 0])), Ok(1));
+    assert_eq!(rt; opened(&with_word(ONE_MESSAGE, 4, [1, 0, 1, 0])), Ok(1));
     assert_eq!(rt;
-        opened(&with_word(36, [2, 0, 0, 0])),
+        opened(&with_word(ONE_MESSAGE, 8, [255; 4])),
+        Err(MoError::TableOutside)
+    );
+    assert_eq!(rt;
+        opened(&with_word(ONE_MESSAGE, 20, [3, 0, 0, 0])),
+        Ok(1),
+        "a hash table"
+    );
+    assert_eq!(rt;
+        opened(&with_word(ONE_MESSAGE, 36, [2, 0, 0, 0])),
         Err(MoError::NoTerminator(0))
     );
     assert_eq!(rt;
-        opened(&with_word(36, [3, 0, 0, 0])),
+        opened(&with_word(ONE_MESSAGE, 36, [3, 0, 0, 0])),
         Err(MoError::StringOutside(0))
     );
     assert_eq!(rt;
-        opened(&with_word(36, [0, 0, 0, 0])),
+        opened(&with_word(ONE_MESSAGE, 36, [0, 0, 0, 0])),
         Err(MoError::NoTerminator(0))
     );
 }
@@ -166,14 +172,13 @@ fn tells_damage(rt: HostRuntime) {
 #[test]
 fn tells_places_near_the_largest_word(rt: HostRuntime) {
     assert_eq!(rt;
-        opened(&with_word(12, [255; 4])),
+        opened(&with_word(ONE_MESSAGE, 12, [255; 4])),
         Err(MoError::TableOutside)
     );
-    let mut long = with_word(28, [255; 4]);
-    long[32..36].copy_from_slice(&[1, 0, 0, 0]);
+    let long = with_word(with_word(ONE_MESSAGE, 28, [255; 4]), 32, [1, 0, 0, 0]);
     assert_eq!(rt; opened(&long), Err(MoError::StringOutside(0)));
     assert_eq!(rt;
-        opened(&with_word(40, [255; 4])),
+        opened(&with_word(ONE_MESSAGE, 40, [255; 4])),
         Err(MoError::StringOutside(0))
     );
 }
@@ -201,7 +206,10 @@ fn tells_keys_out_of_order(rt: HostRuntime) {
 
 #[test]
 fn accepts_strings_and_tables_that_overlap(rt: HostRuntime) {
-    for overlap in [with_word(40, [44, 0, 0, 0]), with_word(16, [28, 0, 0, 0])] {
+    for overlap in [
+        with_word(ONE_MESSAGE, 40, [44, 0, 0, 0]),
+        with_word(ONE_MESSAGE, 16, [28, 0, 0, 0]),
+    ] {
         let mut meter = Meter::new();
         let view = MoView::open(&overlap, &mut meter).expect(&rt, "a valid file");
         assert_eq!(rt; view.len(), 1);

@@ -37,17 +37,23 @@ impl<'a> Model for MoView<'a> {
 }
 
 impl<'a> MoView<'a> {
-    /// Checks bytes of any origin, of either byte order, and takes no memory. Strings may lie anywhere
-    /// in the file and may overlap; a hash table and all bytes that no string needs are ignored.
+    /// Checks bytes of any origin, in either byte order, and takes no memory. Strings and tables may
+    /// lie anywhere in the file and may overlap; a hash table and all other bytes are ignored.
     ///
-    /// One tick of the meter is one comparison of two neighbouring keys.
+    /// One tick of the meter is one comparison of two neighbouring keys: one less than there are
+    /// messages, `i` where [`MoError::NotSorted`] names message `i`, and none on another refusal.
     pub fn open(bytes: &'a [u8], meter: &mut Meter) -> Result<MoView<'a>, MoError>
         requires { meter.old < 2 ^ 63 }
-        ensures exact { MatchResult result (λ messages. (order : Order) × IsCatalog order bytes.now messages) (IsFirstFault bytes.now) }
+        ensures exact { MatchResult result
+            (λ messages. (order : Order) × IsCatalog order bytes.now messages)
+            (IsFirstFault bytes.now) }
 
-        // So a refused file has no order and no list for which it is valid.
-        ensures only { (order : Order) (messages : List Message) → IsCatalog order bytes.now messages → IsOk result }
-        ensures cost { MatchResult result (λ messages. meter.new ≡ meter.old + (length messages - 1)) (λ e. meter.new ≡ meter.old + looks_before e) }
+        // So a file that is refused is valid in no order and with no list of messages.
+        ensures only { (order : Order) (messages : List Message)
+            → IsCatalog order bytes.now messages → IsOk result }
+        ensures cost { MatchResult result
+            (λ messages. meter.new ≡ meter.old + (length messages - 1))
+            (λ e. meter.new ≡ meter.old + looks_before e) }
     {
         let header = Header::read(bytes)?;
         check_strings(header, bytes)?;
@@ -68,7 +74,8 @@ impl<'a> MoView<'a> {
     pub fn compare(&self, i: u32, context: Option<&[u8]>, id: &[u8], meter: &mut Meter) -> Ordering
         requires inside { i < length self.now }
         requires room { meter.old < 2 ^ 64 - 1 }
-        ensures order { result ≡ key_cmp (key_at (keys self.now) i) (query_key (option_copied context.entry) id.now) }
+        ensures order { result
+            ≡ key_cmp (key_at (keys self.now) i) (query_key (option_copied context.entry) id.now) }
         ensures cost { meter.new ≡ meter.old + 1 }
     {
         meter.add_one();

@@ -43,8 +43,10 @@ pub(crate) fn push_table(
     place: u32,
 ) -> Result<u32, AllocError>
     requires { place + length (terminated (strings_of part pairs.now)) < 2 ^ 32 }
-    ensures entries { OnOk result (out.new.items ≡ out.old.items ++ table order place (strings_of part pairs.now)) }
-    ensures place { IfOk result (λ end. end ≡ place + length (terminated (strings_of part pairs.now))) }
+    ensures entries { OnOk result
+        (out.new.items ≡ out.old.items ++ table order place (strings_of part pairs.now)) }
+    ensures place { IfOk result
+        (λ end. end ≡ place + length (terminated (strings_of part pairs.now))) }
 {
     let mut at = place;
     for pair in pairs {
