@@ -1,11 +1,9 @@
 -- The fields that an entry's comments and previous texts make (manual, "The Format of PO Files").
-use Rattle.std.specs.Prelude.{◌≡◌, ℕ, Bool, true, false, ◌||◌, ◌&&◌, ◌==◌, not, List, [], ◌∷◌, ◌++◌, Option, Some, None, map, filter, flat_map, fold, bytes_eq, codes, length, if◌then◌else◌}
+use Rattle.std.specs.Prelude.{ℕ, Bool, true, false, ◌||◌, ◌&&◌, ◌==◌, not, List, [], ◌∷◌, ◌++◌, Some, map, filter, flat_map, fold, bytes_eq, codes, length, if◌then◌else◌}
 use Rattle.std.specs.List.{slice_split, list_any}
 use Rattle.po_syntax.specs.declared.item.CommentKind.{CommentKind}
 use Rattle.po_syntax.specs.declared.item.CommentKind.TheVariants.{Translator, Extracted, Reference, Flags}
-use Rattle.po_syntax.specs.declared.item.Keyword.{Keyword}
-use Rattle.po_syntax.specs.declared.item.Keyword.TheVariants.{MsgCtxt, MsgId, MsgIdPlural}
-use Rattle.po_entry.specs.TextEntry.{TextPrevious}
+use Rattle.po_entry.specs.TextEntry.{TextPrevious, no_previous}
 use Rattle.po_syntax.specs.Token.{is_blank}
 use Rattle.po_entry.specs.Bytes.{trimmed}
 use Rattle.po_entry.specs.Head.{Note, PreviousText, rank}
@@ -39,9 +37,12 @@ is_not_empty text = not (length text == 0)
 abbrev pub words_of : List ℕ → List (List ℕ)
 words_of text = filter is_not_empty (slice_split is_blank text)
 
+abbrev pub is_comma : ℕ → Bool
+is_comma b = b == 44
+
 -- the words of a text, between commas and without blanks at their ends
 abbrev pub flag_words : List ℕ → List (List ℕ)
-flag_words text = filter is_not_empty (map trimmed (slice_split (λ b. b == 44) text))
+flag_words text = filter is_not_empty (map trimmed (slice_split is_comma text))
 
 abbrev pub comments_of : List Note → List (List ℕ)
 comments_of notes = texts_of Translator notes
@@ -69,16 +70,13 @@ with_flag flags word = if is_fuzzy_word word || list_any (bytes_eq word) flags t
 abbrev pub flags_of : List Note → List (List ℕ)
 flags_of notes = fold with_flag [] (flag_words_of notes)
 
--- whether two of the words of previous texts are the same
-abbrev pub same_word : Keyword → Keyword → Bool
-same_word a b = rank a == rank b
+-- the previous texts with one more, in its field
+abbrev pub with_previous : TextPrevious → PreviousText → TextPrevious
+with_previous fields previous =
+    if rank previous.keyword == 1 then record { context = Some previous.text; id = fields.id; plural = fields.plural }
+    else if rank previous.keyword == 2 then record { context = fields.context; id = Some previous.text; plural = fields.plural }
+    else record { context = fields.context; id = fields.id; plural = Some previous.text }
 
--- the previous text of a word, if it is there
-abbrev pub previous_text : Keyword → List PreviousText → Option (List ℕ)
-previous_text keyword [] = None
-previous_text keyword (previous ∷ others) =
-    if same_word keyword previous.keyword then Some previous.text else previous_text keyword others
-
+-- each previous text in its field
 abbrev pub previous_of : List PreviousText → TextPrevious
-previous_of previous =
-    record { context = previous_text MsgCtxt previous; id = previous_text MsgId previous; plural = previous_text MsgIdPlural previous }
+previous_of previous = fold with_previous no_previous previous

@@ -87,22 +87,28 @@ impl Entry {
         requires { IsEntry (record { comments = texts comments.items; extracted = texts extracted.items; references = texts references.items; fuzzy = fuzzy; flags = texts flags.items; previous = previous; context = optional_text context; id = id.items; plural = optional_text plural; forms = texts forms.items; obsolete = obsolete; line = line }) }
         ensures { result ≡ record { comments = texts comments.items; extracted = texts extracted.items; references = texts references.items; fuzzy = fuzzy; flags = texts flags.items; previous = previous; context = optional_text context; id = id.items; plural = optional_text plural; forms = texts forms.items; obsolete = obsolete; line = line } }
     {
-        Entry {
-            fields: Fields {
-                comments,
-                extracted,
-                references,
-                fuzzy,
-                flags,
-                previous,
-                context,
-                id,
-                plural,
-                forms,
-                obsolete,
-                line,
-            },
-        }
+        Entry::of(Fields {
+            comments,
+            extracted,
+            references,
+            fuzzy,
+            flags,
+            previous,
+            context,
+            id,
+            plural,
+            forms,
+            obsolete,
+            line,
+        })
+    }
+
+    /// The entry of these fields, which are those of an entry.
+    pub fn of(fields: Fields) -> Entry
+        requires { IsEntry (entry_of fields) }
+        ensures { result ≡ entry_of fields }
+    {
+        Entry { fields }
     }
 
     /// A copy of the entry, with its line; refused only by want of memory.

@@ -5,7 +5,10 @@ use Rattle.po_reader.specs.declared.words.Wanted.TheVariants as code
 use Rattle.po_reader.specs.declared.body.Start.{Start}
 use Rattle.po_reader.specs.declared.body.Start.TheVariants as start
 use Rattle.po_reader.specs.declared.body.Body.{Body}
+use Rattle.po_reader.specs.declared.head.Step.{Step}
+use Rattle.po_reader.specs.declared.head.Step.TheVariants as step
 use Rattle.po_syntax.specs.TextItem.{TextItem}
+use Rattle.po_entry.specs.Head as head
 use Rattle.po_entry.specs.TextEntry.{texts, optional_text}
 use Rattle.po_entry.specs.Words as spec
 use Rattle.po_entry.specs.Body as body
@@ -21,5 +24,17 @@ start_seen (start.WithContext obsolete) rest = body.WithContext obsolete rest
 start_seen (start.WithoutContext obsolete line) rest = body.WithoutContext obsolete line rest
 
 abbrev pub body_seen : Body → body.Body
-body_seen own =
-    record { context = optional_text own.context; id = own.id.items; plural = optional_text own.plural; forms = texts own.forms.items; obsolete = own.obsolete; line = own.line }
+body_seen own = record {
+  context = optional_text own.original.context;
+  id = own.original.id.items;
+  plural = optional_text own.translation.plural;
+  forms = texts own.translation.forms.items;
+  obsolete = own.original.obsolete;
+  line = own.original.line;
+}
+
+-- the step with the items behind it
+abbrev pub head_seen : Step → List TextItem → head.HeadStep
+head_seen (step.Remark kind text) rest = head.Remark kind text.now rest
+head_seen (step.Previous keyword marks) rest = head.Previous keyword marks rest
+head_seen step.Over rest = head.Over

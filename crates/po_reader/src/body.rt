@@ -8,7 +8,7 @@ ghost use Rattle.po_reader.specs.Seen.{start_seen, body_seen};
 
 use crate::place::item_at;
 use crate::strings::strings_of;
-use crate::words::{Wanted, wanted_word};
+use crate::words::{Wanted, Worded, wanted_word};
 use po_syntax::{Item, Keyword, Marks, PoError, PoFault};
 use std::alloc::Global;
 
@@ -54,11 +54,11 @@ fn forms_of(
 
 /// What follows a msgid: its plural, if it has one, and its forms.
 #[derive(Drop)]
-struct Translation {
-    plural: Option<Vec<u8>>,
-    forms: Vec<Vec<u8>>,
+pub(crate) struct Translation {
+    pub(crate) plural: Option<Vec<u8>>,
+    pub(crate) forms: Vec<Vec<u8>>,
     /// The place of the item behind them.
-    behind: usize,
+    pub(crate) behind: usize,
 }
 
 fn translation_of(
@@ -86,17 +86,20 @@ fn translation_of(
     Ok(Translation { plural: None, forms, behind: first.behind })
 }
 
+/// A context and msgid, with the marks of their entry.
+#[derive(Drop)]
+pub(crate) struct Original {
+    pub(crate) context: Option<Vec<u8>>,
+    pub(crate) id: Vec<u8>,
+    pub(crate) obsolete: bool,
+    pub(crate) line: u32,
+}
+
 /// The own lines of an entry.
 #[derive(Drop)]
 pub(crate) struct Body {
-    pub(crate) context: Option<Vec<u8>>,
-    pub(crate) id: Vec<u8>,
-    pub(crate) plural: Option<Vec<u8>>,
-    pub(crate) forms: Vec<Vec<u8>>,
-    pub(crate) obsolete: bool,
-    pub(crate) line: u32,
-    /// The place of the item behind them.
-    pub(crate) behind: usize,
+    pub(crate) original: Original,
+    pub(crate) translation: Translation,
 }
 
 /// What an entry's own lines begin with.
@@ -124,6 +127,29 @@ fn start_at(items: &[Item<'_>], at: usize) -> Option<Start>
     }
 }
 
+/// The own lines of an entry whose context and msgid stand before a place.
+fn body_behind(
+    alloc: Global,
+    items: &[Item<'_>],
+    from: usize,
+    original: Original,
+    end: u32,
+) -> Result<Body, PoError>
+    requires within { from ≤ length items.now }
+    requires few { length items.now < 2 ^ 32 }
+    ensures found { IfOk result (λ b. IsTranslation original.obsolete (views (drop from items.now)) (optional_text b.translation.plural) (texts b.translation.forms.items) (views (drop b.translation.behind items.now))) }
+    ensures original { IfOk result (λ b. b.original ≡ original) }
+    ensures within { IfOk result (λ b. b.translation.behind ≤ length items.now) }
+    ensures further { IfOk result (λ b. from < b.translation.behind) }
+    ensures fault { IfErr result (λ e. e.kind ≢ PoFault.OutOfMemory → TranslationStops end original.obsolete (views (drop from items.now)) e.kind e.line) }
+    ensures memory { IfErr result (λ e. e.kind ≡ PoFault.OutOfMemory → e.line ≡ 0) }
+{
+    match translation_of(alloc, items, from, original.obsolete, end) {
+        Ok(translation) => Ok(Body { original, translation }),
+        Err(error) => Err(error),
+    }
+}
+
 /// The own lines of an entry from a place on, where they begin.
 pub(crate) fn body_of(
     alloc: Global,
@@ -134,34 +160,29 @@ pub(crate) fn body_of(
     requires within { from ≤ length items.now }
     requires few { length items.now < 2 ^ 32 }
     requires begins { body_start (views (drop from items.now)) ≢ spec.NoStart }
-    ensures found { IfOk result (λ b. IsBody (views (drop from items.now)) (body_seen b) (views (drop b.behind items.now))) }
-    ensures within { IfOk result (λ b. b.behind ≤ length items.now) }
-    ensures further { IfOk result (λ b. from < b.behind) }
+    ensures found { IfOk result (λ b. IsBody (views (drop from items.now)) (body_seen b) (views (drop b.translation.behind items.now))) }
+    ensures within { IfOk result (λ b. b.translation.behind ≤ length items.now) }
+    ensures further { IfOk result (λ b. from < b.translation.behind) }
     ensures fault { IfErr result (λ e. e.kind ≢ PoFault.OutOfMemory → BodyStops end (views (drop from items.now)) e.kind e.line) }
     ensures memory { IfErr result (λ e. e.kind ≡ PoFault.OutOfMemory → e.line ≡ 0) }
 {
-    let (context, obsolete, line, id, behind) = match start_at(items, from) {
+    let start = match start_at(items, from) {
+        Some(start) => start,
         None => unreachable!(),
-        Some(Start::WithoutContext(obsolete, line)) => {
+    };
+    match start {
+        Start::WithoutContext(obsolete, line) => {
             let marks = Marks { obsolete, previous: false };
             let (id, behind) = strings_of(alloc, items, from + 1, marks, end)?;
-            (None, obsolete, line, id, behind)
+            let original = Original { context: None, id, obsolete, line };
+            body_behind(alloc, items, behind, original, end)
         }
-        Some(Start::WithContext(obsolete)) => {
+        Start::WithContext(obsolete) => {
             let marks = Marks { obsolete, previous: false };
             let (context, middle) = strings_of(alloc, items, from + 1, marks, end)?;
-            let id = wanted_word(alloc, items, middle, Wanted::Id, obsolete, end)?;
-            (Some(context), obsolete, id.line, id.text, id.behind)
+            let Worded { line, text: id, behind, .. } = wanted_word(alloc, items, middle, Wanted::Id, obsolete, end)?;
+            let original = Original { context: Some(context), id, obsolete, line };
+            body_behind(alloc, items, behind, original, end)
         }
-    };
-    let translation = translation_of(alloc, items, behind, obsolete, end)?;
-    Ok(Body {
-        context,
-        id,
-        plural: translation.plural,
-        forms: translation.forms,
-        obsolete,
-        line,
-        behind: translation.behind,
-    })
+    }
 }

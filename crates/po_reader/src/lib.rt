@@ -2,6 +2,8 @@
 #![tactic(auto)]
 
 mod body;
+mod head;
+mod notes;
 mod place;
 mod strings;
 mod words;

@@ -1,0 +1,30 @@
+use Rattle.std.proofs.lemmas.Result.{err_from_is_err_and}
+use Rattle.po_reader.proofs.Wordings.{translation_alone}
+use Rattle.po_entry.specs.Body.IsTranslation.{single, plural}
+use Rattle.po_reader.specs.Stops.TranslationStops.{here, in_forms}
+use Rattle.po_reader.proofs.body.translation_of.Goals as goal
+
+pub returns-in_err-first-clause-fault : goal.returns-in_err-first-clause-fault
+returns-in_err-first-clause-fault c =
+    let p = err_from_is_err_and c.from_residual.result c.from_residual.ensures.1 in
+    rw (p.1, p.2) (λ other. here (c.in_err-first.ensures.fault other))
+
+pub returns-in_err-forms-clause-fault : goal.returns-in_err-forms-clause-fault
+returns-in_err-forms-clause-fault c =
+    let p = err_from_is_err_and c.from_residual-in_err-forms.result c.from_residual-in_err-forms.ensures.1 in
+    let first = rw c.in-MsgIdPlural.is at c.in_ok-first.ensures.found in
+    rw (p.1, p.2) (λ other. in_forms first (c.in_err-forms.ensures.fault other))
+
+pub returns-in-MsgIdPlural-clause-found : goal.returns-in-MsgIdPlural-clause-found
+returns-in-MsgIdPlural-clause-found c =
+    let first = rw c.in-MsgIdPlural.is at c.in_ok-first.ensures.found in
+    plural first c.in_ok-forms.ensures.found
+
+pub returns : goal.returns
+returns c = record {
+  found = rw (c.in_ok-push.ensures.items, c.in_ok-forms-2.ensures.items) (single (translation_alone c.in_ok-first.ensures.found c.in_default.not-MsgIdPlural));
+  within = c.in_ok-first.ensures.within;
+  further = c.in_ok-first.ensures.further;
+  fault = tt;
+  memory = tt;
+}

@@ -1,0 +1,156 @@
+ghost use Rattle.std.specs.Prelude.{◌≡◌, ◌≢◌, ◌+◌, ◌<◌, ◌≤◌, ◌++◌, ◌∷◌, [], Some, ℕ, List, drop, length, IfOk, IfErr, OnOk, OnErr, IfSome, MatchResult};
+ghost use Rattle.po_syntax.specs.TextItem.{view, views};
+ghost use Rattle.po_entry.specs.Head.{Note, PreviousText, IsHead, head_step, rank, begins_body};
+ghost use Rattle.po_entry.specs.Head as spec;
+ghost use Rattle.po_entry.specs.Notes.{with_previous};
+ghost use Rattle.po_reader.specs.Stops.{HeadStops};
+ghost use Rattle.po_reader.specs.Seen.{head_seen};
+ghost use Rattle.po_reader.specs.Heads.{HoldsHead, HoldsNotes};
+
+use crate::notes::{add_flags, add_words};
+use crate::place::{item_at, refusal};
+use crate::strings::strings_of;
+use po_entry::Previous;
+use po_syntax::{CommentKind, Item, Keyword, Marks, PoError, PoFault};
+use std::alloc::{AllocError, Global};
+
+/// What stands before an entry's own lines.
+#[derive(Drop)]
+pub(crate) struct Head {
+    pub(crate) comments: Vec<Vec<u8>>,
+    pub(crate) extracted: Vec<Vec<u8>>,
+    pub(crate) references: Vec<Vec<u8>>,
+    pub(crate) fuzzy: bool,
+    pub(crate) flags: Vec<Vec<u8>>,
+    pub(crate) previous: Previous,
+}
+
+/// What a head goes on with.
+enum Step<'i> {
+    /// A comment.
+    Remark(CommentKind, &'i [u8]),
+    /// The word of a previous text, with its marks.
+    Previous(Keyword, Marks),
+    /// Nothing more: the own lines begin, or the items end.
+    Over,
+}
+
+/// The place of a word among the previous texts; 0 where it is none of theirs.
+fn rank(keyword: Keyword) -> u32
+    ensures { result ≡ rank keyword }
+{
+    match keyword {
+        Keyword::MsgCtxt => 1,
+        Keyword::MsgId => 2,
+        Keyword::MsgIdPlural => 3,
+        Keyword::MsgStr | Keyword::MsgStrAt(_) => 0,
+    }
+}
+
+fn begins_body(keyword: Keyword) -> bool
+    ensures { result ≡ begins_body keyword }
+{
+    matches!(keyword, Keyword::MsgCtxt | Keyword::MsgId)
+}
+
+fn step_at<'i>(items: &'i [Item<'_>], at: usize, above: u32) -> Result<Step<'i>, PoFault>
+    requires { at ≤ length items.now }
+    ensures step { MatchResult result (λ step. head_step above (views (drop at items.now)) ≡ head_seen step (views (drop (at + 1) items.now))) (λ fault. head_step above (views (drop at items.now)) ≡ spec.Refuse fault) }
+    ensures within { IfOk result (λ step. head_seen step (views (drop (at + 1) items.now)) ≢ spec.Over → at < length items.now) }
+{
+    match item_at(items, at) {
+        None => if above == 0 { Ok(Step::Over) } else { Err(PoFault::BadOrder) },
+        Some(Item::Comment(kind, text, _)) => Ok(Step::Remark(*kind, text)),
+        Some(Item::Str(..)) => Err(PoFault::BadOrder),
+        Some(Item::Word(keyword, marks, _)) => {
+            if marks.previous {
+                if above < rank(*keyword) {
+                    Ok(Step::Previous(*keyword, *marks))
+                } else {
+                    Err(PoFault::BadOrder)
+                }
+            } else if begins_body(*keyword) {
+                Ok(Step::Over)
+            } else {
+                Err(PoFault::BadOrder)
+            }
+        }
+    }
+}
+
+/// Adds a comment to the fields of its kind.
+fn add_note(
+    alloc: Global,
+    head: &mut Head,
+    kind: CommentKind,
+    text: &[u8],
+) -> Result<(), AllocError>
+    ensures notes { OnOk result ((notes : List Note) → HoldsNotes head.old notes → HoldsNotes head.new (notes ++ (record { kind = kind; text = text.now }) ∷ [])) }
+    ensures previous { OnOk result (head.new.previous ≡ head.old.previous) }
+{
+    match kind {
+        CommentKind::Translator => head.comments.push(text.to_vec(alloc)?)?,
+        CommentKind::Extracted => head.extracted.push(text.to_vec(alloc)?)?,
+        CommentKind::Reference => add_words(alloc, &mut head.references, text)?,
+        CommentKind::Flags => {
+            let fuzzy = add_flags(alloc, &mut head.flags, text)?;
+            head.fuzzy = head.fuzzy || fuzzy;
+        }
+    }
+    Ok(())
+}
+
+fn set_previous(previous: &mut Previous, keyword: Keyword, text: Vec<u8>)
+    requires { 0 < rank keyword }
+    ensures { previous.new ≡ with_previous previous.old (record { keyword = keyword; text = text.items }) }
+{
+    match keyword {
+        Keyword::MsgCtxt => previous.context = Some(text),
+        Keyword::MsgId => previous.id = Some(text),
+        Keyword::MsgIdPlural => previous.plural = Some(text),
+        Keyword::MsgStr | Keyword::MsgStrAt(_) => unreachable!(),
+    }
+}
+
+/// What stands before an entry's own lines from a place on, and the place of those lines, or of
+/// the end of the items.
+pub(crate) fn head_of(
+    alloc: Global,
+    items: &[Item<'_>],
+    from: usize,
+    end: u32,
+) -> Result<(Head, usize), PoError>
+    requires { from ≤ length items.now }
+    ensures found { IfOk result (λ p. (notes : List Note) × (previous : List PreviousText) × IsHead 0 (views (drop from items.now)) notes previous (views (drop p.1 items.now)) × HoldsHead p.0 notes previous) }
+    ensures within { IfOk result (λ p. p.1 ≤ length items.now) }
+    ensures behind { IfOk result (λ p. from ≤ p.1) }
+    ensures fault { IfErr result (λ e. e.kind ≢ PoFault.OutOfMemory → HeadStops end 0 (views (drop from items.now)) e.kind e.line) }
+    ensures memory { IfErr result (λ e. e.kind ≡ PoFault.OutOfMemory → e.line ≡ 0) }
+{
+    let mut head = Head {
+        comments: Vec::new(alloc),
+        extracted: Vec::new(alloc),
+        references: Vec::new(alloc),
+        fuzzy: false,
+        flags: Vec::new(alloc),
+        previous: Previous::none(),
+    };
+    let mut at = from;
+    let mut above = 0;
+    loop {
+        match step_at(items, at, above) {
+            Err(kind) => return Err(refusal(items, at, end, kind)),
+            Ok(Step::Over) => return Ok((head, at)),
+            Ok(Step::Remark(kind, text)) => {
+                add_note(alloc, &mut head, kind, text)?;
+                at += 1;
+            }
+            Ok(Step::Previous(keyword, marks)) => {
+                let (text, behind) = strings_of(alloc, items, at + 1, marks, end)?;
+                set_previous(&mut head.previous, keyword, text);
+                above = rank(keyword);
+                at = behind;
+            }
+        }
+    }
+}
