@@ -4,3 +4,6 @@ pub mod QuotedStrings
 pub mod Tokens
 pub mod Lines
 pub mod RawRuns
+pub mod Uniqueness
+pub mod Totality
+pub mod QuotedForms

@@ -1,7 +1,6 @@
 -- A text spells at most one item for each of its bytes.
-use Rattle.std.proofs.Common.{◌≡◌, ◌==◌, ◌∙◌, ap, subst, ℕ, ◌+◌, ◌<◌, ◌≤◌, Bool, true, false, cond, if◌then◌else◌, List, [], ◌∷◌, ◌++◌, length, length-append, take, drop, length-drop, arith}
-use Rattle.std.specs.List.{slice_split, onto_first, starts_with}
-use Rattle.po_syntax.specs.declared.item.CommentKind.{CommentKind}
+use Rattle.std.proofs.Common.{◌==◌, ap, subst, ℕ, ◌+◌, ◌<◌, ◌≤◌, Bool, true, false, cond, if◌then◌else◌, List, [], ◌∷◌, length, length-append, drop, length-drop, arith}
+use Rattle.std.specs.List.{onto_first}
 use Rattle.po_syntax.specs.declared.item.CommentKind.TheVariants.{Translator, Extracted, Reference, Flags}
 use Rattle.po_syntax.specs.declared.item.Marks.{Marks}
 use Rattle.po_syntax.specs.Line.{Shape, Note, Tokens, NoShape, note_shape, obsolete_shape, tilde_shape, hash_shape, first_shape, shape_of, SpellsTokens, none, word, string, SpellsLine, comment, tokens}

@@ -1,5 +1,5 @@
 -- The digits that a number is read from.
-use Rattle.std.proofs.Common.{◌≡◌, ℕ, ◌<◌, ◌≤◌, List, length, take, get_or, All, arith}
+use Rattle.std.proofs.Common.{ℕ, ◌<◌, ◌≤◌, List, length, take, All, arith}
 use Rattle.std.specs.Char.{digit_value, is_digit}
 use Rattle.std.proofs.lemmas.List.{get_or-take, length-take}
 use Rattle.std.proofs.lemmas.List.Sums.{prefix_len_passes, prefix_len-le-length}

@@ -5,7 +5,7 @@ use Rattle.std.specs.Str.Parse.{digits_value}
 use Rattle.std.proofs.lemmas.Bool.{cond-true}
 use Rattle.po_syntax.specs.declared.item.Keyword.{Keyword}
 use Rattle.po_syntax.specs.declared.item.Keyword.TheVariants.{MsgCtxt, MsgId, MsgIdPlural, MsgStr, MsgStrAt}
-use Rattle.po_syntax.specs.declared.fault.PoFault.TheVariants.{BadToken, BadPluralIndex}
+use Rattle.po_syntax.specs.declared.fault.PoFault.TheVariants.{BadToken}
 use Rattle.po_syntax.specs.QuotedString.{digit_count}
 use Rattle.po_syntax.specs.Token.{Token, Nothing, Open, Key, Halt, is_blank, is_word_byte, skip_blanks, close_token, index_token, bracket_token, keyword_token, word_token, first_token, token_at}
 

@@ -68,9 +68,9 @@ trim_returns text = take (length text - suffix_len (λ b. b == 13) text) text
 pub data SpellsTokens (marks : Marks) (line : ℕ) : List ℕ → List TextItem → Type 0 where
   none : {text : List ℕ} → token_at text ≡ Nothing → SpellsTokens marks line text []
   word : {text rest : List ℕ} {keyword : Keyword} {items : List TextItem} → token_at text ≡ Key keyword rest → SpellsTokens marks line rest items
-    → SpellsTokens marks line text (Word keyword marks line ∷ items)
+      → SpellsTokens marks line text (Word keyword marks line ∷ items)
   string : {text inner bytes rest : List ℕ} {items : List TextItem} → token_at text ≡ Open inner → IsQuoted inner bytes rest → SpellsTokens marks line rest items
-    → SpellsTokens marks line text (Str bytes marks line ∷ items)
+      → SpellsTokens marks line text (Str bytes marks line ∷ items)
 
 -- the first place where no token goes on has this fault
 pub data TokensStop : List ℕ → PoFault → Type 0 where

@@ -5,6 +5,7 @@
 mod escape;
 mod fault;
 mod item;
+pub mod laws;
 mod line;
 mod quoted_string;
 mod quoting;

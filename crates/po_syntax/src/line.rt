@@ -36,13 +36,22 @@ fn obsolete(text: &[u8]) -> Option<Shape<'_>>
     ensures { MatchOption result (tilde_shape text.now ≡ NoShape) (λ shape. tilde_shape text.now ≡ shape_seen shape) }
 {
     if let Some((b'|', rest)) = text.split_first() {
-        let marks = Marks { obsolete: true, previous: true };
+        let marks = Marks {
+            obsolete: true,
+            previous: true,
+        };
         return Some(Shape::Tokens(marks, rest));
     }
     let text = skip_blanks(text);
     match text.split_first() {
         Some((b'#', rest)) => comment(rest),
-        _ => Some(Shape::Tokens(Marks { obsolete: true, previous: false }, text)),
+        _ => Some(Shape::Tokens(
+            Marks {
+                obsolete: true,
+                previous: false,
+            },
+            text,
+        )),
     }
 }
 
@@ -52,7 +61,13 @@ fn hash(text: &[u8]) -> Option<Shape<'_>>
     ensures { MatchOption result (hash_shape text.now ≡ NoShape) (λ shape. hash_shape text.now ≡ shape_seen shape) }
 {
     match text.split_first() {
-        Some((b'|', rest)) => Some(Shape::Tokens(Marks { obsolete: false, previous: true }, rest)),
+        Some((b'|', rest)) => Some(Shape::Tokens(
+            Marks {
+                obsolete: false,
+                previous: true,
+            },
+            rest,
+        )),
         Some((b'~', rest)) => obsolete(rest),
         _ => comment(text),
     }
@@ -66,7 +81,13 @@ fn shape_of(line: &[u8]) -> Option<Shape<'_>>
     let text = skip_blanks(line);
     match text.split_first() {
         Some((b'#', rest)) => hash(rest),
-        _ => Some(Shape::Tokens(Marks { obsolete: false, previous: false }, text)),
+        _ => Some(Shape::Tokens(
+            Marks {
+                obsolete: false,
+                previous: false,
+            },
+            text,
+        )),
     }
 }
 

@@ -42,7 +42,10 @@ fn add_pieces<'a>(bytes: &mut Vec<u8>, text: &'a [u8]) -> Result<&'a [u8], PoFau
 
 /// The bytes that a quoted string spells, read behind its opening quote, and the text behind its
 /// closing one. They are borrowed where no escape stands among them.
-pub(crate) fn quoted_string(alloc: Global, text: &[u8]) -> Result<(CowSlice<'_, u8>, &[u8]), PoFault>
+pub(crate) fn quoted_string(
+    alloc: Global,
+    text: &[u8],
+) -> Result<(CowSlice<'_, u8>, &[u8]), PoFault>
     ensures found { IfOk result (λ p. IsQuoted text.now (cow_slice_items p.0) p.1.now) }
     ensures fault { IfErr result (λ e. e ≢ PoFault.OutOfMemory → QuotedStops text.now e) }
 {

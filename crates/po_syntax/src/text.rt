@@ -26,7 +26,12 @@ fn line_number(text: &[u8], place: usize) -> u32
     requires small { length text.now < 2 ^ 31 }
     ensures { result ≡ line_number text.now place }
 {
-    let feeds = text.split_at(place).0.iter().filter(|b| **b == b'\n').count();
+    let feeds = text
+        .split_at(place)
+        .0
+        .iter()
+        .filter(|b| **b == b'\n')
+        .count();
     1 + feeds as u32
 }
 
@@ -56,7 +61,10 @@ fn add_numbered_line<'a>(
 {
     match add_line(alloc, items, text, line) {
         Ok(()) => Ok(()),
-        Err(PoFault::OutOfMemory) => Err(PoError { kind: PoFault::OutOfMemory, line: 0 }),
+        Err(PoFault::OutOfMemory) => Err(PoError {
+            kind: PoFault::OutOfMemory,
+            line: 0,
+        }),
         Err(kind) => Err(PoError { kind, line }),
     }
 }
@@ -96,15 +104,24 @@ pub fn items(alloc: Global, text: &[u8]) -> Result<Vec<Item<'_>>, PoError>
     ensures few { IfOk result (λ items. vec_len items ≤ length text.now) }
 {
     if text.len() > MAX_LEN {
-        return Err(PoError { kind: PoFault::TooLarge, line: 0 });
+        return Err(PoError {
+            kind: PoFault::TooLarge,
+            line: 0,
+        });
     }
     if let Err(error) = from_utf8(text) {
         let line = line_number(text, error.valid_up_to());
-        return Err(PoError { kind: PoFault::NotUtf8, line });
+        return Err(PoError {
+            kind: PoFault::NotUtf8,
+            line,
+        });
     }
     if let Some(place) = memchr(0, text) {
         let line = line_number(text, place);
-        return Err(PoError { kind: PoFault::ForbiddenByte, line });
+        return Err(PoError {
+            kind: PoFault::ForbiddenByte,
+            line,
+        });
     }
     read_lines(alloc, without_mark(text))
 }

@@ -1,4 +1,3 @@
-use Rattle.std.proofs.Common.{arith}
 use Rattle.po_syntax.proofs.QuotedStrings.{spelt_plain, stops_plain, plain_before}
 use Rattle.po_syntax.proofs.quoted_string.split_plain.Goals as goal
 

@@ -1,4 +1,3 @@
-use Rattle.std.proofs.Common.{None, Some}
 use Rattle.po_syntax.proofs.Searches.{one_line, line_cut}
 use Rattle.po_syntax.proofs.text.first_line.Goals as goal
 

@@ -1,8 +1,8 @@
-use Rattle.std.proofs.Common.{◌≡◌, ◌∙◌, ap, ◌≤◌, length, vec_len, None, Some, arith}
+use Rattle.std.proofs.Common.{◌∙◌, ap, arith}
 use Rattle.std.proofs.lemmas.List.{length-map}
 use Rattle.std.proofs.lemmas.Result.{IfOk-weaker, IfErr-weaker}
 use Rattle.memchr.specs.Find.{is_byte}
-use Rattle.po_syntax.specs.PoText.{IsSmall, HasNoNul, SpellsLines, LinesStop, SpellsText, TextFault, line_number, lines_of, without_mark, too_large, not_utf8, nul, stops}
+use Rattle.po_syntax.specs.PoText.{HasNoNul, line_number, too_large, not_utf8, nul, stops}
 use Rattle.po_syntax.specs.TextItem.{view, views}
 use Rattle.po_syntax.proofs.Lines.{items-few}
 use Rattle.po_syntax.proofs.Searches.{position_found}

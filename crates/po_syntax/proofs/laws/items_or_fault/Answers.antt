@@ -1,0 +1,5 @@
+use Rattle.po_syntax.proofs.Totality.{text_ends}
+use Rattle.po_syntax.proofs.laws.items_or_fault.Goals as goal
+
+pub returns : goal.returns
+returns c = text_ends

@@ -1,0 +1,38 @@
+//! Laws of the definitions, each on an empty function: a crate that rests on one calls it.
+ghost use Rattle.std.specs.Prelude.{◌≡◌, ◌⊎◌, ◌<◌, ℕ, List, ◌++◌, All};
+ghost use Rattle.po_syntax.specs.declared.fault.PoFault.{PoFault};
+ghost use Rattle.po_syntax.specs.PoText.{SpellsText, TextFault};
+ghost use Rattle.po_syntax.specs.QuotedForm.{quoted};
+ghost use Rattle.po_syntax.specs.QuotedString.{IsQuoted};
+ghost use Rattle.po_syntax.specs.TextItem.{TextItem};
+ghost use Rattle.po_syntax.specs.Token.{Open, token_at};
+
+/// A text spells at most one list of items.
+pub fn one_reading()
+    ensures { (text : List ℕ) (items others : List TextItem)
+        → SpellsText text items → SpellsText text others → items ≡ others }
+{}
+
+/// No text both spells items and has a fault.
+pub fn no_fault_where_items()
+    ensures { (text : List ℕ) (items : List TextItem) (fault : PoFault) (line : ℕ)
+        → SpellsText text items → TextFault text fault line → ⊥ }
+{}
+
+/// A text has at most one first fault, on one line.
+pub fn one_fault()
+    ensures { (text : List ℕ) (fault other : PoFault) (line place : ℕ)
+        → TextFault text fault line → TextFault text other place → (fault ≡ other) × (line ≡ place) }
+{}
+
+/// Every text either spells items or has a first fault.
+pub fn items_or_fault()
+    ensures { (text : List ℕ)
+        → ((items : List TextItem) × SpellsText text items) ⊎ ((fault : PoFault) × (line : ℕ) × TextFault text fault line) }
+{}
+
+/// The quoted form of bytes without NUL spells just these bytes, and ends where it ends.
+pub fn quoted_form_spells()
+    ensures { (bytes rest : List ℕ) → All (λ b. (0 < b) × (b < 256)) bytes
+        → (inside : List ℕ) × (token_at (quoted bytes ++ rest) ≡ Open inside) × IsQuoted inside bytes rest }
+{}
