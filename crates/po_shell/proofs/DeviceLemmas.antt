@@ -1,5 +1,5 @@
 -- Lemmas on what writers and readers do piece by piece.
-use Rattle.std.proofs.Common.{◌≡◌, ℕ, ◌+◌, ◌-◌, ◌≤◌, ◌<◌, List, [], ◌++◌, length, take, drop, Option, Some, None, IfSome, sym, ap, subst, ◌∙◌, append-nil}
+use Rattle.std.proofs.Common.{◌≡◌, ℕ, ◌+◌, ◌-◌, ◌<◌, ◌≤◌, List, [], ◌++◌, length, take, drop, Option, Some, None, IfSome, Result, Ok, Err, OnErr, sym, ap, subst, ◌∙◌, append-nil}
 use Rattle.std.proofs.lemmas.List.{take_rest, take_all, take_at}
 use Rattle.std.proofs.Math.Seq.{take-add}
 use Rattle.std.proofs.KnownBytes.{Appends-trans}
@@ -28,3 +28,13 @@ taken-end n (Some xs) (Some ys) None bs count room p q none some l = absurd q.0
 taken-end n (Some xs) (Some ys) (Some zs) bs count room p q none some l =
     let nothing : ys ≡ [] = q.0 ∙ ap (λ m. take m room ++ zs) none ∙ q.1 none some in
     sym (ap (take n) (p ∙ ap (λ r. bs ++ r) nothing ∙ append-nil bs) ∙ take_all n bs l)
+
+-- what holds holds after an error
+pub on-err : {T E : Type 0} (r : Result T E) (P : Type 0) → P → OnErr r P
+on-err (Ok x) P p = tt
+on-err (Err e) P p = p
+
+-- what holds after an error holds at one
+pub at-err : {T E : Type 0} (r : Result T E) (e : E) (P : Type 0) → r ≡ Err e → OnErr r P → P
+at-err (Ok x) e P is h = cc
+at-err (Err d) e P is h = h

@@ -1,3 +1,9 @@
 pub mod Device
 pub mod Counted
 pub mod Failing
+pub mod References
+pub mod Substitution
+pub mod Stream
+pub mod Holding
+pub mod Substituting
+pub mod Envsubst

@@ -1,0 +1,150 @@
+-- Lemmas on substitution piece by piece.
+use Rattle.std.proofs.Common.{◌≡◌, ℕ, ◌+◌, ◌-◌, ◌<◌, ◌≤◌, List, [], ◌∷◌, ◌++◌, length, take, drop, get_or, Option, refl, sym, ap, subst, ◌∙◌, append_assoc, take-append-drop, arith}
+use Rattle.std.specs.List.{position_or_len}
+use Rattle.std.proofs.lemmas.List.{drop-append-le, drop-drop, take_rest}
+use Rattle.std.proofs.KnownBytes.{Appends-nil, Appends-trans, Appends-kept}
+use Rattle.std.specs.Io.KnownBytes.{Appends, Keeps}
+use Rattle.memchr.specs.Find.{is_byte}
+use Rattle.po_shell.specs.Device.{AppendsPrefix}
+use Rattle.po_shell.specs.Substitution.{Values, substitution}
+use Rattle.po_shell.specs.Stream.{Advances, Stops, Cut, AreCuts, pieces_of, written_in, held_after, CutsAgree}
+use Rattle.po_shell.proofs.DollarLemmas.{dollar-next}
+use Rattle.po_shell.proofs.SubstitutionLemmas.{plain-front}
+
+-- what a text becomes depends on its bytes alone
+pub Advances-from : (values : Values) (a b c : List ℕ) (old new : Option (List ℕ)) → a ≡ b → Advances values b c old new → Advances values a c old new
+Advances-from values a b c old new e p = subst (λ t. Advances values t c old new) (sym e) p
+
+pub Advances-none : (values : Values) (text held : List ℕ) (old : Option (List ℕ)) → text ≡ held → Advances values text held old old
+Advances-none values text held old e = record { written = []; appends = Appends-nil old; passes = λ rest. ap (λ t. substitution values (t ++ rest)) e }
+
+-- one step after another
+pub Advances-trans : (values : Values) (a b c : List ℕ) (first second third : Option (List ℕ)) → Advances values a b first second → Advances values b c second third → Advances values a c first third
+Advances-trans values a b c first second third p q = record {
+  written = p.written ++ q.written;
+  appends = Appends-trans first second third p.written q.written p.appends q.appends;
+  passes = λ rest. p.passes rest ∙ ap (λ l. p.written ++ l) (q.passes rest) ∙ sym (append_assoc p.written q.written (substitution values (c ++ rest)));
+}
+
+-- a step leaves what comes behind its text
+pub Advances-more : (values : Values) (a b more : List ℕ) (old new : Option (List ℕ)) → Advances values a b old new → Advances values (a ++ more) (b ++ more) old new
+Advances-more values a b more old new p = record {
+  written = p.written;
+  appends = p.appends;
+  passes = λ rest. ap (substitution values) (append_assoc a more rest) ∙ p.passes (more ++ rest) ∙ ap (λ t. p.written ++ substitution values t) (sym (append_assoc b more rest));
+}
+
+-- a prefix of what comes out, after a step
+pub Stops-after : (values : Values) (a b : List ℕ) (first second third : Option (List ℕ)) → Advances values a b first second → Stops values b second third → Stops values a first third
+Stops-after values a b first second third p q = record {
+  written = p.written ++ q.written;
+  appends = Appends-trans first second third p.written q.written p.appends q.appends;
+  prefix = λ rest. ((q.prefix rest).0, p.passes rest ∙ ap (λ l. p.written ++ l) (q.prefix rest).1 ∙ sym (append_assoc p.written q.written (q.prefix rest).0));
+}
+
+-- and of what comes out of a longer text
+pub Stops-more : (values : Values) (a more : List ℕ) (old new : Option (List ℕ)) → Stops values a old new → Stops values (a ++ more) old new
+Stops-more values a more old new p = record {
+  written = p.written;
+  appends = p.appends;
+  prefix = λ rest. let q = p.prefix (more ++ rest) in (q.0, ap (substitution values) (append_assoc a more rest) ∙ q.1);
+}
+
+-- where nothing was written
+pub Stops-none : (values : Values) (text : List ℕ) (old new : Option (List ℕ)) → Keeps old new → Stops values text old new
+Stops-none values text old new keeps = record {
+  written = [];
+  appends = Appends-kept old old new [] (Appends-nil old) keeps;
+  prefix = λ rest. (substitution values (text ++ rest), refl);
+}
+
+-- what comes out first, whole or in part
+pub Advances-out : (values : Values) (a b out : List ℕ) (old new : Option (List ℕ)) → ((rest : List ℕ) → substitution values (a ++ rest) ≡ out ++ substitution values (b ++ rest)) → Appends old new out → Advances values a b old new
+Advances-out values a b out old new passes appends = record { written = out; appends = appends; passes = passes }
+
+pub Stops-out : (values : Values) (a b out : List ℕ) (old new : Option (List ℕ)) → ((rest : List ℕ) → substitution values (a ++ rest) ≡ out ++ substitution values (b ++ rest)) → AppendsPrefix old new out → Stops values a old new
+Stops-out values a b out old new passes part = record {
+  written = take part.0 out;
+  appends = part.1;
+  prefix = λ rest. (
+    drop part.0 out ++ substitution values (b ++ rest),
+    passes rest ∙ ap (λ l. l ++ substitution values (b ++ rest)) (sym (take-append-drop part.0 out)) ∙ append_assoc (take part.0 out) (drop part.0 out) _,
+  );
+}
+
+-- the bytes held and the next one, and the piece that it begins
+pub out-piece : (values : Values) (held out : List ℕ) (next taken : ℕ) (piece : List ℕ) → piece ≡ next ∷ drop 1 piece → taken ≤ 1
+    → ((rest : List ℕ) → substitution values (held ++ (next ∷ rest)) ≡ out ++ substitution values (drop taken (next ∷ rest)))
+    → (rest : List ℕ) → substitution values ((held ++ piece) ++ rest) ≡ out ++ substitution values (drop taken piece ++ rest)
+out-piece values held out next taken piece e fits passes rest =
+    let more = drop 1 piece in
+    ap (substitution values) (append_assoc held piece rest ∙ ap (λ p. held ++ (p ++ rest)) e)
+    ∙ passes (more ++ rest)
+    ∙ ap (λ t. out ++ substitution values t) (drop-append-le taken (next ∷ more) rest (omega arith) ∙ ap (λ p. drop taken p ++ rest) (sym e))
+
+-- the bytes before the first `$`
+pub plain-out : (values : Values) (n : ℕ) (piece : List ℕ) → n ≡ position_or_len (is_byte 36) piece → (rest : List ℕ) → substitution values (piece ++ rest) ≡ take n piece ++ substitution values (drop n piece ++ rest)
+plain-out values n piece e rest = subst (λ m. substitution values (piece ++ rest) ≡ take m piece ++ substitution values (drop m piece ++ rest)) (sym e) (plain-front values piece rest)
+
+pub plain-advances : (values : Values) (n : ℕ) (held piece : List ℕ) (old new : Option (List ℕ)) → n ≡ position_or_len (is_byte 36) piece → held ≡ [] → Appends old new (take n piece) → Advances values piece (held ++ drop n piece) old new
+plain-advances values n held piece old new place none appends =
+    Advances-out values piece (held ++ drop n piece) (take n piece) old new
+    (λ rest. plain-out values n piece place rest ∙ ap (λ h. take n piece ++ substitution values ((h ++ drop n piece) ++ rest)) (sym none)) appends
+
+-- and the `$` that is held
+pub dollar-advances : (values : Values) (n : ℕ) (held piece : List ℕ) (old new : Option (List ℕ)) → n ≡ position_or_len (is_byte 36) piece → n < length piece → held ≡ 36 ∷ [] → Appends old new (take n piece) → Advances values piece (held ++ drop (n + 1) piece) old new
+dollar-advances values n held piece old new place short dollar appends =
+    let next : drop n piece ≡ 36 ∷ drop (n + 1) piece = subst (λ m. drop m piece ≡ 36 ∷ drop (m + 1) piece) (sym place) (dollar-next piece (omega (arith, place))) in
+    Advances-out values piece (held ++ drop (n + 1) piece) (take n piece) old new
+    (λ rest. plain-out values n piece place rest ∙ ap (λ t. take n piece ++ substitution values (t ++ rest)) (next ∙ ap (λ h. h ++ drop (n + 1) piece) (sym dollar))) appends
+
+-- the bytes held, as they are seen, and the first one of a piece
+pub out-advances : (values : Values) (held seen out : List ℕ) (next taken : ℕ) (piece after : List ℕ) (old new : Option (List ℕ)) → seen ≡ held → piece ≡ next ∷ drop 1 piece → taken ≤ 1
+    → ((rest : List ℕ) → substitution values (seen ++ (next ∷ rest)) ≡ out ++ substitution values (drop taken (next ∷ rest))) → after ≡ [] → Appends old new out → Advances values (held ++ piece) (after ++ drop taken piece) old new
+out-advances values held seen out next taken piece after old new same e fits passes none appends =
+    Advances-out values (held ++ piece) (after ++ drop taken piece) out old new
+    (λ rest. ap (λ h. substitution values ((h ++ piece) ++ rest)) (sym same) ∙ out-piece values seen out next taken piece e fits passes rest ∙ ap (λ h. out ++ substitution values ((h ++ drop taken piece) ++ rest)) (sym none)) appends
+
+pub out-stops : (values : Values) (held seen out : List ℕ) (next taken : ℕ) (piece : List ℕ) (old new : Option (List ℕ)) → seen ≡ held → piece ≡ next ∷ drop 1 piece → taken ≤ 1
+    → ((rest : List ℕ) → substitution values (seen ++ (next ∷ rest)) ≡ out ++ substitution values (drop taken (next ∷ rest))) → AppendsPrefix old new out → Stops values (held ++ piece) old new
+out-stops values held seen out next taken piece old new same e fits passes part =
+    Stops-out values (held ++ piece) (drop taken piece) out old new
+    (λ rest. ap (λ h. substitution values ((h ++ piece) ++ rest)) (sym same) ∙ out-piece values seen out next taken piece e fits passes rest) part
+
+-- one more byte that is held
+pub held-advances : (values : Values) (held after : List ℕ) (next : ℕ) (piece : List ℕ) (old : Option (List ℕ)) → piece ≡ next ∷ drop 1 piece → after ≡ held ++ next ∷ [] → Advances values (held ++ piece) (after ++ drop 1 piece) old old
+held-advances values held after next piece old e more =
+    Advances-none values (held ++ piece) (after ++ drop 1 piece) old
+    (ap (λ p. held ++ p) e ∙ sym (append_assoc held (next ∷ []) (drop 1 piece)) ∙ ap (λ h. h ++ drop 1 piece) (sym more))
+
+-- the first byte of a piece, and the others
+pub piece-split : (piece : List ℕ) (d : ℕ) → 0 < length piece → piece ≡ get_or piece 0 d ∷ drop 1 piece
+piece-split [] d some = absurd (omega arith)
+piece-split (b ∷ bs) d some = refl
+
+-- a step over `&piece[at..]`, behind the steps before it
+pub pass-advances : (values : Values) (text held after piece : List ℕ) (at taken : ℕ) (first second third : Option (List ℕ)) → Advances values text (held ++ drop at piece) first second
+    → Advances values (held ++ take (length piece - at) (drop at piece)) (after ++ drop taken (take (length piece - at) (drop at piece))) second third → Advances values text (after ++ drop (at + taken) piece) first third
+pass-advances values text held after piece at taken first second third p q =
+    let step = subst (λ l. Advances values (held ++ l) (after ++ drop taken l) second third) (take_rest piece at) q in
+    let whole = Advances-trans values text (held ++ drop at piece) (after ++ drop taken (drop at piece)) first second third p step in
+    subst (λ l. Advances values text (after ++ l) first third) (drop-drop taken at piece) whole
+
+pub pass-stops : (values : Values) (text held piece : List ℕ) (at : ℕ) (first second third : Option (List ℕ)) → Advances values text (held ++ drop at piece) first second → Stops values (held ++ take (length piece - at) (drop at piece)) second third → Stops values text first third
+pass-stops values text held piece at first second third p q =
+    Stops-after values text (held ++ drop at piece) first second third p (subst (λ l. Stops values (held ++ l) second third) (take_rest piece at) q)
+
+-- the law of cuts, from any bytes that are held at first
+cuts-from : (values : Values) (held : List ℕ) (cuts : List Cut) → AreCuts values held cuts → (rest : List ℕ)
+    → substitution values (held ++ (pieces_of cuts ++ rest)) ≡ written_in cuts ++ substitution values (held_after held cuts ++ rest)
+cuts-from values held [] h rest = refl
+cuts-from values held (c ∷ cuts) h rest =
+    ap (λ l. substitution values (held ++ l)) (append_assoc c.piece (pieces_of cuts) rest)
+    ∙ ap (λ l. substitution values (l ++ (c.piece ++ (pieces_of cuts ++ rest)))) (sym h.0)
+    ∙ ap (substitution values) (sym (append_assoc c.before c.piece (pieces_of cuts ++ rest)))
+    ∙ h.1 (pieces_of cuts ++ rest)
+    ∙ ap (λ l. c.written ++ l) (cuts-from values c.after cuts h.2 rest)
+    ∙ sym (append_assoc c.written (written_in cuts) _)
+
+pub cuts-agree : CutsAgree
+cuts-agree values cuts h rest = sym (cuts-from values [] cuts h rest)

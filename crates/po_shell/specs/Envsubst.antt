@@ -1,0 +1,20 @@
+-- What a run of envsubst writes, by what its reader had ("Invoking the envsubst program" of the GNU gettext manual).
+use Rattle.std.specs.Prelude.{ℕ, List, Option, IfSome}
+use Rattle.std.specs.Io.KnownBytes.{Appends, Consumes}
+use Rattle.po_shell.specs.Device.{AppendsPrefix}
+use Rattle.po_shell.specs.Substitution.{Values, substitution}
+use Rattle.po_shell.specs.Stream.{Stops}
+
+-- the writer took what the whole input becomes
+abbrev pub Substitutes : Values → Option (List ℕ) → Option (List ℕ) → Option (List ℕ) → Type 0
+Substitutes values input old new = IfSome input (λ text. Appends old new (substitution values text))
+
+-- the writer took a prefix of what the whole input becomes
+abbrev pub StopsAtEnd : Values → Option (List ℕ) → Option (List ℕ) → Option (List ℕ) → Type 0
+StopsAtEnd values input old new = IfSome input (λ text. AppendsPrefix old new (substitution values text))
+
+-- the writer took a prefix of what these bytes of the input become, whatever comes behind them
+pub record StopsWithin (values : Values) (input left old new : Option (List ℕ)) : Type 0 where
+  pub read : List ℕ
+  pub reads : Consumes input left read
+  pub stops : Stops values read old new

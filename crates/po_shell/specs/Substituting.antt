@@ -1,0 +1,9 @@
+-- What a substituter is between two calls.
+use Rattle.std.specs.Prelude.{ℕ, Bool, List, Option}
+
+-- the variables, the names to be replaced if they are given, the bytes held back, and whether a write has failed
+pub record Substituting : Type 0 where
+  pub vars : List (List ℕ × List ℕ)
+  pub only : Option (List (List ℕ))
+  pub held : List ℕ
+  pub has_failed : Bool

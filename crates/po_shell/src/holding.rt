@@ -1,0 +1,130 @@
+// The bytes that may begin a reference, held back until the next ones decide.
+ghost use Rattle.std.specs.Prelude.{◌≡◌, ◌<◌, true, false, ◌∷◌, [], length};
+ghost use Rattle.po_shell.specs.Holding.{Decides, ComesOut, Replaces, Ending, is_undecided, is_begun_name, behind_dollar};
+ghost use Rattle.po_shell.specs.Substitution.{values_of, pairs_in, names_given};
+
+use crate::reference::{LONGEST_NAME, begins_with, is_letter, is_name_byte};
+use crate::variable::replacement;
+
+/// What the byte behind a begun reference makes of it.
+#[derive(Clone, Copy)]
+pub(crate) enum Decision {
+    /// It may still become a reference.
+    Grows,
+    /// It is `$NAME`, and the byte stands behind it.
+    Ends,
+    /// It is `${NAME}` with the byte.
+    Closes,
+    /// It isn't a reference.
+    Copies,
+}
+
+/// What becomes of the bytes held back, at the next byte.
+pub(crate) enum Outcome<'a> {
+    /// They are held on, and so is the byte.
+    Held,
+    /// They come out as they are, and the byte isn't taken.
+    Copied,
+    /// This value comes out in their place, and so many further bytes are taken.
+    Replaced(&'a [u8], usize),
+}
+
+/// Decides by a begun reference, with a brace or without one, and the next byte.
+pub(crate) fn decide(is_braced: bool, name: &[u8], next: u8) -> Decision
+    requires { is_begun_name name.now ≡ true }
+    ensures { Decides is_braced name.now next result }
+{
+    if name.is_empty() {
+        if is_letter(next) {
+            Decision::Grows
+        } else if next == b'{' && !is_braced {
+            Decision::Grows
+        } else {
+            Decision::Copies
+        }
+    } else if is_name_byte(next) {
+        if name.len() < LONGEST_NAME {
+            Decision::Grows
+        } else {
+            Decision::Copies
+        }
+    } else if !is_braced {
+        Decision::Ends
+    } else if next == b'}' {
+        Decision::Closes
+    } else {
+        Decision::Copies
+    }
+}
+
+/// A begun reference: whether it has a brace, and its name so far.
+pub(crate) fn begun(held: &[u8]) -> (bool, &[u8])
+    requires some { 0 < length held.now }
+    requires undecided { is_undecided held.now ≡ true }
+    ensures bytes { held.now ≡ 36 ∷ behind_dollar result.0 result.1.now }
+    ensures name { is_begun_name result.1.now ≡ true }
+{
+    let behind = &held[1..];
+    if begins_with(b'{', behind) {
+        (true, &behind[1..])
+    } else {
+        (false, behind)
+    }
+}
+
+/// What becomes of the bytes held back, at the next byte.
+pub(crate) fn outcome_of<'a>(
+    vars: &[(&'a [u8], &'a [u8])],
+    only: Option<&[&[u8]]>,
+    held: &[u8],
+    next: u8,
+) -> Outcome<'a>
+    requires some { 0 < length held.now }
+    requires undecided { is_undecided held.now ≡ true }
+    ensures { ComesOut (values_of (pairs_in vars.now) (names_given only.entry)) held.now next result }
+{
+    let (is_braced, name) = begun(held);
+    match decide(is_braced, name, next) {
+        Decision::Grows => Outcome::Held,
+        Decision::Copies => Outcome::Copied,
+        Decision::Ends => replace(vars, only, name, 0),
+        Decision::Closes => replace(vars, only, name, 1),
+    }
+}
+
+// What becomes of a reference to this name, which takes so many further bytes.
+fn replace<'a>(
+    vars: &[(&'a [u8], &'a [u8])],
+    only: Option<&[&[u8]]>,
+    name: &[u8],
+    taken: usize,
+) -> Outcome<'a>
+    ensures { Replaces (values_of (pairs_in vars.now) (names_given only.entry)) name.now taken result }
+{
+    match replacement(vars, only, name) {
+        Some(value) => Outcome::Replaced(value, taken),
+        None => Outcome::Copied,
+    }
+}
+
+/// What stands for the bytes held back at the end of the text, where it isn't the bytes themselves.
+pub(crate) fn ending<'a>(
+    vars: &[(&'a [u8], &'a [u8])],
+    only: Option<&[&[u8]]>,
+    held: &[u8],
+) -> Option<&'a [u8]>
+    requires { is_undecided held.now ≡ true }
+    ensures { Ending (values_of (pairs_in vars.now) (names_given only.entry)) held.now result }
+{
+    if held.is_empty() {
+        return None;
+    }
+    let (is_braced, name) = begun(held);
+    if is_braced {
+        return None;
+    }
+    if name.is_empty() {
+        return None;
+    }
+    replacement(vars, only, name)
+}

@@ -1,0 +1,114 @@
+// Names and references ("Invoking the envsubst program" of the GNU gettext manual).
+ghost use Rattle.std.specs.Prelude.{◌≡◌, ◌<◌, ◌≤◌, [], map, length, IfNone, IfSome, IfOk, OnErr, Err};
+ghost use Rattle.std.specs.Option.{option_map};
+ghost use Rattle.std.specs.List.{position_or_len, cons_option};
+ghost use Rattle.memchr.specs.Find.{is_byte};
+ghost use Rattle.po_shell.specs.References.{begins_with, is_letter, is_name_byte, is_name, name_run, reference_behind, names_in};
+
+use crate::fault::ToolFault;
+use memchr::memchr;
+use std::alloc::Global;
+
+/// How many bytes a name has at most.
+pub const LONGEST_NAME: usize = 255;
+
+/// Whether a name may begin with this byte.
+#[tactic(auto, unfolding(crate::specs::References::is_letter))]
+pub(crate) fn is_letter(byte: u8) -> bool
+    ensures { result ≡ is_letter byte }
+{
+    byte.is_ascii_alphabetic() || byte == b'_'
+}
+
+/// Whether a name may go on with this byte.
+#[tactic(auto, unfolding(crate::specs::References::is_name_byte))]
+pub(crate) fn is_name_byte(byte: u8) -> bool
+    ensures { result ≡ is_name_byte byte }
+{
+    byte.is_ascii_alphanumeric() || byte == b'_'
+}
+
+/// How many bytes stand before the first `$`.
+pub(crate) fn plain_len(bytes: &[u8]) -> usize
+    ensures place { result ≡ position_or_len (is_byte 36) bytes.now }
+    ensures bound { result ≤ length bytes.now }
+{
+    memchr(b'$', bytes).unwrap_or(bytes.len())
+}
+
+/// Whether a run of name bytes is a name.
+#[tactic(auto, unfolding(crate::specs::References::is_name))]
+pub(crate) fn is_name(run: &[u8]) -> bool
+    ensures { result ≡ is_name run.now }
+{
+    match run {
+        [] => false,
+        [first, others @ ..] => is_letter(*first) && others.len() < LONGEST_NAME,
+    }
+}
+
+/// Whether a text begins with this byte.
+pub(crate) fn begins_with(byte: u8, text: &[u8]) -> bool
+    ensures { result ≡ begins_with byte text.now }
+{
+    text.first() == Some(&byte)
+}
+
+// The longest run of name bytes at the front.
+fn name_run(bytes: &[u8]) -> &[u8]
+    ensures { result.now ≡ name_run bytes.now }
+{
+    for (len, byte) in bytes.iter().enumerate() {
+        if !is_name_byte(*byte) {
+            return &bytes[..len];
+        }
+    }
+    bytes
+}
+
+// The name of the reference that a `$` begins, by the bytes behind it.
+#[tactic(auto, unfolding(crate::specs::References::reference_behind, crate::specs::References::braced_reference, crate::specs::References::bare_reference))]
+fn reference_name(behind: &[u8]) -> Option<&[u8]>
+    ensures { option_map (λ name. name.now) result ≡ option_map (λ r. r.name) (reference_behind behind.now) }
+{
+    if begins_with(b'{', behind) {
+        let inner = &behind[1..];
+        let name = name_run(inner);
+        let is_closed = begins_with(b'}', &inner[name.len()..]);
+        (is_name(name) && is_closed).then_some(name)
+    } else {
+        let name = name_run(behind);
+        is_name(name).then_some(name)
+    }
+}
+
+// What stands behind the first `$`.
+fn behind_dollar(text: &[u8]) -> Option<&[u8]>
+    ensures none { IfNone result (names_in text.now ≡ []) }
+    ensures names { IfSome result (λ behind. names_in text.now
+        ≡ cons_option (option_map (λ r. r.name) (reference_behind behind.now)) (names_in behind.now)) }
+    ensures shorter { IfSome result (λ behind. length behind.now < length text.now) }
+{
+    let plain = plain_len(text);
+    if plain < text.len() {
+        Some(&text[plain + 1..])
+    } else {
+        None
+    }
+}
+
+/// The names of the references in a text such as SHELL-FORMAT, in order, with repeats.
+pub fn names(alloc: Global, format: &[u8]) -> Result<Vec<&[u8]>, ToolFault>
+    ensures names { IfOk result (λ v. map (λ name. name.now) v.items ≡ names_in format.now) }
+    ensures fault { OnErr result (result ≡ Err ToolFault.OutOfMemory) }
+{
+    let mut names = Vec::new(alloc);
+    let mut text = format;
+    while let Some(behind) = behind_dollar(text) {
+        text = behind;
+        if let Some(name) = reference_name(behind) {
+            names.push(name)?;
+        }
+    }
+    Ok(names)
+}
