@@ -1,3 +1,5 @@
 pub mod FaultText
 pub mod Run
 pub mod Profile
+pub mod Gettext
+pub mod GettextView

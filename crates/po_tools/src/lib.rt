@@ -2,8 +2,10 @@
 #![tactic(auto)]
 
 mod fault_text;
+mod gettext;
 mod profile;
 mod run;
 
+pub use gettext::{GettextOptions, NgettextOptions};
 pub use profile::CheckFault;
 pub use run::{Run, deliver};
