@@ -1,22 +1,30 @@
 -- Tokens that spell a tree are read as that tree.
-use Rattle.std.proofs.Common.{◌≡◌, ℕ, zero, suc, ◌+◌, ◌<◌, ◌≤◌, ◌^◌, ◌==◌, Bool, true, false, nat_le, nat_lt, List, [], ◌∷◌, ◌++◌, Option, Some, None, option_and_then, refl, sym, ap, ◌∙◌, append_assoc, append-nil, arith, subst}
+use Rattle.std.proofs.Common.{◌≡◌, ℕ, suc, ◌<◌, ◌≤◌, ◌^◌, ◌==◌, true, false, nat_le, nat_lt, List, [], ◌∷◌, ◌++◌, Some, option_and_then, refl, sym, ap, ◌∙◌, append_assoc, append-nil, arith}
 use Rattle.std.proofs.lemmas.Bool.Decides.{nat_tests}
 use Rattle.plural_rule.specs.declared.operator.Operator.{Operator}
 use Rattle.plural_rule.specs.declared.operator.Operator.TheVariants.{Or, And, Equal, NotEqual, Less, Greater, AtMost, AtLeast, Add, Subtract, Multiply, Divide, Remainder}
 use Rattle.plural_rule.specs.declared.token.Token.{Token}
-use Rattle.plural_rule.specs.declared.token.Token.TheVariants.{Count as CountToken, Number as NumberToken, Not as NotToken, Binary as BinaryToken, Question, Colon, Open, Close}
-use Rattle.plural_rule.specs.Expression.{Tree, Count, Number, Not, Binary, Conditional}
+use Rattle.plural_rule.specs.declared.token.Token.TheVariants.{Binary as BinaryToken, Question, Colon, Close}
+use Rattle.plural_rule.specs.Expression.{Tree, Count, Number, Binary}
 use Rattle.plural_rule.specs.Grammar.{Spells, tighter, conditional, binary, negation, parentheses, count, numeral, level}
-use Rattle.plural_rule.specs.ShiftReduce.{Waiting, WaitNot, WaitOpen, WaitBinary, WaitQuestion, WaitColon, Operand, State, Want, Have, completed, reduce, reduce_by, at_colon, at_close, want_step, have_step, step, run, alone, finish, outcome}
+use Rattle.plural_rule.specs.ShiftReduce.{Waiting, WaitNot, WaitOpen, WaitBinary, WaitQuestion, WaitColon, Want, Have, reduce, at_colon, at_close, run, alone, finish, outcome}
 
 -- every operator's level is from 1 to 6
 pub level-range : (op : Operator) → (1 ≤ level op) × (level op ≤ 6)
 level-range op = elim op as (λ v. (1 ≤ level v) × (level v ≤ 6)) [
-    Or ↦ (omega arith, omega arith) | And ↦ (omega arith, omega arith) | Equal ↦ (omega arith, omega arith)
-    | NotEqual ↦ (omega arith, omega arith) | Less ↦ (omega arith, omega arith) | Greater ↦ (omega arith, omega arith)
-    | AtMost ↦ (omega arith, omega arith) | AtLeast ↦ (omega arith, omega arith) | Add ↦ (omega arith, omega arith)
-    | Subtract ↦ (omega arith, omega arith) | Multiply ↦ (omega arith, omega arith) | Divide ↦ (omega arith, omega arith)
-    | Remainder ↦ (omega arith, omega arith)
+  | Or ↦ (omega arith, omega arith)
+  | And ↦ (omega arith, omega arith)
+  | Equal ↦ (omega arith, omega arith)
+  | NotEqual ↦ (omega arith, omega arith)
+  | Less ↦ (omega arith, omega arith)
+  | Greater ↦ (omega arith, omega arith)
+  | AtMost ↦ (omega arith, omega arith)
+  | AtLeast ↦ (omega arith, omega arith)
+  | Add ↦ (omega arith, omega arith)
+  | Subtract ↦ (omega arith, omega arith)
+  | Multiply ↦ (omega arith, omega arith)
+  | Divide ↦ (omega arith, omega arith)
+  | Remainder ↦ (omega arith, omega arith)
 ]
 
 -- an operand of level k may stand behind what waits: only `!` and operators that bind less tight are on top
@@ -67,12 +75,12 @@ reads (conditional {xs} {ys} {zs} {a} {b} {c} da db dc) st f rest =
     let rb = reads db (WaitQuestion a ∷ st) tt (Colon ∷ (zs ++ rest)) in
     let rc = reads dc (WaitColon a b ∷ st) tt rest in
     let ea : reduce 1 ra.stack ra.tree ≡ record { stack = st; tree = a } =
-        ra.settles 1 (omega arith) ∙ reduce-fits 1 st a (omega arith) (omega arith) (Fits-later 0 1 st (omega arith) f) in
+    ra.settles 1 (omega arith) ∙ reduce-fits 1 st a (omega arith) (omega arith) (Fits-later 0 1 st (omega arith) f) in
     let eb : reduce 0 rb.stack rb.tree ≡ record { stack = WaitQuestion a ∷ st; tree = b } = rb.settles 0 (omega arith) in
     let sa : run (Have ra.stack ra.tree) (Question ∷ ((ys ++ Colon ∷ zs) ++ rest)) ≡ run (Want (WaitQuestion a ∷ st)) ((ys ++ Colon ∷ zs) ++ rest) =
-        ap (λ o. run (Want (WaitQuestion o.tree ∷ o.stack)) ((ys ++ Colon ∷ zs) ++ rest)) ea in
+    ap (λ o. run (Want (WaitQuestion o.tree ∷ o.stack)) ((ys ++ Colon ∷ zs) ++ rest)) ea in
     let sb : run (Have rb.stack rb.tree) (Colon ∷ (zs ++ rest)) ≡ run (Want (WaitColon a b ∷ st)) (zs ++ rest) =
-        ap (λ o. option_and_then (λ next. run next (zs ++ rest)) (at_colon o.stack o.tree)) eb in
+    ap (λ o. option_and_then (λ next. run next (zs ++ rest)) (at_colon o.stack o.tree)) eb in
     record {
       stack = rc.stack;
       tree = rc.tree;
@@ -86,9 +94,9 @@ reads (binary {xs} {ys} {a} {b} op da db) st f rest =
     let ra = reads da st f (BinaryToken op ∷ (ys ++ rest)) in
     let rb = reads db (WaitBinary op a ∷ st) (omega arith) rest in
     let ea : reduce k ra.stack ra.tree ≡ record { stack = st; tree = a } =
-        ra.settles k (omega arith) ∙ reduce-fits k st a range.0 range.1 f in
+    ra.settles k (omega arith) ∙ reduce-fits k st a range.0 range.1 f in
     let sa : run (Have ra.stack ra.tree) (BinaryToken op ∷ (ys ++ rest)) ≡ run (Want (WaitBinary op a ∷ st)) (ys ++ rest) =
-        ap (λ o. run (Want (WaitBinary op o.tree ∷ o.stack)) (ys ++ rest)) ea in
+    ap (λ o. run (Want (WaitBinary op o.tree ∷ o.stack)) (ys ++ rest)) ea in
     record {
       stack = rb.stack;
       tree = rb.tree;
@@ -102,7 +110,7 @@ reads (parentheses {xs} {a} d) st f rest =
     let r = reads d (WaitOpen ∷ st) tt (Close ∷ rest) in
     let e : reduce 0 r.stack r.tree ≡ record { stack = WaitOpen ∷ st; tree = a } = r.settles 0 (omega arith) in
     let s : run (Have r.stack r.tree) (Close ∷ rest) ≡ run (Have st a) rest =
-        ap (λ o. option_and_then (λ next. run next rest) (at_close o.stack o.tree)) e in
+    ap (λ o. option_and_then (λ next. run next rest) (at_close o.stack o.tree)) e in
     record {
       stack = st;
       tree = a;

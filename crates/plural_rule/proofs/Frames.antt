@@ -1,5 +1,5 @@
 -- What waits in an evaluation, with one more node at the end.
-use Rattle.std.proofs.Common.{◌≡◌, ℕ, ◌+◌, List, [], ◌∷◌, ◌++◌, Option, None, refl, sym, ap, subst, ◌∙◌, ◌≤◌, arith}
+use Rattle.std.proofs.Common.{◌≡◌, ℕ, ◌+◌, List, [], ◌∷◌, ◌++◌, None, refl, sym, ap, subst, ◌∙◌, ◌≤◌, arith}
 use Rattle.plural_rule.specs.declared.evaluator.Frame.{Frame}
 use Rattle.plural_rule.specs.declared.evaluator.Frame.TheVariants.{Not as NotFrame, First, Second, Condition}
 use Rattle.plural_rule.specs.declared.operator.Operator.{Operator}

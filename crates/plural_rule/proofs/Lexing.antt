@@ -1,5 +1,5 @@
 -- What a text spells begins with at most one longest token.
-use Rattle.std.proofs.Common.{◌≡◌, ◌≢◌, ℕ, zero, suc, ◌+◌, ◌-◌, ◌<◌, ◌≤◌, ◌==◌, Bool, true, false, ◌⊎◌, inl, inr, List, [], ◌∷◌, ◌++◌, length, refl, sym, ap, subst, ◌∙◌, append_assoc, append-nil, arith, if◌then◌else◌, codes}
+use Rattle.std.proofs.Common.{◌≡◌, ◌≢◌, ℕ, ◌==◌, true, false, ◌⊎◌, inl, inr, List, [], ◌∷◌, ◌++◌, refl, sym, ap, subst, ◌∙◌, append-nil, arith, if◌then◌else◌}
 use Rattle.std.proofs.lemmas.Bool.{false≢true}
 use Rattle.std.proofs.lemmas.Bool.Decides.{nat_tests}
 use Rattle.plural_rule.specs.declared.operator.Operator.{Operator}
@@ -108,7 +108,7 @@ fronts (x ∷ xs) us (y ∷ ys) vs h =
     let heads : x ≡ y = cc in
     let tails : xs ++ us ≡ ys ++ vs = cc in
     elim (fronts xs us ys vs tails) [
-      inl g ↦ inl (record { more = g.more; longer = let e = g.longer in cc; rest = g.rest })
+      | inl g ↦ inl (record { more = g.more; longer = let e = g.longer in cc; rest = g.rest })
       | inr g ↦ inr (record { more = g.more; longer = let e = g.longer in cc; rest = g.rest })
     ]
 
@@ -127,22 +127,22 @@ pub record SameFront (t u : Token) (own rest other behind : List ℕ) : Type 0 w
 pub one_front : (t u : Token) (own rest other behind : List ℕ) → IsSpelling t own → IsLongest own rest → IsSpelling u other → IsLongest other behind → own ++ rest ≡ other ++ behind → SameFront t u own rest other behind
 one_front t u own rest other behind spelt longest spelt' longest' h =
     elim (fronts own rest other behind h) [
-      inl g ↦
-        let none : g.more ≡ [] = longest-ends u own rest other behind g.more longest spelt' g.longer g.rest in
-        let bytes : other ≡ own = g.longer ∙ ap (λ m. own ++ m) none ∙ append-nil own in
-        record {
-          same_token = sym (token_of-spelling t own spelt) ∙ ap token_of (sym bytes) ∙ token_of-spelling u other spelt';
-          same_bytes = sym bytes;
-          same_rest = g.rest ∙ ap (λ m. m ++ behind) none;
-        }
+      | inl g ↦
+          let none : g.more ≡ [] = longest-ends u own rest other behind g.more longest spelt' g.longer g.rest in
+          let bytes : other ≡ own = g.longer ∙ ap (λ m. own ++ m) none ∙ append-nil own in
+          record {
+            same_token = sym (token_of-spelling t own spelt) ∙ ap token_of (sym bytes) ∙ token_of-spelling u other spelt';
+            same_bytes = sym bytes;
+            same_rest = g.rest ∙ ap (λ m. m ++ behind) none;
+          }
       | inr g ↦
-        let none : g.more ≡ [] = longest-ends t other behind own rest g.more longest' spelt g.longer g.rest in
-        let bytes : own ≡ other = g.longer ∙ ap (λ m. other ++ m) none ∙ append-nil other in
-        record {
-          same_token = sym (token_of-spelling t own spelt) ∙ ap token_of bytes ∙ token_of-spelling u other spelt';
-          same_bytes = bytes;
-          same_rest = sym (g.rest ∙ ap (λ m. m ++ rest) none);
-        }
+          let none : g.more ≡ [] = longest-ends t other behind own rest g.more longest' spelt g.longer g.rest in
+          let bytes : own ≡ other = g.longer ∙ ap (λ m. other ++ m) none ∙ append-nil other in
+          record {
+            same_token = sym (token_of-spelling t own spelt) ∙ ap token_of bytes ∙ token_of-spelling u other spelt';
+            same_bytes = bytes;
+            same_rest = sym (g.rest ∙ ap (λ m. m ++ rest) none);
+          }
     ]
 
 -- what stands behind a first token

@@ -7,3 +7,6 @@ pub mod Scanning
 pub mod ParserRun
 pub mod Frames
 pub mod Subtrees
+pub mod Searches
+pub mod Rules
+pub mod Uniqueness

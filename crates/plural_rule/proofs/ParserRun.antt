@@ -1,7 +1,7 @@
 -- The parser between two tokens of a text.
-use Rattle.std.proofs.Common.{◌≡◌, ◌≢◌, ℕ, zero, suc, ◌+◌, ◌-◌, ◌^◌, ◌<◌, ◌≤◌, Bool, true, false, nat_lt, ◌==◌, MatchBool, length-append, ◌⊎◌, inl, inr, List, [], ◌∷◌, ◌++◌, length, take, drop, Option, Some, None, option_and_then, refl, sym, ap, ◌∙◌, arith, subst, append_assoc, append-nil, take-append-drop}
+use Rattle.std.proofs.Common.{◌≡◌, ◌≢◌, ℕ, suc, ◌+◌, ◌^◌, Bool, true, false, nat_lt, MatchBool, inl, inr, List, [], ◌∷◌, ◌++◌, take, drop, Option, Some, None, option_and_then, refl, sym, ap, ◌∙◌, arith, subst, append_assoc, append-nil, take-append-drop}
 use Rattle.std.specs.List.{prefix_len}
-use Rattle.std.proofs.lemmas.Bool.{false≢true, cases_Bool, ne_eqb}
+use Rattle.std.proofs.lemmas.Bool.{false≢true, cases_Bool}
 use Rattle.std.proofs.lemmas.Bool.Decides.{nat_tests}
 use Rattle.plural_rule.specs.declared.node.Node.{Node}
 use Rattle.plural_rule.specs.declared.parser.Pending.{Pending}
@@ -12,12 +12,11 @@ use Rattle.plural_rule.specs.Tokens.{is_blank, IsSpelling, IsLongest, Lexes, end
 use Rattle.plural_rule.specs.Grammar.{Spelt, Spells}
 use Rattle.plural_rule.specs.Header.{without_blanks}
 use Rattle.plural_rule.specs.Scanner.{IsTokenAt, IsTooLarge, HasNoToken}
-use Rattle.plural_rule.specs.PostOrder.{layout}
-use Rattle.plural_rule.specs.ShiftReduce.{State, Want, Have, Operand, Waiting, step, want_step, have_step, run, reduce, alone, finish, outcome}
-use Rattle.plural_rule.specs.ParserState.{Represents, Answers, IsOperand, IsWaiting, HoldsTree, HoldsExpression, pendings}
+use Rattle.plural_rule.specs.ShiftReduce.{State, Want, Have, step, run, finish, outcome}
+use Rattle.plural_rule.specs.ParserState.{Represents, Answers, HoldsTree, HoldsExpression}
 use Rattle.plural_rule.proofs.Complete.{complete}
 use Rattle.plural_rule.proofs.Sound.{sound}
-use Rattle.plural_rule.proofs.Lexing.{first_byte, Behind, Lexes-token, Lexes-blank, Lexes-nothing, spelling-not_blank, no-spelling_of-nothing}
+use Rattle.plural_rule.proofs.Lexing.{first_byte, Lexes-token, Lexes-blank, Lexes-nothing}
 
 -- blanks at the front change nothing
 without_blanks-blank : (c : ℕ) (text : List ℕ) → is_blank c ≡ true → without_blanks (c ∷ text) ≡ without_blanks text
@@ -33,7 +32,7 @@ pub with-blanks : (text : List ℕ) (ts : List Token) → Lexes (without_blanks 
 with-blanks [] ts d = d
 with-blanks (c ∷ text) ts d =
     elim (cases_Bool (is_blank c)) [
-      inl b ↦ blank b (with-blanks text ts (subst (λ x. Lexes x ts) (without_blanks-blank c text b) d))
+      | inl b ↦ blank b (with-blanks text ts (subst (λ x. Lexes x ts) (without_blanks-blank c text b) d))
       | inr b ↦ subst (λ x. Lexes x ts) (without_blanks-other c text b) d
     ]
 
@@ -41,7 +40,7 @@ pub no-blanks : (text : List ℕ) (ts : List Token) → Lexes text ts → Lexes 
 no-blanks [] ts d = d
 no-blanks (c ∷ text) ts d =
     elim (cases_Bool (is_blank c)) [
-      inl b ↦ subst (λ x. Lexes x ts) (sym (without_blanks-blank c text b)) (no-blanks text ts (Lexes-blank c text ts b d))
+      | inl b ↦ subst (λ x. Lexes x ts) (sym (without_blanks-blank c text b)) (no-blanks text ts (Lexes-blank c text ts b d))
       | inr b ↦ subst (λ x. Lexes x ts) (sym (without_blanks-other c text b)) d
     ]
 
@@ -52,9 +51,9 @@ begins : (text : List ℕ) → BeginsWithNoBlank (without_blanks text)
 begins [] n = absurd (n refl)
 begins (c ∷ text) n =
     elim (cases_Bool (is_blank c)) [
-      inl b ↦
-        let e = without_blanks-blank c text b in
-        ap (λ x. is_blank (first_byte x)) e ∙ begins text (λ h. n (e ∙ h))
+      | inl b ↦
+          let e = without_blanks-blank c text b in
+          ap (λ x. is_blank (first_byte x)) e ∙ begins text (λ h. n (e ∙ h))
       | inr b ↦ ap (λ x. is_blank (first_byte x)) (without_blanks-other c text b) ∙ b
     ]
 
@@ -114,7 +113,7 @@ reached-token text rest t n before after entries entries' complete complete' r a
       runs = run-append r.read (t ∷ []) (Want []) ∙ ap (option_and_then (λ s. run s (t ∷ []))) r.runs ∙ ap (option_and_then (λ s. run s [])) next.is;
       gives = λ ts d.
           let own : Lexes rest (t ∷ ts) =
-              subst (λ x. Lexes x (t ∷ ts)) whole (token t (take n rest) at.spelling at.longest (with-blanks (drop n rest) ts d)) in
+          subst (λ x. Lexes x (t ∷ ts)) whole (token t (take n rest) at.spelling at.longest (with-blanks (drop n rest) ts d)) in
           subst (Lexes text) (sym (append_assoc r.read (t ∷ []) ts)) (r.gives (t ∷ ts) own);
       only = λ ts d.
           let s = r.only ts d in
@@ -150,7 +149,7 @@ first rest text ts n b e (token {rest = behind} {ts = later} t own spelt longest
 refused : (read later : List Token) (t : Token) (state : State) (tree : Tree) → run (Want []) read ≡ Some state → step state t ≡ None → Spells 0 (read ++ t ∷ later) tree → ⊥
 refused read later t state tree runs none spells =
     let stops : run (Want []) (read ++ t ∷ later) ≡ None =
-        run-append read (t ∷ later) (Want []) ∙ ap (option_and_then (λ s. run s (t ∷ later))) runs ∙ ap (option_and_then (λ s. run s later)) none in
+    run-append read (t ∷ later) (Want []) ∙ ap (option_and_then (λ s. run s (t ∷ later))) runs ∙ ap (option_and_then (λ s. run s later)) none in
     let wrong : None ≡ Some tree = sym (ap (option_and_then finish) stops) ∙ complete (read ++ t ∷ later) tree spells in
     cc
 
@@ -209,5 +208,5 @@ reached-end text before after entries complete' false r h =
     let s = r.only ts lexes in
     let all : ts ≡ r.read = s.is ∙ ap (λ x. r.read ++ x) (Lexes-nothing s.later s.lexes) ∙ append-nil r.read in
     let wrong : None ≡ Some tree =
-        sym (ap outcome all ∙ ap (option_and_then finish) r.runs ∙ h) ∙ complete ts tree spells in
+    sym (ap outcome all ∙ ap (option_and_then finish) r.runs ∙ h) ∙ complete ts tree spells in
     cc

@@ -1,16 +1,15 @@
 -- The parser's table and stack behind one step.
-use Rattle.std.proofs.Common.{◌≡◌, ℕ, zero, suc, ◌+◌, ◌-◌, ◌<◌, ◌≤◌, ◌==◌, Bool, true, false, nat_le, ◌⊎◌, inl, inr, List, [], ◌∷◌, ◌++◌, length, Option, Some, None, refl, sym, ap, ◌∙◌, append_assoc, append-nil, arith, subst, length-append}
+use Rattle.std.proofs.Common.{◌≡◌, ℕ, ◌+◌, ◌-◌, ◌==◌, false, nat_le, inl, inr, List, [], ◌∷◌, ◌++◌, length, Some, None, refl, sym, ap, ◌∙◌, append_assoc, arith, subst, length-append}
 use Rattle.std.proofs.lemmas.Bool.{cases_Bool}
-use Rattle.std.proofs.lemmas.Bool.Decides.{nat_tests}
 use Rattle.plural_rule.specs.declared.operator.Operator.{Operator}
 use Rattle.plural_rule.specs.declared.node.Node.{Node}
-use Rattle.plural_rule.specs.declared.node.Node.TheVariants.{Count as CountNode, Number as NumberNode, Not as NotNode, Binary as BinaryNode, Conditional as ConditionalNode}
+use Rattle.plural_rule.specs.declared.node.Node.TheVariants.{Not as NotNode, Binary as BinaryNode, Conditional as ConditionalNode}
 use Rattle.plural_rule.specs.declared.parser.Pending.{Pending}
-use Rattle.plural_rule.specs.declared.parser.Pending.TheVariants.{Not as NotPending, Open as OpenPending, Binary as BinaryPending, Question as QuestionPending, Colon as ColonPending}
+use Rattle.plural_rule.specs.declared.parser.Pending.TheVariants.{Binary as BinaryPending, Question as QuestionPending, Colon as ColonPending}
 use Rattle.plural_rule.specs.Expression.{Tree, Count, Number, Not, Binary, Conditional, nodes}
 use Rattle.plural_rule.specs.Grammar.{level}
 use Rattle.plural_rule.specs.PostOrder.{layout}
-use Rattle.plural_rule.specs.ShiftReduce.{Waiting, WaitNot, WaitOpen, WaitBinary, WaitQuestion, WaitColon, Operand, State, Want, Have, completed, reduce, reduce_by, at_colon}
+use Rattle.plural_rule.specs.ShiftReduce.{Waiting, WaitNot, WaitOpen, WaitBinary, WaitQuestion, WaitColon, Operand, completed, reduce, reduce_by, at_colon}
 use Rattle.plural_rule.specs.ParserState.{size, laid, pending, pendings, completed_node, IsWaiting, IsOperand, Answers}
 
 pub length-layout : (t : Tree) (base : ℕ) → length (layout base t) ≡ nodes t
@@ -81,19 +80,19 @@ completes k last WaitNot below t node l e =
 completes k last WaitOpen below t node l e = absurd cc
 completes k last (WaitBinary op a) below t node l e =
     elim (cases_Bool (nat_le k (level op))) [
-      inl b ↦
-        let e' : Some (BinaryNode op (size below + nodes a - 1) last) ≡ Some node = rw b at e in
-        let is : node ≡ BinaryNode op (size below + nodes a - 1) (size below + nodes a + nodes t - 1) = cc in
-        record { tree = Binary op a t; is = rw b refl; table_is = rw is (simp append_assoc) }
+      | inl b ↦
+          let e' : Some (BinaryNode op (size below + nodes a - 1) last) ≡ Some node = rw b at e in
+          let is : node ≡ BinaryNode op (size below + nodes a - 1) (size below + nodes a + nodes t - 1) = cc in
+          record { tree = Binary op a t; is = rw b refl; table_is = rw is (simp append_assoc) }
       | inr b ↦ let e' : None ≡ Some node = rw b at e in absurd cc
     ]
 completes k last (WaitQuestion a) below t node l e = absurd cc
 completes k last (WaitColon a b) below t node l e =
     elim (cases_Bool (k == 0)) [
-      inl b' ↦
-        let e' : Some (ConditionalNode (size below + nodes a - 1) (size below + nodes a + nodes b - 1) last) ≡ Some node = rw b' at e in
-        let is : node ≡ ConditionalNode (size below + nodes a - 1) (size below + nodes a + nodes b - 1) (size below + nodes a + nodes b + nodes t - 1) = cc in
-        record { tree = Conditional a b t; is = rw b' refl; table_is = rw is (simp append_assoc) }
+      | inl b' ↦
+          let e' : Some (ConditionalNode (size below + nodes a - 1) (size below + nodes a + nodes b - 1) last) ≡ Some node = rw b' at e in
+          let is : node ≡ ConditionalNode (size below + nodes a - 1) (size below + nodes a + nodes b - 1) (size below + nodes a + nodes b + nodes t - 1) = cc in
+          record { tree = Conditional a b t; is = rw b' refl; table_is = rw is (simp append_assoc) }
       | inr b' ↦ let e' : None ≡ Some node = rw b' at e in absurd cc
     ]
 
@@ -103,13 +102,13 @@ refuses k last base WaitNot t e = absurd cc
 refuses k last base WaitOpen t e = refl
 refuses k last base (WaitBinary op a) t e =
     elim (cases_Bool (nat_le k (level op))) [
-      inl b ↦ let e' : Some (BinaryNode op (base + nodes a - 1) last) ≡ None = rw b at e in absurd cc
+      | inl b ↦ let e' : Some (BinaryNode op (base + nodes a - 1) last) ≡ None = rw b at e in absurd cc
       | inr b ↦ rw b refl
     ]
 refuses k last base (WaitQuestion a) t e = refl
 refuses k last base (WaitColon a b) t e =
     elim (cases_Bool (k == 0)) [
-      inl b' ↦ let e' : Some (ConditionalNode (base + nodes a - 1) (base + nodes a + nodes b - 1) last) ≡ None = rw b' at e in absurd cc
+      | inl b' ↦ let e' : Some (ConditionalNode (base + nodes a - 1) (base + nodes a + nodes b - 1) last) ≡ None = rw b' at e in absurd cc
       | inr b' ↦ rw b' refl
     ]
 
@@ -140,8 +139,8 @@ Reduces-stop k last table entries rest top goal r e c =
     let t = top_of r.stack rest top (sym e ∙ r.represents.entries_are) in
     let stays = refuses k last (size t.below) t.newest r.tree (ap (λ p. completed_node k p last) (sym t.top_is) ∙ c) in
     let same : record { stack = r.stack; tree = r.tree } ≡ goal =
-        ap (λ s. record { stack = s; tree = r.tree }) t.is
-        ∙ sym (ap (reduce_by (reduce k t.below) t.newest t.below r.tree) stays) ∙ ap (λ s. reduce k s r.tree) (sym t.is) ∙ r.same in
+    ap (λ s. record { stack = s; tree = r.tree }) t.is
+    ∙ sym (ap (reduce_by (reduce k t.below) t.newest t.below r.tree) stays) ∙ ap (λ s. reduce k s r.tree) (sym t.is) ∙ r.same in
     subst (λ (o : Operand). IsOperand table entries o.stack o.tree) same r.represents
 
 none-waits : (stack : List Waiting) → length (pendings stack) ≡ 0 → stack ≡ []
@@ -154,7 +153,7 @@ pub Reduces-end : (k : ℕ) (table : List Node) (entries : List Pending) (goal :
 Reduces-end k table entries goal l r =
     let empty : r.stack ≡ [] = none-waits r.stack (sym (ap length r.represents.entries_are) ∙ l) in
     let same : record { stack = r.stack; tree = r.tree } ≡ goal =
-        ap (λ s. record { stack = s; tree = r.tree }) empty ∙ ap (λ s. reduce k s r.tree) (sym empty) ∙ r.same in
+    ap (λ s. record { stack = s; tree = r.tree }) empty ∙ ap (λ s. reduce k s r.tree) (sym empty) ∙ r.same in
     subst (λ (o : Operand). IsOperand table entries o.stack o.tree) same r.represents
 
 -- an operator behind an operand
@@ -183,6 +182,6 @@ pub answers-colon : (i last : ℕ) (table : List Node) (entries rest : List Pend
 answers-colon i last table entries rest stack t h e l =
     let top = top_of stack rest (QuestionPending i) (sym e ∙ h.entries_are) in
     let held : IsOperand table (rest ++ QuestionPending i ∷ []) (top.newest ∷ top.below) t =
-        subst (λ s. IsOperand table (rest ++ QuestionPending i ∷ []) s t) top.is (subst (λ x. IsOperand table x stack t) e h) in
+    subst (λ s. IsOperand table (rest ++ QuestionPending i ∷ []) s t) top.is (subst (λ x. IsOperand table x stack t) e h) in
     subst (λ s. Answers (at_colon s t) (Some false) table (rest ++ ColonPending i last ∷ [])) (sym top.is)
     (colon-newest top.newest top.below i last table rest t top.top_is top.rest_is held l)

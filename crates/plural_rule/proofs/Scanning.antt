@@ -1,5 +1,5 @@
 -- The token at the front of a text.
-use Rattle.std.proofs.Common.{◌≡◌, ◌≢◌, ℕ, zero, suc, ◌+◌, ◌-◌, ◌^◌, ◌<◌, ◌≤◌, Bool, true, false, ◌⊎◌, inl, inr, List, [], ◌∷◌, ◌++◌, length, take, drop, get_or, refl, sym, ap, ◌∙◌, arith, subst, take-append-drop, length-drop, drop-cons, append-nil}
+use Rattle.std.proofs.Common.{◌≡◌, ◌≢◌, ℕ, suc, ◌-◌, ◌^◌, ◌<◌, ◌≤◌, true, false, inl, inr, List, [], ◌∷◌, ◌++◌, length, drop, get_or, refl, sym, ap, ◌∙◌, arith, subst, take-append-drop, length-drop, drop-cons}
 use Rattle.std.specs.Prelude.{take_while}
 use Rattle.std.specs.List.{prefix_len}
 use Rattle.std.proofs.lemmas.Bool.{false≢true, cases_Bool, cond-true, cond-false}
@@ -75,12 +75,12 @@ pub AllDigits-take_while : (text : List ℕ) → AllDigits (take_while is_digit 
 AllDigits-take_while [] = tt
 AllDigits-take_while (c ∷ text) =
     elim (cases_Bool (is_digit c)) [
-      inl e ↦
-        let cons : take_while is_digit (c ∷ text) ≡ c ∷ take_while is_digit text = take_while-cons is_digit c text ∙ cond-true (is_digit c) _ _ e in
-        subst AllDigits (sym cons) (e, AllDigits-take_while text)
+      | inl e ↦
+          let cons : take_while is_digit (c ∷ text) ≡ c ∷ take_while is_digit text = take_while-cons is_digit c text ∙ cond-true (is_digit c) _ _ e in
+          subst AllDigits (sym cons) (e, AllDigits-take_while text)
       | inr e ↦
-        let none : take_while is_digit (c ∷ text) ≡ [] = take_while-cons is_digit c text ∙ cond-false (is_digit c) _ _ e in
-        subst AllDigits (sym none) tt
+          let none : take_while is_digit (c ∷ text) ≡ [] = take_while-cons is_digit c text ∙ cond-false (is_digit c) _ _ e in
+          subst AllDigits (sym none) tt
     ]
 
 AllDigits-append : (xs ys : List ℕ) → AllDigits (xs ++ ys) → AllDigits ys
@@ -144,7 +144,7 @@ numeral-none text d large t own rest e spelt longest =
     let n = numeral text d in
     let k = prefix_len is_digit text in
     let same = one_front (Number (decimal_value (take_while is_digit text))) t (take_while is_digit text) (drop k text) own rest
-        (n.some, AllDigits-take_while text, refl) n.longest spelt longest (take-append-drop k text ∙ e) in
+    (n.some, AllDigits-take_while text, refl) n.longest spelt longest (take-append-drop k text ∙ e) in
     subst IsTooLarge same.same_token large
 
 pub double-token : (text : List ℕ) (op : Operator) → is_digit (get_or text 0 0) ≡ false → BeginsWithDouble text op → IsTokenAt text (Binary op) 2

@@ -1,5 +1,5 @@
 -- Tokens that are read as a tree spell that tree.
-use Rattle.std.proofs.Common.{◌≡◌, ℕ, zero, suc, ◌+◌, ◌-◌, ◌<◌, ◌≤◌, ◌^◌, ◌==◌, Bool, true, false, nat_le, nat_lt, ◌⊎◌, inl, inr, List, [], ◌∷◌, ◌++◌, Option, Some, None, option_and_then, refl, sym, ap, ◌∙◌, append_assoc, append-nil, arith, subst, ltb}
+use Rattle.std.proofs.Common.{◌≡◌, ℕ, zero, suc, ◌+◌, ◌-◌, ◌<◌, ◌≤◌, ◌^◌, ◌==◌, nat_le, nat_lt, inl, inr, List, [], ◌∷◌, ◌++◌, Option, Some, None, option_and_then, refl, sym, ap, ◌∙◌, append_assoc, append-nil, arith, subst}
 use Rattle.std.proofs.lemmas.Bool.{cases_Bool}
 use Rattle.std.proofs.lemmas.Bool.Decides.{nat_tests}
 use Rattle.plural_rule.specs.declared.operator.Operator.{Operator}
@@ -7,8 +7,8 @@ use Rattle.plural_rule.specs.declared.token.Token.{Token}
 use Rattle.plural_rule.specs.declared.token.Token.TheVariants.{Count as CountToken, Number as NumberToken, Not as NotToken, Binary as BinaryToken, Question, Colon, Open, Close}
 use Rattle.plural_rule.specs.Expression.{Tree, Count, Number, Not, Binary, Conditional}
 use Rattle.plural_rule.specs.Grammar.{Spells, tighter, conditional, binary, negation, parentheses, count, numeral, level}
-use Rattle.plural_rule.specs.ShiftReduce.{Waiting, WaitNot, WaitOpen, WaitBinary, WaitQuestion, WaitColon, Operand, State, Want, Have, completed, reduce, reduce_by, at_colon, at_close, want_step, have_step, step, run, alone, finish, outcome}
-use Rattle.plural_rule.proofs.Complete.{Fits, Fits-later, level-range}
+use Rattle.plural_rule.specs.ShiftReduce.{Waiting, WaitNot, WaitOpen, WaitBinary, WaitQuestion, WaitColon, Operand, State, Want, Have, reduce, at_colon, at_close, want_step, have_step, step, run, alone, finish, outcome}
+use Rattle.plural_rule.proofs.Complete.{Fits, level-range}
 
 -- the tokens behind an entry, which is `before` and the entry's own tokens
 pub record WaitsBinary (op : Operator) (a : Tree) (own : List Token) (stack : List Waiting) : Type 0 where
@@ -149,22 +149,22 @@ reduces k (WaitOpen ∷ stack) m t read low high h =
     record { before = h.before; own = h.own; read_is = h.read_is; waits = h.waits; spells = loosen k m low h.spells; fits = tt }
 reduces k (WaitBinary op a ∷ stack) m t read low high h =
     elim (cases_Bool (nat_le k (level op))) [
-      inl e ↦
-        let at_most : k ≤ level op = grind (arith, nat_tests) in
-        rw e (reduces k stack (level op) (Binary op a t) read at_most high (holds-binary m op a stack t read h))
+      | inl e ↦
+          let at_most : k ≤ level op = grind (arith, nat_tests) in
+          rw e (reduces k stack (level op) (Binary op a t) read at_most high (holds-binary m op a stack t read h))
       | inr e ↦
-        let below : level op < k = grind (arith, nat_tests) in
-        rw e (record { before = h.before; own = h.own; read_is = h.read_is; waits = h.waits; spells = loosen k m low h.spells; fits = below })
+          let below : level op < k = grind (arith, nat_tests) in
+          rw e (record { before = h.before; own = h.own; read_is = h.read_is; waits = h.waits; spells = loosen k m low h.spells; fits = below })
     ]
 reduces k (WaitQuestion a ∷ stack) m t read low high h =
     record { before = h.before; own = h.own; read_is = h.read_is; waits = h.waits; spells = loosen k m low h.spells; fits = tt }
 reduces k (WaitColon a b ∷ stack) m t read low high h =
     elim (cases_Bool (k == 0)) [
-      inl e ↦
-        let zero_is : k ≤ 0 = grind (arith, nat_tests) in
-        rw e (reduces k stack 0 (Conditional a b t) read zero_is high (holds-colon m a b stack t read h))
+      | inl e ↦
+          let zero_is : k ≤ 0 = grind (arith, nat_tests) in
+          rw e (reduces k stack 0 (Conditional a b t) read zero_is high (holds-colon m a b stack t read h))
       | inr e ↦
-        rw e (record { before = h.before; own = h.own; read_is = h.read_is; waits = h.waits; spells = loosen k m low h.spells; fits = tt })
+          rw e (record { before = h.before; own = h.own; read_is = h.read_is; waits = h.waits; spells = loosen k m low h.spells; fits = tt })
     ]
 
 -- what was read, in a state
@@ -184,9 +184,9 @@ want-reads : (stack : List Waiting) (token : Token) (read : List Token) → Wait
 want-reads stack CountToken read w = have stack Count read (CountToken ∷ []) w count
 want-reads stack (NumberToken v) read w =
     elim (cases_Bool (nat_lt v (2 ^ 64))) [
-      inl e ↦
-        let small : v < 2 ^ 64 = grind (arith, nat_tests) in
-        rw e (have stack (Number v) read (NumberToken v ∷ []) w (numeral v small))
+      | inl e ↦
+          let small : v < 2 ^ 64 = grind (arith, nat_tests) in
+          rw e (have stack (Number v) read (NumberToken v ∷ []) w (numeral v small))
       | inr e ↦ rw e tt
     ]
 want-reads stack NotToken read w = more (NotToken ∷ []) w refl
@@ -206,13 +206,13 @@ at_colon-reads (WaitQuestion a ∷ stack) t read h =
     let e : WaitsQuestion a l.own stack = l.entry in
     let own = e.left ++ (Question ∷ (h.own ++ Colon ∷ [])) in
     let is : read ++ Colon ∷ [] ≡ l.before ++ own =
-        ap (λ r. r ++ Colon ∷ []) (h.read_is ∙ ap (λ b. b ++ h.own) (l.read_is ∙ ap (λ o. l.before ++ o) e.own_is)
-            ∙ append_assoc l.before (e.left ++ Question ∷ []) h.own
-            ∙ ap (λ o. l.before ++ o) (append_assoc e.left (Question ∷ []) h.own))
-        ∙ append_assoc l.before (e.left ++ (Question ∷ h.own)) (Colon ∷ [])
-        ∙ ap (λ o. l.before ++ o) (append_assoc e.left (Question ∷ h.own) (Colon ∷ [])) in
+    ap (λ r. r ++ Colon ∷ []) (h.read_is ∙ ap (λ b. b ++ h.own) (l.read_is ∙ ap (λ o. l.before ++ o) e.own_is)
+    ∙ append_assoc l.before (e.left ++ Question ∷ []) h.own
+    ∙ ap (λ o. l.before ++ o) (append_assoc e.left (Question ∷ []) h.own))
+    ∙ append_assoc l.before (e.left ++ (Question ∷ h.own)) (Colon ∷ [])
+    ∙ ap (λ o. l.before ++ o) (append_assoc e.left (Question ∷ h.own) (Colon ∷ [])) in
     let entry : WaitsColon a t own stack =
-        record { left = e.left; middle = h.own; own_is = refl; spells = e.spells; spells_middle = h.spells; fits = e.fits } in
+    record { left = e.left; middle = h.own; own_is = refl; spells = e.spells; spells_middle = h.spells; fits = e.fits } in
     subst (Waits (WaitColon a t ∷ stack)) (sym is) (more own l.waits entry)
 at_colon-reads (WaitColon a b ∷ stack) t read h = tt
 
@@ -223,9 +223,9 @@ at_close-reads (WaitOpen ∷ stack) t read h =
     let l = last h.waits in
     let e : l.own ≡ Open ∷ [] = l.entry in
     let is : read ++ Close ∷ [] ≡ l.before ++ (Open ∷ (h.own ++ Close ∷ [])) =
-        ap (λ r. r ++ Close ∷ []) (h.read_is ∙ ap (λ b. b ++ h.own) (l.read_is ∙ ap (λ o. l.before ++ o) e)
-            ∙ append_assoc l.before (Open ∷ []) h.own)
-        ∙ append_assoc l.before (Open ∷ h.own) (Close ∷ []) in
+    ap (λ r. r ++ Close ∷ []) (h.read_is ∙ ap (λ b. b ++ h.own) (l.read_is ∙ ap (λ o. l.before ++ o) e)
+    ∙ append_assoc l.before (Open ∷ []) h.own)
+    ∙ append_assoc l.before (Open ∷ h.own) (Close ∷ []) in
     subst (Holds 7 stack t) (sym is) (have stack t l.before (Open ∷ (h.own ++ Close ∷ [])) l.waits (parentheses h.spells))
 at_close-reads (WaitBinary op a ∷ stack) t read h = tt
 at_close-reads (WaitQuestion a ∷ stack) t read h = tt
@@ -240,17 +240,17 @@ have-reads stack t (BinaryToken op) read h =
     let o = reduce (level op) stack t in
     let r : Holds (level op) o.stack o.tree read = reduces (level op) stack 7 t read (omega arith) (omega arith) h in
     let entry : WaitsBinary op o.tree (r.own ++ BinaryToken op ∷ []) o.stack =
-        record { left = r.own; own_is = refl; spells = r.spells; fits = r.fits } in
+    record { left = r.own; own_is = refl; spells = r.spells; fits = r.fits } in
     let is : read ++ BinaryToken op ∷ [] ≡ r.before ++ (r.own ++ BinaryToken op ∷ []) =
-        ap (λ x. x ++ BinaryToken op ∷ []) r.read_is ∙ append_assoc r.before r.own (BinaryToken op ∷ []) in
+    ap (λ x. x ++ BinaryToken op ∷ []) r.read_is ∙ append_assoc r.before r.own (BinaryToken op ∷ []) in
     subst (Waits (WaitBinary op o.tree ∷ o.stack)) (sym is) (more _ r.waits entry)
 have-reads stack t Question read h =
     let o = reduce 1 stack t in
     let r : Holds 1 o.stack o.tree read = reduces 1 stack 7 t read (omega arith) (omega arith) h in
     let entry : WaitsQuestion o.tree (r.own ++ Question ∷ []) o.stack =
-        record { left = r.own; own_is = refl; spells = r.spells; fits = r.fits } in
+    record { left = r.own; own_is = refl; spells = r.spells; fits = r.fits } in
     let is : read ++ Question ∷ [] ≡ r.before ++ (r.own ++ Question ∷ []) =
-        ap (λ x. x ++ Question ∷ []) r.read_is ∙ append_assoc r.before r.own (Question ∷ []) in
+    ap (λ x. x ++ Question ∷ []) r.read_is ∙ append_assoc r.before r.own (Question ∷ []) in
     subst (Waits (WaitQuestion o.tree ∷ o.stack)) (sym is) (more _ r.waits entry)
 have-reads stack t Colon read h =
     at_colon-reads _ _ read (reduces 0 stack 7 t read (omega arith) (omega arith) h)

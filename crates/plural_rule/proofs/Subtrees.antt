@@ -1,13 +1,13 @@
 -- The node at an index of a tree's table, and the part of the tree that it stands for.
-use Rattle.std.proofs.Common.{◌≡◌, ℕ, zero, suc, ◌+◌, ◌-◌, ◌<◌, ◌≤◌, Bool, true, false, nat_lt, ◌⊎◌, inl, inr, List, [], ◌∷◌, ◌++◌, length, get_or, refl, sym, ap, subst, ◌∙◌, append_assoc, length-append, arith}
-use Rattle.std.proofs.lemmas.Bool.{cases_Bool, lt-ltb, ltb-true}
+use Rattle.std.proofs.Common.{◌≡◌, ℕ, zero, suc, ◌+◌, ◌-◌, ◌<◌, ◌≤◌, true, false, nat_lt, inl, inr, List, [], ◌∷◌, ◌++◌, length, get_or, refl, sym, ap, subst, ◌∙◌, append_assoc, length-append, arith}
+use Rattle.std.proofs.lemmas.Bool.{cases_Bool, ltb-true}
 use Rattle.std.proofs.lemmas.Bool.Decides.{nat_tests}
 use Rattle.std.proofs.lemmas.List.{get_or_append_left, get_or-append_right}
 use Rattle.plural_rule.specs.declared.operator.Operator.{Operator}
 use Rattle.plural_rule.specs.declared.node.Node.{Node}
 use Rattle.plural_rule.specs.declared.node.Node.TheVariants.{Count as CountNode, Number as NumberNode, Not as NotNode, Binary as BinaryNode, Conditional as ConditionalNode}
 use Rattle.plural_rule.specs.Expression.{Tree, Count, Number, Not, Binary, Conditional, nodes}
-use Rattle.plural_rule.specs.PostOrder.{layout, tree_of, tree_of-layout}
+use Rattle.plural_rule.specs.PostOrder.{layout}
 use Rattle.plural_rule.specs.Evaluation.{subtree, IsNodeOf}
 use Rattle.plural_rule.proofs.ParserSteps.{length-layout}
 
@@ -152,18 +152,18 @@ node-at (Number v) base (suc i) d h = absurd (omega arith)
 node-at (Not a) base i d h =
     let lengths = length-layout a base in
     elim (cases_Bool (nat_lt i (nodes a))) [
-      inl b ↦
-        let small : i < nodes a = ltb-true i (nodes a) b in
-        let zero-i : 0 + i ≡ i = omega arith in
-        let base-zero : base ≡ base + 0 = omega arith in
-        subst (λ j. StandsAt (Not a) base (layout base (Not a)) j d) zero-i
-        (in-operand a (Not a) base base 0 i d (layout base (Not a)) base-zero (inside-not a) small (node-at a base i d small)
+      | inl b ↦
+          let small : i < nodes a = ltb-true i (nodes a) b in
+          let zero-i : 0 + i ≡ i = omega arith in
+          let base-zero : base ≡ base + 0 = omega arith in
+          subst (λ j. StandsAt (Not a) base (layout base (Not a)) j d) zero-i
+          (in-operand a (Not a) base base 0 i d (layout base (Not a)) base-zero (inside-not a) small (node-at a base i d small)
           (ap (λ j. get_or (layout base (Not a)) j d) zero-i ∙ get_or_append_left (layout base a) _ d i (omega arith)))
       | inr b ↦
-        let large : nodes a ≤ i = grind (arith, nat_tests) in
-        let base-zero : base ≡ base + 0 = omega arith in
-        last-node (Not a) base i d (NotNode (base + nodes a - 1)) (layout base a) (omega arith) (omega arith)
-        (a, lift a (Not a) base base 0 (base + nodes a - 1) a base-zero (inside-not a) (root a base), refl)
+          let large : nodes a ≤ i = grind (arith, nat_tests) in
+          let base-zero : base ≡ base + 0 = omega arith in
+          last-node (Not a) base i d (NotNode (base + nodes a - 1)) (layout base a) (omega arith) (omega arith)
+          (a, lift a (Not a) base base 0 (base + nodes a - 1) a base-zero (inside-not a) (root a base), refl)
     ]
 node-at (Binary op a b) base i d h =
     let t = Binary op a b in
@@ -174,32 +174,32 @@ node-at (Binary op a b) base i d h =
     let lengths' = length-layout b inner in
     let base-zero : base ≡ base + 0 = omega arith in
     elim (cases_Bool (nat_lt i (nodes a))) [
-      inl s ↦
-        let small : i < nodes a = ltb-true i (nodes a) s in
-        let zero-i : 0 + i ≡ i = omega arith in
-        subst (λ j. StandsAt t base table j d) zero-i
-        (in-operand a t base base 0 i d table base-zero (inside-left op a b) small (node-at a base i d small)
+      | inl s ↦
+          let small : i < nodes a = ltb-true i (nodes a) s in
+          let zero-i : 0 + i ≡ i = omega arith in
+          subst (λ j. StandsAt t base table j d) zero-i
+          (in-operand a t base base 0 i d table base-zero (inside-left op a b) small (node-at a base i d small)
           (ap (λ j. get_or table j d) zero-i ∙ get_or_append_left (layout base a) _ d i (omega arith)))
       | inr s ↦
-        let large : nodes a ≤ i = grind (arith, nat_tests) in
-        elim (cases_Bool (nat_lt i (nodes a + nodes b))) [
-          inl s' ↦
-            let small : i < nodes a + nodes b = ltb-true i (nodes a + nodes b) s' in
-            let j = i - nodes a in
-            let below : j < nodes b = omega arith in
-            let sum : nodes a + j ≡ i = omega arith in
-            subst (λ k. StandsAt t base table k d) sum
-            (in-operand b t base inner (nodes a) j d table refl (inside-right op a b) below (node-at b inner j d below)
-              (ap (λ k. get_or table k d) sum ∙ get_or-append_right (layout base a) _ (nodes a) i d lengths large ∙ get_or_append_left (layout inner b) (node ∷ []) d j (omega arith)))
-          | inr s' ↦
-            let large' : nodes a + nodes b ≤ i = grind (arith, nat_tests) in
-            let front = layout base a ++ layout inner b in
-            let whole : front ++ node ∷ [] ≡ table = append_assoc (layout base a) (layout inner b) (node ∷ []) in
-            let front-length : length front ≡ nodes t - 1 = omega (arith, length-append (layout base a) (layout inner b)) in
-            subst (λ xs. StandsAt t base xs i d) whole
-            (last-node t base i d node front front-length (omega arith)
-              (a, b, lift a t base base 0 (base + nodes a - 1) a base-zero (inside-left op a b) (root a base), lift b t base inner (nodes a) (base + nodes a + nodes b - 1) b refl (inside-right op a b) (root b inner), refl))
-        ]
+          let large : nodes a ≤ i = grind (arith, nat_tests) in
+          elim (cases_Bool (nat_lt i (nodes a + nodes b))) [
+            | inl s' ↦
+                let small : i < nodes a + nodes b = ltb-true i (nodes a + nodes b) s' in
+                let j = i - nodes a in
+                let below : j < nodes b = omega arith in
+                let sum : nodes a + j ≡ i = omega arith in
+                subst (λ k. StandsAt t base table k d) sum
+                (in-operand b t base inner (nodes a) j d table refl (inside-right op a b) below (node-at b inner j d below)
+                (ap (λ k. get_or table k d) sum ∙ get_or-append_right (layout base a) _ (nodes a) i d lengths large ∙ get_or_append_left (layout inner b) (node ∷ []) d j (omega arith)))
+            | inr s' ↦
+                let large' : nodes a + nodes b ≤ i = grind (arith, nat_tests) in
+                let front = layout base a ++ layout inner b in
+                let whole : front ++ node ∷ [] ≡ table = append_assoc (layout base a) (layout inner b) (node ∷ []) in
+                let front-length : length front ≡ nodes t - 1 = omega (arith, length-append (layout base a) (layout inner b)) in
+                subst (λ xs. StandsAt t base xs i d) whole
+                (last-node t base i d node front front-length (omega arith)
+                (a, b, lift a t base base 0 (base + nodes a - 1) a base-zero (inside-left op a b) (root a base), lift b t base inner (nodes a) (base + nodes a + nodes b - 1) b refl (inside-right op a b) (root b inner), refl))
+          ]
     ]
 node-at (Conditional a b c) base i d h =
     let t = Conditional a b c in
@@ -213,47 +213,47 @@ node-at (Conditional a b c) base i d h =
     let base-zero : base ≡ base + 0 = omega arith in
     let sum-base : innermost ≡ base + (nodes a + nodes b) = omega arith in
     elim (cases_Bool (nat_lt i (nodes a))) [
-      inl s ↦
-        let small : i < nodes a = ltb-true i (nodes a) s in
-        let zero-i : 0 + i ≡ i = omega arith in
-        subst (λ j. StandsAt t base table j d) zero-i
-        (in-operand a t base base 0 i d table base-zero (inside-first a b c) small (node-at a base i d small)
+      | inl s ↦
+          let small : i < nodes a = ltb-true i (nodes a) s in
+          let zero-i : 0 + i ≡ i = omega arith in
+          subst (λ j. StandsAt t base table j d) zero-i
+          (in-operand a t base base 0 i d table base-zero (inside-first a b c) small (node-at a base i d small)
           (ap (λ j. get_or table j d) zero-i ∙ get_or_append_left (layout base a) _ d i (omega arith)))
       | inr s ↦
-        let large : nodes a ≤ i = grind (arith, nat_tests) in
-        elim (cases_Bool (nat_lt i (nodes a + nodes b))) [
-          inl s' ↦
-            let small : i < nodes a + nodes b = ltb-true i (nodes a + nodes b) s' in
-            let j = i - nodes a in
-            let below : j < nodes b = omega arith in
-            let sum : nodes a + j ≡ i = omega arith in
-            subst (λ k. StandsAt t base table k d) sum
-            (in-operand b t base inner (nodes a) j d table refl (inside-second a b c) below (node-at b inner j d below)
-              (ap (λ k. get_or table k d) sum ∙ get_or-append_right (layout base a) _ (nodes a) i d lengths large ∙ get_or_append_left (layout inner b) _ d j (omega arith)))
-          | inr s' ↦
-            let large' : nodes a + nodes b ≤ i = grind (arith, nat_tests) in
-            elim (cases_Bool (nat_lt i (nodes a + nodes b + nodes c))) [
-              inl s'' ↦
-                let small : i < nodes a + nodes b + nodes c = ltb-true i (nodes a + nodes b + nodes c) s'' in
-                let j = i - nodes a - nodes b in
-                let below : j < nodes c = omega arith in
-                let sum : nodes a + nodes b + j ≡ i = omega arith in
+          let large : nodes a ≤ i = grind (arith, nat_tests) in
+          elim (cases_Bool (nat_lt i (nodes a + nodes b))) [
+            | inl s' ↦
+                let small : i < nodes a + nodes b = ltb-true i (nodes a + nodes b) s' in
+                let j = i - nodes a in
+                let below : j < nodes b = omega arith in
+                let sum : nodes a + j ≡ i = omega arith in
                 subst (λ k. StandsAt t base table k d) sum
-                (in-operand c t base innermost (nodes a + nodes b) j d table sum-base (inside-third a b c) below (node-at c innermost j d below)
-                  (ap (λ k. get_or table k d) sum ∙ get_or-append_right (layout base a) _ (nodes a) i d lengths large
-                    ∙ get_or-append_right (layout inner b) _ (nodes b) (i - nodes a) d lengths' (omega arith) ∙ get_or_append_left (layout innermost c) (node ∷ []) d j (omega arith)))
-              | inr s'' ↦
-                let large'' : nodes a + nodes b + nodes c ≤ i = grind (arith, nat_tests) in
-                let front = layout base a ++ (layout inner b ++ layout innermost c) in
-                let whole : front ++ node ∷ [] ≡ table =
-                    append_assoc (layout base a) (layout inner b ++ layout innermost c) (node ∷ []) ∙ ap (λ xs. layout base a ++ xs) (append_assoc (layout inner b) (layout innermost c) (node ∷ [])) in
-                let front-length : length front ≡ nodes t - 1 =
-                    omega (arith, length-append (layout base a) (layout inner b ++ layout innermost c), length-append (layout inner b) (layout innermost c)) in
-                subst (λ xs. StandsAt t base xs i d) whole
-                (last-node t base i d node front front-length (omega arith)
-                  (a, b, c, lift a t base base 0 (base + nodes a - 1) a base-zero (inside-first a b c) (root a base), lift b t base inner (nodes a) (base + nodes a + nodes b - 1) b refl (inside-second a b c) (root b inner), lift c t base innermost (nodes a + nodes b) (base + nodes a + nodes b + nodes c - 1) c sum-base (inside-third a b c) (root c innermost), refl))
-            ]
-        ]
+                (in-operand b t base inner (nodes a) j d table refl (inside-second a b c) below (node-at b inner j d below)
+                (ap (λ k. get_or table k d) sum ∙ get_or-append_right (layout base a) _ (nodes a) i d lengths large ∙ get_or_append_left (layout inner b) _ d j (omega arith)))
+            | inr s' ↦
+                let large' : nodes a + nodes b ≤ i = grind (arith, nat_tests) in
+                elim (cases_Bool (nat_lt i (nodes a + nodes b + nodes c))) [
+                  | inl s'' ↦
+                      let small : i < nodes a + nodes b + nodes c = ltb-true i (nodes a + nodes b + nodes c) s'' in
+                      let j = i - nodes a - nodes b in
+                      let below : j < nodes c = omega arith in
+                      let sum : nodes a + nodes b + j ≡ i = omega arith in
+                      subst (λ k. StandsAt t base table k d) sum
+                      (in-operand c t base innermost (nodes a + nodes b) j d table sum-base (inside-third a b c) below (node-at c innermost j d below)
+                      (ap (λ k. get_or table k d) sum ∙ get_or-append_right (layout base a) _ (nodes a) i d lengths large
+                      ∙ get_or-append_right (layout inner b) _ (nodes b) (i - nodes a) d lengths' (omega arith) ∙ get_or_append_left (layout innermost c) (node ∷ []) d j (omega arith)))
+                  | inr s'' ↦
+                      let large'' : nodes a + nodes b + nodes c ≤ i = grind (arith, nat_tests) in
+                      let front = layout base a ++ (layout inner b ++ layout innermost c) in
+                      let whole : front ++ node ∷ [] ≡ table =
+                      append_assoc (layout base a) (layout inner b ++ layout innermost c) (node ∷ []) ∙ ap (λ xs. layout base a ++ xs) (append_assoc (layout inner b) (layout innermost c) (node ∷ [])) in
+                      let front-length : length front ≡ nodes t - 1 =
+                      omega (arith, length-append (layout base a) (layout inner b ++ layout innermost c), length-append (layout inner b) (layout innermost c)) in
+                      subst (λ xs. StandsAt t base xs i d) whole
+                      (last-node t base i d node front front-length (omega arith)
+                      (a, b, c, lift a t base base 0 (base + nodes a - 1) a base-zero (inside-first a b c) (root a base), lift b t base inner (nodes a) (base + nodes a + nodes b - 1) b refl (inside-second a b c) (root b inner), lift c t base innermost (nodes a + nodes b) (base + nodes a + nodes b + nodes c - 1) c sum-base (inside-third a b c) (root c innermost), refl))
+                ]
+          ]
     ]
 
 -- a node that stands in the whole table names indices of it

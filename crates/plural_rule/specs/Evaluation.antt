@@ -1,6 +1,5 @@
 -- Internal: an evaluation that is under way, with nodes that wait for an operand.
-use Rattle.std.specs.Prelude.{◌≡◌, ℕ, ◌+◌, ◌-◌, ◌<◌, List, [], ◌∷◌, Option, Some, None, nat_lt, if◌then◌else◌, option_and_then}
-use Rattle.plural_rule.specs.declared.operator.Operator.{Operator}
+use Rattle.std.specs.Prelude.{◌≡◌, ℕ, ◌+◌, ◌-◌, ◌<◌, List, [], ◌∷◌, Option, None, nat_lt, if◌then◌else◌, option_and_then}
 use Rattle.plural_rule.specs.declared.node.Node.{Node}
 use Rattle.plural_rule.specs.declared.node.Node.TheVariants.{Count as CountNode, Number as NumberNode, Not as NotNode, Binary as BinaryNode, Conditional as ConditionalNode}
 use Rattle.plural_rule.specs.declared.evaluator.Frame.{Frame}

@@ -6,6 +6,7 @@ use Rattle.plural_rule.specs.declared.parser.Pending.{Pending}
 use Rattle.plural_rule.specs.declared.parser.Pending.TheVariants.{Not as NotPending, Open as OpenPending, Binary as BinaryPending, Question as QuestionPending, Colon as ColonPending}
 use Rattle.plural_rule.specs.Expression.{Tree, nodes}
 use Rattle.plural_rule.specs.Grammar.{level, Spelt}
+use Rattle.plural_rule.specs.PluralRule.{IsReadable}
 use Rattle.plural_rule.specs.PostOrder.{layout}
 use Rattle.plural_rule.specs.ShiftReduce.{Waiting, WaitNot, WaitOpen, WaitBinary, WaitQuestion, WaitColon, State, Want, Have}
 
@@ -79,4 +80,10 @@ pub record HoldsTree (read : Option Tree) (table : List Node) : Type 0 where
 pub record HoldsExpression (text : List ℕ) (table : List Node) : Type 0 where
   pub tree : Tree
   pub spelt : Spelt tree text
+  pub table_is : table ≡ layout 0 tree
+
+-- the header names a rule that can be read, and the table holds its tree
+pub record HoldsRule (limit : ℕ) (header : List ℕ) (number : ℕ) (table : List Node) : Type 0 where
+  pub tree : Tree
+  pub readable : IsReadable limit header number tree
   pub table_is : table ≡ layout 0 tree

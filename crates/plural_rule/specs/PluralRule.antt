@@ -1,6 +1,6 @@
 -- The rule that a header text gives, within a limit on the bytes of its expression.
 -- GNU gettext manual, "Plural forms".
-use Rattle.std.specs.Prelude.{◌≡◌, ℕ, ◌^◌, ◌<◌, ◌≤◌, ◌⊎◌, List, Option, Some, None, length}
+use Rattle.std.specs.Prelude.{◌≡◌, ℕ, ◌^◌, ◌<◌, ◌≤◌, ◌⊎◌, List, Some, None, length}
 use Rattle.plural_rule.specs.declared.operator.Operator.TheVariants.{NotEqual}
 use Rattle.plural_rule.specs.declared.rule.Source.{Source}
 use Rattle.plural_rule.specs.declared.rule.Source.TheVariants.{Header, Default}
@@ -16,9 +16,13 @@ pub record Meaning : Type 0 where
   pub number : ℕ
   pub tree : Tree
 
+-- `n != 1`
+abbrev pub default_tree : Tree
+default_tree = Binary NotEqual Count (Number 1)
+
 -- the rule of a header without a readable one: two forms, and `n != 1`
 abbrev pub default_rule : Reason → Meaning
-default_rule reason = record { source = Default reason; number = 2; tree = Binary NotEqual Count (Number 1) }
+default_rule reason = record { source = Default reason; number = 2; tree = default_tree }
 
 -- the header names a number that fits 64 bits, and an expression within the limit that spells the tree
 pub record IsReadable (limit : ℕ) (header : List ℕ) (number : ℕ) (tree : Tree) : Type 0 where

@@ -1,9 +1,18 @@
 //! The fields of a header text that make a plural rule.
+ghost use Rattle.std.specs.Prelude.{◌≡◌, ◌<◌, ◌≤◌, Some, None, length, MatchOption};
+ghost use Rattle.std.specs.List.{before_first};
+ghost use Rattle.plural_rule.specs.Tokens.{AllDigits, decimal_value};
+ghost use Rattle.plural_rule.specs.Header.{behind_first, number_of, is_end, expression_of};
+
 use crate::lexer;
 use memchr::{memchr2, memmem};
 
 /// The text behind the first `word` in it.
-fn behind_first<'a>(text: &'a [u8], word: &[u8]) -> Option<&'a [u8]> {
+fn behind_first<'a>(text: &'a [u8], word: &[u8]) -> Option<&'a [u8]>
+    requires { 0 < length word.now }
+    ensures { MatchOption result (behind_first word.now text.now ≡ None)
+        (λ rest. behind_first word.now text.now ≡ Some rest.now) }
+{
     match memmem::find(text, word) {
         Some(place) => Some(&text[place + word.len()..]),
         None => None,
@@ -11,7 +20,10 @@ fn behind_first<'a>(text: &'a [u8], word: &[u8]) -> Option<&'a [u8]> {
 }
 
 /// The digits of the number of plural forms, of which there is one at least.
-pub fn number_digits(header: &[u8]) -> Option<&[u8]> {
+pub fn number_digits(header: &[u8]) -> Option<&[u8]>
+    ensures { MatchOption result (number_of header.now ≡ None)
+        (λ digits. AllDigits digits.now × (number_of header.now ≡ Some (decimal_value digits.now))) }
+{
     let Some(rest) = behind_first(header, b"nplurals=") else {
         return None;
     };
@@ -24,7 +36,10 @@ pub fn number_digits(header: &[u8]) -> Option<&[u8]> {
 }
 
 /// The text of the expression.
-pub fn expression(header: &[u8]) -> Option<&[u8]> {
+pub fn expression(header: &[u8]) -> Option<&[u8]>
+    ensures { MatchOption result (expression_of header.now ≡ None)
+        (λ text. expression_of header.now ≡ Some text.now) }
+{
     match behind_first(header, b"plural=") {
         Some(rest) => Some(first_statement(rest)),
         None => None,
@@ -32,7 +47,9 @@ pub fn expression(header: &[u8]) -> Option<&[u8]> {
 }
 
 /// The text up to the first `;`, line feed or the end.
-fn first_statement(text: &[u8]) -> &[u8] {
+fn first_statement(text: &[u8]) -> &[u8]
+    ensures { result.now ≡ before_first is_end text.now }
+{
     match memchr2(b';', b'\n', text) {
         Some(end) => &text[..end],
         None => text,

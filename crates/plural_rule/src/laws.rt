@@ -7,26 +7,22 @@ ghost use Rattle.plural_rule.specs.PluralRule.{Meaning, IsRuleOf, IsWithin};
 /// A text spells at most one expression.
 pub fn one_tree()
     ensures { (text : List ℕ) (t u : Tree) → Spelt t text → Spelt u text → t ≡ u }
-{
-}
+{}
 
 /// No evaluation visits more nodes than there are.
 pub fn visited_at_most_nodes()
     ensures { (tree : Tree) (count : ℕ) → visited tree count ≤ nodes tree }
-{
-}
+{}
 
 /// A header text has one rule.
 pub fn one_rule()
     ensures { (limit : ℕ) (header : List ℕ) (rule other : Meaning) →
         IsRuleOf limit header rule → IsRuleOf limit header other → rule ≡ other }
-{
-}
+{}
 
 /// A header text whose expression is within a limit has the same rule under every larger limit.
 pub fn longer_limit()
     ensures { (limit longer : ℕ) (header : List ℕ) (rule : Meaning) →
         limit ≤ longer → IsWithin limit header →
         IsRuleOf limit header rule ↔ IsRuleOf longer header rule }
-{
-}
+{}

@@ -1,7 +1,9 @@
 //! The rule of a header text.
-ghost use Rattle.std.specs.Prelude.{◌≡◌, ◌≤◌};
+ghost use Rattle.std.specs.Prelude.{◌≡◌, ◌≤◌, [], MatchResult};
 ghost use Rattle.plural_rule.specs.Expression.{value, visited, nodes};
-ghost use Rattle.plural_rule.specs.PluralRule.{IsRuleOf};
+ghost use Rattle.plural_rule.specs.PluralRule.{IsRuleOf, IsReason, default_tree};
+ghost use Rattle.plural_rule.specs.PostOrder.{layout};
+ghost use Rattle.plural_rule.specs.ParserState.{HoldsRule};
 
 use crate::node::{Node, Table};
 use crate::operator::Operator;
@@ -118,7 +120,11 @@ impl Rule {
 }
 
 /// Reads a header's number, and its expression into the empty `table`.
-fn read(header: &[u8], table: &mut Table) -> Result<u64, Reason> {
+fn read(header: &[u8], table: &mut Table) -> Result<u64, Reason>
+    requires { table.old.items ≡ [] }
+    ensures { MatchResult result (λ number. HoldsRule LIMIT header.now number table.new.items)
+        (λ reason. IsReason LIMIT header.now reason) }
+{
     let Some(digits) = header::number_digits(header) else {
         return Err(Reason::NoNumber);
     };
@@ -139,7 +145,9 @@ fn read(header: &[u8], table: &mut Table) -> Result<u64, Reason> {
 }
 
 /// Writes `n != 1` in place of what `table` holds.
-fn write_default(table: &mut Table) {
+fn write_default(table: &mut Table)
+    ensures { table.new.items ≡ layout 0 default_tree }
+{
     table.clear();
     table.push(Node::Count);
     table.push(Node::Number(1));

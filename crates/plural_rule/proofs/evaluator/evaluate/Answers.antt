@@ -1,6 +1,6 @@
-use Rattle.std.proofs.Common.{◌≡◌, ◌+◌, ◌-◌, ◌≤◌, length, refl, ap, ◌∙◌, arith}
+use Rattle.std.proofs.Common.{◌≡◌, ◌-◌, length, refl, ap, ◌∙◌, arith}
 use Rattle.plural_rule.specs.Expression.{nodes}
-use Rattle.plural_rule.specs.PostOrder.{layout, tree_of}
+use Rattle.plural_rule.specs.PostOrder.{tree_of}
 use Rattle.plural_rule.specs.Evaluation.{subtree, remaining}
 use Rattle.plural_rule.proofs.ParserSteps.{length-layout}
 use Rattle.plural_rule.proofs.Subtrees.{nodes-positive, subtree-last}

@@ -8,7 +8,7 @@ use Rattle.plural_rule.proofs.evaluator.node_at.Goals as goal
 pub bounds-table-place : goal.bounds-table-place
 bounds-table-place c =
     let lengths : length c.args.table.now ≡ nodes (tree_of c.args.table.now) =
-        ap length c.requires.laid ∙ length-layout (tree_of c.args.table.now) 0 in
+    ap length c.requires.laid ∙ length-layout (tree_of c.args.table.now) 0 in
     omega arith
 
 pub returns : goal.returns

@@ -1,7 +1,4 @@
-use Rattle.std.proofs.Common.{◌≡◌, ℕ, ◌+◌, Some, refl, sym, ap, ◌∙◌, arith}
-use Rattle.plural_rule.specs.declared.evaluator.Frame.TheVariants.{Not as NotFrame, First, Second, Condition}
-use Rattle.plural_rule.specs.Expression.{Tree, settled, needs_right}
-use Rattle.plural_rule.specs.Evaluation.{Outcome, resumed}
+use Rattle.std.proofs.Common.{◌≡◌, ◌+◌, refl, sym, ◌∙◌, arith}
 use Rattle.plural_rule.proofs.Frames.{finished_pop, frames_pop, frames_more, remaining_pop}
 use Rattle.plural_rule.proofs.evaluator.resume.Goals as goal
 

@@ -1,6 +1,6 @@
 use Rattle.std.proofs.Common.{◌≡◌, ℕ, ◌≤◌, Some, length}
 use Rattle.plural_rule.specs.Expression.{Tree}
-use Rattle.plural_rule.specs.Evaluation.{Outcome, finished, remaining, AreFramesOf}
+use Rattle.plural_rule.specs.Evaluation.{finished, remaining, AreFramesOf}
 use Rattle.plural_rule.proofs.evaluator.resume.Given as goal
 
 abbrev pub invariant-loop-frame : goal.invariant-loop-frame

@@ -1,4 +1,4 @@
-use Rattle.std.proofs.Common.{sym, ◌∙◌, arith}
+use Rattle.std.proofs.Common.{sym, arith}
 use Rattle.std.proofs.lemmas.List.Sums.{prefix_len_is}
 use Rattle.plural_rule.specs.Tokens.{is_blank}
 use Rattle.plural_rule.proofs.lexer.blanks.Goals as goal

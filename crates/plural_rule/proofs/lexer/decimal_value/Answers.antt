@@ -1,7 +1,7 @@
-use Rattle.std.proofs.Common.{◌≡◌, length, take, ap, sym, ◌∙◌, arith}
+use Rattle.std.proofs.Common.{◌≡◌, take, ap, ◌∙◌, arith}
 use Rattle.std.proofs.lemmas.List.{take_all}
 use Rattle.plural_rule.specs.Tokens.{decimal_value}
-use Rattle.plural_rule.proofs.Numerals.{decimal_value-more, decimal_value-grows, AllDigits-get, digit-range}
+use Rattle.plural_rule.proofs.Numerals.{decimal_value-grows, AllDigits-get, digit-range}
 use Rattle.plural_rule.proofs.lexer.decimal_value.Goals as goal
 
 pub returns-in_default : goal.returns-in_default

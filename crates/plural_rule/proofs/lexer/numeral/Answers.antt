@@ -1,5 +1,5 @@
 use Rattle.std.proofs.Common.{ap, ◌∙◌, ◌^◌, ◌≤◌, arith}
-use Rattle.plural_rule.specs.Tokens.{is_digit, AllDigits, decimal_value}
+use Rattle.plural_rule.specs.Tokens.{is_digit, decimal_value}
 use Rattle.plural_rule.proofs.Scanning.{first_byte-get, AllDigits-take_while, numeral-token, numeral-none}
 use Rattle.plural_rule.proofs.lexer.numeral.Goals as goal
 

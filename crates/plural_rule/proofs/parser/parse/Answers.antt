@@ -1,6 +1,5 @@
-use Rattle.std.proofs.Common.{◌≡◌, ◌≢◌, ℕ, ◌<◌, ◌≤◌, List, [], ◌∷◌, length, refl, sym, ap, arith, rules, take, drop, length-drop, Some, ◌-◌}
+use Rattle.std.proofs.Common.{◌≡◌, ◌≢◌, ℕ, ◌<◌, List, [], ◌∷◌, length, refl, ap, arith, rules, take, drop, length-drop, Some, ◌-◌}
 use Rattle.std.proofs.lemmas.List.{take_all}
-use Rattle.plural_rule.specs.Header.{without_blanks}
 use Rattle.plural_rule.proofs.ParserRun.{Reached, reached-start, reached-token, reached-end, no-token, no-place}
 use Rattle.plural_rule.proofs.parser.parse.Goals as goal
 
@@ -36,7 +35,7 @@ loop-rest-preserved c =
     let n = c.in-Some.len in
     let at = c.in-Some.ensures in
     let part : take (length c.loop-rest.rest.now - n) (drop n c.loop-rest.rest.now) ≡ drop n c.loop-rest.rest.now =
-        take_all _ _ (omega (arith, length-drop n c.loop-rest.rest.now)) in
+    take_all _ _ (omega (arith, length-drop n c.loop-rest.rest.now)) in
     record {
       reached =
           rw (c.without_blanks-rest-in-loop-rest.ensures.value, part)
