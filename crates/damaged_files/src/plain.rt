@@ -1,0 +1,127 @@
+//! MO files as a plain reading of "The Format of GNU MO Files" has them, without a thought for speed.
+
+use mo_file::MoError;
+
+/// A file of either byte order.
+#[derive(Clone, Copy, Drop)]
+pub(crate) struct Plain<'a> {
+    bytes: &'a [u8],
+    little: bool,
+}
+
+impl<'a> Plain<'a> {
+    /// The file of these bytes, in the order that its magic number shows, or None where it shows none.
+    fn new(bytes: &'a [u8]) -> Option<Plain<'a>> {
+        let magic = bytes.get(..4)?;
+        if magic == [0xde, 0x12, 0x04, 0x95].as_slice() {
+            Some(Plain {
+                bytes,
+                little: true,
+            })
+        } else if magic == [0x95, 0x04, 0x12, 0xde].as_slice() {
+            Some(Plain {
+                bytes,
+                little: false,
+            })
+        } else {
+            None
+        }
+    }
+
+    /// The word at a place, 0 where the file ends before its end.
+    fn word(&self, place: u64) -> u32 {
+        let mut word = 0;
+        for i in 0..4 {
+            let at = if self.little {
+                place.saturating_add(3 - i)
+            } else {
+                place.saturating_add(i)
+            };
+            let byte = self.bytes.get(at as usize).copied().unwrap_or(0);
+            word = word << 8 | u32::from(byte);
+        }
+        word
+    }
+
+    /// How many messages the header names.
+    pub(crate) fn count(&self) -> u32 {
+        self.word(8)
+    }
+
+    /// Where string `i` of the table whose place stands at `table` begins and ends.
+    fn range(&self, table: u64, i: u32) -> (u64, u64) {
+        let entry = u64::from(self.word(table)) + 8 * u64::from(i);
+        let start = u64::from(self.word(entry + 4));
+        (start, start + u64::from(self.word(entry)))
+    }
+
+    /// String `i` of the table whose place stands at `table`, empty where it isn't inside the file.
+    fn string(&self, table: u64, i: u32) -> &'a [u8] {
+        let (start, end) = self.range(table, i);
+        self.bytes.get(start as usize..end as usize).unwrap_or(b"")
+    }
+
+    /// The key of message `i`.
+    pub(crate) fn key(&self, i: u32) -> &'a [u8] {
+        before_nul(self.string(12, i))
+    }
+
+    /// Form 0 of the translation of message `i`.
+    pub(crate) fn first_form(&self, i: u32) -> &'a [u8] {
+        before_nul(self.string(16, i))
+    }
+
+    /// The first fault behind the magic number.
+    fn fault(&self) -> Option<MoError> {
+        let length = self.bytes.len() as u64;
+        let count = self.count();
+        if self.word(4) / 65_536 > 1 {
+            return Some(MoError::BadRevision);
+        }
+        for table in [12, 16] {
+            if u64::from(self.word(table)) + 8 * u64::from(count) > length {
+                return Some(MoError::TableOutside);
+            }
+        }
+        for i in 0..count {
+            if self.range(12, i).1 > length || self.range(16, i).1 > length {
+                return Some(MoError::StringOutside(i));
+            }
+        }
+        for i in 0..count {
+            for table in [12, 16] {
+                if self.bytes.get(self.range(table, i).1 as usize) != Some(&0) {
+                    return Some(MoError::NoTerminator(i));
+                }
+            }
+        }
+        for i in 1..count {
+            if self.key(i - 1) >= self.key(i) {
+                return Some(MoError::NotSorted(i));
+            }
+        }
+        None
+    }
+}
+
+/// What stands before the first NUL, or all.
+fn before_nul(bytes: &[u8]) -> &[u8] {
+    match bytes.iter().position(|byte| *byte == 0) {
+        Some(end) => bytes.get(..end).unwrap_or(b""),
+        None => bytes,
+    }
+}
+
+/// The file of these bytes, or its first fault.
+pub(crate) fn read(bytes: &[u8]) -> Result<Plain<'_>, MoError> {
+    if bytes.len() < 28 {
+        return Err(MoError::TooShort);
+    }
+    let Some(file) = Plain::new(bytes) else {
+        return Err(MoError::BadMagic);
+    };
+    match file.fault() {
+        Some(fault) => Err(fault),
+        None => Ok(file),
+    }
+}
