@@ -10,7 +10,7 @@ use Rattle.mo_file.specs.declared.header.Header.{Header}
 use Rattle.mo_file.specs.Word.{word_bytes}
 use Rattle.mo_file.specs.Header.{Shows, magic, revision, message_count, originals_table, translations_table}
 use Rattle.mo_file.specs.Message.{Message, originals, translations}
-use Rattle.mo_file.specs.Key.{AreRising, key_of, keys}
+use Rattle.mo_file.specs.Key.{AreRising, keys}
 use Rattle.mo_file.specs.StringTable.{messages_of, message_at}
 use Rattle.mo_file.specs.Layout.{header, layout, originals_place, table, terminated, translations_place}
 use Rattle.mo_file.specs.Checking.{HasStrings, IsHeader, IsSortedBelow}
