@@ -41,11 +41,15 @@ pub data Reads : List TextItem → List TextEntry → Type 0 where
   entry : {items own rest : List TextItem} {notes : List Note} {previous : List PreviousText} {body : Body} {entries : List TextEntry} → IsHead 0 items notes previous own → IsBody own body rest → Reads rest entries
       → Reads items (entry_from notes previous body ∷ entries)
 
--- Every joined text of an entry is UTF-8, and its own context and msgid hold no EOT. Previous texts may hold one.
-pub record HasReadableTexts (entry : TextEntry) : Type 0 where
-  pub utf8 : All IsUtf8 (quoted_texts entry)
+-- the entry's own context and msgid hold no EOT; previous texts may hold one
+pub record HasNoEot (entry : TextEntry) : Type 0 where
   pub context : IfSome entry.context (Lacks 4)
   pub id : Lacks 4 entry.id
+
+-- every joined text of an entry is UTF-8, and its own context and msgid hold no EOT
+pub record HasReadableTexts (entry : TextEntry) : Type 0 where
+  pub utf8 : All IsUtf8 (quoted_texts entry)
+  pub no_eot : HasNoEot entry
 
 -- the text reads as these entries
 pub record ReadsText (text : List ℕ) (entries : List TextEntry) : Type 0 where

@@ -1,9 +1,16 @@
-//! The reader of a PO text's entries (GNU gettext manual, "The Format of PO Files").
+//! The reader of PO catalogues (GNU gettext manual, "The Format of PO Files"): a descent over the
+//! items of a text, one function for each level of an entry.
 #![tactic(auto)]
 
 mod body;
+mod drafts;
 mod head;
 mod notes;
 mod place;
+mod reading;
 mod strings;
+#[cfg(test)]
+mod tests;
 mod words;
+
+pub use crate::reading::read;

@@ -6,8 +6,8 @@ use Rattle.po_reader.specs.Stops.{HeadStops}
 use Rattle.po_reader.specs.Heads.{HoldsHead}
 use Rattle.po_reader.proofs.head.head_of.Given as goal
 
-abbrev pub invariant-loop-head : goal.invariant-loop-head
-invariant-loop-head l = record {
+abbrev pub invariant-loop-kind : goal.invariant-loop-kind
+invariant-loop-kind l = record {
   spelt : (notes : List Note) × (previous : List PreviousText) × HoldsHead l.head notes previous
     × ((more : List Note) (others : List PreviousText) (rest : List TextItem) → IsHead l.above (views (drop l.at l.items)) more others rest → IsHead 0 (views (drop l.from l.items)) (notes ++ more) (previous ++ others) rest);
   stops : (fault : PoFault) (line : ℕ) → HeadStops l.end l.above (views (drop l.at l.items)) fault line → HeadStops l.end 0 (views (drop l.from l.items)) fault line;
@@ -15,5 +15,5 @@ invariant-loop-head l = record {
   behind : l.from ≤ l.at;
 }
 
-abbrev pub decreases-loop-head : goal.decreases-loop-head
-decreases-loop-head l = length l.items - l.at
+abbrev pub decreases-loop-kind : goal.decreases-loop-kind
+decreases-loop-kind l = length l.items - l.at

@@ -1,0 +1,40 @@
+use Rattle.std.proofs.Common.{◌≡◌, ◌<◌, ◌++◌, ◌∷◌, [], length, sym, ap, ◌∙◌, refl, append_assoc, arith, inl, inr}
+use Rattle.std.proofs.lemmas.Result.{err_from_is_err_and}
+use Rattle.std.proofs.lemmas.List.{append-nil, map_push}
+use Rattle.po_entry.specs.Reads.Reads.{comments, entry}
+use Rattle.po_reader.specs.Stops.EntriesStop.{in_head, in_body, later}
+use Rattle.po_reader.proofs.HeadEnds.{head_over, over_cases, head_at_end}
+use Rattle.po_reader.proofs.Places.{none_at_end, some_before_end}
+use Rattle.po_reader.proofs.drafts.drafts_of.Goals as goal
+
+pub returns-in_err-head-clause-fault : goal.returns-in_err-head-clause-fault
+returns-in_err-head-clause-fault c =
+    let p = err_from_is_err_and c.from_residual.result c.from_residual.ensures.1 in
+    rw (p.1, p.2) (λ other. c.loop-drafts.invariant.stops _ _ (in_head (c.in_err-head.ensures.fault other)))
+
+pub returns-then-own-items-clause-found : goal.returns-then-own-items-clause-found
+returns-then-own-items-clause-found c =
+    let ends = head_at_end c.in_ok-head.ensures.found.2 (none_at_end _ _ c.if-own-items.true) in
+    let whole = c.loop-drafts.invariant.spelt [] (comments ends.1) in
+    rw append-nil at whole
+
+pub body_of-requires-clause-begins : goal.body_of-requires-clause-begins
+body_of-requires-clause-begins c =
+    let stops = head_over c.in_ok-head.ensures.found.2 in
+    let below : c.in_ok-head.own < length c.args.items.now = omega (arith, c.in_ok-head.ensures.within, c.if-own-items.false) in
+    elim (over_cases stops.0 _ stops.1) [ inl none ↦ absurd (some_before_end _ _ below none) | inr begins ↦ begins ]
+
+pub returns-in_err-body-clause-fault : goal.returns-in_err-body-clause-fault
+returns-in_err-body-clause-fault c =
+    let p = err_from_is_err_and c.from_residual-in_err-body.result c.from_residual-in_err-body.ensures.1 in
+    rw (p.1, p.2) (λ other. c.loop-drafts.invariant.stops _ _ (in_body c.in_ok-head.ensures.found.2 (c.in_err-body.ensures.fault other)))
+
+pub loop-drafts-preserved : goal.loop-drafts-preserved
+loop-drafts-preserved c =
+    let head = c.in_ok-head.ensures.found in
+    let made = c.fields_of.ensures head.0 head.1 head.3 in
+    record {
+      spelt = λ more h. rw (c.in_ok-push.ensures.items, map_push, made, append_assoc) (c.loop-drafts.invariant.spelt _ (entry head.2 c.in_ok-body.ensures.found h));
+      stops = λ fault line h. c.loop-drafts.invariant.stops _ _ (later head.2 c.in_ok-body.ensures.found h);
+      within = c.in_ok-body.ensures.within;
+    }

@@ -1,0 +1,18 @@
+use Rattle.std.proofs.Common.{◌≡◌, ℕ, List, ◌++◌, ◌-◌, ◌≤◌, drop, length, map}
+use Rattle.po_syntax.specs.declared.fault.PoFault.{PoFault}
+use Rattle.po_syntax.specs.TextItem.{TextItem, views}
+use Rattle.po_entry.specs.TextEntry.{TextEntry}
+use Rattle.po_entry.specs.EntryText.{entry_of}
+use Rattle.po_entry.specs.Reads.{Reads}
+use Rattle.po_reader.specs.Stops.{EntriesStop}
+use Rattle.po_reader.proofs.drafts.drafts_of.Given as goal
+
+abbrev pub invariant-loop-drafts : goal.invariant-loop-drafts
+invariant-loop-drafts l = record {
+  spelt : (more : List TextEntry) → Reads (views (drop l.at l.items)) more → Reads (views l.items) (map entry_of l.drafts.items ++ more);
+  stops : (fault : PoFault) (line : ℕ) → EntriesStop l.end (views (drop l.at l.items)) fault line → EntriesStop l.end (views l.items) fault line;
+  within : l.at ≤ length l.items;
+}
+
+abbrev pub decreases-loop-drafts : goal.decreases-loop-drafts
+decreases-loop-drafts l = length l.items - l.at

@@ -1,0 +1,69 @@
+use Rattle.std.proofs.Common.{◌≡◌, ◌++◌, ◌∷◌, [], sym, ap, ◌∙◌, refl, append_assoc, arith}
+use Rattle.std.proofs.lemmas.Result.{err_from_is_err_and}
+use Rattle.std.proofs.lemmas.List.{append-nil}
+use Rattle.po_entry.specs.Head.{Note, PreviousText}
+use Rattle.po_entry.specs.Head.IsHead.{over, remark, previous}
+use Rattle.po_reader.specs.Stops.HeadStops.{refused, in_previous, behind_remark, behind_previous}
+use Rattle.po_reader.proofs.Heads.{holds_nothing, holds_previous}
+use Rattle.po_reader.proofs.head.head_of.Goals as goal
+
+pub loop-kind-init : goal.loop-kind-init
+loop-kind-init c = record {
+  spelt = ([], [], holds_nothing _ c.new.ensures.items c.new-2.ensures.items c.new-3.ensures.items refl c.new-4.ensures.items c.none.ensures, λ more others rest h. h);
+  stops = λ fault line h. h;
+  within = c.requires;
+  behind = omega arith;
+}
+
+pub returns-in-Err-clause-fault : goal.returns-in-Err-clause-fault
+returns-in-Err-clause-fault c =
+    λ other. rw c.refusal.ensures.kind (c.loop-kind.invariant.stops _ _ (refused c.in-Err.ensures.step c.refusal.ensures.line))
+
+pub returns-in-Ok-Over-clause-found : goal.returns-in-Ok-Over-clause-found
+returns-in-Ok-Over-clause-found c =
+    let spelt = c.loop-kind.invariant.spelt in
+    let step = rw c.in-Ok-Over.field-0-is at c.in-Ok-Over.ensures.step in
+    let whole = spelt.3 [] [] _ (over step) in
+    (spelt.0, spelt.1, rw (append-nil, append-nil) at whole, spelt.2)
+
+pub loop-kind-preserved-in-Ok-Remark : goal.loop-kind-preserved-in-Ok-Remark
+loop-kind-preserved-in-Ok-Remark c =
+    let spelt = c.loop-kind.invariant.spelt in
+    let step = rw c.in-Ok-Remark.field-0-is at c.in-Ok-Remark.ensures.step in
+    let within = rw c.in-Ok-Remark.field-0-is at c.in-Ok-Remark.ensures.within in
+    let note : Note = record { kind = c.in-Ok-Remark.kind; text = c.in-Ok-Remark.text.now } in
+    record {
+      spelt = (
+        spelt.0 ++ note ∷ [],
+        spelt.1,
+        record { remarks = c.in_ok-add_note-in-Ok-Remark.ensures.notes spelt.0 spelt.2.remarks; texts = c.in_ok-add_note-in-Ok-Remark.ensures.previous ∙ spelt.2.texts },
+        λ more others rest h. rw append_assoc (spelt.3 (note ∷ more) others rest (remark step h)),
+      );
+      stops = λ fault line h. c.loop-kind.invariant.stops _ _ (behind_remark step h);
+      within = omega (arith, within (λ e. cc));
+      behind = omega arith;
+    }
+
+pub returns-in_err-text-in-Ok-Previous-clause-fault : goal.returns-in_err-text-in-Ok-Previous-clause-fault
+returns-in_err-text-in-Ok-Previous-clause-fault c =
+    let p = err_from_is_err_and c.from_residual-in_err-text-in-Ok-Previous.result c.from_residual-in_err-text-in-Ok-Previous.ensures.1 in
+    let step = rw c.in-Ok-Previous.field-0-is at c.in-Ok-Previous.ensures.step in
+    rw (p.1, p.2) (λ other. c.loop-kind.invariant.stops _ _ (in_previous step (c.in_err-text-in-Ok-Previous.ensures.fault other)))
+
+pub loop-kind-preserved : goal.loop-kind-preserved
+loop-kind-preserved c =
+    let spelt = c.loop-kind.invariant.spelt in
+    let step = rw c.in-Ok-Previous.field-0-is at c.in-Ok-Previous.ensures.step in
+    let text : PreviousText = record { keyword = c.in-Ok-Previous.keyword; text = c.in_ok-text-in-Ok-Previous.text.items } in
+    let strings = c.in_ok-text-in-Ok-Previous.ensures.found in
+    record {
+      spelt = (
+        spelt.0,
+        spelt.1 ++ text ∷ [],
+        holds_previous c.loop-kind.head c.set_previous.new.previous spelt.0 spelt.1 text spelt.2 c.set_previous.ensures,
+        λ more others rest h. rw append_assoc (spelt.3 more (text ∷ others) rest (previous step strings (rw c.rank-above.ensures at h))),
+      );
+      stops = λ fault line h. c.loop-kind.invariant.stops _ _ (behind_previous step strings (rw c.rank-above.ensures at h));
+      within = c.in_ok-text-in-Ok-Previous.ensures.within;
+      behind = omega (arith, c.in_ok-text-in-Ok-Previous.ensures.further);
+    }

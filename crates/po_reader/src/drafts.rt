@@ -1,0 +1,61 @@
+ghost use Rattle.std.specs.Prelude.{◌≡◌, ◌≢◌, ◌<◌, ◌^◌, ℕ, List, map, length, IfOk, IfErr};
+ghost use Rattle.po_syntax.specs.TextItem.{views};
+ghost use Rattle.po_entry.specs.EntryText.{entry_of};
+ghost use Rattle.po_entry.specs.Head.{Note, PreviousText};
+ghost use Rattle.po_entry.specs.Reads.{Reads, entry_from};
+ghost use Rattle.po_reader.specs.Heads.{HoldsHead};
+ghost use Rattle.po_reader.specs.Seen.{body_seen};
+ghost use Rattle.po_reader.specs.Stops.{EntriesStop};
+
+use crate::body::{Body, Original, Translation, body_of};
+use crate::head::{Head, head_of};
+use po_entry::Fields;
+use po_syntax::{Item, PoError, PoFault};
+use std::alloc::Global;
+
+fn fields_of(head: Head, body: Body) -> Fields
+    ensures { (notes : List Note) (previous : List PreviousText) → HoldsHead head notes previous → entry_of result ≡ entry_from notes previous (body_seen body) }
+{
+    let Head { comments, extracted, references, fuzzy, flags, previous } = head;
+    let Body { original, translation } = body;
+    let Original { context, id, obsolete, line } = original;
+    let Translation { plural, forms, .. } = translation;
+    Fields {
+        comments,
+        extracted,
+        references,
+        fuzzy,
+        flags,
+        previous,
+        context,
+        id,
+        plural,
+        forms,
+        obsolete,
+        line,
+    }
+}
+
+/// The fields of the entries that the items spell, in order; `end` is the line of the last item.
+pub(crate) fn drafts_of(
+    alloc: Global,
+    items: &[Item<'_>],
+    end: u32,
+) -> Result<Vec<Fields>, PoError>
+    requires { length items.now < 2 ^ 32 }
+    ensures found { IfOk result (λ drafts. Reads (views items.now) (map entry_of drafts.items)) }
+    ensures fault { IfErr result (λ e. e.kind ≢ PoFault.OutOfMemory → EntriesStop end (views items.now) e.kind e.line) }
+    ensures memory { IfErr result (λ e. e.kind ≡ PoFault.OutOfMemory → e.line ≡ 0) }
+{
+    let mut drafts = Vec::new(alloc);
+    let mut at = 0;
+    loop {
+        let (head, own) = head_of(alloc, items, at, end)?;
+        if own == items.len() {
+            return Ok(drafts);
+        }
+        let body = body_of(alloc, items, own, end)?;
+        at = body.translation.behind;
+        drafts.push(fields_of(head, body))?;
+    }
+}
