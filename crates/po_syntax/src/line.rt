@@ -1,5 +1,4 @@
-ghost use Rattle.std.specs.Prelude.{◌≡◌, ◌≢◌, ◌++◌, List, ◌≤◌, length, IfErr, OnOk, MatchOption};
-ghost use Rattle.std.specs.Prelude.{◌==◌};
+ghost use Rattle.std.specs.Prelude.{◌≡◌, ◌≢◌, ◌≤◌, ◌==◌, List, ◌++◌, length, IfErr, OnOk, MatchOption};
 ghost use Rattle.std.specs.List.{suffix_len};
 ghost use Rattle.po_syntax.specs.Line.{NoShape, shape_of, first_shape, hash_shape, tilde_shape, note_shape, trim_returns, SpellsTokens, TokensStop, SpellsLine, LineStops};
 ghost use Rattle.po_syntax.specs.TextItem.{TextItem, views};
@@ -16,6 +15,30 @@ enum Shape<'a> {
     Comment(CommentKind, &'a [u8]),
     Tokens(Marks, &'a [u8]),
 }
+
+/// A line without a prefix.
+const LIVE: Marks = Marks {
+    obsolete: false,
+    previous: false,
+};
+
+/// A line behind `#|`.
+const PREVIOUS: Marks = Marks {
+    obsolete: false,
+    previous: true,
+};
+
+/// A line behind `#~`.
+const OBSOLETE: Marks = Marks {
+    obsolete: true,
+    previous: false,
+};
+
+/// A line behind `#~|`.
+const OBSOLETE_PREVIOUS: Marks = Marks {
+    obsolete: true,
+    previous: true,
+};
 
 /// The comment behind its `#`; none at `#|` and `#~`.
 fn comment(text: &[u8]) -> Option<Shape<'_>>
@@ -36,22 +59,12 @@ fn obsolete(text: &[u8]) -> Option<Shape<'_>>
     ensures { MatchOption result (tilde_shape text.now ≡ NoShape) (λ shape. tilde_shape text.now ≡ shape_seen shape) }
 {
     if let Some((b'|', rest)) = text.split_first() {
-        let marks = Marks {
-            obsolete: true,
-            previous: true,
-        };
-        return Some(Shape::Tokens(marks, rest));
+        return Some(Shape::Tokens(OBSOLETE_PREVIOUS, rest));
     }
     let text = skip_blanks(text);
     match text.split_first() {
         Some((b'#', rest)) => comment(rest),
-        _ => Some(Shape::Tokens(
-            Marks {
-                obsolete: true,
-                previous: false,
-            },
-            text,
-        )),
+        _ => Some(Shape::Tokens(OBSOLETE, text)),
     }
 }
 
@@ -61,13 +74,7 @@ fn hash(text: &[u8]) -> Option<Shape<'_>>
     ensures { MatchOption result (hash_shape text.now ≡ NoShape) (λ shape. hash_shape text.now ≡ shape_seen shape) }
 {
     match text.split_first() {
-        Some((b'|', rest)) => Some(Shape::Tokens(
-            Marks {
-                obsolete: false,
-                previous: true,
-            },
-            rest,
-        )),
+        Some((b'|', rest)) => Some(Shape::Tokens(PREVIOUS, rest)),
         Some((b'~', rest)) => obsolete(rest),
         _ => comment(text),
     }
@@ -81,13 +88,7 @@ fn shape_of(line: &[u8]) -> Option<Shape<'_>>
     let text = skip_blanks(line);
     match text.split_first() {
         Some((b'#', rest)) => hash(rest),
-        _ => Some(Shape::Tokens(
-            Marks {
-                obsolete: false,
-                previous: false,
-            },
-            text,
-        )),
+        _ => Some(Shape::Tokens(LIVE, text)),
     }
 }
 
