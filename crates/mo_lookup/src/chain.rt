@@ -60,13 +60,15 @@ impl<'c, 'a> Chain<'c, 'a> {
     /// Looks up a message as `Catalog::look` does, in one catalogue after the other up to the first that has it,
     /// whose plural rule then selects the form. A context or a msgid that holds a byte 0 or 4 is asked of none. The
     /// meter counts the comparisons; before the call its count is below 2^62.
-    pub fn look(
+    pub fn look<'q>(
         &self,
         context: Option<&[u8]>,
-        id: &'a [u8],
-        plural: Option<(&'a [u8], u64)>,
+        id: &'q [u8],
+        plural: Option<(&'q [u8], u64)>,
         meter: &mut Meter,
-    ) -> ChainAnswer<'a>
+    ) -> ChainAnswer<'q>
+    where
+        'a: 'q,
         requires { meter.old < 2 ^ 62 }
         ensures told { chain_outcome_of result ≡ chain_told self.now (query context.entry id.now plural.entry) }
         ensures asked { result.asked ≡ asked self.now (query context.entry id.now plural.entry) }

@@ -1,10 +1,11 @@
-ghost use Rattle.std.specs.Prelude.{◌≡◌, ◌^◌, ◌<◌, ◌&&◌, ◌++◌, length, IfOk, OnOk, OnErr, Err};
+ghost use Rattle.std.specs.Prelude.{◌≡◌, ◌^◌, ◌<◌, ◌&&◌, ◌++◌, None, length, IfOk, OnOk, OnErr, Err};
 ghost use Rattle.std.specs.Option.{option_copied};
+ghost use Rattle.mo_lookup.specs.Chain.{chain_told};
 ghost use Rattle.po_shell.specs.Escapes.{has_no_newline};
 ghost use Rattle.po_tools.specs.FaultText.{fault_line, mo_text};
 ghost use Rattle.po_tools.specs.Run.{report};
 ghost use Rattle.po_tools.specs.Gettext.{IsGettextRun, Opens, word_answer};
-ghost use Rattle.po_tools.specs.GettextView.{asked, named_files};
+ghost use Rattle.po_tools.specs.GettextView.{asked, named_files, OpensFile};
 
 use crate::fault_text::{push_mo_text, push_place};
 use crate::run::Run;
@@ -64,6 +65,24 @@ fn push_refusal(
     messages.extend_from_slice(b"\n")
 }
 
+/// Opens one more file: a catalogue joins the chain, and any other file is told by a line.
+fn open_file<'a>(
+    opened: &mut Opened<'a>,
+    tool: &str,
+    name: &str,
+    bytes: &'a [u8],
+) -> Result<(), AllocError>
+    ensures { OnOk result (OpensFile tool.now (record { name = name.now; bytes = bytes.now }) opened.old opened.new) }
+{
+    match Catalog::open(bytes, &mut Meter::new()) {
+        Ok(catalog) => {
+            opened.catalogs.push(catalog)?;
+            Ok(())
+        }
+        Err(fault) => push_refusal(&mut opened.messages, tool, name, fault),
+    }
+}
+
 /// Opens each file, in order.
 fn open_all<'a>(
     alloc: Global,
@@ -77,45 +96,57 @@ fn open_all<'a>(
         messages: Vec::new(alloc),
     };
     for (name, bytes) in files {
-        match Catalog::open(bytes, &mut Meter::new()) {
-            Ok(catalog) => opened.catalogs.push(catalog)?,
-            Err(fault) => push_refusal(&mut opened.messages, tool, name, fault)?,
-        }
+        open_file(&mut opened, tool, name, bytes)?;
     }
     Ok(opened)
 }
 
-/// Appends the answer to a MSGID, and tells whether a newline may follow it: no `\c` is expanded in it.
-fn push_answer(
+/// Appends the answer to a msgid.
+fn push_text<'a, 'q>(
+    output: &mut Vec<u8>,
+    chain: &Chain<'_, 'a>,
+    context: Option<&str>,
+    id: &'q [u8],
+) -> Result<(), AllocError>
+where
+    'a: 'q,
+    ensures { OnOk result (output.new.items ≡ output.old.items ++ (chain_told chain.now (record { context = option_copied context.entry; id = id.now; plural = None })).text) }
+{
+    let answer = match context {
+        Some(context) => chain.look(Some(context.as_bytes()), id, None, &mut Meter::new()),
+        None => chain.look(None, id, None, &mut Meter::new()),
+    };
+    output.extend_from_slice(answer.text)
+}
+
+/// Appends the answer to a MSGID, and tells whether a `\c` is expanded in it.
+fn push_answer<'a>(
     alloc: Global,
     output: &mut Vec<u8>,
-    chain: &Chain<'_, '_>,
-    options: &GettextOptions<'_>,
-    word: &str,
+    chain: &Chain<'_, 'a>,
+    options: &GettextOptions<'a>,
+    word: &'a str,
 ) -> Result<bool, ToolFault>
     ensures answer { OnOk result (output.new.items ≡ output.old.items ++ word_answer chain.now (asked options.now) word.now) }
     ensures no_newline { IfOk result (λ stops. stops ≡ (options.now.expand && has_no_newline word.now)) }
     ensures fault { OnErr result (result ≡ Err ToolFault.OutOfMemory) }
 {
-    let context = options.context.map(|context| context.as_bytes());
     if !options.expand {
-        let answer = chain.look(context, word.as_bytes(), None, &mut Meter::new());
-        output.extend_from_slice(answer.text)?;
+        push_text(output, chain, options.context, word.as_bytes())?;
         return Ok(false);
     }
     let expanded = expand(alloc, word.as_bytes())?;
-    let answer = chain.look(context, &expanded.bytes, None, &mut Meter::new());
-    output.extend_from_slice(answer.text)?;
+    push_text(output, chain, options.context, &expanded.bytes)?;
     Ok(expanded.no_newline)
 }
 
 /// What `gettext` writes over the catalogues that could be read, in the order in which they are asked: the
 /// answers, each a translation or the MSGID itself; on standard error a line for each catalogue that is refused
 /// and so left out. Refused only by want of memory.
-pub fn plan_gettext(
+pub fn plan_gettext<'a>(
     alloc: Global,
-    catalogues: &[(&str, &[u8])],
-    options: &GettextOptions<'_>,
+    catalogues: &[(&'a str, &'a [u8])],
+    options: &GettextOptions<'a>,
 ) -> Result<Run, ToolFault>
     requires { length catalogues.now < 2 ^ 32 }
     ensures run { IfOk result (λ run. IsGettextRun (named_files catalogues.now) (asked options.now) (report run)) }
