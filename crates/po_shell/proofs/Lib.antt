@@ -1,7 +1,11 @@
+pub mod CountLemmas
 pub mod DeviceLemmas
-pub mod DollarLemmas
+pub mod EscapeLemmas
 pub mod EnvsubstLemmas
+pub mod LocaleLemmas
+pub mod NameLemmas
 pub mod ReferenceLemmas
+pub mod SearchLemmas
 pub mod StreamLemmas
 pub mod SubstitutionLemmas
 pub mod VariableLemmas

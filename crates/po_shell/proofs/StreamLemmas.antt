@@ -8,7 +8,7 @@ use Rattle.memchr.specs.Find.{is_byte}
 use Rattle.po_shell.specs.Device.{AppendsPrefix}
 use Rattle.po_shell.specs.Substitution.{Values, substitution}
 use Rattle.po_shell.specs.Stream.{Advances, Stops, Cut, AreCuts, pieces_of, written_in, held_after, CutsAgree}
-use Rattle.po_shell.proofs.DollarLemmas.{dollar-next}
+use Rattle.po_shell.proofs.SearchLemmas.{byte-at}
 use Rattle.po_shell.proofs.SubstitutionLemmas.{plain-front}
 
 -- what a text becomes depends on its bytes alone
@@ -94,7 +94,7 @@ plain-advances values n held piece old new place none appends =
 -- and the `$` that is held
 pub dollar-advances : (values : Values) (n : ℕ) (held piece : List ℕ) (old new : Option (List ℕ)) → n ≡ position_or_len (is_byte 36) piece → n < length piece → held ≡ 36 ∷ [] → Appends old new (take n piece) → Advances values piece (held ++ drop (n + 1) piece) old new
 dollar-advances values n held piece old new place short dollar appends =
-    let next : drop n piece ≡ 36 ∷ drop (n + 1) piece = subst (λ m. drop m piece ≡ 36 ∷ drop (m + 1) piece) (sym place) (dollar-next piece (omega (arith, place))) in
+    let next = byte-at 36 piece n place short in
     Advances-out values piece (held ++ drop (n + 1) piece) (take n piece) old new
     (λ rest. plain-out values n piece place rest ∙ ap (λ t. take n piece ++ substitution values (t ++ rest)) (next ∙ ap (λ h. h ++ drop (n + 1) piece) (sym dollar))) appends
 

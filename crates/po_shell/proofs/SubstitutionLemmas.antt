@@ -12,7 +12,7 @@ use Rattle.po_shell.specs.declared.holding.Decision.TheVariants.{Grows, Ends, Cl
 use Rattle.po_shell.specs.declared.holding.Outcome.{Outcome}
 use Rattle.po_shell.specs.declared.holding.Outcome.TheVariants.{Held, Copied, Replaced}
 use Rattle.po_shell.specs.Holding.{is_begun_name, behind_dollar, is_undecided, Decides, ComesOut, Replaces, Ending}
-use Rattle.po_shell.proofs.DollarLemmas.{dollar-here, dollar-later}
+use Rattle.po_shell.proofs.SearchLemmas.{byte-here, byte-later}
 use Rattle.po_shell.proofs.ReferenceLemmas.{name_byte-not, begun-bytes, dollar-no_name, ending-none, ending-some, behind-closed}
 
 -- skipped bytes leave the text behind them
@@ -46,8 +46,8 @@ CopiesFront values n bs rest = substitution values (bs ++ rest) ≡ take n bs ++
 pub plain-front : (values : Values) (bs rest : List ℕ) → CopiesFront values (position_or_len (is_byte 36) bs) bs rest
 plain-front values [] rest = refl
 plain-front values (b ∷ bs) rest = elim (cases_Bool (eqb b 36)) [
-  | inl e ↦ subst (λ n. CopiesFront values n (b ∷ bs) rest) (sym (dollar-here b bs e)) refl
-  | inr e ↦ subst (λ n. CopiesFront values n (b ∷ bs) rest) (sym (dollar-later b bs e)) (plain values b (bs ++ rest) e ∙ ap (λ l. b ∷ l) (plain-front values bs rest))
+  | inl e ↦ subst (λ n. CopiesFront values n (b ∷ bs) rest) (sym (byte-here 36 b bs e)) refl
+  | inr e ↦ subst (λ n. CopiesFront values n (b ∷ bs) rest) (sym (byte-later 36 b bs e)) (plain values b (bs ++ rest) e ∙ ap (λ l. b ∷ l) (plain-front values bs rest))
 ]
 
 -- bytes without a `$` are copied

@@ -7,3 +7,8 @@ pub mod Stream
 pub mod Holding
 pub mod Substituting
 pub mod Envsubst
+pub mod Counts
+pub mod CountSteps
+pub mod Escapes
+pub mod Locales
+pub mod LocaleSteps

@@ -2,23 +2,30 @@
 //! the locales to look for, escapes, counts, and the substitution of variables.
 #![tactic(auto)]
 
+mod count;
 mod delivery;
 mod device;
 mod envsubst;
+mod escape;
 mod failing;
 mod fault;
 mod holding;
 mod input;
 pub mod laws;
+mod locale;
 mod reference;
+mod search;
 mod substituter;
 mod variable;
 
+pub use count::{OTHER_COUNT, count_of};
 pub use delivery::put_all;
 pub use device::{ByteIn, ByteOut, Counted};
 pub use envsubst::{MOST_READS, run_envsubst};
+pub use escape::{Expanded, expand};
 pub use failing::Failing;
 pub use fault::ToolFault;
 pub use input::{INPUT_LIMIT, read_input};
+pub use locale::{Environment, catalogue_path, locale_candidates};
 pub use reference::{LONGEST_NAME, names};
 pub use substituter::Substituter;

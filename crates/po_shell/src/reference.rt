@@ -1,12 +1,11 @@
 // Names and references ("Invoking the envsubst program" of the GNU gettext manual).
 ghost use Rattle.std.specs.Prelude.{◌≡◌, ◌<◌, ◌≤◌, [], map, length, IfNone, IfSome, IfOk, OnErr, Err};
 ghost use Rattle.std.specs.Option.{option_map};
-ghost use Rattle.std.specs.List.{position_or_len, cons_option};
-ghost use Rattle.memchr.specs.Find.{is_byte};
+ghost use Rattle.std.specs.List.{cons_option};
 ghost use Rattle.po_shell.specs.References.{begins_with, is_letter, is_name_byte, is_name, name_run, reference_behind, names_in};
 
 use crate::fault::ToolFault;
-use memchr::memchr;
+use crate::search::len_before;
 use std::alloc::Global;
 
 /// How many bytes a name has at most.
@@ -26,14 +25,6 @@ pub(crate) fn is_name_byte(byte: u8) -> bool
     ensures { result ≡ is_name_byte byte }
 {
     byte.is_ascii_alphanumeric() || byte == b'_'
-}
-
-/// How many bytes stand before the first `$`.
-pub(crate) fn plain_len(bytes: &[u8]) -> usize
-    ensures place { result ≡ position_or_len (is_byte 36) bytes.now }
-    ensures bound { result ≤ length bytes.now }
-{
-    memchr(b'$', bytes).unwrap_or(bytes.len())
 }
 
 /// Whether a run of name bytes is a name.
@@ -89,7 +80,7 @@ fn behind_dollar(text: &[u8]) -> Option<&[u8]>
         ≡ cons_option (option_map (λ r. r.name) (reference_behind behind.now)) (names_in behind.now)) }
     ensures shorter { IfSome result (λ behind. length behind.now < length text.now) }
 {
-    let plain = plain_len(text);
+    let plain = len_before(b'$', text);
     if plain < text.len() {
         Some(&text[plain + 1..])
     } else {

@@ -11,7 +11,7 @@ use crate::delivery::put_all;
 use crate::device::ByteOut;
 use crate::fault::ToolFault;
 use crate::holding::{Outcome, ending, outcome_of};
-use crate::reference::plain_len;
+use crate::search::len_before;
 use arrayvec::ArrayVec;
 use std::marker::Model;
 
@@ -182,7 +182,7 @@ fn copy_plain<W: ByteOut>(held: &mut Held, piece: &[u8], writer: &mut W) -> Resu
     ensures no_failure { OnOk result (W.failures writer.new ≡ W.failures writer.old) }
     ensures cause { OnErr result (W.failures writer.new ≡ W.failures writer.old + 1) }
 {
-    let plain = plain_len(piece);
+    let plain = len_before(b'$', piece);
     put_all(writer, &piece[..plain])?;
     if plain == piece.len() {
         return Ok(plain);

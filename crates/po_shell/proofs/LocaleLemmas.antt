@@ -1,0 +1,145 @@
+-- Lemmas on the names that are gathered for a locale.
+use Rattle.std.proofs.Common.{◌≡◌, ℕ, ◌+◌, ◌<◌, ◌≤◌, Bool, true, false, not, ◌||◌, eqb, ◌⊎◌, inl, inr, List, [], ◌∷◌, ◌++◌, append-nil, length-drop, length, take, drop, map, filter, fold, Option, Some, None, refl, sym, ap, ◌∙◌, arith}
+use Rattle.std.specs.Prelude.{take_while}
+use Rattle.std.specs.List.{list_any, flat_map, slice_split, position_or_len, onto_first}
+use Rattle.std.specs.Str.{bytes_eq}
+use Rattle.std.proofs.lemmas.Bool.{cond-true, cond-false, cases_Bool, cases_lt, or_left, or_right, or_from, eqb-true, eqb-false}
+use Rattle.std.proofs.lemmas.Grind.{fold-append}
+use Rattle.std.proofs.lemmas.List.{take_all, drop-drop}
+use Rattle.std.proofs.lemmas.List.Splits.{slice_split_first, slice_split-cons_no}
+use Rattle.std.proofs.lemmas.List.Sums.{take_while-cons}
+use Rattle.memchr.specs.Find.{is_byte}
+use Rattle.po_shell.specs.Locales.{given, locale_of, has_slash, languages, candidates_in, candidates_of, is_untranslated, before, from_first, variants, is_language, language_parts, with_name}
+use Rattle.po_shell.specs.declared.locale.Environment.{Environment}
+use Rattle.po_shell.specs.LocaleSteps.{variants_in}
+use Rattle.po_shell.proofs.SearchLemmas.{byte-here, byte-later}
+use Rattle.po_shell.proofs.VariableLemmas.{list_any-map}
+
+-- a name that is among those before changes nothing
+pub name-known : {V : Type 0} (f : V → List ℕ) (seen items : List V) (name whole : List ℕ) → seen ≡ items → name ≡ whole → list_any (λ k. bytes_eq (f k) name) seen ≡ true → map f items ≡ with_name (map f items) whole
+unfolding with_name
+name-known f seen items name whole same e known =
+    sym (cond-true (list_any (λ k. bytes_eq k whole) (map f items)) (map f items) (map f items ++ whole ∷ [])
+    (list_any-map f (λ k. bytes_eq k whole) items ∙ ap (λ l. list_any (λ k. bytes_eq (f k) whole) l) (sym same) ∙ ap (λ n. list_any (λ k. bytes_eq (f k) n) seen) (sym e) ∙ known))
+
+map-append : {V : Type 0} (f : V → List ℕ) (items : List V) (v : V) → map f (items ++ v ∷ []) ≡ map f items ++ f v ∷ []
+map-append f [] v = refl
+map-append f (i ∷ is) v = ap (λ l. f i ∷ l) (map-append f is v)
+
+-- another one comes behind them
+pub name-fresh : {V : Type 0} (f : V → List ℕ) (seen items new : List V) (v : V) (name whole : List ℕ) → seen ≡ items → name ≡ whole → list_any (λ k. bytes_eq (f k) name) seen ≡ false → new ≡ items ++ v ∷ [] → f v ≡ whole → map f new ≡ with_name (map f items) whole
+unfolding with_name
+name-fresh f seen items new v name whole same e fresh more is =
+    ap (map f) more ∙ map-append f items v ∙ ap (λ n. map f items ++ n ∷ []) is
+    ∙ sym (cond-false (list_any (λ k. bytes_eq k whole) (map f items)) (map f items) (map f items ++ whole ∷ [])
+    (list_any-map f (λ k. bytes_eq k whole) items ∙ ap (λ l. list_any (λ k. bytes_eq (f k) whole) l) (sym same) ∙ ap (λ n. list_any (λ k. bytes_eq (f k) n) seen) (sym e) ∙ fresh))
+
+-- the five names of a locale, one after another
+pub five-names : (name modifier unmodified base language : List ℕ) (n0 n1 n2 n3 n4 n5 : List (List ℕ)) → modifier ≡ from_first 64 name → unmodified ≡ before 64 name → base ≡ before 46 unmodified → language ≡ before 95 base
+    → n1 ≡ with_name n0 (name ++ []) → n2 ≡ with_name n1 (base ++ modifier) → n3 ≡ with_name n2 (language ++ modifier) → n4 ≡ with_name n3 (base ++ []) → n5 ≡ with_name n4 (language ++ []) → n5 ≡ fold with_name n0 (variants name)
+unfolding variants
+five-names name modifier unmodified base language n0 n1 n2 n3 n4 n5 m u b l e1 e2 e3 e4 e5 =
+    let a1 = append-nil name in
+    let a2 = append-nil base in
+    let a3 = append-nil language in
+    cc
+
+-- the parts of a text, up to the first separator and behind it
+split-next : (bs : List ℕ) (n : ℕ) → n ≡ position_or_len (is_byte 58) bs → n < length bs → slice_split (is_byte 58) bs ≡ take n bs ∷ slice_split (is_byte 58) (drop (n + 1) bs)
+split-next bs n place l =
+    slice_split_first (is_byte 58) bs 0 (omega (arith, place))
+    ∙ ap (λ m. take m bs ∷ slice_split (is_byte 58) (drop (m + 1) bs)) (sym place)
+
+split-last : (bs : List ℕ) → position_or_len (is_byte 58) bs ≡ length bs → slice_split (is_byte 58) bs ≡ bs ∷ []
+split-last [] e = refl
+split-last (b ∷ bs) e = elim (cases_Bool (eqb b 58)) [
+  | inl here ↦ absurd (omega (arith, e, byte-here 58 b bs here))
+  | inr later ↦ slice_split-cons_no (is_byte 58) b bs later ∙ ap (onto_first b) (split-last bs (omega (arith, e, byte-later 58 b bs later)))
+]
+
+-- the candidates of a part that counts, and those behind it
+counted-next : (part : List ℕ) (parts : List (List ℕ)) → flat_map variants (filter is_language (part ∷ parts)) ≡ variants_in part ++ flat_map variants (filter is_language parts)
+counted-next part parts = elim (cases_Bool (is_language part)) [
+  | inl e ↦ ap (flat_map variants) (cond-true (is_language part) (part ∷ filter is_language parts) (filter is_language parts) e) ∙ ap (λ l. l ++ flat_map variants (filter is_language parts)) (sym (cond-true (is_language part) (variants part) [] e))
+  | inr e ↦ ap (flat_map variants) (cond-false (is_language part) (part ∷ filter is_language parts) (filter is_language parts) e) ∙ ap (λ l. l ++ flat_map variants (filter is_language parts)) (sym (cond-false (is_language part) (variants part) [] e))
+]
+
+-- a part, and those behind it
+abbrev counts : List ℕ → Bool
+counts part = not (is_untranslated part)
+
+pub parts-next : (bs : List ℕ) (n : ℕ) → n ≡ position_or_len (is_byte 58) bs → n < length bs → is_untranslated (take n bs) ≡ false → flat_map variants (language_parts bs) ≡ variants_in (take n bs) ++ flat_map variants (language_parts (drop (n + 1) bs))
+unfolding language_parts
+parts-next bs n place l goes =
+    ap (λ parts. flat_map variants (filter is_language (take_while counts parts))) (split-next bs n place l)
+    ∙ ap (λ parts. flat_map variants (filter is_language parts)) (take_while-cons counts (take n bs) (slice_split (is_byte 58) (drop (n + 1) bs)) ∙ cond-true (counts (take n bs)) _ _ (ap not goes))
+    ∙ counted-next (take n bs) (take_while counts (slice_split (is_byte 58) (drop (n + 1) bs)))
+
+pub parts-last : (bs : List ℕ) (n : ℕ) → n ≡ position_or_len (is_byte 58) bs → n ≡ length bs → is_untranslated (take n bs) ≡ false → flat_map variants (language_parts bs) ≡ variants_in (take n bs)
+unfolding language_parts
+parts-last bs n place end goes =
+    let whole : take n bs ≡ bs = take_all n bs (omega (arith, end)) in
+    ap (λ parts. flat_map variants (filter is_language (take_while counts parts))) (split-last bs (sym place ∙ end) ∙ ap (λ part. part ∷ []) (sym whole))
+    ∙ ap (λ parts. flat_map variants (filter is_language parts)) (take_while-cons counts (take n bs) [] ∙ cond-true (counts (take n bs)) _ _ (ap not goes))
+    ∙ counted-next (take n bs) [] ∙ append-nil (variants_in (take n bs))
+
+pub parts-stop : (bs : List ℕ) (n : ℕ) → n ≡ position_or_len (is_byte 58) bs → n ≤ length bs → is_untranslated (take n bs) ≡ true → language_parts bs ≡ []
+unfolding language_parts
+parts-stop bs n place l stops = elim (cases_lt n (length bs)) [
+  | inl short ↦ ap (λ parts. filter is_language (take_while counts parts)) (split-next bs n place short)
+      ∙ ap (filter is_language) (take_while-cons counts (take n bs) (slice_split (is_byte 58) (drop (n + 1) bs)) ∙ cond-false (counts (take n bs)) _ _ (ap not stops))
+  | inr past ↦
+      let end : n ≡ length bs = omega arith in
+      let whole : take n bs ≡ bs = take_all n bs past in
+      ap (λ parts. filter is_language (take_while counts parts)) (split-last bs (sym place ∙ end) ∙ ap (λ part. part ∷ []) (sym whole))
+      ∙ ap (filter is_language) (take_while-cons counts (take n bs) [] ∙ cond-false (counts (take n bs)) _ _ (ap not stops))
+]
+
+-- the candidates of a part, before those of the parts behind it
+pub names-next : (names more all : List (List ℕ)) (part later whole : List (List ℕ)) → fold with_name names whole ≡ all → whole ≡ part ++ later → more ≡ fold with_name names part → fold with_name more later ≡ all
+names-next names more all part later whole inv e step =
+    ap (λ m. fold with_name m later) step ∙ sym (fold-append with_name names part later) ∙ ap (fold with_name names) (sym e) ∙ inv
+
+-- the candidates of an environment, by its locale
+pub candidates-none : (env : Environment) → locale_of env ≡ None → candidates_of env ≡ []
+unfolding candidates_of
+candidates-none env none = ap (candidates_in (given env.language)) none
+
+pub candidates-barred : (env : Environment) (locale : List ℕ) → locale_of env ≡ Some locale → (is_untranslated locale ≡ true) ⊎ (has_slash locale ≡ true) → candidates_of env ≡ []
+unfolding candidates_of
+candidates-barred env locale some barred =
+    ap (candidates_in (given env.language)) some
+    ∙ cond-true (is_untranslated locale || has_slash locale) _ _ (elim barred [ inl e ↦ or_left _ _ e | inr e ↦ or_right _ _ e ])
+
+pub candidates-some : (env : Environment) (locale : List ℕ) (language : Option (List ℕ)) → locale_of env ≡ Some locale → is_untranslated locale ≡ false → has_slash locale ≡ false → given env.language ≡ language
+    → candidates_of env ≡ fold with_name [] (flat_map variants (languages language locale))
+unfolding candidates_of
+candidates-some env locale language some fine plain is =
+    ap (candidates_in (given env.language)) some
+    ∙ cond-false (is_untranslated locale || has_slash locale) _ _ (or_from _ _ fine plain)
+    ∙ ap (λ l. fold with_name [] (flat_map variants (languages l locale))) is
+
+-- and where it is the last part
+pub names-last : (names more all : List (List ℕ)) (part whole : List (List ℕ)) → fold with_name names whole ≡ all → whole ≡ part → more ≡ fold with_name names part → more ≡ all
+names-last names more all part whole inv e step = step ∙ ap (fold with_name names) (sym e) ∙ inv
+
+pub names-stop : (names all : List (List ℕ)) (whole : List (List ℕ)) → fold with_name names whole ≡ all → whole ≡ [] → names ≡ all
+names-stop names all whole inv e = ap (fold with_name names) (sym e) ∙ inv
+
+-- the same, by what stands before the separator and from it on
+pub split-stop : (rest part behind : List ℕ) (n : ℕ) → part ≡ take n rest → n ≡ position_or_len (is_byte 58) rest → n ≤ length rest → is_untranslated part ≡ true → flat_map variants (language_parts rest) ≡ []
+split-stop rest part behind n p place l stops = ap (flat_map variants) (parts-stop rest n place l (ap is_untranslated (sym p) ∙ stops))
+
+pub split-end : (rest part behind : List ℕ) (n : ℕ) → part ≡ take n rest → behind ≡ drop n rest → n ≡ position_or_len (is_byte 58) rest → n ≤ length rest → is_untranslated part ≡ false → eqb (length behind) 0 ≡ true
+    → flat_map variants (language_parts rest) ≡ variants_in part
+split-end rest part behind n p b place l goes none =
+    let past : n ≡ length rest = omega (arith, eqb-true (length behind) 0 none, ap length b, length-drop n rest, l) in
+    parts-last rest n place past (ap is_untranslated (sym p) ∙ goes) ∙ ap variants_in (sym p)
+
+pub split-more : (rest part behind : List ℕ) (n : ℕ) → part ≡ take n rest → behind ≡ drop n rest → n ≡ position_or_len (is_byte 58) rest → is_untranslated part ≡ false → eqb (length behind) 0 ≡ false
+    → flat_map variants (language_parts rest) ≡ variants_in part ++ flat_map variants (language_parts (drop 1 behind))
+split-more rest part behind n p b place goes some =
+    let short : n < length rest = omega (arith, eqb-false (length behind) 0 some, ap length b, length-drop n rest) in
+    parts-next rest n place short (ap is_untranslated (sym p) ∙ goes)
+    ∙ ap (λ l. variants_in l ++ flat_map variants (language_parts (drop (n + 1) rest))) (sym p)
+    ∙ ap (λ l. variants_in part ++ flat_map variants (language_parts l)) (sym (drop-drop 1 n rest) ∙ ap (drop 1) (sym b))

@@ -1,0 +1,62 @@
+-- The escapes that `gettext -e` expands ("Invoking the gettext program" of the GNU gettext manual).
+use Rattle.std.specs.Prelude.{ℕ, zero, suc, ◌+◌, ◌-◌, ◌*◌, ◌%◌, Bool, ◌&&◌, ◌==◌, nat_le, if◌then◌else◌, List, [], ◌∷◌, length, fold, take, take_while, Option, Some, None, is_none}
+use Rattle.std.specs.List.{filter_map, list_any}
+use Rattle.po_shell.specs.declared.escape.Escape.{Escape}
+
+abbrev pub is_octal : ℕ → Bool
+is_octal b = nat_le 48 b && nat_le b 55
+
+-- up to three octal digits at the front
+abbrev pub octal_run : List ℕ → List ℕ
+octal_run bs = take_while is_octal (take 3 bs)
+
+-- the byte with one more octal digit
+abbrev pub with_octal : ℕ → ℕ → ℕ
+with_octal n digit = (n * 8 + (digit - 48)) % 256
+
+-- the byte that octal digits give, modulo 256
+abbrev pub octal_value : List ℕ → ℕ
+octal_value digits = fold with_octal 0 digits
+
+abbrev pub letter : Option ℕ → Option Escape
+letter byte = Some (record { byte = byte; size = 1 })
+
+-- an escape of one letter: `\c` gives no byte
+unfoldable pub letter_escape : ℕ → Option Escape
+letter_escape b =
+    if b == 97 then letter (Some 7)
+    else if b == 98 then letter (Some 8)
+    else if b == 102 then letter (Some 12)
+    else if b == 110 then letter (Some 10)
+    else if b == 114 then letter (Some 13)
+    else if b == 116 then letter (Some 9)
+    else if b == 118 then letter (Some 11)
+    else if b == 92 then letter (Some 92)
+    else if b == 99 then letter None
+    else None
+
+-- the escape that a `\` begins, by the bytes behind it; any other `\` stays
+unfoldable pub escape_behind : List ℕ → Option Escape
+escape_behind [] = None
+escape_behind (b ∷ bs) =
+    if is_octal b then Some (record { byte = Some (octal_value (octal_run (b ∷ bs))); size = length (octal_run (b ∷ bs)) })
+    else letter_escape b
+
+-- what stands for one byte, with what stands for those behind it
+abbrev pub unit : ℕ → Option Escape → (ℕ → List (Option ℕ)) → List (Option ℕ)
+unit b None later = Some b ∷ later 0
+unit b (Some e) later = e.byte ∷ later e.size
+
+-- what the bytes behind these places give; the first `skip` bytes belong to an escape
+unfoldable pub units_after : ℕ → List ℕ → List (Option ℕ)
+units_after skip [] = []
+units_after (suc skip) (b ∷ bs) = units_after skip bs
+units_after zero (b ∷ bs) = unit b (if b == 92 then escape_behind bs else None) (λ skip. units_after skip bs)
+
+-- the text with its escapes expanded
+abbrev pub expansion : List ℕ → List ℕ
+expansion text = filter_map (λ u. u) (units_after 0 text)
+
+-- whether a `\c` stands in the text
+abbrev pub has_no_newline : List ℕ → Bool
+has_no_newline text = list_any (λ u. is_none u) (units_after 0 text)

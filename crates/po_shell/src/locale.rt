@@ -1,0 +1,206 @@
+// The locales whose catalogues are looked for ("Locale Environment Variables" and "Specifying a
+// Priority List of Languages" of the GNU gettext manual).
+ghost use Rattle.std.specs.Prelude.{◌≡◌, ◌++◌, map, fold, IfOk, OnOk, OnErr, Err};
+ghost use Rattle.std.specs.List.{flat_map, list_any};
+ghost use Rattle.std.specs.Option.{option_map};
+ghost use Rattle.std.specs.Str.{bytes_eq};
+ghost use Rattle.po_shell.specs.Locales.{given, locale_of, is_untranslated, has_slash, before, from_first, variants, language_parts, with_name, candidates_of, path_of};
+ghost use Rattle.po_shell.specs.LocaleSteps.{variants_in};
+
+use crate::fault::ToolFault;
+use crate::search::len_before;
+use std::alloc::Global;
+
+/// The environment variables that choose a catalogue, as bytes; an unset one is `None`.
+#[derive(Clone, Copy)]
+pub struct Environment<'a> {
+    pub lc_all: Option<&'a [u8]>,
+    pub lc_messages: Option<&'a [u8]>,
+    pub lang: Option<&'a [u8]>,
+    pub language: Option<&'a [u8]>,
+    pub textdomain: Option<&'a [u8]>,
+    pub textdomaindir: Option<&'a [u8]>,
+}
+
+/// The locales whose catalogues are looked for, the first to be asked first, none twice. There is
+/// none without a locale, in `C` and `POSIX`, and in a locale whose name has a slash.
+pub fn locale_candidates(
+    alloc: Global,
+    environment: &Environment<'_>,
+) -> Result<Vec<Vec<u8>>, ToolFault>
+    ensures candidates { IfOk result (λ v. map (λ name. name.items) v.items ≡ candidates_of environment.now) }
+    ensures fault { OnErr result (result ≡ Err ToolFault.OutOfMemory) }
+{
+    let mut candidates = Vec::new(alloc);
+    let Some(locale) = locale_of(environment) else {
+        return Ok(candidates);
+    };
+    if is_untranslated(locale) {
+        return Ok(candidates);
+    }
+    if has_slash(locale) {
+        return Ok(candidates);
+    }
+    match given(environment.language) {
+        None => {
+            add_variants(alloc, &mut candidates, locale)?;
+            Ok(candidates)
+        }
+        Some(languages) => {
+            add_languages(alloc, &mut candidates, languages)?;
+            Ok(candidates)
+        }
+    }
+}
+
+/// Where the catalogue of a domain lies for a locale: `DIR/LOCALE/LC_MESSAGES/DOMAIN.mo`, with
+/// each part as it is.
+pub fn catalogue_path(
+    alloc: Global,
+    dir: &[u8],
+    locale: &[u8],
+    domain: &[u8],
+) -> Result<Vec<u8>, ToolFault>
+    ensures path { IfOk result (λ path. path.items ≡ path_of dir.now locale.now domain.now) }
+    ensures fault { OnErr result (result ≡ Err ToolFault.OutOfMemory) }
+{
+    let mut path = Vec::from_slice(alloc, dir)?;
+    path.extend_from_slice(b"/")?;
+    path.extend_from_slice(locale)?;
+    path.extend_from_slice(b"/LC_MESSAGES/")?;
+    path.extend_from_slice(domain)?;
+    path.extend_from_slice(b".mo")?;
+    Ok(path)
+}
+
+// A variable that is set and not empty.
+fn given(variable: Option<&[u8]>) -> Option<&[u8]>
+    ensures { option_map (λ value. value.now) result ≡ given variable.entry }
+{
+    match variable {
+        Some(value) if !value.is_empty() => Some(value),
+        _ => None,
+    }
+}
+
+// The first of LC_ALL, LC_MESSAGES and LANG that is given.
+fn locale_of<'a>(environment: &Environment<'a>) -> Option<&'a [u8]>
+    ensures { option_map (λ value. value.now) result ≡ locale_of environment.now }
+{
+    if let Some(locale) = given(environment.lc_all) {
+        return Some(locale);
+    }
+    if let Some(locale) = given(environment.lc_messages) {
+        return Some(locale);
+    }
+    given(environment.lang)
+}
+
+#[tactic(auto, unfolding(crate::specs::Locales::is_untranslated))]
+fn is_untranslated(name: &[u8]) -> bool
+    ensures { result ≡ is_untranslated name.now }
+{
+    name == b"C".as_slice() || name == b"POSIX".as_slice()
+}
+
+fn has_slash(name: &[u8]) -> bool
+    ensures { result ≡ has_slash name.now }
+{
+    name.contains(&b'/')
+}
+
+// Adds the candidates of the parts of LANGUAGE.
+fn add_languages(
+    alloc: Global,
+    candidates: &mut Vec<Vec<u8>>,
+    languages: &[u8],
+) -> Result<(), ToolFault>
+    ensures added { OnOk result (map (λ name. name.items) candidates.new.items
+        ≡ fold with_name (map (λ name. name.items) candidates.old.items) (flat_map variants (language_parts languages.now))) }
+    ensures fault { OnErr result (result ≡ Err ToolFault.OutOfMemory) }
+{
+    let mut rest = languages;
+    loop {
+        let (part, behind) = rest.split_at(len_before(b':', rest));
+        if is_untranslated(part) {
+            return Ok(());
+        }
+        add_language(alloc, candidates, part)?;
+        if behind.is_empty() {
+            return Ok(());
+        }
+        rest = &behind[1..];
+    }
+}
+
+// Adds the candidates of one part of LANGUAGE, if it counts.
+fn add_language(alloc: Global, candidates: &mut Vec<Vec<u8>>, part: &[u8]) -> Result<(), ToolFault>
+    ensures added { OnOk result (map (λ name. name.items) candidates.new.items
+        ≡ fold with_name (map (λ name. name.items) candidates.old.items) (variants_in part.now)) }
+    ensures fault { OnErr result (result ≡ Err ToolFault.OutOfMemory) }
+{
+    if part.is_empty() || has_slash(part) {
+        return Ok(());
+    }
+    add_variants(alloc, candidates, part)
+}
+
+// Adds the candidates of a name L[_T][.C][@M].
+fn add_variants(alloc: Global, candidates: &mut Vec<Vec<u8>>, name: &[u8]) -> Result<(), ToolFault>
+    ensures added { OnOk result (map (λ name. name.items) candidates.new.items
+        ≡ fold with_name (map (λ name. name.items) candidates.old.items) (variants name.now)) }
+    ensures fault { OnErr result (result ≡ Err ToolFault.OutOfMemory) }
+{
+    let modifier = from_first(b'@', name);
+    let base = before(b'.', before(b'@', name));
+    let language = before(b'_', base);
+    add_name(alloc, candidates, name, &[])?;
+    add_name(alloc, candidates, base, modifier)?;
+    add_name(alloc, candidates, language, modifier)?;
+    add_name(alloc, candidates, base, &[])?;
+    add_name(alloc, candidates, language, &[])?;
+    Ok(())
+}
+
+// What stands before the first `byte`, or all.
+#[tactic(auto, unfolding(crate::specs::Locales::before))]
+fn before(byte: u8, name: &[u8]) -> &[u8]
+    ensures { result.now ≡ before byte name.now }
+{
+    &name[..len_before(byte, name)]
+}
+
+// What stands from the first `byte` on, or nothing.
+#[tactic(auto, unfolding(crate::specs::Locales::from_first))]
+fn from_first(byte: u8, name: &[u8]) -> &[u8]
+    ensures { result.now ≡ from_first byte name.now }
+{
+    &name[len_before(byte, name)..]
+}
+
+// Adds a name in two parts, if it isn't there.
+#[tactic(auto, unfolding(crate::specs::Locales::with_name))]
+fn add_name(
+    alloc: Global,
+    candidates: &mut Vec<Vec<u8>>,
+    front: &[u8],
+    back: &[u8],
+) -> Result<(), ToolFault>
+    ensures added { OnOk result (map (λ name. name.items) candidates.new.items
+        ≡ with_name (map (λ name. name.items) candidates.old.items) (front.now ++ back.now)) }
+    ensures fault { OnErr result (result ≡ Err ToolFault.OutOfMemory) }
+{
+    let mut name = Vec::from_slice(alloc, front)?;
+    name.extend_from_slice(back)?;
+    if is_among(candidates, &name) {
+        return Ok(());
+    }
+    candidates.push(name)?;
+    Ok(())
+}
+
+fn is_among(names: &[Vec<u8>], name: &[u8]) -> bool
+    ensures { result ≡ list_any (λ known. bytes_eq known.items name.now) names.now }
+{
+    names.iter().any(|known| known.as_slice() == name)
+}
