@@ -33,7 +33,10 @@ impl Default for Frame {
 }
 
 /// The nodes that wait, the last one for the operand that is evaluated next.
-pub type Frames = ArrayVec<Frame, LIMIT>;
+type Frames<const DEPTH: usize> = ArrayVec<Frame, DEPTH>;
+
+/// The most nodes of an expression that is evaluated with the smaller stack, which costs less to set up.
+const SHORT: usize = 64;
 
 /// What to do next.
 #[derive(Clone, Copy, Drop)]
@@ -52,7 +55,25 @@ pub fn evaluate(table: &[Node], count: u64) -> (Option<u64>, u32)
     ensures steps { result.1 ≡ visited (tree_of table.now) count }
     ensures bound { result.1 ≤ nodes (tree_of table.now) }
 {
-    let mut frames = Frames::new();
+    if table.len() <= SHORT {
+        evaluate_within::<SHORT>(table, count)
+    } else {
+        evaluate_within::<LIMIT>(table, count)
+    }
+}
+
+/// The same, where at most `DEPTH` nodes wait.
+#[inline(never)]
+fn evaluate_within<const DEPTH: usize>(table: &[Node], count: u64) -> (Option<u64>, u32)
+    requires laid { table.now ≡ layout 0 (tree_of table.now) }
+    requires limit { nodes (tree_of table.now) ≤ LIMIT }
+    requires depth { nodes (tree_of table.now) ≤ DEPTH }
+    requires size { DEPTH ≤ LIMIT }
+    ensures value { result.0 ≡ value (tree_of table.now) count }
+    ensures steps { result.1 ≡ visited (tree_of table.now) count }
+    ensures bound { result.1 ≤ nodes (tree_of table.now) }
+{
+    let mut frames = Frames::<DEPTH>::new();
     let mut place = table.len() - 1;
     let mut steps = 0;
     'visits: loop {
@@ -76,11 +97,17 @@ fn node_at(table: &[Node], place: usize) -> Node
 
 /// Visits the node at an index: a leaf has its value, and any other node waits for its first operand.
 #[tactic(auto, using(crate::proofs::Frames::visits_not, crate::proofs::Frames::visits_binary, crate::proofs::Frames::visits_conditional, crate::proofs::Frames::remaining_more, crate::proofs::Frames::frames_more))]
-fn visit(table: &[Node], place: usize, count: u64, frames: &mut Frames) -> Step
+fn visit<const DEPTH: usize>(
+    table: &[Node],
+    place: usize,
+    count: u64,
+    frames: &mut Frames<DEPTH>,
+) -> Step
     requires laid { table.now ≡ layout 0 (tree_of table.now) }
     requires limit { nodes (tree_of table.now) ≤ LIMIT }
     requires place { place < nodes (tree_of table.now) }
-    requires room { array_vec_len frames.old < LIMIT }
+    requires room { array_vec_len frames.old < DEPTH }
+    requires size { DEPTH ≤ LIMIT }
     requires frames { AreFramesOf (tree_of table.now) frames.old.items }
     ensures outcome { (steps : ℕ) →
         finished_step (tree_of table.now) count frames.new.items (steps + 1) result
@@ -111,8 +138,9 @@ fn visit(table: &[Node], place: usize, count: u64, frames: &mut Frames) -> Step
 
 /// Hands a value to the nodes that wait for it, up to one that needs a further operand.
 #[tactic(auto, using(crate::proofs::Frames::finished_more, crate::proofs::Frames::remaining_more, crate::proofs::Frames::frames_more, crate::proofs::Frames::frames_split, crate::proofs::Frames::finished_undefined))]
-fn resume(frames: &mut Frames, operand: u64) -> Step
-    requires { array_vec_len frames.old ≤ LIMIT }
+fn resume<const DEPTH: usize>(frames: &mut Frames<DEPTH>, operand: u64) -> Step
+    requires room { array_vec_len frames.old ≤ DEPTH }
+    requires size { DEPTH ≤ LIMIT }
     ensures outcome { (whole : Tree) (n steps : ℕ) →
         finished_step whole n frames.new.items steps result
         ≡ finished whole n frames.old.items (record { value = Some operand; steps = steps }) }

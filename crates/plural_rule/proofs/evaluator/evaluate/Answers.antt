@@ -1,31 +1,8 @@
-use Rattle.std.proofs.Common.{◌≡◌, ◌-◌, length, refl, ap, ◌∙◌, arith}
-use Rattle.plural_rule.specs.Expression.{nodes}
+use Rattle.std.proofs.Common.{◌≡◌, length, ap, arith}
 use Rattle.plural_rule.specs.PostOrder.{tree_of}
-use Rattle.plural_rule.specs.Evaluation.{subtree, remaining}
 use Rattle.plural_rule.proofs.ParserSteps.{length-layout}
-use Rattle.plural_rule.proofs.Subtrees.{nodes-positive, subtree-last}
 use Rattle.plural_rule.proofs.evaluator.evaluate.Goals as goal
 
-pub overflow_sub-place : goal.overflow_sub-place
-overflow_sub-place c =
-    let whole = tree_of c.args.table.now in
-    omega (arith, ap length c.requires.laid, length-layout whole 0, nodes-positive whole)
-
-pub visits-init : goal.visits-init
-visits-init c =
-    let whole = tree_of c.args.table.now in
-    let count : length c.args.table.now ≡ nodes whole = ap length c.requires.laid ∙ length-layout whole 0 in
-    let last : subtree whole (length c.args.table.now - 1) ≡ whole = ap (λ n. subtree whole (n - 1)) count ∙ subtree-last whole in
-    let positive = nodes-positive whole in
-    record {
-      outcome = rw (last, c.new-frames.ensures) refl;
-      remaining = omega (arith, ap nodes last, ap (remaining whole) c.new-frames.ensures);
-      place = omega arith;
-      frames = rw c.new-frames.ensures tt;
-      size = omega (arith, ap length c.new-frames.ensures);
-    }
-
-pub visit-requires-clause-room : goal.visit-requires-clause-room
-visit-requires-clause-room c =
-    let whole = tree_of c.args.table.now in
-    omega (arith, nodes-positive (subtree whole c.visits.place))
+pub evaluate_within-requires-clause-depth : goal.evaluate_within-requires-clause-depth
+evaluate_within-requires-clause-depth c =
+    omega (arith, ap length c.requires.laid, length-layout (tree_of c.args.table.now) 0)

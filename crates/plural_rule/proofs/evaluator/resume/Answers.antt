@@ -3,7 +3,7 @@ use Rattle.plural_rule.proofs.Frames.{finished_pop, frames_pop, frames_more, rem
 use Rattle.plural_rule.proofs.evaluator.resume.Goals as goal
 
 pub loop-frame-preserved-in-Not : goal.loop-frame-preserved-in-Not
-loop-frame-preserved-in-Not c =
+loop-frame-preserved-in-Not g c =
     let split = c.in-Some.ensures.items in
     record {
       outcome = λ whole n steps.
@@ -15,16 +15,16 @@ loop-frame-preserved-in-Not c =
     }
 
 pub returns-then-needs_right-clause-step : goal.returns-then-needs_right-clause-step
-returns-then-needs_right-clause-step c whole h =
+returns-then-needs_right-clause-step g c whole h =
     (frames_pop whole _ _ _ _ c.in-Some.ensures.items c.in-First.is (c.loop-frame.invariant.frames whole h)).1
 
 pub returns-then-needs_right-clause-frames : goal.returns-then-needs_right-clause-frames
-returns-then-needs_right-clause-frames c whole h =
+returns-then-needs_right-clause-frames g c whole h =
     rw c.push.ensures.items
     (frames_more whole _ _ (frames_pop whole _ _ _ _ c.in-Some.ensures.items c.in-First.is (c.loop-frame.invariant.frames whole h)).0 tt)
 
 pub loop-frame-preserved-in-First : goal.loop-frame-preserved-in-First
-loop-frame-preserved-in-First c =
+loop-frame-preserved-in-First g c =
     let split = c.in-Some.ensures.items in
     let no_right = sym c.needs_right.ensures ∙ c.if-needs_right.false in
     record {
@@ -38,7 +38,7 @@ loop-frame-preserved-in-First c =
     }
 
 pub loop-frame-preserved : goal.loop-frame-preserved
-loop-frame-preserved c =
+loop-frame-preserved g c =
     let split = c.in-Some.ensures.items in
     let value = sym c.combined.ensures ∙ c.in-Some-combined.is in
     record {
@@ -51,21 +51,21 @@ loop-frame-preserved c =
     }
 
 pub returns-in-None-clause-frames : goal.returns-in-None-clause-frames
-returns-in-None-clause-frames c whole h =
+returns-in-None-clause-frames g c whole h =
     (frames_pop whole _ _ _ _ c.in-Some.ensures.items c.in-Second.is (c.loop-frame.invariant.frames whole h)).0
 
 pub returns-then-value-eq0-clause-step : goal.returns-then-value-eq0-clause-step
-returns-then-value-eq0-clause-step c whole h =
+returns-then-value-eq0-clause-step g c whole h =
     (frames_pop whole _ _ _ _ c.in-Some.ensures.items c.in-Condition.is (c.loop-frame.invariant.frames whole h)).1.1
 
 pub returns-then-value-eq0-clause-frames : goal.returns-then-value-eq0-clause-frames
-returns-then-value-eq0-clause-frames c whole h =
+returns-then-value-eq0-clause-frames g c whole h =
     (frames_pop whole _ _ _ _ c.in-Some.ensures.items c.in-Condition.is (c.loop-frame.invariant.frames whole h)).0
 
 pub returns-else-value-eq0-clause-step : goal.returns-else-value-eq0-clause-step
-returns-else-value-eq0-clause-step c whole h =
+returns-else-value-eq0-clause-step g c whole h =
     (frames_pop whole _ _ _ _ c.in-Some.ensures.items c.in-Condition.is (c.loop-frame.invariant.frames whole h)).1.0
 
 pub returns-else-value-eq0-clause-frames : goal.returns-else-value-eq0-clause-frames
-returns-else-value-eq0-clause-frames c whole h =
+returns-else-value-eq0-clause-frames g c whole h =
     (frames_pop whole _ _ _ _ c.in-Some.ensures.items c.in-Condition.is (c.loop-frame.invariant.frames whole h)).0

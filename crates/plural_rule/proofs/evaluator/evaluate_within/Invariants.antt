@@ -2,10 +2,10 @@ use Rattle.std.proofs.Common.{◌≡◌, ◌+◌, ◌<◌, ◌≤◌, length}
 use Rattle.plural_rule.specs.Expression.{nodes}
 use Rattle.plural_rule.specs.PostOrder.{tree_of}
 use Rattle.plural_rule.specs.Evaluation.{subtree, outcome_of, finished, remaining, AreFramesOf}
-use Rattle.plural_rule.proofs.evaluator.evaluate.Given as goal
+use Rattle.plural_rule.proofs.evaluator.evaluate_within.Given as goal
 
 abbrev pub invariant-visits : goal.invariant-visits
-invariant-visits l =
+invariant-visits g l =
     let whole = tree_of l.table in
     record {
       outcome : finished whole l.count l.frames.items (outcome_of (subtree whole l.place) l.count l.steps) ≡ outcome_of whole l.count 0;
@@ -16,4 +16,4 @@ invariant-visits l =
     }
 
 abbrev pub decreases-visits : goal.decreases-visits
-decreases-visits l = nodes (subtree (tree_of l.table) l.place) + remaining (tree_of l.table) l.frames.items
+decreases-visits g l = nodes (subtree (tree_of l.table) l.place) + remaining (tree_of l.table) l.frames.items
