@@ -34,7 +34,7 @@ fn bound(count: u32) -> u32 {
 }
 
 /// Looks up each key of a file, and three msgids.
-fn look_up(rt: &impl Abort, file: Plain<'_>, catalog: &Catalog<'_>) {
+fn look_up<'x>(rt: &impl Abort, file: Plain<'x>, catalog: &Catalog<'x>) {
     let bound = bound(file.count());
     assert_eq!(rt; catalog.len(), file.count());
     for i in 0..file.count() {

@@ -108,13 +108,15 @@ impl<'a> Catalog<'a> {
     /// A message that isn't there is answered by the msgid, or by the plural for a count that isn't 1, and so is
     /// without a comparison a context or a msgid that holds a byte 0 or 4. The meter counts the comparisons; before
     /// the call its count is below 2^63.
-    pub fn look(
+    pub fn look<'q>(
         &self,
         context: Option<&[u8]>,
-        id: &'a [u8],
-        plural: Option<(&'a [u8], u64)>,
+        id: &'q [u8],
+        plural: Option<(&'q [u8], u64)>,
         meter: &mut Meter,
-    ) -> Answer<'a>
+    ) -> Answer<'q>
+    where
+        'a: 'q,
         requires { meter.old < 2 ^ 63 }
         ensures told { outcome_of result ≡ told self.now (query context.entry id.now plural.entry) }
         ensures counted { meter.new ≡ meter.old + result.comparisons }

@@ -1,7 +1,9 @@
 //! Look-up in the catalogues of GNU gettext's MO files: the text that a context, a msgid and a count select.
 //!
-//! Bytes of any origin are opened in place and checked once; after that a look-up compares at most
-//! floor(log2 N) + 1 of the N keys, evaluates each node of the plural expression at most once, and takes no memory.
+//! [`Catalog::open`] checks bytes of any origin once and reads the plural rule of their header entry. [`Catalog::look`]
+//! then answers a query by at most floor(log2 N) + 1 comparisons among N keys, and visits each node of the plural
+//! expression at most once. A [`Chain`] asks one catalogue after the other. None of them takes memory: texts are
+//! slices of the file or of the query. [`find`] is the search over any list of [`Keys`], which it sees by comparing alone.
 
 #![tactic(auto)]
 
@@ -22,5 +24,6 @@ pub use chain::{Chain, ChainAnswer};
 pub use laws::{
     bound_halves, bound_is_logarithm, each_key_finds_its_translation, other_keys_find_none,
 };
-pub use plural_rule::{Reason, Rule, Source};
+pub use plural_rule::laws::{longer_limit, one_rule, one_tree, visited_at_most_nodes};
+pub use plural_rule::{LIMIT, Reason, Rule, Source};
 pub use search::{Keys, find};
