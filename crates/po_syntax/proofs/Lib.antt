@@ -7,3 +7,7 @@ pub mod RawRuns
 pub mod Uniqueness
 pub mod Totality
 pub mod QuotedForms
+pub mod Rests
+pub mod CleanLines
+pub mod TrimmedReturns
+pub mod ItemTexts

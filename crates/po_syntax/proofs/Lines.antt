@@ -1,5 +1,6 @@
 -- A text spells at most one item for each of its bytes.
-use Rattle.std.proofs.Common.{◌==◌, ap, subst, ℕ, ◌+◌, ◌<◌, ◌≤◌, Bool, true, false, cond, if◌then◌else◌, List, [], ◌∷◌, length, length-append, drop, length-drop, arith}
+use Rattle.std.proofs.Common.{◌≡◌, ◌<◌, refl, ◌==◌, ap, subst, ℕ, ◌+◌, ◌≤◌, Bool, true, false, cond, if◌then◌else◌, List, [], ◌∷◌, length, length-append, drop, length-drop, arith}
+use Rattle.po_syntax.specs.declared.item.CommentKind.{CommentKind}
 use Rattle.std.specs.List.{onto_first}
 use Rattle.po_syntax.specs.declared.item.CommentKind.TheVariants.{Translator, Extracted, Reference, Flags}
 use Rattle.po_syntax.specs.declared.item.Marks.{Marks}
@@ -7,50 +8,65 @@ use Rattle.po_syntax.specs.Line.{Shape, Note, Tokens, NoShape, note_shape, obsol
 use Rattle.po_syntax.specs.PoText.{SpellsLines, lines_of, without_mark}
 use Rattle.po_syntax.specs.TextItem.{TextItem}
 use Rattle.po_syntax.specs.Token.{skip_blanks}
+use Rattle.po_syntax.proofs.Rests.{IsRest, whole_rest, rest-tail, rest-le}
 use Rattle.po_syntax.proofs.QuotedStrings.{quoted-shorter}
-use Rattle.po_syntax.proofs.Tokens.{skip_blanks-le, key-shorter, open-shorter}
+use Rattle.po_syntax.proofs.Tokens.{skip_blanks-rest, key-shorter, open-shorter}
 
--- the text behind a line's first bytes has at most n bytes; a comment has one before it
-abbrev Within : ℕ → Shape → Type 0
-Within n (Note kind rest) = length rest < n
-Within n (Tokens marks rest) = length rest ≤ n
-Within n NoShape = Unit {0}
+-- a shape leaves a rest of this text
+abbrev Within : List ℕ → Shape → Type 0
+Within text (Note kind rest) = IsRest rest text
+Within text (Tokens marks rest) = IsRest rest text
+Within text NoShape = Unit {0}
 
-if_within : (n : ℕ) (test : Bool) (s t : Shape) → Within n s → Within n t → Within n (if test then s else t)
-if_within n true s t p q = p
-if_within n false s t p q = q
+if_within : (text : List ℕ) (test : Bool) (s t : Shape) → Within text s → Within text t → Within text (if test then s else t)
+if_within text true s t p q = p
+if_within text false s t p q = q
 
-note_within : (n : ℕ) (text : List ℕ) → length text < n → Within n (note_shape text)
-note_within n [] h = h
-note_within n (b ∷ text) h =
-    let less : length text < n = omega arith in
-    if_within n (b == 46) (Note Extracted text) _ less (if_within n (b == 58) (Note Reference text) _ less (if_within n (b == 44) (Note Flags text) _ less (if_within n (b == 124) NoShape _ tt (if_within n (b == 126) NoShape (Note Translator (b ∷ text)) tt h))))
+note_within : (rest text : List ℕ) → IsRest rest text → Within text (note_shape rest)
+note_within [] text h = h
+note_within (b ∷ rest) text h =
+    let inside = rest-tail b text h in
+    if_within text (b == 46) (Note Extracted rest) _ inside (if_within text (b == 58) (Note Reference rest) _ inside (if_within text (b == 44) (Note Flags rest) _ inside (if_within text (b == 124) NoShape _ tt (if_within text (b == 126) NoShape (Note Translator (b ∷ rest)) tt h))))
 
-obsolete_within : (n : ℕ) (text : List ℕ) → length text < n → Within n (obsolete_shape text)
+obsolete_within : (rest text : List ℕ) → IsRest rest text → Within text (obsolete_shape rest)
 unfolding obsolete_shape
-obsolete_within n [] h = omega arith
-obsolete_within n (b ∷ text) h =
-    if_within n (b == 35) _ (Tokens _ (b ∷ text)) (note_within n text (omega arith)) (omega arith)
+obsolete_within [] text h = h
+obsolete_within (b ∷ rest) text h =
+    if_within text (b == 35) _ (Tokens _ (b ∷ rest)) (note_within rest text (rest-tail b text h)) h
 
-tilde_within : (n : ℕ) (text : List ℕ) → length text < n → Within n (tilde_shape text)
+tilde_within : (rest text : List ℕ) → IsRest rest text → Within text (tilde_shape rest)
 unfolding tilde_shape
-tilde_within n [] h = obsolete_within n [] h
-tilde_within n (b ∷ text) h =
-    if_within n (b == 124) (Tokens _ text) _ (omega arith) (obsolete_within n (skip_blanks (b ∷ text)) (omega (arith, skip_blanks-le (b ∷ text))))
+tilde_within [] text h = obsolete_within [] text h
+tilde_within (b ∷ rest) text h =
+    if_within text (b == 124) (Tokens _ rest) _ (rest-tail b text h) (obsolete_within (skip_blanks (b ∷ rest)) text (skip_blanks-rest text h))
 
-hash_within : (n : ℕ) (text : List ℕ) → length text < n → Within n (hash_shape text)
+hash_within : (rest text : List ℕ) → IsRest rest text → Within text (hash_shape rest)
 unfolding hash_shape
-hash_within n [] h = note_within n [] h
-hash_within n (b ∷ text) h =
-    if_within n (b == 124) (Tokens _ text) _ (omega arith) (if_within n (b == 126) _ _ (tilde_within n text (omega arith)) (note_within n (b ∷ text) h))
+hash_within [] text h = note_within [] text h
+hash_within (b ∷ rest) text h =
+    let inside = rest-tail b text h in
+    if_within text (b == 124) (Tokens _ rest) _ inside (if_within text (b == 126) _ _ (tilde_within rest text inside) (note_within (b ∷ rest) text h))
 
-first_within : (n : ℕ) (text : List ℕ) → length text ≤ n → Within n (first_shape text)
+first_within : (rest text : List ℕ) → IsRest rest text → Within text (first_shape rest)
 unfolding first_shape
-first_within n [] h = h
-first_within n (b ∷ text) h = if_within n (b == 35) _ (Tokens _ (b ∷ text)) (hash_within n text (omega arith)) h
+first_within [] text h = h
+first_within (b ∷ rest) text h =
+    if_within text (b == 35) _ (Tokens _ (b ∷ rest)) (hash_within rest text (rest-tail b text h)) h
 
-shape_within : (text : List ℕ) → Within (length text) (shape_of text)
-shape_within text = first_within (length text) (skip_blanks text) (skip_blanks-le text)
+shape_within : (text : List ℕ) → Within text (shape_of text)
+shape_within text = first_within (skip_blanks text) text (skip_blanks-rest text (whole_rest text))
+
+pub note-rest : (text : List ℕ) {kind : CommentKind} {rest : List ℕ} → shape_of text ≡ Note kind rest → IsRest rest text
+note-rest text e = subst (Within text) e (shape_within text)
+
+pub tokens-rest : (text : List ℕ) {marks : Marks} {rest : List ℕ} → shape_of text ≡ Tokens marks rest → IsRest rest text
+tokens-rest text e = subst (Within text) e (shape_within text)
+
+-- a comment has a byte before its text
+comment-some : (text : List ℕ) {kind : CommentKind} {rest : List ℕ} → shape_of text ≡ Note kind rest → 0 < length text
+unfolding first_shape
+comment-some [] e = cc
+comment-some (b ∷ text) e = omega arith
 
 tokens-few : {marks : Marks} {line : ℕ} {text : List ℕ} {items : List TextItem} → SpellsTokens marks line text items → length items ≤ length text
 tokens-few (none e) = omega arith
@@ -58,8 +74,8 @@ tokens-few (word {text = text} e h) = omega (arith, key-shorter text e, tokens-f
 tokens-few (string {text = text} e q h) = omega (arith, open-shorter text e, quoted-shorter q, tokens-few h)
 
 line-few : {line : ℕ} {text : List ℕ} {items : List TextItem} → SpellsLine line text items → length items ≤ length text
-line-few (comment {text = text} {rest = rest} {kind = kind} e) = let less : length rest < length text = subst (Within (length text)) e (shape_within text) in omega arith
-line-few (tokens {text = text} {rest = rest} e h) = let within : length rest ≤ length text = subst (Within (length text)) e (shape_within text) in omega (arith, tokens-few h)
+line-few (comment {text = text} e) = omega (arith, comment-some text e)
+line-few (tokens {text = text} e h) = omega (arith, rest-le text (tokens-rest text e), tokens-few h)
 
 -- how many bytes stand on the lines
 abbrev byte_count : List (List ℕ) → ℕ

@@ -2,6 +2,7 @@
 use Rattle.std.proofs.Common.{◌≡◌, ◌==◌, ◌⊎◌, inl, inr, ℕ, zero, suc, ◌<◌, ◌≤◌, Bool, true, false, if◌then◌else◌, nat_lt, List, [], ◌∷◌, ◌++◌, length, get_or, take, drop, length-drop, Option, Some, None, unwrap_or, refl, subst, arith}
 use Rattle.std.specs.Char.{is_digit}
 use Rattle.std.specs.Str.Parse.{digits_value}
+use Rattle.po_syntax.proofs.Rests.{IsRest, whole_rest, rest-drop, rest-tail, rest-le}
 use Rattle.std.proofs.lemmas.Bool.{or_parts, false_from_ne_true}
 use Rattle.memchr.specs.Find.{IsFirstByte, is_byte2}
 use Rattle.po_syntax.specs.declared.fault.PoFault.{PoFault}
@@ -49,51 +50,60 @@ unfolding step_at
 stops_at_end [] e = here refl
 stops_at_end (b ∷ text) e = absurd (omega arith)
 
--- the text that a step leaves has at most n bytes
-abbrev Within : ℕ → Step → Type 0
-Within n (End rest) = length rest ≤ n
-Within n (Byte b rest) = length rest ≤ n
-Within n (Stop fault) = Unit {0}
+-- a step leaves a rest of this text
+abbrev Within : List ℕ → Step → Type 0
+Within text (End rest) = IsRest rest text
+Within text (Byte b rest) = IsRest rest text
+Within text (Stop fault) = Unit {0}
 
-if_within : (n : ℕ) (test : Bool) (s t : Step) → Within n s → Within n t → Within n (if test then s else t)
-if_within n true s t p q = p
-if_within n false s t p q = q
+if_within : (text : List ℕ) (test : Bool) (s t : Step) → Within text s → Within text t → Within text (if test then s else t)
+if_within text true s t p q = p
+if_within text false s t p q = q
 
-number_step_within : (base count n : ℕ) (text : List ℕ) → length text ≤ n → Within n (number_step base count text)
-number_step_within base count n text h =
-    let number = digits_value base (take count text) in
-    if_within n (number == 0) _ _ tt (if_within n (nat_lt number 256) (Byte number (drop count text)) (Stop BadEscape) (omega (arith, length-drop count text)) tt)
+number_step_within : (base count : ℕ) (rest text : List ℕ) → IsRest rest text → Within text (number_step base count rest)
+number_step_within base count rest text h =
+    let number = digits_value base (take count rest) in
+    if_within text (number == 0) _ _ tt (if_within text (nat_lt number 256) (Byte number (drop count rest)) (Stop BadEscape) (rest-drop count text h) tt)
 
-letter_step_within : (n : ℕ) (value : Option ℕ) (text : List ℕ) → length text ≤ n → Within n (letter_step value text)
-letter_step_within n None text h = tt
-letter_step_within n (Some b) text h = h
+letter_step_within : (value : Option ℕ) (rest text : List ℕ) → IsRest rest text → Within text (letter_step value rest)
+letter_step_within None rest text h = tt
+letter_step_within (Some b) rest text h = h
 
-escape_within : (text : List ℕ) → Within (length text) (escape_at text)
+escape_within : (rest text : List ℕ) → IsRest rest text → Within text (escape_at rest)
 unfolding escape_at
-escape_within [] = tt
-escape_within (b ∷ text) =
-    let n = length (b ∷ text) in
-    let count = digit_count 16 text in
-    if_within n (is_digit b 8) _ _ (number_step_within 8 (digit_count 8 (take 3 (b ∷ text))) n (b ∷ text) (omega arith)) (if_within n (b == 120) _ _ (if_within n (count == 0) _ _ tt (number_step_within 16 count n text (omega arith))) (letter_step_within n (letter_value b) text (omega arith)))
+escape_within [] text h = tt
+escape_within (b ∷ rest) text h =
+    let inside = rest-tail b text h in
+    let count = digit_count 16 rest in
+    if_within text (is_digit b 8) _ _ (number_step_within 8 (digit_count 8 (take 3 (b ∷ rest))) (b ∷ rest) text h) (if_within text (b == 120) _ _ (if_within text (count == 0) _ _ tt (number_step_within 16 count rest text inside)) (letter_step_within (letter_value b) rest text inside))
 
-step_within : (b : ℕ) (text : List ℕ) → Within (length text) (step_at (b ∷ text))
+step_within : (b : ℕ) (text : List ℕ) → Within text (step_at (b ∷ text))
 unfolding step_at
 step_within b text =
-    if_within _ (b == 34) (End text) _ (omega arith) (if_within _ (b == 92) _ (Byte b text) (escape_within text) (omega arith))
+    let all = whole_rest text in
+    if_within text (b == 34) (End text) _ all (if_within text (b == 92) _ (Byte b text) (escape_within text text all) all)
 
 pub escape-rest : (text : List ℕ) {b : ℕ} {next : List ℕ} → escape_at text ≡ Byte b next → length next ≤ length text
-escape-rest text e = subst (Within (length text)) e (escape_within text)
+escape-rest text {next = next} e =
+    let within : IsRest next text = subst (Within text) e (escape_within text text (whole_rest text)) in
+    rest-le text within
 
--- a step leaves less than the text
+-- a step leaves the text without its first byte, or less
+pub byte-rest : (b : ℕ) (text : List ℕ) {byte : ℕ} {next : List ℕ} → step_at (b ∷ text) ≡ Byte byte next → IsRest next text
+byte-rest b text e = subst (Within text) e (step_within b text)
+
+pub end-rest : (b : ℕ) (text : List ℕ) {rest : List ℕ} → step_at (b ∷ text) ≡ End rest → IsRest rest text
+end-rest b text e = subst (Within text) e (step_within b text)
+
 pub byte-shorter : (text : List ℕ) {b : ℕ} {next : List ℕ} → step_at text ≡ Byte b next → length next < length text
 unfolding step_at
 byte-shorter [] e = cc
-byte-shorter (b ∷ text) {next = next} e = let within : length next ≤ length text = subst (Within (length text)) e (step_within b text) in omega arith
+byte-shorter (b ∷ text) e = omega (arith, rest-le text (byte-rest b text e))
 
 end-shorter : (text : List ℕ) {rest : List ℕ} → step_at text ≡ End rest → length rest < length text
 unfolding step_at
 end-shorter [] e = cc
-end-shorter (b ∷ text) {rest = rest} e = let within : length rest ≤ length text = subst (Within (length text)) e (step_within b text) in omega arith
+end-shorter (b ∷ text) e = omega (arith, rest-le text (end-rest b text e))
 
 -- what stands behind a quoted string is shorter than the text behind its opening quote
 pub quoted-shorter : {text bytes rest : List ℕ} → IsQuoted text bytes rest → length rest < length text

@@ -3,5 +3,6 @@ pub mod QuotedString
 pub mod Token
 pub mod Line
 pub mod TokenView
+pub mod ItemText
 pub mod PoText
 pub mod QuotedForm

@@ -1,6 +1,7 @@
 //! Laws of the definitions, each on an empty function: a crate that rests on one calls it.
 ghost use Rattle.std.specs.Prelude.{◌≡◌, ◌⊎◌, ◌<◌, ℕ, List, ◌++◌, All};
 ghost use Rattle.po_syntax.specs.declared.fault.PoFault.{PoFault};
+ghost use Rattle.po_syntax.specs.ItemText.{HoldsText};
 ghost use Rattle.po_syntax.specs.PoText.{SpellsText, TextFault};
 ghost use Rattle.po_syntax.specs.QuotedForm.{quoted};
 ghost use Rattle.po_syntax.specs.QuotedString.{IsQuoted};
@@ -35,4 +36,10 @@ pub fn items_or_fault()
 pub fn quoted_form_spells()
     ensures { (bytes rest : List ℕ) → All (λ b. (0 < b) × (b < 256)) bytes
         → (inside : List ℕ) × (token_at (quoted bytes ++ rest) ≡ Open inside) × IsQuoted inside bytes rest }
+{}
+
+/// The comments of a text are UTF-8 on one line without NUL and without CRs at their end, and its
+/// strings hold no NUL.
+pub fn items_hold_text()
+    ensures { (text : List ℕ) (items : List TextItem) → SpellsText text items → All HoldsText items }
 {}
