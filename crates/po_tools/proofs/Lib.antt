@@ -1,1 +1,2 @@
 pub mod Profiles
+pub mod GettextLemmas

@@ -44,13 +44,20 @@ word_text expand word = if expand then expansion word else word
 abbrev pub word_answer : List Contents → Asked → List ℕ → List ℕ
 word_answer chain o word = (chain_told chain (record { context = o.context; id = word_text o.expand word; plural = None })).text
 
--- with `-s` a newline ends the output, unless `-n` is given, or `-e` and a `\c` in a word
-abbrev pub ends_line : Asked → Bool
-ends_line o = o.shell && not (o.no_newline || o.expand && list_any has_no_newline o.words)
-
 -- the answers, with a space between two
+abbrev pub answers : List Contents → Asked → List ℕ
+answers chain o = join_with_byte 32 (map (word_answer chain o) o.words)
+
+-- with `-e` a `\c` in a word acts as `-n`
+abbrev pub stops_line : Asked → List ℕ → Bool
+stops_line o word = o.expand && has_no_newline word
+
+-- with `-s` a newline ends the output, unless `-n` is given or a word acts as that
+abbrev pub ends_line : Asked → Bool
+ends_line o = o.shell && (not o.no_newline && not (list_any (stops_line o) o.words))
+
 abbrev pub gettext_output : List Contents → Asked → List ℕ
-gettext_output chain o = join_with_byte 32 (map (word_answer chain o) o.words) ++ (if ends_line o then 10 ∷ [] else [])
+gettext_output chain o = answers chain o ++ (if ends_line o then 10 ∷ [] else [])
 
 -- this output, and these lines about catalogues that were refused, which don't count as a failure
 abbrev pub answered : List ℕ → List ℕ → Report

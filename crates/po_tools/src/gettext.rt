@@ -1,11 +1,13 @@
-ghost use Rattle.std.specs.Prelude.{◌≡◌, ◌^◌, ◌<◌, ◌&&◌, ◌++◌, None, length, IfOk, OnOk, OnErr, Err};
+ghost use Rattle.std.specs.Prelude.{◌≡◌, ◌^◌, ◌<◌, ◌≤◌, ◌++◌, None, length, IfOk, OnOk, OnErr, Err};
+ghost use Rattle.std.specs.List.{list_any};
 ghost use Rattle.std.specs.Option.{option_copied};
 ghost use Rattle.mo_lookup.specs.Chain.{chain_told};
-ghost use Rattle.po_shell.specs.Escapes.{has_no_newline};
+ghost use Rattle.mo_lookup.specs.Query.{given};
+ghost use Rattle.po_shell.specs.Escapes.{expansion, has_no_newline};
 ghost use Rattle.po_tools.specs.FaultText.{fault_line, mo_text};
 ghost use Rattle.po_tools.specs.Run.{report};
-ghost use Rattle.po_tools.specs.Gettext.{IsGettextRun, Opens, word_answer};
-ghost use Rattle.po_tools.specs.GettextView.{asked, named_files, OpensFile};
+ghost use Rattle.po_tools.specs.Gettext.{IsGettextRun, IsNgettextRun, Opens, answers, ngettext_output, stops_line, word_answer};
+ghost use Rattle.po_tools.specs.GettextView.{asked, asked_plural, named_files, OpensFile};
 
 use crate::fault_text::{push_mo_text, push_place};
 use crate::run::Run;
@@ -79,7 +81,10 @@ fn open_file<'a>(
             opened.catalogs.push(catalog)?;
             Ok(())
         }
-        Err(fault) => push_refusal(&mut opened.messages, tool, name, fault),
+        Err(fault) => {
+            push_refusal(&mut opened.messages, tool, name, fault)?;
+            Ok(())
+        }
     }
 }
 
@@ -89,7 +94,8 @@ fn open_all<'a>(
     tool: &str,
     files: &[(&str, &'a [u8])],
 ) -> Result<Opened<'a>, AllocError>
-    ensures { IfOk result (λ opened. Opens tool.now (named_files files.now) opened.catalogs.items opened.messages.items) }
+    ensures opens { IfOk result (λ opened. Opens tool.now (named_files files.now) opened.catalogs.items opened.messages.items) }
+    ensures few { IfOk result (λ opened. length opened.catalogs.items ≤ length files.now) }
 {
     let mut opened = Opened {
         catalogs: Vec::with_capacity(alloc, files.len())?,
@@ -101,52 +107,92 @@ fn open_all<'a>(
     Ok(opened)
 }
 
-/// Appends the answer to a msgid.
+/// Appends the answer to a msgid, and where a plural form is asked for to a plural and a count.
 fn push_text<'a, 'q>(
     output: &mut Vec<u8>,
     chain: &Chain<'_, 'a>,
     context: Option<&str>,
     id: &'q [u8],
+    plural: Option<(&'q [u8], u64)>,
 ) -> Result<(), AllocError>
 where
     'a: 'q,
-    ensures { OnOk result (output.new.items ≡ output.old.items ++ (chain_told chain.now (record { context = option_copied context.entry; id = id.now; plural = None })).text) }
+    ensures { OnOk result (output.new.items ≡ output.old.items ++ (chain_told chain.now (record { context = option_copied context.entry; id = id.now; plural = given plural.entry })).text) }
 {
     let answer = match context {
-        Some(context) => chain.look(Some(context.as_bytes()), id, None, &mut Meter::new()),
-        None => chain.look(None, id, None, &mut Meter::new()),
+        Some(context) => chain.look(Some(context.as_bytes()), id, plural, &mut Meter::new()),
+        None => chain.look(None, id, plural, &mut Meter::new()),
     };
     output.extend_from_slice(answer.text)
 }
 
-/// Appends the answer to a MSGID, and tells whether a `\c` is expanded in it.
-fn push_answer<'a>(
+/// Appends the answer to a MSGID with its escapes expanded, and tells whether a `\c` is among them.
+fn push_expanded(
     alloc: Global,
     output: &mut Vec<u8>,
-    chain: &Chain<'_, 'a>,
-    options: &GettextOptions<'a>,
-    word: &'a str,
+    chain: &Chain<'_, '_>,
+    context: Option<&str>,
+    word: &str,
 ) -> Result<bool, ToolFault>
-    ensures answer { OnOk result (output.new.items ≡ output.old.items ++ word_answer chain.now (asked options.now) word.now) }
-    ensures no_newline { IfOk result (λ stops. stops ≡ (options.now.expand && has_no_newline word.now)) }
+    ensures answer { OnOk result (output.new.items ≡ output.old.items ++ (chain_told chain.now (record { context = option_copied context.entry; id = expansion word.now; plural = None })).text) }
+    ensures no_newline { IfOk result (λ stops. stops ≡ has_no_newline word.now) }
     ensures fault { OnErr result (result ≡ Err ToolFault.OutOfMemory) }
 {
-    if !options.expand {
-        push_text(output, chain, options.context, word.as_bytes())?;
-        return Ok(false);
-    }
     let expanded = expand(alloc, word.as_bytes())?;
-    push_text(output, chain, options.context, &expanded.bytes)?;
+    push_text(output, chain, context, &expanded.bytes, None)?;
     Ok(expanded.no_newline)
+}
+
+/// Appends the answer to a MSGID, and tells whether a `\c` is expanded in it.
+fn push_answer(
+    alloc: Global,
+    output: &mut Vec<u8>,
+    chain: &Chain<'_, '_>,
+    options: &GettextOptions<'_>,
+    word: &str,
+) -> Result<bool, ToolFault>
+    ensures answer { OnOk result (output.new.items ≡ output.old.items ++ word_answer chain.now (asked options.now) word.now) }
+    ensures no_newline { IfOk result (λ stops. stops ≡ stops_line (asked options.now) word.now) }
+    ensures fault { OnErr result (result ≡ Err ToolFault.OutOfMemory) }
+{
+    if options.expand {
+        return push_expanded(alloc, output, chain, options.context, word);
+    }
+    push_text(output, chain, options.context, word.as_bytes(), None)?;
+    Ok(false)
+}
+
+/// Appends the answers to the MSGIDs, with a space between two, and tells whether a `\c` is expanded in one.
+fn push_answers(
+    alloc: Global,
+    output: &mut Vec<u8>,
+    chain: &Chain<'_, '_>,
+    options: &GettextOptions<'_>,
+) -> Result<bool, ToolFault>
+    ensures answers { OnOk result (output.new.items ≡ output.old.items ++ answers chain.now (asked options.now)) }
+    ensures no_newline { IfOk result (λ stops. stops ≡ list_any (stops_line (asked options.now)) (asked options.now).words) }
+    ensures fault { OnErr result (result ≡ Err ToolFault.OutOfMemory) }
+{
+    let Some((first, others)) = options.messages.split_first() else {
+        return Ok(false);
+    };
+    let mut stops = push_answer(alloc, output, chain, options, first)?;
+    for word in others {
+        output.push(b' ')?;
+        if push_answer(alloc, output, chain, options, word)? {
+            stops = true;
+        }
+    }
+    Ok(stops)
 }
 
 /// What `gettext` writes over the catalogues that could be read, in the order in which they are asked: the
 /// answers, each a translation or the MSGID itself; on standard error a line for each catalogue that is refused
 /// and so left out. Refused only by want of memory.
-pub fn plan_gettext<'a>(
+pub fn plan_gettext(
     alloc: Global,
-    catalogues: &[(&'a str, &'a [u8])],
-    options: &GettextOptions<'a>,
+    catalogues: &[(&str, &[u8])],
+    options: &GettextOptions<'_>,
 ) -> Result<Run, ToolFault>
     requires { length catalogues.now < 2 ^ 32 }
     ensures run { IfOk result (λ run. IsGettextRun (named_files catalogues.now) (asked options.now) (report run)) }
@@ -155,18 +201,56 @@ pub fn plan_gettext<'a>(
     let opened = open_all(alloc, "gettext", catalogues)?;
     let chain = Chain::new(&opened.catalogs);
     let mut output = Vec::new(alloc);
-    let mut ends_line = options.shell && !options.no_newline;
-    for (i, word) in options.messages.iter().enumerate() {
-        if i > 0 {
-            output.push(b' ')?;
-        }
-        if push_answer(alloc, &mut output, &chain, options, word)? {
-            ends_line = false;
-        }
-    }
-    if ends_line {
+    let stops = push_answers(alloc, &mut output, &chain, options)?;
+    if options.shell && !options.no_newline && !stops {
         output.push(b'\n')?;
     }
+    Ok(Run {
+        output,
+        create: false,
+        messages: opened.messages,
+        status: 0,
+    })
+}
+
+/// Appends the answer to MSGID, MSGID-PLURAL and COUNT.
+fn push_plural_answer(
+    alloc: Global,
+    output: &mut Vec<u8>,
+    chain: &Chain<'_, '_>,
+    options: &NgettextOptions<'_>,
+) -> Result<(), ToolFault>
+    ensures answer { OnOk result (output.new.items ≡ output.old.items ++ ngettext_output chain.now (asked_plural options.now)) }
+    ensures fault { OnErr result (result ≡ Err ToolFault.OutOfMemory) }
+{
+    let count = count_of(options.count.as_bytes());
+    if options.expand {
+        let id = expand(alloc, options.id.as_bytes())?.bytes;
+        let plural = expand(alloc, options.plural.as_bytes())?.bytes;
+        push_text(output, chain, options.context, &id, Some((&plural, count)))?;
+    } else {
+        let plural = Some((options.plural.as_bytes(), count));
+        push_text(output, chain, options.context, options.id.as_bytes(), plural)?;
+    }
+    Ok(())
+}
+
+/// What `ngettext` writes over the catalogues that could be read, in the order in which they are asked: the form
+/// of the translation for the count, or MSGID for a count of 1 and MSGID-PLURAL for any other; on standard error
+/// a line for each catalogue that is refused and so left out. Refused only by want of memory.
+pub fn plan_ngettext(
+    alloc: Global,
+    catalogues: &[(&str, &[u8])],
+    options: &NgettextOptions<'_>,
+) -> Result<Run, ToolFault>
+    requires { length catalogues.now < 2 ^ 32 }
+    ensures run { IfOk result (λ run. IsNgettextRun (named_files catalogues.now) (asked_plural options.now) (report run)) }
+    ensures fault { OnErr result (result ≡ Err ToolFault.OutOfMemory) }
+{
+    let opened = open_all(alloc, "ngettext", catalogues)?;
+    let chain = Chain::new(&opened.catalogs);
+    let mut output = Vec::new(alloc);
+    push_plural_answer(alloc, &mut output, &chain, options)?;
     Ok(Run {
         output,
         create: false,

@@ -6,6 +6,6 @@ mod gettext;
 mod profile;
 mod run;
 
-pub use gettext::{GettextOptions, NgettextOptions};
+pub use gettext::{GettextOptions, NgettextOptions, plan_gettext, plan_ngettext};
 pub use profile::CheckFault;
 pub use run::{Run, deliver};
