@@ -1,8 +1,9 @@
-ghost use Rattle.std.specs.Prelude.{◌≡◌, ◌^◌, ◌<◌, ◌≤◌, ◌++◌, None, length, IfOk, OnOk, OnErr, Err};
+ghost use Rattle.std.specs.Prelude.{◌≡◌, ◌^◌, ◌<◌, ◌≤◌, ◌++◌, None, Some, length, IfOk, OnOk, OnErr, Err};
 ghost use Rattle.std.specs.List.{list_any};
 ghost use Rattle.std.specs.Option.{option_copied};
 ghost use Rattle.mo_lookup.specs.Chain.{chain_told};
 ghost use Rattle.mo_lookup.specs.Query.{given};
+ghost use Rattle.po_shell.specs.Counts.{count_in};
 ghost use Rattle.po_shell.specs.Escapes.{expansion, has_no_newline};
 ghost use Rattle.po_tools.specs.FaultText.{fault_line, mo_text};
 ghost use Rattle.po_tools.specs.Run.{report};
@@ -213,6 +214,23 @@ pub fn plan_gettext(
     })
 }
 
+/// Appends the answer to MSGID and MSGID-PLURAL, with their escapes expanded, and COUNT.
+fn push_expanded_plural(
+    alloc: Global,
+    output: &mut Vec<u8>,
+    chain: &Chain<'_, '_>,
+    options: &NgettextOptions<'_>,
+) -> Result<(), ToolFault>
+    ensures answer { OnOk result (let o = asked_plural options.now in output.new.items ≡ output.old.items ++ (chain_told chain.now (record { context = o.context; id = expansion o.id; plural = Some (expansion o.plural, count_in o.count) })).text) }
+    ensures fault { OnErr result (result ≡ Err ToolFault.OutOfMemory) }
+{
+    let count = count_of(options.count.as_bytes());
+    let id = expand(alloc, options.id.as_bytes())?.bytes;
+    let plural = expand(alloc, options.plural.as_bytes())?.bytes;
+    push_text(output, chain, options.context, &id, Some((&plural, count)))?;
+    Ok(())
+}
+
 /// Appends the answer to MSGID, MSGID-PLURAL and COUNT.
 fn push_plural_answer(
     alloc: Global,
@@ -223,15 +241,12 @@ fn push_plural_answer(
     ensures answer { OnOk result (output.new.items ≡ output.old.items ++ ngettext_output chain.now (asked_plural options.now)) }
     ensures fault { OnErr result (result ≡ Err ToolFault.OutOfMemory) }
 {
-    let count = count_of(options.count.as_bytes());
     if options.expand {
-        let id = expand(alloc, options.id.as_bytes())?.bytes;
-        let plural = expand(alloc, options.plural.as_bytes())?.bytes;
-        push_text(output, chain, options.context, &id, Some((&plural, count)))?;
-    } else {
-        let plural = Some((options.plural.as_bytes(), count));
-        push_text(output, chain, options.context, options.id.as_bytes(), plural)?;
+        return push_expanded_plural(alloc, output, chain, options);
     }
+    let count = count_of(options.count.as_bytes());
+    let plural = Some((options.plural.as_bytes(), count));
+    push_text(output, chain, options.context, options.id.as_bytes(), plural)?;
     Ok(())
 }
 
