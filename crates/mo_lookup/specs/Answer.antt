@@ -19,7 +19,8 @@ outcome_of answer = record { text = answer.text.now; found = answer.found; steps
 abbrev pub form_at : List (List ℕ) → ℕ → List ℕ
 form_at forms index = slice_index_or forms index []
 
--- the form that the value of a rule selects: form 0 where it is undefined, or isn't below the number of plural forms and of those that are there
+-- the form that the value of a rule selects: form 0 where the value is undefined, isn't below the rule's number of forms,
+-- or isn't below the number of forms that are there
 abbrev pub selected_form : List (List ℕ) → ℕ → Option ℕ → List ℕ
 selected_form forms number None = form_at forms 0
 selected_form forms number (Some index) = if nat_lt index (min number (length forms)) then form_at forms index else form_at forms 0

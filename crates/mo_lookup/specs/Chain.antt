@@ -21,7 +21,8 @@ translates query contents = is_some (forms_found contents.messages query)
 abbrev pub chain_told : List Contents → Query → Outcome
 chain_told chain query = option_map_or (λ contents. told contents query) (find (translates query) chain) (untranslated query)
 
--- how many catalogues of a chain are asked: those up to the first that translates the query, else all; none where the query isn't clean
+-- how many catalogues of a chain are asked: those up to the first that translates the query, else all of them; none
+-- where the query isn't clean
 abbrev pub asked : List Contents → Query → ℕ
 asked chain query =
     if is_clean_key query.context query.id then min (length chain) (position_or_len (translates query) chain + 1) else 0
@@ -34,11 +35,11 @@ chain_bound catalogues = sum_by (λ contents. search_bound (length contents.mess
 abbrev pub answering_nodes : List Contents → Query → ℕ
 answering_nodes chain query = option_map_or (λ contents. nodes contents.rule.tree) (find (translates query) chain) 0
 
--- whether a catalogue has a key
+-- internal: whether a catalogue has a key
 abbrev pub has_key : List ℕ → Contents → Bool
 has_key key contents = is_some (translation_under key contents.messages)
 
--- the first catalogue of a chain that has a key, its place, and its translation under the key
+-- internal: the first catalogue of a chain that has a key, its place, and its translation under the key
 pub record IsFirstWith (key : List ℕ) (chain : List Contents) (place : ℕ) (contents : Contents) (translation : List ℕ) : Type 0 where
   pub first : place ≡ position_or_len (has_key key) chain
   pub there : slice_get chain place ≡ Some contents

@@ -1,2 +1,3 @@
 pub mod StatisticsLemmas
 pub mod DuplicateLemmas
+pub mod JoiningLemmas

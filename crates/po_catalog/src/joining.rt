@@ -1,6 +1,7 @@
-ghost use Rattle.std.specs.Prelude.{◌≡◌, ◌++◌, ◌<◌, ◌^◌, length, map, OnOk, IfOk};
+ghost use Rattle.std.specs.Prelude.{◌≡◌, ◌++◌, ◌<◌, ◌^◌, length, map, All, OnOk, IfOk};
 ghost use Rattle.std.specs.List.{list_any};
-ghost use Rattle.po_catalog.specs.Joined.{in_input, is_live_header, kept_entries, joined};
+ghost use Rattle.po_catalog.specs.Joined.{in_input, is_live_header, kept_entries, joined, joined_entries};
+ghost use Rattle.po_entry.specs.Validity.{IsCatalogueEntry};
 ghost use Rattle.po_catalog.specs.JoinedView.{input_entries};
 
 use po_entry::{Catalogue, Entry};
@@ -19,13 +20,15 @@ pub struct JoinedEntry<'a> {
 /// input has a live header.
 pub fn joined(alloc: Global, catalogues: &[Catalogue]) -> Result<Vec<JoinedEntry<'_>>, AllocError>
     requires { length catalogues.now < 2 ^ 32 }
-    ensures { IfOk result (λ entries. input_entries entries.items ≡ joined catalogues.now) }
+    ensures list { IfOk result (λ entries. input_entries entries.items ≡ joined catalogues.now) }
+    ensures valid { OnOk result (All IsCatalogueEntry (joined_entries catalogues.now)) }
 {
     let mut joined = Vec::new(alloc);
     let mut headed = false;
     for (input, catalogue) in catalogues.iter().enumerate() {
-        add_entries(&mut joined, catalogue.entries(), input as u32, headed)?;
-        headed = headed || has_live_header(catalogue.entries());
+        let entries = catalogue.entries();
+        add_entries(&mut joined, entries, input as u32, headed)?;
+        headed = headed || has_live_header(entries);
     }
     Ok(joined)
 }

@@ -9,3 +9,6 @@ mod stats;
 pub use crate::duplicate::{JoinError, duplicates, joined_duplicates};
 pub use crate::joining::{JoinedEntry, joined};
 pub use crate::stats::{Stats, has_translation, joined_statistics, statistics};
+pub use po_entry::{Catalogue, Entry, Previous};
+pub use po_reader::read;
+pub use po_writer::write;

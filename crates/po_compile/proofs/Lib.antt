@@ -1,0 +1,7 @@
+pub mod TextLemmas
+pub mod FindLemmas
+pub mod MeaningLemmas
+pub mod SortLemmas
+pub mod ReadingLemmas
+pub mod OneListLemmas
+pub mod HeadlineLemmas

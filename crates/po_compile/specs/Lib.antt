@@ -1,0 +1,6 @@
+pub mod CompiledList
+pub mod CompiledMessages
+pub mod Meaning
+pub mod Compiling
+pub mod Accepted
+pub mod Headline

@@ -1,1 +1,14 @@
+//! Compiling PO catalogues to MO files (GNU gettext manual, "Invoking the msgfmt Program").
 #![tactic(auto)]
+
+mod compiling;
+pub mod laws;
+mod messages;
+mod options;
+mod reading;
+#[cfg(test)]
+mod tests;
+
+pub use crate::compiling::{compile, compile_all, compile_catalogues};
+pub use crate::options::{Compiled, Options};
+pub use crate::reading::read_all;

@@ -25,8 +25,8 @@ over_cases above (Comment kind text line ∷ rest) e = cc
 over_cases above (Str bytes marks line ∷ rest) e = cc
 over_cases above (Word keyword marks line ∷ rest) e = inr (own keyword marks.previous e) where
   own : (keyword : Keyword) (previous : Bool)
-    → (if previous then (if nat_lt above (rank keyword) then Previous keyword marks rest else Refuse BadOrder) else if begins_body keyword then Over else Refuse BadOrder) ≡ Over
-    → body_start (Word keyword (record { obsolete = marks.obsolete; previous = previous }) line ∷ rest) ≡ NoStart → ⊥
+      → (if previous then (if nat_lt above (rank keyword) then Previous keyword marks rest else Refuse BadOrder) else if begins_body keyword then Over else Refuse BadOrder) ≡ Over
+      → body_start (Word keyword (record { obsolete = marks.obsolete; previous = previous }) line ∷ rest) ≡ NoStart → ⊥
   own keyword true q = ranked (nat_lt above (rank keyword)) q where
     ranked : (b : Bool) → (if b then Previous keyword marks rest else Refuse BadOrder) ≡ Over → body_start (Word keyword (record { obsolete = marks.obsolete; previous = true }) line ∷ rest) ≡ NoStart → ⊥
     ranked true p s = cc

@@ -4,3 +4,11 @@ pub mod Splits
 pub mod Heads
 pub mod HeadEnds
 pub mod Places
+pub mod Trims
+pub mod Pieces
+pub mod SoundLines
+pub mod SoundTexts
+pub mod SoundEntries
+pub mod SoundFields
+pub mod SoundCatalogue
+pub mod Loops

@@ -15,7 +15,7 @@ taken_word obsolete (Comment k t l ∷ rest) text keyword line e = cc
 taken_word obsolete (Str b m l ∷ rest) text keyword line e = cc
 taken_word obsolete (Word found marks at ∷ rest) text keyword line e = step marks.previous found (same_bool obsolete marks.obsolete) e where
   step : (previous : Bool) (found : Keyword) (same : Bool)
-    → (if previous then Refuse BadOrder
+      → (if previous then Refuse BadOrder
       else if is_wanted Translation found then (if same then Take found at rest else Refuse MixedObsolete)
       else if is_wrong_form Translation found then Refuse BadPluralIndex
       else Refuse BadOrder) ≡ Take keyword line text → (keyword ≡ MsgIdPlural) ⊎ (keyword ≡ MsgStr)

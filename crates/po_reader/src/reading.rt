@@ -29,7 +29,10 @@ fn check_drafts(drafts: &[Fields]) -> Result<(), PoError>
 {
     for draft in drafts {
         if let Err(kind) = check_texts(draft) {
-            return Err(PoError { kind, line: draft.line });
+            return Err(PoError {
+                kind,
+                line: draft.line,
+            });
         }
     }
     Ok(())

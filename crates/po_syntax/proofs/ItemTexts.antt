@@ -1,5 +1,5 @@
 -- What the comments and strings of clean lines hold.
-use Rattle.std.proofs.Common.{◌≡◌, ◌≢◌, ◌==◌, ◌||◌, ◌∙◌, add-zero, refl, sym, ap, subst, inl, inr, ℕ, zero, suc, ◌+◌, ◌<◌, ◌≤◌, Bool, true, false, if◌then◌else◌, nat_lt, List, [], ◌∷◌, ◌++◌, length, get_or, take, drop, length-drop, All, IsUtf8, Contains, codes, Option, Some, None, arith}
+use Rattle.std.proofs.Common.{◌≡◌, ◌≢◌, ◌==◌, ◌||◌, ◌∙◌, add-zero, refl, sym, ap, subst, ℕ, zero, suc, ◌+◌, ◌<◌, Bool, true, false, if◌then◌else◌, nat_lt, List, [], ◌∷◌, length, get_or, take, drop, length-drop, All, IsUtf8, codes, Option, Some, None, arith}
 use Rattle.std.specs.Char.{is_digit}
 use Rattle.std.specs.Str.Parse.{digits_value}
 use Rattle.std.proofs.lemmas.Bool.{eqb-true, eqb-false, false≢true}
@@ -9,7 +9,7 @@ use Rattle.std.proofs.lemmas.List.{get_or-drop, drop-drop}
 use Rattle.po_syntax.specs.declared.item.Marks.{Marks}
 use Rattle.po_syntax.specs.declared.item.CommentKind.{CommentKind}
 use Rattle.po_syntax.specs.declared.item.CommentKind.TheVariants.{Translator, Extracted, Reference, Flags}
-use Rattle.po_syntax.specs.declared.fault.PoFault.TheVariants.{BadEscape, ForbiddenByte}
+use Rattle.po_syntax.specs.declared.fault.PoFault.TheVariants.{BadEscape}
 use Rattle.po_syntax.specs.ItemText.{IsCommentText, HoldsText}
 use Rattle.po_syntax.specs.Line.{Shape, Note, Tokens, NoShape, note_shape, obsolete_shape, tilde_shape, hash_shape, first_shape, shape_of, trim_returns, SpellsTokens, none, word, string, SpellsLine, comment, tokens}
 use Rattle.po_syntax.specs.PoText.{SpellsLines, SpellsText}
@@ -21,7 +21,7 @@ use Rattle.po_syntax.proofs.QuotedStrings.{byte-rest, end-rest}
 use Rattle.po_syntax.proofs.Lines.{tokens-rest}
 use Rattle.po_syntax.proofs.Tokens.{skip_blanks-rest, key-rest, open-rest}
 use Rattle.po_syntax.proofs.TrimmedReturns.{trim_end, trim_returns-utf8, trim_returns-twice}
-use Rattle.po_syntax.proofs.Rests.{IsRest, whole_rest, rest-drop, rest-tail, All-rest, rest-cons}
+use Rattle.po_syntax.proofs.Rests.{IsRest, whole_rest, rest-tail, All-rest}
 
 -- a byte that tells another kind of comment or line
 abbrev tells_kind : ℕ → Bool

@@ -11,3 +11,4 @@ pub mod Rests
 pub mod CleanLines
 pub mod TrimmedReturns
 pub mod ItemTexts
+pub mod QuotedTexts

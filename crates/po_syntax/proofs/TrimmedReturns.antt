@@ -1,6 +1,5 @@
 -- A text without the CRs at its end.
-use Rattle.std.proofs.Common.{◌≡◌, ◌==◌, ◌-◌, refl, sym, ap, inl, inr, ℕ, zero, suc, ◌+◌, ◌<◌, ◌≤◌, Bool, true, false, List, length, get_or, take, length-take, IsUtf8, arith}
-use Rattle.std.specs.List.{suffix_len}
+use Rattle.std.proofs.Common.{◌≡◌, ◌==◌, ◌-◌, refl, sym, ap, inl, inr, ℕ, zero, suc, ◌<◌, ◌≤◌, Bool, true, false, List, length, get_or, take, IsUtf8, arith}
 use Rattle.std.proofs.lemmas.Bool.{eqb-true, eq-eqb}
 use Rattle.std.proofs.lemmas.Grind.{get_or_default_zero}
 use Rattle.std.proofs.Math.Nat.{eq-or-lt_of_le}

@@ -1,1 +1,8 @@
+//! Catalogues as PO texts that read back (GNU gettext manual, "The Format of PO Files").
 #![tactic(auto)]
+
+mod entry_lines;
+mod keyword_lines;
+mod text;
+
+pub use crate::text::write;

@@ -1,42 +1,45 @@
-use Rattle.std.proofs.Common.{refl, sym, ◌∙◌, arith}
+use Rattle.std.proofs.Common.{◌∙◌, arith}
 use Rattle.mo_lookup.proofs.SearchLemmas.{IsSearch-counted, IsSearch-compared, IsSearch-found, IsSearch-less, IsSearch-greater}
 use Rattle.mo_lookup.proofs.search.find.Goals as goal
 
 pub compare-requires-clause-room : goal.compare-requires-clause-room
 compare-requires-clause-room g c =
-    let counted = IsSearch-counted _ _ _ _ _ _ c.halving.invariant.3 c.halving.invariant.2 in
+    let counted = IsSearch-counted _ _ _ _ _ _ _ c.halving.invariant.1 in
     let began = c.requires in
-    omega (arith, counted.1)
+    omega (arith, counted.small)
 
 pub returns-in-Equal-clause-place : goal.returns-in-Equal-clause-place
-returns-in-Equal-clause-place g c = IsSearch-found _ _ _ _ _ _ _ c.halving.invariant.3 c.halving-test.true refl (rw (← c.halving.invariant.0) (sym c.in-Equal.ensures.order))
+returns-in-Equal-clause-place g c = IsSearch-found _ _ _ _ _ _ _ _ c.halving.invariant.1 (omega arith) c.in-Equal.ensures.order
 
 pub returns-in-Equal-clause-cost : goal.returns-in-Equal-clause-cost
 returns-in-Equal-clause-cost g c =
-    let counted = IsSearch-compared _ _ _ _ _ _ c.halving.invariant.3 c.halving.invariant.2 c.halving-test.true in
-    rw c.compare.ensures.cost counted.0
+    let counted = IsSearch-compared _ _ _ _ _ _ _ c.halving.invariant.1 c.halving-test.true in
+    rw c.compare.ensures.cost counted.cost
 
 pub returns-in-Equal-clause-small : goal.returns-in-Equal-clause-small
 returns-in-Equal-clause-small g c =
-    let counted = IsSearch-compared _ _ _ _ _ _ c.halving.invariant.3 c.halving.invariant.2 c.halving-test.true in
-    rw c.compare.ensures.cost counted.1
+    let counted = IsSearch-compared _ _ _ _ _ _ _ c.halving.invariant.1 c.halving-test.true in
+    rw c.compare.ensures.cost counted.small
 
 pub halving-preserved-in-Less : goal.halving-preserved-in-Less
 halving-preserved-in-Less g c = (
-  c.compare.ensures.unchanged ∙ c.halving.invariant.0,
-  c.compare.ensures.same_counter ∙ c.halving.invariant.1,
-  c.halving.invariant.2,
-  rw c.compare.ensures.cost (IsSearch-less _ _ _ _ _ _ _ c.halving.invariant.3 c.halving-test.true refl (rw (← c.halving.invariant.0) (sym c.in-Less.ensures.order))),
+  c.compare.ensures.same_counter ∙ c.halving.invariant.0,
+  rw c.compare.ensures.cost
+      (
+      IsSearch-less _ _ _ _ _ _ _ _ _ c.halving.invariant.1 c.halving-test.true (omega arith) (omega arith) c.in-Less.ensures.order
+      c.compare.ensures.unchanged
+      ),
 )
 
 pub halving-preserved : goal.halving-preserved
 halving-preserved g c = (
-  c.compare.ensures.unchanged ∙ c.halving.invariant.0,
-  c.compare.ensures.same_counter ∙ c.halving.invariant.1,
-  c.halving.invariant.2,
-  rw c.compare.ensures.cost (IsSearch-greater _ _ _ _ _ _ _ c.halving.invariant.3 c.halving-test.true refl (rw (← c.halving.invariant.0) (sym c.in-Greater.ensures.order))),
+  c.compare.ensures.same_counter ∙ c.halving.invariant.0,
+  rw c.compare.ensures.cost
+      (
+      IsSearch-greater _ _ _ _ _ _ _ _ _ c.halving.invariant.1 c.halving-test.true (omega arith) (omega arith) (omega arith)
+      c.in-Greater.ensures.order c.compare.ensures.unchanged
+      ),
 )
 
 pub returns-clause-small : goal.returns-clause-small
-returns-clause-small g c =
-    let counted = IsSearch-counted _ _ _ _ _ _ c.halving.invariant.3 c.halving.invariant.2 in counted.1
+returns-clause-small g c = (IsSearch-counted _ _ _ _ _ _ _ c.halving.invariant.1).small

@@ -1,4 +1,4 @@
-use Rattle.std.proofs.Common.{◌≡◌, ◌-◌, ◌^◌, ◌<◌, length}
+use Rattle.std.proofs.Common.{◌≡◌, ◌-◌}
 use Rattle.std.specs.Option.{option_copied}
 use Rattle.mo_file.specs.Key.{query_key}
 use Rattle.mo_lookup.proofs.SearchLemmas.{IsSearch}
@@ -6,10 +6,8 @@ use Rattle.mo_lookup.proofs.search.find.Given as goal
 
 abbrev pub invariant-halving : goal.invariant-halving
 invariant-halving g l =
-    (g.K.Keys.listed l.keys ≡ g.K.Keys.listed l.initial.keys)
-    × (g.K.Keys.counter l.keys ≡ g.K.Keys.counter l.initial.keys)
-    × (length (g.K.Keys.listed l.initial.keys) < 2 ^ 32)
-    × IsSearch (g.K.Keys.listed l.initial.keys) (query_key (option_copied l.context) l.id)
+    (g.K.Keys.counter l.keys ≡ g.K.Keys.counter l.initial.keys)
+    × IsSearch (g.K.Keys.listed l.initial.keys) (query_key (option_copied l.context) l.id) (g.K.Keys.listed l.keys)
     (g.K.Keys.counted l.initial.keys) (g.K.Keys.counted l.keys) l.low l.high
 
 abbrev pub decreases-halving : goal.decreases-halving

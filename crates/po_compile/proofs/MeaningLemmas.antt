@@ -1,0 +1,186 @@
+-- The messages of entries mean these entries.
+use Rattle.std.proofs.Common.{◌≡◌, ◌≢◌, ℕ, ◌+◌, ◌<◌, Bool, true, false, ◌&&◌, ◌||◌, ◌==◌, not, cond, List, [], ◌∷◌, ◌++◌, Option, None, Some, refl, sym, ap, ◌∙◌, subst, length, map, arith, All, find, IfSome, length-append, option_to_list}
+use Rattle.std.specs.Bool.{Decides, one_answer}
+use Rattle.std.specs.List.{list_any, join_with_byte}
+use Rattle.std.specs.Option.{option_map, option_map_or, option_eq, unwrap_or}
+use Rattle.std.specs.Str.{bytes_eq}
+use Rattle.std.proofs.lemmas.List.{get_or-append-add, get_or_append_left}
+use Rattle.std.proofs.lemmas.List.Elements.{All-head, All-tail, All-cons, All-nil, All-weaker, All-contains}
+use Rattle.std.proofs.lemmas.Slice.Eq.{bytes_eq-Decides}
+use Rattle.std.proofs.lemmas.Bool.Decides.{Decides-eqb, Decides-and, Decides-like}
+use Rattle.mo_file.specs.Message.{Message}
+use Rattle.mo_file.specs.Key.{key_of, query_key}
+use Rattle.mo_lookup.specs.Answer.{form_at, answer}
+use Rattle.mo_lookup.specs.Query.{Query, is_clean_key, is_clean, is_separator}
+use Rattle.mo_lookup.specs.Contents.{translation_under, forms, header_text, expression_limit}
+use Rattle.plural_rule.specs.PluralRule.{IsRuleOf}
+use Rattle.po_entry.specs.TextEntry.{TextEntry, quoted_texts, previous_texts}
+use Rattle.po_entry.specs.Bytes.{Lacks}
+use Rattle.po_entry.specs.Header.{first_form}
+use Rattle.po_entry.specs.Validity.{IsEntry, IsText}
+use Rattle.po_compile.specs.CompiledMessages.{original_of, translation_of, message_of, messages_of_entries, AreMessagesOf}
+use Rattle.po_compile.specs.Meaning.{is_message, header_of}
+use Rattle.po_compile.specs.Headline.{MessagesMeanEntries}
+use Rattle.po_compile.proofs.TextLemmas.{key_of-plural_part, query_key_lacks, query_key_is_one, slice_split-join}
+use Rattle.po_compile.proofs.FindLemmas.{find_permuted, find_found, has_key}
+
+All-left : {X : Type 0} (P : X → Type 0) (xs ys : List X) → All P (xs ++ ys) → All P xs
+All-left P xs ys h = λ k d inside. subst P (get_or_append_left xs ys d k inside) (h k d (omega (arith, length-append xs ys)))
+
+All-right : {X : Type 0} (P : X → Type 0) (xs ys : List X) → All P (xs ++ ys) → All P ys
+All-right P xs ys h = λ k d inside. subst P (get_or-append-add xs ys k d) (h (length xs + k) d (omega (arith, length-append xs ys)))
+
+optional : (P : List ℕ → Type 0) (text : Option (List ℕ)) → All P (option_to_list text) → IfSome text P
+optional P None h = tt
+optional P (Some text) h = All-head P text [] h
+
+-- the texts of an entry that stand in its message hold no NUL, and its context and msgid no EOT
+pub record IsClean (entry : TextEntry) : Type 0 where
+  pub context_nul : IfSome entry.context (Lacks 0)
+  pub context_eot : IfSome entry.context (Lacks 4)
+  pub id_nul : Lacks 0 entry.id
+  pub id_eot : Lacks 4 entry.id
+  pub forms_nul : All (Lacks 0) entry.forms
+  pub some_form : 0 < length entry.forms
+
+pub clean_entry : (entry : TextEntry) → IsEntry entry → IsClean entry
+clean_entry entry valid =
+    let NoNul : List ℕ → Type 0 = Lacks 0 in
+    let all : All NoNul (quoted_texts entry) = All-weaker IsText NoNul (λ text t. t.no_nul) (quoted_texts entry) valid.quoted_texts in
+    let before_context = previous_texts entry.previous in
+    let context = option_to_list entry.context in
+    let plural = option_to_list entry.plural in
+    let id : List (List ℕ) = entry.id ∷ [] in
+    let to_plural = All-left NoNul (((before_context ++ context) ++ id) ++ plural) entry.forms all in
+    let to_id = All-left NoNul ((before_context ++ context) ++ id) plural to_plural in
+    record {
+      context_nul = optional NoNul entry.context (All-right NoNul before_context context (All-left NoNul (before_context ++ context) id to_id));
+      context_eot = valid.context;
+      id_nul = All-head NoNul entry.id [] (All-right NoNul (before_context ++ context) id to_id);
+      id_eot = valid.id;
+      forms_nul = All-right NoNul (((before_context ++ context) ++ id) ++ plural) entry.forms all;
+      some_form = valid.some_form;
+    }
+
+pub key_of-original : (entry : TextEntry) → IsClean entry → key_of (original_of entry) ≡ query_key entry.context entry.id
+key_of-original entry clean =
+    key_of-plural_part (query_key entry.context entry.id) entry.plural (query_key_lacks entry.context entry.id clean.context_nul clean.id_nul)
+
+some_forms : (all : List (List ℕ)) → 0 < length all → All (Lacks 0) all → forms (join_with_byte 0 all) ≡ all
+some_forms [] some lacks = absurd (omega arith)
+some_forms (form ∷ others) some lacks = slice_split-join form others lacks
+
+forms-translation : (entry : TextEntry) → IsClean entry → forms (translation_of entry) ≡ entry.forms
+forms-translation entry clean = some_forms entry.forms clean.some_form clean.forms_nul
+
+either_false : (a b : Bool) → (a || b) ≡ false → (a ≡ false) × (b ≡ false)
+either_false true b h = cc
+either_false false b h = (refl, h)
+
+-- a text without separators holds no EOT
+separators : (text : List ℕ) → list_any is_separator text ≡ false → Lacks 4 text
+separators [] h = All-nil (λ b. b ≢ 4)
+separators (b ∷ text) h =
+    let here = either_false (is_separator b) (list_any is_separator text) h in
+    let not_eot = either_false (b == 0) (b == 4) here.0 in
+    All-cons (λ b. b ≢ 4) b text (λ e. let same : (b == 4) ≡ true = (Decides-eqb b 4).1 e in cc (same, not_eot.1)) (separators text here.1)
+
+not_true : (b : Bool) → not b ≡ true → b ≡ false
+not_true true h = cc
+not_true false h = refl
+
+clean_text : (text : List ℕ) → is_clean text ≡ true → Lacks 4 text
+clean_text text h = separators text (not_true (list_any is_separator text) h)
+
+both : (a b : Bool) → (a && b) ≡ true → (a ≡ true) × (b ≡ true)
+both true b h = (refl, h)
+both false b h = cc
+
+clean_context : (context : Option (List ℕ)) → is_clean (unwrap_or context []) ≡ true → IfSome context (Lacks 4)
+clean_context None h = tt
+clean_context (Some context) h = clean_text context h
+
+option_decides : (a b : Option (List ℕ)) → Decides (option_eq bytes_eq a b) (a ≡ b)
+option_decides None None = (λ _. refl, λ _. refl)
+option_decides None (Some y) = (λ h. cc, λ h. cc)
+option_decides (Some x) None = (λ h. cc, λ h. cc)
+option_decides (Some x) (Some y) = Decides-like (bytes_eq x y) (λ e. ap Some e) (λ e. cc) (bytes_eq-Decides x y)
+
+-- the message of an entry stands under a clean key exactly where the entry has its context and msgid
+same_test : (context : Option (List ℕ)) (id : List ℕ) → is_clean_key context id ≡ true → (entry : TextEntry) → IsClean entry
+    → has_key (query_key context id) (message_of entry) ≡ is_message context id entry
+same_test context id clean entry c =
+    let parts = both (is_clean (unwrap_or context [])) (is_clean id) clean in
+    let key = key_of-original entry c in
+    one_answer (has_key (query_key context id) (message_of entry)) (is_message context id entry)
+    (bytes_eq-Decides (key_of (original_of entry)) (query_key context id))
+    (Decides-like (is_message context id entry)
+    (λ e. key ∙ ap (λ c. query_key c entry.id) e.0 ∙ ap (query_key context) e.1)
+    (λ e. query_key_is_one entry.context context entry.id id c.context_eot (clean_context context parts.0) c.id_eot (clean_text id parts.1) (sym key ∙ e))
+    (Decides-and (option_eq bytes_eq entry.context context) (bytes_eq entry.id id) (option_decides entry.context context) (bytes_eq-Decides entry.id id)))
+
+found_message : (b : Bool) (entry : TextEntry) (rest : Option TextEntry) → cond b (Some (message_of entry)) (option_map message_of rest) ≡ option_map message_of (cond b (Some entry) rest)
+found_message true entry rest = refl
+found_message false entry rest = refl
+
+find_messages : (context : Option (List ℕ)) (id : List ℕ) → is_clean_key context id ≡ true → (entries : List TextEntry) → All IsClean entries
+    → find (has_key (query_key context id)) (messages_of_entries entries) ≡ option_map message_of (find (is_message context id) entries)
+find_messages context id clean [] all = refl
+find_messages context id clean (entry ∷ entries) all =
+    let same = same_test context id clean entry (All-head IsClean entry entries all) in
+    let rest = find_messages context id clean entries (All-tail IsClean entry entries all) in
+    ap (λ b. cond b (Some (message_of entry)) (find (has_key (query_key context id)) (messages_of_entries entries))) same
+    ∙ ap (λ r. cond (is_message context id entry) (Some (message_of entry)) r) rest
+    ∙ found_message (is_message context id entry) entry (find (is_message context id) entries)
+
+-- the translation under a clean key is that of the entry that the key defines
+translation_of_definition : (entries : List TextEntry) (messages : List Message) → All IsClean entries → AreMessagesOf entries messages
+    → (context : Option (List ℕ)) (id : List ℕ) → is_clean_key context id ≡ true
+    → translation_under (query_key context id) messages ≡ option_map translation_of (find (is_message context id) entries)
+translation_of_definition entries messages all are context id clean =
+    ap (option_map (λ (m : Message). m.translation))
+    (find_permuted (query_key context id) (messages_of_entries entries) messages are.all are.rising ∙ find_messages context id clean entries all)
+    ∙ once_more (find (is_message context id) entries)
+  where
+    once_more : (e : Option TextEntry) → option_map (λ (m : Message). m.translation) (option_map message_of e) ≡ option_map translation_of e
+    once_more None = refl
+    once_more (Some e) = refl
+
+-- what holds of each entry holds of the one that is found
+forms_of_found : (entries : List TextEntry) (test : TextEntry → Bool) → All IsClean entries → (found : Option TextEntry) → find test entries ≡ found
+    → option_map forms (option_map translation_of found) ≡ option_map (λ (e : TextEntry). e.forms) found
+forms_of_found entries test all None is = refl
+forms_of_found entries test all (Some e) is =
+    ap Some (forms-translation e (All-contains IsClean entries e all (find_found test entries e is).among))
+
+form_at_first : (all : List (List ℕ)) → form_at all 0 ≡ first_form all
+form_at_first [] = refl
+form_at_first (form ∷ others) = refl
+
+header_of_found : (entries : List TextEntry) (test : TextEntry → Bool) → All IsClean entries → (found : Option TextEntry) → find test entries ≡ found
+    → option_map_or (λ t. form_at (forms t) 0) (option_map translation_of found) [] ≡ option_map_or (λ (e : TextEntry). first_form e.forms) found []
+header_of_found entries test all None is = refl
+header_of_found entries test all (Some e) is =
+    ap (λ all. form_at all 0) (forms-translation e (All-contains IsClean entries e all (find_found test entries e is).among)) ∙ form_at_first e.forms
+
+found_if_clean : (entries : List TextEntry) (messages : List Message) → All IsClean entries → AreMessagesOf entries messages
+    → (query : Query) (b : Bool) → is_clean_key query.context query.id ≡ b
+    → cond b (option_map forms (translation_under (query_key query.context query.id) messages)) None
+    ≡ option_map (λ (e : TextEntry). e.forms) (cond b (find (is_message query.context query.id) entries) None)
+found_if_clean entries messages all are query true clean =
+    ap (option_map forms) (translation_of_definition entries messages all are query.context query.id clean)
+    ∙ forms_of_found entries (is_message query.context query.id) all (find (is_message query.context query.id) entries) refl
+found_if_clean entries messages all are query false clean = refl
+
+header_text_is : (entries : List TextEntry) (messages : List Message) → All IsClean entries → AreMessagesOf entries messages → header_text messages ≡ header_of entries
+header_text_is entries messages all are =
+    ap (λ t. option_map_or (λ t. form_at (forms t) 0) t []) (translation_of_definition entries messages all are None [] refl)
+    ∙ header_of_found entries (is_message None []) all (find (is_message None []) entries) refl
+
+pub mean_entries : MessagesMeanEntries
+mean_entries entries messages valid are =
+    let all : All IsClean entries = All-weaker IsEntry IsClean clean_entry entries valid in
+    record {
+      rule = λ rule contents. subst (λ text. IsRuleOf expression_limit text rule) (header_text_is entries messages all are) contents.rule_of_header;
+      answers = λ rule query. ap (λ found. answer found rule query) (found_if_clean entries messages all are query (is_clean_key query.context query.id) refl);
+    }

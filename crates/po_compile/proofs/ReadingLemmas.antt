@@ -1,0 +1,120 @@
+-- Reading several texts, one after another.
+use Rattle.std.proofs.Common.{◌≡◌, ◌≢◌, ◌⊎◌, ℕ, ◌+◌, ◌<◌, ◌≤◌, suc, List, [], ◌∷◌, ◌++◌, refl, sym, ap, ◌∙◌, subst, length, get_or, take, drop, map, arith, inl, inr, ⊎_elim, append-nil, length-take}
+use Rattle.std.specs.Borrow.{Bor}
+use Rattle.std.specs.List.{AllZip}
+use Rattle.std.proofs.Math.Seq.{drop-cons}
+use Rattle.std.proofs.lemmas.List.{take_more, take-append-drop, take_all, map-append, length-map}
+use Rattle.po_syntax.specs.declared.fault.PoError.{PoError}
+use Rattle.po_syntax.specs.declared.fault.PoFault.{PoFault}
+use Rattle.po_syntax.specs.declared.fault.PoFault.TheVariants.{NotUtf8, BadToken, UnterminatedString, BadEscape, ForbiddenByte, BadOrder, BadPluralIndex, MixedObsolete, Duplicate, ForeignCharset, TooLarge, OutOfMemory}
+use Rattle.po_entry.specs.TextEntry.{TextEntry, slice_texts}
+use Rattle.po_catalog.specs.Joined.{joined, joined_entries, entries_of, in_input}
+use Rattle.po_compile.specs.Compiling.{HasLargeLayout, IsLayoutFault}
+use Rattle.po_compile.specs.declared.options.Options.{Options}
+use Rattle.po_catalog.specs.Duplicate.{IsDuplicateFault, entry_memory}
+use Rattle.po_catalog.specs.declared.duplicate.JoinError.{JoinError}
+use Rattle.po_compile.specs.Accepted.{ReadsDistinct, IsTextFault, IsFaultOfInput, IsReadingFault, fault_input, fault_of_input, IsTextCompileFault}
+
+zip_push : (texts : List (List ℕ)) (catalogues : List (List TextEntry)) (text : List ℕ) (entries : List TextEntry)
+    → AllZip ReadsDistinct texts catalogues → ReadsDistinct text entries → AllZip ReadsDistinct (texts ++ text ∷ []) (catalogues ++ entries ∷ [])
+zip_push [] [] text entries each reads = (reads, tt)
+zip_push [] (c ∷ cs) text entries each reads = absurd each
+zip_push (t ∷ ts) [] text entries each reads = absurd each
+zip_push (t ∷ ts) (c ∷ cs) text entries each reads = (each.0, zip_push ts cs text entries each.1 reads)
+
+zip_length : (texts : List (List ℕ)) (catalogues : List (List TextEntry)) → AllZip ReadsDistinct texts catalogues → length texts ≡ length catalogues
+zip_length [] [] each = refl
+zip_length [] (c ∷ cs) each = absurd each
+zip_length (t ∷ ts) [] each = absurd each
+zip_length (t ∷ ts) (c ∷ cs) each = ap suc (zip_length ts cs each.1)
+
+input_of_fault : (input : ℕ) (kind : PoFault) → kind ≢ OutOfMemory → fault_input input kind ≡ input
+input_of_fault input NotUtf8 other = refl
+input_of_fault input BadToken other = refl
+input_of_fault input UnterminatedString other = refl
+input_of_fault input BadEscape other = refl
+input_of_fault input ForbiddenByte other = refl
+input_of_fault input BadOrder other = refl
+input_of_fault input BadPluralIndex other = refl
+input_of_fault input MixedObsolete other = refl
+input_of_fault input (Duplicate line) other = refl
+input_of_fault input ForeignCharset other = refl
+input_of_fault input TooLarge other = refl
+input_of_fault input OutOfMemory other = absurd (other refl)
+
+module _ (texts : List (Bor (List ℕ))) (i : ℕ) (text : Bor (List ℕ)) (inside : i < length texts) (here : text ≡ get_or texts i text) where
+  more_texts : slice_texts (take (i + 1) texts) ≡ slice_texts (take i texts) ++ text.now ∷ []
+  more_texts =
+      let now : Bor (List ℕ) → List ℕ = λ s. s.now in
+      ap slice_texts (take_more texts i text inside) ∙ map-append now (take i texts) (get_or texts i text ∷ []) ∙ ap (λ (t : Bor (List ℕ)). slice_texts (take i texts) ++ t.now ∷ []) (sym here)
+
+  pub read_more : (catalogues : List (List TextEntry)) (entries : List TextEntry) → AllZip ReadsDistinct (slice_texts (take i texts)) catalogues → ReadsDistinct text.now entries
+      → AllZip ReadsDistinct (slice_texts (take (i + 1) texts)) (catalogues ++ entries ∷ [])
+  read_more catalogues entries each reads =
+      subst (λ ts. AllZip ReadsDistinct ts (catalogues ++ entries ∷ [])) (sym more_texts) (zip_push (slice_texts (take i texts)) catalogues text.now entries each reads)
+
+  split_texts : slice_texts texts ≡ slice_texts (take i texts) ++ text.now ∷ slice_texts (drop (suc i) texts)
+  split_texts =
+      let now : Bor (List ℕ) → List ℕ = λ s. s.now in
+      ap slice_texts (sym (take-append-drop i texts)) ∙ map-append now (take i texts) (drop i texts)
+      ∙ ap (λ ts. slice_texts (take i texts) ++ slice_texts ts) (drop-cons texts i text inside)
+      ∙ ap (λ (t : Bor (List ℕ)). slice_texts (take i texts) ++ t.now ∷ slice_texts (drop (suc i) texts)) (sym here)
+
+  pub refused_input : (catalogues : List (List TextEntry)) (error : PoError) → AllZip ReadsDistinct (slice_texts (take i texts)) catalogues
+      → (error ≡ entry_memory) ⊎ ((error.kind ≢ OutOfMemory) × IsTextFault text.now error) → IsReadingFault (slice_texts texts) (fault_of_input i error)
+  refused_input catalogues error each why =
+      ⊎_elim (λ memory. inl (ap (fault_of_input i) memory))
+      (λ fault.
+      let input = input_of_fault i error.kind fault.0 in
+      let long : i ≡ length (slice_texts (take i texts)) = omega (arith, length-take i texts, length-map (take i texts) (λ (s : Bor (List ℕ)). s.now)) in
+      inr (inl (record {
+        before = slice_texts (take i texts);
+        text = text.now;
+        after = slice_texts (drop (suc i) texts);
+        order = split_texts;
+        catalogues = catalogues;
+        faultless = each;
+        input = input ∙ long;
+        first_input = input ∙ long;
+        fault = fault.1;
+      }))) why
+
+pub read_few : (texts : List (Bor (List ℕ))) (i : ℕ) (catalogues : List (List TextEntry)) → AllZip ReadsDistinct (slice_texts (take i texts)) catalogues → length catalogues ≤ length texts
+read_few texts i catalogues each =
+    omega (arith, zip_length (slice_texts (take i texts)) catalogues each, length-map (take i texts) (λ (s : Bor (List ℕ)). s.now), length-take i texts)
+
+pub read_to_end : (texts : List (Bor (List ℕ))) (i : ℕ) (catalogues : List (List TextEntry)) → length texts ≤ i → AllZip ReadsDistinct (slice_texts (take i texts)) catalogues
+    → AllZip ReadsDistinct (slice_texts texts) catalogues
+read_to_end texts i catalogues past each = subst (λ ts. AllZip ReadsDistinct (slice_texts ts) catalogues) (take_all i texts past) each
+
+-- a duplicate across inputs that are read
+pub joined_refused : (texts : List (List ℕ)) (catalogues : List (List TextEntry)) (error : JoinError) → AllZip ReadsDistinct texts catalogues
+    → IsDuplicateFault (joined catalogues) error → IsReadingFault texts error
+joined_refused texts catalogues error each fault =
+    ⊎_elim (λ memory. inl memory)
+    (λ found. inr (inr (record { catalogues = catalogues; each = each; first = found.0; later = found.1; duplicate = found.2; error_is = found.3 }))) fault
+
+-- as many catalogues as texts
+pub read_count : (texts : List (Bor (List ℕ))) (catalogues : List (List TextEntry)) → AllZip ReadsDistinct (slice_texts texts) catalogues → length texts ≡ length catalogues
+read_count texts catalogues each =
+    sym (length-map texts (λ (s : Bor (List ℕ)). s.now)) ∙ zip_length (slice_texts texts) catalogues each
+
+pub entries_of_input : (input : ℕ) (entries : List TextEntry) → entries_of (map (in_input input) entries) ≡ entries
+entries_of_input input [] = refl
+entries_of_input input (x ∷ xs) = ap (λ l. x ∷ l) (entries_of_input input xs)
+
+-- the joined list of one catalogue is that catalogue
+pub joined_one : (entries : List TextEntry) → joined_entries (entries ∷ []) ≡ entries
+joined_one entries = ap entries_of (append-nil (map (in_input 0) entries)) ∙ entries_of_input 0 entries
+
+-- a layout of one text that is refused
+pub text_refused : (options : Options) (text : List ℕ) (entries : List TextEntry) (error : JoinError) → ReadsDistinct text entries
+    → IsLayoutFault options (joined_entries (entries ∷ [])) error → IsTextCompileFault options text error.error
+text_refused options text entries error read fault =
+    ⊎_elim (λ memory. inl (ap (λ (e : JoinError). e.error) memory))
+    (λ large. inr (inr (record {
+      entries = entries;
+      read = read;
+      large = subst (HasLargeLayout options) (joined_one entries) large.1;
+      error_is = ap (λ (e : JoinError). e.error) large.0;
+    }))) fault

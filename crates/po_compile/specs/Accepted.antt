@@ -1,0 +1,121 @@
+-- Which texts are accepted, and which fault is told of those that aren't (manual, "The Format of PO Files" and
+-- "Invoking the msgfmt Program").
+use Rattle.std.specs.Prelude.{◌≡◌, ◌⊎◌, ◌^◌, ◌<◌, ℕ, List, [], ◌∷◌, ◌++◌, map, length}
+use Rattle.std.specs.List.{AllZip}
+use Rattle.mo_file.specs.Message.{Message}
+use Rattle.mo_file.specs.Layout.{layout}
+use Rattle.po_syntax.specs.declared.fault.PoError.{PoError}
+use Rattle.po_syntax.specs.declared.fault.PoFault.{PoFault}
+use Rattle.po_syntax.specs.declared.fault.PoFault.TheVariants.{OutOfMemory}
+use Rattle.po_entry.specs.TextEntry.{TextEntry}
+use Rattle.po_entry.specs.Reads.{ReadsText}
+use Rattle.po_reader.specs.Faults.{IsReadFault}
+use Rattle.po_catalog.specs.Joined.{InputEntry, in_input, joined, joined_entries}
+use Rattle.po_catalog.specs.Duplicate.{HasNoDuplicate, IsFirstDuplicate, duplicate_error, entry_memory, join_memory}
+use Rattle.po_catalog.specs.declared.duplicate.JoinError.{JoinError}
+use Rattle.po_compile.specs.CompiledList.{compiled_list}
+use Rattle.po_compile.specs.CompiledMessages.{AreMessagesOf}
+use Rattle.po_compile.specs.Compiling.{IsCompiled, HasLargeLayout, layout_fault}
+use Rattle.po_compile.specs.declared.options.Options.{Options}
+use Rattle.po_compile.specs.declared.options.Compiled.{Compiled}
+
+-- the text reads as these entries, no two live ones of which are of one message
+pub record ReadsDistinct (text : List ℕ) (entries : List TextEntry) : Type 0 where
+  pub reads : ReadsText text entries
+  pub distinct : HasNoDuplicate entries
+
+-- the texts read as these catalogues, in each of which and in whose joined list no two live entries are of one message
+pub record AreRead (texts : List (List ℕ)) (catalogues : List (List TextEntry)) : Type 0 where
+  pub each : AllZip ReadsDistinct texts catalogues
+  pub distinct : HasNoDuplicate (joined_entries catalogues)
+
+-- 32 bits reach the end of the layout of the compiled entries' messages
+pub record HasSmallLayout (options : Options) (entries : List TextEntry) : Type 0 where
+  pub messages : List Message
+  pub are_messages : AreMessagesOf (compiled_list options.use_fuzzy entries) messages
+  pub small : length (layout options.order messages) < 2 ^ 32
+
+-- under these options the texts, which read as these catalogues, are accepted
+pub record AreAccepted (options : Options) (texts : List (List ℕ)) (catalogues : List (List TextEntry)) : Type 0 where
+  pub read : AreRead texts catalogues
+  pub layout : HasSmallLayout options (joined_entries catalogues)
+
+-- the texts are compiled: what their joined list is compiled to
+pub record AreCompiled (options : Options) (texts : List (List ℕ)) (compiled : Compiled) : Type 0 where
+  pub catalogues : List (List TextEntry)
+  pub read : AreRead texts catalogues
+  pub is_compiled : IsCompiled options (joined_entries catalogues) compiled
+
+-- one text is compiled: what its entries are compiled to
+pub record IsTextCompiled (options : Options) (text : List ℕ) (compiled : Compiled) : Type 0 where
+  pub entries : List TextEntry
+  pub read : ReadsDistinct text entries
+  pub is_compiled : IsCompiled options entries compiled
+
+-- the first duplicate of a text that reads as entries
+pub record HasDuplicate (text : List ℕ) (error : PoError) : Type 0 where
+  pub entries : List TextEntry
+  pub reads : ReadsText text entries
+  pub first : InputEntry
+  pub later : InputEntry
+  pub duplicate : IsFirstDuplicate (map (in_input 0) entries) first later
+  pub error_is : error ≡ (duplicate_error first later).error
+
+-- the first fault of a text: why it doesn't read, or its first duplicate
+abbrev pub IsTextFault : List ℕ → PoError → Type 0
+IsTextFault text error = IsReadFault text error.kind error.line ⊎ HasDuplicate text error
+
+-- the input of a fault: want of memory is of no input
+abbrev pub fault_input : ℕ → PoFault → ℕ
+fault_input input OutOfMemory = 0
+fault_input input _ = input
+
+abbrev pub fault_of_input : ℕ → PoError → JoinError
+fault_of_input input error = record { input = fault_input input error.kind; first_input = fault_input input error.kind; error = error }
+
+-- the first input with a fault, and that fault
+pub record IsFaultOfInput (texts : List (List ℕ)) (error : JoinError) : Type 0 where
+  pub before : List (List ℕ)
+  pub text : List ℕ
+  pub after : List (List ℕ)
+  pub order : texts ≡ before ++ text ∷ after
+  pub catalogues : List (List TextEntry)
+  pub faultless : AllZip ReadsDistinct before catalogues
+  pub input : error.input ≡ length before
+  pub first_input : error.first_input ≡ length before
+  pub fault : IsTextFault text error.error
+
+-- the first duplicate across the inputs, each of which has none
+pub record HasJoinedDuplicate (texts : List (List ℕ)) (error : JoinError) : Type 0 where
+  pub catalogues : List (List TextEntry)
+  pub each : AllZip ReadsDistinct texts catalogues
+  pub first : InputEntry
+  pub later : InputEntry
+  pub duplicate : IsFirstDuplicate (joined catalogues) first later
+  pub error_is : error ≡ duplicate_error first later
+
+-- why texts aren't read: a fault of an input, a duplicate across inputs, or want of memory
+abbrev pub IsReadingFault : List (List ℕ) → JoinError → Type 0
+IsReadingFault texts error = (error ≡ join_memory) ⊎ IsFaultOfInput texts error ⊎ HasJoinedDuplicate texts error
+
+-- the layout of texts that are read is too large
+pub record IsTooLarge (options : Options) (texts : List (List ℕ)) (error : JoinError) : Type 0 where
+  pub catalogues : List (List TextEntry)
+  pub read : AreRead texts catalogues
+  pub large : HasLargeLayout options (joined_entries catalogues)
+  pub error_is : error ≡ layout_fault
+
+-- why texts aren't compiled: they aren't read, or their layout is too large
+abbrev pub IsCompileFault : Options → List (List ℕ) → JoinError → Type 0
+IsCompileFault options texts error = IsReadingFault texts error ⊎ IsTooLarge options texts error
+
+-- the layout of one text is too large
+pub record IsTextTooLarge (options : Options) (text : List ℕ) (error : PoError) : Type 0 where
+  pub entries : List TextEntry
+  pub read : ReadsDistinct text entries
+  pub large : HasLargeLayout options entries
+  pub error_is : error ≡ layout_fault.error
+
+-- why one text isn't compiled
+abbrev pub IsTextCompileFault : Options → List ℕ → PoError → Type 0
+IsTextCompileFault options text error = (error ≡ entry_memory) ⊎ IsTextFault text error ⊎ IsTextTooLarge options text error

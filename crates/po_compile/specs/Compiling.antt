@@ -1,0 +1,49 @@
+-- What a list of entries is compiled to, and when it is refused (manual, "Invoking the msgfmt Program").
+use Rattle.std.specs.Prelude.{◌≡◌, ◌⊎◌, ◌^◌, ◌<◌, ◌≤◌, List, length}
+use Rattle.mo_file.specs.Message.{Message}
+use Rattle.mo_file.specs.Layout.{layout}
+use Rattle.mo_file.specs.Catalog.{IsCatalog}
+use Rattle.mo_file.specs.declared.building.BuildError.{BuildError}
+use Rattle.mo_file.specs.declared.building.BuildError.TheVariants.{TooLarge as Large, NotSorted, OutOfMemory as NoMemory}
+use Rattle.po_entry.specs.TextEntry.{TextEntry}
+use Rattle.po_syntax.specs.declared.fault.PoFault.TheVariants.{TooLarge}
+use Rattle.po_catalog.specs.Duplicate.{join_memory}
+use Rattle.po_catalog.specs.Statistics.{stats_of}
+use Rattle.po_catalog.specs.declared.duplicate.JoinError.{JoinError}
+use Rattle.po_compile.specs.CompiledList.{compiled_list}
+use Rattle.po_compile.specs.CompiledMessages.{AreMessagesOf}
+use Rattle.po_compile.specs.Meaning.{MeansEntries}
+use Rattle.po_compile.specs.declared.options.Options.{Options}
+use Rattle.po_compile.specs.declared.options.Compiled.{Compiled}
+
+-- The file is the layout of the compiled entries' messages. It is valid, holds these messages, and answers each query as
+-- the entries do. With it go their number and the statistics of all entries.
+pub record IsCompiled (options : Options) (entries : List TextEntry) (compiled : Compiled) : Type 0 where
+  pub messages : List Message
+  pub are_messages : AreMessagesOf (compiled_list options.use_fuzzy entries) messages
+  pub bytes : compiled.bytes.items ≡ layout options.order messages
+  pub small : length (layout options.order messages) < 2 ^ 32
+  pub catalog : IsCatalog options.order compiled.bytes.items messages
+  pub means : MeansEntries (compiled_list options.use_fuzzy entries) messages
+  pub count : compiled.n ≡ length (compiled_list options.use_fuzzy entries)
+  pub stats : compiled.stats ≡ stats_of entries
+
+-- 32 bits don't reach the end of the layout of the compiled entries' messages
+pub record HasLargeLayout (options : Options) (entries : List TextEntry) : Type 0 where
+  pub messages : List Message
+  pub are_messages : AreMessagesOf (compiled_list options.use_fuzzy entries) messages
+  pub large : 2 ^ 32 ≤ length (layout options.order messages)
+
+-- the fault of a layout, which is of no input and has no line
+abbrev pub layout_fault : JoinError
+layout_fault = record { input = 0; first_input = 0; error = record { kind = TooLarge; line = 0 } }
+
+-- what is told of a file that isn't built; messages that are sorted are never told to be out of order
+abbrev pub layout_error : BuildError → JoinError
+layout_error Large = layout_fault
+layout_error NotSorted = join_memory
+layout_error NoMemory = join_memory
+
+-- why entries of which no two live ones are of one message aren't compiled: their layout, or want of memory
+abbrev pub IsLayoutFault : Options → List TextEntry → JoinError → Type 0
+IsLayoutFault options entries error = (error ≡ join_memory) ⊎ ((error ≡ layout_fault) × HasLargeLayout options entries)

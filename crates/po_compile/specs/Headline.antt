@@ -1,0 +1,33 @@
+-- Laws of compiling: what is looked up in a compiled catalogue is what its entries mean.
+use Rattle.std.specs.Prelude.{◌≡◌, ℕ, List, All}
+use Rattle.mo_file.specs.Message.{Message}
+use Rattle.mo_file.specs.Layout.{layout}
+use Rattle.mo_file.specs.Catalog.{IsCatalog}
+use Rattle.po_entry.specs.TextEntry.{TextEntry}
+use Rattle.po_entry.specs.Validity.{IsEntry}
+use Rattle.po_catalog.specs.Joined.{joined_entries}
+use Rattle.po_compile.specs.CompiledList.{compiled_list}
+use Rattle.po_compile.specs.CompiledMessages.{AreMessagesOf}
+use Rattle.po_compile.specs.Meaning.{MeansEntries}
+use Rattle.po_compile.specs.Accepted.{AreAccepted}
+use Rattle.po_compile.specs.declared.options.Options.{Options}
+
+-- entries have one list of messages in rising order of keys
+abbrev pub MessagesAreOne : Type 0
+MessagesAreOne =
+    (entries : List TextEntry) (messages others : List Message) → AreMessagesOf entries messages → AreMessagesOf entries others → messages ≡ others
+
+-- the messages of entries mean these entries
+abbrev pub MessagesMeanEntries : Type 0
+MessagesMeanEntries =
+    (entries : List TextEntry) (messages : List Message) → All IsEntry entries
+    → AreMessagesOf entries messages → MeansEntries entries messages
+
+-- For texts that are accepted: the layout of their messages is a valid file, and what is looked up in it is what their
+-- entries mean.
+abbrev pub LookUpMeansEntries : Type 0
+LookUpMeansEntries =
+    (options : Options) (texts : List (List ℕ)) (catalogues : List (List TextEntry)) (messages : List Message)
+    → AreAccepted options texts catalogues → AreMessagesOf (compiled_list options.use_fuzzy (joined_entries catalogues)) messages
+    → IsCatalog options.order (layout options.order messages) messages
+    × MeansEntries (compiled_list options.use_fuzzy (joined_entries catalogues)) messages

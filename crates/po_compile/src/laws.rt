@@ -1,0 +1,25 @@
+//! Laws of compiling, each of which a call makes known.
+
+ghost use Rattle.po_compile.specs.Headline.{LookUpMeansEntries, MessagesAreOne, MessagesMeanEntries};
+
+use mo_file::layout_is_catalog;
+
+/// The messages that entries are compiled to answer every query as the entries do.
+pub fn messages_mean_entries()
+    ensures { MessagesMeanEntries }
+{}
+
+/// Entries are compiled to one list of messages.
+pub fn messages_are_one()
+    ensures { MessagesAreOne }
+{}
+
+/// For texts that are accepted the layout of their messages is a valid file, and what is looked up in it is what
+/// their entries mean.
+pub fn look_up_means_entries()
+    ensures { LookUpMeansEntries }
+{
+    layout_is_catalog();
+    messages_mean_entries();
+    messages_are_one();
+}

@@ -1,0 +1,154 @@
+ghost use Rattle.std.specs.Prelude.{◌≡◌, ◌++◌, OnOk, IfErr, codes, option_copied};
+ghost use Rattle.std.specs.List.{flat_map};
+ghost use Rattle.po_entry.specs.TextEntry.{texts};
+ghost use Rattle.po_entry.specs.Validity.{out_of_memory};
+ghost use Rattle.po_writer.specs.WrittenText.{all_flags, comment_lines, entry_lines, form_lines, keyword_lines, own_lines, own_prefix, previous_lines, previous_prefix, translation_lines, words_line};
+
+use crate::keyword_lines::{push_form, push_keyword, push_optional};
+use po_entry::{Entry, Previous};
+use po_syntax::PoError;
+
+/// Appends a line for each comment, behind the mark of its kind.
+fn push_comments(out: &mut Vec<u8>, mark: &[u8], comments: &[Vec<u8>]) -> Result<(), PoError>
+    ensures appended { OnOk result (out.new.items ≡ out.old.items ++ comment_lines mark.now (texts comments.now)) }
+    ensures memory { IfErr result (λ e. e ≡ out_of_memory) }
+{
+    for comment in comments {
+        out.extend_from_slice(mark)?;
+        out.extend_from_slice(comment)?;
+        out.push(b'\n')?;
+    }
+    Ok(())
+}
+
+/// Appends words, with a separator before each.
+fn push_further(out: &mut Vec<u8>, separator: &[u8], words: &[Vec<u8>]) -> Result<(), PoError>
+    ensures appended { OnOk result (out.new.items ≡ out.old.items ++ flat_map (λ word. separator.now ++ word) (texts words.now)) }
+    ensures memory { IfErr result (λ e. e ≡ out_of_memory) }
+{
+    for word in words {
+        out.extend_from_slice(separator)?;
+        out.extend_from_slice(word)?;
+    }
+    Ok(())
+}
+
+/// Appends a line of words, where there are any.
+fn push_words(
+    out: &mut Vec<u8>,
+    mark: &[u8],
+    separator: &[u8],
+    words: &[Vec<u8>],
+) -> Result<(), PoError>
+    ensures appended { OnOk result (out.new.items ≡ out.old.items ++ words_line mark.now separator.now (texts words.now)) }
+    ensures memory { IfErr result (λ e. e ≡ out_of_memory) }
+{
+    let Some((first, others)) = words.split_first() else {
+        return Ok(());
+    };
+    out.extend_from_slice(mark)?;
+    out.extend_from_slice(first)?;
+    push_further(out, separator, others)?;
+    out.push(b'\n')?;
+    Ok(())
+}
+
+/// Appends the line of flags, `fuzzy` first, where there are any.
+fn push_flags(out: &mut Vec<u8>, fuzzy: bool, flags: &[Vec<u8>]) -> Result<(), PoError>
+    ensures appended { OnOk result (out.new.items ≡ out.old.items ++ words_line (codes "#, ") (codes ", ") (all_flags fuzzy (texts flags.now))) }
+    ensures memory { IfErr result (λ e. e ≡ out_of_memory) }
+{
+    if !fuzzy {
+        return push_words(out, b"#, ", b", ", flags);
+    }
+    out.extend_from_slice(b"#, fuzzy")?;
+    push_further(out, b", ", flags)?;
+    out.push(b'\n')?;
+    Ok(())
+}
+
+/// Appends the previous texts that there are.
+fn push_previous(out: &mut Vec<u8>, prefix: &[u8], previous: &Previous) -> Result<(), PoError>
+    ensures appended { OnOk result (out.new.items ≡ out.old.items ++ previous_lines prefix.now previous.now) }
+    ensures memory { IfErr result (λ e. e ≡ out_of_memory) }
+{
+    push_optional(out, prefix, b"msgctxt", previous.context.as_deref())?;
+    push_optional(out, prefix, b"msgid", previous.id.as_deref())?;
+    push_optional(out, prefix, b"msgid_plural", previous.plural.as_deref())
+}
+
+/// Appends the plural forms, from index 0 on.
+fn push_forms(out: &mut Vec<u8>, prefix: &[u8], forms: &[Vec<u8>]) -> Result<(), PoError>
+    ensures appended { OnOk result (out.new.items ≡ out.old.items ++ form_lines prefix.now 0 (texts forms.now)) }
+    ensures memory { IfErr result (λ e. e ≡ out_of_memory) }
+{
+    for (index, form) in forms.iter().enumerate() {
+        push_form(out, prefix, index, form)?;
+    }
+    Ok(())
+}
+
+/// Appends the only form of a message without a plural.
+fn push_single(out: &mut Vec<u8>, prefix: &[u8], forms: &[Vec<u8>]) -> Result<(), PoError>
+    ensures appended { OnOk result (out.new.items ≡ out.old.items ++ flat_map (keyword_lines prefix.now (codes "msgstr")) (texts forms.now)) }
+    ensures memory { IfErr result (λ e. e ≡ out_of_memory) }
+{
+    for form in forms {
+        push_keyword(out, prefix, b"msgstr", form)?;
+    }
+    Ok(())
+}
+
+/// Appends the translation, with the plural where there is one.
+fn push_translation(
+    out: &mut Vec<u8>,
+    prefix: &[u8],
+    plural: Option<&[u8]>,
+    forms: &[Vec<u8>],
+) -> Result<(), PoError>
+    ensures appended { OnOk result (out.new.items ≡ out.old.items ++ translation_lines prefix.now (option_copied plural.entry) (texts forms.now)) }
+    ensures memory { IfErr result (λ e. e ≡ out_of_memory) }
+{
+    match plural {
+        Some(plural) => {
+            push_keyword(out, prefix, b"msgid_plural", plural)?;
+            push_forms(out, prefix, forms)
+        }
+        None => push_single(out, prefix, forms),
+    }
+}
+
+/// Appends an entry's own lines.
+fn push_own(out: &mut Vec<u8>, prefix: &[u8], entry: &Entry) -> Result<(), PoError>
+    ensures appended { OnOk result (out.new.items ≡ out.old.items ++ own_lines prefix.now entry.now) }
+    ensures memory { IfErr result (λ e. e ≡ out_of_memory) }
+{
+    push_optional(out, prefix, b"msgctxt", entry.context())?;
+    push_keyword(out, prefix, b"msgid", entry.id())?;
+    push_translation(out, prefix, entry.plural(), entry.forms())
+}
+
+fn previous_prefix(obsolete: bool) -> &'static [u8]
+    ensures { result.now ≡ previous_prefix obsolete }
+{
+    if obsolete { b"#~| " } else { b"#| " }
+}
+
+fn own_prefix(obsolete: bool) -> &'static [u8]
+    ensures { result.now ≡ own_prefix obsolete }
+{
+    if obsolete { b"#~ " } else { b"" }
+}
+
+/// Appends all lines of an entry.
+pub(crate) fn push_entry(out: &mut Vec<u8>, entry: &Entry) -> Result<(), PoError>
+    ensures appended { OnOk result (out.new.items ≡ out.old.items ++ entry_lines entry.now) }
+    ensures memory { IfErr result (λ e. e ≡ out_of_memory) }
+{
+    push_comments(out, b"#", entry.comments())?;
+    push_comments(out, b"#.", entry.extracted())?;
+    push_words(out, b"#: ", b" ", entry.references())?;
+    push_flags(out, entry.fuzzy(), entry.flags())?;
+    push_previous(out, previous_prefix(entry.obsolete()), entry.previous())?;
+    push_own(out, own_prefix(entry.obsolete()), entry)
+}

@@ -1,0 +1,115 @@
+ghost use Rattle.std.specs.Prelude.{◌≡◌, ◌<◌, ◌++◌, ◌∷◌, [], codes, decimal, OnOk, IfErr, nat_lt, length, option_copied};
+ghost use Rattle.std.specs.List.{flat_map};
+ghost use Rattle.po_entry.specs.Validity.{out_of_memory};
+ghost use Rattle.po_writer.specs.WrittenText.{cut, text_lines, keyword_lines, optional_lines, string_line};
+
+use itoa::Buffer;
+use memchr::memchr;
+use po_syntax::{PoError, quote};
+
+/// Splits a text behind its first LF, or at its end where it has none.
+fn split_line(text: &[u8]) -> (&[u8], &[u8])
+    ensures cut { 0 < length text.now → cut text.now ≡ result.0.now ∷ cut result.1.now }
+    ensures shorter { 0 < length text.now → length result.1.now < length text.now }
+    ensures empty { text.now ≡ [] → result.1.now ≡ [] }
+{
+    match memchr(b'\n', text) {
+        Some(end) => text.split_at(end + 1),
+        None => text.split_at(text.len()),
+    }
+}
+
+/// Whether a LF stands before the last byte of a text.
+fn has_lines(text: &[u8]) -> bool
+    ensures { result ≡ nat_lt 1 (length (cut text.now)) }
+{
+    !split_line(text).1.is_empty()
+}
+
+/// Appends the quoted form of a piece on a line of its own.
+fn push_string(out: &mut Vec<u8>, prefix: &[u8], piece: &[u8]) -> Result<(), PoError>
+    ensures appended { OnOk result (out.new.items ≡ out.old.items ++ string_line prefix.now piece.now) }
+    ensures memory { IfErr result (λ e. e ≡ out_of_memory) }
+{
+    out.extend_from_slice(prefix)?;
+    quote(piece, out)?;
+    out.push(b'\n')?;
+    Ok(())
+}
+
+/// Appends one string for each line of a text.
+fn push_strings(out: &mut Vec<u8>, prefix: &[u8], text: &[u8]) -> Result<(), PoError>
+    ensures appended { OnOk result (out.new.items ≡ out.old.items ++ flat_map (string_line prefix.now) (cut text.now)) }
+    ensures memory { IfErr result (λ e. e ≡ out_of_memory) }
+{
+    let mut rest = text;
+    while !rest.is_empty() {
+        let (line, behind) = split_line(rest);
+        push_string(out, prefix, line)?;
+        rest = behind;
+    }
+    Ok(())
+}
+
+/// Appends what stands behind a keyword: its text, as one string or one a line.
+fn push_text(out: &mut Vec<u8>, prefix: &[u8], text: &[u8]) -> Result<(), PoError>
+    ensures appended { OnOk result (out.new.items ≡ out.old.items ++ text_lines prefix.now text.now) }
+    ensures memory { IfErr result (λ e. e ≡ out_of_memory) }
+{
+    if has_lines(text) {
+        push_string(out, b"", b"")?;
+        push_strings(out, prefix, text)
+    } else {
+        push_string(out, b"", text)
+    }
+}
+
+/// Appends a keyword with its text.
+pub(crate) fn push_keyword(
+    out: &mut Vec<u8>,
+    prefix: &[u8],
+    keyword: &[u8],
+    text: &[u8],
+) -> Result<(), PoError>
+    ensures appended { OnOk result (out.new.items ≡ out.old.items ++ keyword_lines prefix.now keyword.now text.now) }
+    ensures memory { IfErr result (λ e. e ≡ out_of_memory) }
+{
+    out.extend_from_slice(prefix)?;
+    out.extend_from_slice(keyword)?;
+    out.push(b' ')?;
+    push_text(out, prefix, text)
+}
+
+/// Appends a keyword with its text, where there is a text.
+pub(crate) fn push_optional(
+    out: &mut Vec<u8>,
+    prefix: &[u8],
+    keyword: &[u8],
+    text: Option<&[u8]>,
+) -> Result<(), PoError>
+    ensures appended { OnOk result (out.new.items ≡ out.old.items ++ optional_lines prefix.now keyword.now (option_copied text.entry)) }
+    ensures memory { IfErr result (λ e. e ≡ out_of_memory) }
+{
+    match text {
+        Some(text) => push_keyword(out, prefix, keyword, text),
+        None => Ok(()),
+    }
+}
+
+/// Appends the plural form of an index.
+pub(crate) fn push_form(
+    out: &mut Vec<u8>,
+    prefix: &[u8],
+    index: usize,
+    form: &[u8],
+) -> Result<(), PoError>
+    ensures appended { OnOk result (out.new.items ≡ out.old.items ++ keyword_lines prefix.now (codes "msgstr[" ++ decimal index ++ codes "]") form.now) }
+    ensures memory { IfErr result (λ e. e ≡ out_of_memory) }
+{
+    let mut digits = Buffer::new();
+    out.extend_from_slice(prefix)?;
+    out.extend_from_slice(b"msgstr[")?;
+    out.extend_from_slice(digits.format(index).as_bytes())?;
+    out.extend_from_slice(b"] ")?;
+    push_text(out, prefix, form)
+}

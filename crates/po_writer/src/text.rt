@@ -1,0 +1,48 @@
+ghost use Rattle.std.specs.Prelude.{◌≡◌, ◌==◌, Bool, OnOk, IfOk, IfErr, fold, filter};
+ghost use Rattle.po_entry.specs.TextEntry.{TextEntry};
+ghost use Rattle.po_entry.specs.Validity.{out_of_memory};
+ghost use Rattle.po_writer.specs.Separated.{with_entry, with_obsolete};
+ghost use Rattle.po_writer.specs.WrittenText.{written_text};
+
+use crate::entry_lines::push_entry;
+use po_entry::{Catalogue, Entry};
+use po_syntax::PoError;
+use std::alloc::Global;
+
+/// Appends an entry, behind an empty line if it isn't the first.
+fn push_separated(out: &mut Vec<u8>, entry: &Entry) -> Result<(), PoError>
+    ensures appended { OnOk result (out.new.items ≡ with_entry out.old.items entry.now) }
+    ensures memory { IfErr result (λ e. e ≡ out_of_memory) }
+{
+    if !out.is_empty() {
+        out.push(b'\n')?;
+    }
+    push_entry(out, entry)
+}
+
+/// Appends the entries that bear this obsolete mark.
+fn push_entries(out: &mut Vec<u8>, entries: &[Entry], obsolete: bool) -> Result<(), PoError>
+    ensures appended { OnOk result (out.new.items ≡ fold with_entry out.old.items (with_obsolete obsolete entries.now)) }
+    ensures memory { IfErr result (λ e. e ≡ out_of_memory) }
+{
+    for entry in entries {
+        if entry.obsolete() == obsolete {
+            push_separated(out, entry)?;
+        }
+    }
+    Ok(())
+}
+
+/// The text of a catalogue (GNU gettext manual, "The Format of PO Files"): the live entries in
+/// order, then the obsolete ones in order, with an empty line between two. Want of memory is the
+/// only refusal.
+pub fn write(alloc: Global, catalogue: &Catalogue) -> Result<Vec<u8>, PoError>
+    ensures text { IfOk result (λ text. text.items ≡ written_text catalogue.now) }
+    ensures memory { IfErr result (λ e. e ≡ out_of_memory) }
+{
+    let mut text = Vec::new(alloc);
+    let entries = catalogue.entries();
+    push_entries(&mut text, entries, false)?;
+    push_entries(&mut text, entries, true)?;
+    Ok(text)
+}
