@@ -3,3 +3,4 @@ pub mod Run
 pub mod Profile
 pub mod Gettext
 pub mod GettextView
+pub mod Msgfmt
