@@ -1,8 +1,6 @@
 //! Every truncation, and every change of one byte to one that the format gives a meaning to.
 
-use po_entry::{Catalogue, Entry};
-use po_reader::read;
-use po_writer::write;
+use po_catalog::{Catalogue, Entry, read, write};
 use std::alloc::Global;
 use std::process::Abort;
 use std::test::Fail;

@@ -1,1 +1,15 @@
+//! The tools of pokit as functions of their inputs: what each writes, tells and answers.
 #![tactic(auto)]
+
+mod fault_text;
+mod gettext;
+mod msgfmt;
+mod profile;
+mod run;
+
+pub use gettext::{GettextOptions, NgettextOptions, plan_gettext, plan_ngettext};
+pub use msgfmt::{MsgfmtOptions, plan_msgfmt, profile_check, run_msgfmt};
+pub use po_catalog::JoinError;
+pub use po_compile::{Compiled, Options, compile, compile_all};
+pub use profile::CheckFault;
+pub use run::{Run, deliver};

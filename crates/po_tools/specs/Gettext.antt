@@ -1,0 +1,90 @@
+-- What gettext and ngettext write (manual, "Invoking the gettext program" and "Invoking the ngettext program").
+use Rattle.std.specs.Prelude.{◌≡◌, ℕ, Bool, false, not, ◌&&◌, ◌||◌, List, [], ◌∷◌, ◌++◌, map, Option, None, Some, codes, if◌then◌else◌}
+use Rattle.std.specs.List.{join_with_byte, list_any}
+use Rattle.mo_file.specs.declared.byte_order.Order.{Order}
+use Rattle.mo_file.specs.declared.fault.MoError.{MoError}
+use Rattle.mo_file.specs.Catalog.{IsCatalog}
+use Rattle.mo_file.specs.Fault.{IsFirstFault}
+use Rattle.mo_lookup.specs.Chain.{chain_told}
+use Rattle.mo_lookup.specs.Contents.{Contents, AreContents}
+use Rattle.mo_lookup.specs.Query.{Query}
+use Rattle.po_shell.specs.Counts.{count_in}
+use Rattle.po_shell.specs.Escapes.{expansion, has_no_newline}
+use Rattle.po_tools.specs.FaultText.{fault_line, mo_text}
+use Rattle.po_tools.specs.Run.{Report}
+
+-- a file, by its name and its bytes
+pub record NamedFile : Type 0 where
+  pub name : List ℕ
+  pub bytes : List ℕ
+
+-- The files that are catalogues make the chain, in order; each other one is told by a line, in order.
+pub data Opens (tool : List ℕ) : List NamedFile → List Contents → List ℕ → Type 0 where
+  none : Opens tool [] [] []
+  opened : {file : NamedFile} {files : List NamedFile} {contents : Contents} {chain : List Contents} {told : List ℕ} (order : Order)
+      → IsCatalog order file.bytes contents.messages → AreContents contents.messages contents.rule → Opens tool files chain told
+      → Opens tool (file ∷ files) (contents ∷ chain) told
+  refused : {file : NamedFile} {files : List NamedFile} {fault : MoError} {chain : List Contents} {told : List ℕ}
+      → IsFirstFault file.bytes fault → Opens tool files chain told
+      → Opens tool (file ∷ files) chain (fault_line tool file.name 0 (mo_text fault) ++ told)
+
+-- what gettext is asked for, besides the catalogues
+pub record Asked : Type 0 where
+  pub words : List (List ℕ)
+  pub context : Option (List ℕ)
+  pub expand : Bool
+  pub no_newline : Bool
+  pub shell : Bool
+
+-- a word, with its escapes expanded where `-e` is given
+abbrev pub word_text : Bool → List ℕ → List ℕ
+word_text expand word = if expand then expansion word else word
+
+-- the answer to one MSGID
+abbrev pub word_answer : List Contents → Asked → List ℕ → List ℕ
+word_answer chain o word = (chain_told chain (record { context = o.context; id = word_text o.expand word; plural = None })).text
+
+-- the answers, with a space between two
+abbrev pub answers : List Contents → Asked → List ℕ
+answers chain o = join_with_byte 32 (map (word_answer chain o) o.words)
+
+-- with `-e` a `\c` in a word acts as `-n`
+abbrev pub stops_line : Asked → List ℕ → Bool
+stops_line o word = o.expand && has_no_newline word
+
+-- with `-s` a newline ends the output, unless `-n` is given or a word acts as that
+abbrev pub ends_line : Asked → Bool
+ends_line o = o.shell && (not o.no_newline && not (list_any (stops_line o) o.words))
+
+abbrev pub gettext_output : List Contents → Asked → List ℕ
+gettext_output chain o = answers chain o ++ (if ends_line o then 10 ∷ [] else [])
+
+-- this output, and these lines about catalogues that were refused, which don't count as a failure
+abbrev pub answered : List ℕ → List ℕ → Report
+answered output told = record { output = output; create = false; messages = told; status = 0 }
+
+-- what a run of gettext comes to
+pub record IsGettextRun (files : List NamedFile) (o : Asked) (run : Report) : Type 0 where
+  pub chain : List Contents
+  pub told : List ℕ
+  pub opens : Opens (codes "gettext") files chain told
+  pub report : run ≡ answered (gettext_output chain o) told
+
+-- what ngettext is asked for, besides the catalogues
+pub record AskedPlural : Type 0 where
+  pub context : Option (List ℕ)
+  pub expand : Bool
+  pub id : List ℕ
+  pub plural : List ℕ
+  pub count : List ℕ
+
+abbrev pub ngettext_output : List Contents → AskedPlural → List ℕ
+ngettext_output chain o =
+    (chain_told chain (record { context = o.context; id = word_text o.expand o.id; plural = Some (word_text o.expand o.plural, count_in o.count) })).text
+
+-- what a run of ngettext comes to
+pub record IsNgettextRun (files : List NamedFile) (o : AskedPlural) (run : Report) : Type 0 where
+  pub chain : List Contents
+  pub told : List ℕ
+  pub opens : Opens (codes "ngettext") files chain told
+  pub report : run ≡ answered (ngettext_output chain o) told

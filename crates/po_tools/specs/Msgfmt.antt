@@ -1,0 +1,136 @@
+-- What msgfmt writes and tells (manual, "Invoking the msgfmt Program").
+use Rattle.std.specs.Prelude.{◌≡◌, ◌≢◌, ◌⊎◌, ◌^◌, IfSome, nat_lt, ◌==◌, ℕ, Bool, true, List, [], ◌∷◌, take, map, filter, slice_get, Option, None, Some, codes, decimal, ◌++◌, if◌then◌else◌}
+use Rattle.std.specs.Io.KnownBytes.{Appends}
+use Rattle.std.specs.Option.{option_map_or}
+use Rattle.po_syntax.specs.declared.fault.PoFault.{PoFault}
+use Rattle.po_syntax.specs.declared.fault.PoFault.TheVariants.{Duplicate, OutOfMemory as NoMemory}
+use Rattle.po_entry.specs.TextEntry.{TextEntry}
+use Rattle.po_catalog.specs.Joined.{InputEntry, joined, joined_entries}
+use Rattle.po_catalog.specs.Statistics.{stats_line}
+use Rattle.po_catalog.specs.declared.duplicate.JoinError.{JoinError}
+use Rattle.po_compile.specs.Accepted.{AreRead, IsCompileFault}
+use Rattle.po_compile.specs.CompiledList.{is_compiled}
+use Rattle.po_compile.specs.Compiling.{IsCompiled}
+use Rattle.po_compile.specs.declared.options.Compiled.{Compiled}
+use Rattle.po_compile.specs.declared.options.Options.{Options}
+use Rattle.po_tools.specs.declared.msgfmt.MsgfmtOptions.{MsgfmtOptions}
+use Rattle.po_tools.specs.declared.profile.CheckFault.{CheckFault}
+use Rattle.po_tools.specs.declared.profile.CheckFault.TheVariants.{NoHeader, NoRule, FormCount, LeadingNewline, TrailingNewline, Undefined, IndexOutside, OutOfMemory}
+use Rattle.po_tools.specs.FaultText.{po_text, duplicate_text, fault_line}
+use Rattle.po_tools.specs.Gettext.{NamedFile}
+use Rattle.po_tools.specs.Profile.{IsChecked, Told}
+use Rattle.po_tools.specs.Run.{Report, refusal, DeliversPrefix}
+
+abbrev pub compile_options : MsgfmtOptions → Options
+compile_options o = record { use_fuzzy = o.use_fuzzy; order = o.order }
+
+abbrev pub input_texts : List NamedFile → List (List ℕ)
+input_texts inputs = map (λ file. file.bytes) inputs
+
+abbrev pub input_name : List NamedFile → ℕ → List ℕ
+input_name inputs i = option_map_or (λ file. file.name) (slice_get inputs i) []
+
+-- what is wrong, where a duplicate is of a message of this other file
+abbrev pub across_text : List ℕ → PoFault → List ℕ
+across_text file (Duplicate line) = duplicate_text file line
+across_text file fault = po_text fault
+
+-- what is wrong with the inputs
+abbrev pub join_text : List NamedFile → JoinError → List ℕ
+join_text inputs error =
+    if error.first_input == error.input then po_text error.error.kind else across_text (input_name inputs error.first_input) error.error.kind
+
+-- the line that tells why the inputs aren't compiled
+abbrev pub join_line : List NamedFile → JoinError → List ℕ
+join_line inputs error = fault_line (codes "msgfmt") (input_name inputs error.input) error.error.line (join_text inputs error)
+
+-- the line at which a fault of the check is told; 0 is none
+abbrev pub check_place : CheckFault → ℕ
+check_place (NoRule line reason) = line
+check_place (FormCount line) = line
+check_place (LeadingNewline line) = line
+check_place (TrailingNewline line) = line
+check_place fault = 0
+
+-- what is wrong with the messages that are compiled
+abbrev pub check_text : CheckFault → List ℕ
+check_text NoHeader = codes "no header"
+check_text (NoRule line reason) = codes "no readable plural rule"
+check_text (FormCount line) = codes "wrong number of plural forms"
+check_text (LeadingNewline line) = codes "first newline differs"
+check_text (TrailingNewline line) = codes "last newline differs"
+check_text (Undefined count) = codes "plural rule undefined for " ++ decimal count
+check_text (IndexOutside count) = codes "plural rule too large for " ++ decimal count
+check_text OutOfMemory = codes "out of memory"
+
+-- the line that tells a fault of the check
+abbrev pub check_line : List NamedFile → Told → List ℕ
+check_line inputs told = fault_line (codes "msgfmt") (input_name inputs told.0) (check_place told.1) (check_text told.1)
+
+-- the entries of a joined list that are compiled
+abbrev pub compiled_inputs : Bool → List InputEntry → List InputEntry
+compiled_inputs use_fuzzy entries = filter (λ e. is_compiled use_fuzzy e.entry) entries
+
+-- the check of catalogues: its first fault, or none
+abbrev pub AreChecked : Bool → List (List TextEntry) → Option Told → Type 0
+AreChecked use_fuzzy catalogues fault = IsChecked (compiled_inputs use_fuzzy (joined catalogues)) fault
+
+-- the file where there is a message, and the statistics where they are asked for
+abbrev pub compiled_run : MsgfmtOptions → Compiled → Report
+compiled_run o compiled = record {
+  output = if nat_lt 0 compiled.n then compiled.bytes.items else [];
+  create = nat_lt 0 compiled.n;
+  messages = if o.statistics then stats_line compiled.stats else [];
+  status = 0;
+}
+
+-- the inputs aren't compiled, which is told before any fault of the check
+pub record IsRefused (inputs : List NamedFile) (o : MsgfmtOptions) (run : Report) : Type 0 where
+  pub error : JoinError
+  pub fault : IsCompileFault (compile_options o) (input_texts inputs) error
+  pub not_memory : error.error.kind ≢ NoMemory
+  pub report : run ≡ refusal (join_line inputs error)
+
+-- the inputs are compiled, and the check that is asked for tells a fault
+pub record IsUnfit (inputs : List NamedFile) (o : MsgfmtOptions) (run : Report) : Type 0 where
+  pub catalogues : List (List TextEntry)
+  pub read : AreRead (input_texts inputs) catalogues
+  pub compiled : Compiled
+  pub is_compiled : IsCompiled (compile_options o) (joined_entries catalogues) compiled
+  pub asked : o.profile_check ≡ true
+  pub fault : Told
+  pub checked : AreChecked o.use_fuzzy catalogues (Some fault)
+  pub report : run ≡ refusal (check_line inputs fault)
+
+-- the inputs are compiled, and where the check is asked for it tells no fault
+pub record IsDone (inputs : List NamedFile) (o : MsgfmtOptions) (run : Report) : Type 0 where
+  pub catalogues : List (List TextEntry)
+  pub read : AreRead (input_texts inputs) catalogues
+  pub compiled : Compiled
+  pub is_compiled : IsCompiled (compile_options o) (joined_entries catalogues) compiled
+  pub checked : o.profile_check ≡ true → AreChecked o.use_fuzzy catalogues None
+  pub report : run ≡ compiled_run o compiled
+
+-- what a run of msgfmt comes to
+abbrev pub IsMsgfmtRun : List NamedFile → MsgfmtOptions → Report → Type 0
+IsMsgfmtRun inputs o run = IsRefused inputs o run ⊎ IsUnfit inputs o run ⊎ IsDone inputs o run
+
+-- the run of the one input that is read, or of its first 2,147,483,648 bytes
+pub record IsMsgfmtRunOf (remaining : Option (List ℕ)) (name : List ℕ) (o : MsgfmtOptions) (run : Report) : Type 0 where
+  pub text : List ℕ
+  pub input : IfSome remaining (λ bytes. text ≡ take (2 ^ 31) bytes)
+  pub is_run : IsMsgfmtRun (record { name = name; bytes = text } ∷ []) o run
+
+-- all of the run has gone out, and this is its status
+pub record IsMsgfmtDelivered (remaining : Option (List ℕ)) (name : List ℕ) (o : MsgfmtOptions) (out out' err err' : Option (List ℕ)) (status : ℕ) : Type 0 where
+  pub run : Report
+  pub is_run : IsMsgfmtRunOf remaining name o run
+  pub output : Appends out out' run.output
+  pub messages : Appends err err' run.messages
+  pub status_is : status ≡ run.status
+
+-- a prefix of the run has gone out
+pub record IsMsgfmtCut (remaining : Option (List ℕ)) (name : List ℕ) (o : MsgfmtOptions) (out out' err err' : Option (List ℕ)) : Type 0 where
+  pub run : Report
+  pub is_run : IsMsgfmtRunOf remaining name o run
+  pub prefix : DeliversPrefix out out' err err' run

@@ -1,0 +1,325 @@
+ghost use Rattle.std.specs.Prelude.{◌≡◌, ◌≢◌, ◌⊎◌, ◌+◌, ◌^◌, ◌<◌, ◌++◌, true, None, Some, length, MatchResult, IfOk, IfErr, OnOk, OnErr, IsErrOf, Err};
+ghost use Rattle.std.specs.Io.KnownBytes.{Keeps};
+ghost use Rattle.po_entry.specs.TextEntry.{slice_texts};
+ghost use Rattle.po_catalog.specs.JoinedView.{input_entries};
+ghost use Rattle.po_compile.specs.CompiledList.{is_compiled};
+ghost use Rattle.po_tools.specs.GettextView.{named_files};
+ghost use Rattle.po_tools.specs.Msgfmt.{AreChecked, IsMsgfmtCut, IsMsgfmtDelivered, IsMsgfmtRun, across_text, check_line, check_place, check_text, compiled_inputs, compiled_run, input_name, input_texts, join_line, join_text};
+ghost use Rattle.po_tools.specs.Run.{refusal, report};
+
+use crate::fault_text::{push_numbered, push_place, push_po_text};
+use crate::profile::{CheckFault, check_entries};
+use crate::run::{Run, deliver};
+use mo_file::Order;
+use po_catalog::{Catalogue, Entry, JoinError, JoinedEntry, has_translation, joined};
+use po_compile::{Compiled, Options, compile_catalogues, read_all};
+use po_shell::{ByteIn, ByteOut, ToolFault, read_input};
+use po_syntax::PoFault;
+use std::alloc::{AllocError, Global};
+
+/// What `msgfmt` is asked for, besides its inputs.
+#[derive(Clone, Copy)]
+pub struct MsgfmtOptions {
+    /// `-f`: fuzzy entries are compiled too.
+    pub use_fuzzy: bool,
+    /// `--endianness`: the byte order of the words of the file.
+    pub order: Order,
+    /// `--statistics`: the statistics are told on standard error.
+    pub statistics: bool,
+    /// `--profile-check`: the messages that are compiled are checked.
+    pub profile_check: bool,
+}
+
+/// Whether an entry of a joined list is compiled.
+fn is_compiled(entry: &Entry, use_fuzzy: bool) -> bool
+    ensures { result ≡ is_compiled use_fuzzy entry.now }
+{
+    !entry.obsolete()
+        && has_translation(entry)
+        && (use_fuzzy || !entry.fuzzy() || entry.is_header())
+}
+
+/// The entries that are compiled.
+fn compiled_entries<'a>(
+    alloc: Global,
+    entries: &[JoinedEntry<'a>],
+    use_fuzzy: bool,
+) -> Result<Vec<JoinedEntry<'a>>, AllocError>
+    ensures { IfOk result (λ compiled. input_entries compiled.items ≡ compiled_inputs use_fuzzy (input_entries entries.now)) }
+{
+    let mut compiled = Vec::with_capacity(alloc, entries.len())?;
+    for joined in entries {
+        if is_compiled(joined.entry, use_fuzzy) {
+            compiled.push(*joined)?;
+        }
+    }
+    Ok(compiled)
+}
+
+/// The check's first fault, or none.
+fn first_fault(
+    alloc: Global,
+    catalogues: &[Catalogue],
+    use_fuzzy: bool,
+) -> Result<Option<(u32, CheckFault)>, AllocError>
+    requires { length catalogues.now < 2 ^ 32 }
+    ensures { IfOk result (AreChecked use_fuzzy catalogues.now) }
+{
+    let entries = joined(alloc, catalogues)?;
+    let compiled = compiled_entries(alloc, &entries, use_fuzzy)?;
+    Ok(check_entries(&compiled))
+}
+
+/// Checks the messages that catalogues are compiled to, in the order of their joined list: that there is a header;
+/// that it has a readable plural rule where an entry has a plural; that each entry but the header has as many forms
+/// as the rule, and newlines at its ends where its msgid has them; and that the rule's values at the counts from 0
+/// to 1,000 are indices of forms, where an entry has a plural. The first fault is told with the input of its line,
+/// or input 0 where it has none. `OutOfMemory`, with input 0, may come in place of any answer.
+pub fn profile_check(
+    alloc: Global,
+    catalogues: &[Catalogue],
+    use_fuzzy: bool,
+) -> Result<(), (u32, CheckFault)>
+    requires { length catalogues.now < 2 ^ 32 }
+    ensures { MatchResult result (λ _. AreChecked use_fuzzy catalogues.now None) (λ told. (told ≡ (0, CheckFault.OutOfMemory)) ⊎ AreChecked use_fuzzy catalogues.now (Some told)) }
+{
+    match first_fault(alloc, catalogues, use_fuzzy) {
+        Ok(None) => Ok(()),
+        Ok(Some(told)) => Err(told),
+        Err(_) => Err((0, CheckFault::OutOfMemory)),
+    }
+}
+
+/// The check, where it is asked for.
+fn checked(
+    alloc: Global,
+    catalogues: &[Catalogue],
+    options: &MsgfmtOptions,
+) -> Result<(), (u32, CheckFault)>
+    requires { length catalogues.now < 2 ^ 32 }
+    ensures fit { OnOk result (options.now.profile_check ≡ true → AreChecked options.now.use_fuzzy catalogues.now None) }
+    ensures unfit { IfErr result (λ told. (told ≡ (0, CheckFault.OutOfMemory)) ⊎ ((options.now.profile_check ≡ true) × AreChecked options.now.use_fuzzy catalogues.now (Some told))) }
+{
+    if options.profile_check {
+        profile_check(alloc, catalogues, options.use_fuzzy)
+    } else {
+        Ok(())
+    }
+}
+
+/// The texts of the inputs.
+fn texts_of<'a>(alloc: Global, inputs: &[(&str, &'a [u8])]) -> Result<Vec<&'a [u8]>, AllocError>
+    ensures { IfOk result (λ texts. slice_texts texts.items ≡ input_texts (named_files inputs.now)) }
+{
+    let mut texts = Vec::with_capacity(alloc, inputs.len())?;
+    for (_, text) in inputs {
+        texts.push(*text)?;
+    }
+    Ok(texts)
+}
+
+/// The name of an input.
+fn input_name<'a>(inputs: &[(&'a str, &[u8])], input: u32) -> &'a str
+    ensures { result.now ≡ input_name (named_files inputs.now) input }
+{
+    match inputs.get(input as usize) {
+        Some((name, _)) => name,
+        None => "",
+    }
+}
+
+/// Appends what is wrong, where a duplicate is of a message of another file.
+fn push_across_text(out: &mut Vec<u8>, file: &str, fault: PoFault) -> Result<(), AllocError>
+    ensures { OnOk result (out.new.items ≡ out.old.items ++ across_text file.now fault) }
+{
+    match fault {
+        PoFault::Duplicate(line) => {
+            out.extend_from_slice(b"duplicate of the message at ")?;
+            out.extend_from_slice(file.as_bytes())?;
+            push_numbered(out, ":", line.into(), "")?;
+            Ok(())
+        }
+        fault => push_po_text(out, fault),
+    }
+}
+
+/// Appends why the inputs aren't compiled.
+fn push_join_text(
+    out: &mut Vec<u8>,
+    inputs: &[(&str, &[u8])],
+    error: JoinError,
+) -> Result<(), AllocError>
+    ensures { OnOk result (out.new.items ≡ out.old.items ++ join_text (named_files inputs.now) error) }
+{
+    if error.first_input == error.input {
+        push_po_text(out, error.error.kind)
+    } else {
+        let file = input_name(inputs, error.first_input);
+        push_across_text(out, file, error.error.kind)
+    }
+}
+
+/// The line at which a fault of the check is told; 0 is none.
+fn check_place(fault: CheckFault) -> u32
+    ensures { result ≡ check_place fault }
+{
+    match fault {
+        CheckFault::NoRule(line, _)
+        | CheckFault::FormCount(line)
+        | CheckFault::LeadingNewline(line)
+        | CheckFault::TrailingNewline(line) => line,
+        _ => 0,
+    }
+}
+
+/// Appends what is wrong with the messages that are compiled.
+fn push_check_text(out: &mut Vec<u8>, fault: CheckFault) -> Result<(), AllocError>
+    ensures { OnOk result (out.new.items ≡ out.old.items ++ check_text fault) }
+{
+    let text = match fault {
+        CheckFault::NoHeader => "no header",
+        CheckFault::NoRule(..) => "no readable plural rule",
+        CheckFault::FormCount(_) => "wrong number of plural forms",
+        CheckFault::LeadingNewline(_) => "first newline differs",
+        CheckFault::TrailingNewline(_) => "last newline differs",
+        CheckFault::Undefined(count) => {
+            return push_numbered(out, "plural rule undefined for ", count, "");
+        }
+        CheckFault::IndexOutside(count) => {
+            return push_numbered(out, "plural rule too large for ", count, "");
+        }
+        CheckFault::OutOfMemory => "out of memory",
+    };
+    out.extend_from_slice(text.as_bytes())
+}
+
+/// The run of inputs that aren't compiled.
+fn refused_run(alloc: Global, inputs: &[(&str, &[u8])], error: JoinError) -> Result<Run, ToolFault>
+    ensures run { IfOk result (λ run. report run ≡ refusal (join_line (named_files inputs.now) error)) }
+    ensures not_memory { OnOk result (error.error.kind ≢ PoFault.OutOfMemory) }
+    ensures fault { OnErr result (result ≡ Err ToolFault.OutOfMemory) }
+{
+    if error.error.kind == PoFault::OutOfMemory {
+        return Err(ToolFault::OutOfMemory);
+    }
+    let mut messages = Vec::new(alloc);
+    push_place(&mut messages, "msgfmt", input_name(inputs, error.input), error.error.line)?;
+    push_join_text(&mut messages, inputs, error)?;
+    messages.extend_from_slice(b"\n")?;
+    Ok(Run {
+        output: Vec::new(alloc),
+        create: false,
+        messages,
+        status: 1,
+    })
+}
+
+/// The run of inputs that the check refuses.
+fn unfit_run(
+    alloc: Global,
+    inputs: &[(&str, &[u8])],
+    input: u32,
+    fault: CheckFault,
+) -> Result<Run, ToolFault>
+    ensures run { IfOk result (λ run. report run ≡ refusal (check_line (named_files inputs.now) (input, fault))) }
+    ensures not_memory { OnOk result (fault ≢ CheckFault.OutOfMemory) }
+    ensures memory { OnErr result (result ≡ Err ToolFault.OutOfMemory) }
+{
+    if fault == CheckFault::OutOfMemory {
+        return Err(ToolFault::OutOfMemory);
+    }
+    let mut messages = Vec::new(alloc);
+    push_place(&mut messages, "msgfmt", input_name(inputs, input), check_place(fault))?;
+    push_check_text(&mut messages, fault)?;
+    messages.extend_from_slice(b"\n")?;
+    Ok(Run {
+        output: Vec::new(alloc),
+        create: false,
+        messages,
+        status: 1,
+    })
+}
+
+/// The run of inputs that are compiled.
+fn compiled_run(
+    alloc: Global,
+    options: &MsgfmtOptions,
+    compiled: Compiled,
+) -> Result<Run, ToolFault>
+    ensures run { IfOk result (λ run. report run ≡ compiled_run options.now compiled) }
+    ensures memory { OnErr result (result ≡ Err ToolFault.OutOfMemory) }
+{
+    let messages = match options.statistics {
+        true => match compiled.stats.line(alloc) {
+            Ok(line) => line,
+            Err(_) => return Err(ToolFault::OutOfMemory),
+        },
+        false => Vec::new(alloc),
+    };
+    let create = compiled.n > 0;
+    let output = if create { compiled.bytes } else { Vec::new(alloc) };
+    Ok(Run {
+        output,
+        create,
+        messages,
+        status: 0,
+    })
+}
+
+/// What `msgfmt` writes and tells of its inputs, each with its name: the compiled file, where it has a message, and
+/// the statistics, where they are asked for. Inputs that aren't compiled are told by one line, with status 1, and
+/// else a fault of the check, where it is asked for. Refused only by want of memory.
+pub fn plan_msgfmt(
+    alloc: Global,
+    inputs: &[(&str, &[u8])],
+    options: &MsgfmtOptions,
+) -> Result<Run, ToolFault>
+    requires some { 0 < length inputs.now }
+    requires few { length inputs.now < 2 ^ 32 }
+    ensures run { IfOk result (λ run. IsMsgfmtRun (named_files inputs.now) options.now (report run)) }
+    ensures memory { OnErr result (result ≡ Err ToolFault.OutOfMemory) }
+{
+    let texts = texts_of(alloc, inputs)?;
+    let catalogues = match read_all(alloc, &texts) {
+        Ok(catalogues) => catalogues,
+        Err(error) => return refused_run(alloc, inputs, error),
+    };
+    let checked = checked(alloc, &catalogues, options);
+    let compile_options = Options {
+        use_fuzzy: options.use_fuzzy,
+        order: options.order,
+    };
+    match (compile_catalogues(alloc, catalogues, compile_options), checked) {
+        (Err(error), _) => refused_run(alloc, inputs, error),
+        (Ok(_), Err((input, fault))) => unfit_run(alloc, inputs, input, fault),
+        (Ok(compiled), Ok(())) => compiled_run(alloc, options, compiled),
+    }
+}
+
+/// Reads one input, compiles it as `plan_msgfmt` does under this name, and writes what the run comes to: its output
+/// and then its messages. The answer is the run's status. After a `ReadFault`, or want of memory, nothing is
+/// written; after a `WriteFault` a prefix is, as `deliver` says.
+pub fn run_msgfmt<R: ByteIn, O: ByteOut, E: ByteOut>(
+    alloc: Global,
+    reader: &mut R,
+    out: &mut O,
+    err: &mut E,
+    name: &str,
+    options: &MsgfmtOptions,
+) -> Result<u8, ToolFault>
+    requires calls { R.calls reader.old < 2 ^ 63 }
+    requires read_failures { R.failures reader.old < 2 ^ 63 }
+    requires out_failures { O.failures out.old < 2 ^ 63 }
+    requires err_failures { E.failures err.old < 2 ^ 63 }
+    ensures delivered { IfOk result (λ status. IsMsgfmtDelivered (R.remaining reader.old) name.now options.now (O.contents out.old) (O.contents out.new) (E.contents err.old) (E.contents err.new) status) }
+    ensures prefix { IsErrOf result ToolFault.WriteFault → IsMsgfmtCut (R.remaining reader.old) name.now options.now (O.contents out.old) (O.contents out.new) (E.contents err.old) (E.contents err.new) }
+    ensures no_output { (result ≡ Err ToolFault.ReadFault) ⊎ (result ≡ Err ToolFault.OutOfMemory) → Keeps (O.contents out.old) (O.contents out.new) }
+    ensures no_messages { (result ≡ Err ToolFault.ReadFault) ⊎ (result ≡ Err ToolFault.OutOfMemory) → Keeps (E.contents err.old) (E.contents err.new) }
+    ensures read_fault { IsErrOf result ToolFault.ReadFault → R.failures reader.new ≡ R.failures reader.old + 1 }
+    ensures write_fault { IsErrOf result ToolFault.WriteFault → O.failures out.new + E.failures err.new ≡ O.failures out.old + E.failures err.old + 1 }
+{
+    let text = read_input(alloc, reader)?;
+    let run = plan_msgfmt(alloc, &[(name, &text)], options)?;
+    deliver(&run, out, err)?;
+    Ok(run.status)
+}

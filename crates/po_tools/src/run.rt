@@ -1,0 +1,37 @@
+ghost use Rattle.std.specs.Prelude.{◌≡◌, ◌+◌, ◌^◌, ◌<◌, Err, OnOk, OnErr};
+ghost use Rattle.std.specs.Io.KnownBytes.{Appends};
+ghost use Rattle.po_tools.specs.Run.{report, DeliversPrefix};
+
+use po_shell::{ByteOut, ToolFault, put_all};
+
+/// What a run of a tool comes to: the bytes of its output and of its messages on standard error, whether an
+/// output file is to be made, and the exit status.
+#[derive(Debug, Drop)]
+pub struct Run {
+    /// What the tool writes to its output file or to standard output.
+    pub output: Vec<u8>,
+    /// Whether there is something to write, so that an output file is made.
+    pub create: bool,
+    /// What the tool tells on standard error, whole lines.
+    pub messages: Vec<u8>,
+    /// The exit status: 0, or 1 for any fault.
+    pub status: u8,
+}
+
+/// Writes all of a run's output, then all of its messages. A `WriteFault` comes where a call of a writer failed
+/// or took no byte; then a prefix of the output has gone out and no message, or all of the output and a prefix
+/// of the messages.
+pub fn deliver<O: ByteOut, E: ByteOut>(run: &Run, out: &mut O, err: &mut E) -> Result<(), ToolFault>
+    requires out { O.failures out.old < 2 ^ 63 }
+    requires err { E.failures err.old < 2 ^ 63 }
+    ensures output { OnOk result (Appends (O.contents out.old) (O.contents out.new) (report run.now).output) }
+    ensures messages { OnOk result (Appends (E.contents err.old) (E.contents err.new) (report run.now).messages) }
+    ensures prefix { OnErr result (DeliversPrefix (O.contents out.old) (O.contents out.new) (E.contents err.old) (E.contents err.new) (report run.now)) }
+    ensures fault { OnErr result (result ≡ Err ToolFault.WriteFault) }
+    ensures out_failures { OnOk result (O.failures out.new ≡ O.failures out.old) }
+    ensures err_failures { OnOk result (E.failures err.new ≡ E.failures err.old) }
+    ensures cause { OnErr result (O.failures out.new + E.failures err.new ≡ O.failures out.old + E.failures err.old + 1) }
+{
+    put_all(out, &run.output)?;
+    put_all(err, &run.messages)
+}
