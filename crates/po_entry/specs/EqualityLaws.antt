@@ -1,12 +1,11 @@
 -- Equality of entries decides that they are the same but for their lines, so it is an equivalence.
-use Rattle.std.proofs.Common.{◌≡◌, ℕ, Bool, true, false, not, ◌&&◌, List, [], ◌∷◌, Option, Some, None, map, refl, sym, ap, ◌∙◌}
-use Rattle.std.specs.Prelude.{Decides, bytes_eq}
+use Rattle.std.proofs.Common.{◌≡◌, ℕ, Bool, true, false, ◌&&◌, List, Option, Some, None, refl, sym, ap, ◌∙◌}
+use Rattle.std.specs.Prelude.{Decides}
 use Rattle.std.specs.Cmp.{IsPartialEquivalence}
-use Rattle.std.specs.Global.{Vec}
 use Rattle.std.proofs.lemmas.Bool.{false≢true}
 use Rattle.std.proofs.lemmas.Slice.Eq.{bytes_eq-Decides, slice_eq-Decides}
-use Rattle.po_entry.specs.TextEntry.{TextEntry, TextPrevious, SameButLine, with_line, texts}
-use Rattle.po_entry.specs.Equality.{texts_eq, optional_eq, bool_eq, previous_eq, comments_eq, messages_eq, entry_eq}
+use Rattle.po_entry.specs.TextEntry.{TextEntry, TextPrevious, SameButLine}
+use Rattle.po_entry.specs.Equality.{texts_eq, optional_eq, bool_eq, previous_eq, entry_eq}
 
 both_decide : {P Q : Type 0} (a b : Bool) → Decides a P → Decides b Q → Decides (a && b) (P × Q)
 both_decide true true p q = (λ _. (p.0 refl, q.0 refl), λ _. refl)

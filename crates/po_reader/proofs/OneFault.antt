@@ -1,14 +1,12 @@
 -- A list of items that stops does so in one place with one fault.
-use Rattle.std.proofs.Common.{◌≡◌, ℕ, ◌+◌, Bool, true, false, List, [], ◌∷◌, refl, sym, ap, ◌∙◌, subst}
+use Rattle.std.proofs.Common.{◌≡◌, ℕ, ◌+◌, Bool, List, refl, sym, ◌∙◌, subst}
 use Rattle.std.specs.Prelude.{All}
-use Rattle.std.proofs.lemmas.List.Elements.{All-head, All-tail}
 use Rattle.po_syntax.specs.declared.fault.PoFault.{PoFault}
 use Rattle.po_syntax.specs.declared.item.Keyword.{Keyword}
 use Rattle.po_syntax.specs.declared.item.Marks.{Marks}
 use Rattle.po_syntax.specs.TextItem.{TextItem}
 use Rattle.po_syntax.specs.PoText.{SpellsText, TextFault}
 use Rattle.po_entry.specs.TextEntry.{TextEntry}
-use Rattle.po_entry.specs.Header.{HasAdmittedCharset}
 use Rattle.po_entry.specs.Strings as string
 use Rattle.po_entry.specs.Words as word
 use Rattle.po_entry.specs.Body as body
@@ -16,8 +14,8 @@ use Rattle.po_entry.specs.Head as head
 use Rattle.po_entry.specs.Reads.{Reads, HasReadableTexts}
 use Rattle.po_reader.specs.Stops as stop
 use Rattle.po_reader.specs.Faults as fault
-use Rattle.po_reader.proofs.Once.{strings_once, strings_or_stop, worded_once, worded_or_stop, forms_or_stop, translation_or_stop, head_once, head_or_stop, body_once, body_or_stop}
-use Rattle.po_reader.proofs.OneReading.{reads_once, reads_or_stop, texts_go_on, charsets_go_on, unreadable}
+use Rattle.po_reader.proofs.Once.{strings_once, strings_or_stop, worded_once, worded_or_stop, head_once, head_or_stop, body_once, body_or_stop}
+use Rattle.po_reader.proofs.OneReading.{reads_once, reads_or_stop, texts_go_on, unreadable}
 
 -- the same fault on the same line
 abbrev Same : PoFault → PoFault → ℕ → ℕ → Type 0

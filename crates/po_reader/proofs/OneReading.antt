@@ -1,5 +1,5 @@
 -- A list of items reads as at most one list of entries, and none both reads and stops.
-use Rattle.std.proofs.Common.{◌≡◌, ℕ, Bool, true, false, ◌==◌, List, [], ◌∷◌, refl, sym, ap, ◌∙◌, subst}
+use Rattle.std.proofs.Common.{◌≡◌, ℕ, Bool, true, false, ◌==◌, List, [], ◌∷◌, refl, sym, ap, subst}
 use Rattle.std.specs.Prelude.{All, if◌then◌else◌}
 use Rattle.std.proofs.lemmas.List.Elements.{All-head, All-tail}
 use Rattle.po_syntax.specs.declared.fault.PoFault.{PoFault}
@@ -13,7 +13,7 @@ use Rattle.po_entry.specs.TextEntry.{TextEntry}
 use Rattle.po_entry.specs.Header.{HasAdmittedCharset}
 use Rattle.po_entry.specs.Body as body
 use Rattle.po_entry.specs.Head as head
-use Rattle.po_entry.specs.Reads.{Reads, comments, entry, entry_from, AreComments, ReadsText, HasReadableTexts}
+use Rattle.po_entry.specs.Reads.{Reads, comments, entry, AreComments, ReadsText, HasReadableTexts}
 use Rattle.po_reader.specs.Stops as stop
 use Rattle.po_reader.specs.Faults as fault
 use Rattle.po_reader.proofs.Once.{head_once, head_or_stop, body_once, body_or_stop}

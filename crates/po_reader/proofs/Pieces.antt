@@ -1,16 +1,15 @@
 -- What pieces of a text keep: UTF-8, where they are cut at ASCII bytes, and the bytes that they lack.
-use Rattle.std.proofs.Common.{◌≡◌, ◌≢◌, ℕ, ◌+◌, ◌-◌, ◌<◌, ◌≤◌, Bool, true, false, not, cond, ◌||◌, ◌==◌, nat_lt, List, [], ◌∷◌, ◌++◌, length, take, drop, get_or, map, refl, sym, ap, ◌∙◌, subst, arith, inl, inr, ◌⊎◌, zero, suc, add-one, lit<}
+use Rattle.std.proofs.Common.{◌≡◌, ℕ, ◌+◌, ◌<◌, ◌≤◌, Bool, true, false, not, cond, ◌||◌, ◌==◌, nat_lt, List, [], ◌∷◌, ◌++◌, length, get_or, refl, arith, inl, inr, ◌⊎◌, zero, suc, lit<}
 use Rattle.std.specs.Prelude.{All, IsUtf8}
 use Rattle.std.specs.List.{slice_split, position_or_len, before_first, after_first, onto_first}
 use Rattle.std.proofs.Math.Seq.{take-append_seam}
-use Rattle.std.proofs.lemmas.List.{get_or-append-add, length-append, length-drop}
-use Rattle.std.proofs.lemmas.List.Elements.{All-nil, All-cons, All-head, All-tail, All-append, All-take, All-drop}
+use Rattle.std.proofs.lemmas.List.{length-append, length-drop}
+use Rattle.std.proofs.lemmas.List.Elements.{All-nil, All-cons, All-head, All-tail}
 use Rattle.std.proofs.lemmas.List.Sums.{prefix_len_passes, prefix_len_stops}
 use Rattle.std.proofs.lemmas.List.Splits.{slice_split_none, slice_split_first}
 use Rattle.std.proofs.lemmas.Str.{IsUtf8-past_char, IsUtf8-take, IsUtf8-drop, IsCharBoundary-before_ascii, IsCharBoundary-after_ascii, encode_ascii}
-use Rattle.std.proofs.lemmas.Bool.{ltb-false, ltb-true, eqb-true, not-true, not-false, false≢true}
+use Rattle.std.proofs.lemmas.Bool.{ltb-false, ltb-true, eqb-true, not-true, not-false}
 use Rattle.po_syntax.specs.Token.{is_blank}
-use Rattle.po_entry.specs.Bytes.{Lacks}
 
 -- text behind an ASCII byte
 pub utf8_behind : (b : ℕ) (text : List ℕ) → b < 128 → IsUtf8 (b ∷ text) → IsUtf8 text

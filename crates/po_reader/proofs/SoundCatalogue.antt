@@ -1,6 +1,6 @@
 -- The entries that the items of a text spell are entries, once their texts are UTF-8 and without forbidden bytes.
-use Rattle.std.proofs.Common.{◌≡◌, ◌≢◌, ℕ, ◌<◌, List, [], ◌∷◌, ◌++◌, Option, Some, None, length, map, refl, sym, ap, ◌∙◌, subst}
-use Rattle.std.specs.Prelude.{All, IfSome, IsUtf8, option_to_list}
+use Rattle.std.proofs.Common.{◌≡◌, ℕ, ◌<◌, List, [], ◌∷◌, ◌++◌, None, length, map, refl}
+use Rattle.std.specs.Prelude.{All, IsUtf8, option_to_list}
 use Rattle.std.proofs.lemmas.List.Elements.{All-nil, All-cons, All-head, All-tail, All-append, All-weaker}
 use Rattle.po_syntax.specs.declared.item.CommentKind.TheVariants.{Translator, Extracted, Reference, Flags}
 use Rattle.po_syntax.specs.declared.fault.PoFault.{PoFault}
@@ -21,7 +21,7 @@ use Rattle.po_reader.specs.Drafts as drafts
 use Rattle.po_reader.specs.Faults.{TextsStop, UnreadableTexts}
 use Rattle.po_reader.specs.Faults as faults
 use Rattle.po_reader.proofs.SoundItems.{SoundItem, SoundComment}
-use Rattle.po_reader.proofs.SoundEntries.{SoundNote, SoundPrevious, SoundBody, SoundHead, body_sound, head_sound}
+use Rattle.po_reader.proofs.SoundEntries.{SoundNote, SoundPrevious, SoundBody, body_sound, head_sound}
 use Rattle.po_reader.proofs.SoundFields.{SoundReference, SoundFlagWord, SoundFlag, SoundFlags, kind_sound, references_sound, all_flag_words_sound, flags_sound, previous_lacks}
 
 -- an entry that sound items spell, but for what its texts must be

@@ -1,25 +1,18 @@
 -- What items can stand in an entry make of it: an entry, once its texts are UTF-8.
-use Rattle.std.proofs.Common.{◌≡◌, ◌≢◌, ℕ, ◌+◌, ◌<◌, ◌≤◌, Bool, true, false, cond, not, ◌||◌, ◌==◌, nat_lt, List, [], ◌∷◌, ◌++◌, Option, Some, None, length, take, drop, map, refl, sym, ap, ◌∙◌, subst, arith, codes, inl, inr, ◌⊎◌, zero, suc}
-use Rattle.std.specs.Prelude.{All, Contains, IfSome, IsUtf8, if◌then◌else◌, filter, flat_map, fold, option_to_list, bytes_eq}
-use Rattle.std.specs.List.{slice_split, list_any}
-use Rattle.std.proofs.lemmas.List.Elements.{All-nil, All-cons, All-head, All-tail, All-append, All-drop, All-weaker, All-map, All-filter, filter_passes}
-use Rattle.std.proofs.lemmas.Bool.{eqb-true, eqb-false, not-true, not-false, false≢true}
-use Rattle.po_syntax.specs.declared.item.CommentKind.{CommentKind}
-use Rattle.po_syntax.specs.declared.item.CommentKind.TheVariants.{Translator, Extracted, Reference, Flags}
+use Rattle.std.proofs.Common.{◌≡◌, ◌≢◌, ℕ, ◌<◌, Bool, true, false, ◌==◌, nat_lt, List, [], ◌∷◌, Option, None, length, refl, subst, arith}
+use Rattle.std.specs.Prelude.{All, if◌then◌else◌, option_to_list}
+use Rattle.std.proofs.lemmas.List.Elements.{All-nil, All-cons, All-head, All-tail, All-append}
 use Rattle.po_syntax.specs.declared.item.Keyword.{Keyword}
 use Rattle.po_syntax.specs.declared.item.Keyword.TheVariants.{MsgCtxt, MsgId, MsgIdPlural, MsgStr, MsgStrAt}
 use Rattle.po_syntax.specs.declared.fault.PoFault.TheVariants.{BadOrder, BadPluralIndex, MixedObsolete}
 use Rattle.po_syntax.specs.declared.item.Marks.{Marks}
 use Rattle.po_syntax.specs.TextItem.{TextItem, Comment, Word, Str}
-use Rattle.po_syntax.specs.Token.{is_blank, skip_blanks}
-use Rattle.po_entry.specs.TextEntry.{TextEntry, TextPrevious, quoted_texts, previous_texts, no_previous}
-use Rattle.po_entry.specs.Bytes.{Lacks, trimmed}
-use Rattle.po_entry.specs.Strings.{IsStrings, last, more, string_step, StringStep, Take, Refuse, same_marks, same_bool, stray_string}
+use Rattle.po_entry.specs.Bytes.{Lacks}
+use Rattle.po_entry.specs.Strings.{IsStrings, last, more, string_step, Take, Refuse, same_marks, same_bool, stray_string}
 use Rattle.po_entry.specs.Words as word
 use Rattle.po_entry.specs.Body as body
 use Rattle.po_entry.specs.Head as head
 use Rattle.po_entry.specs.Head.{Note, PreviousText}
-use Rattle.po_entry.specs.Reads as reads
 use Rattle.po_reader.proofs.SoundItems.{SoundItem, SoundComment}
 
 -- the texts of a head's comments and previous texts, and of own lines

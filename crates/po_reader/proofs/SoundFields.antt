@@ -1,6 +1,6 @@
 -- The fields that sound comments and previous texts make.
-use Rattle.std.proofs.Common.{◌≡◌, ◌≢◌, ℕ, ◌+◌, ◌<◌, ◌≤◌, Bool, true, false, cond, not, ◌||◌, ◌==◌, List, [], ◌∷◌, ◌++◌, Option, Some, None, length, take, drop, map, refl, sym, ap, ◌∙◌, subst, arith, codes, inl, inr, ◌⊎◌, zero, suc, lit<}
-use Rattle.std.specs.Prelude.{All, Contains, IfSome, IsUtf8, if◌then◌else◌, filter, flat_map, fold, option_to_list, bytes_eq}
+use Rattle.std.proofs.Common.{◌≡◌, ◌≢◌, ℕ, ◌<◌, Bool, true, false, cond, ◌||◌, ◌==◌, List, [], ◌∷◌, ◌++◌, Some, length, map, refl, sym, ap, ◌∙◌, subst, arith, codes, inl, inr, suc, lit<}
+use Rattle.std.specs.Prelude.{All, Contains, IsUtf8, if◌then◌else◌, filter, flat_map, fold, option_to_list, bytes_eq}
 use Rattle.std.specs.List.{slice_split, list_any}
 use Rattle.std.proofs.lemmas.List.Elements.{All-nil, All-cons, All-head, All-tail, All-append, All-push, All-weaker, Contains-push_cases}
 use Rattle.std.proofs.lemmas.List.Folds.{list_any_at}
@@ -10,10 +10,10 @@ use Rattle.po_syntax.specs.declared.item.CommentKind.{CommentKind}
 use Rattle.po_syntax.specs.declared.item.CommentKind.TheVariants.{Translator, Extracted, Reference, Flags}
 use Rattle.po_syntax.specs.Token.{is_blank, skip_blanks}
 use Rattle.po_entry.specs.TextEntry.{TextPrevious, previous_texts, no_previous}
-use Rattle.po_entry.specs.Bytes.{Lacks, trimmed, without_end_blanks, AreDistinct}
+use Rattle.po_entry.specs.Bytes.{Lacks, trimmed, AreDistinct}
 use Rattle.po_entry.specs.Head.{Note, PreviousText, rank}
-use Rattle.po_entry.specs.Notes.{same_kind, texts_of, is_not_empty, is_comma, words_of, flag_words, references_of, flag_words_of, flags_of, is_fuzzy_word, with_flag, with_previous, previous_of}
-use Rattle.po_entry.specs.Validity.{IsText, IsComment, IsTranslatorComment, IsReference, IsFlag}
+use Rattle.po_entry.specs.Notes.{same_kind, texts_of, is_not_empty, is_comma, words_of, flag_words, is_fuzzy_word, with_flag, with_previous, previous_of}
+use Rattle.po_entry.specs.Validity.{IsText, IsReference, IsFlag}
 use Rattle.po_reader.proofs.SoundItems.{SoundComment, IsLineText}
 use Rattle.po_reader.proofs.SoundEntries.{SoundNote, SoundPrevious}
 use Rattle.po_reader.proofs.Pieces.{utf8_behind, utf8_before, utf8_parts, all_parts, parts_fail, blank_is_ascii, All-left}

@@ -1,11 +1,11 @@
 -- What the comments and strings of a text hold, in the words of an entry's fields.
-use Rattle.std.proofs.Common.{◌≡◌, ℕ, List, [], ◌∷◌, codes}
+use Rattle.std.proofs.Common.{◌≡◌, ℕ, List, ◌∷◌, codes}
 use Rattle.std.specs.Prelude.{All, Contains, IsUtf8}
 use Rattle.std.proofs.lemmas.List.Elements.{All-weaker}
 use Rattle.po_syntax.specs.declared.item.CommentKind.{CommentKind}
 use Rattle.po_syntax.specs.declared.item.CommentKind.TheVariants.{Translator}
 use Rattle.po_syntax.specs.TextItem.{TextItem, Comment, Word, Str}
-use Rattle.po_syntax.specs.ItemText.{IsCommentText, HoldsText}
+use Rattle.po_syntax.specs.ItemText.{HoldsText}
 use Rattle.po_entry.specs.Bytes.{Lacks}
 use Rattle.po_entry.specs.Validity.{IsText, IsComment}
 

@@ -1,12 +1,11 @@
 -- What a word can be where it was taken as the wanted one.
-use Rattle.std.proofs.Common.{◌≡◌, ℕ, Bool, true, false, List, [], ◌∷◌, refl, inl, inr, ◌⊎◌, subst}
+use Rattle.std.proofs.Common.{◌≡◌, ℕ, Bool, true, false, List, [], ◌∷◌, inl, inr, ◌⊎◌, subst}
 use Rattle.std.specs.Prelude.{if◌then◌else◌}
 use Rattle.po_syntax.specs.declared.item.Keyword.{Keyword}
 use Rattle.po_syntax.specs.declared.item.Keyword.TheVariants.{MsgCtxt, MsgId, MsgIdPlural, MsgStr, MsgStrAt}
-use Rattle.po_syntax.specs.declared.item.Marks.{Marks}
 use Rattle.po_syntax.specs.TextItem.{TextItem, Comment, Word, Str}
 use Rattle.po_entry.specs.Strings.{same_bool}
-use Rattle.po_entry.specs.Words.{Translation, WordStep, Take, Refuse, IsWorded, worded, next_word, is_wanted, is_wrong_form}
+use Rattle.po_entry.specs.Words.{Translation, Take, Refuse, IsWorded, worded, next_word, is_wanted, is_wrong_form}
 use Rattle.po_syntax.specs.declared.fault.PoFault.TheVariants.{BadOrder, BadPluralIndex, MixedObsolete}
 
 taken_word : (obsolete : Bool) (items text : List TextItem) (keyword : Keyword) (line : ℕ) → next_word Translation obsolete items ≡ Take keyword line text → (keyword ≡ MsgIdPlural) ⊎ (keyword ≡ MsgStr)

@@ -1,6 +1,6 @@
 -- Where a list of items stops being a list of entries: the first item that can't go on, with its fault and its line (manual, "The Format of PO Files").
 -- At the end of the items the line told is `end`, that of the last item.
-use Rattle.std.specs.Prelude.{◌≡◌, ℕ, ◌+◌, Bool, true, List, [], ◌∷◌, Option}
+use Rattle.std.specs.Prelude.{◌≡◌, ℕ, ◌+◌, Bool, true, List, [], ◌∷◌}
 use Rattle.po_syntax.specs.declared.fault.PoFault.{PoFault}
 use Rattle.po_syntax.specs.declared.item.CommentKind.{CommentKind}
 use Rattle.po_syntax.specs.declared.item.Keyword.{Keyword}

@@ -1,4 +1,4 @@
-use Rattle.std.proofs.Common.{◌≡◌, ℕ, List, drop, take, map, length}
+use Rattle.std.proofs.Common.{◌≡◌, ℕ, drop, take, map, length}
 use Rattle.std.specs.Prelude.{All}
 use Rattle.po_entry.specs.EntryText.{entry_of}
 use Rattle.po_entry.specs.Header.{HasAdmittedCharset}

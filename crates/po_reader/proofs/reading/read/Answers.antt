@@ -1,9 +1,7 @@
-use Rattle.std.proofs.Common.{◌≡◌, map, sym, ap, ◌∙◌}
+use Rattle.std.proofs.Common.{map}
 use Rattle.std.proofs.lemmas.Result.{err_from_is_err_and}
-use Rattle.std.proofs.lemmas.List.Elements.{All-map}
 use Rattle.po_syntax.specs.TextItem.{views}
 use Rattle.po_entry.specs.EntryText.{entry_of}
-use Rattle.po_entry.specs.Validity.{HasTexts}
 use Rattle.po_entry.specs.Reads.{ReadsText}
 use Rattle.po_reader.specs.Faults.IsReadFault.{in_text, in_items, in_texts, in_charset}
 use Rattle.po_reader.proofs.SoundItems.{items_sound}
