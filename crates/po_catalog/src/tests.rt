@@ -15,15 +15,22 @@ fn catalogue(rt: &impl Abort, alloc: Global, text: &[u8]) -> Catalogue {
 fn statistics_lines(rt: HostRuntime) -> Result<(), Fail> {
     let empty = statistics(&catalogue(&rt, rt.alloc(), b""));
     assert!(rt; empty.line(rt.alloc())?.as_slice() == b"0 translated messages.\n".as_slice());
-    let text = b"#, fuzzy\nmsgid \"\"\nmsgstr \"X\"\n\nmsgid \"a\"\nmsgstr \"A\"\n\n#, fuzzy\nmsgid \"b\"\nmsgstr \"B\"\n\nmsgid \"c\"\nmsgstr \"\"\n\n#~ msgid \"d\"\n#~ msgstr \"D\"\n";
+    let text =
+        b"#, fuzzy\nmsgid \"\"\nmsgstr \"X\"\n\nmsgid \"a\"\nmsgstr \"A\"\n\n#, fuzzy\nmsgid \"b\"\nmsgstr \"B\"\n\nmsgid \"c\"\nmsgstr \"\"\n\n#~ msgid \"d\"\n#~ msgstr \"D\"\n";
     let one_each = statistics(&catalogue(&rt, rt.alloc(), text.as_slice()));
-    assert!(rt; one_each.line(rt.alloc())?.as_slice() == b"1 translated message, 1 fuzzy translation, 1 untranslated message.\n".as_slice());
+    assert!(rt;
+        one_each.line(rt.alloc())?.as_slice()
+            == b"1 translated message, 1 fuzzy translation, 1 untranslated message.\n".as_slice()
+    );
     let without_fuzzy = Stats {
         translated: 2,
         fuzzy: 0,
         untranslated: 3,
     };
-    assert!(rt; without_fuzzy.line(rt.alloc())?.as_slice() == b"2 translated messages, 3 untranslated messages.\n".as_slice());
+    assert!(rt;
+        without_fuzzy.line(rt.alloc())?.as_slice()
+            == b"2 translated messages, 3 untranslated messages.\n".as_slice()
+    );
     Ok(())
 }
 
@@ -33,7 +40,11 @@ fn duplicates_within_and_across(rt: HostRuntime) -> Result<(), Fail> {
     let one = catalogue(&rt, rt.alloc(), text);
     assert!(rt; duplicates(rt.alloc(), &one).is_ok());
     assert!(rt; write(rt.alloc(), &one)?.as_slice() == text);
-    let twice = catalogue(&rt, rt.alloc(), b"msgid \"a\"\nmsgstr \"A\"\n\n# x\nmsgid \"a\"\nmsgstr \"B\"\n");
+    let twice = catalogue(
+        &rt,
+        rt.alloc(),
+        b"msgid \"a\"\nmsgstr \"A\"\n\n# x\nmsgid \"a\"\nmsgstr \"B\"\n",
+    );
     let within = PoError {
         kind: PoFault::Duplicate(1),
         line: 5,
