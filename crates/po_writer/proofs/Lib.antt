@@ -11,3 +11,4 @@ pub mod Numbered
 pub mod Fields
 pub mod Entries
 pub mod Texts
+pub mod Rewritten

@@ -17,3 +17,10 @@ pub fn written_text_reads()
 {
     quoted_form_spells();
 }
+
+/// What is written of entries that were read from a written text, and so are its entries but for
+/// their lines, is that text again.
+pub fn written_text_again()
+    ensures { (entries read : List TextEntry) → map (with_line 0) read ≡ map (with_line 0) (arranged entries)
+        → written_text read ≡ written_text entries }
+{}
