@@ -1,24 +1,23 @@
 -- An entry's previous texts and own lines spell just these.
-use Rattle.std.proofs.Common.{◌≡◌, ◌≢◌, ◌∙◌, ◌==◌, ◌&&◌, ◌^◌, not, nat_lt, refl, sym, ap, subst, ℕ, zero, suc, ◌+◌, ◌<◌, ◌≤◌, Bool, true, false, cond, if◌then◌else◌, List, [], ◌∷◌, ◌++◌, append_assoc, length, codes, decimal, Option, Some, None, All, arith}
-use Rattle.std.specs.List.{flat_map}
+use Rattle.std.proofs.Common.{◌≡◌, ◌^◌, refl, ℕ, suc, ◌+◌, ◌<◌, ◌≤◌, Bool, true, false, List, [], ◌∷◌, ◌++◌, append_assoc, length, codes, decimal, Option, Some, None, All, arith}
 use Rattle.std.proofs.lemmas.List.{append-nil}
-use Rattle.std.proofs.lemmas.List.Elements.{All-nil, All-cons, All-head, All-tail}
+use Rattle.std.proofs.lemmas.List.Elements.{All-head, All-tail}
 use Rattle.std.proofs.lemmas.Bool.{lt-ltb, eq-eqb}
 use Rattle.po_syntax.specs.declared.item.Keyword.{Keyword}
 use Rattle.po_syntax.specs.declared.item.Keyword.TheVariants.{MsgCtxt, MsgId, MsgIdPlural, MsgStr, MsgStrAt}
 use Rattle.po_syntax.specs.declared.item.Marks.{Marks}
-use Rattle.po_syntax.specs.TextItem.{TextItem, Word, Str}
+use Rattle.po_syntax.specs.TextItem.{TextItem, Word}
 use Rattle.po_entry.specs.TextEntry.{TextPrevious}
-use Rattle.po_entry.specs.Strings.{IsStrings, own_marks, begins_string}
+use Rattle.po_entry.specs.Strings.{own_marks, begins_string}
 use Rattle.po_entry.specs.Words.{Wanted, is_wanted, Form, Id, Translation, IsWorded, worded}
-use Rattle.po_entry.specs.Body.{Body, IsForms, last, more, begins_form, IsTranslation, single as single_form, plural as plural_forms, IsBody, without_context, with_context}
-use Rattle.po_entry.specs.Head.{PreviousText, IsHead, previous, over, rank}
+use Rattle.po_entry.specs.Body.{IsForms, last, more, begins_form, IsTranslation, single as single_form, plural as plural_forms, IsBody, without_context, with_context}
+use Rattle.po_entry.specs.Head.{PreviousText, previous, over, rank}
 use Rattle.po_entry.specs.Notes.{previous_of}
 use Rattle.po_writer.specs.WrittenText.{keyword_lines, optional_lines, previous_lines, form_lines, translation_lines}
 use Rattle.po_writer.proofs.Spelling.{Block, empty_block, two_blocks, weaker_block}
 use Rattle.po_writer.proofs.Tokens.{QuotedFormsSpell}
 use Rattle.po_writer.proofs.KeywordTexts.{TextPart, StringsPart, IsLinePrefix, IsLineKeyword, IsQuotable, text_block, same_bool-refl}
-use Rattle.po_writer.proofs.Heads.{IsFresh, HeadFrom, HeadPart, no_part, two_parts}
+use Rattle.po_writer.proofs.Heads.{IsFresh, HeadFrom, HeadPart, two_parts}
 
 -- the previous text of this word, where there is one
 abbrev pub previous_text : Keyword → Option (List ℕ) → List PreviousText

@@ -1,25 +1,23 @@
 -- A written entry reads as the entry, but for its line.
-use Rattle.std.proofs.Common.{◌≡◌, ◌≢◌, ◌∙◌, ◌==◌, ◌^◌, not, refl, sym, ap, subst, ℕ, zero, suc, ◌+◌, ◌<◌, ◌≤◌, Bool, true, false, cond, if◌then◌else◌, List, [], ◌∷◌, ◌++◌, append_assoc, length, map, fold, codes, Option, Some, None, All, option_to_list, unwrap_or, slice_index_or, arith}
+use Rattle.std.proofs.Common.{◌≡◌, ◌≢◌, ◌∙◌, ◌^◌, refl, ap, subst, ℕ, ◌<◌, ◌≤◌, Bool, true, false, List, [], ◌∷◌, ◌++◌, append_assoc, length, fold, codes, Option, Some, None, All, option_to_list, unwrap_or, slice_index_or, arith}
 use Rattle.std.specs.List.{flat_map, list_any}
-use Rattle.std.specs.Str.{IsUtf8}
 use Rattle.std.proofs.lemmas.List.{append-nil}
-use Rattle.std.proofs.lemmas.List.Elements.{All-nil, All-cons, All-head, All-tail, All-weaker}
+use Rattle.std.proofs.lemmas.List.Elements.{All-nil, All-cons, All-head, All-weaker}
 use Rattle.std.proofs.lemmas.Bool.{ne_eqb}
 use Rattle.po_entry.proofs.Lists.{All-left, All-right}
 use Rattle.po_syntax.specs.declared.item.CommentKind.TheVariants.{Translator, Extracted, Reference, Flags}
 use Rattle.po_syntax.specs.TextItem.{TextItem}
-use Rattle.po_syntax.specs.declared.item.Marks.{Marks}
 use Rattle.po_entry.specs.Bytes.{Lacks, AreDistinct}
-use Rattle.po_entry.specs.TextEntry.{TextEntry, TextPrevious, with_line, quoted_texts, previous_texts}
+use Rattle.po_entry.specs.TextEntry.{TextEntry, TextPrevious, with_line, previous_texts}
 use Rattle.po_entry.specs.Validity.{IsText, IsComment, IsTranslatorComment, IsReference, IsFlag, IsEntry}
 use Rattle.po_entry.specs.Strings.{own_marks}
-use Rattle.po_entry.specs.Notes.{comments_of, extracted_of, references_of, flag_words_of, fuzzy_of, flags_of, previous_of, words_of, flag_words, is_fuzzy_word, with_flag, is_comma}
-use Rattle.po_entry.specs.Head.{Note, PreviousText}
+use Rattle.po_entry.specs.Notes.{comments_of, extracted_of, references_of, flag_words_of, fuzzy_of, flags_of, words_of, flag_words, is_fuzzy_word, with_flag, is_comma}
+use Rattle.po_entry.specs.Head.{Note}
 use Rattle.po_entry.specs.Body.{Body}
 use Rattle.po_entry.specs.Reads.{Reads, entry, entry_from}
 use Rattle.po_writer.specs.WrittenText.{comment_lines, words_line, all_flags, previous_prefix, own_prefix, previous_lines, own_lines, entry_lines}
 use Rattle.po_writer.proofs.Utf8.{IsLine, is_plain, line-append, line-empty, plain_line}
-use Rattle.po_writer.proofs.Spelling.{Block, BeginsLow, two_blocks}
+use Rattle.po_writer.proofs.Spelling.{Block, two_blocks}
 use Rattle.po_writer.proofs.Tokens.{no_prefix, previous_live, previous_obsolete, own_obsolete}
 use Rattle.po_writer.proofs.KeywordTexts.{IsLinePrefix, IsQuotable}
 use Rattle.po_writer.proofs.Heads.{IsFresh, HeadPart, two_parts, remarks, IsMarked, comments_block, translator_shape, extracted_shape, reference_shape, flags_shape}

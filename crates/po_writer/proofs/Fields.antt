@@ -1,21 +1,21 @@
 -- The comments of a written entry give its fields back.
-use Rattle.std.proofs.Common.{◌≡◌, ◌≢◌, ◌∙◌, ◌==◌, ◌&&◌, ◌||◌, not, nat_lt, refl, sym, ap, subst, ℕ, zero, suc, ◌+◌, ◌<◌, ◌≤◌, Bool, true, false, cond, if◌then◌else◌, List, [], ◌∷◌, ◌++◌, append_assoc, length, map, filter, fold, bytes_eq, codes, All, Contains, slice_index_or, arith}
-use Rattle.std.specs.List.{flat_map, list_any, join_by}
+use Rattle.std.proofs.Common.{◌≡◌, ◌∙◌, ◌||◌, refl, sym, ap, ℕ, ◌<◌, Bool, true, false, List, [], ◌∷◌, ◌++◌, append_assoc, length, map, filter, fold, bytes_eq, codes, All, Contains, slice_index_or}
+use Rattle.std.specs.List.{flat_map, list_any}
 use Rattle.std.proofs.lemmas.List.{append-nil, map-append, get_or_default}
-use Rattle.std.proofs.lemmas.List.Elements.{All-nil, All-cons, All-head, All-tail, filter-append}
+use Rattle.std.proofs.lemmas.List.Elements.{All-head, All-tail, filter-append}
 use Rattle.std.proofs.lemmas.Slice.Eq.{bytes_eq-Decides}
 use Rattle.po_syntax.specs.declared.item.CommentKind.{CommentKind}
 use Rattle.po_syntax.specs.declared.item.CommentKind.TheVariants.{Translator, Extracted, Reference, Flags}
 use Rattle.po_entry.specs.Bytes.{AreDistinct}
 use Rattle.po_entry.specs.Head.{Note}
-use Rattle.po_entry.specs.Notes.{same_kind, texts_of, comments_of, extracted_of, references_of, flag_words, flag_words_of, words_of, is_fuzzy_word, fuzzy_of, with_flag, flags_of}
+use Rattle.po_entry.specs.Notes.{same_kind, texts_of, flag_words, words_of, is_fuzzy_word, with_flag}
 use Rattle.po_writer.specs.WrittenText.{words_line, all_flags}
 use Rattle.po_syntax.specs.Line as line
 use Rattle.po_syntax.specs.Line.{shape_of}
 use Rattle.po_writer.proofs.Utf8.{IsLine, line-append, line-empty}
 use Rattle.po_writer.proofs.Spelling.{Block, BeginsLow, empty_block}
-use Rattle.po_writer.proofs.Heads.{HeadPart, no_part, remarks, comment_block, reference_shape, flags_shape}
-use Rattle.po_writer.proofs.Words.{following, IsEnded, words_kept, IsWord, word_ended, references_cut, IsFlagWord, flag_ended, flags_cut}
+use Rattle.po_writer.proofs.Heads.{HeadPart, no_part, remarks, comment_block}
+use Rattle.po_writer.proofs.Words.{following, IsEnded, words_kept, IsWord, references_cut, IsFlagWord, flags_cut}
 
 -- the text of the comment that holds these words, where there are any
 abbrev pub words_text : List ℕ → List (List ℕ) → List (List ℕ)

@@ -1,8 +1,7 @@
 -- The comments and words that stand before an entry's own lines, and the head that they make.
-use Rattle.std.proofs.Common.{◌≡◌, ◌≢◌, ◌∙◌, ◌==◌, ◌&&◌, not, nat_lt, refl, sym, ap, subst, ℕ, zero, suc, ◌+◌, ◌-◌, ◌<◌, ◌≤◌, Bool, true, false, cond, if◌then◌else◌, List, [], ◌∷◌, ◌++◌, append_assoc, length, take, drop, codes, All, Contains, arith}
-use Rattle.std.specs.List.{flat_map}
-use Rattle.std.proofs.lemmas.List.Elements.{All-nil, All-cons, All-head, All-tail, All-append}
-use Rattle.std.proofs.lemmas.Bool.{eqb-true, ne_eqb}
+use Rattle.std.proofs.Common.{◌≡◌, ◌==◌, refl, sym, subst, ℕ, ◌≤◌, false, List, [], ◌∷◌, ◌++◌, append_assoc, codes, All, Contains, arith}
+use Rattle.std.proofs.lemmas.List.Elements.{All-head, All-tail}
+use Rattle.std.proofs.lemmas.Bool.{ne_eqb}
 use Rattle.po_syntax.specs.declared.item.CommentKind.{CommentKind}
 use Rattle.po_syntax.specs.declared.item.CommentKind.TheVariants.{Translator, Extracted, Reference, Flags}
 use Rattle.po_syntax.specs.Line.{Note, shape_of, first_shape, hash_shape, trim_returns, SpellsLine, comment}
@@ -10,9 +9,9 @@ use Rattle.po_syntax.specs.TextItem.{TextItem, Comment}
 use Rattle.po_entry.specs.Head.{Note as Remark, PreviousText, IsHead, remark}
 use Rattle.po_entry.specs.Strings.{begins_string}
 use Rattle.po_entry.specs.Body.{begins_form}
-use Rattle.po_entry.specs.Validity.{IsComment, IsTranslatorComment, IsText}
+use Rattle.po_entry.specs.Validity.{IsTranslatorComment}
 use Rattle.po_writer.specs.WrittenText.{comment_lines}
-use Rattle.po_writer.proofs.Utf8.{IsLine, is_plain, line-append, line-ascii}
+use Rattle.po_writer.proofs.Utf8.{IsLine}
 use Rattle.po_writer.proofs.Spelling.{Block, BeginsLow, empty_block, two_blocks, line_block}
 
 -- an entry may have ended before these items: neither a string nor a plural form stands first

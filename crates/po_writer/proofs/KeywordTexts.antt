@@ -1,5 +1,5 @@
 -- A keyword with its text, on one line or more, spells the keyword and strings that give the text.
-use Rattle.std.proofs.Common.{◌≡◌, ◌≢◌, ◌∙◌, ◌==◌, ◌&&◌, not, nat_lt, refl, sym, ap, subst, ℕ, zero, suc, ◌+◌, ◌<◌, ◌≤◌, Bool, true, false, cond, if◌then◌else◌, List, [], ◌∷◌, ◌++◌, append_assoc, length, All, arith}
+use Rattle.std.proofs.Common.{◌≡◌, ◌≢◌, ◌∙◌, ◌==◌, nat_lt, refl, sym, ap, subst, ℕ, ◌<◌, Bool, true, false, if◌then◌else◌, List, [], ◌∷◌, ◌++◌, append_assoc, length, All, arith}
 use Rattle.std.specs.List.{flat_map, onto_first}
 use Rattle.std.specs.Str.{IsUtf8}
 use Rattle.std.proofs.lemmas.Str.{IsUtf8-nil}
@@ -12,7 +12,7 @@ use Rattle.po_syntax.specs.declared.item.Marks.{Marks}
 use Rattle.po_syntax.specs.QuotedForm.{quoted}
 use Rattle.po_syntax.specs.TextItem.{TextItem, Word, Str}
 use Rattle.po_entry.specs.Strings.{IsStrings, last, more, same_bool, same_marks, begins_string}
-use Rattle.po_writer.specs.WrittenText.{cut, string_line, text_lines, keyword_lines}
+use Rattle.po_writer.specs.WrittenText.{cut, string_line, keyword_lines}
 use Rattle.po_writer.proofs.Utf8.{IsLine, line-append, quoted_line, text_some, pieces_utf8, line-ascii, plain_one, no_text}
 use Rattle.po_writer.proofs.Spelling.{Block, BeginsLow, low-append, two_blocks, weaker_block, line_block}
 use Rattle.po_writer.proofs.Tokens.{QuotedFormsSpell, IsPrefix, IsKeyword, string_spells, keyword_spells}

@@ -1,18 +1,16 @@
 -- The word of a plural form, with its index.
-use Rattle.std.proofs.Common.{◌≡◌, ◌≢◌, ◌∙◌, ◌==◌, ◌&&◌, ◌||◌, ◌^◌, not, nat_lt, refl, sym, ap, subst, ℕ, zero, suc, ◌+◌, ◌<◌, ◌≤◌, Bool, true, false, cond, if◌then◌else◌, List, [], ◌∷◌, ◌++◌, append_assoc, length, take, drop, codes, decimal, All, arith}
-use Rattle.std.specs.List.{prefix_len}
-use Rattle.std.specs.Char.{digit_value, is_digit}
+use Rattle.std.proofs.Common.{◌≡◌, ◌^◌, refl, ℕ, ◌<◌, ◌≤◌, false, List, [], ◌∷◌, ◌++◌, append_assoc, length, codes, decimal, arith}
+use Rattle.std.specs.Char.{digit_value}
 use Rattle.std.specs.Str.Parse.{AllDigits, IsNumeral, digits_value}
 use Rattle.std.proofs.lemmas.Fmt.{decimal_is_IsNumeral}
 use Rattle.std.proofs.lemmas.Str.Parse.{digit_from_value}
 use Rattle.std.proofs.Math.Seq.{take-append_seam, drop-append_seam}
-use Rattle.std.proofs.lemmas.Bool.{eqb-true, ne_eqb, lt-ltb}
+use Rattle.std.proofs.lemmas.Bool.{ne_eqb, lt-ltb}
 use Rattle.po_syntax.specs.declared.item.Keyword.TheVariants.{MsgStrAt}
 use Rattle.po_syntax.specs.QuotedString.{digit_count}
-use Rattle.po_syntax.specs.Token.{Key, token_at, is_blank, skip_blanks, first_token, keyword_token, index_token, close_token, bracket_token}
-use Rattle.po_writer.proofs.Tokens.{IsKeyword}
+use Rattle.po_syntax.specs.Token.{Key, token_at, is_blank, skip_blanks, first_token, keyword_token, index_token}
 use Rattle.po_writer.proofs.KeywordTexts.{IsLineKeyword}
-use Rattle.po_writer.proofs.Utf8.{IsPlainText, plain_one, no_text, line-ascii, line-append, plain_line, is_plain}
+use Rattle.po_writer.proofs.Utf8.{IsPlainText, plain_one, no_text, line-ascii, line-append, plain_line}
 
 digits_counted : (digits rest : List ℕ) → AllDigits 10 digits → digit_count 10 (digits ++ 93 ∷ rest) ≡ length digits
 digits_counted [] rest h = refl

@@ -1,5 +1,5 @@
 -- What is written of the arranged entries, whatever their lines are, is what is written of the entries.
-use Rattle.std.proofs.Common.{◌≡◌, ◌∙◌, not, refl, sym, ap, ℕ, Bool, true, false, cond, List, [], ◌∷◌, ◌++◌, map, filter}
+use Rattle.std.proofs.Common.{◌≡◌, ◌∙◌, not, refl, sym, ap, Bool, true, false, cond, List, [], ◌∷◌, ◌++◌, map, filter}
 use Rattle.std.specs.List.{flat_map, join_by}
 use Rattle.std.proofs.lemmas.List.{append-nil, map-append}
 use Rattle.std.proofs.lemmas.List.Elements.{filter-append}
@@ -60,9 +60,9 @@ arranged_again entries =
     let live = kept not entries in
     let obsolete = kept (λ b. b) entries in
     let front : kept not (live ++ obsolete) ≡ live =
-      filter-append (λ e. not e.obsolete) live obsolete ∙ rw (kept_again not entries, kept_other (λ b. b) not entries not_true) (append-nil live) in
+    filter-append (λ e. not e.obsolete) live obsolete ∙ rw (kept_again not entries, kept_other (λ b. b) not entries not_true) (append-nil live) in
     let back : kept (λ b. b) (live ++ obsolete) ≡ obsolete =
-      filter-append (λ e. e.obsolete) live obsolete ∙ rw (kept_again (λ b. b) entries, kept_other not (λ b. b) entries not_not_true) refl in
+    filter-append (λ e. e.obsolete) live obsolete ∙ rw (kept_again (λ b. b) entries, kept_other not (λ b. b) entries not_not_true) refl in
     rw (front, back) refl
 
 arranged_same : (entries : List TextEntry) → arranged (unnumbered entries) ≡ unnumbered (arranged entries)

@@ -1,5 +1,5 @@
 -- The entries written one after the other are the written text.
-use Rattle.std.proofs.Common.{◌≡◌, ◌∙◌, ◌==◌, refl, sym, ap, ℕ, ◌<◌, List, [], ◌∷◌, ◌++◌, Bool, true, false, not, filter, length, length-append, append_assoc, codes, if◌then◌else◌, arith}
+use Rattle.std.proofs.Common.{◌≡◌, ◌∙◌, refl, sym, ap, ℕ, ◌<◌, List, [], ◌∷◌, ◌++◌, Bool, true, false, not, filter, length, length-append, append_assoc, codes, arith}
 use Rattle.std.specs.Prelude.{fold}
 use Rattle.std.specs.List.{flat_map, join_by}
 use Rattle.std.specs.Bool.{beq}

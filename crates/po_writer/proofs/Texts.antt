@@ -1,11 +1,11 @@
 -- The written text of a list of entries reads as the arranged list, but for the lines.
-use Rattle.std.proofs.Common.{◌≡◌, ◌≢◌, ◌∙◌, ◌==◌, ◌^◌, not, nat_eq, nat_lt, refl, sym, ap, subst, ℕ, zero, suc, ◌+◌, ◌<◌, ◌≤◌, Bool, true, false, cond, if◌then◌else◌, List, [], ◌∷◌, ◌++◌, append_assoc, length, length-append, map, filter, codes, decimal, Option, Some, None, position, All, arith}
-use Rattle.std.specs.List.{flat_map, join_by, prefix_len, position_or_len}
+use Rattle.std.proofs.Common.{◌≡◌, ◌≢◌, ◌==◌, ◌^◌, not, refl, ap, ℕ, ◌+◌, ◌<◌, ◌≤◌, List, [], ◌∷◌, ◌++◌, length, length-append, map, filter, codes, decimal, Option, Some, None, All, arith}
+use Rattle.std.specs.List.{flat_map, join_by, position_or_len}
 use Rattle.std.specs.Str.{IsUtf8}
 use Rattle.std.proofs.lemmas.List.{append-nil}
 use Rattle.std.proofs.lemmas.List.Elements.{All-nil, All-cons, All-head, All-tail, All-append, All-weaker, All-filter}
 use Rattle.std.proofs.lemmas.Bool.{ne_eqb, le-ltb}
-use Rattle.po_syntax.specs.Line.{first_shape, SpellsLine, tokens, none}
+use Rattle.po_syntax.specs.Line.{first_shape, tokens, none}
 use Rattle.po_syntax.specs.PoText.{IsSmall, HasNoNul, SpellsText, without_mark}
 use Rattle.po_syntax.specs.TextItem.{TextItem}
 use Rattle.po_syntax.specs.Token.{first_token}
@@ -13,13 +13,12 @@ use Rattle.po_entry.specs.TextEntry.{TextEntry, with_line, quoted_texts}
 use Rattle.po_entry.specs.Header.{HasAdmittedCharset}
 use Rattle.po_entry.specs.Validity.{IsText, IsEntry, IsCatalogueEntry}
 use Rattle.po_entry.specs.Reads.{Reads, comments, HasReadableTexts, ReadsText}
-use Rattle.po_writer.specs.WrittenText.{keyword_lines, form_lines, optional_lines, translation_lines, own_lines, own_prefix, entry_lines, arranged, written_text}
+use Rattle.po_writer.specs.WrittenText.{keyword_lines, form_lines, translation_lines, own_lines, own_prefix, entry_lines, arranged, written_text}
 use Rattle.po_writer.proofs.Separated.{keyword_some}
 use Rattle.po_writer.proofs.Utf8.{line-empty}
 use Rattle.po_writer.proofs.Spelling.{Spells, Block, BeginsLow, empty_block, two_blocks, line_block}
 use Rattle.po_writer.proofs.Tokens.{QuotedFormsSpell, context_keyword, id_keyword, plural_keyword, single_keyword}
 use Rattle.po_writer.proofs.Numbered.{numbered}
-use Rattle.po_writer.proofs.KeywordTexts.{IsLineKeyword}
 use Rattle.po_writer.proofs.Heads.{IsFresh}
 use Rattle.po_writer.proofs.Bodies.{WordsWritten}
 use Rattle.po_writer.proofs.Entries.{EntryPart, IsShort, entry_block}

@@ -1,16 +1,15 @@
 -- What a written line spells: the marks of its prefix, its keyword and its string.
-use Rattle.std.proofs.Common.{◌≡◌, ◌≢◌, ◌∙◌, ◌==◌, ◌&&◌, ◌^◌, not, nat_lt, refl, sym, ap, subst, ℕ, zero, suc, ◌+◌, ◌<◌, ◌≤◌, Bool, true, false, cond, if◌then◌else◌, List, [], ◌∷◌, ◌++◌, append_assoc, length, take, drop, codes, decimal, All, arith}
+use Rattle.std.proofs.Common.{◌≡◌, ◌∙◌, ◌==◌, refl, ap, subst, ℕ, suc, ◌+◌, ◌<◌, true, false, List, [], ◌∷◌, ◌++◌, drop, codes, All, arith}
 use Rattle.std.specs.List.{prefix_len}
 use Rattle.std.proofs.lemmas.List.{append-nil}
-use Rattle.std.proofs.lemmas.Fmt.{decimal_is_IsNumeral}
 use Rattle.po_syntax.specs.declared.item.Keyword.{Keyword}
-use Rattle.po_syntax.specs.declared.item.Keyword.TheVariants.{MsgCtxt, MsgId, MsgIdPlural, MsgStr, MsgStrAt}
+use Rattle.po_syntax.specs.declared.item.Keyword.TheVariants.{MsgCtxt, MsgId, MsgIdPlural, MsgStr}
 use Rattle.po_syntax.specs.declared.item.Marks.{Marks}
 use Rattle.po_syntax.specs.Line.{Tokens, shape_of, first_shape, hash_shape, tilde_shape, obsolete_shape, SpellsTokens, none, word, string, SpellsLine, tokens}
 use Rattle.po_syntax.specs.QuotedForm.{quoted, written_bytes}
 use Rattle.po_syntax.specs.QuotedString.{IsQuoted}
 use Rattle.po_syntax.specs.TextItem.{TextItem, Word, Str}
-use Rattle.po_syntax.specs.Token.{Open, Key, token_at, is_blank, skip_blanks, first_token, keyword_token, index_token}
+use Rattle.po_syntax.specs.Token.{Open, Key, token_at, is_blank, skip_blanks, first_token, keyword_token}
 
 -- the quoted form of bytes without NUL spells these bytes
 abbrev pub QuotedFormsSpell : Type 0

@@ -1,15 +1,14 @@
 -- The written bytes of UTF-8 are UTF-8, without NUL and LF.
-use Rattle.std.proofs.Common.{◌≡◌, ◌≢◌, ◌∙◌, ◌==◌, ◌&&◌, ◌/◌, ◌%◌, not, nat_lt, refl, sym, ap, subst, ℕ, zero, suc, ◌+◌, ◌*◌, ◌<◌, ◌≤◌, Bool, true, false, cond, if◌then◌else◌, List, [], ◌∷◌, ◌++◌, append_assoc, length, All, slice_index, arith, ◌⊎◌, inl, inr, ⊎_elim}
-use Rattle.std.specs.List.{flat_map, onto_first, list_all}
+use Rattle.std.proofs.Common.{◌≡◌, ◌≢◌, ◌==◌, ◌&&◌, ◌/◌, ◌%◌, not, nat_lt, refl, subst, ℕ, zero, suc, ◌+◌, ◌<◌, ◌≤◌, Bool, true, false, cond, if◌then◌else◌, List, [], ◌∷◌, ◌++◌, All, slice_index, arith, ◌⊎◌, inl, inr, ⊎_elim}
+use Rattle.std.specs.List.{onto_first, list_all}
 use Rattle.std.specs.Char.{IsScalar, digit_char}
-use Rattle.std.specs.Str.{IsUtf8, IsAscii, encode_utf8_all, all_scalars}
+use Rattle.std.specs.Str.{IsUtf8, encode_utf8_all, all_scalars}
 use Rattle.std.proofs.Math.Utf8.{encode, scalar_cases, low_scalar}
-use Rattle.std.proofs.lemmas.Str.{IsUtf8-append, IsUtf8-nil, IsUtf8-encode, IsUtf8-from_ascii, encode_ascii, digit_value-digit_char}
-use Rattle.std.proofs.lemmas.List.{append-nil}
+use Rattle.std.proofs.lemmas.Str.{IsUtf8-append, IsUtf8-nil, IsUtf8-encode, IsUtf8-from_ascii, encode_ascii}
 use Rattle.std.proofs.lemmas.List.Elements.{All-nil, All-cons, All-head, All-tail, All-append, All-weaker}
 use Rattle.std.proofs.lemmas.Grind.{flat_map-append}
-use Rattle.po_entry.proofs.Lists.{All-left, All-right}
-use Rattle.std.proofs.lemmas.Bool.{eqb-true, ne_eqb, lt-ltb, ltb-true, le-ltb, ltb-false}
+use Rattle.po_entry.proofs.Lists.{All-right}
+use Rattle.std.proofs.lemmas.Bool.{ne_eqb, lt-ltb, ltb-true, le-ltb, ltb-false}
 use Rattle.po_syntax.specs.QuotedForm.{octal_escape, is_control, written_byte, written_bytes, quoted}
 use Rattle.po_writer.specs.WrittenText.{cut}
 
