@@ -1,11 +1,10 @@
 -- An entry stays one when its forms are emptied, or its previous texts go.
-use Rattle.std.proofs.Common.{◌≡◌, ℕ, List, [], ◌∷◌, ◌++◌, length, map, append_assoc, refl, sym, ap, ◌∙◌, arith}
-use Rattle.std.specs.Prelude.{All, IsUtf8, option_to_list}
-use Rattle.std.proofs.lemmas.List.Elements.{All-nil, All-cons, All-head, All-tail, All-append}
+use Rattle.std.proofs.Common.{◌≡◌, ℕ, List, [], ◌∷◌, ◌++◌, map, append_assoc}
+use Rattle.std.specs.Prelude.{All, option_to_list}
+use Rattle.std.proofs.lemmas.List.Elements.{All-nil, All-cons, All-append}
 use Rattle.std.proofs.lemmas.List.{length-map}
 use Rattle.std.proofs.lemmas.Str.{IsUtf8-nil}
 use Rattle.po_entry.specs.TextEntry.{TextEntry, quoted_texts, previous_texts, no_previous}
-use Rattle.po_entry.specs.Bytes.{Lacks}
 use Rattle.po_entry.specs.Validity.{IsEntry, IsText}
 use Rattle.po_entry.proofs.Lists.{All-left, All-right}
 

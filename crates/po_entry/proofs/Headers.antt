@@ -1,6 +1,6 @@
 -- Names of charsets, and the first form of an entry.
-use Rattle.std.proofs.Common.{◌≡◌, ℕ, ◌+◌, ◌<◌, Bool, true, false, ◌||◌, ◌==◌, nat_lt, List, [], ◌∷◌, ◌++◌, Option, Some, None, length, take, map, refl, sym, ap, ◌∙◌, arith, inl, inr, ◌⊎◌, ◌≤◌, cond}
-use Rattle.std.specs.Prelude.{IsTrue, ◌↔◌, Contains, slice_get, unwrap_or, position}
+use Rattle.std.proofs.Common.{◌≡◌, ℕ, Bool, true, false, ◌||◌, ◌==◌, nat_lt, List, [], ◌∷◌, ◌++◌, Some, None, length, take, map, refl, sym, ap, ◌∙◌, arith, inl, inr, ◌≤◌, cond}
+use Rattle.std.specs.Prelude.{IsTrue, ◌↔◌, Contains, slice_get, position}
 use Rattle.std.specs.List.{position_or_len, before_first}
 use Rattle.std.specs.Global.{Vec}
 use Rattle.std.proofs.lemmas.List.{take_all}

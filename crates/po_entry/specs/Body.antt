@@ -1,12 +1,10 @@
 -- The own lines of an entry, from its context or msgid to its last form (manual, "The Format of PO Files").
-use Rattle.std.specs.Prelude.{◌≡◌, ℕ, ◌+◌, Bool, true, false, ◌||◌, ◌&&◌, not, List, [], ◌∷◌, Option, Some, None, if◌then◌else◌}
-use Rattle.po_syntax.specs.declared.fault.PoFault.{PoFault}
+use Rattle.std.specs.Prelude.{◌≡◌, ℕ, ◌+◌, Bool, true, false, not, List, [], ◌∷◌, Option, Some, None, if◌then◌else◌}
 use Rattle.po_syntax.specs.declared.item.Keyword.{Keyword}
 use Rattle.po_syntax.specs.declared.item.Keyword.TheVariants.{MsgCtxt, MsgId, MsgIdPlural, MsgStr, MsgStrAt}
-use Rattle.po_syntax.specs.declared.item.Marks.{Marks}
 use Rattle.po_syntax.specs.TextItem.{TextItem, Comment, Word, Str}
 use Rattle.po_entry.specs.Strings.{IsStrings, own_marks}
-use Rattle.po_entry.specs.Words.{Wanted, Id, Translation, Form, IsWorded}
+use Rattle.po_entry.specs.Words.{Id, Translation, Form, IsWorded}
 
 -- an own `msgstr` with an index stands here
 abbrev pub begins_form : List TextItem → Bool

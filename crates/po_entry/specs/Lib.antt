@@ -9,3 +9,5 @@ pub mod Body
 pub mod Head
 pub mod Notes
 pub mod Reads
+pub mod Equality
+pub mod EqualityLaws

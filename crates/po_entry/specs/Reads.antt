@@ -1,5 +1,5 @@
 -- How a PO text reads as a list of entries (manual, "The Format of PO Files").
-use Rattle.std.specs.Prelude.{◌≡◌, ℕ, List, [], ◌∷◌, ◌++◌, All, IfSome, IsUtf8}
+use Rattle.std.specs.Prelude.{ℕ, List, [], ◌∷◌, All, IfSome, IsUtf8}
 use Rattle.po_syntax.specs.TextItem.{TextItem, Comment, Word, Str}
 use Rattle.po_syntax.specs.PoText.{SpellsText}
 use Rattle.po_entry.specs.TextEntry.{TextEntry, quoted_texts}

@@ -1,5 +1,5 @@
 -- What contracts see of an entry of a catalogue: its texts are lists of bytes (manual, "The Format of PO Files").
-use Rattle.std.specs.Prelude.{ℕ, Bool, false, List, [], ◌∷◌, ◌++◌, map, Option, None, option_map, option_to_list}
+use Rattle.std.specs.Prelude.{◌≡◌, ℕ, Bool, false, List, [], ◌∷◌, ◌++◌, map, Option, None, option_map, option_to_list}
 use Rattle.std.specs.Global.{Vec}
 use Rattle.std.specs.Borrow.{Bor}
 
@@ -59,6 +59,10 @@ message_of context id plural forms = record {
 -- the entry, were it on this line
 abbrev pub with_line : ℕ → TextEntry → TextEntry
 with_line line entry = record entry { line = line }
+
+-- the entries are equal but for their lines
+abbrev pub SameButLine : TextEntry → TextEntry → Type 0
+SameButLine a b = with_line 0 a ≡ with_line 0 b
 
 -- the texts of the previous fields that there are
 abbrev pub previous_texts : TextPrevious → List (List ℕ)

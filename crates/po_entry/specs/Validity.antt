@@ -1,5 +1,5 @@
 -- What holds of every entry, and of every entry of a catalogue (manual, "The Format of PO Files").
-use Rattle.std.specs.Prelude.{◌≡◌, ◌≢◌, ◌⊎◌, ℕ, ◌<◌, false, List, [], ◌∷◌, ◌++◌, Option, None, All, Contains, IfSome, IsUtf8, length, codes, slice_index}
+use Rattle.std.specs.Prelude.{◌≡◌, ◌≢◌, ◌⊎◌, ℕ, ◌<◌, false, List, [], ◌∷◌, None, All, Contains, IfSome, IsUtf8, length, codes}
 use Rattle.po_entry.specs.TextEntry.{TextEntry, quoted_texts, comment_texts}
 use Rattle.po_entry.specs.Bytes.{Lacks, trimmed, AreDistinct}
 use Rattle.po_syntax.specs.Token.{is_blank}

@@ -5,6 +5,7 @@ ghost use Rattle.po_entry.specs.Header.{is_header};
 ghost use Rattle.po_entry.specs.Validity.{IsEntry, RefusesMessage, out_of_memory};
 
 use crate::copies::{copy_optional, copy_slices, empty_texts};
+use crate::equality::{same_comments, same_message, same_previous};
 use crate::fields::Fields;
 use crate::previous::Previous;
 use crate::texts::check_texts;
@@ -245,5 +246,21 @@ impl Entry {
         ensures { self.new ≡ record self.old { forms = map (λ _. []) self.old.forms } }
     {
         empty_texts(&mut self.fields.forms);
+    }
+}
+
+impl PartialEq for Entry {
+    ghost use Rattle.po_entry.specs.Equality.{entry_eq};
+    ghost use Rattle.po_entry.specs.EqualityLaws.{entry_eq_laws};
+
+    ghost eq = { entry_eq };
+
+    ghost laws = { entry_eq_laws };
+
+    /// Whether the entries are the same in all fields but the line.
+    fn eq(&self, other: &Entry) -> bool {
+        same_comments(&self.fields, &other.fields)
+            && same_previous(&self.fields.previous, &other.fields.previous)
+            && same_message(&self.fields, &other.fields)
     }
 }

@@ -6,8 +6,12 @@ mod catalogue;
 mod charset;
 mod copies;
 mod entry;
+mod equality;
 mod fields;
+pub mod laws;
 mod previous;
+#[cfg(test)]
+mod tests;
 mod texts;
 
 pub use crate::catalogue::Catalogue;

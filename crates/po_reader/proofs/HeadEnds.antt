@@ -1,5 +1,5 @@
 -- Where a head ends: at own lines, or at the end of the items.
-use Rattle.std.proofs.Common.{◌≡◌, ℕ, ◌<◌, Bool, true, false, ◌==◌, not, nat_lt, List, [], ◌∷◌, refl, sym, ◌∙◌, inl, inr, ◌⊎◌, arith}
+use Rattle.std.proofs.Common.{◌≡◌, ℕ, ◌<◌, Bool, true, false, ◌==◌, nat_lt, List, [], ◌∷◌, refl, inl, inr, ◌⊎◌, arith}
 use Rattle.std.specs.Prelude.{if◌then◌else◌}
 use Rattle.std.proofs.lemmas.Bool.{ltb-true, eqb-true}
 use Rattle.po_syntax.specs.declared.fault.PoFault.TheVariants.{BadOrder}
@@ -8,8 +8,8 @@ use Rattle.po_syntax.specs.declared.item.Keyword.{Keyword}
 use Rattle.po_syntax.specs.declared.item.Keyword.TheVariants.{MsgCtxt, MsgId, MsgIdPlural, MsgStr, MsgStrAt}
 use Rattle.po_syntax.specs.declared.item.Marks.{Marks}
 use Rattle.po_syntax.specs.TextItem.{TextItem, Comment, Word, Str}
-use Rattle.po_entry.specs.Body.{body_start, NoStart, WithContext, WithoutContext}
-use Rattle.po_entry.specs.Head.{Note, PreviousText, HeadStep, Remark, Previous, Over, Refuse, head_step, rank, begins_body, IsHead, over, remark, previous}
+use Rattle.po_entry.specs.Body.{body_start, NoStart}
+use Rattle.po_entry.specs.Head.{Note, PreviousText, Remark, Previous, Over, Refuse, head_step, rank, begins_body, IsHead, over, remark, previous}
 use Rattle.po_entry.specs.Reads.{AreComments}
 
 -- a head ends where nothing more of it stands
@@ -25,8 +25,8 @@ over_cases above (Comment kind text line ∷ rest) e = cc
 over_cases above (Str bytes marks line ∷ rest) e = cc
 over_cases above (Word keyword marks line ∷ rest) e = inr (own keyword marks.previous e) where
   own : (keyword : Keyword) (previous : Bool)
-    → (if previous then (if nat_lt above (rank keyword) then Previous keyword marks rest else Refuse BadOrder) else if begins_body keyword then Over else Refuse BadOrder) ≡ Over
-    → body_start (Word keyword (record { obsolete = marks.obsolete; previous = previous }) line ∷ rest) ≡ NoStart → ⊥
+      → (if previous then (if nat_lt above (rank keyword) then Previous keyword marks rest else Refuse BadOrder) else if begins_body keyword then Over else Refuse BadOrder) ≡ Over
+      → body_start (Word keyword (record { obsolete = marks.obsolete; previous = previous }) line ∷ rest) ≡ NoStart → ⊥
   own keyword true q = ranked (nat_lt above (rank keyword)) q where
     ranked : (b : Bool) → (if b then Previous keyword marks rest else Refuse BadOrder) ≡ Over → body_start (Word keyword (record { obsolete = marks.obsolete; previous = true }) line ∷ rest) ≡ NoStart → ⊥
     ranked true p s = cc

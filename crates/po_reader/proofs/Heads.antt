@@ -1,11 +1,11 @@
 -- What a head holds, as comments and previous texts are added.
-use Rattle.std.proofs.Common.{◌≡◌, ℕ, List, [], ◌∷◌, ◌++◌, false, sym, ap, ◌∙◌, refl}
+use Rattle.std.proofs.Common.{◌≡◌, List, [], ◌∷◌, ◌++◌, false, sym, ap, ◌∙◌}
 use Rattle.std.proofs.lemmas.List.Sums.{fold_push}
-use Rattle.po_entry.specs.TextEntry.{texts, no_previous, TextPrevious}
+use Rattle.po_entry.specs.TextEntry.{no_previous, TextPrevious}
 use Rattle.po_entry.specs.Head.{Note, PreviousText}
 use Rattle.po_entry.specs.Notes.{with_previous}
 use Rattle.po_reader.specs.declared.head.Head.{Head}
-use Rattle.po_reader.specs.Heads.{HoldsNotes, HoldsHead}
+use Rattle.po_reader.specs.Heads.{HoldsHead}
 
 pub holds_nothing : (head : Head) → head.comments.items ≡ [] → head.extracted.items ≡ [] → head.references.items ≡ [] → head.fuzzy ≡ false → head.flags.items ≡ [] → head.previous ≡ no_previous → HoldsHead head [] []
 holds_nothing head comments extracted references fuzzy flags previous = record {

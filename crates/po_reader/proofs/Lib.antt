@@ -4,3 +4,13 @@ pub mod Splits
 pub mod Heads
 pub mod HeadEnds
 pub mod Places
+pub mod Trims
+pub mod Pieces
+pub mod SoundEntries
+pub mod SoundFields
+pub mod SoundCatalogue
+pub mod Loops
+pub mod SoundItems
+pub mod Once
+pub mod OneReading
+pub mod OneFault

@@ -1,5 +1,5 @@
 -- The first part of a text that is cut where a byte passes a test.
-use Rattle.std.proofs.Common.{◌≡◌, ℕ, ◌<◌, ◌≤◌, Bool, true, false, not, cond, List, [], ◌∷◌, length, take, drop, get_or, Option, Some, None, position, nat_lt, refl, sym, ap, ◌∙◌, arith}
+use Rattle.std.proofs.Common.{◌≡◌, ℕ, ◌<◌, ◌≤◌, Bool, true, false, not, cond, List, [], ◌∷◌, length, take, drop, get_or, Some, None, position, nat_lt, refl, sym, arith}
 use Rattle.std.specs.Prelude.{bytes_eq}
 use Rattle.std.specs.Global.{Vec}
 use Rattle.std.specs.List.{position_or_len, slice_split, list_any}

@@ -1,12 +1,11 @@
 -- What a word can be where it was taken as the wanted one.
-use Rattle.std.proofs.Common.{◌≡◌, ℕ, Bool, true, false, List, [], ◌∷◌, refl, inl, inr, ◌⊎◌, subst}
+use Rattle.std.proofs.Common.{◌≡◌, ℕ, Bool, true, false, List, [], ◌∷◌, inl, inr, ◌⊎◌, subst}
 use Rattle.std.specs.Prelude.{if◌then◌else◌}
 use Rattle.po_syntax.specs.declared.item.Keyword.{Keyword}
 use Rattle.po_syntax.specs.declared.item.Keyword.TheVariants.{MsgCtxt, MsgId, MsgIdPlural, MsgStr, MsgStrAt}
-use Rattle.po_syntax.specs.declared.item.Marks.{Marks}
 use Rattle.po_syntax.specs.TextItem.{TextItem, Comment, Word, Str}
 use Rattle.po_entry.specs.Strings.{same_bool}
-use Rattle.po_entry.specs.Words.{Translation, WordStep, Take, Refuse, IsWorded, worded, next_word, is_wanted, is_wrong_form}
+use Rattle.po_entry.specs.Words.{Translation, Take, Refuse, IsWorded, worded, next_word, is_wanted, is_wrong_form}
 use Rattle.po_syntax.specs.declared.fault.PoFault.TheVariants.{BadOrder, BadPluralIndex, MixedObsolete}
 
 taken_word : (obsolete : Bool) (items text : List TextItem) (keyword : Keyword) (line : ℕ) → next_word Translation obsolete items ≡ Take keyword line text → (keyword ≡ MsgIdPlural) ⊎ (keyword ≡ MsgStr)
@@ -15,7 +14,7 @@ taken_word obsolete (Comment k t l ∷ rest) text keyword line e = cc
 taken_word obsolete (Str b m l ∷ rest) text keyword line e = cc
 taken_word obsolete (Word found marks at ∷ rest) text keyword line e = step marks.previous found (same_bool obsolete marks.obsolete) e where
   step : (previous : Bool) (found : Keyword) (same : Bool)
-    → (if previous then Refuse BadOrder
+      → (if previous then Refuse BadOrder
       else if is_wanted Translation found then (if same then Take found at rest else Refuse MixedObsolete)
       else if is_wrong_form Translation found then Refuse BadPluralIndex
       else Refuse BadOrder) ≡ Take keyword line text → (keyword ≡ MsgIdPlural) ⊎ (keyword ≡ MsgStr)

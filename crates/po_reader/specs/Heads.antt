@@ -1,5 +1,5 @@
 -- What contracts see of a head while it is read. Internal to this crate.
-use Rattle.std.specs.Prelude.{◌≡◌, ℕ, List}
+use Rattle.std.specs.Prelude.{◌≡◌, List}
 use Rattle.po_reader.specs.declared.head.Head.{Head}
 use Rattle.po_entry.specs.TextEntry.{texts}
 use Rattle.po_entry.specs.Head.{Note, PreviousText}

@@ -1,5 +1,5 @@
 -- What contracts see of the steps that the code takes. Internal to this crate.
-use Rattle.std.specs.Prelude.{ℕ, List, Bool, Option}
+use Rattle.std.specs.Prelude.{List}
 use Rattle.po_reader.specs.declared.words.Wanted.{Wanted}
 use Rattle.po_reader.specs.declared.words.Wanted.TheVariants as code
 use Rattle.po_reader.specs.declared.body.Start.{Start}

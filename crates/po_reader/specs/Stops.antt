@@ -1,6 +1,6 @@
 -- Where a list of items stops being a list of entries: the first item that can't go on, with its fault and its line (manual, "The Format of PO Files").
 -- At the end of the items the line told is `end`, that of the last item.
-use Rattle.std.specs.Prelude.{◌≡◌, ℕ, ◌+◌, Bool, true, List, [], ◌∷◌, Option}
+use Rattle.std.specs.Prelude.{◌≡◌, ℕ, ◌+◌, Bool, true, List, [], ◌∷◌}
 use Rattle.po_syntax.specs.declared.fault.PoFault.{PoFault}
 use Rattle.po_syntax.specs.declared.item.CommentKind.{CommentKind}
 use Rattle.po_syntax.specs.declared.item.Keyword.{Keyword}
@@ -24,50 +24,50 @@ line_at end (item ∷ items) = line_of item
 pub data StringsStop (end : ℕ) (marks : Marks) : List TextItem → PoFault → ℕ → Type 0 where
   refused : {items : List TextItem} {fault : PoFault} {line : ℕ} → string_step marks items ≡ string.Refuse fault → line ≡ line_at end items → StringsStop end marks items fault line
   later : {items behind : List TextItem} {bytes : List ℕ} {fault : PoFault} {line : ℕ} → string_step marks items ≡ string.Take bytes behind → begins_string behind ≡ true → StringsStop end marks behind fault line
-    → StringsStop end marks items fault line
+      → StringsStop end marks items fault line
 
 -- a wanted word, or its text, stops here
 pub data WordedStops (end : ℕ) (wanted : Wanted) (obsolete : Bool) : List TextItem → PoFault → ℕ → Type 0 where
   refused : {items : List TextItem} {fault : PoFault} {line : ℕ} → next_word wanted obsolete items ≡ word.Refuse fault → line ≡ line_at end items → WordedStops end wanted obsolete items fault line
   in_text : {items text : List TextItem} {keyword : Keyword} {at : ℕ} {fault : PoFault} {line : ℕ} → next_word wanted obsolete items ≡ word.Take keyword at text → StringsStop end (own_marks obsolete) text fault line
-    → WordedStops end wanted obsolete items fault line
+      → WordedStops end wanted obsolete items fault line
 
 -- the plural forms from this index on stop here
 pub data FormsStop (end : ℕ) (obsolete : Bool) : ℕ → List TextItem → PoFault → ℕ → Type 0 where
   here : {index : ℕ} {items : List TextItem} {fault : PoFault} {line : ℕ} → WordedStops end (Form index) obsolete items fault line → FormsStop end obsolete index items fault line
   later : {index at : ℕ} {keyword : Keyword} {items behind : List TextItem} {form : List ℕ} {fault : PoFault} {line : ℕ} → IsWorded (Form index) obsolete items keyword at form behind → begins_form behind ≡ true
-    → FormsStop end obsolete (index + 1) behind fault line → FormsStop end obsolete index items fault line
+      → FormsStop end obsolete (index + 1) behind fault line → FormsStop end obsolete index items fault line
 
 -- what follows a msgid stops here
 pub data TranslationStops (end : ℕ) (obsolete : Bool) : List TextItem → PoFault → ℕ → Type 0 where
   here : {items : List TextItem} {fault : PoFault} {line : ℕ} → WordedStops end Translation obsolete items fault line → TranslationStops end obsolete items fault line
   in_forms : {at : ℕ} {items behind : List TextItem} {plural : List ℕ} {fault : PoFault} {line : ℕ} → IsWorded Translation obsolete items MsgIdPlural at plural behind → FormsStop end obsolete 0 behind fault line
-    → TranslationStops end obsolete items fault line
+      → TranslationStops end obsolete items fault line
 
 -- an entry's own lines stop here
 pub data BodyStops (end : ℕ) : List TextItem → PoFault → ℕ → Type 0 where
   in_context : {obsolete : Bool} {items text : List TextItem} {fault : PoFault} {line : ℕ} → body_start items ≡ WithContext obsolete text → StringsStop end (own_marks obsolete) text fault line → BodyStops end items fault line
   at_id : {obsolete : Bool} {items text behind : List TextItem} {context : List ℕ} {fault : PoFault} {line : ℕ} → body_start items ≡ WithContext obsolete text → IsStrings (own_marks obsolete) text context behind
-    → WordedStops end Id obsolete behind fault line → BodyStops end items fault line
+      → WordedStops end Id obsolete behind fault line → BodyStops end items fault line
   in_id : {obsolete : Bool} {at : ℕ} {items text : List TextItem} {fault : PoFault} {line : ℕ} → body_start items ≡ WithoutContext obsolete at text → StringsStop end (own_marks obsolete) text fault line → BodyStops end items fault line
   behind_context : {obsolete : Bool} {keyword : Keyword} {at : ℕ} {items text middle behind : List TextItem} {context id : List ℕ} {fault : PoFault} {line : ℕ} → body_start items ≡ WithContext obsolete text
-    → IsStrings (own_marks obsolete) text context middle → IsWorded Id obsolete middle keyword at id behind → TranslationStops end obsolete behind fault line → BodyStops end items fault line
+      → IsStrings (own_marks obsolete) text context middle → IsWorded Id obsolete middle keyword at id behind → TranslationStops end obsolete behind fault line → BodyStops end items fault line
   behind_id : {obsolete : Bool} {at : ℕ} {items text behind : List TextItem} {id : List ℕ} {fault : PoFault} {line : ℕ} → body_start items ≡ WithoutContext obsolete at text → IsStrings (own_marks obsolete) text id behind
-    → TranslationStops end obsolete behind fault line → BodyStops end items fault line
+      → TranslationStops end obsolete behind fault line → BodyStops end items fault line
 
 -- what stands before an entry's own lines stops here
 pub data HeadStops (end : ℕ) : ℕ → List TextItem → PoFault → ℕ → Type 0 where
   refused : {above : ℕ} {items : List TextItem} {fault : PoFault} {line : ℕ} → head_step above items ≡ head.Refuse fault → line ≡ line_at end items → HeadStops end above items fault line
   in_previous : {above : ℕ} {keyword : Keyword} {marks : Marks} {items text : List TextItem} {fault : PoFault} {line : ℕ} → head_step above items ≡ head.Previous keyword marks text → StringsStop end marks text fault line
-    → HeadStops end above items fault line
+      → HeadStops end above items fault line
   behind_remark : {above : ℕ} {kind : CommentKind} {text : List ℕ} {items behind : List TextItem} {fault : PoFault} {line : ℕ} → head_step above items ≡ head.Remark kind text behind → HeadStops end above behind fault line
-    → HeadStops end above items fault line
+      → HeadStops end above items fault line
   behind_previous : {above : ℕ} {keyword : Keyword} {marks : Marks} {bytes : List ℕ} {items text behind : List TextItem} {fault : PoFault} {line : ℕ} → head_step above items ≡ head.Previous keyword marks text
-    → IsStrings marks text bytes behind → HeadStops end (rank keyword) behind fault line → HeadStops end above items fault line
+      → IsStrings marks text bytes behind → HeadStops end (rank keyword) behind fault line → HeadStops end above items fault line
 
 -- the entries stop here
 pub data EntriesStop (end : ℕ) : List TextItem → PoFault → ℕ → Type 0 where
   in_head : {items : List TextItem} {fault : PoFault} {line : ℕ} → HeadStops end 0 items fault line → EntriesStop end items fault line
   in_body : {items own : List TextItem} {notes : List Note} {previous : List PreviousText} {fault : PoFault} {line : ℕ} → IsHead 0 items notes previous own → BodyStops end own fault line → EntriesStop end items fault line
   later : {items own rest : List TextItem} {notes : List Note} {previous : List PreviousText} {body : Body} {fault : PoFault} {line : ℕ} → IsHead 0 items notes previous own → IsBody own body rest → EntriesStop end rest fault line
-    → EntriesStop end items fault line
+      → EntriesStop end items fault line

@@ -79,11 +79,19 @@ fn translation_of(
     let first = wanted_word(alloc, items, from, Wanted::Translation, obsolete, end)?;
     if let Keyword::MsgIdPlural = first.keyword {
         let (forms, behind) = forms_of(alloc, items, first.behind, obsolete, end)?;
-        return Ok(Translation { plural: Some(first.text), forms, behind });
+        return Ok(Translation {
+            plural: Some(first.text),
+            forms,
+            behind,
+        });
     }
     let mut forms = Vec::with_capacity(alloc, 1)?;
     forms.push(first.text)?;
-    Ok(Translation { plural: None, forms, behind: first.behind })
+    Ok(Translation {
+        plural: None,
+        forms,
+        behind: first.behind,
+    })
 }
 
 /// A context and msgid, with the marks of their entry.
@@ -145,7 +153,10 @@ fn body_behind(
     ensures memory { IfErr result (λ e. e.kind ≡ PoFault.OutOfMemory → e.line ≡ 0) }
 {
     match translation_of(alloc, items, from, original.obsolete, end) {
-        Ok(translation) => Ok(Body { original, translation }),
+        Ok(translation) => Ok(Body {
+            original,
+            translation,
+        }),
         Err(error) => Err(error),
     }
 }
@@ -172,16 +183,37 @@ pub(crate) fn body_of(
     };
     match start {
         Start::WithoutContext(obsolete, line) => {
-            let marks = Marks { obsolete, previous: false };
+            let marks = Marks {
+                obsolete,
+                previous: false,
+            };
             let (id, behind) = strings_of(alloc, items, from + 1, marks, end)?;
-            let original = Original { context: None, id, obsolete, line };
+            let original = Original {
+                context: None,
+                id,
+                obsolete,
+                line,
+            };
             body_behind(alloc, items, behind, original, end)
         }
         Start::WithContext(obsolete) => {
-            let marks = Marks { obsolete, previous: false };
+            let marks = Marks {
+                obsolete,
+                previous: false,
+            };
             let (context, middle) = strings_of(alloc, items, from + 1, marks, end)?;
-            let Worded { line, text: id, behind, .. } = wanted_word(alloc, items, middle, Wanted::Id, obsolete, end)?;
-            let original = Original { context: Some(context), id, obsolete, line };
+            let Worded {
+                line,
+                text: id,
+                behind,
+                ..
+            } = wanted_word(alloc, items, middle, Wanted::Id, obsolete, end)?;
+            let original = Original {
+                context: Some(context),
+                id,
+                obsolete,
+                line,
+            };
             body_behind(alloc, items, behind, original, end)
         }
     }

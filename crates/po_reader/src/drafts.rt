@@ -16,9 +16,24 @@ use std::alloc::Global;
 fn fields_of(head: Head, body: Body) -> Fields
     ensures { (notes : List Note) (previous : List PreviousText) → HoldsHead head notes previous → entry_of result ≡ entry_from notes previous (body_seen body) }
 {
-    let Head { comments, extracted, references, fuzzy, flags, previous } = head;
-    let Body { original, translation } = body;
-    let Original { context, id, obsolete, line } = original;
+    let Head {
+        comments,
+        extracted,
+        references,
+        fuzzy,
+        flags,
+        previous,
+    } = head;
+    let Body {
+        original,
+        translation,
+    } = body;
+    let Original {
+        context,
+        id,
+        obsolete,
+        line,
+    } = original;
     let Translation { plural, forms, .. } = translation;
     Fields {
         comments,
@@ -37,11 +52,7 @@ fn fields_of(head: Head, body: Body) -> Fields
 }
 
 /// The fields of the entries that the items spell, in order; `end` is the line of the last item.
-pub(crate) fn drafts_of(
-    alloc: Global,
-    items: &[Item<'_>],
-    end: u32,
-) -> Result<Vec<Fields>, PoError>
+pub(crate) fn drafts_of(alloc: Global, items: &[Item<'_>], end: u32) -> Result<Vec<Fields>, PoError>
     requires { length items.now < 2 ^ 32 }
     ensures found { IfOk result (λ drafts. Reads (views items.now) (map entry_of drafts.items)) }
     ensures fault { IfErr result (λ e. e.kind ≢ PoFault.OutOfMemory → EntriesStop end (views items.now) e.kind e.line) }

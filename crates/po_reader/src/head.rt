@@ -59,7 +59,11 @@ fn step_at<'i>(items: &'i [Item<'_>], at: usize, above: u32) -> Result<Step<'i>,
     ensures within { IfOk result (λ step. head_seen step (views (drop (at + 1) items.now)) ≢ spec.Over → at < length items.now) }
 {
     match item_at(items, at) {
-        None => if above == 0 { Ok(Step::Over) } else { Err(PoFault::BadOrder) },
+        None => if above == 0 {
+            Ok(Step::Over)
+        } else {
+            Err(PoFault::BadOrder)
+        },
         Some(Item::Comment(kind, text, _)) => Ok(Step::Remark(*kind, text)),
         Some(Item::Str(..)) => Err(PoFault::BadOrder),
         Some(Item::Word(keyword, marks, _)) => {

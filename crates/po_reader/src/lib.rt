@@ -5,6 +5,7 @@
 mod body;
 mod drafts;
 mod head;
+pub mod laws;
 mod notes;
 mod place;
 mod reading;

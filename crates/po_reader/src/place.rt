@@ -38,5 +38,8 @@ pub(crate) fn refusal(items: &[Item<'_>], at: usize, end: u32, kind: PoFault) ->
     ensures kind { result.kind ≡ kind }
     ensures line { result.line ≡ line_at end (views (drop at items.now)) }
 {
-    PoError { kind, line: line_at(items, at, end) }
+    PoError {
+        kind,
+        line: line_at(items, at, end),
+    }
 }

@@ -10,6 +10,7 @@ ghost use Rattle.po_reader.specs.Faults.{last_line, CharsetStops, IsReadFault};
 use crate::drafts::drafts_of;
 use crate::place::line_of;
 use po_entry::{Catalogue, Entry, Fields, check_texts};
+use po_syntax::laws::items_hold_text;
 use po_syntax::{Item, PoError, PoFault, items};
 use std::alloc::Global;
 
@@ -29,7 +30,10 @@ fn check_drafts(drafts: &[Fields]) -> Result<(), PoError>
 {
     for draft in drafts {
         if let Err(kind) = check_texts(draft) {
-            return Err(PoError { kind, line: draft.line });
+            return Err(PoError {
+                kind,
+                line: draft.line,
+            });
         }
     }
     Ok(())
@@ -68,6 +72,7 @@ pub fn read(alloc: Global, text: &[u8]) -> Result<Catalogue, PoError>
     ensures memory { IfErr result (λ e. e.kind ≡ PoFault.OutOfMemory → e.line ≡ 0) }
 {
     let items = items(alloc, text)?;
+    items_hold_text();
     let drafts = drafts_of(alloc, &items, last_line(&items))?;
     check_drafts(&drafts)?;
     catalogue_of(alloc, drafts)

@@ -13,7 +13,11 @@ use std::alloc::Global;
 fn stray_string(wanted: Marks, found: Marks) -> PoFault
     ensures { result ≡ spec.stray_string wanted found }
 {
-    if wanted.previous || found.previous { PoFault::BadOrder } else { PoFault::MixedObsolete }
+    if wanted.previous || found.previous {
+        PoFault::BadOrder
+    } else {
+        PoFault::MixedObsolete
+    }
 }
 
 fn same_marks(a: Marks, b: Marks) -> bool

@@ -45,7 +45,11 @@ fn word_fault(wanted: Wanted, obsolete: bool, keyword: Keyword, marks: Marks) ->
     if marks.previous {
         Some(PoFault::BadOrder)
     } else if is_wanted(wanted, keyword) {
-        if marks.obsolete == obsolete { None } else { Some(PoFault::MixedObsolete) }
+        if marks.obsolete == obsolete {
+            None
+        } else {
+            Some(PoFault::MixedObsolete)
+        }
     } else if is_wrong_form(wanted, keyword) {
         Some(PoFault::BadPluralIndex)
     } else {
@@ -105,7 +109,15 @@ pub(crate) fn wanted_word(
         Ok(word) => word,
         Err(kind) => return Err(refusal(items, at, end, kind)),
     };
-    let marks = Marks { obsolete, previous: false };
+    let marks = Marks {
+        obsolete,
+        previous: false,
+    };
     let (text, behind) = strings_of(alloc, items, at + 1, marks, end)?;
-    Ok(Worded { keyword, line, text, behind })
+    Ok(Worded {
+        keyword,
+        line,
+        text,
+        behind,
+    })
 }

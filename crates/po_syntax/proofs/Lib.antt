@@ -8,3 +8,7 @@ pub mod Uniqueness
 pub mod Totality
 pub mod QuotedForms
 pub mod Rests
+pub mod CleanLines
+pub mod TrimmedReturns
+pub mod ItemTexts
+pub mod QuotedTexts

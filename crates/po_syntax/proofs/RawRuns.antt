@@ -16,10 +16,10 @@ written_raw b raw =
     rw (differs 7 (omega arith), differs 8 (omega arith), differs 9 (omega arith), differs 10 (omega arith), differs 11 (omega arith), differs 12 (omega arith), differs 13 (omega arith), control.1, escaped.1, control.0)
 
 -- none of the first n bytes of the text needs an escape
-abbrev AreRaw : ℕ → List ℕ → Type 0
+abbrev pub AreRaw : ℕ → List ℕ → Type 0
 AreRaw n text = (k : ℕ) → k < n → is_raw (get_or text k 0) ≡ true
 
-written_run : (n : ℕ) (text : List ℕ) → AreRaw n text → n ≤ length text → written_bytes (take n text) ≡ take n text
+pub written_run : (n : ℕ) (text : List ℕ) → AreRaw n text → n ≤ length text → written_bytes (take n text) ≡ take n text
 written_run zero text raw within = refl
 written_run (suc n) [] raw within = absurd (omega arith)
 written_run (suc n) (b ∷ text) raw within =

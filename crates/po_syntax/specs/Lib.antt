@@ -2,7 +2,7 @@ pub mod TextItem
 pub mod QuotedString
 pub mod Token
 pub mod Line
-pub mod TokenView
+pub mod CodeView
 pub mod ItemText
 pub mod PoText
 pub mod QuotedForm

@@ -1,7 +1,8 @@
-ghost use Rattle.std.specs.Prelude.{◌≡◌, ◌^◌, ◌<◌, ◌≤◌, length, All, MatchResult, SomeIff};
+ghost use Rattle.std.specs.Prelude.{◌≡◌, ◌^◌, ◌<◌, ◌≤◌, length, All, SomeIff};
 ghost use Rattle.std.specs.Char.{digit_value};
 ghost use Rattle.std.specs.Str.Parse.{digits_value};
-ghost use Rattle.po_syntax.specs.QuotedString.{Byte, Stop, digit_count, escape_at, letter_value, number_step};
+ghost use Rattle.po_syntax.specs.CodeView.{IsByteOf};
+ghost use Rattle.po_syntax.specs.QuotedString.{digit_count, escape_at, letter_value, number_step};
 
 use crate::fault::PoFault;
 
@@ -37,7 +38,7 @@ fn numbered_byte(base: u32, count: usize, text: &[u8]) -> Result<(u8, &[u8]), Po
     requires least { 2 ≤ base }
     requires most { base ≤ 36 }
     requires digits { count ≤ digit_count base text.now }
-    ensures { MatchResult result (λ p. number_step base count text.now ≡ Byte p.0 p.1.now) (λ e. number_step base count text.now ≡ Stop e) }
+    ensures { IsByteOf (number_step base count text.now) result }
 {
     let (digits, rest) = text.split_at(count);
     match number_of(base, digits) {
@@ -68,7 +69,7 @@ fn letter_value(letter: u8) -> Option<u8>
 /// The byte that an escape stands for, read behind its backslash, and the text behind it.
 #[tactic(auto, unfolding(crate::specs::QuotedString::escape_at))]
 pub(crate) fn escape(text: &[u8]) -> Result<(u8, &[u8]), PoFault>
-    ensures { MatchResult result (λ p. escape_at text.now ≡ Byte p.0 p.1.now) (λ e. escape_at text.now ≡ Stop e) }
+    ensures { IsByteOf (escape_at text.now) result }
 {
     let Some((first, rest)) = text.split_first() else {
         return Err(PoFault::BadEscape);

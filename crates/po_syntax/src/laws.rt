@@ -1,6 +1,7 @@
 //! Laws of the definitions, each on an empty function: a crate that rests on one calls it.
-ghost use Rattle.std.specs.Prelude.{◌≡◌, ◌⊎◌, ◌<◌, ℕ, List, ◌++◌, All};
+ghost use Rattle.std.specs.Prelude.{◌≡◌, ◌⊎◌, ◌<◌, ◌≤◌, ℕ, List, ◌++◌, All, IsUtf8};
 ghost use Rattle.po_syntax.specs.declared.fault.PoFault.{PoFault};
+ghost use Rattle.po_syntax.specs.ItemText.{HoldsText};
 ghost use Rattle.po_syntax.specs.PoText.{SpellsText, TextFault};
 ghost use Rattle.po_syntax.specs.QuotedForm.{quoted};
 ghost use Rattle.po_syntax.specs.QuotedString.{IsQuoted};
@@ -22,17 +23,33 @@ pub fn no_fault_where_items()
 /// A text has at most one first fault, on one line.
 pub fn one_fault()
     ensures { (text : List ℕ) (fault other : PoFault) (line place : ℕ)
-        → TextFault text fault line → TextFault text other place → (fault ≡ other) × (line ≡ place) }
+        → TextFault text fault line → TextFault text other place
+        → (fault ≡ other) × (line ≡ place) }
 {}
 
 /// Every text either spells items or has a first fault.
 pub fn items_or_fault()
     ensures { (text : List ℕ)
-        → ((items : List TextItem) × SpellsText text items) ⊎ ((fault : PoFault) × (line : ℕ) × TextFault text fault line) }
+        → ((items : List TextItem) × SpellsText text items)
+        ⊎ ((fault : PoFault) × (line : ℕ) × TextFault text fault line) }
 {}
 
 /// The quoted form of bytes without NUL spells just these bytes, and ends where it ends.
 pub fn quoted_form_spells()
     ensures { (bytes rest : List ℕ) → All (λ b. (0 < b) × (b < 256)) bytes
-        → (inside : List ℕ) × (token_at (quoted bytes ++ rest) ≡ Open inside) × IsQuoted inside bytes rest }
+        → (inside : List ℕ) × (token_at (quoted bytes ++ rest) ≡ Open inside)
+        × IsQuoted inside bytes rest }
+{}
+
+/// The comments of a text are UTF-8 on one line without NUL and without CRs at their end, and its
+/// strings hold no NUL.
+pub fn items_hold_text()
+    ensures { (text : List ℕ) (items : List TextItem) → SpellsText text items → All HoldsText items }
+{}
+
+/// The quoted form of a UTF-8 text is UTF-8, and that of any bytes holds no byte below space.
+pub fn quoted_form_holds_text()
+    ensures utf8 { (bytes : List ℕ) → IsUtf8 bytes → IsUtf8 (quoted bytes) }
+    ensures shown { (bytes : List ℕ)
+        → All (λ b. b < 256) bytes → All (λ b. 32 ≤ b) (quoted bytes) }
 {}

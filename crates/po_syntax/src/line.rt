@@ -1,8 +1,7 @@
-ghost use Rattle.std.specs.Prelude.{◌≡◌, ◌≢◌, ◌≤◌, ◌==◌, List, ◌++◌, length, IfErr, OnOk, MatchOption};
+ghost use Rattle.std.specs.Prelude.{◌≡◌, ◌≢◌, ◌≤◌, ◌==◌, length, IfErr, OnOk};
 ghost use Rattle.std.specs.List.{suffix_len};
-ghost use Rattle.po_syntax.specs.Line.{NoShape, shape_of, first_shape, hash_shape, tilde_shape, note_shape, trim_returns, SpellsTokens, TokensStop, SpellsLine, LineStops};
-ghost use Rattle.po_syntax.specs.TextItem.{TextItem, views};
-ghost use Rattle.po_syntax.specs.TokenView.{shape_seen};
+ghost use Rattle.po_syntax.specs.Line.{shape_of, first_shape, hash_shape, tilde_shape, note_shape, trim_returns, SpellsTokens, TokensStop, SpellsLine, LineStops};
+ghost use Rattle.po_syntax.specs.CodeView.{AddsItems, IsShapeOf};
 
 use crate::fault::PoFault;
 use crate::item::{CommentKind, Item, Marks};
@@ -42,7 +41,7 @@ const OBSOLETE_PREVIOUS: Marks = Marks {
 
 /// The comment behind its `#`; none at `#|` and `#~`.
 fn comment(text: &[u8]) -> Option<Shape<'_>>
-    ensures { MatchOption result (note_shape text.now ≡ NoShape) (λ shape. note_shape text.now ≡ shape_seen shape) }
+    ensures { IsShapeOf (note_shape text.now) result }
 {
     match text.split_first() {
         Some((b'.', rest)) => Some(Shape::Comment(CommentKind::Extracted, rest)),
@@ -56,7 +55,7 @@ fn comment(text: &[u8]) -> Option<Shape<'_>>
 /// The shape of a line, read behind `#~`.
 #[tactic(auto, unfolding(crate::specs::Line::tilde_shape, crate::specs::Line::obsolete_shape))]
 fn obsolete(text: &[u8]) -> Option<Shape<'_>>
-    ensures { MatchOption result (tilde_shape text.now ≡ NoShape) (λ shape. tilde_shape text.now ≡ shape_seen shape) }
+    ensures { IsShapeOf (tilde_shape text.now) result }
 {
     if let Some((b'|', rest)) = text.split_first() {
         return Some(Shape::Tokens(OBSOLETE_PREVIOUS, rest));
@@ -71,7 +70,7 @@ fn obsolete(text: &[u8]) -> Option<Shape<'_>>
 /// The shape of a line, read behind its first `#`.
 #[tactic(auto, unfolding(crate::specs::Line::hash_shape))]
 fn hash(text: &[u8]) -> Option<Shape<'_>>
-    ensures { MatchOption result (hash_shape text.now ≡ NoShape) (λ shape. hash_shape text.now ≡ shape_seen shape) }
+    ensures { IsShapeOf (hash_shape text.now) result }
 {
     match text.split_first() {
         Some((b'|', rest)) => Some(Shape::Tokens(PREVIOUS, rest)),
@@ -83,7 +82,7 @@ fn hash(text: &[u8]) -> Option<Shape<'_>>
 /// The shape of a line; none where it is no comment and bears no tokens.
 #[tactic(auto, unfolding(crate::specs::Line::first_shape))]
 fn shape_of(line: &[u8]) -> Option<Shape<'_>>
-    ensures { MatchOption result (shape_of line.now ≡ NoShape) (λ shape. shape_of line.now ≡ shape_seen shape) }
+    ensures { IsShapeOf (shape_of line.now) result }
 {
     let text = skip_blanks(line);
     match text.split_first() {
@@ -115,7 +114,8 @@ fn add_tokens<'a>(
     marks: Marks,
     line: u32,
 ) -> Result<(), PoFault>
-    ensures found { OnOk result ((spelt : List TextItem) × SpellsTokens marks line text.now spelt × (views items.new.items ≡ views items.old.items ++ spelt)) }
+    ensures found { OnOk result
+        (AddsItems (SpellsTokens marks line text.now) items.old.items items.new.items) }
     ensures fault { IfErr result (λ e. e ≢ PoFault.OutOfMemory → TokensStop text.now e) }
 {
     let mut rest = text;
@@ -142,7 +142,8 @@ pub(crate) fn add_line<'a>(
     text: &'a [u8],
     line: u32,
 ) -> Result<(), PoFault>
-    ensures found { OnOk result ((spelt : List TextItem) × SpellsLine line text.now spelt × (views items.new.items ≡ views items.old.items ++ spelt)) }
+    ensures found { OnOk result
+        (AddsItems (SpellsLine line text.now) items.old.items items.new.items) }
     ensures fault { IfErr result (λ e. e ≢ PoFault.OutOfMemory → LineStops text.now e) }
 {
     match shape_of(text) {

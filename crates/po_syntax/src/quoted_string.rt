@@ -10,9 +10,11 @@ use std::borrow::CowSlice;
 
 /// Splits off the bytes that stand for themselves, up to the first quote or backslash.
 fn split_plain(text: &[u8]) -> (&[u8], &[u8])
-    ensures spelt { (bytes end : List ℕ) → IsQuoted result.1.now bytes end → IsQuoted text.now (result.0.now ++ bytes) end }
+    ensures spelt { (bytes end : List ℕ)
+        → IsQuoted result.1.now bytes end → IsQuoted text.now (result.0.now ++ bytes) end }
     ensures stops { (fault : PoFault) → QuotedStops result.1.now fault → QuotedStops text.now fault }
-    ensures special { (b : ℕ) (after : List ℕ) → result.1.now ≡ b ∷ after → (b ≡ 34) ⊎ (b ≡ 92) }
+    ensures special { (b : ℕ) (after : List ℕ)
+        → result.1.now ≡ b ∷ after → (b ≡ 34) ⊎ (b ≡ 92) }
     ensures parts { length result.0.now + length result.1.now ≡ length text.now }
 {
     let end = memchr2(b'"', b'\\', text).unwrap_or(text.len());
@@ -21,7 +23,8 @@ fn split_plain(text: &[u8]) -> (&[u8], &[u8])
 
 /// Appends what the text spells up to the closing quote, and gives the text behind that.
 fn add_pieces<'a>(bytes: &mut Vec<u8>, text: &'a [u8]) -> Result<&'a [u8], PoFault>
-    ensures found { IfOk result (λ rest. (spelt : List ℕ) × IsQuoted text.now spelt rest.now × (bytes.new.items ≡ bytes.old.items ++ spelt)) }
+    ensures found { IfOk result (λ rest. (spelt : List ℕ)
+        × IsQuoted text.now spelt rest.now × (bytes.new.items ≡ bytes.old.items ++ spelt)) }
     ensures fault { IfErr result (λ e. e ≢ PoFault.OutOfMemory → QuotedStops text.now e) }
 {
     let mut rest = text;

@@ -1,7 +1,8 @@
 ghost use Rattle.std.specs.Prelude.{◌≡◌, ◌≢◌, ◌+◌, ◌<◌, ◌≤◌, ◌^◌, ◌∷◌, [], ◌++◌, List, length, vec_len, IfOk, IfErr, IfSome, OnOk, MatchOption};
 ghost use Rattle.po_syntax.specs.PoText.{SpellsText, TextFault, SpellsLines, LinesStop, line_number, without_mark, lines_of};
 ghost use Rattle.po_syntax.specs.Line.{SpellsLine, LineStops};
-ghost use Rattle.po_syntax.specs.TextItem.{TextItem, views};
+ghost use Rattle.po_syntax.specs.CodeView.{AddsItems};
+ghost use Rattle.po_syntax.specs.TextItem.{views};
 
 use crate::fault::{PoError, PoFault};
 use crate::item::Item;
@@ -37,7 +38,8 @@ fn line_number(text: &[u8], place: usize) -> u32
 
 /// Cuts off the first line: its text, and what stands behind its LF, if it has one.
 fn first_line(text: &[u8]) -> (&[u8], Option<&[u8]>)
-    ensures cut { MatchOption result.1 (lines_of text.now ≡ result.0.now ∷ []) (λ rest. lines_of text.now ≡ result.0.now ∷ lines_of rest.now) }
+    ensures cut { MatchOption result.1 (lines_of text.now ≡ result.0.now ∷ [])
+        (λ rest. lines_of text.now ≡ result.0.now ∷ lines_of rest.now) }
     ensures less { IfSome result.1 (λ rest. length rest.now < length text.now) }
 {
     let Some(end) = memchr(b'\n', text) else {
@@ -54,7 +56,8 @@ fn add_numbered_line<'a>(
     text: &'a [u8],
     line: u32,
 ) -> Result<(), PoError>
-    ensures found { OnOk result ((spelt : List TextItem) × SpellsLine line text.now spelt × (views items.new.items ≡ views items.old.items ++ spelt)) }
+    ensures found { OnOk result
+        (AddsItems (SpellsLine line text.now) items.old.items items.new.items) }
     ensures fault { IfErr result (λ e. e.kind ≢ PoFault.OutOfMemory → LineStops text.now e.kind) }
     ensures line { IfErr result (λ e. e.kind ≢ PoFault.OutOfMemory → e.line ≡ line) }
     ensures memory { IfErr result (λ e. e.kind ≡ PoFault.OutOfMemory → e.line ≡ 0) }
@@ -73,7 +76,8 @@ fn add_numbered_line<'a>(
 fn read_lines(alloc: Global, text: &[u8]) -> Result<Vec<Item<'_>>, PoError>
     requires { length text.now < 2 ^ 31 }
     ensures found { IfOk result (λ items. SpellsLines 1 (lines_of text.now) (views items.items)) }
-    ensures fault { IfErr result (λ e. e.kind ≢ PoFault.OutOfMemory → LinesStop 1 (lines_of text.now) e.kind e.line) }
+    ensures fault { IfErr result (λ e.
+        e.kind ≢ PoFault.OutOfMemory → LinesStop 1 (lines_of text.now) e.kind e.line) }
     ensures memory { IfErr result (λ e. e.kind ≡ PoFault.OutOfMemory → e.line ≡ 0) }
 {
     let mut items = Vec::new(alloc);

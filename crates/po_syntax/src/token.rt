@@ -1,7 +1,7 @@
-ghost use Rattle.std.specs.Prelude.{◌≡◌, ◌<◌, ◌≤◌, length, IfOk, MatchResult};
+ghost use Rattle.std.specs.Prelude.{◌≡◌, ◌<◌, ◌≤◌, length};
 ghost use Rattle.std.specs.List.{prefix_len};
-ghost use Rattle.po_syntax.specs.Token.{Key, Halt, is_blank, is_word_byte, skip_blanks, index_token, bracket_token, keyword_token, token_at};
-ghost use Rattle.po_syntax.specs.TokenView.{token_of};
+ghost use Rattle.po_syntax.specs.Token.{is_blank, is_word_byte, skip_blanks, index_token, bracket_token, keyword_token, token_at};
+ghost use Rattle.po_syntax.specs.CodeView.{IsKeywordOf, IsTokenOf};
 
 use crate::escape::{digit_count, number_of};
 use crate::fault::PoFault;
@@ -53,7 +53,7 @@ pub(crate) fn skip_blanks(text: &[u8]) -> &[u8]
 /// The keyword of a plural form, read behind the bracket and the blanks before its index.
 #[tactic(auto, unfolding(crate::specs::Token::index_token))]
 fn plural_form(text: &[u8]) -> Result<(Keyword, &[u8]), PoFault>
-    ensures { MatchResult result (λ p. index_token text.now ≡ Key p.0 p.1.now) (λ e. index_token text.now ≡ Halt e) }
+    ensures { IsKeywordOf (index_token text.now) result }
 {
     let count = digit_count(10, text);
     if count == 0 {
@@ -71,7 +71,7 @@ fn plural_form(text: &[u8]) -> Result<(Keyword, &[u8]), PoFault>
 
 /// The keyword that begins with `msgstr`, read behind that word.
 fn translation(rest: &[u8]) -> Result<(Keyword, &[u8]), PoFault>
-    ensures { MatchResult result (λ p. bracket_token rest.now (skip_blanks rest.now) ≡ Key p.0 p.1.now) (λ e. bracket_token rest.now (skip_blanks rest.now) ≡ Halt e) }
+    ensures { IsKeywordOf (bracket_token rest.now (skip_blanks rest.now)) result }
 {
     match skip_blanks(rest).split_first() {
         Some((b'[', inside)) => plural_form(skip_blanks(inside)),
@@ -82,7 +82,7 @@ fn translation(rest: &[u8]) -> Result<(Keyword, &[u8]), PoFault>
 /// The keyword that a word is, and the text behind it.
 #[tactic(auto, unfolding(crate::specs::Token::keyword_token))]
 fn keyword<'a>(word: &[u8], rest: &'a [u8]) -> Result<(Keyword, &'a [u8]), PoFault>
-    ensures { MatchResult result (λ p. keyword_token word.now rest.now ≡ Key p.0 p.1.now) (λ e. keyword_token word.now rest.now ≡ Halt e) }
+    ensures { IsKeywordOf (keyword_token word.now rest.now) result }
 {
     if word == b"msgctxt".as_slice() {
         Ok((Keyword::MsgCtxt, rest))
@@ -100,7 +100,7 @@ fn keyword<'a>(word: &[u8], rest: &'a [u8]) -> Result<(Keyword, &'a [u8]), PoFau
 /// The next token of a line, behind blanks.
 #[tactic(auto, unfolding(crate::specs::Token::first_token))]
 pub(crate) fn next_token(text: &[u8]) -> Result<Token<'_>, PoFault>
-    ensures { MatchResult result (λ token. token_at text.now ≡ token_of token) (λ e. token_at text.now ≡ Halt e) }
+    ensures { IsTokenOf (token_at text.now) result }
 {
     let text = skip_blanks(text);
     let Some((first, rest)) = text.split_first() else {

@@ -1,4 +1,3 @@
-use Rattle.std.proofs.Common.{◌∙◌, sym, ap}
 use Rattle.po_entry.specs.Header.{ends_name}
 use Rattle.po_entry.proofs.Headers.{before_found, before_none}
 use Rattle.po_entry.proofs.charset.charset_of.Goals as goal

@@ -1,4 +1,3 @@
-use Rattle.std.proofs.Common.{sym}
 use Rattle.std.specs.Prelude.{IsUtf8}
 use Rattle.po_entry.proofs.Checks.{both, of_option}
 use Rattle.po_entry.proofs.texts.previous_is_utf8.Goals as goal

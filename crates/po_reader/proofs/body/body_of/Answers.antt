@@ -26,7 +26,7 @@ pub returns-in_ok-id-in-WithoutContext-clause-found : goal.returns-in_ok-id-in-W
 returns-in_ok-id-in-WithoutContext-clause-found c =
     let start = rw c.in-WithoutContext.is at c.in-Some.ensures.start in
     ok_both c.body_behind.result (λ b translated same. rw same (without_context start c.in_ok-id-in-WithoutContext.ensures.found translated))
-      c.body_behind.ensures.found c.body_behind.ensures.original
+    c.body_behind.ensures.found c.body_behind.ensures.original
 
 pub returns-in_ok-id-in-WithoutContext-clause-fault : goal.returns-in_ok-id-in-WithoutContext-clause-fault
 returns-in_ok-id-in-WithoutContext-clause-fault c =
@@ -37,12 +37,12 @@ pub returns-in_ok-line-in-WithContext-clause-found : goal.returns-in_ok-line-in-
 returns-in_ok-line-in-WithContext-clause-found c =
     let start = rw c.in-WithContext.is at c.in-Some.ensures.start in
     ok_both c.body_behind-in-WithContext.result
-      (λ b translated same. rw same (with_context start c.in_ok-context-in-WithContext.ensures.found c.in_ok-line-in-WithContext.ensures.found translated))
-      c.body_behind-in-WithContext.ensures.found c.body_behind-in-WithContext.ensures.original
+    (λ b translated same. rw same (with_context start c.in_ok-context-in-WithContext.ensures.found c.in_ok-line-in-WithContext.ensures.found translated))
+    c.body_behind-in-WithContext.ensures.found c.body_behind-in-WithContext.ensures.original
 
 pub returns-in_ok-line-in-WithContext-clause-fault : goal.returns-in_ok-line-in-WithContext-clause-fault
 returns-in_ok-line-in-WithContext-clause-fault c =
     let start = rw c.in-WithContext.is at c.in-Some.ensures.start in
     err_step c.body_behind-in-WithContext.result
-      (λ e stops other. behind_context start c.in_ok-context-in-WithContext.ensures.found c.in_ok-line-in-WithContext.ensures.found (stops other))
-      c.body_behind-in-WithContext.ensures.fault
+    (λ e stops other. behind_context start c.in_ok-context-in-WithContext.ensures.found c.in_ok-line-in-WithContext.ensures.found (stops other))
+    c.body_behind-in-WithContext.ensures.fault

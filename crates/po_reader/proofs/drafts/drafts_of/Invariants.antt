@@ -1,6 +1,6 @@
-use Rattle.std.proofs.Common.{◌≡◌, ℕ, List, ◌++◌, ◌-◌, ◌≤◌, drop, length, map}
+use Rattle.std.proofs.Common.{ℕ, List, ◌++◌, ◌-◌, ◌≤◌, drop, length, map}
 use Rattle.po_syntax.specs.declared.fault.PoFault.{PoFault}
-use Rattle.po_syntax.specs.TextItem.{TextItem, views}
+use Rattle.po_syntax.specs.TextItem.{views}
 use Rattle.po_entry.specs.TextEntry.{TextEntry}
 use Rattle.po_entry.specs.EntryText.{entry_of}
 use Rattle.po_entry.specs.Reads.{Reads}

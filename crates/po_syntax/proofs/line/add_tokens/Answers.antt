@@ -6,7 +6,7 @@ use Rattle.po_syntax.specs.QuotedString.{IsQuoted}
 use Rattle.po_syntax.specs.Line.{none, word, string, halt, in_string, after_word, after_string}
 use Rattle.po_syntax.specs.TextItem.{Word, Str}
 use Rattle.po_syntax.specs.Token.{Nothing, Open, Key, token_at}
-use Rattle.po_syntax.specs.TokenView.{token_of}
+use Rattle.po_syntax.specs.CodeView.{token_of}
 use Rattle.po_syntax.proofs.QuotedStrings.{quoted-shorter}
 use Rattle.po_syntax.proofs.Tokens.{key-shorter, open-shorter}
 use Rattle.po_syntax.proofs.line.add_tokens.Goals as goal

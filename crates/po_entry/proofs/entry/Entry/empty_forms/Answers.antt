@@ -1,4 +1,4 @@
-use Rattle.std.proofs.Common.{◌≡◌, sym, ◌∙◌, ap, length, map, []}
+use Rattle.std.proofs.Common.{◌≡◌, ◌∙◌, map, []}
 use Rattle.std.proofs.lemmas.List.{with_items_is}
 use Rattle.po_entry.specs.TextEntry.{texts}
 use Rattle.po_entry.proofs.Changes.{IsEntry-emptied}

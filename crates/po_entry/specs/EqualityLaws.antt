@@ -1,0 +1,67 @@
+-- Equality of entries decides that they are the same but for their lines, so it is an equivalence.
+use Rattle.std.proofs.Common.{◌≡◌, ℕ, Bool, true, false, ◌&&◌, List, Option, Some, None, refl, sym, ap, ◌∙◌}
+use Rattle.std.specs.Prelude.{Decides}
+use Rattle.std.specs.Cmp.{IsPartialEquivalence}
+use Rattle.std.proofs.lemmas.Bool.{false≢true}
+use Rattle.std.proofs.lemmas.Slice.Eq.{bytes_eq-Decides, slice_eq-Decides}
+use Rattle.po_entry.specs.TextEntry.{TextEntry, TextPrevious, SameButLine}
+use Rattle.po_entry.specs.Equality.{texts_eq, optional_eq, bool_eq, previous_eq, entry_eq}
+
+both_decide : {P Q : Type 0} (a b : Bool) → Decides a P → Decides b Q → Decides (a && b) (P × Q)
+both_decide true true p q = (λ _. (p.0 refl, q.0 refl), λ _. refl)
+both_decide true false p q = (λ t. absurd (false≢true t), λ h. q.1 h.1)
+both_decide false b p q = (λ t. absurd (false≢true t), λ h. p.1 h.0)
+
+texts_decide : (a b : List (List ℕ)) → Decides (texts_eq a b) (a ≡ b)
+texts_decide a b = slice_eq-Decides bytes_eq-Decides a b (texts_eq a b) refl
+
+optional_decide : (a b : Option (List ℕ)) → Decides (optional_eq a b) (a ≡ b)
+optional_decide None None = (λ _. refl, λ _. refl)
+optional_decide None (Some b) = (λ t. absurd (false≢true t), λ e. cc)
+optional_decide (Some a) None = (λ t. absurd (false≢true t), λ e. cc)
+optional_decide (Some a) (Some b) = (λ t. ap (λ (x : List ℕ). Some x) ((bytes_eq-Decides a b).0 t), λ e. let same : a ≡ b = cc in (bytes_eq-Decides a b).1 same)
+
+bool_decide : (a b : Bool) → Decides (bool_eq a b) (a ≡ b)
+bool_decide true true = (λ _. refl, λ _. refl)
+bool_decide true false = (λ t. absurd (false≢true t), λ e. absurd (false≢true (sym e)))
+bool_decide false true = (λ t. absurd (false≢true t), λ e. absurd (false≢true e))
+bool_decide false false = (λ _. refl, λ _. refl)
+
+abbrev rebuilt : TextPrevious → TextPrevious
+rebuilt p = record { context = p.context; id = p.id; plural = p.plural }
+
+previous_decide : (a b : TextPrevious) → Decides (previous_eq a b) (a ≡ b)
+previous_decide a b =
+    let fields = both_decide _ _ (both_decide _ _ (optional_decide a.context b.context) (optional_decide a.id b.id)) (optional_decide a.plural b.plural) in (
+      λ t. let h = fields.0 t in let same : rebuilt a ≡ rebuilt b = rw (h.0.0, h.0.1, h.1) refl in same,
+      λ e. fields.1 ((ap (λ (p : TextPrevious). p.context) e, ap (λ (p : TextPrevious). p.id) e), ap (λ (p : TextPrevious). p.plural) e),
+    )
+
+pub entry_decide : (a b : TextEntry) → Decides (entry_eq a b) (SameButLine a b)
+entry_decide a b =
+    let comments = both_decide _ _ (both_decide _ _ (both_decide _ _ (both_decide _ _ (texts_decide a.comments b.comments) (texts_decide a.extracted b.extracted)) (texts_decide a.references b.references)) (bool_decide a.fuzzy b.fuzzy)) (texts_decide a.flags b.flags) in
+    let messages = both_decide _ _ (both_decide _ _ (both_decide _ _ (both_decide _ _ (optional_decide a.context b.context) (bytes_eq-Decides a.id b.id)) (optional_decide a.plural b.plural)) (texts_decide a.forms b.forms)) (bool_decide a.obsolete b.obsolete) in
+    let all = both_decide _ _ (both_decide _ _ comments (previous_decide a.previous b.previous)) messages in (
+      λ t.
+          let h = all.0 t in
+          rw (h.0.0.0.0.0.0, h.0.0.0.0.0.1, h.0.0.0.0.1, h.0.0.0.1, h.0.0.1, h.0.1, h.1.0.0.0.0, h.1.0.0.0.1, h.1.0.0.1, h.1.0.1, h.1.1) refl,
+      λ e. all.1 (
+        (
+          ((((ap (λ (x : TextEntry). x.comments) e, ap (λ (x : TextEntry). x.extracted) e), ap (λ (x : TextEntry). x.references) e), ap (λ (x : TextEntry). x.fuzzy) e), ap (λ (x : TextEntry). x.flags) e),
+          ap (λ (x : TextEntry). x.previous) e,
+        ),
+        ((((ap (λ (x : TextEntry). x.context) e, ap (λ (x : TextEntry). x.id) e), ap (λ (x : TextEntry). x.plural) e), ap (λ (x : TextEntry). x.forms) e), ap (λ (x : TextEntry). x.obsolete) e),
+      ),
+    )
+
+answer : (x y : Bool) → (x ≡ true → y ≡ true) → (y ≡ true → x ≡ true) → x ≡ y
+answer true true p q = refl
+answer true false p q = sym (p refl)
+answer false true p q = q refl
+answer false false p q = refl
+
+pub entry_eq_laws : IsPartialEquivalence entry_eq
+entry_eq_laws = record {
+  symm = λ x y. answer (entry_eq x y) (entry_eq y x) (λ t. (entry_decide y x).1 (sym ((entry_decide x y).0 t))) (λ t. (entry_decide x y).1 (sym ((entry_decide y x).0 t)));
+  trans = λ x y z s t. (entry_decide x z).1 ((entry_decide x y).0 s ∙ (entry_decide y z).0 t);
+}

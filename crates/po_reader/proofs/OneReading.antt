@@ -1,0 +1,133 @@
+-- A list of items reads as at most one list of entries, and none both reads and stops.
+use Rattle.std.proofs.Common.{◌≡◌, ℕ, Bool, true, false, ◌==◌, List, [], ◌∷◌, refl, sym, ap, subst}
+use Rattle.std.specs.Prelude.{All, if◌then◌else◌}
+use Rattle.std.proofs.lemmas.List.Elements.{All-head, All-tail}
+use Rattle.po_syntax.specs.declared.fault.PoFault.{PoFault}
+use Rattle.po_syntax.specs.declared.fault.PoFault.TheVariants.{BadOrder}
+use Rattle.po_syntax.specs.declared.item.CommentKind.{CommentKind}
+use Rattle.po_syntax.specs.declared.item.Keyword.{Keyword}
+use Rattle.po_syntax.specs.declared.item.Marks.{Marks}
+use Rattle.po_syntax.specs.TextItem.{TextItem, Comment, Word, Str}
+use Rattle.po_syntax.specs.PoText.{SpellsText, TextFault}
+use Rattle.po_entry.specs.TextEntry.{TextEntry}
+use Rattle.po_entry.specs.Header.{HasAdmittedCharset}
+use Rattle.po_entry.specs.Body as body
+use Rattle.po_entry.specs.Head as head
+use Rattle.po_entry.specs.Reads.{Reads, comments, entry, AreComments, ReadsText, HasReadableTexts}
+use Rattle.po_reader.specs.Stops as stop
+use Rattle.po_reader.specs.Faults as fault
+use Rattle.po_reader.proofs.Once.{head_once, head_or_stop, body_once, body_or_stop}
+
+-- a step over a comment goes on behind it
+comment_behind : (above : ℕ) (items behind : List TextItem) (kind : CommentKind) (text : List ℕ) → head.head_step above items ≡ head.Remark kind text behind → AreComments items → AreComments behind
+comment_behind above [] behind kind text e only = empty (above == 0) e where
+  empty : (t : Bool) → (if t then head.Over else head.Refuse BadOrder) ≡ head.Remark kind text behind → AreComments behind
+  empty true q = cc
+  empty false q = cc
+comment_behind above (Comment k t l ∷ items) behind kind text e only = let same : items ≡ behind = cc in subst AreComments same only.1
+comment_behind above (Word k m l ∷ items) behind kind text e only = absurd only.0
+comment_behind above (Str b m l ∷ items) behind kind text e only = absurd only.0
+
+-- comments alone hold no previous text
+no_previous_text : (above : ℕ) (items text : List TextItem) (keyword : Keyword) (marks : Marks) → head.head_step above items ≡ head.Previous keyword marks text → AreComments items → ⊥
+no_previous_text above [] text keyword marks e only = empty (above == 0) e where
+  empty : (t : Bool) → (if t then head.Over else head.Refuse BadOrder) ≡ head.Previous keyword marks text → ⊥
+  empty true q = cc
+  empty false q = cc
+no_previous_text above (Comment k t l ∷ items) text keyword marks e only = cc
+no_previous_text above (Word k m l ∷ items) text keyword marks e only = only.0
+no_previous_text above (Str b m l ∷ items) text keyword marks e only = only.0
+
+over_end : (above : ℕ) (items : List TextItem) → head.head_step above items ≡ head.Over → AreComments items → items ≡ []
+over_end above [] e only = refl
+over_end above (Comment k t l ∷ items) e only = cc
+over_end above (Word k m l ∷ items) e only = absurd only.0
+over_end above (Str b m l ∷ items) e only = absurd only.0
+
+-- comments alone are a head up to the end
+comments_end : {above : ℕ} {items rest : List TextItem} {a : List head.Note} {p : List head.PreviousText} → head.IsHead above items a p rest → AreComments items → rest ≡ []
+comments_end (head.over {above = above} {items = items} e) only = over_end above items e only
+comments_end (head.remark {above = above} {kind = kind} {text = text} {items = items} {behind = behind} e h) only = comments_end h (comment_behind above items behind kind text e only)
+comments_end (head.previous {above = above} {keyword = keyword} {marks = marks} {items = items} {text = text} e s h) only = absurd (no_previous_text above items text keyword marks e only)
+
+refused_comments : (items : List TextItem) (kind : PoFault) → head.head_step 0 items ≡ head.Refuse kind → AreComments items → ⊥
+refused_comments [] kind e only = cc
+refused_comments (Comment k t l ∷ items) kind e only = cc
+refused_comments (Word k m l ∷ items) kind e only = only.0
+refused_comments (Str b m l ∷ items) kind e only = only.0
+
+comments_go_on : {end line above : ℕ} {kind : PoFault} {items : List TextItem} → stop.HeadStops end above items kind line → above ≡ 0 → AreComments items → ⊥
+comments_go_on (stop.refused {above = above} {items = items} {fault = kind} e l) zero only = refused_comments items kind (subst (λ (a : ℕ). head.head_step a items ≡ head.Refuse kind) zero e) only
+comments_go_on (stop.in_previous {above = above} {keyword = keyword} {marks = marks} {items = items} {text = text} e s) zero only = no_previous_text above items text keyword marks e only
+comments_go_on (stop.behind_remark {above = above} {kind = kind} {text = text} {items = items} {behind = behind} e h) zero only = comments_go_on h zero (comment_behind above items behind kind text e only)
+comments_go_on (stop.behind_previous {above = above} {keyword = keyword} {marks = marks} {items = items} {text = text} e s h) zero only = no_previous_text above items text keyword marks e only
+
+body_somewhere : {items rest : List TextItem} {a : body.Body} → body.IsBody items a rest → items ≡ [] → ⊥
+body_somewhere (body.without_context {items = items} e s t) none = let start : body.body_start items ≡ body.NoStart = ap body.body_start none in cc
+body_somewhere (body.with_context {items = items} e s w t) none = let start : body.body_start items ≡ body.NoStart = ap body.body_start none in cc
+
+stop_somewhere : {end line : ℕ} {kind : PoFault} {items : List TextItem} → stop.BodyStops end items kind line → items ≡ [] → ⊥
+stop_somewhere (stop.in_context {items = items} e s) none = let start : body.body_start items ≡ body.NoStart = ap body.body_start none in cc
+stop_somewhere (stop.at_id {items = items} e s t) none = let start : body.body_start items ≡ body.NoStart = ap body.body_start none in cc
+stop_somewhere (stop.in_id {items = items} e s) none = let start : body.body_start items ≡ body.NoStart = ap body.body_start none in cc
+stop_somewhere (stop.behind_context {items = items} e s t u) none = let start : body.body_start items ≡ body.NoStart = ap body.body_start none in cc
+stop_somewhere (stop.behind_id {items = items} e s t) none = let start : body.body_start items ≡ body.NoStart = ap body.body_start none in cc
+
+pub reads_once : {items : List TextItem} {a b : List TextEntry} → Reads items a → Reads items b → a ≡ b
+reads_once (comments only) (comments also) = refl
+reads_once (comments only) (entry h own more) = absurd (body_somewhere own (comments_end h only))
+reads_once (entry h own more) (comments only) = absurd (body_somewhere own (comments_end h only))
+reads_once (entry {notes = notes} {previous = previous} {body = a} {entries = entries} h own more) (entry {own = here} {rest = after} {notes = remarks} {previous = texts} {body = b} {entries = again} k also others) =
+    let heads = head_once h k in
+    let bodies = body_once own (subst (λ (i : List TextItem). body.IsBody i b after) (sym heads.2) also) in
+    let later = reads_once more (subst (λ (i : List TextItem). Reads i again) (sym bodies.1) others) in
+    let same_notes = heads.0 in
+    let same_previous = heads.1 in
+    let same_body = bodies.0 in
+    cc
+
+pub reads_or_stop : {end line : ℕ} {kind : PoFault} {items : List TextItem} {a : List TextEntry} → Reads items a → stop.EntriesStop end items kind line → ⊥
+reads_or_stop (comments only) (stop.in_head s) = comments_go_on s refl only
+reads_or_stop (comments only) (stop.in_body h s) = stop_somewhere s (comments_end h only)
+reads_or_stop (comments only) (stop.later h own s) = body_somewhere own (comments_end h only)
+reads_or_stop (entry h own more) (stop.in_head s) = head_or_stop h s
+reads_or_stop {end} {line} {kind} (entry h own more) (stop.in_body k s) =
+    let heads = head_once h k in
+    body_or_stop own (subst (λ (i : List TextItem). stop.BodyStops end i kind line) (sym heads.2) s)
+reads_or_stop {end} {line} {kind} (entry h own more) (stop.later {rest = after} {body = b} k also s) =
+    let heads = head_once h k in
+    let bodies = body_once own (subst (λ (i : List TextItem). body.IsBody i b after) (sym heads.2) also) in
+    reads_or_stop more (subst (λ (i : List TextItem). stop.EntriesStop end i kind line) (sym bodies.1) s)
+
+pub unreadable : (read : TextEntry) (kind : PoFault) → HasReadableTexts read → fault.UnreadableTexts read kind → ⊥
+unreadable read kind h (fault.not_utf8 some) = some h.utf8
+unreadable read kind h (fault.forbidden utf8 some) = some h.no_eot
+
+pub texts_go_on : {kind : PoFault} {line : ℕ} {entries : List TextEntry} → fault.TextsStop entries kind line → All HasReadableTexts entries → ⊥
+texts_go_on {kind} (fault.TextsStop.here {entry = read} {entries = entries} f l) h = unreadable read kind (All-head HasReadableTexts read entries h) f
+texts_go_on (fault.TextsStop.later {entry = read} {entries = entries} r s) h = texts_go_on s (All-tail HasReadableTexts read entries h)
+
+pub charsets_go_on : {line : ℕ} {entries : List TextEntry} → fault.CharsetStops entries line → All HasAdmittedCharset entries → ⊥
+charsets_go_on (fault.CharsetStops.here {entry = read} {entries = entries} f l) h = f (All-head HasAdmittedCharset read entries h)
+charsets_go_on (fault.CharsetStops.later {entry = read} {entries = entries} r s) h = charsets_go_on s (All-tail HasAdmittedCharset read entries h)
+
+pub text_once : ((text : List ℕ) (items others : List TextItem) → SpellsText text items → SpellsText text others → items ≡ others) → (text : List ℕ) (a b : List TextEntry) → ReadsText text a → ReadsText text b → a ≡ b
+text_once spelt_once text a b h k =
+    let same = spelt_once text h.items k.items h.spelt k.spelt in
+    reads_once h.reads (subst (λ (i : List TextItem). Reads i b) (sym same) k.reads)
+
+pub text_or_fault : ((text : List ℕ) (items others : List TextItem) → SpellsText text items → SpellsText text others → items ≡ others)
+    → ((text : List ℕ) (items : List TextItem) (kind : PoFault) (line : ℕ) → SpellsText text items → TextFault text kind line → ⊥)
+    → (text : List ℕ) (a : List TextEntry) (kind : PoFault) (line : ℕ) → ReadsText text a → fault.IsReadFault text kind line → ⊥
+text_or_fault spelt_once no_fault text a kind line h (fault.in_text f) = no_fault text h.items kind line h.spelt f
+text_or_fault spelt_once no_fault text a kind line h (fault.in_items {items = items} spelt s) =
+    let same = spelt_once text h.items items h.spelt spelt in
+    reads_or_stop (subst (λ (i : List TextItem). Reads i a) same h.reads) s
+text_or_fault spelt_once no_fault text a kind line h (fault.in_texts {items = items} {entries = entries} spelt reads s) =
+    let same = spelt_once text h.items items h.spelt spelt in
+    let entries_same = reads_once (subst (λ (i : List TextItem). Reads i a) same h.reads) reads in
+    texts_go_on s (subst (All HasReadableTexts) entries_same h.texts)
+text_or_fault spelt_once no_fault text a kind line h (fault.in_charset {items = items} {entries = entries} spelt reads readable s) =
+    let same = spelt_once text h.items items h.spelt spelt in
+    let entries_same = reads_once (subst (λ (i : List TextItem). Reads i a) same h.reads) reads in
+    charsets_go_on s (subst (All HasAdmittedCharset) entries_same h.charsets)

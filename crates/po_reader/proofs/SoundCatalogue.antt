@@ -1,0 +1,137 @@
+-- The entries that the items of a text spell are entries, once their texts are UTF-8 and without forbidden bytes.
+use Rattle.std.proofs.Common.{◌≡◌, ℕ, ◌<◌, List, [], ◌∷◌, ◌++◌, None, length, map, refl}
+use Rattle.std.specs.Prelude.{All, IsUtf8, option_to_list}
+use Rattle.std.proofs.lemmas.List.Elements.{All-nil, All-cons, All-head, All-tail, All-append, All-weaker}
+use Rattle.po_syntax.specs.declared.item.CommentKind.TheVariants.{Translator, Extracted, Reference, Flags}
+use Rattle.po_syntax.specs.declared.fault.PoFault.{PoFault}
+use Rattle.po_syntax.specs.declared.fault.PoFault.TheVariants.{OutOfMemory}
+use Rattle.po_entry.specs.declared.fields.Fields.{Fields}
+use Rattle.po_entry.specs.EntryText.{entry_of}
+use Rattle.po_syntax.specs.TextItem.{TextItem}
+use Rattle.po_entry.specs.TextEntry.{TextEntry, quoted_texts, comment_texts, previous_texts}
+use Rattle.po_entry.specs.Bytes.{Lacks, AreDistinct}
+use Rattle.po_entry.specs.Body.{Body}
+use Rattle.po_entry.specs.Head.{Note, PreviousText}
+use Rattle.po_entry.specs.Notes.{texts_of, comments_of, extracted_of, references_of, flag_words_of, flags_of, previous_of}
+use Rattle.po_entry.specs.Reads.{Reads, comments, entry, entry_from, HasReadableTexts, HasNoEot}
+use Rattle.po_entry.specs.Validity as validity
+use Rattle.po_entry.specs.Validity.{IsEntry, IsText, IsComment, IsTranslatorComment, IsReference, IsFlag, HasTexts, IsClean, TextsFault}
+use Rattle.po_reader.specs.Drafts.{DraftsStop}
+use Rattle.po_reader.specs.Drafts as drafts
+use Rattle.po_reader.specs.Faults.{TextsStop, UnreadableTexts}
+use Rattle.po_reader.specs.Faults as faults
+use Rattle.po_reader.proofs.SoundItems.{SoundItem, SoundComment}
+use Rattle.po_reader.proofs.SoundEntries.{SoundNote, SoundPrevious, SoundBody, body_sound, head_sound}
+use Rattle.po_reader.proofs.SoundFields.{SoundReference, SoundFlagWord, SoundFlag, SoundFlags, kind_sound, references_sound, all_flag_words_sound, flags_sound, previous_lacks}
+
+-- an entry that sound items spell, but for what its texts must be
+pub record SoundEntry (spelt : TextEntry) : Type 0 where
+  pub comments_valid : All IsText (comment_texts spelt)
+  pub comments : All IsTranslatorComment spelt.comments
+  pub extracted : All IsComment spelt.extracted
+  pub references : All IsReference spelt.references
+  pub flags : All IsFlag spelt.flags
+  pub distinct_flags : AreDistinct spelt.flags
+  pub quoted_lack : All (Lacks 0) (quoted_texts spelt)
+  pub some_form : 0 < length spelt.forms
+  pub one_form : spelt.plural ≡ None → length spelt.forms ≡ 1
+
+translator_sound : (text : List ℕ) → SoundComment Translator text → IsTranslatorComment text
+translator_sound text h = record { comment = h.one_line; plain = h.plain refl }
+
+entry_sound : (notes : List Note) (previous : List PreviousText) (own : Body) (rest : List TextItem) → All SoundNote notes → All SoundPrevious previous → SoundBody own rest → SoundEntry (entry_from notes previous own)
+entry_sound notes previous own rest n p b =
+    let translator : All (SoundComment Translator) (comments_of notes) = kind_sound Translator notes n in
+    let extracted : All (SoundComment Extracted) (extracted_of notes) = kind_sound Extracted notes n in
+    let references : All SoundReference (references_of notes) = references_sound (texts_of Reference notes) (kind_sound Reference notes n) in
+    let words : All SoundFlagWord (flag_words_of notes) = all_flag_words_sound (texts_of Flags notes) (kind_sound Flags notes n) in
+    let flags : SoundFlags (flags_of notes) = flags_sound (flag_words_of notes) [] (record { all = All-nil SoundFlag; distinct = tt }) words in
+    record {
+      comments_valid =
+          All-append IsText (comments_of notes ++ extracted_of notes ++ references_of notes) (flags_of notes)
+          (All-append IsText (comments_of notes ++ extracted_of notes) (references_of notes)
+          (All-append IsText (comments_of notes) (extracted_of notes)
+          (All-weaker (SoundComment Translator) IsText (λ text h. h.valid) (comments_of notes) translator)
+          (All-weaker (SoundComment Extracted) IsText (λ text h. h.valid) (extracted_of notes) extracted))
+          (All-weaker SoundReference IsText (λ text h. h.valid) (references_of notes) references))
+          (All-weaker SoundFlag IsText (λ text h. h.valid) (flags_of notes) flags.all);
+      comments = All-weaker (SoundComment Translator) IsTranslatorComment translator_sound (comments_of notes) translator;
+      extracted = All-weaker (SoundComment Extracted) IsComment (λ text h. h.one_line) (extracted_of notes) extracted;
+      references = All-weaker SoundReference IsReference (λ text h. h.reference) (references_of notes) references;
+      flags = All-weaker SoundFlag IsFlag (λ text h. h.flag) (flags_of notes) flags.all;
+      distinct_flags = flags.distinct;
+      quoted_lack =
+          All-append (Lacks 0) (previous_texts (previous_of previous) ++ option_to_list own.context ++ (own.id ∷ []) ++ option_to_list own.plural) own.forms
+          (All-append (Lacks 0) (previous_texts (previous_of previous) ++ option_to_list own.context ++ (own.id ∷ [])) (option_to_list own.plural)
+          (All-append (Lacks 0) (previous_texts (previous_of previous) ++ option_to_list own.context) (own.id ∷ [])
+          (All-append (Lacks 0) (previous_texts (previous_of previous)) (option_to_list own.context) (previous_lacks previous p) b.context_lacks)
+          (All-cons (Lacks 0) own.id [] b.id_lacks (All-nil (Lacks 0))))
+          b.plural_lacks)
+          b.forms_lack;
+      some_form = b.some_form;
+      one_form = b.one_form;
+    }
+
+-- every entry that sound items spell
+pub entries_sound : {items : List TextItem} {entries : List TextEntry} → Reads items entries → All SoundItem items → All SoundEntry entries
+entries_sound (comments only) h = All-nil SoundEntry
+entries_sound (entry {rest = rest} {notes = notes} {previous = previous} {body = own} {entries = entries} head body more) h =
+    let before = head_sound head h in
+    let own_lines = body_sound body before.behind in
+    All-cons SoundEntry (entry_from notes previous own) entries (entry_sound notes previous own rest before.notes_sound before.previous_sound own_lines) (entries_sound more own_lines.behind)
+
+both_texts : (texts : List (List ℕ)) → All IsUtf8 texts → All (Lacks 0) texts → All IsText texts
+both_texts [] a b = All-nil IsText
+both_texts (text ∷ texts) a b =
+    All-cons IsText text texts (record { utf8 = All-head IsUtf8 text texts a; no_nul = All-head (Lacks 0) text texts b }) (both_texts texts (All-tail IsUtf8 text texts a) (All-tail (Lacks 0) text texts b))
+
+-- with texts that it can have, it is an entry
+pub entry_valid : (spelt : TextEntry) → SoundEntry spelt → HasTexts spelt → IsEntry spelt
+entry_valid spelt h t = record {
+  comment_texts = h.comments_valid;
+  quoted_texts = both_texts (quoted_texts spelt) t.utf8 h.quoted_lack;
+  comments = h.comments;
+  extracted = h.extracted;
+  references = h.references;
+  flags = h.flags;
+  distinct_flags = h.distinct_flags;
+  context = t.clean.context;
+  id = t.clean.id;
+  some_form = h.some_form;
+  one_form = h.one_form;
+}
+
+pub texts_readable : (spelt : TextEntry) → HasTexts spelt → HasReadableTexts spelt
+texts_readable spelt t = record { utf8 = t.utf8; no_eot = record { context = t.clean.context; id = t.clean.id } }
+
+fault_readable : (spelt : TextEntry) (fault : PoFault) → SoundEntry spelt → TextsFault spelt fault → UnreadableTexts spelt fault
+fault_readable spelt fault h (validity.not_utf8 some) = faults.not_utf8 some
+fault_readable spelt fault h (validity.forbidden utf8 unclean) =
+    faults.forbidden utf8 (λ (no_eot : HasNoEot spelt). unclean (record { no_nul = h.quoted_lack; context = no_eot.context; id = no_eot.id }))
+
+-- the first entry that can't have its texts is the first one whose texts can't be read
+pub stops_readable : {entries : List TextEntry} {fault : PoFault} {line : ℕ} → DraftsStop entries fault line → All SoundEntry entries → TextsStop entries fault line
+stops_readable (drafts.here {entry = spelt} {entries = entries} {fault = fault} f e) h = faults.here (fault_readable spelt fault (All-head SoundEntry spelt entries h) f) e
+stops_readable (drafts.later {entry = spelt} {entries = entries} t more) h = faults.later (texts_readable spelt t) (stops_readable more (All-tail SoundEntry spelt entries h))
+
+-- the entries of drafts whose texts were asked
+pub drafts_valid : (made : List Fields) → All SoundEntry (map entry_of made) → All (λ draft. HasTexts (entry_of draft)) made → All (λ draft. IsEntry (entry_of draft)) made
+drafts_valid [] h t = All-nil (λ draft. IsEntry (entry_of draft))
+drafts_valid (draft ∷ made) h t =
+    All-cons (λ d. IsEntry (entry_of d)) draft made
+    (entry_valid (entry_of draft) (All-head SoundEntry (entry_of draft) (map entry_of made) h) (All-head (λ d. HasTexts (entry_of d)) draft made t))
+    (drafts_valid made (All-tail SoundEntry (entry_of draft) (map entry_of made) h) (All-tail (λ d. HasTexts (entry_of d)) draft made t))
+
+pub all_readable : (made : List Fields) → All (λ draft. HasTexts (entry_of draft)) made → All HasReadableTexts (map entry_of made)
+all_readable [] t = All-nil HasReadableTexts
+all_readable (draft ∷ made) t =
+    All-cons HasReadableTexts (entry_of draft) (map entry_of made) (texts_readable (entry_of draft) (All-head (λ d. HasTexts (entry_of d)) draft made t)) (all_readable made (All-tail (λ d. HasTexts (entry_of d)) draft made t))
+
+fault_kind : (spelt : TextEntry) (fault : PoFault) → TextsFault spelt fault → fault ≡ OutOfMemory → ⊥
+fault_kind spelt fault (validity.not_utf8 some) e = cc
+fault_kind spelt fault (validity.forbidden utf8 unclean) e = cc
+
+-- want of memory is no fault of texts
+pub draft_kind : {entries : List TextEntry} {fault : PoFault} {line : ℕ} → DraftsStop entries fault line → fault ≡ OutOfMemory → ⊥
+draft_kind (drafts.here {entry = spelt} {fault = fault} f at) e = fault_kind spelt fault f e
+draft_kind (drafts.later t more) e = draft_kind more e

@@ -1,0 +1,217 @@
+-- The fields that sound comments and previous texts make.
+use Rattle.std.proofs.Common.{◌≡◌, ◌≢◌, ℕ, ◌<◌, Bool, true, false, cond, ◌||◌, ◌==◌, List, [], ◌∷◌, ◌++◌, Some, length, map, refl, sym, ap, ◌∙◌, subst, arith, codes, inl, inr, suc, lit<}
+use Rattle.std.specs.Prelude.{All, Contains, IsUtf8, if◌then◌else◌, filter, flat_map, fold, option_to_list, bytes_eq}
+use Rattle.std.specs.List.{slice_split, list_any}
+use Rattle.std.proofs.lemmas.List.Elements.{All-nil, All-cons, All-head, All-tail, All-append, All-push, All-weaker, Contains-push_cases}
+use Rattle.std.proofs.lemmas.List.Folds.{list_any_at}
+use Rattle.std.proofs.lemmas.Bool.{eqb-true, eqb-false, not-true, false≢true}
+use Rattle.std.proofs.lemmas.Slice.Eq.{bytes_eq-Decides}
+use Rattle.po_syntax.specs.declared.item.CommentKind.{CommentKind}
+use Rattle.po_syntax.specs.declared.item.CommentKind.TheVariants.{Translator, Extracted, Reference, Flags}
+use Rattle.po_syntax.specs.Token.{is_blank, skip_blanks}
+use Rattle.po_entry.specs.TextEntry.{TextPrevious, previous_texts, no_previous}
+use Rattle.po_entry.specs.Bytes.{Lacks, trimmed, AreDistinct}
+use Rattle.po_entry.specs.Head.{Note, PreviousText, rank}
+use Rattle.po_entry.specs.Notes.{same_kind, texts_of, is_not_empty, is_comma, words_of, flag_words, is_fuzzy_word, with_flag, with_previous, previous_of}
+use Rattle.po_entry.specs.Validity.{IsText, IsReference, IsFlag}
+use Rattle.po_reader.proofs.SoundItems.{SoundComment, IsLineText}
+use Rattle.po_reader.proofs.SoundEntries.{SoundNote, SoundPrevious}
+use Rattle.po_reader.proofs.Pieces.{utf8_behind, utf8_before, utf8_parts, all_parts, parts_fail, blank_is_ascii, All-left}
+use Rattle.po_reader.proofs.Trims.{end_keeps, start_keeps, ends_once}
+
+same_kinds : (a b : CommentKind) → same_kind a b ≡ true → b ≡ a
+same_kinds Translator Translator e = refl
+same_kinds Translator Extracted e = cc
+same_kinds Translator Reference e = cc
+same_kinds Translator Flags e = cc
+same_kinds Extracted Translator e = cc
+same_kinds Extracted Extracted e = refl
+same_kinds Extracted Reference e = cc
+same_kinds Extracted Flags e = cc
+same_kinds Reference Translator e = cc
+same_kinds Reference Extracted e = cc
+same_kinds Reference Reference e = refl
+same_kinds Reference Flags e = cc
+same_kinds Flags Translator e = cc
+same_kinds Flags Extracted e = cc
+same_kinds Flags Reference e = cc
+same_kinds Flags Flags e = refl
+
+pub kind_sound : (kind : CommentKind) (notes : List Note) → All SoundNote notes → All (SoundComment kind) (texts_of kind notes)
+kind_sound kind [] h = All-nil (SoundComment kind)
+kind_sound kind (note ∷ notes) h = found (same_kind kind note.kind) refl (kind_sound kind notes (All-tail SoundNote note notes h)) where
+  found : (t : Bool) → same_kind kind note.kind ≡ t → All (SoundComment kind) (texts_of kind notes) → All (SoundComment kind) (map (λ (n : Note). n.text) (cond t (note ∷ filter (λ (n : Note). same_kind kind n.kind) notes) (filter (λ (n : Note). same_kind kind n.kind) notes)))
+  found true t more = All-cons (SoundComment kind) note.text (texts_of kind notes) (subst (λ k. SoundComment k note.text) (same_kinds kind note.kind t) (All-head SoundNote note notes h)) more
+  found false t more = more
+
+line_text : (kind : CommentKind) (text : List ℕ) → SoundComment kind text → IsLineText text
+line_text kind text h = record { utf8 = h.valid.utf8; no_nul = h.valid.no_nul; one_line = h.one_line.one_line }
+
+-- the parts of a line's text that is cut at ASCII bytes
+line_parts : (p : ℕ → Bool) → ((b : ℕ) → p b ≡ true → b < 128) → (text : List ℕ) → IsLineText text → All IsLineText (slice_split p text)
+line_parts p ascii text h =
+    zipped (slice_split p text) (utf8_parts p ascii (length text) text (omega arith) h.utf8) (all_parts (λ b. b ≢ 0) p text h.no_nul) (all_parts (λ b. b ≢ 10) p text h.one_line)
+  where
+    zipped : (parts : List (List ℕ)) → All IsUtf8 parts → All (Lacks 0) parts → All (Lacks 10) parts → All IsLineText parts
+    zipped [] a b c = All-nil IsLineText
+    zipped (part ∷ parts) a b c =
+        let here : IsLineText part = record { utf8 = All-head IsUtf8 part parts a; no_nul = All-head (Lacks 0) part parts b; one_line = All-head (Lacks 10) part parts c } in
+        All-cons IsLineText part parts here (zipped parts (All-tail IsUtf8 part parts a) (All-tail (Lacks 0) part parts b) (All-tail (Lacks 10) part parts c))
+
+-- a word of a reference line
+pub record SoundReference (word : List ℕ) : Type 0 where
+  pub valid : IsText word
+  pub reference : IsReference word
+
+some_byte : (text : List ℕ) → is_not_empty text ≡ true → text ≢ []
+some_byte text e none = let length_zero : length text ≡ 0 = ap length none in eqb-false _ _ (not-true _ e) length_zero
+
+words_sound : (text : List ℕ) → IsLineText text → All SoundReference (words_of text)
+words_sound text h = kept (slice_split is_blank text) (line_parts is_blank blank_is_ascii text h) (parts_fail is_blank text) where
+  kept : (parts : List (List ℕ)) → All IsLineText parts → All (All (λ b. is_blank b ≡ false)) parts → All SoundReference (filter is_not_empty parts)
+  kept [] a b = All-nil SoundReference
+  kept (part ∷ parts) a b = found (is_not_empty part) refl (kept parts (All-tail IsLineText part parts a) (All-tail (All (λ c. is_blank c ≡ false)) part parts b)) where
+    found : (t : Bool) → is_not_empty part ≡ t → All SoundReference (filter is_not_empty parts) → All SoundReference (cond t (part ∷ filter is_not_empty parts) (filter is_not_empty parts))
+    found true t more =
+        let line = All-head IsLineText part parts a in
+        let here : SoundReference part = record {
+          valid = record { utf8 = line.utf8; no_nul = line.no_nul };
+          reference = record { some_byte = some_byte part t; no_blank = All-head (All (λ c. is_blank c ≡ false)) part parts b; one_line = line.one_line };
+        } in
+        All-cons SoundReference part (filter is_not_empty parts) here more
+    found false t more = more
+
+pub references_sound : (texts : List (List ℕ)) → All (SoundComment Reference) texts → All SoundReference (flat_map words_of texts)
+references_sound [] h = All-nil SoundReference
+references_sound (text ∷ texts) h =
+    All-append SoundReference (words_of text) (flat_map words_of texts) (words_sound text (line_text Reference text (All-head (SoundComment Reference) text texts h)))
+    (references_sound texts (All-tail (SoundComment Reference) text texts h))
+
+-- a word of a flag line
+pub record SoundFlagWord (word : List ℕ) : Type 0 where
+  pub valid : IsText word
+  pub some : word ≢ []
+  pub no_blank_ends : trimmed word ≡ word
+  pub no_comma : Lacks 44 word
+  pub one_line : Lacks 10 word
+
+record FlagPiece (text : List ℕ) : Type 0 where
+  line : IsLineText text
+  no_comma : Lacks 44 text
+
+piece_tail : (b : ℕ) (text : List ℕ) → is_blank b ≡ true → FlagPiece (b ∷ text) → FlagPiece text
+piece_tail b text e h = record {
+  line = record { utf8 = utf8_behind b text (blank_is_ascii b e) h.line.utf8; no_nul = All-tail (λ c. c ≢ 0) b text h.line.no_nul; one_line = All-tail (λ c. c ≢ 10) b text h.line.one_line };
+  no_comma = All-tail (λ c. c ≢ 44) b text h.no_comma;
+}
+
+piece_front : (text : List ℕ) (b : ℕ) → is_blank b ≡ true → FlagPiece (text ++ b ∷ []) → FlagPiece text
+piece_front text b e h = record {
+  line = record {
+    utf8 = utf8_before text b (blank_is_ascii b e) h.line.utf8;
+    no_nul = All-left (λ c. c ≢ 0) text (b ∷ []) h.line.no_nul;
+    one_line = All-left (λ c. c ≢ 10) text (b ∷ []) h.line.one_line;
+  };
+  no_comma = All-left (λ c. c ≢ 44) text (b ∷ []) h.no_comma;
+}
+
+trimmed_piece : (text : List ℕ) → FlagPiece text → FlagPiece (trimmed text)
+trimmed_piece text h = end_keeps FlagPiece is_blank piece_front (skip_blanks text) (start_keeps FlagPiece is_blank piece_tail text h)
+
+comma_is_ascii : (b : ℕ) → is_comma b ≡ true → b < 128
+comma_is_ascii b e = let low : 44 < 128 = lit< tt in rw (eqb-true _ _ e) low
+
+flag_words_sound : (text : List ℕ) → IsLineText text → All SoundFlagWord (flag_words text)
+flag_words_sound text h = kept (slice_split is_comma text) (line_parts is_comma comma_is_ascii text h) (parts_fail is_comma text) where
+  kept : (parts : List (List ℕ)) → All IsLineText parts → All (All (λ b. is_comma b ≡ false)) parts → All SoundFlagWord (filter is_not_empty (map trimmed parts))
+  kept [] a b = All-nil SoundFlagWord
+  kept (part ∷ parts) a b = found (is_not_empty (trimmed part)) refl (kept parts (All-tail IsLineText part parts a) (All-tail (All (λ c. is_comma c ≡ false)) part parts b)) where
+    found : (t : Bool) → is_not_empty (trimmed part) ≡ t → All SoundFlagWord (filter is_not_empty (map trimmed parts))
+        → All SoundFlagWord (cond t (trimmed part ∷ filter is_not_empty (map trimmed parts)) (filter is_not_empty (map trimmed parts)))
+    found true t more =
+        let no_comma : Lacks 44 part = All-weaker (λ c. is_comma c ≡ false) (λ c. c ≢ 44) (λ c e. eqb-false _ _ e) part (All-head (All (λ c. is_comma c ≡ false)) part parts b) in
+        let piece : FlagPiece part = record { line = All-head IsLineText part parts a; no_comma = no_comma } in
+        let word = trimmed_piece part piece in
+        let here : SoundFlagWord (trimmed part) = record {
+          valid = record { utf8 = word.line.utf8; no_nul = word.line.no_nul };
+          some = some_byte (trimmed part) t;
+          no_blank_ends = ends_once is_blank part;
+          no_comma = word.no_comma;
+          one_line = word.line.one_line;
+        } in
+        All-cons SoundFlagWord (trimmed part) (filter is_not_empty (map trimmed parts)) here more
+    found false t more = more
+
+pub all_flag_words_sound : (texts : List (List ℕ)) → All (SoundComment Flags) texts → All SoundFlagWord (flat_map flag_words texts)
+all_flag_words_sound [] h = All-nil SoundFlagWord
+all_flag_words_sound (text ∷ texts) h =
+    All-append SoundFlagWord (flag_words text) (flat_map flag_words texts) (flag_words_sound text (line_text Flags text (All-head (SoundComment Flags) text texts h)))
+    (all_flag_words_sound texts (All-tail (SoundComment Flags) text texts h))
+
+-- a flag other than `fuzzy`
+pub record SoundFlag (word : List ℕ) : Type 0 where
+  pub valid : IsText word
+  pub flag : IsFlag word
+
+-- flags that can stand in an entry
+pub record SoundFlags (flags : List (List ℕ)) : Type 0 where
+  pub all : All SoundFlag flags
+  pub distinct : AreDistinct flags
+
+distinct_push : (flags : List (List ℕ)) (word : List ℕ) → AreDistinct flags → (Contains flags word → ⊥) → AreDistinct (flags ++ word ∷ [])
+distinct_push [] word h new = (λ (k, below, is). omega (arith, below), tt)
+distinct_push (flag ∷ flags) word h new = (
+  λ among. elim (Contains-push_cases flags word flag among) [ inl before ↦ h.0 before | inr same ↦ new (0, omega arith, sym same) ],
+  distinct_push flags word h.1 (λ (k, below, is). new (suc k, omega (arith, below), is)),
+)
+
+not_among : (flags : List (List ℕ)) (word : List ℕ) → list_any (bytes_eq word) flags ≡ false → Contains flags word → ⊥
+not_among flags word e (k, below, is) = false≢true (sym e ∙ list_any_at (bytes_eq word) flags k word below ((bytes_eq-Decides word _).1 (sym is)))
+
+flag_added : (flags : List (List ℕ)) (word : List ℕ) → SoundFlags flags → SoundFlagWord word → SoundFlags (with_flag flags word)
+flag_added flags word h w = found (is_fuzzy_word word) (list_any (bytes_eq word) flags) refl refl where
+  found : (f a : Bool) → is_fuzzy_word word ≡ f → list_any (bytes_eq word) flags ≡ a → SoundFlags (if f || a then flags else flags ++ word ∷ [])
+  found true a e d = h
+  found false true e d = h
+  found false false e d =
+      let here : SoundFlag word = record {
+        valid = w.valid;
+        flag = record { some_byte = w.some; no_blank_ends = w.no_blank_ends; no_comma = w.no_comma; one_line = w.one_line; not_fuzzy = λ same. false≢true (sym e ∙ (bytes_eq-Decides word (codes "fuzzy")).1 same) };
+      } in
+      record { all = All-push SoundFlag flags word h.all here; distinct = distinct_push flags word h.distinct (not_among flags word d) }
+
+pub flags_sound : (words : List (List ℕ)) (flags : List (List ℕ)) → SoundFlags flags → All SoundFlagWord words → SoundFlags (fold with_flag flags words)
+flags_sound [] flags h w = h
+flags_sound (word ∷ words) flags h w =
+    flags_sound words (with_flag flags word) (flag_added flags word h (All-head SoundFlagWord word words w)) (All-tail SoundFlagWord word words w)
+
+-- previous texts
+
+record PreviousLacks (fields : TextPrevious) : Type 0 where
+  context : All (Lacks 0) (option_to_list fields.context)
+  id : All (Lacks 0) (option_to_list fields.id)
+  plural : All (Lacks 0) (option_to_list fields.plural)
+
+one_lacks : (text : List ℕ) → Lacks 0 text → All (Lacks 0) (text ∷ [])
+one_lacks text h = All-cons (Lacks 0) text [] h (All-nil (Lacks 0))
+
+previous_added : (fields : TextPrevious) (previous : PreviousText) → PreviousLacks fields → Lacks 0 previous.text → PreviousLacks (with_previous fields previous)
+previous_added fields previous h new = found (rank previous.keyword == 1) (rank previous.keyword == 2) where
+  found : (a b : Bool) → PreviousLacks (if a then record { context = Some previous.text; id = fields.id; plural = fields.plural }
+      else if b then record { context = fields.context; id = Some previous.text; plural = fields.plural }
+      else record { context = fields.context; id = fields.id; plural = Some previous.text })
+  found true b = record { context = one_lacks previous.text new; id = h.id; plural = h.plural }
+  found false true = record { context = h.context; id = one_lacks previous.text new; plural = h.plural }
+  found false false = record { context = h.context; id = h.id; plural = one_lacks previous.text new }
+
+previous_folded : (previous : List PreviousText) (fields : TextPrevious) → PreviousLacks fields → All SoundPrevious previous → PreviousLacks (fold with_previous fields previous)
+previous_folded [] fields h p = h
+previous_folded (text ∷ previous) fields h p =
+    previous_folded previous (with_previous fields text) (previous_added fields text h (All-head SoundPrevious text previous p)) (All-tail SoundPrevious text previous p)
+
+pub previous_lacks : (previous : List PreviousText) → All SoundPrevious previous → All (Lacks 0) (previous_texts (previous_of previous))
+previous_lacks previous p =
+    let h = previous_folded previous no_previous (record { context = All-nil (Lacks 0); id = All-nil (Lacks 0); plural = All-nil (Lacks 0) }) p in
+    let fields = previous_of previous in
+    All-append (Lacks 0) (option_to_list fields.context ++ option_to_list fields.id) (option_to_list fields.plural)
+    (All-append (Lacks 0) (option_to_list fields.context) (option_to_list fields.id) h.context h.id) h.plural

@@ -1,0 +1,36 @@
+//! Laws of the definitions, each on an empty function: a crate that rests on one calls it.
+ghost use Rattle.std.specs.Prelude.{◌≡◌, ℕ, List};
+ghost use Rattle.po_syntax.specs.declared.fault.PoFault.{PoFault};
+ghost use Rattle.po_entry.specs.TextEntry.{TextEntry};
+ghost use Rattle.po_entry.specs.Reads.{ReadsText};
+ghost use Rattle.po_reader.specs.Faults.{IsReadFault};
+
+use po_syntax::laws as syntax;
+
+/// A text reads as at most one list of entries.
+pub fn one_reading()
+    ensures { (text : List ℕ) (entries others : List TextEntry)
+        → ReadsText text entries → ReadsText text others → entries ≡ others }
+{
+    syntax::one_reading();
+}
+
+/// No text both reads as entries and has a fault.
+pub fn no_fault_where_entries()
+    ensures { (text : List ℕ) (entries : List TextEntry) (fault : PoFault) (line : ℕ)
+        → ReadsText text entries → IsReadFault text fault line → ⊥ }
+{
+    syntax::one_reading();
+    syntax::no_fault_where_items();
+}
+
+/// A text has at most one first fault, on one line.
+pub fn one_fault()
+    ensures { (text : List ℕ) (fault other : PoFault) (line place : ℕ)
+        → IsReadFault text fault line → IsReadFault text other place
+        → (fault ≡ other) × (line ≡ place) }
+{
+    syntax::one_reading();
+    syntax::no_fault_where_items();
+    syntax::one_fault();
+}

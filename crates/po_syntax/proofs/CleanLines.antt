@@ -1,0 +1,77 @@
+-- The lines of a text: UTF-8 without NUL and LF, as the text is UTF-8 without NUL.
+use Rattle.std.proofs.Common.{◌≡◌, ◌≢◌, refl, sym, ◌==◌, ℕ, zero, suc, ◌+◌, ◌<◌, ◌≤◌, Bool, true, false, not, if◌then◌else◌, List, [], ◌∷◌, length, get_or, take, length-take, drop, length-drop, All, IsUtf8, None, Some, nat_eq, arith, inl, inr}
+use Rattle.std.specs.List.{position_or_len, starts_with}
+use Rattle.std.proofs.lemmas.Bool.{cases_lt, not-true, not-false, eqb-true, eqb-false, cond-true, lt-ltb}
+use Rattle.std.proofs.lemmas.List.{take_all, take-append-drop, get_or-take}
+use Rattle.std.proofs.lemmas.List.Elements.{All-take, All-drop}
+use Rattle.std.proofs.lemmas.List.Splits.{slice_split_none, slice_split_first}
+use Rattle.std.proofs.lemmas.List.Sums.{prefix_len_passes, prefix_len_stops}
+use Rattle.std.proofs.lemmas.Slice.Eq.{bytes_eq-Decides}
+use Rattle.std.proofs.lemmas.Str.{IsUtf8-take, IsUtf8-drop, IsUtf8-past_char, IsCharBoundary-after_ascii}
+use lib.Utf8.{encode}
+use Rattle.po_syntax.specs.PoText.{HasNoNul, lines_of, without_mark}
+
+-- UTF-8 on one line, without NUL
+pub record IsCleanLine (line : List ℕ) : Type 0 where
+  pub utf8 : IsUtf8 line
+  pub no_nul : All (λ b. b ≢ 0) line
+  pub one_line : All (λ b. b ≢ 10) line
+
+abbrev pub AreCleanLines : List (List ℕ) → Type 0
+AreCleanLines [] = Unit {0}
+AreCleanLines (line ∷ lines) = IsCleanLine line × AreCleanLines lines
+
+abbrev is_feed : ℕ → Bool
+is_feed b = b == 10
+
+-- no byte before the first one that passes does
+before_first_passes : (p : ℕ → Bool) (text : List ℕ) (k d : ℕ) → k < position_or_len p text → p (get_or text k d) ≡ false
+before_first_passes p text k d less = not-true _ (prefix_len_passes (λ b. not (p b)) text k d less)
+
+lacks_before : (byte : ℕ) (text : List ℕ) (n : ℕ) → n ≤ position_or_len (λ b. b == byte) text → All (λ b. b ≢ byte) (take n text)
+lacks_before byte text n h = λ k d inside.
+    let less : k < n = omega (arith, length-take n text) in
+    rw (get_or-take n text k d less) (eqb-false _ _ (before_first_passes (λ b. b == byte) text k d (omega arith)))
+
+lacks_all : (byte : ℕ) (text : List ℕ) → length text ≤ position_or_len (λ b. b == byte) text → All (λ b. b ≢ byte) text
+lacks_all byte text h = rw (take_all (length text) text (omega arith)) at (lacks_before byte text (length text) h)
+
+-- the lines of a text that is UTF-8 without NUL
+lines_below : (n : ℕ) (text : List ℕ) → length text < n → IsUtf8 text → All (λ b. b ≢ 0) text → AreCleanLines (lines_of text)
+lines_below zero text h utf8 no_nul = absurd (omega arith)
+lines_below (suc n) text h utf8 no_nul =
+    let place = position_or_len is_feed text in
+    elim (cases_lt place (length text)) [
+      | inl inside ↦
+          let feed : get_or text place 0 ≡ 10 = eqb-true _ _ (not-false _ (prefix_len_stops (λ b. not (is_feed b)) text 0 inside)) in
+          let behind = IsCharBoundary-after_ascii text place utf8 inside (omega arith) in
+          rw (slice_split_first is_feed text 0 inside) (
+            record { utf8 = IsUtf8-take text place utf8 (omega arith, λ within lead. absurd (omega arith)); no_nul = All-take (λ b. b ≢ 0) place text no_nul; one_line = lacks_before 10 text place (omega arith) },
+            lines_below n (drop (place + 1) text) (omega (arith, length-drop (place + 1) text)) (IsUtf8-drop text (place + 1) utf8 behind) (All-drop (λ b. b ≢ 0) (place + 1) text no_nul),
+          )
+      | inr none ↦
+          rw (slice_split_none is_feed text (λ k d inside. before_first_passes is_feed text k d (omega arith))) (record { utf8 = utf8; no_nul = no_nul; one_line = lacks_all 10 text none }, tt)
+    ]
+
+-- a byte order mark is a character of its own
+mark_cases : (text : List ℕ) (marked : Bool) → starts_with nat_eq text (0xEF ∷ 0xBB ∷ 0xBF ∷ []) ≡ marked → IsUtf8 text → IsUtf8 (if marked then drop 3 text else text)
+unfolding encode
+mark_cases text true e utf8 =
+    let mark : 0xEF ∷ 0xBB ∷ 0xBF ∷ [] ≡ take 3 text = (bytes_eq-Decides (0xEF ∷ 0xBB ∷ 0xBF ∷ []) (take 3 text)).0 e in
+    IsUtf8-past_char text (drop 3 text) 0xFEFF utf8 (sym (rw (sym mark) at (take-append-drop 3 text)))
+mark_cases text false e utf8 = utf8
+
+behind_mark : (P : ℕ → Type 0) (text : List ℕ) (marked : Bool) → All P text → All P (if marked then drop 3 text else text)
+behind_mark P text true h = All-drop P 3 text h
+behind_mark P text false h = h
+
+no_nul_all : (text : List ℕ) → HasNoNul text → All (λ b. b ≢ 0) text
+no_nul_all text h =
+    elim (cases_lt (position_or_len (λ b. b == 0) text) (length text)) [
+      | inl inside ↦ absurd (let found = cond-true _ (Some (position_or_len (λ b. b == 0) text)) None (lt-ltb _ _ inside) in cc)
+      | inr none ↦ lacks_all 0 text none
+    ]
+
+pub clean_lines : (text : List ℕ) → IsUtf8 text → HasNoNul text → AreCleanLines (lines_of (without_mark text))
+clean_lines text utf8 no_nul =
+    lines_below (length (without_mark text) + 1) (without_mark text) (omega arith) (mark_cases text _ refl utf8) (behind_mark (λ b. b ≢ 0) text _ (no_nul_all text no_nul))
