@@ -1,5 +1,5 @@
 -- A text cut after each LF.
-use Rattle.std.proofs.Common.{◌≡◌, ◌==◌, nat_lt, not, if◌then◌else◌, refl, sym, ℕ, zero, suc, ◌+◌, ◌<◌, ◌≤◌, Bool, true, false, List, [], ◌∷◌, length, take, drop, Some, None, arith, add-one}
+use Rattle.std.proofs.Common.{◌≡◌, ◌==◌, nat_lt, not, if◌then◌else◌, refl, sym, ℕ, zero, suc, ◌+◌, ◌<◌, Bool, true, false, List, [], ◌∷◌, length, take, drop, Some, None, arith, add-one}
 use Rattle.std.specs.List.{onto_first}
 use Rattle.std.proofs.lemmas.Bool.{false_from_ne_true, eqb-true, lt-ltb, ne_eqb}
 use Rattle.memchr.specs.Find.{IsFirstByte, Passes, is_byte}

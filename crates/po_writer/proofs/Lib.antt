@@ -1,2 +1,14 @@
 pub mod Cuts
 pub mod Separated
+pub mod Utf8
+pub mod Spelling
+pub mod Tokens
+pub mod Heads
+pub mod Words
+pub mod KeywordTexts
+pub mod Bodies
+pub mod Numbered
+pub mod Fields
+pub mod Entries
+pub mod Texts
+pub mod Rewritten

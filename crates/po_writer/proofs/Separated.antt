@@ -1,5 +1,5 @@
 -- The entries written one after the other are the written text.
-use Rattle.std.proofs.Common.{◌≡◌, ◌∙◌, ◌==◌, refl, sym, ap, ℕ, ◌<◌, List, [], ◌∷◌, ◌++◌, Bool, true, false, not, filter, length, length-append, append_assoc, codes, if◌then◌else◌, arith}
+use Rattle.std.proofs.Common.{◌≡◌, ◌∙◌, refl, sym, ap, ℕ, ◌<◌, List, [], ◌∷◌, ◌++◌, Bool, true, false, not, filter, length, length-append, append_assoc, codes, arith}
 use Rattle.std.specs.Prelude.{fold}
 use Rattle.std.specs.List.{flat_map, join_by}
 use Rattle.std.specs.Bool.{beq}
@@ -17,7 +17,7 @@ some_behind xs ys h = omega (arith, length-append xs ys)
 some_before : (xs ys : List ℕ) → 0 < length xs → 0 < length (xs ++ ys)
 some_before xs ys h = omega (arith, length-append xs ys)
 
-keyword_some : (prefix keyword text : List ℕ) → 0 < length (keyword_lines prefix keyword text)
+pub keyword_some : (prefix keyword text : List ℕ) → 0 < length (keyword_lines prefix keyword text)
 keyword_some prefix keyword text = some_behind (prefix ++ keyword) (32 ∷ text_lines prefix text) (omega arith)
 
 own_some : (prefix : List ℕ) (entry : TextEntry) → 0 < length (own_lines prefix entry)

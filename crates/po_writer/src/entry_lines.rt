@@ -9,7 +9,11 @@ use po_entry::{Entry, Previous};
 use po_syntax::PoError;
 
 /// Appends a line for each comment, behind the mark of its kind.
-pub(crate) fn push_comments(out: &mut Vec<u8>, mark: &[u8], comments: &[Vec<u8>]) -> Result<(), PoError>
+pub(crate) fn push_comments(
+    out: &mut Vec<u8>,
+    mark: &[u8],
+    comments: &[Vec<u8>],
+) -> Result<(), PoError>
     ensures appended { OnOk result (out.new.items ≡ out.old.items ++ comment_lines mark.now (texts comments.now)) }
     ensures memory { IfErr result (λ e. e ≡ out_of_memory) }
 {
@@ -68,7 +72,11 @@ pub(crate) fn push_flags(out: &mut Vec<u8>, fuzzy: bool, flags: &[Vec<u8>]) -> R
 }
 
 /// Appends the previous texts that there are.
-pub(crate) fn push_previous(out: &mut Vec<u8>, prefix: &[u8], previous: &Previous) -> Result<(), PoError>
+pub(crate) fn push_previous(
+    out: &mut Vec<u8>,
+    prefix: &[u8],
+    previous: &Previous,
+) -> Result<(), PoError>
     ensures appended { OnOk result (out.new.items ≡ out.old.items ++ previous_lines prefix.now previous.now) }
     ensures memory { IfErr result (λ e. e ≡ out_of_memory) }
 {

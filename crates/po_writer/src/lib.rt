@@ -3,6 +3,7 @@
 
 mod entry_lines;
 mod keyword_lines;
+pub mod laws;
 #[cfg(test)]
 mod tests;
 mod text;

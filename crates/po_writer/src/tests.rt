@@ -43,7 +43,10 @@ fn arranged_entries(rt: HostRuntime) -> Result<(), Fail> {
     let live = Entry::message(rt.alloc(), Some(b""), b"k", Some(b"ks"), &[b"v", b"w\n"])?;
     assert!(rt; catalogue.push(old).is_ok());
     assert!(rt; catalogue.push(live).is_ok());
-    assert_eq!(rt; write(rt.alloc(), &catalogue)?.as_slice(), b"msgctxt \"\"\nmsgid \"k\"\nmsgid_plural \"ks\"\nmsgstr[0] \"v\"\nmsgstr[1] \"w\\n\"\n\n#, fuzzy\n#~ msgctxt \"c\"\n#~ msgid \"\"\n#~ \"o\\n\"\n#~ \"p\"\n#~ msgstr \"\\001\\177\\\\\"\n".as_slice());
+    assert_eq!(rt;
+        write(rt.alloc(), &catalogue)?.as_slice(),
+        b"msgctxt \"\"\nmsgid \"k\"\nmsgid_plural \"ks\"\nmsgstr[0] \"v\"\nmsgstr[1] \"w\\n\"\n\n#, fuzzy\n#~ msgctxt \"c\"\n#~ msgid \"\"\n#~ \"o\\n\"\n#~ \"p\"\n#~ msgstr \"\\001\\177\\\\\"\n".as_slice()
+    );
     Ok(())
 }
 
@@ -61,7 +64,10 @@ fn head_lines(rt: HostRuntime) -> Result<(), Fail> {
     push_words(&mut out, b"#: ", b" ", &words)?;
     push_flags(&mut out, true, &words)?;
     push_flags(&mut out, false, &words)?;
-    assert_eq!(rt; out.as_slice(), b"#.x.c:1\n#.y.c:2\n#: x.c:1 y.c:2\n#, fuzzy, x.c:1, y.c:2\n#, x.c:1, y.c:2\n".as_slice());
+    assert_eq!(rt;
+        out.as_slice(),
+        b"#.x.c:1\n#.y.c:2\n#: x.c:1 y.c:2\n#, fuzzy, x.c:1, y.c:2\n#, x.c:1, y.c:2\n".as_slice()
+    );
     Ok(())
 }
 
@@ -74,6 +80,9 @@ fn previous_texts(rt: HostRuntime) -> Result<(), Fail> {
         plural: Some(b"".as_slice().to_vec(rt.alloc())?),
     };
     push_previous(&mut out, b"#~| ", &previous)?;
-    assert_eq!(rt; out.as_slice(), b"#~| msgctxt \"c\"\n#~| msgid \"\"\n#~| \"i\\n\"\n#~| \"j\"\n#~| msgid_plural \"\"\n".as_slice());
+    assert_eq!(rt;
+        out.as_slice(),
+        b"#~| msgctxt \"c\"\n#~| msgid \"\"\n#~| \"i\\n\"\n#~| \"j\"\n#~| msgid_plural \"\"\n".as_slice()
+    );
     Ok(())
 }

@@ -1,4 +1,4 @@
-use Rattle.std.proofs.Common.{◌≡◌, ◌≤◌, ◌++◌, drop, length}
+use Rattle.std.proofs.Common.{◌≡◌, ◌++◌, drop}
 use Rattle.po_entry.specs.TextEntry.{texts}
 use Rattle.po_writer.specs.WrittenText.{form_lines}
 use Rattle.po_writer.proofs.entry_lines.push_forms.Given as goal

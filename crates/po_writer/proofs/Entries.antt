@@ -1,0 +1,205 @@
+-- A written entry reads as the entry, but for its line.
+use Rattle.std.proofs.Common.{◌≡◌, ◌≢◌, ◌∙◌, ◌^◌, refl, ap, subst, ℕ, ◌<◌, ◌≤◌, Bool, true, false, List, [], ◌∷◌, ◌++◌, append_assoc, length, fold, codes, Option, Some, None, All, option_to_list, unwrap_or, slice_index_or, arith}
+use Rattle.std.specs.List.{flat_map, list_any}
+use Rattle.std.proofs.lemmas.List.{append-nil}
+use Rattle.std.proofs.lemmas.List.Elements.{All-nil, All-cons, All-head, All-weaker}
+use Rattle.std.proofs.lemmas.Bool.{ne_eqb}
+use Rattle.po_entry.proofs.Lists.{All-left, All-right}
+use Rattle.po_syntax.specs.declared.item.CommentKind.TheVariants.{Translator, Extracted, Reference, Flags}
+use Rattle.po_syntax.specs.TextItem.{TextItem}
+use Rattle.po_entry.specs.Bytes.{Lacks, AreDistinct}
+use Rattle.po_entry.specs.TextEntry.{TextEntry, TextPrevious, with_line, previous_texts}
+use Rattle.po_entry.specs.Validity.{IsText, IsComment, IsTranslatorComment, IsReference, IsFlag, IsEntry}
+use Rattle.po_entry.specs.Strings.{own_marks}
+use Rattle.po_entry.specs.Notes.{comments_of, extracted_of, references_of, flag_words_of, fuzzy_of, flags_of, words_of, flag_words, is_fuzzy_word, with_flag, is_comma}
+use Rattle.po_entry.specs.Head.{Note}
+use Rattle.po_entry.specs.Body.{Body}
+use Rattle.po_entry.specs.Reads.{Reads, entry, entry_from}
+use Rattle.po_writer.specs.WrittenText.{comment_lines, words_line, all_flags, previous_prefix, own_prefix, previous_lines, own_lines, entry_lines}
+use Rattle.po_writer.proofs.Utf8.{IsLine, is_plain, line-append, line-empty, plain_line}
+use Rattle.po_writer.proofs.Spelling.{Block, two_blocks}
+use Rattle.po_writer.proofs.Tokens.{no_prefix, previous_live, previous_obsolete, own_obsolete}
+use Rattle.po_writer.proofs.KeywordTexts.{IsLinePrefix, IsQuotable}
+use Rattle.po_writer.proofs.Heads.{IsFresh, HeadPart, two_parts, remarks, IsMarked, comments_block, translator_shape, extracted_shape, reference_shape, flags_shape}
+use Rattle.po_writer.proofs.Words.{IsWord, IsEnded, word_ended, IsFlagWord, flag_ended}
+use Rattle.po_writer.proofs.Fields.{words_text, all_remarks, comments_kept, extracted_kept, reference_texts, flag_texts, references_kept, flag_words_kept, fuzzy_kept, flags_kept, words_block}
+use Rattle.po_writer.proofs.Bodies.{WordsWritten, BodyPart, HasForms, body_block, previous_marks, all_previous, previous_kept, previous_lines_block}
+
+-- behind whatever stands before, the items read as this entry, and then what stands behind them
+abbrev pub EntryPart : TextEntry → List TextItem → Type 0
+EntryPart e here =
+    (later : List TextItem) (read : List TextEntry) → IsFresh later → Reads later read → IsFresh (here ++ later) × ((line : ℕ) × Reads (here ++ later) (with_line line e ∷ read))
+
+-- the comments that an entry is written with
+abbrev pub entry_remarks : TextEntry → List Note
+entry_remarks e = all_remarks e.comments e.extracted (words_text (32 ∷ []) e.references) (words_text (44 ∷ 32 ∷ []) (all_flags e.fuzzy e.flags))
+
+-- what makes the words of an entry come back
+pub record HasWords (e : TextEntry) : Type 0 where
+  pub references : All IsWord e.references
+  pub flags : All IsFlagWord (all_flags e.fuzzy e.flags)
+  pub not_fuzzy : All (λ flag. flag ≡ codes "fuzzy" → ⊥) e.flags
+  pub distinct : AreDistinct e.flags
+
+abbrev body_of : TextEntry → ℕ → Body
+body_of e line = record { context = e.context; id = e.id; plural = e.plural; forms = e.forms; obsolete = e.obsolete; line = line }
+
+-- the entry of these fields
+abbrev made : List (List ℕ) → List (List ℕ) → List (List ℕ) → Bool → List (List ℕ) → TextPrevious → TextEntry → ℕ → TextEntry
+made comments extracted references fuzzy flags texts e line = record {
+  comments = comments;
+  extracted = extracted;
+  references = references;
+  fuzzy = fuzzy;
+  flags = flags;
+  previous = texts;
+  context = e.context;
+  id = e.id;
+  plural = e.plural;
+  forms = e.forms;
+  obsolete = e.obsolete;
+  line = line;
+}
+
+same_entry : (e : TextEntry) (line : ℕ) (comments extracted references flags : List (List ℕ)) (fuzzy : Bool) (texts : TextPrevious)
+    → comments ≡ e.comments → extracted ≡ e.extracted → references ≡ e.references → fuzzy ≡ e.fuzzy → flags ≡ e.flags → texts ≡ e.previous → made comments extracted references fuzzy flags texts e line ≡ with_line line e
+same_entry e line comments extracted references flags fuzzy texts a b c d f p = rw (a, b, c, d, f, p) refl
+
+entry_back : (e : TextEntry) (line : ℕ) → HasWords e → entry_from (entry_remarks e) (all_previous e.previous) (body_of e line) ≡ with_line line e
+entry_back e line h =
+    let R = words_text (32 ∷ []) e.references in
+    let F = words_text (44 ∷ 32 ∷ []) (all_flags e.fuzzy e.flags) in
+    let words : flag_words_of (entry_remarks e) ≡ all_flags e.fuzzy e.flags = ap (flat_map flag_words) (flag_texts e.comments e.extracted R F) ∙ flag_words_kept (all_flags e.fuzzy e.flags) h.flags in
+    let comments : comments_of (entry_remarks e) ≡ e.comments = comments_kept e.comments e.extracted R F in
+    let extracted : extracted_of (entry_remarks e) ≡ e.extracted = extracted_kept e.comments e.extracted R F in
+    let references : references_of (entry_remarks e) ≡ e.references = ap (flat_map words_of) (reference_texts e.comments e.extracted R F) ∙ references_kept e.references h.references in
+    let fuzzy : fuzzy_of (entry_remarks e) ≡ e.fuzzy = ap (list_any is_fuzzy_word) words ∙ fuzzy_kept e.fuzzy e.flags h.not_fuzzy in
+    let flags : flags_of (entry_remarks e) ≡ e.flags = ap (fold with_flag []) words ∙ flags_kept e.fuzzy e.flags h.not_fuzzy h.distinct in
+    same_entry e line _ _ _ _ _ _ comments extracted references fuzzy flags (previous_kept e.previous)
+
+entry_part : (e : TextEntry) (head own : List TextItem) → HasWords e → HeadPart 0 3 (entry_remarks e ++ []) (all_previous e.previous) head → BodyPart e.obsolete e.context e.id e.plural e.forms own → EntryPart e (head ++ own)
+entry_part e head own words h g = λ later read fresh reads.
+    let body = g later fresh in
+    let front = h (own ++ later) (own ++ later) [] [] body.2 in
+    rw (append_assoc head own later) (front.1, (body.0, subst (λ x. Reads (head ++ (own ++ later)) (x ∷ read)) (entry_back e body.0 words) (entry (rw (append-nil (entry_remarks e ++ []), append-nil (entry_remarks e), append-nil (all_previous e.previous)) at (front.0 0 (omega arith))) body.1 reads)))
+
+All-both : {X : Type 0} (P Q R : X → Type 0) (xs : List X) → ((x : X) → P x → Q x → R x) → All P xs → All Q xs → All R xs
+All-both P Q R xs both h g = λ k d inside. both (slice_index_or xs k d) (h k d inside) (g k d inside)
+
+feed_cases : (b : ℕ) → b ≢ 0 → b ≢ 10 → is_plain b ≡ true
+feed_cases b nul feed = rw (ne_eqb b 0 nul, ne_eqb b 10 feed) refl
+
+text_line : (text : List ℕ) → IsText text → Lacks 10 text → IsLine text
+text_line text h g = record { utf8 = h.utf8; plain = All-both (λ b. b ≢ 0) (λ b. b ≢ 10) (λ b. is_plain b ≡ true) text feed_cases h.no_nul g }
+
+text_quotable : (text : List ℕ) → IsText text → IsQuotable text
+text_quotable text h = record { utf8 = h.utf8; no_nul = h.no_nul }
+
+translator_marked : (text : List ℕ) → IsText text → IsTranslatorComment text → IsMarked Translator (codes "#") text
+translator_marked text h g = record { line = line-append (codes "#") text (plain_line (codes "#") refl) (text_line text h g.comment.one_line); low = omega arith; shape = translator_shape text g; trimmed = g.comment.no_final_return }
+
+extracted_marked : (text : List ℕ) → IsText text → IsComment text → IsMarked Extracted (codes "#.") text
+extracted_marked text h g = record { line = line-append (codes "#.") text (plain_line (codes "#.") refl) (text_line text h g.one_line); low = omega arith; shape = extracted_shape text; trimmed = g.no_final_return }
+
+some_text : (text : List ℕ) → text ≢ [] → 0 < length text
+some_text [] h = absurd (h refl)
+some_text (b ∷ text) h = omega arith
+
+reference_word : (text : List ℕ) → IsReference text → IsWord text
+reference_word text h = (some_text text h.some_byte, h.no_blank)
+
+no_comma : (b : ℕ) → b ≢ 44 → is_comma b ≡ false
+no_comma b h = ne_eqb b 44 h
+
+flag_word : (text : List ℕ) → IsFlag text → IsFlagWord text
+flag_word text h = record { some = some_text text h.some_byte; no_blank_ends = h.no_blank_ends; no_comma = All-weaker (λ b. b ≢ 44) (λ b. is_comma b ≡ false) no_comma text h.no_comma }
+
+-- the list with one more in front, where the test passes
+all_with : (P : List ℕ → Type 0) (fuzzy : Bool) (flags : List (List ℕ)) → P (codes "fuzzy") → All P flags → All P (all_flags fuzzy flags)
+all_with P true flags h g = All-cons P (codes "fuzzy") flags h g
+all_with P false flags h g = g
+
+five_bytes : All (λ b. is_comma b ≡ false) (codes "fuzzy")
+five_bytes =
+    let P : ℕ → Type 0 = λ b. is_comma b ≡ false in
+    All-cons P 102 (codes "uzzy") refl (All-cons P 117 (codes "zzy") refl (All-cons P 122 (codes "zy") refl (All-cons P 122 (codes "y") refl (All-cons P 121 [] refl (All-nil P)))))
+
+fuzzy_word : IsFlagWord (codes "fuzzy")
+fuzzy_word = record { some = omega arith; no_blank_ends = refl; no_comma = five_bytes }
+
+words_of_entry : (e : TextEntry) → IsEntry e → HasWords e
+words_of_entry e h = record {
+  references = All-weaker IsReference IsWord reference_word e.references h.references;
+  flags = all_with IsFlagWord e.fuzzy e.flags fuzzy_word (All-weaker IsFlag IsFlagWord flag_word e.flags h.flags);
+  not_fuzzy = All-weaker IsFlag (λ flag. flag ≡ codes "fuzzy" → ⊥) (λ flag g. g.not_fuzzy) e.flags h.flags;
+  distinct = h.distinct_flags;
+}
+
+live_prefix : IsLinePrefix (codes "#| ") (previous_marks false)
+live_prefix = record { marked = previous_live; line = plain_line (codes "#| ") refl; low = omega arith }
+
+obsolete_prefix : IsLinePrefix (codes "#~| ") (previous_marks true)
+obsolete_prefix = record { marked = previous_obsolete; line = plain_line (codes "#~| ") refl; low = omega arith }
+
+previous_prefix_line : (obsolete : Bool) → IsLinePrefix (previous_prefix obsolete) (previous_marks obsolete)
+previous_prefix_line true = obsolete_prefix
+previous_prefix_line false = live_prefix
+
+own_prefix_line : (obsolete : Bool) → IsLinePrefix (own_prefix obsolete) (own_marks obsolete)
+own_prefix_line true = record { marked = own_obsolete; line = plain_line (codes "#~ ") refl; low = omega arith }
+own_prefix_line false = record { marked = no_prefix; line = line-empty; low = tt }
+
+optional_quotable : (text : Option (List ℕ)) → All IsText (option_to_list text) → (t : List ℕ) → text ≡ Some t → IsQuotable t
+optional_quotable None h t e = cc
+optional_quotable (Some text) h t e = subst IsQuotable (ap (λ o. unwrap_or o []) e) (text_quotable text (All-head IsText text [] h))
+
+-- an entry's texts are few enough for their indices
+abbrev pub IsShort : TextEntry → Type 0
+IsShort e = length e.forms ≤ 2 ^ 32
+
+entry_forms : (e : TextEntry) → IsEntry e → IsShort e → All IsText e.forms → All IsText (option_to_list e.plural) → HasForms e.plural e.forms
+entry_forms e h short forms plural = record { some = h.some_form; one = h.one_form; few = short; quotable = All-weaker IsText IsQuotable text_quotable e.forms forms; plural_text = optional_quotable e.plural plural }
+
+-- an entry's lines
+pub entry_block : WordsWritten → (e : TextEntry) → IsEntry e → IsShort e → Block (EntryPart e) (entry_lines e)
+entry_block words e h short =
+    let cs = e.comments in
+    let es = e.extracted in
+    let rs = e.references in
+    let fs = all_flags e.fuzzy e.flags in
+    let T = remarks Translator cs in
+    let E = remarks Extracted es in
+    let R = remarks Reference (words_text (32 ∷ []) rs) in
+    let F = remarks Flags (words_text (44 ∷ 32 ∷ []) fs) in
+    let of_flags = All-right IsText ((cs ++ es) ++ rs) e.flags h.comment_texts in
+    let front = All-left IsText ((cs ++ es) ++ rs) e.flags h.comment_texts in
+    let of_references = All-right IsText (cs ++ es) rs front in
+    let of_extracted = All-right IsText cs es (All-left IsText (cs ++ es) rs front) in
+    let of_comments = All-left IsText cs es (All-left IsText (cs ++ es) rs front) in
+    let has_words = words_of_entry e h in
+    let clean_flags = all_with IsLine e.fuzzy e.flags (plain_line (codes "fuzzy") refl) (All-both IsText IsFlag IsLine e.flags (λ t a b. text_line t a b.one_line) of_flags h.flags) in
+    let clean_references = All-both IsText IsReference IsLine rs (λ t a b. text_line t a b.one_line) of_references h.references in
+    let previous = e.previous in
+    let P = previous_texts previous in
+    let C = option_to_list e.context in
+    let Q = option_to_list e.plural in
+    let forms = All-right IsText (((P ++ C) ++ (e.id ∷ [])) ++ Q) e.forms h.quoted_texts in
+    let no_forms = All-left IsText (((P ++ C) ++ (e.id ∷ [])) ++ Q) e.forms h.quoted_texts in
+    let plural = All-right IsText ((P ++ C) ++ (e.id ∷ [])) Q no_forms in
+    let no_plural = All-left IsText ((P ++ C) ++ (e.id ∷ [])) Q no_forms in
+    let id = All-head IsText e.id [] (All-right IsText (P ++ C) (e.id ∷ []) no_plural) in
+    let context = All-right IsText P C (All-left IsText (P ++ C) (e.id ∷ []) no_plural) in
+    let before = All-left IsText P C (All-left IsText (P ++ C) (e.id ∷ []) no_plural) in
+    let before_plural = All-right IsText (option_to_list previous.context ++ option_to_list previous.id) (option_to_list previous.plural) before in
+    let before_two = All-left IsText (option_to_list previous.context ++ option_to_list previous.id) (option_to_list previous.plural) before in
+    let comments = comments_block 0 Translator (codes "#") cs (All-both IsText IsTranslatorComment (IsMarked Translator (codes "#")) cs translator_marked of_comments h.comments) in
+    let extracted = comments_block 0 Extracted (codes "#.") es (All-both IsText IsComment (IsMarked Extracted (codes "#.")) es extracted_marked of_extracted h.extracted) in
+    let references = words_block Reference (codes "#: ") (codes " ") rs (λ t. reference_shape (32 ∷ t)) (plain_line (codes "#: ") refl) (λ t. omega arith) (plain_line (codes " ") refl) clean_references (All-weaker IsWord IsEnded word_ended rs has_words.references) in
+    let flags = words_block Flags (codes "#, ") (codes ", ") fs (λ t. flags_shape (32 ∷ t)) (plain_line (codes "#, ") refl) (λ t. omega arith) (plain_line (codes ", ") refl) clean_flags (All-weaker IsFlagWord IsEnded flag_ended fs has_words.flags) in
+    let head = previous_lines_block words (previous_prefix e.obsolete) e.obsolete previous (previous_prefix_line e.obsolete) (optional_quotable previous.context (All-left IsText (option_to_list previous.context) (option_to_list previous.id) before_two)) (optional_quotable previous.id (All-right IsText (option_to_list previous.context) (option_to_list previous.id) before_two)) (optional_quotable previous.plural before_plural) in
+    let own = body_block words (own_prefix e.obsolete) e.obsolete e.context e.id e.plural e.forms (own_prefix_line e.obsolete) (optional_quotable e.context context) (text_quotable e.id id) (entry_forms e h short forms plural) in
+    let two = two_blocks (HeadPart 0 0 T []) (HeadPart 0 0 E []) (HeadPart 0 0 (T ++ E) []) (comment_lines (codes "#") cs) (comment_lines (codes "#.") es) (λ a b g i. two_parts 0 0 0 T E [] [] a b g i) comments extracted in
+    let three = two_blocks (HeadPart 0 0 (T ++ E) []) (HeadPart 0 0 R []) (HeadPart 0 0 ((T ++ E) ++ R) []) _ (words_line (codes "#: ") (codes " ") rs) (λ a b g i. two_parts 0 0 0 (T ++ E) R [] [] a b g i) two references in
+    let four = two_blocks (HeadPart 0 0 ((T ++ E) ++ R) []) (HeadPart 0 0 F []) (HeadPart 0 0 (((T ++ E) ++ R) ++ F) []) _ (words_line (codes "#, ") (codes ", ") fs) (λ a b g i. two_parts 0 0 0 ((T ++ E) ++ R) F [] [] a b g i) three flags in
+    let all = two_blocks (HeadPart 0 0 (entry_remarks e) []) (HeadPart 0 3 [] (all_previous previous)) (HeadPart 0 3 (entry_remarks e ++ []) (all_previous previous)) _ (previous_lines (previous_prefix e.obsolete) previous) (λ a b g i. two_parts 0 0 3 (entry_remarks e) [] [] (all_previous previous) a b g i) four head in
+    two_blocks (HeadPart 0 3 (entry_remarks e ++ []) (all_previous previous)) (BodyPart e.obsolete e.context e.id e.plural e.forms) (EntryPart e) _ (own_lines (own_prefix e.obsolete) e) (λ a b g i. entry_part e a b has_words g i) all own

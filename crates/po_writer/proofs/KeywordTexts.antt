@@ -1,0 +1,146 @@
+-- A keyword with its text, on one line or more, spells the keyword and strings that give the text.
+use Rattle.std.proofs.Common.{◌≡◌, ◌≢◌, ◌∙◌, ◌==◌, nat_lt, refl, sym, ap, subst, ℕ, ◌<◌, Bool, true, false, if◌then◌else◌, List, [], ◌∷◌, ◌++◌, append_assoc, length, All, arith}
+use Rattle.std.specs.List.{flat_map, onto_first}
+use Rattle.std.specs.Str.{IsUtf8}
+use Rattle.std.proofs.lemmas.Str.{IsUtf8-nil}
+use Rattle.std.proofs.lemmas.List.{append-nil}
+use Rattle.std.proofs.lemmas.List.Elements.{All-nil, All-cons, All-head, All-tail}
+use Rattle.std.proofs.lemmas.Bool.{eqb-true, ltb-true}
+use Rattle.po_entry.proofs.Lists.{All-left, All-right}
+use Rattle.po_syntax.specs.declared.item.Keyword.{Keyword}
+use Rattle.po_syntax.specs.declared.item.Marks.{Marks}
+use Rattle.po_syntax.specs.QuotedForm.{quoted}
+use Rattle.po_syntax.specs.TextItem.{TextItem, Word, Str}
+use Rattle.po_entry.specs.Strings.{IsStrings, last, more, same_bool, same_marks, begins_string}
+use Rattle.po_writer.specs.WrittenText.{cut, string_line, keyword_lines}
+use Rattle.po_writer.proofs.Utf8.{IsLine, line-append, quoted_line, text_some, pieces_utf8, line-ascii, plain_one, no_text}
+use Rattle.po_writer.proofs.Spelling.{Block, BeginsLow, low-append, two_blocks, weaker_block, line_block}
+use Rattle.po_writer.proofs.Tokens.{QuotedFormsSpell, IsPrefix, IsKeyword, string_spells, keyword_spells}
+
+-- the items are strings of this text under these marks
+abbrev pub StringsPart : Marks → List ℕ → List TextItem → Type 0
+StringsPart marks text here = (later : List TextItem) → (begins_string later ≡ false → IsStrings marks (here ++ later) text later) × (begins_string (here ++ later) ≡ true)
+
+-- the items are a word with the strings of its text
+abbrev pub TextPart : Keyword → Marks → List ℕ → List TextItem → Type 0
+TextPart keyword marks text here = (number : ℕ) × (strings : List TextItem) × (here ≡ Word keyword marks number ∷ strings) × StringsPart marks text strings
+
+pub same_bool-refl : (b : Bool) → same_bool b b ≡ true
+same_bool-refl true = refl
+same_bool-refl false = refl
+
+same_marks-refl : (marks : Marks) → same_marks marks marks ≡ true
+same_marks-refl marks = rw (same_bool-refl marks.obsolete, same_bool-refl marks.previous) refl
+
+last_string : (marks : Marks) (number : ℕ) (text : List ℕ) → StringsPart marks text (Str text marks number ∷ [])
+last_string marks number text later = (λ ends. last (rw (same_marks-refl marks) refl) ends, refl)
+
+first_string : (marks : Marks) (number : ℕ) (text others : List ℕ) (strings : List TextItem) → StringsPart marks others strings → StringsPart marks (text ++ others) (Str text marks number ∷ strings)
+first_string marks number text others strings h later =
+    (λ ends. more (rw (same_marks-refl marks) refl) (h later).1 ((h later).0 ends), refl)
+
+-- a prefix of written lines
+pub record IsLinePrefix (prefix : List ℕ) (marks : Marks) : Type 0 where
+  pub marked : IsPrefix prefix marks
+  pub line : IsLine prefix
+  pub low : BeginsLow prefix
+
+-- a text that can be quoted
+pub record IsQuotable (text : List ℕ) : Type 0 where
+  pub utf8 : IsUtf8 text
+  pub no_nul : All (λ b. b ≢ 0) text
+
+-- one string
+abbrev OneString : Marks → List ℕ → List TextItem → Type 0
+OneString marks text items = (number : ℕ) × (items ≡ Str text marks number ∷ [])
+
+one_string : QuotedFormsSpell → (prefix : List ℕ) (marks : Marks) (text : List ℕ) → IsLinePrefix prefix marks → IsQuotable text → Block (OneString marks text) (string_line prefix text)
+one_string law prefix marks text p h =
+    line_block (OneString marks text) (prefix ++ quoted text) (line-append prefix (quoted text) p.line (quoted_line text h.utf8 h.no_nul)) (low-append prefix (quoted text) p.low (omega arith))
+    (λ number. (Str text marks number ∷ [], (number, refl), string_spells law prefix marks number text p.marked (text_some text h.utf8 h.no_nul)))
+
+string_block : QuotedFormsSpell → (prefix : List ℕ) (marks : Marks) (text : List ℕ) → IsLinePrefix prefix marks → IsQuotable text → Block (StringsPart marks text) (string_line prefix text)
+string_block law prefix marks text p h =
+    weaker_block (OneString marks text) (StringsPart marks text) (string_line prefix text) (λ items g. rw g.1 (last_string marks g.0 text)) (one_string law prefix marks text p h)
+
+-- the pieces one after the other
+abbrev pub joined : List (List ℕ) → List ℕ
+joined [] = []
+joined (piece ∷ pieces) = piece ++ joined pieces
+
+-- one string a line
+strings_block : QuotedFormsSpell → (prefix : List ℕ) (marks : Marks) (piece : List ℕ) (pieces : List (List ℕ)) → IsLinePrefix prefix marks → All IsQuotable (piece ∷ pieces)
+    → Block (StringsPart marks (joined (piece ∷ pieces))) (flat_map (string_line prefix) (piece ∷ pieces))
+strings_block law prefix marks piece [] p h =
+    rw (append-nil piece, append-nil (string_line prefix piece)) (string_block law prefix marks piece p (All-head IsQuotable piece [] h))
+strings_block law prefix marks piece (next ∷ pieces) p h =
+    let rest = strings_block law prefix marks next pieces p (All-tail IsQuotable piece (next ∷ pieces) h) in
+    two_blocks (OneString marks piece) (StringsPart marks (joined (next ∷ pieces))) (StringsPart marks (joined (piece ∷ next ∷ pieces))) (string_line prefix piece) (flat_map (string_line prefix) (next ∷ pieces))
+    (λ front later g i. rw g.1 (first_string marks g.0 piece (joined (next ∷ pieces)) later i)) (one_string law prefix marks piece p (All-head IsQuotable piece (next ∷ pieces) h)) rest
+
+onto_joined : (b : ℕ) (pieces : List (List ℕ)) → joined (onto_first b pieces) ≡ b ∷ joined pieces
+onto_joined b [] = refl
+onto_joined b (piece ∷ pieces) = refl
+
+feed_joined : (b : ℕ) (feed : Bool) (pieces : List (List ℕ)) → (feed ≡ true → b ≡ 10) → joined (if feed then (10 ∷ []) ∷ pieces else onto_first b pieces) ≡ b ∷ joined pieces
+feed_joined b true pieces h = ap (λ c. c ∷ joined pieces) (sym (h refl))
+feed_joined b false pieces h = onto_joined b pieces
+
+joined_cut : (text : List ℕ) → joined (cut text) ≡ text
+joined_cut [] = refl
+joined_cut (b ∷ text) = feed_joined b (b == 10) (cut text) (λ e. eqb-true b 10 e) ∙ ap (λ t. b ∷ t) (joined_cut text)
+
+quotable_pieces : (pieces : List (List ℕ)) → All IsUtf8 pieces → All (λ b. b ≢ 0) (joined pieces) → All IsQuotable pieces
+quotable_pieces [] h g = All-nil IsQuotable
+quotable_pieces (piece ∷ pieces) h g =
+    All-cons IsQuotable piece pieces (record { utf8 = All-head IsUtf8 piece pieces h; no_nul = All-left (λ b. b ≢ 0) piece (joined pieces) g }) (quotable_pieces pieces (All-tail IsUtf8 piece pieces h) (All-right (λ b. b ≢ 0) piece (joined pieces) g))
+
+-- a keyword of written lines
+pub record IsLineKeyword (spelling : List ℕ) (keyword : Keyword) : Type 0 where
+  pub token : IsKeyword spelling keyword
+  pub line : IsLine spelling
+  pub low : BeginsLow spelling
+
+-- a word and one string on its line
+abbrev OneLine : Keyword → Marks → List ℕ → List TextItem → Type 0
+OneLine keyword marks text items = (number : ℕ) × (items ≡ Word keyword marks number ∷ Str text marks number ∷ [])
+
+space_line : IsLine (32 ∷ [])
+space_line = line-ascii (32 ∷ []) (plain_one 32 [] (omega arith) refl no_text)
+
+keyword_line : QuotedFormsSpell → (prefix spelling : List ℕ) (keyword : Keyword) (marks : Marks) (text : List ℕ) → IsLinePrefix prefix marks → IsLineKeyword spelling keyword → IsQuotable text
+    → Block (OneLine keyword marks text) ((prefix ++ spelling) ++ 32 ∷ string_line [] text)
+keyword_line law prefix spelling keyword marks text p k h =
+    let written = 32 ∷ quoted text in
+    let clean : IsLine written = line-append (32 ∷ []) (quoted text) space_line (quoted_line text h.utf8 h.no_nul) in
+    let block = line_block (OneLine keyword marks text) (prefix ++ (spelling ++ written)) (line-append prefix (spelling ++ written) p.line (line-append spelling written k.line clean)) (low-append prefix (spelling ++ written) p.low (low-append spelling written k.low (omega arith)))
+    (λ number. (Word keyword marks number ∷ Str text marks number ∷ [], (number, refl), keyword_spells law prefix spelling keyword marks number text p.marked k.token (text_some text h.utf8 h.no_nul))) in
+    subst (Block (OneLine keyword marks text)) (append_assoc prefix (spelling ++ written) (10 ∷ []) ∙ ap (λ t. prefix ++ t) (append_assoc spelling written (10 ∷ [])) ∙ sym (append_assoc prefix spelling (written ++ 10 ∷ []))) block
+
+several_lines : QuotedFormsSpell → (prefix spelling : List ℕ) (keyword : Keyword) (marks : Marks) (text : List ℕ) (pieces : List (List ℕ)) → IsLinePrefix prefix marks → IsLineKeyword spelling keyword
+    → 1 < length pieces → All IsQuotable pieces → joined pieces ≡ text → Block (TextPart keyword marks text) ((prefix ++ spelling) ++ 32 ∷ (string_line [] [] ++ flat_map (string_line prefix) pieces))
+several_lines law prefix spelling keyword marks text [] p k many h e = absurd (omega (arith, many))
+several_lines law prefix spelling keyword marks text (piece ∷ pieces) p k many h e =
+    let front = keyword_line law prefix spelling keyword marks [] p k (record { utf8 = IsUtf8-nil; no_nul = All-nil (λ b. b ≢ 0) }) in
+    let strings = strings_block law prefix marks piece pieces p h in
+    let all = flat_map (string_line prefix) (piece ∷ pieces) in
+    let both = two_blocks (OneLine keyword marks []) (StringsPart marks (joined (piece ∷ pieces))) (TextPart keyword marks (joined (piece ∷ pieces))) ((prefix ++ spelling) ++ 32 ∷ string_line [] []) all
+    (λ here later g i. (g.0, Str [] marks g.0 ∷ later, ap (λ t. t ++ later) g.1, first_string marks g.0 [] (joined (piece ∷ pieces)) later i)) front strings in
+    subst (λ t. Block (TextPart keyword marks t) ((prefix ++ spelling) ++ 32 ∷ (string_line [] [] ++ all))) e (subst (Block (TextPart keyword marks (joined (piece ∷ pieces)))) (append_assoc (prefix ++ spelling) (32 ∷ string_line [] []) all) both)
+
+one_line : QuotedFormsSpell → (prefix spelling : List ℕ) (keyword : Keyword) (marks : Marks) (text : List ℕ) → IsLinePrefix prefix marks → IsLineKeyword spelling keyword → IsQuotable text
+    → Block (TextPart keyword marks text) ((prefix ++ spelling) ++ 32 ∷ string_line [] text)
+one_line law prefix spelling keyword marks text p k h =
+    weaker_block (OneLine keyword marks text) (TextPart keyword marks text) ((prefix ++ spelling) ++ 32 ∷ string_line [] text) (λ items g. (g.0, Str text marks g.0 ∷ [], g.1, last_string marks g.0 text)) (keyword_line law prefix spelling keyword marks text p k h)
+
+text_cases : QuotedFormsSpell → (prefix spelling : List ℕ) (keyword : Keyword) (marks : Marks) (text : List ℕ) (several : Bool) → nat_lt 1 (length (cut text)) ≡ several → IsLinePrefix prefix marks → IsLineKeyword spelling keyword → IsQuotable text
+    → Block (TextPart keyword marks text) ((prefix ++ spelling) ++ 32 ∷ (if several then string_line [] [] ++ flat_map (string_line prefix) (cut text) else string_line [] text))
+text_cases law prefix spelling keyword marks text true e p k h =
+    several_lines law prefix spelling keyword marks text (cut text) p k (ltb-true 1 (length (cut text)) e) (quotable_pieces (cut text) (pieces_utf8 text h.utf8) (subst (All (λ b. b ≢ 0)) (sym (joined_cut text)) h.no_nul)) (joined_cut text)
+text_cases law prefix spelling keyword marks text false e p k h = one_line law prefix spelling keyword marks text p k h
+
+-- a keyword with its text
+pub text_block : QuotedFormsSpell → (prefix spelling : List ℕ) (keyword : Keyword) (marks : Marks) (text : List ℕ) → IsLinePrefix prefix marks → IsLineKeyword spelling keyword → IsQuotable text
+    → Block (TextPart keyword marks text) (keyword_lines prefix spelling text)
+text_block law prefix spelling keyword marks text p k h =
+    text_cases law prefix spelling keyword marks text (nat_lt 1 (length (cut text))) refl p k h

@@ -1,0 +1,78 @@
+-- What is written of the arranged entries, whatever their lines are, is what is written of the entries.
+use Rattle.std.proofs.Common.{◌≡◌, ◌∙◌, not, refl, sym, ap, Bool, true, false, cond, List, [], ◌∷◌, ◌++◌, map, filter}
+use Rattle.std.specs.List.{flat_map, join_by}
+use Rattle.std.proofs.lemmas.List.{append-nil, map-append}
+use Rattle.std.proofs.lemmas.List.Elements.{filter-append}
+use Rattle.po_entry.specs.TextEntry.{TextEntry, with_line}
+use Rattle.po_writer.specs.WrittenText.{entry_lines, arranged, written_text}
+
+-- the entries without their lines
+abbrev unnumbered : List TextEntry → List TextEntry
+unnumbered entries = map (with_line 0) entries
+
+further_same : (entries : List TextEntry) → flat_map (λ e. (10 ∷ []) ++ entry_lines e) (unnumbered entries) ≡ flat_map (λ e. (10 ∷ []) ++ entry_lines e) entries
+further_same [] = refl
+further_same (e ∷ entries) = ap (λ t. ((10 ∷ []) ++ entry_lines e) ++ t) (further_same entries)
+
+join_same : (entries : List TextEntry) → join_by entry_lines (10 ∷ []) (unnumbered entries) ≡ join_by entry_lines (10 ∷ []) entries
+join_same [] = refl
+join_same (e ∷ entries) = ap (λ t. entry_lines e ++ t) (further_same entries)
+
+-- a test of the obsolete mark
+abbrev kept : (Bool → Bool) → List TextEntry → List TextEntry
+kept test entries = filter (λ e. test e.obsolete) entries
+
+map_cond : (test : Bool) (e : TextEntry) (xs ys : List TextEntry) → xs ≡ unnumbered ys → cond test (with_line 0 e ∷ xs) xs ≡ unnumbered (cond test (e ∷ ys) ys)
+map_cond true e xs ys h = ap (λ t. with_line 0 e ∷ t) h
+map_cond false e xs ys h = h
+
+kept_same : (test : Bool → Bool) (entries : List TextEntry) → kept test (unnumbered entries) ≡ unnumbered (kept test entries)
+kept_same test [] = refl
+kept_same test (e ∷ entries) = map_cond (test e.obsolete) e _ (kept test entries) (kept_same test entries)
+
+kept_cases : (test other : Bool → Bool) (e : TextEntry) (first : Bool) (xs ys : List TextEntry) → test e.obsolete ≡ first → kept other xs ≡ ys → (first ≡ true → kept other (e ∷ xs) ≡ e ∷ ys) → kept other (cond first (e ∷ xs) xs) ≡ cond first (e ∷ ys) ys
+kept_cases test other e true xs ys same h g = g refl
+kept_cases test other e false xs ys same h g = h
+
+kept_again : (test : Bool → Bool) (entries : List TextEntry) → kept test (kept test entries) ≡ kept test entries
+kept_again test [] = refl
+kept_again test (e ∷ entries) =
+    kept_cases test test e (test e.obsolete) (kept test entries) (kept test entries) refl (kept_again test entries) (λ yes. rw yes (ap (λ t. e ∷ t) (kept_again test entries)))
+
+other_cases : (test other : Bool → Bool) (e : TextEntry) (first : Bool) (xs : List TextEntry) → test e.obsolete ≡ first → ((b : Bool) → test b ≡ true → other b ≡ false) → kept other xs ≡ [] → kept other (cond first (e ∷ xs) xs) ≡ []
+other_cases test other e true xs same apart h = rw (apart e.obsolete same) h
+other_cases test other e false xs same apart h = h
+
+kept_other : (test other : Bool → Bool) (entries : List TextEntry) → ((b : Bool) → test b ≡ true → other b ≡ false) → kept other (kept test entries) ≡ []
+kept_other test other [] apart = refl
+kept_other test other (e ∷ entries) apart = other_cases test other e (test e.obsolete) (kept test entries) refl apart (kept_other test other entries apart)
+
+not_true : (b : Bool) → b ≡ true → not b ≡ false
+not_true b h = ap not h
+
+not_not_true : (b : Bool) → not b ≡ true → b ≡ false
+not_not_true true h = sym h
+not_not_true false h = refl
+
+-- arranged entries stay as they are
+arranged_again : (entries : List TextEntry) → arranged (arranged entries) ≡ arranged entries
+arranged_again entries =
+    let live = kept not entries in
+    let obsolete = kept (λ b. b) entries in
+    let front : kept not (live ++ obsolete) ≡ live =
+    filter-append (λ e. not e.obsolete) live obsolete ∙ rw (kept_again not entries, kept_other (λ b. b) not entries not_true) (append-nil live) in
+    let back : kept (λ b. b) (live ++ obsolete) ≡ obsolete =
+    filter-append (λ e. e.obsolete) live obsolete ∙ rw (kept_again (λ b. b) entries, kept_other not (λ b. b) entries not_not_true) refl in
+    rw (front, back) refl
+
+arranged_same : (entries : List TextEntry) → arranged (unnumbered entries) ≡ unnumbered (arranged entries)
+arranged_same entries =
+    rw (kept_same not entries, kept_same (λ b. b) entries) (sym (map-append (with_line 0) (kept not entries) (kept (λ b. b) entries)))
+
+text_same : (entries : List TextEntry) → written_text (unnumbered entries) ≡ written_text entries
+text_same entries = ap (join_by entry_lines (10 ∷ [])) (arranged_same entries) ∙ join_same (arranged entries)
+
+-- what is written of entries that are the arranged ones but for their lines
+pub rewritten : (entries read : List TextEntry) → map (with_line 0) read ≡ map (with_line 0) (arranged entries) → written_text read ≡ written_text entries
+rewritten entries read same =
+    sym (text_same read) ∙ ap written_text same ∙ text_same (arranged entries) ∙ ap (join_by entry_lines (10 ∷ [])) (arranged_again entries)

@@ -1,0 +1,92 @@
+-- Blocks of whole lines, and the items that they spell wherever they stand in a text.
+use Rattle.std.proofs.Common.{◌≡◌, ◌≢◌, ◌==◌, ◌&&◌, not, refl, ℕ, zero, suc, ◌+◌, ◌<◌, Bool, true, false, List, [], ◌∷◌, ◌++◌, append_assoc, All, arith}
+use Rattle.std.specs.Str.{IsUtf8}
+use Rattle.std.proofs.lemmas.Str.{IsUtf8-append, IsUtf8-nil}
+use Rattle.std.proofs.lemmas.List.Elements.{All-nil, All-cons, All-append, All-weaker}
+use Rattle.std.proofs.lemmas.List.Splits.{slice_split_at}
+use Rattle.po_syntax.specs.Line.{SpellsLine}
+use Rattle.po_syntax.specs.PoText.{SpellsLines, lines_of}
+use Rattle.po_syntax.specs.TextItem.{TextItem}
+use Rattle.po_writer.proofs.Utf8.{IsLine, is_plain, ascii_utf8}
+
+-- the lines of a text, from this number on, spell these items
+abbrev pub Spells : ℕ → List ℕ → List TextItem → Type 0
+Spells number text items = SpellsLines number (lines_of text) items
+
+-- whole lines that spell such items before whatever stands behind them
+pub record Spelling (P : List TextItem → Type 0) (text : List ℕ) (number : ℕ) : Type 0 where
+  pub items : List TextItem
+  pub holds : P items
+  pub next : ℕ
+  pub before : (rest : List ℕ) (later : List TextItem) → Spells next rest later → Spells number (text ++ rest) (items ++ later)
+
+-- the text begins with an ASCII byte, if with any
+abbrev pub BeginsLow : List ℕ → Type 0
+BeginsLow [] = Unit {0}
+BeginsLow (b ∷ text) = b < 128
+
+pub record Block (P : List TextItem → Type 0) (text : List ℕ) : Type 0 where
+  pub utf8 : IsUtf8 text
+  pub no_nul : All (λ b. b ≢ 0) text
+  pub low : BeginsLow text
+  pub spelling : (number : ℕ) → Spelling P text number
+
+pub low-append : (xs ys : List ℕ) → BeginsLow xs → BeginsLow ys → BeginsLow (xs ++ ys)
+low-append [] ys h g = g
+low-append (b ∷ xs) ys h g = h
+
+pub empty_block : (P : List TextItem → Type 0) → P [] → Block P []
+empty_block P h = record { utf8 = IsUtf8-nil; no_nul = All-nil (λ b. b ≢ 0); low = tt; spelling = λ number. record { items = []; holds = h; next = number; before = λ rest later g. g } }
+
+pub weaker_block : (P Q : List TextItem → Type 0) (text : List ℕ) → ((items : List TextItem) → P items → Q items) → Block P text → Block Q text
+weaker_block P Q text more block = record {
+  utf8 = block.utf8;
+  no_nul = block.no_nul;
+  low = block.low;
+  spelling = λ number. let s = block.spelling number in record { items = s.items; holds = more s.items s.holds; next = s.next; before = s.before };
+}
+
+pub two_blocks : (P Q R : List TextItem → Type 0) (xs ys : List ℕ) → ((here later : List TextItem) → P here → Q later → R (here ++ later)) → Block P xs → Block Q ys → Block R (xs ++ ys)
+two_blocks P Q R xs ys join first second = record {
+  utf8 = IsUtf8-append xs ys first.utf8 second.utf8;
+  no_nul = All-append (λ b. b ≢ 0) xs ys first.no_nul second.no_nul;
+  low = low-append xs ys first.low second.low;
+  spelling = λ number.
+      let s = first.spelling number in
+      let t = second.spelling s.next in
+      record {
+        items = s.items ++ t.items;
+        holds = join s.items t.items s.holds t.holds;
+        next = t.next;
+        before = λ rest later g. rw (append_assoc xs ys rest, append_assoc s.items t.items later) (s.before (ys ++ rest) (t.items ++ later) (t.before rest later g));
+      };
+}
+
+plain_some : (b : ℕ) → is_plain b ≡ true → b ≢ 0
+plain_some zero h = λ e. cc
+plain_some (suc b) h = λ e. omega (arith, e)
+
+plain_feed : (b : ℕ) (nul feed : Bool) → (b == 10) ≡ feed → (nul && not feed) ≡ true → (b == 10) ≡ false
+plain_feed b true true e h = cc
+plain_feed b true false e h = e
+plain_feed b false feed e h = cc
+
+-- what a line spells, whatever its number is
+abbrev pub LineItems : (List TextItem → Type 0) → List ℕ → Type 0
+LineItems P line = (number : ℕ) → (here : List TextItem) × P here × SpellsLine number line here
+
+pub line_block : (P : List TextItem → Type 0) (line : List ℕ) → IsLine line → BeginsLow line → LineItems P line → Block P (line ++ 10 ∷ [])
+line_block P line clean low spells = record {
+  utf8 = IsUtf8-append line (10 ∷ []) clean.utf8 (ascii_utf8 10 (omega arith));
+  no_nul = All-append (λ b. b ≢ 0) line (10 ∷ []) (All-weaker (λ b. is_plain b ≡ true) (λ b. b ≢ 0) plain_some line clean.plain) (All-cons (λ b. b ≢ 0) 10 [] (λ e. omega (arith, e)) (All-nil (λ b. b ≢ 0)));
+  low = low-append line (10 ∷ []) low (omega arith);
+  spelling = λ number.
+      let h = spells number in
+      record {
+        items = h.0;
+        holds = h.1;
+        next = number + 1;
+        before = λ rest later g.
+            rw (append_assoc line (10 ∷ []) rest, slice_split_at (λ b. b == 10) line 10 rest (All-weaker (λ b. is_plain b ≡ true) (λ b. (b == 10) ≡ false) (λ b plain. plain_feed b (not (b == 0)) (b == 10) refl plain) line clean.plain) refl) (h.0, later, h.2, g, refl);
+      };
+}

@@ -1,0 +1,171 @@
+-- The written text of a list of entries reads as the arranged list, but for the lines.
+use Rattle.std.proofs.Common.{◌≡◌, ◌≢◌, ◌==◌, ◌^◌, not, refl, ap, ℕ, ◌+◌, ◌<◌, ◌≤◌, List, [], ◌∷◌, ◌++◌, length, length-append, map, filter, codes, decimal, Option, Some, None, All, arith}
+use Rattle.std.specs.List.{flat_map, join_by, position_or_len}
+use Rattle.std.specs.Str.{IsUtf8}
+use Rattle.std.proofs.lemmas.List.{append-nil}
+use Rattle.std.proofs.lemmas.List.Elements.{All-nil, All-cons, All-head, All-tail, All-append, All-weaker, All-filter}
+use Rattle.std.proofs.lemmas.Bool.{ne_eqb, le-ltb}
+use Rattle.po_syntax.specs.Line.{first_shape, tokens, none}
+use Rattle.po_syntax.specs.PoText.{IsSmall, HasNoNul, SpellsText, without_mark}
+use Rattle.po_syntax.specs.TextItem.{TextItem}
+use Rattle.po_syntax.specs.Token.{first_token}
+use Rattle.po_entry.specs.TextEntry.{TextEntry, with_line, quoted_texts}
+use Rattle.po_entry.specs.Header.{HasAdmittedCharset}
+use Rattle.po_entry.specs.Validity.{IsText, IsEntry, IsCatalogueEntry}
+use Rattle.po_entry.specs.Reads.{Reads, comments, HasReadableTexts, ReadsText}
+use Rattle.po_writer.specs.WrittenText.{keyword_lines, form_lines, translation_lines, own_lines, own_prefix, entry_lines, arranged, written_text}
+use Rattle.po_writer.proofs.Separated.{keyword_some}
+use Rattle.po_writer.proofs.Utf8.{line-empty}
+use Rattle.po_writer.proofs.Spelling.{Spells, Block, BeginsLow, empty_block, two_blocks, line_block}
+use Rattle.po_writer.proofs.Tokens.{QuotedFormsSpell, context_keyword, id_keyword, plural_keyword, single_keyword}
+use Rattle.po_writer.proofs.Numbered.{numbered}
+use Rattle.po_writer.proofs.Heads.{IsFresh}
+use Rattle.po_writer.proofs.Bodies.{WordsWritten}
+use Rattle.po_writer.proofs.Entries.{EntryPart, IsShort, entry_block}
+use Rattle.po_writer.proofs.Utf8.{plain_line}
+
+-- the second list is the first, whatever the lines are
+abbrev IsNumbered : List TextEntry → List TextEntry → Type 0
+IsNumbered [] read = read ≡ []
+IsNumbered (e ∷ entries) read = (line : ℕ) × (more : List TextEntry) × (read ≡ with_line line e ∷ more) × IsNumbered entries more
+
+-- the items are these entries, up to the end of the text
+abbrev ListPart : List TextEntry → List TextItem → Type 0
+ListPart entries here = IsFresh here × (read : List TextEntry) × Reads here read × IsNumbered entries read
+
+empty_line : Block (λ here. here ≡ []) (10 ∷ [])
+unfolding first_shape first_token
+empty_line = line_block (λ here. here ≡ []) [] line-empty tt (λ number. ([], refl, tokens refl (none refl)))
+
+one_more : (e : TextEntry) (entries : List TextEntry) (here later : List TextItem) → EntryPart e here → ListPart entries later → ListPart (e ∷ entries) (here ++ later)
+one_more e entries here later h g =
+    let found = h later g.1 g.0 g.2 in (found.0, with_line found.1.0 e ∷ g.1, found.1.1, (found.1.0, g.1, refl, g.3))
+
+no_entries : ListPart [] []
+no_entries = ((refl, refl), [], comments tt, refl)
+
+further_block : WordsWritten → (entries : List TextEntry) → All IsEntry entries → All IsShort entries → Block (ListPart entries) (flat_map (λ e. (10 ∷ []) ++ entry_lines e) entries)
+further_block words [] h short = empty_block (ListPart []) no_entries
+further_block words (e ∷ entries) h short =
+    two_blocks (EntryPart e) (ListPart entries) (ListPart (e ∷ entries)) ((10 ∷ []) ++ entry_lines e) (flat_map (λ x. (10 ∷ []) ++ entry_lines x) entries) (one_more e entries)
+    (two_blocks (λ here. here ≡ []) (EntryPart e) (EntryPart e) (10 ∷ []) (entry_lines e) (λ here later g i. rw g i) empty_line (entry_block words e (All-head IsEntry e entries h) (All-head IsShort e entries short)))
+    (further_block words entries (All-tail IsEntry e entries h) (All-tail IsShort e entries short))
+
+list_block : WordsWritten → (entries : List TextEntry) → All IsEntry entries → All IsShort entries → Block (ListPart entries) (join_by entry_lines (10 ∷ []) entries)
+list_block words [] h short = empty_block (ListPart []) no_entries
+list_block words (e ∷ entries) h short =
+    two_blocks (EntryPart e) (ListPart entries) (ListPart (e ∷ entries)) (entry_lines e) (flat_map (λ x. (10 ∷ []) ++ entry_lines x) entries) (one_more e entries)
+    (entry_block words e (All-head IsEntry e entries h) (All-head IsShort e entries short)) (further_block words entries (All-tail IsEntry e entries h) (All-tail IsShort e entries short))
+
+-- each form takes a byte
+few_forms : (prefix : List ℕ) (index : ℕ) (forms : List (List ℕ)) → length forms ≤ length (form_lines prefix index forms)
+few_forms prefix index [] = omega arith
+few_forms prefix index (form ∷ forms) =
+    let line = keyword_lines prefix (codes "msgstr[" ++ decimal index ++ codes "]") form in
+    omega (arith, length-append line (form_lines prefix (index + 1) forms), keyword_some prefix (codes "msgstr[" ++ decimal index ++ codes "]") form, few_forms prefix (index + 1) forms)
+
+few_singles : (prefix : List ℕ) (forms : List (List ℕ)) → length forms ≤ length (flat_map (keyword_lines prefix (codes "msgstr")) forms)
+few_singles prefix [] = omega arith
+few_singles prefix (form ∷ forms) =
+    omega (arith, length-append (keyword_lines prefix (codes "msgstr") form) (flat_map (keyword_lines prefix (codes "msgstr")) forms), keyword_some prefix (codes "msgstr") form, few_singles prefix forms)
+
+few_translations : (prefix : List ℕ) (plural : Option (List ℕ)) (forms : List (List ℕ)) → length forms ≤ length (translation_lines prefix plural forms)
+few_translations prefix None forms = few_singles prefix forms
+few_translations prefix (Some plural) forms =
+    omega (arith, length-append (keyword_lines prefix (codes "msgid_plural") plural) (form_lines prefix 0 forms), few_forms prefix 0 forms)
+
+behind_length : (xs ys : List ℕ) (n : ℕ) → n ≤ length ys → n ≤ length (xs ++ ys)
+behind_length xs ys n h = omega (arith, h, length-append xs ys)
+
+few_in_entry : (e : TextEntry) → length e.forms ≤ length (entry_lines e)
+few_in_entry e =
+    let prefix = own_prefix e.obsolete in
+    behind_length _ (own_lines prefix e) (length e.forms) (behind_length _ (translation_lines prefix e.plural e.forms) (length e.forms) (few_translations prefix e.plural e.forms))
+
+-- an entry's text stands in the whole
+abbrev FitsIn : ℕ → TextEntry → Type 0
+FitsIn size e = length (entry_lines e) ≤ size
+
+further_fit : (entries : List TextEntry) → All (FitsIn (length (flat_map (λ e. (10 ∷ []) ++ entry_lines e) entries))) entries
+further_fit [] = All-nil (FitsIn 0)
+further_fit (e ∷ entries) =
+    let rest = flat_map (λ x. (10 ∷ []) ++ entry_lines x) entries in
+    let size = length (((10 ∷ []) ++ entry_lines e) ++ rest) in
+    let whole = length-append ((10 ∷ []) ++ entry_lines e) rest in
+    All-cons (FitsIn size) e entries (omega (arith, whole)) (All-weaker (FitsIn (length rest)) (FitsIn size) (λ x g. omega (arith, g, whole)) entries (further_fit entries))
+
+list_fit : (entries : List TextEntry) → All (FitsIn (length (join_by entry_lines (10 ∷ []) entries))) entries
+list_fit [] = All-nil (FitsIn 0)
+list_fit (e ∷ entries) =
+    let rest = flat_map (λ x. (10 ∷ []) ++ entry_lines x) entries in
+    let size = length (entry_lines e ++ rest) in
+    let whole = length-append (entry_lines e) rest in
+    All-cons (FitsIn size) e entries (omega (arith, whole)) (All-weaker (FitsIn (length rest)) (FitsIn size) (λ x g. omega (arith, g, whole)) entries (further_fit entries))
+
+short_entries : (entries : List TextEntry) → length (join_by entry_lines (10 ∷ []) entries) < 2 ^ 31 → All IsShort entries
+short_entries entries small =
+    All-weaker (FitsIn (length (join_by entry_lines (10 ∷ []) entries))) IsShort (λ e g. omega (arith, g, few_in_entry e, small)) entries (list_fit entries)
+
+no_nul_found : (text : List ℕ) → All (λ b. b ≢ 0) text → position_or_len (λ b. b == 0) text ≡ length text
+no_nul_found [] h = refl
+no_nul_found (b ∷ text) h = rw (ne_eqb b 0 (All-head (λ c. c ≢ 0) b text h), no_nul_found text (All-tail (λ c. c ≢ 0) b text h)) (omega arith)
+
+no_nul : (text : List ℕ) → All (λ b. b ≢ 0) text → HasNoNul text
+no_nul text h = rw (no_nul_found text h, le-ltb (length text) (length text) (omega arith)) refl
+
+no_mark : (text : List ℕ) → BeginsLow text → without_mark text ≡ text
+no_mark [] h = refl
+no_mark (b ∷ text) h = rw (ne_eqb 0xEF b (λ e. omega (arith, e, h))) refl
+
+spelt_text : (P : List TextItem → Type 0) (text : List ℕ) → Block P text → IsSmall text → (items : List TextItem) × P items × SpellsText text items
+unfolding first_shape first_token
+spelt_text P text block small =
+    let s = block.spelling 1 in
+    let end : Spells s.next [] [] = ([], [], tokens refl (none refl), refl, refl) in
+    let whole = rw (append-nil text, append-nil s.items) at (s.before [] [] end) in
+    (s.items, s.holds, record { small = small; utf8 = block.utf8; no_nul = no_nul text block.no_nul; lines = rw (no_mark text block.low) whole })
+
+numbered_all : (P Q : TextEntry → Type 0) (entries read : List TextEntry) → ((e : TextEntry) (line : ℕ) → P e → Q (with_line line e)) → IsNumbered entries read → All P entries → All Q read
+numbered_all P Q [] read each same h = rw same (All-nil Q)
+numbered_all P Q (e ∷ entries) read each same h =
+    rw same.2 (All-cons Q (with_line same.0 e) same.1 (each e same.0 (All-head P e entries h)) (numbered_all P Q entries same.1 each same.3 (All-tail P e entries h)))
+
+readable : (e : TextEntry) (line : ℕ) → IsCatalogueEntry e → HasReadableTexts (with_line line e)
+readable e line h = record { utf8 = All-weaker IsText IsUtf8 (λ text g. g.utf8) (quoted_texts e) h.valid.quoted_texts; no_eot = record { context = h.valid.context; id = h.valid.id } }
+
+numbered_same : (entries read : List TextEntry) → IsNumbered entries read → map (with_line 0) read ≡ map (with_line 0) entries
+numbered_same [] read same = rw same refl
+numbered_same (e ∷ entries) read same = rw same.2 (ap (λ t. with_line 0 e ∷ t) (numbered_same entries same.1 same.3))
+
+words_written : QuotedFormsSpell → WordsWritten
+words_written law = record {
+  law = law;
+  context = record { token = context_keyword; line = plain_line (codes "msgctxt") refl; low = omega arith };
+  id = record { token = id_keyword; line = plain_line (codes "msgid") refl; low = omega arith };
+  plural = record { token = plural_keyword; line = plain_line (codes "msgid_plural") refl; low = omega arith };
+  single = record { token = single_keyword; line = plain_line (codes "msgstr") refl; low = omega arith };
+  forms = numbered;
+}
+
+all_arranged : (entries : List TextEntry) → All IsCatalogueEntry entries → All IsCatalogueEntry (arranged entries)
+all_arranged entries h =
+    All-append IsCatalogueEntry (filter (λ e. not e.obsolete) entries) (filter (λ e. e.obsolete) entries) (All-filter (λ e. not e.obsolete) IsCatalogueEntry entries h) (All-filter (λ e. e.obsolete) IsCatalogueEntry entries h)
+
+-- the entries that the written text reads as
+pub written_reads : QuotedFormsSpell → (entries : List TextEntry) → All IsCatalogueEntry entries → IsSmall (written_text entries)
+    → (read : List TextEntry) × ReadsText (written_text entries) read × (map (with_line 0) read ≡ map (with_line 0) (arranged entries))
+written_reads law entries h small =
+    let all = all_arranged entries h in
+    let block = list_block (words_written law) (arranged entries) (All-weaker IsCatalogueEntry IsEntry (λ e g. g.valid) (arranged entries) all) (short_entries (arranged entries) small) in
+    let spelt = spelt_text (ListPart (arranged entries)) (written_text entries) block small in
+    let read = spelt.1.1 in (
+      read,
+      record {
+        items = spelt.0;
+        spelt = spelt.2;
+        reads = spelt.1.2;
+        texts = numbered_all IsCatalogueEntry HasReadableTexts (arranged entries) read readable spelt.1.3 all;
+        charsets = numbered_all IsCatalogueEntry HasAdmittedCharset (arranged entries) read (λ e line g. g.charset) spelt.1.3 all;
+      },
+      numbered_same (arranged entries) read spelt.1.3,
+    )

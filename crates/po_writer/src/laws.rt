@@ -1,0 +1,26 @@
+//! Laws of the written text, each on a function that does nothing: a crate that rests on one
+//! calls it.
+ghost use Rattle.std.specs.Prelude.{◌≡◌, List, All, map};
+ghost use Rattle.po_syntax.specs.PoText.{IsSmall};
+ghost use Rattle.po_entry.specs.TextEntry.{TextEntry, with_line};
+ghost use Rattle.po_entry.specs.Validity.{IsCatalogueEntry};
+ghost use Rattle.po_entry.specs.Reads.{ReadsText};
+ghost use Rattle.po_writer.specs.WrittenText.{arranged, written_text};
+
+use po_syntax::laws::quoted_form_spells;
+
+/// The written text of a catalogue's entries, if it is within the limit of a text, reads as the
+/// arranged entries, but for their lines.
+pub fn written_text_reads()
+    ensures { (entries : List TextEntry) → All IsCatalogueEntry entries → IsSmall (written_text entries)
+        → (read : List TextEntry) × ReadsText (written_text entries) read × (map (with_line 0) read ≡ map (with_line 0) (arranged entries)) }
+{
+    quoted_form_spells();
+}
+
+/// What is written of entries that were read from a written text, and so are its entries but for
+/// their lines, is that text again.
+pub fn written_text_again()
+    ensures { (entries read : List TextEntry) → map (with_line 0) read ≡ map (with_line 0) (arranged entries)
+        → written_text read ≡ written_text entries }
+{}
