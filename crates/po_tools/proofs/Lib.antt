@@ -1,2 +1,3 @@
 pub mod Profiles
 pub mod GettextLemmas
+pub mod MsgfmtLemmas

@@ -246,7 +246,13 @@ fn push_plural_answer(
     }
     let count = count_of(options.count.as_bytes());
     let plural = Some((options.plural.as_bytes(), count));
-    push_text(output, chain, options.context, options.id.as_bytes(), plural)?;
+    push_text(
+        output,
+        chain,
+        options.context,
+        options.id.as_bytes(),
+        plural,
+    )?;
     Ok(())
 }
 

@@ -6,6 +6,8 @@ mod gettext;
 mod msgfmt;
 mod profile;
 mod run;
+#[cfg(test)]
+mod tests;
 
 pub use gettext::{GettextOptions, NgettextOptions, plan_gettext, plan_ngettext};
 pub use msgfmt::{MsgfmtOptions, plan_msgfmt, profile_check, run_msgfmt};

@@ -1,8 +1,10 @@
-ghost use Rattle.std.specs.Prelude.{◌≡◌, ◌≢◌, ◌⊎◌, ◌+◌, ◌^◌, ◌<◌, ◌++◌, true, None, Some, length, MatchResult, IfOk, IfErr, OnOk, OnErr, IsErrOf, Err};
+ghost use Rattle.std.specs.Prelude.{◌≡◌, ◌≢◌, ◌⊎◌, ◌+◌, ◌^◌, ◌<◌, ◌++◌, ◌∷◌, decimal, true, None, Some, length, MatchResult, IfOk, IfErr, OnOk, OnErr, IsErrOf, Err};
 ghost use Rattle.std.specs.Io.KnownBytes.{Keeps};
 ghost use Rattle.po_entry.specs.TextEntry.{slice_texts};
 ghost use Rattle.po_catalog.specs.JoinedView.{input_entries};
+ghost use Rattle.po_compile.specs.Accepted.{AreRead};
 ghost use Rattle.po_compile.specs.CompiledList.{is_compiled};
+ghost use Rattle.po_tools.specs.FaultText.{duplicate_text};
 ghost use Rattle.po_tools.specs.GettextView.{named_files};
 ghost use Rattle.po_tools.specs.Msgfmt.{AreChecked, IsMsgfmtCut, IsMsgfmtDelivered, IsMsgfmtRun, across_text, check_line, check_place, check_text, compiled_inputs, compiled_run, input_name, input_texts, join_line, join_text};
 ghost use Rattle.po_tools.specs.Run.{refusal, report};
@@ -128,17 +130,29 @@ fn input_name<'a>(inputs: &[(&'a str, &[u8])], input: u32) -> &'a str
     }
 }
 
+/// Appends a line of a file: `FILE:LINE`.
+fn push_file_line(out: &mut Vec<u8>, file: &str, line: u32) -> Result<(), AllocError>
+    ensures { OnOk result (out.new.items ≡ out.old.items ++ (file.now ++ 58 ∷ decimal line)) }
+{
+    out.extend_from_slice(file.as_bytes())?;
+    push_numbered(out, ":", line.into(), "")
+}
+
+/// Appends what is wrong with a duplicate of a message of another file.
+fn push_duplicate(out: &mut Vec<u8>, file: &str, line: u32) -> Result<(), AllocError>
+    ensures { OnOk result (out.new.items ≡ out.old.items ++ duplicate_text file.now line) }
+{
+    out.extend_from_slice(b"duplicate of the message at ")?;
+    push_file_line(out, file, line)?;
+    Ok(())
+}
+
 /// Appends what is wrong, where a duplicate is of a message of another file.
 fn push_across_text(out: &mut Vec<u8>, file: &str, fault: PoFault) -> Result<(), AllocError>
     ensures { OnOk result (out.new.items ≡ out.old.items ++ across_text file.now fault) }
 {
     match fault {
-        PoFault::Duplicate(line) => {
-            out.extend_from_slice(b"duplicate of the message at ")?;
-            out.extend_from_slice(file.as_bytes())?;
-            push_numbered(out, ":", line.into(), "")?;
-            Ok(())
-        }
+        PoFault::Duplicate(line) => push_duplicate(out, file, line),
         fault => push_po_text(out, fault),
     }
 }
@@ -195,15 +209,19 @@ fn push_check_text(out: &mut Vec<u8>, fault: CheckFault) -> Result<(), AllocErro
 
 /// The run of inputs that aren't compiled.
 fn refused_run(alloc: Global, inputs: &[(&str, &[u8])], error: JoinError) -> Result<Run, ToolFault>
-    ensures run { IfOk result (λ run. report run ≡ refusal (join_line (named_files inputs.now) error)) }
-    ensures not_memory { OnOk result (error.error.kind ≢ PoFault.OutOfMemory) }
-    ensures fault { OnErr result (result ≡ Err ToolFault.OutOfMemory) }
+    ensures run { IfOk result (λ run. (error.error.kind ≢ PoFault.OutOfMemory) × (report run ≡ refusal (join_line (named_files inputs.now) error))) }
+    ensures memory { OnErr result (result ≡ Err ToolFault.OutOfMemory) }
 {
     if error.error.kind == PoFault::OutOfMemory {
         return Err(ToolFault::OutOfMemory);
     }
     let mut messages = Vec::new(alloc);
-    push_place(&mut messages, "msgfmt", input_name(inputs, error.input), error.error.line)?;
+    push_place(
+        &mut messages,
+        "msgfmt",
+        input_name(inputs, error.input),
+        error.error.line,
+    )?;
     push_join_text(&mut messages, inputs, error)?;
     messages.extend_from_slice(b"\n")?;
     Ok(Run {
@@ -221,15 +239,19 @@ fn unfit_run(
     input: u32,
     fault: CheckFault,
 ) -> Result<Run, ToolFault>
-    ensures run { IfOk result (λ run. report run ≡ refusal (check_line (named_files inputs.now) (input, fault))) }
-    ensures not_memory { OnOk result (fault ≢ CheckFault.OutOfMemory) }
+    ensures run { IfOk result (λ run. (fault ≢ CheckFault.OutOfMemory) × (report run ≡ refusal (check_line (named_files inputs.now) (input, fault)))) }
     ensures memory { OnErr result (result ≡ Err ToolFault.OutOfMemory) }
 {
     if fault == CheckFault::OutOfMemory {
         return Err(ToolFault::OutOfMemory);
     }
     let mut messages = Vec::new(alloc);
-    push_place(&mut messages, "msgfmt", input_name(inputs, input), check_place(fault))?;
+    push_place(
+        &mut messages,
+        "msgfmt",
+        input_name(inputs, input),
+        check_place(fault),
+    )?;
     push_check_text(&mut messages, fault)?;
     messages.extend_from_slice(b"\n")?;
     Ok(Run {
@@ -257,13 +279,44 @@ fn compiled_run(
         false => Vec::new(alloc),
     };
     let create = compiled.n > 0;
-    let output = if create { compiled.bytes } else { Vec::new(alloc) };
+    let output = if create {
+        compiled.bytes
+    } else {
+        Vec::new(alloc)
+    };
     Ok(Run {
         output,
         create,
         messages,
         status: 0,
     })
+}
+
+/// The run of inputs that are read.
+fn plan_catalogues(
+    alloc: Global,
+    inputs: &[(&str, &[u8])],
+    catalogues: Vec<Catalogue>,
+    options: &MsgfmtOptions,
+) -> Result<Run, ToolFault>
+    requires few { length catalogues.items < 2 ^ 32 }
+    requires read { AreRead (input_texts (named_files inputs.now)) catalogues.items }
+    ensures run { IfOk result (λ run. IsMsgfmtRun (named_files inputs.now) options.now (report run)) }
+    ensures memory { OnErr result (result ≡ Err ToolFault.OutOfMemory) }
+{
+    let checked = checked(alloc, &catalogues, options);
+    let compile_options = Options {
+        use_fuzzy: options.use_fuzzy,
+        order: options.order,
+    };
+    let compiled = match compile_catalogues(alloc, catalogues, compile_options) {
+        Ok(compiled) => compiled,
+        Err(error) => return refused_run(alloc, inputs, error),
+    };
+    match checked {
+        Ok(()) => compiled_run(alloc, options, compiled),
+        Err((input, fault)) => unfit_run(alloc, inputs, input, fault),
+    }
 }
 
 /// What `msgfmt` writes and tells of its inputs, each with its name: the compiled file, where it has a message, and
@@ -280,19 +333,9 @@ pub fn plan_msgfmt(
     ensures memory { OnErr result (result ≡ Err ToolFault.OutOfMemory) }
 {
     let texts = texts_of(alloc, inputs)?;
-    let catalogues = match read_all(alloc, &texts) {
-        Ok(catalogues) => catalogues,
-        Err(error) => return refused_run(alloc, inputs, error),
-    };
-    let checked = checked(alloc, &catalogues, options);
-    let compile_options = Options {
-        use_fuzzy: options.use_fuzzy,
-        order: options.order,
-    };
-    match (compile_catalogues(alloc, catalogues, compile_options), checked) {
-        (Err(error), _) => refused_run(alloc, inputs, error),
-        (Ok(_), Err((input, fault))) => unfit_run(alloc, inputs, input, fault),
-        (Ok(compiled), Ok(())) => compiled_run(alloc, options, compiled),
+    match read_all(alloc, &texts) {
+        Ok(catalogues) => plan_catalogues(alloc, inputs, catalogues, options),
+        Err(error) => refused_run(alloc, inputs, error),
     }
 }
 

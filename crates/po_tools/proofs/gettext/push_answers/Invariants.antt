@@ -9,6 +9,6 @@ use Rattle.po_tools.proofs.gettext.push_answers.Given as goal
 abbrev pub invariant-loop-word : goal.invariant-loop-word
 invariant-loop-word l =
     (l.output.items ++ further (word_answer l.chain (asked l.options)) (drop l.word-index l.others)
-        ≡ l.initial.output.items ++ further (word_answer l.chain (asked l.options)) l.others)
+    ≡ l.initial.output.items ++ further (word_answer l.chain (asked l.options)) l.others)
     × ((l.stops || list_any (stops_line (asked l.options)) (map (λ word. word.now) (drop l.word-index l.others)))
-        ≡ (l.initial.stops || list_any (stops_line (asked l.options)) (map (λ word. word.now) l.others)))
+    ≡ (l.initial.stops || list_any (stops_line (asked l.options)) (map (λ word. word.now) l.others)))

@@ -1,0 +1,68 @@
+-- What a run of msgfmt comes to, by the way in which it ends.
+use Rattle.std.proofs.Common.{◌≡◌, ◌≢◌, ◌⊎◌, ℕ, true, List, Option, None, Some, length, IfOk, Result, ap, ◌∙◌, inl, inr, ⊎_elim}
+use Rattle.std.proofs.lemmas.List.{length-map}
+use Rattle.std.proofs.lemmas.Result.{IfOk-weaker}
+use Rattle.std.proofs.lemmas.Slice.Zip.{AllZip-long}
+use Rattle.std.specs.Borrow.{Bor}
+use Rattle.po_syntax.specs.declared.fault.PoFault.TheVariants.{OutOfMemory as NoMemory}
+use Rattle.po_shell.specs.declared.fault.ToolFault.{ToolFault}
+use Rattle.po_entry.specs.TextEntry.{TextEntry}
+use Rattle.po_catalog.specs.Joined.{joined_entries}
+use Rattle.po_catalog.specs.declared.duplicate.JoinError.{JoinError}
+use Rattle.po_compile.specs.Accepted.{AreRead, ReadsDistinct, IsCompileFault}
+use Rattle.po_compile.specs.Compiling.{IsCompiled, IsLayoutFault}
+use Rattle.po_compile.specs.declared.options.Compiled.{Compiled}
+use Rattle.po_compile.specs.declared.options.Options.{Options}
+use Rattle.po_tools.specs.declared.msgfmt.MsgfmtOptions.{MsgfmtOptions}
+use Rattle.po_tools.specs.declared.profile.CheckFault.TheVariants.{OutOfMemory}
+use Rattle.po_tools.specs.declared.run.Run.{Run}
+use Rattle.po_tools.specs.Gettext.{NamedFile}
+use Rattle.po_tools.specs.GettextView.{named_file, named_files}
+use Rattle.po_tools.specs.Msgfmt.{AreChecked, IsMsgfmtRun, check_line, compile_options, compiled_run, input_texts, join_line}
+use Rattle.po_tools.specs.Profile.{Told}
+use Rattle.po_tools.specs.Run.{refusal, report}
+
+-- each input has its catalogue
+pub read-count : (inputs : List (Bor (List ℕ) × Bor (List ℕ))) (catalogues : List (List TextEntry)) → AreRead (input_texts (named_files inputs)) catalogues
+    → length catalogues ≡ length inputs
+read-count inputs catalogues read =
+    AllZip-long ReadsDistinct (input_texts (named_files inputs)) catalogues read.each ∙ length-map (named_files inputs) (λ file. file.bytes) ∙ length-map inputs named_file
+
+-- a layout that is too large refuses the texts that are read
+pub layout-refuses : (options : Options) (texts : List (List ℕ)) (catalogues : List (List TextEntry)) (error : JoinError) → AreRead texts catalogues
+    → IsLayoutFault options (joined_entries catalogues) error → IsCompileFault options texts error
+layout-refuses options texts catalogues error read fault =
+    ⊎_elim (λ memory. inl (inl memory))
+    (λ large. inr (record { catalogues = catalogues; read = read; large = large.1; error_is = large.0 })) fault
+
+pub run-refused : (inputs : List NamedFile) (o : MsgfmtOptions) (error : JoinError) (r : Result Run ToolFault) → IsCompileFault (compile_options o) (input_texts inputs) error
+    → IfOk r (λ run. (error.error.kind ≢ NoMemory) × (report run ≡ refusal (join_line inputs error))) → IfOk r (λ run. IsMsgfmtRun inputs o (report run))
+run-refused inputs o error r fault =
+    IfOk-weaker r (λ run. (error.error.kind ≢ NoMemory) × (report run ≡ refusal (join_line inputs error))) (λ run. IsMsgfmtRun inputs o (report run))
+    (λ run told. inl (record { error = error; fault = fault; not_memory = told.0; report = told.1 }))
+
+pub run-unfit : (inputs : List NamedFile) (o : MsgfmtOptions) (catalogues : List (List TextEntry)) (compiled : Compiled) (fault : Told) (r : Result Run ToolFault)
+    → AreRead (input_texts inputs) catalogues → IsCompiled (compile_options o) (joined_entries catalogues) compiled
+    → (fault ≡ (0, OutOfMemory)) ⊎ ((o.profile_check ≡ true) × AreChecked o.use_fuzzy catalogues (Some fault))
+    → IfOk r (λ run. (fault.1 ≢ OutOfMemory) × (report run ≡ refusal (check_line inputs fault))) → IfOk r (λ run. IsMsgfmtRun inputs o (report run))
+run-unfit inputs o catalogues compiled fault r read is_compiled found =
+    IfOk-weaker r (λ run. (fault.1 ≢ OutOfMemory) × (report run ≡ refusal (check_line inputs fault))) (λ run. IsMsgfmtRun inputs o (report run))
+    (λ run told. ⊎_elim (λ memory. absurd (told.0 (ap (λ f. f.1) memory)))
+    (λ checked. inr (inl (record {
+      catalogues = catalogues;
+      read = read;
+      compiled = compiled;
+      is_compiled = is_compiled;
+      asked = checked.0;
+      fault = fault;
+      checked = checked.1;
+      report = told.1;
+    }))) found)
+
+pub run-done : (inputs : List NamedFile) (o : MsgfmtOptions) (catalogues : List (List TextEntry)) (compiled : Compiled) (r : Result Run ToolFault)
+    → AreRead (input_texts inputs) catalogues → IsCompiled (compile_options o) (joined_entries catalogues) compiled
+    → (o.profile_check ≡ true → AreChecked o.use_fuzzy catalogues None)
+    → IfOk r (λ run. report run ≡ compiled_run o compiled) → IfOk r (λ run. IsMsgfmtRun inputs o (report run))
+run-done inputs o catalogues compiled r read is_compiled checked =
+    IfOk-weaker r (λ run. report run ≡ compiled_run o compiled) (λ run. IsMsgfmtRun inputs o (report run))
+    (λ run told. inr (inr (record { catalogues = catalogues; read = read; compiled = compiled; is_compiled = is_compiled; checked = checked; report = told })))
