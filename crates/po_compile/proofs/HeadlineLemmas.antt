@@ -9,8 +9,6 @@ use Rattle.mo_file.specs.Laws.{LayoutIsCatalog}
 use Rattle.po_entry.specs.TextEntry.{TextEntry}
 use Rattle.po_entry.specs.Reads.{ReadsText}
 use Rattle.po_entry.specs.Validity.{IsCatalogueEntry}
-use Rattle.po_reader.proofs.SoundTexts.{text_sound}
-use Rattle.po_reader.proofs.SoundCatalogue.{entries_sound, entry_valid}
 use Rattle.po_catalog.specs.Joined.{InputEntry, in_input, is_live_header, kept_entries, joined_from, joined_entries, entries_of}
 use Rattle.po_compile.specs.Accepted.{ReadsDistinct}
 use Rattle.po_compile.specs.CompiledList.{compiled_list}
@@ -18,38 +16,31 @@ use Rattle.po_compile.specs.Headline.{LookUpMeansEntries, MessagesAreOne, Messag
 use Rattle.po_compile.proofs.ReadingLemmas.{entries_of_input}
 use Rattle.po_compile.proofs.SortLemmas.{compiled_valid}
 
-read_valid : (text : List ℕ) (entries : List TextEntry) → ReadsText text entries → All IsCatalogueEntry entries
-read_valid text entries read =
-    let sound = entries_sound read.reads (text_sound text read.items read.spelt) in
-    λ k d inside.
-    let texts = read.texts k d inside in
-    let entry = sound k d inside in
-    record {
-      valid = entry_valid (get_or entries k d) entry (record { utf8 = texts.utf8; clean = record { no_nul = entry.quoted_lack; context = texts.no_eot.context; id = texts.no_eot.id } });
-      charset = read.charsets k d inside;
-    }
+-- a text that reads as entries has entries that a catalogue may hold
+abbrev pub EntriesCanStand : Type 0
+EntriesCanStand = (text : List ℕ) (entries : List TextEntry) → ReadsText text entries → All IsCatalogueEntry entries
 
 kept_valid : (headed : Bool) (entries : List TextEntry) → All IsCatalogueEntry entries → All IsCatalogueEntry (kept_entries headed entries)
 kept_valid true entries valid = All-filter (λ e. not (is_live_header e)) IsCatalogueEntry entries valid
 kept_valid false entries valid = valid
 
-joined_valid : (input : ℕ) (headed : Bool) (texts : List (List ℕ)) (catalogues : List (List TextEntry)) → AllZip ReadsDistinct texts catalogues
+joined_valid : EntriesCanStand → (input : ℕ) (headed : Bool) (texts : List (List ℕ)) (catalogues : List (List TextEntry)) → AllZip ReadsDistinct texts catalogues
     → All IsCatalogueEntry (entries_of (joined_from input headed catalogues))
-joined_valid input headed [] [] each = All-nil IsCatalogueEntry
-joined_valid input headed [] (entries ∷ catalogues) each = absurd each
-joined_valid input headed (text ∷ texts) [] each = absurd each
-joined_valid input headed (text ∷ texts) (entries ∷ catalogues) each =
+joined_valid stand input headed [] [] each = All-nil IsCatalogueEntry
+joined_valid stand input headed [] (entries ∷ catalogues) each = absurd each
+joined_valid stand input headed (text ∷ texts) [] each = absurd each
+joined_valid stand input headed (text ∷ texts) (entries ∷ catalogues) each =
     let kept = kept_entries headed entries in
     let headed' = headed || list_any is_live_header entries in
     let rest = joined_from (input + 1) headed' catalogues in
     let list = map-append (λ (e : InputEntry). e.entry) (map (in_input input) kept) rest ∙ ap (λ l. l ++ entries_of rest) (entries_of_input input kept) in
     subst (All IsCatalogueEntry) (sym list)
-    (All-append IsCatalogueEntry kept (entries_of rest) (kept_valid headed entries (read_valid text entries each.0.reads)) (joined_valid (input + 1) headed' texts catalogues each.1))
+    (All-append IsCatalogueEntry kept (entries_of rest) (kept_valid headed entries (stand text entries each.0.reads)) (joined_valid stand (input + 1) headed' texts catalogues each.1))
 
-pub look_up_means : LayoutIsCatalog → MessagesMeanEntries → MessagesAreOne → LookUpMeansEntries
-look_up_means valid_layout mean one options texts catalogues messages accepted are =
+pub look_up_means : EntriesCanStand → LayoutIsCatalog → MessagesMeanEntries → MessagesAreOne → LookUpMeansEntries
+look_up_means stand valid_layout mean one options texts catalogues messages accepted are =
     let entries = compiled_list options.use_fuzzy (joined_entries catalogues) in
     let same = one entries accepted.layout.messages messages accepted.layout.are_messages are in (
       valid_layout options.order messages are.rising (subst (λ ms. length (layout options.order ms) < 2 ^ 32) same accepted.layout.small),
-      mean entries messages (compiled_valid options.use_fuzzy (joined_entries catalogues) (joined_valid 0 false texts catalogues accepted.read.each)) are,
+      mean entries messages (compiled_valid options.use_fuzzy (joined_entries catalogues) (joined_valid stand 0 false texts catalogues accepted.read.each)) are,
     )

@@ -3,6 +3,7 @@
 ghost use Rattle.po_compile.specs.Headline.{LookUpMeansEntries, MessagesAreOne, MessagesMeanEntries};
 
 use mo_file::layout_is_catalog;
+use po_reader::laws::entries_can_stand;
 
 /// The messages that entries are compiled to answer every query as the entries do.
 pub fn messages_mean_entries()
@@ -19,6 +20,7 @@ pub fn messages_are_one()
 pub fn look_up_means_entries()
     ensures { LookUpMeansEntries }
 {
+    entries_can_stand();
     layout_is_catalog();
     messages_mean_entries();
     messages_are_one();

@@ -14,3 +14,4 @@ pub mod SoundItems
 pub mod Once
 pub mod OneReading
 pub mod OneFault
+pub mod ValidEntries

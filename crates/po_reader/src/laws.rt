@@ -1,8 +1,9 @@
 //! Laws of the definitions, each on an empty function: a crate that rests on one calls it.
-ghost use Rattle.std.specs.Prelude.{◌≡◌, ℕ, List};
+ghost use Rattle.std.specs.Prelude.{◌≡◌, ℕ, List, All};
 ghost use Rattle.po_syntax.specs.declared.fault.PoFault.{PoFault};
 ghost use Rattle.po_entry.specs.TextEntry.{TextEntry};
 ghost use Rattle.po_entry.specs.Reads.{ReadsText};
+ghost use Rattle.po_entry.specs.Validity.{IsCatalogueEntry};
 ghost use Rattle.po_reader.specs.Faults.{IsReadFault};
 
 use po_syntax::laws as syntax;
@@ -33,4 +34,11 @@ pub fn one_fault()
     syntax::one_reading();
     syntax::no_fault_where_items();
     syntax::one_fault();
+}
+
+/// The entries that a text reads as can stand in a catalogue.
+pub fn entries_can_stand()
+    ensures { (text : List ℕ) (entries : List TextEntry) → ReadsText text entries → All IsCatalogueEntry entries }
+{
+    syntax::items_hold_text();
 }
