@@ -1,5 +1,5 @@
 -- Entries have one list of messages in rising order.
-use Rattle.std.proofs.Common.{◌≡◌, ◌⊎◌, ℕ, ◌+◌, ◌<◌, zero, suc, List, [], ◌∷◌, refl, sym, ap, ◌∙◌, subst, length, get_or, arith, AllPairs, Contains, IsPermutation, ⊎_elim, inl, inr}
+use Rattle.std.proofs.Common.{◌≡◌, ◌⊎◌, ℕ, ◌<◌, zero, suc, List, [], ◌∷◌, refl, sym, ap, ◌∙◌, subst, length, get_or, arith, AllPairs, Contains, ⊎_elim, inl, inr}
 use Rattle.std.specs.declared.cmp.Ordering.TheVariants.{Less, Equal}
 use Rattle.std.proofs.Math.ListN.{get_or-map}
 use Rattle.std.proofs.lemmas.Cmp.{nat_list_cmp_total, tied_itself}
@@ -7,10 +7,9 @@ use Rattle.std.proofs.lemmas.List.{length-map, get_or_default}
 use Rattle.std.proofs.lemmas.List.Sorted.{Contains-permutation, IsPermutation-sym, IsPermutation-trans}
 use Rattle.mo_file.specs.Message.{Message}
 use Rattle.mo_file.specs.Key.{AreRising, key_at, key_cmp, key_of, keys}
-use Rattle.po_compile.specs.CompiledMessages.{AreMessagesOf, messages_of_entries}
+use Rattle.po_compile.specs.CompiledMessages.{messages_of_entries}
 use Rattle.po_compile.specs.Headline.{MessagesAreOne}
 use Rattle.po_compile.proofs.FindLemmas.{rising_below}
-use Rattle.po_entry.specs.TextEntry.{TextEntry}
 
 abbrev IsBelow : Message → Message → Type 0
 IsBelow m n = key_cmp (key_of m.original) (key_of n.original) ≡ Less

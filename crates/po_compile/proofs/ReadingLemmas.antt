@@ -13,7 +13,7 @@ use Rattle.po_compile.specs.Compiling.{HasLargeLayout, IsLayoutFault}
 use Rattle.po_compile.specs.declared.options.Options.{Options}
 use Rattle.po_catalog.specs.Duplicate.{IsDuplicateFault, entry_memory}
 use Rattle.po_catalog.specs.declared.duplicate.JoinError.{JoinError}
-use Rattle.po_compile.specs.Accepted.{ReadsDistinct, IsTextFault, IsFaultOfInput, IsReadingFault, fault_input, fault_of_input, IsTextCompileFault}
+use Rattle.po_compile.specs.Accepted.{ReadsDistinct, IsTextFault, IsReadingFault, fault_input, fault_of_input, IsTextCompileFault}
 
 zip_push : (texts : List (List ℕ)) (catalogues : List (List TextEntry)) (text : List ℕ) (entries : List TextEntry)
     → AllZip ReadsDistinct texts catalogues → ReadsDistinct text entries → AllZip ReadsDistinct (texts ++ text ∷ []) (catalogues ++ entries ∷ [])

@@ -1,7 +1,6 @@
 -- Sorting the messages of entries of which no two are of one message brings their keys into rising order.
-use Rattle.std.proofs.Common.{◌≡◌, ◌≢◌, ◌⊎◌, ℕ, ◌+◌, ◌<◌, zero, suc, Bool, true, false, ◌&&◌, ◌||◌, not, ◌≤◌, length-append, cond, List, [], ◌∷◌, ◌++◌, Option, None, Some, refl, sym, ap, ◌∙◌, subst, length, get_or, map, filter, arith, All, AllPairs, IsPermutation, IfSome, inl, inr, ⊎_elim}
+use Rattle.std.proofs.Common.{◌≡◌, ◌≢◌, ℕ, ◌+◌, ◌<◌, zero, suc, Bool, true, false, ◌&&◌, ◌||◌, not, ◌≤◌, length-append, cond, List, [], ◌∷◌, ◌++◌, Option, None, Some, refl, sym, ap, ◌∙◌, subst, length, get_or, filter, arith, All, AllPairs, IsPermutation, inl, inr}
 use Rattle.std.specs.Cmp.Lexicographic.{slice_cmp}
-use Rattle.std.specs.List.{IsDistinct}
 use Rattle.std.specs.List.Sorted.{IsSortedBy}
 use Rattle.std.specs.Ordering.{is_lt, nat_cmp, ordering_then, ordering_reverse}
 use Rattle.std.specs.Str.{bytes_eq}
@@ -18,7 +17,7 @@ use Rattle.std.proofs.lemmas.Map.Lookups.{exact_bytes}
 use Rattle.std.proofs.lemmas.Map.Made.{AllPairs-from_IsDistinct, IsDistinct-from_AllPairs}
 use Rattle.std.proofs.lemmas.Slice.Eq.{bytes_eq-Decides}
 use Rattle.mo_file.specs.Message.{Message}
-use Rattle.mo_file.specs.Key.{AreRising, key_at, key_cmp, key_of, keys, query_key}
+use Rattle.mo_file.specs.Key.{key_at, key_cmp, key_of, keys, query_key}
 use Rattle.mo_file.specs.Pairs.{message, messages_of_pairs}
 use Rattle.mo_file.specs.Building.{IsBuildFault}
 use Rattle.mo_file.specs.declared.building.BuildError.{BuildError}
@@ -38,7 +37,7 @@ use Rattle.po_catalog.specs.Joined.{is_live}
 use Rattle.po_catalog.specs.Duplicate.{IsSameMessage, AllDiffer, HasNoDuplicate}
 use Rattle.po_compile.specs.CompiledList.{is_compiled, compiled_list}
 use Rattle.po_compile.specs.CompiledMessages.{plural_part, original_of, message_of, messages_of_entries, AreMessagesOf}
-use Rattle.po_compile.proofs.TextLemmas.{key_of-plural_part, query_key_lacks, query_key_is_one}
+use Rattle.po_compile.proofs.TextLemmas.{query_key_lacks, query_key_is_one}
 use Rattle.po_compile.proofs.MeaningLemmas.{IsClean, clean_entry, key_of-original}
 
 -- the original of a message is its key, and perhaps a NUL and a plural

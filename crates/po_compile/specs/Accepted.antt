@@ -1,6 +1,6 @@
 -- Which texts are accepted, and which fault is told of those that aren't (manual, "The Format of PO Files" and
 -- "Invoking the msgfmt Program").
-use Rattle.std.specs.Prelude.{◌≡◌, ◌⊎◌, ◌^◌, ◌<◌, ℕ, List, [], ◌∷◌, ◌++◌, map, length}
+use Rattle.std.specs.Prelude.{◌≡◌, ◌⊎◌, ◌^◌, ◌<◌, ℕ, List, ◌∷◌, ◌++◌, map, length}
 use Rattle.std.specs.List.{AllZip}
 use Rattle.mo_file.specs.Message.{Message}
 use Rattle.mo_file.specs.Layout.{layout}

@@ -5,7 +5,7 @@ use Rattle.std.specs.Str.{bytes_eq}
 use Rattle.plural_rule.specs.PluralRule.{Meaning, IsRuleOf}
 use Rattle.mo_file.specs.Message.{Message}
 use Rattle.mo_lookup.specs.Answer.{Outcome, answer}
-use Rattle.mo_lookup.specs.Contents.{Contents, AreContents, expression_limit, told}
+use Rattle.mo_lookup.specs.Contents.{AreContents, expression_limit, told}
 use Rattle.mo_lookup.specs.Query.{Query, is_clean_key}
 use Rattle.po_entry.specs.TextEntry.{TextEntry}
 use Rattle.po_entry.specs.Header.{first_form}

@@ -1,5 +1,4 @@
-use Rattle.std.proofs.Common.{[], ◌∷◌, ◌++◌, subst, sym, ap, ◌∙◌, List}
-use Rattle.po_entry.specs.TextEntry.{TextEntry}
+use Rattle.std.proofs.Common.{[], ◌∷◌, ◌++◌, subst, sym, ap, ◌∙◌}
 use Rattle.po_catalog.specs.Joined.{joined_entries}
 use Rattle.po_catalog.specs.Duplicate.{HasNoDuplicate}
 use Rattle.po_compile.specs.Compiling.{IsCompiled, IsLayoutFault}
