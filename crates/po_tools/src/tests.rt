@@ -6,7 +6,7 @@ use crate::{
     plan_ngettext, run_msgfmt,
 };
 use mo_file::Order;
-use po_shell::{Counted, ToolFault};
+use po_shell::{Counted, Failing, ToolFault};
 use std::process::Abort;
 use std::test::Fail;
 
@@ -240,4 +240,67 @@ fn one_message_is_delivered(rt: HostRuntime) -> Result<(), Fail> {
     assert!(rt; out.into_inner().as_slice() == ONE_FILE);
     assert!(rt; err.into_inner().as_slice() == b"1 translated message.\n".as_slice());
     Ok(())
+}
+
+#[test]
+fn gettext(rt: HostRuntime) {
+    let options = GettextOptions {
+        messages: &["a", "zz"],
+        context: None,
+        expand: false,
+        no_newline: false,
+        shell: true,
+    };
+    assert_answered(
+        &rt,
+        plan_gettext(rt.alloc(), &[("one", ONE_FILE)], &options),
+        b"b zz\n",
+        b"",
+    );
+    let unended = GettextOptions {
+        messages: &["a"],
+        no_newline: true,
+        ..options
+    };
+    assert_answered(
+        &rt,
+        plan_gettext(rt.alloc(), &[("one", ONE_FILE)], &unended),
+        b"b",
+        b"",
+    );
+}
+
+#[test]
+fn failing_writer(rt: HostRuntime) -> Result<(), Fail> {
+    let run = Run {
+        output: Vec::from_slice(rt.alloc(), b"ab")?,
+        create: true,
+        messages: Vec::from_slice(rt.alloc(), b"c")?,
+        status: 0,
+    };
+    let mut out = Counted::new(Failing::new(Vec::new(rt.alloc()), 2, 1));
+    let mut err = Counted::new(Vec::new(rt.alloc()));
+    let delivered = deliver(&run, &mut out, &mut err);
+    assert!(rt; delivered == Err(ToolFault::WriteFault));
+    assert!(rt; out.into_inner().into_inner().as_slice() == b"a".as_slice());
+    assert!(rt; err.into_inner().is_empty());
+    Ok(())
+}
+
+#[test]
+fn failing_reader(rt: HostRuntime) {
+    let mut reader = Counted::new(Failing::new(ONE_MESSAGE, 1, 1));
+    let mut out = Counted::new(Vec::new(rt.alloc()));
+    let mut err = Counted::new(Vec::new(rt.alloc()));
+    let outcome = run_msgfmt(
+        rt.alloc(),
+        &mut reader,
+        &mut out,
+        &mut err,
+        "<stdin>",
+        &TOLD,
+    );
+    assert!(rt; outcome == Err(ToolFault::ReadFault));
+    assert!(rt; out.into_inner().is_empty());
+    assert!(rt; err.into_inner().is_empty());
 }
