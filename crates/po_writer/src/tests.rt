@@ -1,4 +1,5 @@
 use crate::entry_lines::{push_comments, push_flags, push_previous, push_words};
+use crate::laws::{written_text_again, written_text_reads};
 use crate::write;
 use po_entry::{Catalogue, Entry, Previous};
 use std::test::Fail;
@@ -84,5 +85,12 @@ fn previous_texts(rt: HostRuntime) -> Result<(), Fail> {
         out.as_slice(),
         b"#~| msgctxt \"c\"\n#~| msgid \"\"\n#~| \"i\\n\"\n#~| \"j\"\n#~| msgid_plural \"\"\n".as_slice()
     );
+    Ok(())
+}
+
+#[test]
+fn laws(_rt: HostRuntime) -> Result<(), Fail> {
+    written_text_reads();
+    written_text_again();
     Ok(())
 }

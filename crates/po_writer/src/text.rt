@@ -1,5 +1,4 @@
-ghost use Rattle.std.specs.Prelude.{◌≡◌, ◌==◌, Bool, OnOk, IfOk, IfErr, fold, filter};
-ghost use Rattle.po_entry.specs.TextEntry.{TextEntry};
+ghost use Rattle.std.specs.Prelude.{◌≡◌, OnOk, IfOk, IfErr, fold};
 ghost use Rattle.po_entry.specs.Validity.{out_of_memory};
 ghost use Rattle.po_writer.specs.Separated.{with_entry, with_obsolete};
 ghost use Rattle.po_writer.specs.WrittenText.{written_text};
