@@ -1,6 +1,6 @@
 ghost use Rattle.std.specs.Prelude.{◌≡◌, ◌≢◌, ◌≤◌, ◌==◌, length, IfErr, OnOk};
 ghost use Rattle.std.specs.List.{suffix_len};
-ghost use Rattle.po_syntax.specs.Line.{shape_of, first_shape, hash_shape, tilde_shape, note_shape, trim_returns, SpellsTokens, TokensStop, SpellsLine, LineStops};
+ghost use Rattle.po_syntax.specs.Line.{shape_of, hash_shape, tilde_shape, note_shape, trim_returns, SpellsTokens, TokensStop, SpellsLine, LineStops};
 ghost use Rattle.po_syntax.specs.CodeView.{AddsItems, IsShapeOf};
 
 use crate::fault::PoFault;
