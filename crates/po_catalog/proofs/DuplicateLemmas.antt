@@ -214,7 +214,7 @@ apart_in front between behind a b differ =
     subst (λ x. ¬ IsSameMessage x b) at_a (subst (λ y. ¬ IsSameMessage (get_or ((front ++ a ∷ between) ++ b ∷ behind) (length front) a) y) at_b apart)
 
 -- a list without a duplicate has no first duplicate
-distinct_has_no_first : (xs : List InputEntry) (first later : InputEntry) → HasNoDuplicate (entries_of xs) → IsFirstDuplicate xs first later → ⊥
+pub distinct_has_no_first : (xs : List InputEntry) (first later : InputEntry) → HasNoDuplicate (entries_of xs) → IsFirstDuplicate xs first later → ⊥
 distinct_has_no_first xs first later none dup =
     let entry : InputEntry → TextEntry = λ e. e.entry in
     let split = ap entries_of dup.order ∙ map-append entry (dup.before ++ first ∷ dup.between) (later ∷ dup.after)

@@ -4,6 +4,7 @@
 
 mod duplicate;
 mod joining;
+pub mod laws;
 mod stats;
 #[cfg(test)]
 mod tests;

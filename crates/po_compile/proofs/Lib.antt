@@ -5,3 +5,4 @@ pub mod SortLemmas
 pub mod ReadingLemmas
 pub mod OneListLemmas
 pub mod HeadlineLemmas
+pub mod AcceptedLemmas

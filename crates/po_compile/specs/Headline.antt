@@ -9,7 +9,9 @@ use Rattle.po_catalog.specs.Joined.{joined_entries}
 use Rattle.po_compile.specs.CompiledList.{compiled_list}
 use Rattle.po_compile.specs.CompiledMessages.{AreMessagesOf}
 use Rattle.po_compile.specs.Meaning.{MeansEntries}
-use Rattle.po_compile.specs.Accepted.{AreAccepted}
+use Rattle.po_catalog.specs.Duplicate.{join_memory}
+use Rattle.po_catalog.specs.declared.duplicate.JoinError.{JoinError}
+use Rattle.po_compile.specs.Accepted.{AreAccepted, IsCompileFault}
 use Rattle.po_compile.specs.declared.options.Options.{Options}
 
 -- entries have one list of messages in rising order of keys
@@ -31,3 +33,9 @@ LookUpMeansEntries =
     → AreAccepted options texts catalogues → AreMessagesOf (compiled_list options.use_fuzzy (joined_entries catalogues)) messages
     → IsCatalog options.order (layout options.order messages) messages
     × MeansEntries (compiled_list options.use_fuzzy (joined_entries catalogues)) messages
+
+-- Texts that are accepted have no fault; what may be told in place of their file is want of memory alone.
+abbrev pub NoFaultWhereAccepted : Type 0
+NoFaultWhereAccepted =
+    (options : Options) (texts : List (List ℕ)) (catalogues : List (List TextEntry)) (error : JoinError)
+    → AreAccepted options texts catalogues → IsCompileFault options texts error → error ≡ join_memory

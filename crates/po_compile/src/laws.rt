@@ -1,9 +1,10 @@
 //! Laws of compiling, each of which a call makes known.
 
-ghost use Rattle.po_compile.specs.Headline.{LookUpMeansEntries, MessagesAreOne, MessagesMeanEntries};
+ghost use Rattle.po_compile.specs.Headline.{LookUpMeansEntries, MessagesAreOne, MessagesMeanEntries, NoFaultWhereAccepted};
 
 use mo_file::layout_is_catalog;
-use po_reader::laws::entries_can_stand;
+use po_catalog::laws::no_first_duplicate_where_none;
+use po_reader::laws::{entries_can_stand, no_fault_where_entries, one_reading};
 
 /// The messages that entries are compiled to answer every query as the entries do.
 pub fn messages_mean_entries()
@@ -23,5 +24,15 @@ pub fn look_up_means_entries()
     entries_can_stand();
     layout_is_catalog();
     messages_mean_entries();
+    messages_are_one();
+}
+
+/// Texts that are accepted have no fault, so that compiling them answers the file, or want of memory.
+pub fn no_fault_where_accepted()
+    ensures { NoFaultWhereAccepted }
+{
+    one_reading();
+    no_fault_where_entries();
+    no_first_duplicate_where_none();
     messages_are_one();
 }

@@ -1,0 +1,10 @@
+use Rattle.std.proofs.Common.{◌≡◌, List, map, sym, ap, ◌∙◌}
+use Rattle.po_entry.specs.TextEntry.{TextEntry, with_line}
+use Rattle.po_writer.specs.WrittenText.{written_text}
+use Rattle.po_catalog.proofs.laws.what_is_written_reads_back.Goals as goal
+
+pub returns : goal.returns
+returns c = λ entries read valid small reads.
+    let written = c.written_text_reads.ensures entries valid small in
+    let same : read ≡ written.0 = c.one_reading.ensures (written_text entries) read written.0 reads written.1 in
+    ap (λ (list : List TextEntry). map (with_line 0) list) same ∙ written.2

@@ -1,0 +1,37 @@
+//! Laws of catalogues, each on a function that does nothing: a crate that rests on one calls it.
+ghost use Rattle.std.specs.Prelude.{◌≡◌, List, All, map};
+ghost use Rattle.po_syntax.specs.PoText.{IsSmall};
+ghost use Rattle.po_entry.specs.TextEntry.{TextEntry, with_line};
+ghost use Rattle.po_entry.specs.Validity.{IsCatalogueEntry};
+ghost use Rattle.po_entry.specs.Reads.{ReadsText};
+ghost use Rattle.po_catalog.specs.Duplicate.{HasNoDuplicate, IsFirstDuplicate};
+ghost use Rattle.po_catalog.specs.Joined.{InputEntry, entries_of};
+ghost use Rattle.po_writer.specs.WrittenText.{arranged, written_text};
+
+use po_reader::laws::one_reading;
+use po_writer::laws::{written_text_again, written_text_reads};
+
+/// The written text of a catalogue's entries, if it is within the limit of a text, is read: as the
+/// arranged entries, but for their lines, and as nothing else.
+pub fn what_is_written_reads_back()
+    ensures { (entries read : List TextEntry) → All IsCatalogueEntry entries → IsSmall (written_text entries)
+        → ReadsText (written_text entries) read → map (with_line 0) read ≡ map (with_line 0) (arranged entries) }
+{
+    written_text_reads();
+    one_reading();
+}
+
+/// What is read from a written text is written as that text again.
+pub fn what_is_read_back_is_written_again()
+    ensures { (entries read : List TextEntry) → All IsCatalogueEntry entries → IsSmall (written_text entries)
+        → ReadsText (written_text entries) read → written_text read ≡ written_text entries }
+{
+    what_is_written_reads_back();
+    written_text_again();
+}
+
+/// A list without a duplicate has no first duplicate.
+pub fn no_first_duplicate_where_none()
+    ensures { (entries : List InputEntry) (first later : InputEntry)
+        → HasNoDuplicate (entries_of entries) → IsFirstDuplicate entries first later → ⊥ }
+{}
