@@ -1,5 +1,5 @@
 -- Live entries with one context and msgid (manual, "The Format of PO Files": a msgid may appear twice only under another context).
-use Rattle.std.specs.Prelude.{◌≡◌, ◌⊎◌, ℕ, List, [], ◌∷◌, ◌++◌, map, filter, AllPairs}
+use Rattle.std.specs.Prelude.{◌≡◌, ◌⊎◌, List, ◌∷◌, ◌++◌, map, filter, AllPairs}
 use Rattle.po_entry.specs.TextEntry.{TextEntry}
 use Rattle.po_syntax.specs.declared.fault.PoFault.TheVariants.{Duplicate, OutOfMemory}
 use Rattle.po_syntax.specs.declared.fault.PoError.{PoError}

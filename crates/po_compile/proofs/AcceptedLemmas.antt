@@ -1,8 +1,7 @@
 -- Texts that are accepted have no fault.
-use Rattle.std.proofs.Common.{◌≡◌, ℕ, ◌<◌, ◌≤◌, ◌^◌, List, [], ◌∷◌, ◌++◌, refl, sym, ap, ◌∙◌, subst, length, map, inl, inr, arith}
+use Rattle.std.proofs.Common.{◌≡◌, ℕ, ◌≤◌, ◌^◌, List, [], ◌∷◌, ◌++◌, refl, sym, ◌∙◌, subst, length, map, inl, inr, arith}
 use Rattle.std.specs.List.{AllZip}
 use Rattle.mo_file.specs.Layout.{layout}
-use Rattle.mo_file.specs.Message.{Message}
 use Rattle.po_syntax.specs.declared.fault.PoError.{PoError}
 use Rattle.po_syntax.specs.declared.fault.PoFault.{PoFault}
 use Rattle.po_entry.specs.TextEntry.{TextEntry}
@@ -11,7 +10,7 @@ use Rattle.po_reader.specs.Faults.{IsReadFault}
 use Rattle.po_catalog.specs.Joined.{InputEntry, in_input, joined, joined_entries, entries_of}
 use Rattle.po_catalog.specs.Duplicate.{HasNoDuplicate, IsFirstDuplicate, join_memory}
 use Rattle.po_catalog.specs.declared.duplicate.JoinError.{JoinError}
-use Rattle.po_compile.specs.Accepted.{ReadsDistinct, AreRead, AreAccepted, IsTextFault, IsFaultOfInput, HasJoinedDuplicate, IsTooLarge, IsReadingFault, IsCompileFault}
+use Rattle.po_compile.specs.Accepted.{ReadsDistinct, AreRead, AreAccepted, IsTextFault, IsFaultOfInput, HasJoinedDuplicate, IsTooLarge, IsCompileFault}
 use Rattle.po_compile.specs.CompiledList.{compiled_list}
 use Rattle.po_compile.specs.CompiledMessages.{AreMessagesOf}
 use Rattle.po_compile.specs.Headline.{MessagesAreOne}

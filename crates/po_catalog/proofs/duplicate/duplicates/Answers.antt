@@ -1,4 +1,4 @@
-use Rattle.std.proofs.Common.{◌≡◌, subst, sym, ap, ◌∙◌, ◌++◌, map}
+use Rattle.std.proofs.Common.{subst, sym, ap, ◌∙◌, ◌++◌, map}
 use Rattle.po_catalog.specs.Joined.{in_input, entries_of}
 use Rattle.po_catalog.specs.JoinedView.{input_entries}
 use Rattle.po_catalog.specs.Duplicate.{HasNoDuplicate}

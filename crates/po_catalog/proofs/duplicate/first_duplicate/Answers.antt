@@ -1,4 +1,4 @@
-use Rattle.std.proofs.Common.{◌≡◌, refl, true, false, sym, ap, ◌∙◌, inr, arith, ◌<◌, ◌≤◌, length, get_or, subst, ◌++◌, ◌∷◌, [], ◌+◌, take}
+use Rattle.std.proofs.Common.{sym, ap, ◌∙◌, inr, arith, ◌<◌, length, subst, ◌++◌, ◌∷◌, [], ◌+◌, take}
 use Rattle.std.proofs.lemmas.List.{length-map}
 use Rattle.std.proofs.Math.ListN.{get_or-map}
 use Rattle.po_catalog.specs.JoinedView.{input_entry, input_entries}
