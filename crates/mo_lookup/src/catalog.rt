@@ -48,6 +48,7 @@ impl<'a> Model for Catalog<'a> {
 
 /// The text of a file's header entry, which stands under the empty key and so first; empty where there is none.
 /// For a file with messages this is one comparison.
+#[inline(never)]
 fn header_text<'a>(view: &MoView<'a>, meter: &mut Meter) -> &'a [u8]
     requires { meter.old < 2 ^ 63 + length view.now }
     ensures text { result.now ≡ header_text view.now }
@@ -109,6 +110,7 @@ impl<'a> Catalog<'a> {
     /// A message that isn't there is answered by the msgid, or by the plural for a count that isn't 1, and so is
     /// without a comparison a context or a msgid that holds a byte 0 or 4. The meter counts the comparisons; before
     /// the call its count is below 2^63.
+    #[inline(never)]
     pub fn look<'q>(
         &self,
         context: Option<&[u8]>,

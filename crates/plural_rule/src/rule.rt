@@ -162,6 +162,6 @@ fn write_default(table: &mut Table)
 {
     table.clear();
     table.push(Node::Count);
-    table.push(Node::Number(1));
+    table.push(Node::numeral(1));
     table.push(Node::Binary(Operator::NotEqual, 0, 1));
 }
