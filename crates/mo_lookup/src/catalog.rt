@@ -110,7 +110,6 @@ impl<'a> Catalog<'a> {
     /// A message that isn't there is answered by the msgid, or by the plural for a count that isn't 1, and so is
     /// without a comparison a context or a msgid that holds a byte 0 or 4. The meter counts the comparisons; before
     /// the call its count is below 2^63.
-    #[inline(never)]
     pub fn look<'q>(
         &self,
         context: Option<&[u8]>,
