@@ -1,5 +1,5 @@
 -- Entries have texts that can be read, or a first one whose texts can't; and charsets that are admitted, or a first one that isn't.
-use Rattle.std.proofs.Common.{◌≡◌, ◌≢◌, ℕ, Bool, true, false, List, [], ◌∷◌, Option, Some, None, map, IsUtf8, inl, inr, ◌⊎◌, refl, sym, ◌∙◌, zero, arith}
+use Rattle.std.proofs.Common.{◌≢◌, ℕ, List, [], ◌∷◌, Option, Some, None, map, IsUtf8, inl, inr, ◌⊎◌, refl, sym, ◌∙◌, arith}
 use Rattle.std.specs.Prelude.{All, Contains, IfSome, bytes_eq}
 use Rattle.std.specs.Str.{is_utf8}
 use Rattle.std.proofs.lemmas.Bool.{cases_Bool, cases_eq, false≢true}
