@@ -94,8 +94,8 @@ lifted context stops completes = record {
   split = context.split;
   unread = λ others fault line alike stopped. context.unread others fault line alike (stops others fault line stopped);
   viable = λ others part.
-    let complete = completes others part in
-    shorter (context.own ++ others) complete.1.0
+      let complete = completes others part in
+      shorter (context.own ++ others) complete.1.0
       (subst IsViable (ap (λ (x : List TextItem). context.own ++ x) complete.1.1 ∙ sym (append_assoc context.own others complete.1.0)) (context.viable complete.0 complete.2));
 }
 
@@ -109,11 +109,11 @@ deeper {rest = rest} context cut stops completes = record {
   own = context.own ++ cut.own;
   split = context.split ∙ ap (λ (x : List TextItem). context.own ++ x) cut.split ∙ sym (append_assoc context.own cut.own rest);
   unread = λ others fault line alike stopped.
-    let here = stops others fault line alike stopped in
-    subst IsUnread (sym (append_assoc context.own cut.own others)) (context.unread (cut.own ++ others) fault line (alike_behind rest others cut.own cut.split alike) (here.1 (cut.own ++ others) (cut.again others here.0)));
+      let here = stops others fault line alike stopped in
+      subst IsUnread (sym (append_assoc context.own cut.own others)) (context.unread (cut.own ++ others) fault line (alike_behind rest others cut.own cut.split alike) (here.1 (cut.own ++ others) (cut.again others here.0)));
   viable = λ others part.
-    let complete = completes others part in
-    let place : context.own ++ (cut.own ++ complete.0) ≡ ((context.own ++ cut.own) ++ others) ++ complete.1.0 =
-        sym (append_assoc context.own cut.own complete.0) ∙ ap (λ (x : List TextItem). (context.own ++ cut.own) ++ x) complete.1.1 ∙ sym (append_assoc (context.own ++ cut.own) others complete.1.0) in
-    shorter ((context.own ++ cut.own) ++ others) complete.1.0 (subst IsViable place (context.viable (cut.own ++ complete.0) (complete.3 (cut.own ++ complete.0) (cut.again complete.0 complete.2))));
+      let complete = completes others part in
+      let place : context.own ++ (cut.own ++ complete.0) ≡ ((context.own ++ cut.own) ++ others) ++ complete.1.0 =
+      sym (append_assoc context.own cut.own complete.0) ∙ ap (λ (x : List TextItem). (context.own ++ cut.own) ++ x) complete.1.1 ∙ sym (append_assoc (context.own ++ cut.own) others complete.1.0) in
+      shorter ((context.own ++ cut.own) ++ others) complete.1.0 (subst IsViable place (context.viable (cut.own ++ complete.0) (complete.3 (cut.own ++ complete.0) (cut.again complete.0 complete.2))));
 }

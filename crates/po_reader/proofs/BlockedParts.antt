@@ -76,9 +76,9 @@ strings_blocked {end} {marks = marks} context (stop.refused {items = items} e pl
 }
 strings_blocked {marks = marks} context (stop.later {items = items} {behind = behind} {bytes = bytes} e b s) =
     strings_blocked
-      (deeper context (string_cut marks items behind bytes e) (λ others fault line alike stopped. (tt, λ start p. stop.later p (sym alike.0 ∙ b) stopped))
-         (λ others part. (others, as_long others, tt, λ start p. (bytes ++ part.0, string.more p (strings_look part.1) part.1))))
-      s
+    (deeper context (string_cut marks items behind bytes e) (λ others fault line alike stopped. (tt, λ start p. stop.later p (sym alike.0 ∙ b) stopped))
+    (λ others part. (others, as_long others, tt, λ start p. (bytes ++ part.0, string.more p (strings_look part.1) part.1))))
+    s
 
 pub worded_blocked : {end : ℕ} {wanted : word.Wanted} {obsolete : Bool} {whole items : List TextItem} {fault : PoFault} {line : ℕ} → Context whole (stop.WordedStops end wanted obsolete) (AreWorded wanted obsolete) items
     → stop.WordedStops end wanted obsolete items fault line → Blocked end whole fault line
@@ -91,15 +91,15 @@ worded_blocked {end} {wanted = wanted} {obsolete = obsolete} context (stop.refus
   placed = place;
   unread = λ others other alike refused. context.unread others other (stop.line_at end others) alike (stop.refused refused refl);
   viable = λ item accepted.
-    let text = Str [] (string.own_marks obsolete) 0 in
-    let complete = context.viable (item ∷ text ∷ []) (accepted.0, accepted.1, [], word.worded (accepted.2 (text ∷ [])) (empty_strings obsolete [] refl)) in
-    shorter (context.own ++ item ∷ []) (text ∷ []) (subst IsViable (sym (append_assoc context.own (item ∷ []) (text ∷ []))) complete);
+      let text = Str [] (string.own_marks obsolete) 0 in
+      let complete = context.viable (item ∷ text ∷ []) (accepted.0, accepted.1, [], word.worded (accepted.2 (text ∷ [])) (empty_strings obsolete [] refl)) in
+      shorter (context.own ++ item ∷ []) (text ∷ []) (subst IsViable (sym (append_assoc context.own (item ∷ []) (text ∷ []))) complete);
 }
 worded_blocked {wanted = wanted} {obsolete = obsolete} context (stop.in_text {items = items} {text = text} {keyword = keyword} {at = at} e s) =
     strings_blocked
-      (deeper context (word_cut wanted obsolete items text keyword at e) (λ others fault line alike stopped. (tt, λ start p. stop.in_text p stopped))
-         (λ others part. (others, as_long others, tt, λ start p. (keyword, at, part.0, word.worded p part.1))))
-      s
+    (deeper context (word_cut wanted obsolete items text keyword at e) (λ others fault line alike stopped. (tt, λ start p. stop.in_text p stopped))
+    (λ others part. (others, as_long others, tt, λ start p. (keyword, at, part.0, word.worded p part.1))))
+    s
 
 forms_blocked : {end : ℕ} {obsolete : Bool} {whole : List TextItem} {index : ℕ} {items : List TextItem} {fault : PoFault} {line : ℕ} → Context whole (stop.FormsStop end obsolete index) (AreForms obsolete index) items
     → stop.FormsStop end obsolete index items fault line → Blocked end whole fault line
@@ -108,9 +108,9 @@ forms_blocked context (stop.here s) =
 forms_blocked context (stop.later {form = form} w b s) =
     let cut = worded_cut w in
     forms_blocked
-      (deeper context cut (λ others fault line alike stopped. (sym alike.0 ∙ cut.look, λ start p. stop.later p (sym alike.1 ∙ b) stopped))
-         (λ others part. let look = forms_look part.1 in (others, as_long others, look.0, λ start p. (form ∷ part.0, body.more p look.1 part.1))))
-      s
+    (deeper context cut (λ others fault line alike stopped. (sym alike.0 ∙ cut.look, λ start p. stop.later p (sym alike.1 ∙ b) stopped))
+    (λ others part. let look = forms_look part.1 in (others, as_long others, look.0, λ start p. (form ∷ part.0, body.more p look.1 part.1))))
+    s
 
 -- what a first word with its text becomes behind a msgid, complete
 translated : {obsolete : Bool} (items : List TextItem) (keyword : Keyword) (line : ℕ) (bytes : List ℕ) → word.IsWorded word.Translation obsolete items keyword line bytes []
@@ -128,43 +128,43 @@ translation_blocked context (stop.here s) = worded_blocked (lifted context (λ o
 translation_blocked context (stop.in_forms {plural = plural} w s) =
     let cut = worded_cut w in
     forms_blocked
-      (deeper context cut (λ others fault line alike stopped. (sym alike.0 ∙ cut.look, λ start p. stop.in_forms p stopped))
-         (λ others part. (others, as_long others, (forms_look part.1).0, λ start p. (Some plural, part.0, body.plural p part.1))))
-      s
+    (deeper context cut (λ others fault line alike stopped. (sym alike.0 ∙ cut.look, λ start p. stop.in_forms p stopped))
+    (λ others part. (others, as_long others, (forms_look part.1).0, λ start p. (Some plural, part.0, body.plural p part.1))))
+    s
 
 pub body_blocked : {end : ℕ} {whole items : List TextItem} {fault : PoFault} {line : ℕ} → Context whole (stop.BodyStops end) AreBody items → stop.BodyStops end items fault line → Blocked end whole fault line
 body_blocked context (stop.in_context {obsolete = obsolete} {items = items} {text = text} e s) =
     strings_blocked
-      (deeper context (context_cut obsolete items text e) (λ others fault line alike stopped. (tt, λ start p. stop.in_context p stopped))
-         (λ others part.
-            let behind = empty_message obsolete in
-            (others ++ behind, (behind, refl), tt, λ start p. (_, body.with_context p (extended (strings_cut part.1) behind refl) (empty_worded word.Id MsgId obsolete (empty_translation obsolete) refl refl) (translation_empty obsolete)))))
-      s
+    (deeper context (context_cut obsolete items text e) (λ others fault line alike stopped. (tt, λ start p. stop.in_context p stopped))
+    (λ others part.
+    let behind = empty_message obsolete in
+    (others ++ behind, (behind, refl), tt, λ start p. (_, body.with_context p (extended (strings_cut part.1) behind refl) (empty_worded word.Id MsgId obsolete (empty_translation obsolete) refl refl) (translation_empty obsolete)))))
+    s
 body_blocked context (stop.at_id {obsolete = obsolete} {items = items} {text = text} e u s) =
     let cut = followed (context_cut obsolete items text e) (strings_cut u) (λ x y q. tt) in
     worded_blocked
-      (deeper context cut (λ others fault line alike stopped. (sym alike.0 ∙ cut.look, λ start p. stop.at_id p.1 p.2 stopped))
-         (λ others part.
-            let behind = empty_translation obsolete in
-            let id = extended (worded_cut part.3) behind refl in
-            (others ++ behind, (behind, refl), worded_look id, λ start p. (_, body.with_context p.1 p.2 id (translation_empty obsolete)))))
-      s
+    (deeper context cut (λ others fault line alike stopped. (sym alike.0 ∙ cut.look, λ start p. stop.at_id p.1 p.2 stopped))
+    (λ others part.
+    let behind = empty_translation obsolete in
+    let id = extended (worded_cut part.3) behind refl in
+    (others ++ behind, (behind, refl), worded_look id, λ start p. (_, body.with_context p.1 p.2 id (translation_empty obsolete)))))
+    s
 body_blocked context (stop.in_id {obsolete = obsolete} {at = at} {items = items} {text = text} e s) =
     strings_blocked
-      (deeper context (id_cut obsolete at items text e) (λ others fault line alike stopped. (tt, λ start p. stop.in_id p stopped))
-         (λ others part.
-            let behind = empty_translation obsolete in
-            (others ++ behind, (behind, refl), tt, λ start p. (_, body.without_context p (extended (strings_cut part.1) behind refl) (translation_empty obsolete)))))
-      s
+    (deeper context (id_cut obsolete at items text e) (λ others fault line alike stopped. (tt, λ start p. stop.in_id p stopped))
+    (λ others part.
+    let behind = empty_translation obsolete in
+    (others ++ behind, (behind, refl), tt, λ start p. (_, body.without_context p (extended (strings_cut part.1) behind refl) (translation_empty obsolete)))))
+    s
 body_blocked context (stop.behind_context {obsolete = obsolete} {items = items} {text = text} e u w s) =
     let cut = followed (context_cut obsolete items text e) (followed (strings_cut u) (worded_cut w) (λ x y q. worded_look q)) (λ x y q. tt) in
     translation_blocked
-      (deeper context cut (λ others fault line alike stopped. (sym alike.0 ∙ cut.look, λ start p. stop.behind_context p.1 p.2.1 p.2.2 stopped))
-         (λ others part. (others, as_long others, translation_look part.2, λ start p. (_, body.with_context p.1 p.2.1 p.2.2 part.2))))
-      s
+    (deeper context cut (λ others fault line alike stopped. (sym alike.0 ∙ cut.look, λ start p. stop.behind_context p.1 p.2.1 p.2.2 stopped))
+    (λ others part. (others, as_long others, translation_look part.2, λ start p. (_, body.with_context p.1 p.2.1 p.2.2 part.2))))
+    s
 body_blocked context (stop.behind_id {obsolete = obsolete} {at = at} {items = items} {text = text} e u s) =
     let cut = followed (id_cut obsolete at items text e) (strings_cut u) (λ x y q. tt) in
     translation_blocked
-      (deeper context cut (λ others fault line alike stopped. (sym alike.0 ∙ cut.look, λ start p. stop.behind_id p.1 p.2 stopped))
-         (λ others part. (others, as_long others, translation_look part.2, λ start p. (_, body.without_context p.1 p.2 part.2))))
-      s
+    (deeper context cut (λ others fault line alike stopped. (sym alike.0 ∙ cut.look, λ start p. stop.behind_id p.1 p.2 stopped))
+    (λ others part. (others, as_long others, translation_look part.2, λ start p. (_, body.without_context p.1 p.2 part.2))))
+    s

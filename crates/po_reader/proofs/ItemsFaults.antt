@@ -39,10 +39,10 @@ parted (x ∷ front) (y ∷ other) item next rest behind e =
     elim (parted front other item next rest behind later) [
       | inl both ↦ inl (ap₂ (λ (i : TextItem) (l : List TextItem). i ∷ l) same both.0, both.1)
       | inr one ↦
-        elim one [
-          | inl longer ↦ inr (inl (longer.0, ap₂ (λ (i : TextItem) (l : List TextItem). i ∷ l) (sym same) longer.1))
-          | inr longer ↦ inr (inr (longer.0, ap₂ (λ (i : TextItem) (l : List TextItem). i ∷ l) same longer.1))
-        ]
+          elim one [
+            | inl longer ↦ inr (inl (longer.0, ap₂ (λ (i : TextItem) (l : List TextItem). i ∷ l) (sym same) longer.1))
+            | inr longer ↦ inr (inr (longer.0, ap₂ (λ (i : TextItem) (l : List TextItem). i ∷ l) same longer.1))
+          ]
     ]
 
 once : {items others : List TextItem} {f g : PoFault} {m n : ℕ} → items ≡ others → ItemsFault items f m → ItemsFault others g n → (f ≡ g) × (m ≡ n)
@@ -50,10 +50,10 @@ once {g = g} e (at {front = front} {item = item} rest viable never misfit) (at {
     elim (parted front other item next rest behind e) [
       | inl both ↦ (misfit_once misfit (subst₂ (λ (l : List TextItem) (i : TextItem). Misfit l i g) (sym both.0) (sym both.1) wrong), ap line_of both.1)
       | inr one ↦
-        elim one [
-          | inl longer ↦ absurd (never (viable_up_to front item longer.0 (subst IsViable longer.1 possible)))
-          | inr longer ↦ absurd (nowhere (viable_up_to other next longer.0 (subst IsViable longer.1 viable)))
-        ]
+          elim one [
+            | inl longer ↦ absurd (never (viable_up_to front item longer.0 (subst IsViable longer.1 possible)))
+            | inr longer ↦ absurd (nowhere (viable_up_to other next longer.0 (subst IsViable longer.1 viable)))
+          ]
     ]
 once e (at {front = front} {item = item} rest viable never misfit) (at_end possible none) = absurd (never (viable_up_to front item rest (subst IsViable (sym e) possible)))
 once e (at_end viable none) (at {front = other} {item = next} behind possible nowhere wrong) = absurd (nowhere (viable_up_to other next behind (subst IsViable e viable)))

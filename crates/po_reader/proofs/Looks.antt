@@ -2,7 +2,7 @@
 use Rattle.std.proofs.Common.{◌≡◌, ℕ, Bool, true, false, not, nat_lt, List, [], ◌∷◌, Option, Some, None, refl, sym, subst}
 use Rattle.std.specs.Prelude.{if◌then◌else◌}
 use Rattle.po_syntax.specs.declared.fault.PoFault.{PoFault}
-use Rattle.po_syntax.specs.declared.fault.PoFault.TheVariants.{BadOrder, BadPluralIndex, MixedObsolete}
+use Rattle.po_syntax.specs.declared.fault.PoFault.TheVariants.{BadOrder}
 use Rattle.po_syntax.specs.declared.item.Keyword.{Keyword}
 use Rattle.po_syntax.specs.declared.item.Keyword.TheVariants.{MsgCtxt, MsgId, MsgIdPlural, MsgStr, MsgStrAt}
 use Rattle.po_syntax.specs.declared.item.Marks.{Marks}
@@ -14,6 +14,7 @@ use Rattle.po_entry.specs.Body as body
 use Rattle.po_entry.specs.Head as head
 use Rattle.po_entry.specs.Reads.{Reads, comments, entry, AreComments}
 use Rattle.po_reader.specs.Stops as stop
+use Rattle.po_reader.proofs.Steps.{word_told}
 
 -- the head of an entry ends here, whatever stands in it
 abbrev pub Starts : List TextItem → Type 0
@@ -45,7 +46,7 @@ wanted_word wanted obsolete (Comment kind text l ∷ items) rest keyword line e 
 wanted_word wanted obsolete (Str text found l ∷ items) rest keyword line e = cc
 wanted_word wanted obsolete (Word found marks l ∷ items) rest keyword line e = (refl, chosen marks.previous (word.is_wanted wanted found) refl (string.same_bool obsolete marks.obsolete) (word.is_wrong_form wanted found) e) where
   chosen : (p w : Bool) → word.is_wanted wanted found ≡ w → (s f : Bool)
-      → (if p then word.Refuse BadOrder else if w then (if s then word.Take found l items else word.Refuse MixedObsolete) else if f then word.Refuse BadPluralIndex else word.Refuse BadOrder) ≡ word.Take keyword line rest
+      → word_told p w s f found l items ≡ word.Take keyword line rest
       → word.is_wanted wanted keyword ≡ true
   chosen true w t s f q = cc
   chosen false true t true f q = let same : found ≡ keyword = cc in subst (λ (k : Keyword). word.is_wanted wanted k ≡ true) same t
@@ -59,27 +60,19 @@ worded_look {wanted} {obsolete} (word.worded {items = items} {text = text} {keyw
 pub worded_wanted : {wanted : word.Wanted} {obsolete : Bool} {items rest : List TextItem} {k : Keyword} {l : ℕ} {a : List ℕ} → word.IsWorded wanted obsolete items k l a rest → word.is_wanted wanted k ≡ true
 worded_wanted {wanted} {obsolete} (word.worded {items = items} {text = text} {keyword = keyword} {line = line} e s) = (wanted_word wanted obsolete items text keyword line e).1
 
+never_taken : {keyword : Keyword} {line : ℕ} {rest : List TextItem} (p : Bool) → (if p then word.Refuse BadOrder else word.Refuse BadOrder) ≡ word.Take keyword line rest → ⊥
+never_taken true e = cc
+never_taken false e = cc
+
 -- a wanted form begins as a form
 form_taken : (index : ℕ) (obsolete : Bool) (items rest : List TextItem) (keyword : Keyword) (line : ℕ) → word.next_word (word.Form index) obsolete items ≡ word.Take keyword line rest → body.begins_form items ≡ true
 form_taken index obsolete [] rest keyword line e = cc
 form_taken index obsolete (Comment kind text l ∷ items) rest keyword line e = cc
 form_taken index obsolete (Str text found l ∷ items) rest keyword line e = cc
-form_taken index obsolete (Word MsgCtxt marks l ∷ items) rest keyword line e = absurd (chosen marks.previous e) where
-  chosen : (p : Bool) → (if p then word.Refuse BadOrder else word.Refuse BadOrder) ≡ word.Take keyword line rest → ⊥
-  chosen true q = cc
-  chosen false q = cc
-form_taken index obsolete (Word MsgId marks l ∷ items) rest keyword line e = absurd (chosen marks.previous e) where
-  chosen : (p : Bool) → (if p then word.Refuse BadOrder else word.Refuse BadOrder) ≡ word.Take keyword line rest → ⊥
-  chosen true q = cc
-  chosen false q = cc
-form_taken index obsolete (Word MsgIdPlural marks l ∷ items) rest keyword line e = absurd (chosen marks.previous e) where
-  chosen : (p : Bool) → (if p then word.Refuse BadOrder else word.Refuse BadOrder) ≡ word.Take keyword line rest → ⊥
-  chosen true q = cc
-  chosen false q = cc
-form_taken index obsolete (Word MsgStr marks l ∷ items) rest keyword line e = absurd (chosen marks.previous e) where
-  chosen : (p : Bool) → (if p then word.Refuse BadOrder else word.Refuse BadOrder) ≡ word.Take keyword line rest → ⊥
-  chosen true q = cc
-  chosen false q = cc
+form_taken index obsolete (Word MsgCtxt marks l ∷ items) rest keyword line e = absurd (never_taken marks.previous e)
+form_taken index obsolete (Word MsgId marks l ∷ items) rest keyword line e = absurd (never_taken marks.previous e)
+form_taken index obsolete (Word MsgIdPlural marks l ∷ items) rest keyword line e = absurd (never_taken marks.previous e)
+form_taken index obsolete (Word MsgStr marks l ∷ items) rest keyword line e = absurd (never_taken marks.previous e)
 form_taken index obsolete (Word (MsgStrAt found) marks l ∷ items) rest keyword line e = chosen marks.previous e where
   chosen : (p : Bool) → (if p then word.Refuse BadOrder else word.word_step (word.Form index) obsolete (MsgStrAt found) (string.own_marks marks.obsolete) l items) ≡ word.Take keyword line rest → not p ≡ true
   chosen true q = cc

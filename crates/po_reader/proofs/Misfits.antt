@@ -13,6 +13,7 @@ use Rattle.po_entry.specs.Strings as string
 use Rattle.po_entry.specs.Words as word
 use Rattle.po_entry.specs.Head as head
 use Rattle.po_reader.specs.Viable.{IsViable, IsOwn, IsWrongIndex, IsMixed, with_obsolete, Misfit, index, mixed, order}
+use Rattle.po_reader.proofs.Steps.{word_told, head_told}
 use Rattle.po_reader.proofs.Blocked.{Point, AtString, AtWord, AtHead, Refuses, Accepts, Alike}
 
 -- the item may not stand there, whatever follows
@@ -88,17 +89,14 @@ string_misfit front marks found bytes line rest fault never could e = chosen (st
     either false = refl
   kind true false e f =
       order (λ w. w)
-        (not_mixed front (AtString marks) (Str bytes found line) never (λ obsolete own. (_, λ others. ap (λ (s : Bool). if s then string.Take bytes others else string.Refuse (string.stray_string marks (record { obsolete = obsolete; previous = found.previous }))) (unlike (string.same_bool marks.obsolete obsolete) marks.previous found.previous e f))))
+      (not_mixed front (AtString marks) (Str bytes found line) never (λ obsolete own. (_, λ others. ap (λ (s : Bool). if s then string.Take bytes others else string.Refuse (string.stray_string marks (record { obsolete = obsolete; previous = found.previous }))) (unlike (string.same_bool marks.obsolete obsolete) marks.previous found.previous e f))))
   kind false false e f =
       mixed (λ w. w)
-        (f, (marks.obsolete, could (with_obsolete marks.obsolete (Str bytes found line)) (bytes, λ others. ap (λ (s : Bool). if s then string.Take bytes others else string.Refuse (string.stray_string marks (record { obsolete = marks.obsolete; previous = found.previous }))) (like marks.obsolete marks.previous found.previous e f))))
+      (f, (marks.obsolete, could (with_obsolete marks.obsolete (Str bytes found line)) (bytes, λ others. ap (λ (s : Bool). if s then string.Take bytes others else string.Refuse (string.stray_string marks (record { obsolete = marks.obsolete; previous = found.previous }))) (like marks.obsolete marks.previous found.previous e f))))
+
   chosen : (s : Bool) → (if s then string.Take bytes rest else string.Refuse (string.stray_string marks found)) ≡ string.Refuse fault → Misfit front (Str bytes found line) fault
   chosen true q = absurd cc
   chosen false q = let same : string.stray_string marks found ≡ fault = cc in subst (λ (f : PoFault). Misfit front (Str bytes found line) f) same (kind marks.previous found.previous refl refl)
-
--- what stands where a word is wanted, by the four tests that decide it
-abbrev word_told : (p w s f : Bool) → Keyword → ℕ → List TextItem → word.WordStep
-word_told p w s f keyword line rest = if p then word.Refuse BadOrder else if w then (if s then word.Take keyword line rest else word.Refuse MixedObsolete) else if f then word.Refuse BadPluralIndex else word.Refuse BadOrder
 
 same_itself : (a : Bool) → string.same_bool a a ≡ true
 same_itself true = refl
@@ -153,40 +151,43 @@ word_misfit : (front : List TextItem) (wanted : word.Wanted) (obsolete : Bool) (
     → CouldFollow front (AtWord wanted obsolete) → word.next_word wanted obsolete (Word keyword marks line ∷ rest) ≡ word.Refuse fault → Misfit front (Word keyword marks line) fault
 word_misfit front wanted obsolete keyword marks line rest fault never could e =
     chosen marks.previous refl (word.is_wanted wanted keyword) refl (string.same_bool obsolete marks.obsolete) (word.is_wrong_form wanted keyword) refl e where
-  told : {other : PoFault} → word.Refuse other ≡ word.Refuse fault → Misfit front (Word keyword marks line) other → Misfit front (Word keyword marks line) fault
-  told {other} q misfit = let same : other ≡ fault = cc in subst (λ (f : PoFault). Misfit front (Word keyword marks line) f) same misfit
-  chosen : (p : Bool) → marks.previous ≡ p → (w : Bool) → word.is_wanted wanted keyword ≡ w → (s f : Bool) → word.is_wrong_form wanted keyword ≡ f → word_told p w s f keyword line rest ≡ word.Refuse fault → Misfit front (Word keyword marks line) fault
-  chosen true p w e s f g q = told q (foreign front (Word keyword marks line) (not_both p))
-  chosen false p true w true f g q = absurd cc
-  chosen false p true w false f g q =
-      told q
-        (mixed (not_index front (AtWord wanted obsolete) (Word keyword marks line) never (λ found other o m l same ne. word_shunned wanted obsolete (MsgStrAt other) (string.own_marks o) l (only_index wanted found other (subst (λ (i : TextItem). word.is_wanted wanted (keyword_of i keyword) ≡ true) same w) ne)))
-           (p, (obsolete, could (with_obsolete obsolete (Word keyword marks line)) (word_accepted wanted obsolete keyword (record { obsolete = obsolete; previous = marks.previous }) line refl p w))))
-  chosen false p false w s true g q = told q (index (other_index front wanted obsolete keyword marks line could p w g))
-  chosen false p false w s false g q =
-      told q
-        (order (not_index front (AtWord wanted obsolete) (Word keyword marks line) never (λ found other o m l same ne. word_shunned wanted obsolete (MsgStrAt other) (string.own_marks o) l (no_index wanted found other (subst (λ (i : TextItem). word.is_wrong_form wanted (keyword_of i keyword) ≡ false) same g))))
-           (not_mixed front (AtWord wanted obsolete) (Word keyword marks line) never (λ o own. word_shunned wanted obsolete keyword (record { obsolete = o; previous = marks.previous }) line w)))
+      told : {other : PoFault} → word.Refuse other ≡ word.Refuse fault → Misfit front (Word keyword marks line) other → Misfit front (Word keyword marks line) fault
+      told {other} q misfit = let same : other ≡ fault = cc in subst (λ (f : PoFault). Misfit front (Word keyword marks line) f) same misfit
+
+      chosen : (p : Bool) → marks.previous ≡ p → (w : Bool) → word.is_wanted wanted keyword ≡ w → (s f : Bool) → word.is_wrong_form wanted keyword ≡ f → word_told p w s f keyword line rest ≡ word.Refuse fault → Misfit front (Word keyword marks line) fault
+      chosen true p w e s f g q = told q (foreign front (Word keyword marks line) (not_both p))
+      chosen false p true w true f g q = absurd cc
+      chosen false p true w false f g q =
+          told q
+          (mixed (not_index front (AtWord wanted obsolete) (Word keyword marks line) never (λ found other o m l same ne. word_shunned wanted obsolete (MsgStrAt other) (string.own_marks o) l (only_index wanted found other (subst (λ (i : TextItem). word.is_wanted wanted (keyword_of i keyword) ≡ true) same w) ne)))
+          (p, (obsolete, could (with_obsolete obsolete (Word keyword marks line)) (word_accepted wanted obsolete keyword (record { obsolete = obsolete; previous = marks.previous }) line refl p w))))
+      chosen false p false w s true g q = told q (index (other_index front wanted obsolete keyword marks line could p w g))
+      chosen false p false w s false g q =
+          told q
+          (order (not_index front (AtWord wanted obsolete) (Word keyword marks line) never (λ found other o m l same ne. word_shunned wanted obsolete (MsgStrAt other) (string.own_marks o) l (no_index wanted found other (subst (λ (i : TextItem). word.is_wrong_form wanted (keyword_of i keyword) ≡ false) same g))))
+          (not_mixed front (AtWord wanted obsolete) (Word keyword marks line) never (λ o own. word_shunned wanted obsolete keyword (record { obsolete = o; previous = marks.previous }) line w)))
 
 head_misfit : (front : List TextItem) (above : ℕ) (keyword : Keyword) (marks : Marks) (line : ℕ) (rest : List TextItem) (fault : PoFault) → NeverBehind front (AtHead above) (Word keyword marks line)
     → head.head_step above (Word keyword marks line ∷ rest) ≡ head.Refuse fault → Misfit front (Word keyword marks line) fault
 head_misfit front above keyword marks line rest fault never e = chosen marks.previous refl (nat_lt above (head.rank keyword)) (head.begins_body keyword) refl e where
   told : head.Refuse BadOrder ≡ head.Refuse fault → Misfit front (Word keyword marks line) BadOrder → Misfit front (Word keyword marks line) fault
   told q misfit = let same : BadOrder ≡ fault = cc in subst (λ (f : PoFault). Misfit front (Word keyword marks line) f) same misfit
+
   shunned : (p b : Bool) → p ≡ false → b ≡ false → (m : Marks) (others : List TextItem)
-      → (if p then (if nat_lt above (head.rank keyword) then head.Previous keyword m others else head.Refuse BadOrder) else if b then head.Over else head.Refuse BadOrder) ≡ head.Refuse BadOrder
+      → head_told p (nat_lt above (head.rank keyword)) b keyword m others ≡ head.Refuse BadOrder
   shunned true b p q m others = cc
   shunned false true p q m others = cc
   shunned false false p q m others = refl
+
   chosen : (p : Bool) → marks.previous ≡ p → (r b : Bool) → head.begins_body keyword ≡ b
-      → (if p then (if r then head.Previous keyword marks rest else head.Refuse BadOrder) else if b then head.Over else head.Refuse BadOrder) ≡ head.Refuse fault → Misfit front (Word keyword marks line) fault
+      → head_told p r b keyword marks rest ≡ head.Refuse fault → Misfit front (Word keyword marks line) fault
   chosen true p true b g q = absurd cc
   chosen true p false b g q = told q (foreign front (Word keyword marks line) (not_both p))
   chosen false p r true g q = absurd cc
   chosen false p r false g q =
       told q
-        (order (not_index front (AtHead above) (Word keyword marks line) never (λ found other o m l same ne. (BadOrder, λ others. refl)))
-           (not_mixed front (AtHead above) (Word keyword marks line) never (λ o own. (BadOrder, λ others. shunned marks.previous (head.begins_body keyword) p g (record { obsolete = o; previous = marks.previous }) others))))
+      (order (not_index front (AtHead above) (Word keyword marks line) never (λ found other o m l same ne. (BadOrder, λ others. refl)))
+      (not_mixed front (AtHead above) (Word keyword marks line) never (λ o own. (BadOrder, λ others. shunned marks.previous (head.begins_body keyword) p g (record { obsolete = o; previous = marks.previous }) others))))
 
 -- an item that is out of order wherever it stands
 stray : (front : List TextItem) (point : Point) (item : TextItem) (fault : PoFault) → BadOrder ≡ fault → NeverBehind front point item
@@ -209,9 +210,9 @@ misfit_at front (AtHead above) (Str bytes marks line) rest fault never could e =
 pub stands : (point : Point) → (item : TextItem) × Accepts point item
 stands (AtString marks) =
     (Str [] marks 0, ([], λ rest. ap (λ (s : Bool). if s then string.Take [] rest else string.Refuse (string.stray_string marks marks)) (both (string.same_bool marks.obsolete marks.obsolete) (string.same_bool marks.previous marks.previous) (same_itself marks.obsolete) (same_itself marks.previous)))) where
-  both : (a b : Bool) → a ≡ true → b ≡ true → (a && b) ≡ true
-  both true b e f = f
-  both false b e f = e
+      both : (a b : Bool) → a ≡ true → b ≡ true → (a && b) ≡ true
+      both true b e f = f
+      both false b e f = e
 stands (AtWord word.Id obsolete) = (Word MsgId (string.own_marks obsolete) 0, word_accepted word.Id obsolete MsgId (string.own_marks obsolete) 0 refl refl refl)
 stands (AtWord word.Translation obsolete) = (Word MsgStr (string.own_marks obsolete) 0, word_accepted word.Translation obsolete MsgStr (string.own_marks obsolete) 0 refl refl refl)
 stands (AtWord (word.Form n) obsolete) = (Word (MsgStrAt n) (string.own_marks obsolete) 0, word_accepted (word.Form n) obsolete (MsgStrAt n) (string.own_marks obsolete) 0 refl refl (eq-eqb n n refl))

@@ -18,19 +18,19 @@ use Rattle.po_reader.proofs.Misfits.{Shuns, NeverBehind, misfit_at, stands}
 -- what is refused is so whatever follows
 shunned : (point : Point) (item : TextItem) (rest : List TextItem) (fault : PoFault) → Refuses point (item ∷ rest) fault → Shuns point item
 shunned (AtString marks) item rest fault e = elim (string_item marks item) [
-    | inl does ↦ let step : string.Take does.0 rest ≡ string.Refuse fault = sym (does.1 rest) ∙ e in absurd cc
-    | inr does ↦ does
-  ]
+  | inl does ↦ let step : string.Take does.0 rest ≡ string.Refuse fault = sym (does.1 rest) ∙ e in absurd cc
+  | inr does ↦ does
+]
 shunned (AtWord wanted obsolete) item rest fault e = elim (word_item wanted obsolete item) [
-    | inl does ↦ let step : word.Take does.0 does.1 rest ≡ word.Refuse fault = sym (does.2 rest) ∙ e in absurd cc
-    | inr does ↦ does
-  ]
+  | inl does ↦ let step : word.Take does.0 does.1 rest ≡ word.Refuse fault = sym (does.2 rest) ∙ e in absurd cc
+  | inr does ↦ does
+]
 shunned (AtHead above) item rest fault e = elim (head_item above item) [
-    | HeadDoes.remarks kind text does ↦ let step : head.Remark kind text rest ≡ head.Refuse fault = sym (does rest) ∙ e in absurd cc
-    | HeadDoes.texts keyword marks does ↦ let step : head.Previous keyword marks rest ≡ head.Refuse fault = sym (does rest) ∙ e in absurd cc
-    | HeadDoes.ends does ↦ let step : head.Over ≡ head.Refuse fault = sym (does rest) ∙ e in absurd cc
-    | HeadDoes.refuses told does ↦ (told, does)
-  ]
+  | HeadDoes.remarks kind text does ↦ let step : head.Remark kind text rest ≡ head.Refuse fault = sym (does rest) ∙ e in absurd cc
+  | HeadDoes.texts keyword marks does ↦ let step : head.Previous keyword marks rest ≡ head.Refuse fault = sym (does rest) ∙ e in absurd cc
+  | HeadDoes.ends does ↦ let step : head.Over ≡ head.Refuse fault = sym (does rest) ∙ e in absurd cc
+  | HeadDoes.refuses told does ↦ (told, does)
+]
 
 -- where the items end, what is wanted is out of order
 early : (point : Point) (fault : PoFault) → Refuses point [] fault → BadOrder ≡ fault
@@ -53,10 +53,10 @@ told items front (item ∷ rest) point fault line split refused placed unread vi
     let next = stands point in
     let before = shorter front (next.0 ∷ []) (viable next.0 next.1) in
     let never : NeverBehind front point item = λ other alike shuns could.
-        let here = first_alike item rest [] in
-        let there = first_alike other [] could.0 in
-        unread (other ∷ could.0) shuns.0 (here.0 ∙ alike.0 ∙ there.0, here.1 ∙ alike.1 ∙ there.1) (shuns.1 could.0) could.1
-          (subst (λ (i : List TextItem). Reads i could.1) (append_assoc front (other ∷ []) could.0) could.2) in
+    let here = first_alike item rest [] in
+    let there = first_alike other [] could.0 in
+    unread (other ∷ could.0) shuns.0 (here.0 ∙ alike.0 ∙ there.0, here.1 ∙ alike.1 ∙ there.1) (shuns.1 could.0) could.1
+    (subst (λ (i : List TextItem). Reads i could.1) (append_assoc front (other ∷ []) could.0) could.2) in
     let misfit = misfit_at front point item rest fault never viable refused in
     subst₂ (λ (i : List TextItem) (l : ℕ). ItemsFault i fault l) (sym split) (sym placed) (at rest before (never item (refl, refl) (shunned point item rest fault refused)) misfit)
 
