@@ -1,6 +1,5 @@
 -- Entries of which no two are of one message have a list of messages in rising order.
-use Rattle.std.proofs.Common.{◌≡◌, ◌≢◌, ℕ, ◌+◌, ◌<◌, zero, suc, Bool, true, false, List, [], ◌∷◌, ◌++◌, refl, sym, ap, ◌∙◌, subst, length, get_or, arith, All, AllPairs, IsPermutation, add-one}
-use Rattle.std.proofs.lemmas.List.{length-map}
+use Rattle.std.proofs.Common.{◌≡◌, ◌≢◌, ℕ, ◌<◌, zero, suc, List, [], ◌∷◌, refl, ap, ◌∙◌, length, get_or, arith, All, IsPermutation, add-one}
 use Rattle.std.proofs.lemmas.List.Elements.{All-nil, All-cons, All-head, All-tail, All-weaker, All-map}
 use Rattle.std.proofs.lemmas.List.Sorted.{All-permutation, IsPermutation-refl, IsPermutation-cons, IsPermutation-middle, IsPermutation-sym, IsPermutation-trans}
 use Rattle.std.specs.declared.cmp.Ordering.{Ordering}
@@ -9,9 +8,9 @@ use Rattle.std.proofs.lemmas.Cmp.{nat_list_cmp_total}
 use Rattle.std.proofs.lemmas.Map.Lookups.{exact_bytes}
 use Rattle.std.specs.Ordering.{ordering_reverse}
 use Rattle.mo_file.specs.Message.{Message}
-use Rattle.mo_file.specs.Key.{AreRising, key_at, key_cmp, key_of, keys}
+use Rattle.mo_file.specs.Key.{key_at, key_cmp, key_of, keys}
 use Rattle.po_entry.specs.TextEntry.{TextEntry}
-use Rattle.po_catalog.specs.Duplicate.{IsSameMessage, AllDiffer}
+use Rattle.po_catalog.specs.Duplicate.{AllDiffer}
 use Rattle.po_compile.specs.CompiledMessages.{original_of, message_of, messages_of_entries, AreMessagesOf}
 use Rattle.po_compile.proofs.MeaningLemmas.{IsClean}
 use Rattle.po_compile.proofs.OneListLemmas.{IsBelow}
