@@ -11,7 +11,7 @@ use Rattle.po_entry.specs.TextEntry.{TextEntry, slice_texts}
 use Rattle.po_catalog.specs.Joined.{joined, joined_entries, entries_of, in_input}
 use Rattle.po_compile.specs.Compiling.{HasLargeLayout, IsLayoutFault}
 use Rattle.po_compile.specs.declared.options.Options.{Options}
-use Rattle.po_catalog.specs.Duplicate.{IsDuplicateFault, entry_memory}
+use Rattle.po_catalog.specs.Duplicate.{HasNoDuplicate, IsDuplicateFault, entry_memory}
 use Rattle.po_catalog.specs.declared.duplicate.JoinError.{JoinError}
 use Rattle.po_compile.specs.Accepted.{ReadsDistinct, IsTextFault, IsReadingFault, fault_input, fault_of_input, IsTextCompileFault}
 
@@ -118,3 +118,10 @@ text_refused options text entries error read fault =
       large = subst (HasLargeLayout options) (joined_one entries) large.1;
       error_is = ap (λ (e : JoinError). e.error) large.0;
     }))) fault
+
+-- one catalogue at most has no duplicate across inputs
+pub distinct_of_one : (texts : List (List ℕ)) (catalogues : List (List TextEntry)) → length catalogues ≤ 1 → AllZip ReadsDistinct texts catalogues → HasNoDuplicate (joined_entries catalogues)
+distinct_of_one texts [] few each = λ i j d before inside. absurd (omega (arith, inside))
+distinct_of_one [] (c ∷ []) few each = absurd each
+distinct_of_one (t ∷ ts) (c ∷ []) few each = subst HasNoDuplicate (sym (joined_one c)) each.0.distinct
+distinct_of_one texts (c ∷ d ∷ cs) few each = absurd (omega (arith, few))
