@@ -5,8 +5,8 @@ use Rattle.po_compile.specs.Compiling.{IsCompiled, IsLayoutFault}
 use Rattle.po_compile.proofs.ReadingLemmas.{joined_one, text_refused}
 use Rattle.po_compile.proofs.compiling.compile.Goals as goal
 
-pub compile_catalogues-requires-clause-distinct : goal.compile_catalogues-requires-clause-distinct
-compile_catalogues-requires-clause-distinct c =
+pub compile_catalogues-requires : goal.compile_catalogues-requires
+compile_catalogues-requires c =
     let one = c.in_ok-push.ensures.items ∙ ap (λ cs. cs ++ c.in_ok-catalogue.catalogue ∷ []) c.in_ok-catalogues.ensures.items in
     subst HasNoDuplicate (sym (ap joined_entries one ∙ joined_one c.in_ok-catalogue.catalogue)) c.in_ok-catalogue.ensures.distinct
 
