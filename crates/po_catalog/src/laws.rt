@@ -1,5 +1,5 @@
 //! Laws of catalogues, each on a function that does nothing: a crate that rests on one calls it.
-ghost use Rattle.std.specs.Prelude.{◌≡◌, List, All, map};
+ghost use Rattle.std.specs.Prelude.{◌≡◌, ◌⊎◌, List, All, map};
 ghost use Rattle.po_syntax.specs.PoText.{IsSmall};
 ghost use Rattle.po_entry.specs.TextEntry.{TextEntry, with_line};
 ghost use Rattle.po_entry.specs.Validity.{IsCatalogueEntry};
@@ -34,4 +34,18 @@ pub fn what_is_read_back_is_written_again()
 pub fn no_first_duplicate_where_none()
     ensures { (entries : List InputEntry) (first later : InputEntry)
         → HasNoDuplicate (entries_of entries) → IsFirstDuplicate entries first later → ⊥ }
+{}
+
+/// Every list has no duplicate, or a first one.
+pub fn no_duplicate_or_first()
+    ensures { (entries : List InputEntry)
+        → HasNoDuplicate (entries_of entries)
+        ⊎ ((first later : InputEntry) × IsFirstDuplicate entries first later) }
+{}
+
+/// A list has at most one first duplicate.
+pub fn one_first_duplicate()
+    ensures { (entries : List InputEntry) (first later other last : InputEntry)
+        → IsFirstDuplicate entries first later → IsFirstDuplicate entries other last
+        → (first ≡ other) × (later ≡ last) }
 {}

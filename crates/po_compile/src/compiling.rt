@@ -1,9 +1,9 @@
-ghost use Rattle.std.specs.Prelude.{◌≡◌, ◌<◌, ◌^◌, length, MatchResult};
+ghost use Rattle.std.specs.Prelude.{◌≡◌, ◌≢◌, ◌<◌, ◌^◌, [], ◌∷◌, length, MatchResult};
 ghost use Rattle.po_entry.specs.TextEntry.{slice_texts};
 ghost use Rattle.po_catalog.specs.Joined.{joined_entries};
 ghost use Rattle.po_catalog.specs.Duplicate.{HasNoDuplicate};
-ghost use Rattle.po_compile.specs.Accepted.{AreCompiled, IsCompileFault, IsTextCompiled, IsTextCompileFault};
-ghost use Rattle.po_compile.specs.Compiling.{IsCompiled, IsLayoutFault, layout_error};
+ghost use Rattle.po_compile.specs.Accepted.{AreCompiled, IsCompileFault, fault_of_only_input};
+ghost use Rattle.po_compile.specs.Compiling.{IsCompiled, IsLayoutFault, IsLayoutError};
 
 use crate::laws::messages_mean_entries;
 use crate::messages::{messages_of, sort_messages};
@@ -28,11 +28,11 @@ pub fn compile_all(alloc: Global, texts: &[&[u8]], options: Options) -> Result<C
     compile_catalogues(alloc, catalogues, options)
 }
 
-/// Compiles a PO text to an MO file. Refused with the fault of `read`, then of `duplicates`; then with `TooLarge`, at
-/// line 0, where the file would have more than 4,294,967,295 bytes. `OutOfMemory`, at line 0, may come in place of
-/// any answer.
+/// Compiles a PO text to an MO file, as `compile_all` does where it is the only one. Refused with the fault of `read`,
+/// then of `duplicates`; then with `TooLarge`, at line 0, where the file would have more than 4,294,967,295 bytes.
+/// `OutOfMemory`, at line 0, may come in place of any answer.
 pub fn compile(alloc: Global, text: &[u8], options: Options) -> Result<Compiled, PoError>
-    ensures { MatchResult result (IsTextCompiled options text.now) (IsTextCompileFault options text.now) }
+    ensures { MatchResult result (AreCompiled options (text.now ∷ [])) (λ e. IsCompileFault options (text.now ∷ []) (fault_of_only_input e)) }
 {
     let catalogue = read_distinct(alloc, text)?;
     let mut catalogues = Vec::with_capacity(alloc, 1)?;
@@ -72,11 +72,13 @@ pub fn compile_catalogues(
 
 /// What is told where no file is built of sorted messages.
 fn layout_error(error: BuildError) -> JoinError
-    ensures { result ≡ layout_error error }
+    requires { error ≢ BuildError.NotSorted }
+    ensures { IsLayoutError error result }
 {
     let kind = match error {
         BuildError::TooLarge => PoFault::TooLarge,
-        BuildError::NotSorted | BuildError::OutOfMemory => PoFault::OutOfMemory,
+        BuildError::OutOfMemory => PoFault::OutOfMemory,
+        BuildError::NotSorted => unreachable!(),
     };
     JoinError {
         input: 0,

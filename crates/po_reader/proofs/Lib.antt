@@ -15,3 +15,7 @@ pub mod Once
 pub mod OneReading
 pub mod OneFault
 pub mod ValidEntries
+pub mod Steps
+pub mod Totality
+pub mod Readable
+pub mod TextEnds

@@ -7,10 +7,10 @@ use Rattle.mo_file.specs.Pairs.{message, messages_of_pairs}
 use Rattle.po_catalog.specs.Joined.{joined_entries}
 use Rattle.po_catalog.specs.Statistics.{stats_of}
 use Rattle.po_compile.specs.CompiledList.{compiled_list}
-use Rattle.po_compile.specs.CompiledMessages.{messages_of_entries}
-use Rattle.po_compile.specs.Compiling.{IsLayoutFault}
-use Rattle.po_compile.proofs.SortLemmas.{compiled_messages, compiled_valid, layout_refused, count_of_messages, count_below_layout}
+use Rattle.po_compile.specs.CompiledMessages.{AreMessagesOf, messages_of_entries}
+use Rattle.po_compile.proofs.SortLemmas.{compiled_messages, compiled_valid, layout_refused, never_unsorted, count_of_messages, count_below_layout}
 use Rattle.po_compile.proofs.compiling.compile_catalogues.Goals as goal
+use Rattle.po_compile.proofs.compiling.compile_catalogues.Goals.{In-Err}
 
 pub overflow_cast-result : goal.overflow_cast-result
 overflow_cast-result c =
@@ -41,15 +41,23 @@ returns-in-Ok c =
       stats = c.entry_statistics-stats.ensures ∙ ap stats_of (c.deref.ensures.value ∙ list);
     }
 
+-- why the file of sorted messages isn't built
+refused : (c : In-Err) → AreMessagesOf (compiled_list c.args.options.use_fuzzy (joined_entries c.args.catalogues.items)) (messages_of_pairs c.sort_messages.new.pairs.items)
+    × IsBuildFault c.args.options.order (messages_of_pairs c.sort_messages.new.pairs.items) c.in-Err.error
+refused c = (
+  compiled_messages c.args.options.use_fuzzy (joined_entries c.args.catalogues.items) c.in_ok-pairs.pairs.items c.sort_messages.new.pairs.items
+      c.in_ok-entries.ensures.valid c.requires
+      (c.in_ok-pairs.ensures ∙ ap (λ l. messages_of_entries (compiled_list c.args.options.use_fuzzy l)) c.in_ok-entries.ensures.list)
+      c.sort_messages.ensures.permutation c.sort_messages.ensures.sorted,
+  subst (λ ms. IsBuildFault c.args.options.order ms c.in-Err.error) (ap messages_of_pairs c.deref-2.ensures.value) c.in-Err.ensures.fault,
+)
+
+pub layout_error-requires : goal.layout_error-requires
+layout_error-requires c =
+    let why = refused (goal.at.layout_error-requires c).In-Err in
+    never_unsorted c.args.options (compiled_list c.args.options.use_fuzzy (joined_entries c.args.catalogues.items)) (messages_of_pairs c.sort_messages.new.pairs.items) why.0 c.in-Err.error why.1
+
 pub returns : goal.returns
 returns c =
-    let joined = joined_entries c.args.catalogues.items in
-    let list = c.in_ok-entries.ensures.list in
-    let are = compiled_messages c.args.options.use_fuzzy joined c.in_ok-pairs.pairs.items c.sort_messages.new.pairs.items
-    c.in_ok-entries.ensures.valid c.requires
-    (c.in_ok-pairs.ensures ∙ ap (λ l. messages_of_entries (compiled_list c.args.options.use_fuzzy l)) list)
-    c.sort_messages.ensures.permutation c.sort_messages.ensures.sorted in
-    let pairs = ap messages_of_pairs c.deref-2.ensures.value in
-    subst (IsLayoutFault c.args.options joined) (sym c.layout_error.ensures)
-    (layout_refused c.args.options joined (messages_of_pairs c.sort_messages.new.pairs.items) are c.in-Err.error
-    (subst (λ ms. IsBuildFault c.args.options.order ms c.in-Err.error) pairs c.in-Err.ensures.fault))
+    let why = refused (goal.at.returns c).In-Err in
+    layout_refused c.args.options (joined_entries c.args.catalogues.items) (messages_of_pairs c.sort_messages.new.pairs.items) why.0 c.in-Err.error c.layout_error.result why.1 c.layout_error.ensures
