@@ -44,8 +44,8 @@ pub fn compile(alloc: Global, text: &[u8], options: Options) -> Result<Compiled,
 }
 
 /// Compiles the joined list of catalogues, in which `joined_duplicates` finds none. It gives the catalogues up: their
-/// texts are moved into the messages, and what else they hold is free before the file is laid out. Refused with `TooLarge`, at line 0 of input 0, where
-/// the file would have more than 4,294,967,295 bytes, and for want of memory.
+/// texts are moved into the messages, and what else they hold is free before the file is laid out. Refused with
+/// `TooLarge`, at line 0 of input 0, where the file would have more than 4,294,967,295 bytes, and for want of memory.
 pub fn compile_catalogues(
     alloc: Global,
     catalogues: Vec<Catalogue>,
