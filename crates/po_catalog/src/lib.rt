@@ -12,6 +12,6 @@ mod tests;
 pub use crate::duplicate::{JoinError, duplicates, joined_duplicates};
 pub use crate::joining::{JoinedEntry, into_joined, joined};
 pub use crate::stats::{Stats, entry_statistics, has_translation, statistics};
-pub use po_entry::{Catalogue, Entry, Previous};
+pub use po_entry::{Catalogue, Entry, Fields, Previous};
 pub use po_reader::read;
 pub use po_writer::write;

@@ -105,7 +105,7 @@ keys_rise a b ka kb apart up =
     ∙ nat_list_cmp_total.antisymm ka.key kb.key ∙ ap ordering_reverse greater
 
 -- entries of different messages have different keys
-keys_differ : (e f : TextEntry) → IsClean e → IsClean f → ¬ IsSameMessage e f → key_of (original_of e) ≢ key_of (original_of f)
+pub keys_differ : (e f : TextEntry) → IsClean e → IsClean f → ¬ IsSameMessage e f → key_of (original_of e) ≢ key_of (original_of f)
 keys_differ e f ce cf apart same =
     apart (query_key_is_one e.context f.context e.id f.id ce.context_eot cf.context_eot ce.id_eot cf.id_eot
     (sym (key_of-original e ce) ∙ same ∙ key_of-original f cf))

@@ -24,6 +24,10 @@ string_item marks (Str bytes found line) = chosen (string.same_marks marks found
   chosen true = inl (bytes, λ rest. refl)
   chosen false = inr (string.stray_string marks found, λ rest. refl)
 
+-- what stands where a word is wanted, by the four tests that decide it
+abbrev pub word_told : (p w s f : Bool) → Keyword → ℕ → List TextItem → word.WordStep
+word_told p w s f keyword line rest = if p then word.Refuse BadOrder else if w then (if s then word.Take keyword line rest else word.Refuse MixedObsolete) else if f then word.Refuse BadPluralIndex else word.Refuse BadOrder
+
 abbrev WordDoes : (List TextItem → word.WordStep) → Type 0
 WordDoes step =
     ((keyword : Keyword) × (line : ℕ) × ((rest : List TextItem) → step rest ≡ word.Take keyword line rest)) ⊎ ((fault : PoFault) × ((rest : List TextItem) → step rest ≡ word.Refuse fault))
@@ -33,7 +37,7 @@ word_item wanted obsolete (Comment kind text line) = inr (BadOrder, λ rest. ref
 word_item wanted obsolete (Str bytes marks line) = inr (BadOrder, λ rest. refl)
 word_item wanted obsolete (Word keyword marks line) = chosen marks.previous (word.is_wanted wanted keyword) (string.same_bool obsolete marks.obsolete) (word.is_wrong_form wanted keyword) where
   chosen : (p w s f : Bool)
-      → WordDoes (λ rest. if p then word.Refuse BadOrder else if w then (if s then word.Take keyword line rest else word.Refuse MixedObsolete) else if f then word.Refuse BadPluralIndex else word.Refuse BadOrder)
+      → WordDoes (λ rest. word_told p w s f keyword line rest)
   chosen true w s f = inr (BadOrder, λ rest. refl)
   chosen false true true f = inl (keyword, line, λ rest. refl)
   chosen false true false f = inr (MixedObsolete, λ rest. refl)
@@ -66,11 +70,15 @@ pub data HeadDoes (step : List TextItem → head.HeadStep) : Type 0 where
   ends : ((rest : List TextItem) → step rest ≡ head.Over) → HeadDoes step
   refuses : (fault : PoFault) → ((rest : List TextItem) → step rest ≡ head.Refuse fault) → HeadDoes step
 
+-- what stands in a head where a word stands, by the three tests that decide it
+abbrev pub head_told : (p r b : Bool) → Keyword → Marks → List TextItem → head.HeadStep
+head_told p r b keyword marks rest = if p then (if r then head.Previous keyword marks rest else head.Refuse BadOrder) else if b then head.Over else head.Refuse BadOrder
+
 pub head_item : (above : ℕ) (item : TextItem) → HeadDoes (λ rest. head.head_step above (item ∷ rest))
 head_item above (Comment kind text line) = HeadDoes.remarks kind text (λ rest. refl)
 head_item above (Str bytes marks line) = HeadDoes.refuses BadOrder (λ rest. refl)
 head_item above (Word keyword marks line) = chosen marks.previous (nat_lt above (head.rank keyword)) (head.begins_body keyword) where
-  chosen : (p r b : Bool) → HeadDoes (λ rest. if p then (if r then head.Previous keyword marks rest else head.Refuse BadOrder) else if b then head.Over else head.Refuse BadOrder)
+  chosen : (p r b : Bool) → HeadDoes (λ rest. head_told p r b keyword marks rest)
   chosen true true b = HeadDoes.texts keyword marks (λ rest. refl)
   chosen true false b = HeadDoes.refuses BadOrder (λ rest. refl)
   chosen false r true = HeadDoes.ends (λ rest. refl)

@@ -12,7 +12,7 @@ mod tests;
 pub use gettext::{GettextOptions, NgettextOptions, plan_gettext, plan_ngettext};
 pub use msgfmt::{MsgfmtOptions, plan_msgfmt, profile_check, run_msgfmt};
 pub use po_catalog::JoinError;
-pub use po_compile::laws::{look_up_means_entries, messages_are_one, messages_mean_entries};
+pub use po_compile::laws;
 pub use po_compile::{Compiled, Options, compile, compile_all};
 pub use profile::CheckFault;
 pub use run::{Run, deliver};
