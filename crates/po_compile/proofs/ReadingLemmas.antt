@@ -107,6 +107,13 @@ entries_of_input input (x ∷ xs) = ap (λ l. x ∷ l) (entries_of_input input x
 pub joined_one : (entries : List TextEntry) → joined_entries (entries ∷ []) ≡ entries
 joined_one entries = ap entries_of (append-nil (map (in_input 0) entries)) ∙ entries_of_input 0 entries
 
+-- one catalogue at most has no duplicate across inputs
+pub distinct_of_one : (texts : List (List ℕ)) (catalogues : List (List TextEntry)) → length catalogues ≤ 1 → AllZip ReadsDistinct texts catalogues → HasNoDuplicate (joined_entries catalogues)
+distinct_of_one texts [] few each = λ i j d before inside. absurd (omega (arith, inside))
+distinct_of_one [] (c ∷ []) few each = absurd each
+distinct_of_one (t ∷ ts) (c ∷ []) few each = subst HasNoDuplicate (sym (joined_one c)) each.0.distinct
+distinct_of_one texts (c ∷ d ∷ cs) few each = absurd (omega (arith, few))
+
 module _ (text : List ℕ) where
   -- one text reads as one catalogue
   pub only_read : (entries : List TextEntry) → ReadsDistinct text entries → AreRead (text ∷ []) (entries ∷ [])

@@ -16,9 +16,9 @@ returns-in_err-catalogue c =
     let p = err_from_is_err_and c.from_residual.result c.from_residual.ensures.1 in
     rw (p.1, p.2) (only_refused c.args.text.now c.args.options c.in_err-catalogue.field-0.0 c.in_err-catalogue.ensures)
 
-pub compile_catalogues-requires-clause-distinct : goal.compile_catalogues-requires-clause-distinct
-compile_catalogues-requires-clause-distinct c =
-    let reads = read (goal.at.compile_catalogues-requires-clause-distinct c).In_ok-push in reads.distinct
+pub compile_catalogues-requires : goal.compile_catalogues-requires
+compile_catalogues-requires c =
+    let reads = read (goal.at.compile_catalogues-requires c).In_ok-push in reads.distinct
 
 pub returns-in-Ok : goal.returns-in-Ok
 returns-in-Ok c =
