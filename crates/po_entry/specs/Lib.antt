@@ -11,3 +11,4 @@ pub mod Notes
 pub mod Reads
 pub mod Equality
 pub mod EqualityLaws
+pub mod Spelling
