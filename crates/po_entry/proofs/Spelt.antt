@@ -1,5 +1,5 @@
 -- What reads from some items to a rest is a spelling before that rest.
-use Rattle.std.proofs.Common.{◌≡◌, ◌==◌, ℕ, ◌+◌, ◌<◌, nat_lt, Bool, true, false, List, [], ◌∷◌, ◌++◌, Option, Some, None, append_assoc, refl, sym, ap, ap₂, subst, ◌∙◌}
+use Rattle.std.proofs.Common.{◌≡◌, ◌==◌, ℕ, ◌<◌, nat_lt, Bool, true, false, List, [], ◌∷◌, ◌++◌, Option, Some, None, append_assoc, refl, sym, ap, ap₂, subst, ◌∙◌}
 use Rattle.std.specs.Prelude.{if◌then◌else◌}
 use Rattle.std.proofs.lemmas.Bool.{ltb-true, eqb-true}
 use Rattle.po_syntax.specs.declared.fault.PoFault.TheVariants.{BadOrder, BadPluralIndex, MixedObsolete}
@@ -149,7 +149,7 @@ lines_front : (obsolete : Bool) (line : ℕ) (items behind rest : List TextItem)
 lines_front obsolete line items behind rest context id plural forms first c front t =
     let later = translation_front t in
     let start = joined (first ++ items) first items front.0 behind refl front.2 in
-    (first ++ front.0 ++ later.0, spell.body c front.1 later.1, joined (first ++ items) (first ++ front.0) behind later.0 rest start later.2)
+    (first ++ front.0 ++ later.0, spell.own_lines c front.1 later.1, joined (first ++ items) (first ++ front.0) behind later.0 rest start later.2)
 
 body_front : {items rest : List TextItem} {own : body.Body} → body.IsBody items own rest → Front (λ here. spell.SpellsBody here own) items rest
 body_front (body.without_context {obsolete = obsolete} {line = line} {items = items} {text = text} {behind = behind} {rest = rest} {id = id} {plural = plural} {forms = forms} e s t) =
@@ -202,6 +202,7 @@ previous_taken above (Word word found line ∷ items) rest keyword marks e = (li
   taken true p false t b q = absurd cc
   taken false p r t true q = absurd cc
   taken false p r t false q = absurd cc
+
   here : (Word word found line ∷ items ≡ Word keyword marks line ∷ rest) × (marks ≡ spell.previous_marks marks.obsolete) × (above < head.rank keyword)
   here = taken found.previous refl (nat_lt above (head.rank word)) refl (head.begins_body word) e
 
@@ -223,7 +224,7 @@ head_front (head.previous {above = above} {keyword = keyword} {marks = marks} {b
     let worded : spell.SpellsWord keyword marks here.0 first bytes = spell.worded strings.1 in
     let previous = subst (λ (m : Marks). spell.SpellsWord keyword m here.0 first bytes) here.2 worded in
     let start = joined items (Word keyword marks here.0 ∷ []) text strings.0 behind here.1 strings.2 in
-    (first ++ later.0, (spell.previous previous later.1.0, (here.3, later.1.1)), joined items first behind later.0 rest start later.2)
+    (first ++ later.0, (spell.previous_text previous later.1.0, (here.3, later.1.1)), joined items first behind later.0 rest start later.2)
 
 pub reads_spelt : {items : List TextItem} {entries : List TextEntry} → read.Reads items entries → spell.SpellsEntries items entries
 reads_spelt (read.comments only) = spell.comments only

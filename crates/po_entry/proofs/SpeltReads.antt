@@ -1,6 +1,5 @@
 -- A spelling reads before any rest that begins with neither a string nor a plural form.
-use Rattle.std.proofs.Common.{◌≡◌, ℕ, ◌+◌, ◌<◌, Bool, true, false, List, [], ◌∷◌, ◌++◌, Option, Some, None, append_assoc, refl}
-use Rattle.std.specs.Prelude.{if◌then◌else◌}
+use Rattle.std.proofs.Common.{◌≡◌, ℕ, Bool, true, false, List, [], ◌∷◌, ◌++◌, Option, append_assoc, refl}
 use Rattle.std.proofs.lemmas.Bool.{lt-ltb, eq-eqb}
 use Rattle.po_syntax.specs.declared.item.Keyword.{Keyword}
 use Rattle.po_syntax.specs.declared.item.Keyword.TheVariants.{MsgCtxt, MsgId, MsgIdPlural, MsgStr, MsgStrAt}
@@ -63,15 +62,15 @@ translation_read (spell.plural {own = own} {items = items} w f) rest apart =
     rw (append_assoc own items rest) (body.plural (word_read w word.Translation refl (items ++ rest) (forms_begin f rest).0) (forms_read f rest apart))
 
 body_read : {own : List TextItem} {lines : body.Body} → spell.SpellsBody own lines → (rest : List TextItem) → IsApart rest → body.IsBody (own ++ rest) lines rest
-body_read (spell.body {last = last} spell.no_context (spell.worded {strings = strings} s) t) rest apart =
+body_read (spell.own_lines {last = last} spell.no_context (spell.worded {strings = strings} s) t) rest apart =
     rw (append_assoc strings last rest) (body.without_context refl (strings_read s (last ++ rest) (translation_begins t rest)) (translation_read t rest apart))
-body_read (spell.body {own = own} {last = last} (spell.context (spell.worded {strings = strings} s)) w t) rest apart =
+body_read (spell.own_lines {own = own} {last = last} (spell.context (spell.worded {strings = strings} s)) w t) rest apart =
     rw (append_assoc (strings ++ own) last rest, append_assoc strings own (last ++ rest))
     (body.with_context refl (strings_read s (own ++ (last ++ rest)) (word_begins w (last ++ rest))) (word_read w word.Id refl (last ++ rest) (translation_begins t rest)) (translation_read t rest apart))
 
 body_begins : {own : List TextItem} {lines : body.Body} → spell.SpellsBody own lines → (rest : List TextItem) → Starts (own ++ rest) × IsApart (own ++ rest)
-body_begins (spell.body spell.no_context (spell.worded s) t) rest = (λ above. refl, (refl, refl))
-body_begins (spell.body (spell.context (spell.worded s)) w t) rest = (λ above. refl, (refl, refl))
+body_begins (spell.own_lines spell.no_context (spell.worded s) t) rest = (λ above. refl, (refl, refl))
+body_begins (spell.own_lines (spell.context (spell.worded s)) w t) rest = (λ above. refl, (refl, refl))
 
 -- a previous text is no plural form
 previous_apart : (keyword : Keyword) (obsolete : Bool) (line : ℕ) (rest : List TextItem) → IsApart (Word keyword (spell.previous_marks obsolete) line ∷ rest)
@@ -84,13 +83,13 @@ previous_apart (MsgStrAt index) obsolete line rest = (refl, refl)
 head_apart : {own : List TextItem} {notes : List head.Note} {previous : List head.PreviousText} → spell.SpellsHead own notes previous → (rest : List TextItem) → IsApart rest → IsApart (own ++ rest)
 head_apart spell.nothing rest apart = apart
 head_apart (spell.remark h) rest apart = (refl, refl)
-head_apart (spell.previous {keyword = keyword} {obsolete = obsolete} {line = line} {items = items} (spell.worded {strings = strings} s) h) rest apart = previous_apart keyword obsolete line (strings ++ items ++ rest)
+head_apart (spell.previous_text {keyword = keyword} {obsolete = obsolete} {line = line} {items = items} (spell.worded {strings = strings} s) h) rest apart = previous_apart keyword obsolete line (strings ++ items ++ rest)
 
 head_read : {own : List TextItem} {notes : List head.Note} {previous : List head.PreviousText} → spell.SpellsHead own notes previous → (above : ℕ) → Rise above (words previous) → (rest : List TextItem) → Starts rest → IsApart rest
     → head.IsHead above (own ++ rest) notes previous rest
 head_read spell.nothing above rise rest starts apart = head.over (starts above)
 head_read (spell.remark h) above rise rest starts apart = head.remark refl (head_read h above rise rest starts apart)
-head_read (spell.previous {keyword = keyword} {obsolete = obsolete} {line = line} {items = items} (spell.worded {strings = strings} s) h) above rise rest starts apart =
+head_read (spell.previous_text {keyword = keyword} {obsolete = obsolete} {line = line} {items = items} (spell.worded {strings = strings} s) h) above rise rest starts apart =
     let behind = strings ++ (items ++ rest) in
     let step : head.head_step above (Word keyword (spell.previous_marks obsolete) line ∷ behind) ≡ head.Previous keyword (spell.previous_marks obsolete) behind = rw (lt-ltb above (head.rank keyword) rise.0) refl in
     rw (append_assoc strings items rest)

@@ -1,5 +1,5 @@
 -- What spells the entries of a PO text (manual, "The Format of PO Files"): their spellings, joined, and then comments alone.
-use Rattle.std.specs.Prelude.{◌≡◌, ℕ, ◌+◌, Bool, true, List, [], ◌∷◌, ◌++◌, map, Option, Some, None}
+use Rattle.std.specs.Prelude.{ℕ, ◌+◌, Bool, true, List, [], ◌∷◌, ◌++◌, map, Option, Some, None}
 use Rattle.po_syntax.specs.declared.item.CommentKind.{CommentKind}
 use Rattle.po_syntax.specs.declared.item.Keyword.{Keyword}
 use Rattle.po_syntax.specs.declared.item.Keyword.TheVariants.{MsgCtxt, MsgId, MsgIdPlural, MsgStr, MsgStrAt}
@@ -9,7 +9,7 @@ use Rattle.po_entry.specs.TextEntry.{TextEntry}
 use Rattle.po_entry.specs.Strings.{own_marks}
 use Rattle.po_entry.specs.Head.{Note, PreviousText}
 use Rattle.po_entry.specs.Body.{Body}
-use Rattle.po_entry.specs.Reads.{entry_from, AreComments}
+use Rattle.po_entry.specs.Notes.{comments_of, extracted_of, references_of, fuzzy_of, flags_of, previous_of}
 
 -- one string or more, all under these marks: their bytes, joined
 pub data SpellsStrings (marks : Marks) : List TextItem → List ℕ → Type 0 where
@@ -29,7 +29,7 @@ pub data SpellsHead : List TextItem → List Note → List PreviousText → Type
   nothing : SpellsHead [] [] []
   remark : {kind : CommentKind} {text : List ℕ} {line : ℕ} {items : List TextItem} {notes : List Note} {previous : List PreviousText} → SpellsHead items notes previous
       → SpellsHead (Comment kind text line ∷ items) (record { kind = kind; text = text } ∷ notes) previous
-  previous : {keyword : Keyword} {obsolete : Bool} {line : ℕ} {text : List ℕ} {own items : List TextItem} {notes : List Note} {others : List PreviousText} → SpellsWord keyword (previous_marks obsolete) line own text → SpellsHead items notes others
+  previous_text : {keyword : Keyword} {obsolete : Bool} {line : ℕ} {text : List ℕ} {own items : List TextItem} {notes : List Note} {others : List PreviousText} → SpellsWord keyword (previous_marks obsolete) line own text → SpellsHead items notes others
       → SpellsHead (own ++ items) notes (record { keyword = keyword; text = text } ∷ others)
 
 -- some of all these words, each where it stands among them
@@ -61,13 +61,39 @@ pub data SpellsTranslation (obsolete : Bool) : List TextItem → Option (List �
 
 -- an entry's own lines: its context, if any, its msgid with its line, and its translation, all obsolete or none
 pub data SpellsBody : List TextItem → Body → Type 0 where
-  body : {obsolete : Bool} {line : ℕ} {first own last : List TextItem} {context : Option (List ℕ)} {id : List ℕ} {plural : Option (List ℕ)} {forms : List (List ℕ)} → SpellsContext obsolete first context
+  own_lines : {obsolete : Bool} {line : ℕ} {first own last : List TextItem} {context : Option (List ℕ)} {id : List ℕ} {plural : Option (List ℕ)} {forms : List (List ℕ)} → SpellsContext obsolete first context
       → SpellsWord MsgId (own_marks obsolete) line own id → SpellsTranslation obsolete last plural forms
       → SpellsBody (first ++ own ++ last) (record { context = context; id = id; plural = plural; forms = forms; obsolete = obsolete; line = line })
+
+-- the entry with this head and this body
+abbrev pub entry_from : List Note → List PreviousText → Body → TextEntry
+entry_from notes previous body = record {
+  comments = comments_of notes;
+  extracted = extracted_of notes;
+  references = references_of notes;
+  fuzzy = fuzzy_of notes;
+  flags = flags_of notes;
+  previous = previous_of previous;
+  context = body.context;
+  id = body.id;
+  plural = body.plural;
+  forms = body.forms;
+  obsolete = body.obsolete;
+  line = body.line;
+}
 
 -- an entry: its head, and then its own lines
 pub data SpellsEntry : List TextItem → TextEntry → Type 0 where
   entry : {head own : List TextItem} {notes : List Note} {previous : List PreviousText} {body : Body} → SpellsHead head notes previous → AreInOrder previous → SpellsBody own body → SpellsEntry (head ++ own) (entry_from notes previous body)
+
+abbrev pub IsCommentItem : TextItem → Type 0
+IsCommentItem (Comment kind text line) = Unit {0}
+IsCommentItem (Word keyword marks line) = ⊥
+IsCommentItem (Str bytes marks line) = ⊥
+
+abbrev pub AreComments : List TextItem → Type 0
+AreComments [] = Unit {0}
+AreComments (item ∷ items) = IsCommentItem item × AreComments items
 
 -- a spelling for each entry, joined, and then comments alone
 pub data SpellsEntries : List TextItem → List TextEntry → Type 0 where

@@ -11,11 +11,12 @@ use Rattle.po_entry.specs.Strings as string
 use Rattle.po_entry.specs.Words as word
 use Rattle.po_entry.specs.Body as body
 use Rattle.po_entry.specs.Head as head
-use Rattle.po_entry.specs.Reads.{Reads, HasReadableTexts}
+use Rattle.po_entry.specs.Reads.{HasReadableTexts}
+use Rattle.po_entry.specs.Spelling.{SpellsEntries}
 use Rattle.po_reader.specs.Stops as stop
 use Rattle.po_reader.specs.Faults as fault
 use Rattle.po_reader.proofs.Once.{strings_once, strings_or_stop, worded_once, worded_or_stop, head_once, head_or_stop, body_once, body_or_stop}
-use Rattle.po_reader.proofs.OneReading.{reads_once, reads_or_stop, texts_go_on, unreadable}
+use Rattle.po_reader.proofs.OneReading.{spelt_once, spelt_or_stop, texts_go_on, unreadable}
 
 -- the same fault on the same line
 abbrev Same : PoFault → PoFault → ℕ → ℕ → Type 0
@@ -208,41 +209,41 @@ pub text_fault_once : ((text : List ℕ) (items others : List TextItem) → Spel
     → ((text : List ℕ) (items : List TextItem) (kind : PoFault) (line : ℕ) → SpellsText text items → TextFault text kind line → ⊥)
     → ((text : List ℕ) (kind other : PoFault) (line place : ℕ) → TextFault text kind line → TextFault text other place → (kind ≡ other) × (line ≡ place))
     → (text : List ℕ) (kind other : PoFault) (line place : ℕ) → fault.IsReadFault text kind line → fault.IsReadFault text other place → (kind ≡ other) × (line ≡ place)
-text_fault_once spelt_once no_fault fault_once text kind other line place (fault.in_text f) (fault.in_text g) = fault_once text kind other line place f g
-text_fault_once spelt_once no_fault fault_once text kind other line place (fault.in_text f) (fault.in_items {items = items} s t) = absurd (no_fault text items kind line s f)
-text_fault_once spelt_once no_fault fault_once text kind other line place (fault.in_text f) (fault.in_texts {items = items} s r t) = absurd (no_fault text items kind line s f)
-text_fault_once spelt_once no_fault fault_once text kind other line place (fault.in_text f) (fault.in_charset {items = items} s r u t) = absurd (no_fault text items kind line s f)
-text_fault_once spelt_once no_fault fault_once text kind other line place (fault.in_items {items = items} s t) (fault.in_text g) = absurd (no_fault text items other place s g)
-text_fault_once spelt_once no_fault fault_once text kind other line place (fault.in_texts {items = items} s r t) (fault.in_text g) = absurd (no_fault text items other place s g)
-text_fault_once spelt_once no_fault fault_once text kind other line place (fault.in_charset {items = items} s r u t) (fault.in_text g) = absurd (no_fault text items other place s g)
-text_fault_once spelt_once no_fault fault_once text kind other line place (fault.in_items {items = items} s t) (fault.in_items {items = others} k v) =
-    let same = spelt_once text items others s k in
+text_fault_once items_once no_fault fault_once text kind other line place (fault.in_text f) (fault.in_text g) = fault_once text kind other line place f g
+text_fault_once items_once no_fault fault_once text kind other line place (fault.in_text f) (fault.in_items {items = items} s t) = absurd (no_fault text items kind line s f)
+text_fault_once items_once no_fault fault_once text kind other line place (fault.in_text f) (fault.in_texts {items = items} s r t) = absurd (no_fault text items kind line s f)
+text_fault_once items_once no_fault fault_once text kind other line place (fault.in_text f) (fault.in_charset {items = items} s r u t) = absurd (no_fault text items kind line s f)
+text_fault_once items_once no_fault fault_once text kind other line place (fault.in_items {items = items} s t) (fault.in_text g) = absurd (no_fault text items other place s g)
+text_fault_once items_once no_fault fault_once text kind other line place (fault.in_texts {items = items} s r t) (fault.in_text g) = absurd (no_fault text items other place s g)
+text_fault_once items_once no_fault fault_once text kind other line place (fault.in_charset {items = items} s r u t) (fault.in_text g) = absurd (no_fault text items other place s g)
+text_fault_once items_once no_fault fault_once text kind other line place (fault.in_items {items = items} s t) (fault.in_items {items = others} k v) =
+    let same = items_once text items others s k in
     entries_stop_once t (subst (λ (i : List TextItem). stop.EntriesStop (fault.last_line i) i other place) (sym same) v)
-text_fault_once spelt_once no_fault fault_once text kind other line place (fault.in_items {items = items} s t) (fault.in_texts {items = others} {entries = entries} k r v) =
-    let same = spelt_once text items others s k in
-    absurd (reads_or_stop (subst (λ (i : List TextItem). Reads i entries) (sym same) r) t)
-text_fault_once spelt_once no_fault fault_once text kind other line place (fault.in_items {items = items} s t) (fault.in_charset {items = others} {entries = entries} k r u v) =
-    let same = spelt_once text items others s k in
-    absurd (reads_or_stop (subst (λ (i : List TextItem). Reads i entries) (sym same) r) t)
-text_fault_once spelt_once no_fault fault_once text kind other line place (fault.in_texts {items = items} {entries = entries} s r t) (fault.in_items {items = others} k v) =
-    let same = spelt_once text items others s k in
-    absurd (reads_or_stop (subst (λ (i : List TextItem). Reads i entries) same r) v)
-text_fault_once spelt_once no_fault fault_once text kind other line place (fault.in_charset {items = items} {entries = entries} s r u t) (fault.in_items {items = others} k v) =
-    let same = spelt_once text items others s k in
-    absurd (reads_or_stop (subst (λ (i : List TextItem). Reads i entries) same r) v)
-text_fault_once spelt_once no_fault fault_once text kind other line place (fault.in_texts {items = items} {entries = entries} s r t) (fault.in_texts {items = others} {entries = again} k q v) =
-    let same = spelt_once text items others s k in
-    let read = reads_once r (subst (λ (i : List TextItem). Reads i again) (sym same) q) in
+text_fault_once items_once no_fault fault_once text kind other line place (fault.in_items {items = items} s t) (fault.in_texts {items = others} {entries = entries} k r v) =
+    let same = items_once text items others s k in
+    absurd (spelt_or_stop (subst (λ (i : List TextItem). SpellsEntries i entries) (sym same) r) t)
+text_fault_once items_once no_fault fault_once text kind other line place (fault.in_items {items = items} s t) (fault.in_charset {items = others} {entries = entries} k r u v) =
+    let same = items_once text items others s k in
+    absurd (spelt_or_stop (subst (λ (i : List TextItem). SpellsEntries i entries) (sym same) r) t)
+text_fault_once items_once no_fault fault_once text kind other line place (fault.in_texts {items = items} {entries = entries} s r t) (fault.in_items {items = others} k v) =
+    let same = items_once text items others s k in
+    absurd (spelt_or_stop (subst (λ (i : List TextItem). SpellsEntries i entries) same r) v)
+text_fault_once items_once no_fault fault_once text kind other line place (fault.in_charset {items = items} {entries = entries} s r u t) (fault.in_items {items = others} k v) =
+    let same = items_once text items others s k in
+    absurd (spelt_or_stop (subst (λ (i : List TextItem). SpellsEntries i entries) same r) v)
+text_fault_once items_once no_fault fault_once text kind other line place (fault.in_texts {items = items} {entries = entries} s r t) (fault.in_texts {items = others} {entries = again} k q v) =
+    let same = items_once text items others s k in
+    let read = spelt_once r (subst (λ (i : List TextItem). SpellsEntries i again) (sym same) q) in
     texts_stop_once t (subst (λ (e : List TextEntry). fault.TextsStop e other place) (sym read) v)
-text_fault_once spelt_once no_fault fault_once text kind other line place (fault.in_texts {items = items} {entries = entries} s r t) (fault.in_charset {items = others} {entries = again} k q u v) =
-    let same = spelt_once text items others s k in
-    let read = reads_once r (subst (λ (i : List TextItem). Reads i again) (sym same) q) in
+text_fault_once items_once no_fault fault_once text kind other line place (fault.in_texts {items = items} {entries = entries} s r t) (fault.in_charset {items = others} {entries = again} k q u v) =
+    let same = items_once text items others s k in
+    let read = spelt_once r (subst (λ (i : List TextItem). SpellsEntries i again) (sym same) q) in
     absurd (texts_go_on t (subst (All HasReadableTexts) (sym read) u))
-text_fault_once spelt_once no_fault fault_once text kind other line place (fault.in_charset {items = items} {entries = entries} s r u t) (fault.in_texts {items = others} {entries = again} k q v) =
-    let same = spelt_once text items others s k in
-    let read = reads_once r (subst (λ (i : List TextItem). Reads i again) (sym same) q) in
+text_fault_once items_once no_fault fault_once text kind other line place (fault.in_charset {items = items} {entries = entries} s r u t) (fault.in_texts {items = others} {entries = again} k q v) =
+    let same = items_once text items others s k in
+    let read = spelt_once r (subst (λ (i : List TextItem). SpellsEntries i again) (sym same) q) in
     absurd (texts_go_on v (subst (All HasReadableTexts) read u))
-text_fault_once spelt_once no_fault fault_once text kind other line place (fault.in_charset {items = items} {entries = entries} s r u t) (fault.in_charset {items = others} {entries = again} k q w v) =
-    let same = spelt_once text items others s k in
-    let read = reads_once r (subst (λ (i : List TextItem). Reads i again) (sym same) q) in
+text_fault_once items_once no_fault fault_once text kind other line place (fault.in_charset {items = items} {entries = entries} s r u t) (fault.in_charset {items = others} {entries = again} k q w v) =
+    let same = items_once text items others s k in
+    let read = spelt_once r (subst (λ (i : List TextItem). SpellsEntries i again) (sym same) q) in
     (refl, charset_stop_once t (subst (λ (e : List TextEntry). fault.CharsetStops e place) (sym read) v))
