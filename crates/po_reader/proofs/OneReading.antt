@@ -18,6 +18,7 @@ use Rattle.po_entry.specs.Spelling.{SpellsEntries}
 use Rattle.po_entry.proofs.SpeltReads.{spelt_reads}
 use Rattle.po_reader.specs.Stops as stop
 use Rattle.po_reader.specs.Faults as fault
+use Rattle.po_reader.proofs.ItemsFaults.{fault_unread}
 use Rattle.po_reader.proofs.Once.{head_once, head_or_stop, body_once, body_or_stop}
 
 -- a step over a comment goes on behind it
@@ -130,7 +131,7 @@ pub text_or_fault : ((text : List ℕ) (items others : List TextItem) → Spells
 text_or_fault items_once no_fault text a kind line h (fault.in_text f) = no_fault text h.items kind line h.spelt f
 text_or_fault items_once no_fault text a kind line h (fault.in_items {items = items} spelt s) =
     let same = items_once text h.items items h.spelt spelt in
-    spelt_or_stop (subst (λ (i : List TextItem). SpellsEntries i a) same h.reads) s
+    fault_unread s (subst (λ (i : List TextItem). SpellsEntries i a) same h.reads)
 text_or_fault items_once no_fault text a kind line h (fault.in_texts {items = items} {entries = entries} spelt reads s) =
     let same = items_once text h.items items h.spelt spelt in
     let entries_same = spelt_once (subst (λ (i : List TextItem). SpellsEntries i a) same h.reads) reads in
