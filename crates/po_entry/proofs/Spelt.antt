@@ -13,7 +13,7 @@ use Rattle.po_entry.specs.Strings as string
 use Rattle.po_entry.specs.Words as word
 use Rattle.po_entry.specs.Body as body
 use Rattle.po_entry.specs.Head as head
-use Rattle.po_entry.specs.Reads as read
+use Rattle.po_entry.specs.Descent as read
 use Rattle.po_entry.specs.Spelling as spell
 use Rattle.po_entry.proofs.SameMarks.{same_bool_true, same_marks_true, marks_of}
 use Rattle.po_entry.proofs.PreviousOrder.{Rise, words, rise_order}
@@ -232,4 +232,4 @@ reads_spelt (read.entry {items = items} {own = own} {rest = rest} {notes = notes
     let front = head_front h in
     let later = body_front b in
     let whole = joined items front.0 own later.0 rest front.2 later.2 in
-    subst (λ (x : List TextItem). spell.SpellsEntries x (read.entry_from notes previous lines ∷ entries)) (sym whole) (spell.entries (spell.entry front.1.0 (rise_order previous front.1.1) later.1) (reads_spelt more))
+    subst (λ (x : List TextItem). spell.SpellsEntries x (spell.entry_from notes previous lines ∷ entries)) (sym whole) (spell.entries (spell.entry front.1.0 (rise_order previous front.1.1) later.1) (reads_spelt more))

@@ -10,7 +10,7 @@ use Rattle.po_entry.specs.Strings as string
 use Rattle.po_entry.specs.Words as word
 use Rattle.po_entry.specs.Body as body
 use Rattle.po_entry.specs.Head as head
-use Rattle.po_entry.specs.Reads as read
+use Rattle.po_entry.specs.Descent as read
 use Rattle.po_entry.specs.Spelling as spell
 use Rattle.po_entry.proofs.SameMarks.{same_bool-refl, same_marks-refl}
 use Rattle.po_entry.proofs.PreviousOrder.{Rise, words, order_rises}
@@ -95,7 +95,7 @@ head_read (spell.previous_text {keyword = keyword} {obsolete = obsolete} {line =
     rw (append_assoc strings items rest)
     (head.previous step (strings_read s (items ++ rest) (head_apart h rest apart).0) (head_read h (head.rank keyword) rise.1 rest starts apart))
 
-comments_apart : (items : List TextItem) → read.AreComments items → IsApart items
+comments_apart : (items : List TextItem) → spell.AreComments items → IsApart items
 comments_apart [] only = (refl, refl)
 comments_apart (Comment kind text line ∷ items) only = (refl, refl)
 comments_apart (Word keyword marks line ∷ items) only = absurd only.0

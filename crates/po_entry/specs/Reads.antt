@@ -1,20 +1,11 @@
 -- How a PO text reads as a list of entries (manual, "The Format of PO Files").
-use Rattle.std.specs.Prelude.{ℕ, List, [], ◌∷◌, All, IfSome, IsUtf8}
+use Rattle.std.specs.Prelude.{ℕ, List, All, IfSome, IsUtf8}
 use Rattle.po_syntax.specs.TextItem.{TextItem}
 use Rattle.po_syntax.specs.PoText.{SpellsText}
 use Rattle.po_entry.specs.TextEntry.{TextEntry, quoted_texts}
 use Rattle.po_entry.specs.Bytes.{Lacks}
 use Rattle.po_entry.specs.Header.{HasAdmittedCharset}
-use Rattle.po_entry.specs.Body.{Body, IsBody}
-use Rattle.po_entry.specs.Head.{Note, PreviousText, IsHead}
-pub use Rattle.po_entry.specs.Spelling.{entry_from, AreComments, IsCommentItem}
 use Rattle.po_entry.specs.Spelling.{SpellsEntries}
-
--- The reader's way through the items: a head, a body, and so on to the end, each beginning with the items that are left. It comes to the spelling of the same entries.
-pub data Reads : List TextItem → List TextEntry → Type 0 where
-  comments : {items : List TextItem} → AreComments items → Reads items []
-  entry : {items own rest : List TextItem} {notes : List Note} {previous : List PreviousText} {body : Body} {entries : List TextEntry} → IsHead 0 items notes previous own → IsBody own body rest → Reads rest entries
-      → Reads items (entry_from notes previous body ∷ entries)
 
 -- the entry's own context and msgid hold no EOT; previous texts may hold one
 pub record HasNoEot (entry : TextEntry) : Type 0 where

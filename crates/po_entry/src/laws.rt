@@ -3,7 +3,7 @@ ghost use Rattle.std.specs.Prelude.{◌↔◌, List, Decides};
 ghost use Rattle.po_syntax.specs.TextItem.{TextItem};
 ghost use Rattle.po_entry.specs.TextEntry.{TextEntry, SameButLine};
 ghost use Rattle.po_entry.specs.Equality.{entry_eq};
-ghost use Rattle.po_entry.specs.Reads.{Reads};
+ghost use Rattle.po_entry.specs.Descent.{Reads};
 ghost use Rattle.po_entry.specs.Spelling.{SpellsEntries};
 
 /// Entries are equal exactly where they are the same but for their lines.

@@ -4,7 +4,7 @@ use Rattle.po_syntax.specs.declared.fault.PoFault.{PoFault}
 use Rattle.po_syntax.specs.TextItem.{TextItem}
 use Rattle.po_entry.specs.TextEntry.{TextEntry}
 use Rattle.po_entry.specs.Head as head
-use Rattle.po_entry.specs.Reads.{Reads, comments, entry}
+use Rattle.po_entry.specs.Descent.{Reads, comments, entry}
 use Rattle.po_entry.specs.Spelling.{SpellsEntries}
 use Rattle.po_entry.proofs.Spelt.{reads_spelt}
 use Rattle.po_reader.specs.Stops as stop

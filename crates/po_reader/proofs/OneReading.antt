@@ -13,8 +13,9 @@ use Rattle.po_entry.specs.TextEntry.{TextEntry}
 use Rattle.po_entry.specs.Header.{HasAdmittedCharset}
 use Rattle.po_entry.specs.Body as body
 use Rattle.po_entry.specs.Head as head
-use Rattle.po_entry.specs.Reads.{Reads, comments, entry, AreComments, ReadsText, HasReadableTexts}
-use Rattle.po_entry.specs.Spelling.{SpellsEntries}
+use Rattle.po_entry.specs.Descent.{Reads, comments, entry}
+use Rattle.po_entry.specs.Reads.{ReadsText, HasReadableTexts}
+use Rattle.po_entry.specs.Spelling.{AreComments, SpellsEntries}
 use Rattle.po_entry.proofs.SpeltReads.{spelt_reads}
 use Rattle.po_reader.specs.Stops as stop
 use Rattle.po_reader.specs.Faults as fault

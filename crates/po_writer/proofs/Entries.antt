@@ -14,8 +14,8 @@ use Rattle.po_entry.specs.Strings.{own_marks}
 use Rattle.po_entry.specs.Notes.{comments_of, extracted_of, references_of, flag_words_of, fuzzy_of, flags_of, words_of, flag_words, is_fuzzy_word, with_flag, is_comma}
 use Rattle.po_entry.specs.Head.{Note}
 use Rattle.po_entry.specs.Body.{Body}
-use Rattle.po_entry.specs.Reads.{Reads, entry, entry_from}
-use Rattle.po_entry.specs.Spelling.{previous_marks}
+use Rattle.po_entry.specs.Descent.{Reads, entry}
+use Rattle.po_entry.specs.Spelling.{entry_from, previous_marks}
 use Rattle.po_writer.specs.WrittenText.{comment_lines, words_line, all_flags, previous_prefix, own_prefix, previous_lines, own_lines, entry_lines}
 use Rattle.po_writer.proofs.Utf8.{IsLine, is_plain, line-append, line-empty, plain_line}
 use Rattle.po_writer.proofs.Spelling.{Block, two_blocks}
