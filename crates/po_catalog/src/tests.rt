@@ -1,4 +1,7 @@
-use crate::{Catalogue, JoinError, Stats, duplicates, joined_duplicates, read, statistics, write};
+use crate::{
+    Catalogue, JoinError, Stats, duplicates, into_joined, joined_duplicates, read, statistics,
+    write,
+};
 use po_syntax::{PoError, PoFault};
 use std::alloc::Global;
 use std::process::Abort;
@@ -65,5 +68,20 @@ fn duplicates_within_and_across(rt: HostRuntime) -> Result<(), Fail> {
         Ok(()) => panic!(rt; "no duplicate is told"),
         Err(error) => assert!(rt; error == across),
     }
+    Ok(())
+}
+
+#[test]
+fn entries_of_two_inputs(rt: HostRuntime) -> Result<(), Fail> {
+    let headed = b"msgid \"\"\nmsgstr \"X\"\n\nmsgid \"a\"\nmsgstr \"A\"\n".as_slice();
+    let first = catalogue(&rt, rt.alloc(), headed);
+    let second = catalogue(&rt, rt.alloc(), headed);
+    let entries = into_joined(rt.alloc(), vec![in rt.alloc(); first, second]?)?;
+    let [header, a, b] = entries.as_slice() else {
+        panic!(rt; "{} entries", entries.len());
+    };
+    assert!(rt; header.is_header());
+    assert_eq!(rt; a.id(), b"a".as_slice());
+    assert_eq!(rt; b.id(), b"a".as_slice());
     Ok(())
 }

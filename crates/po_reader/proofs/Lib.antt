@@ -24,3 +24,7 @@ pub mod BlockedEntries
 pub mod Misfits
 pub mod StopFaults
 pub mod ItemsFaults
+pub mod Totality
+pub mod Readable
+pub mod TextEnds
+pub mod NoMemory
