@@ -8,6 +8,8 @@ pub mod Words
 pub mod Body
 pub mod Head
 pub mod Notes
+pub mod Spelling
 pub mod Reads
+pub mod Descent
 pub mod Equality
 pub mod EqualityLaws
