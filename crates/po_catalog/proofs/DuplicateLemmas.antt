@@ -213,14 +213,17 @@ apart_in front between behind a b differ =
     let at_b : get_or ((front ++ a ∷ between) ++ b ∷ behind) (length (front ++ a ∷ between)) a ≡ b = get_or-append_seam (front ++ a ∷ between) b behind a in
     subst (λ x. ¬ IsSameMessage x b) at_a (subst (λ y. ¬ IsSameMessage (get_or ((front ++ a ∷ between) ++ b ∷ behind) (length front) a) y) at_b apart)
 
+-- entries that stand apart in a list of entries that differ are of different messages
+pub apart_entries : (before between after : List InputEntry) (a b : InputEntry) → AllDiffer (entries_of ((before ++ a ∷ between) ++ b ∷ after)) → ¬ IsSameMessage a.entry b.entry
+apart_entries before between after a b differ =
+    let entry : InputEntry → TextEntry = λ e. e.entry in
+    let split = map-append entry (before ++ a ∷ between) (b ∷ after) ∙ ap (λ l. l ++ b.entry ∷ entries_of after) (map-append entry before (a ∷ between)) in
+    apart_in (entries_of before) (entries_of between) (entries_of after) a.entry b.entry (subst AllDiffer split differ)
+
 -- a list without a duplicate has no first duplicate
 pub distinct_has_no_first : (xs : List InputEntry) (first later : InputEntry) → HasNoDuplicate (entries_of xs) → IsFirstDuplicate xs first later → ⊥
 distinct_has_no_first xs first later none dup =
-    let entry : InputEntry → TextEntry = λ e. e.entry in
-    let split = ap entries_of dup.order ∙ map-append entry (dup.before ++ first ∷ dup.between) (later ∷ dup.after)
-    ∙ ap (λ l. l ++ later.entry ∷ entries_of dup.after) (map-append entry dup.before (first ∷ dup.between)) in
-    apart_in (entries_of dup.before) (entries_of dup.between) (entries_of dup.after) first.entry later.entry
-    (subst AllDiffer split (subst AllDiffer (live_of_entries xs) none)) dup.same
+    apart_entries dup.before dup.between dup.after first later (subst (λ l. AllDiffer (entries_of l)) dup.order (subst AllDiffer (live_of_entries xs) none)) dup.same
 
 -- so what refuses it is want of memory
 pub distinct_wants_memory : (xs : List InputEntry) (error : JoinError) → HasNoDuplicate (entries_of xs) → IsDuplicateFault xs error → error ≡ join_memory

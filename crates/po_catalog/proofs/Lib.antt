@@ -1,3 +1,4 @@
 pub mod StatisticsLemmas
 pub mod DuplicateLemmas
 pub mod JoiningLemmas
+pub mod FirstDuplicates

@@ -1,11 +1,7 @@
 -- Counts of entries stay below the number of entries.
 use Rattle.std.proofs.Common.{◌≡◌, ℕ, ◌≤◌, Bool, List, length, arith, filter, ap, take, length-take}
-use Rattle.std.proofs.lemmas.List.{length-map}
 use Rattle.std.proofs.lemmas.List.Sums.{length-filter, count_by-le-length}
 use Rattle.po_entry.specs.TextEntry.{TextEntry}
-use Rattle.po_catalog.specs.declared.joining.JoinedEntry.{JoinedEntry}
-use Rattle.po_catalog.specs.Joined.{InputEntry, entries_of}
-use Rattle.po_catalog.specs.JoinedView.{input_entry, input_entries}
 use Rattle.po_catalog.specs.declared.stats.Stats.{Stats}
 use Rattle.po_catalog.specs.Statistics.{stats_of, is_translated, is_fuzzy, is_untranslated}
 
@@ -28,9 +24,3 @@ stats_are_at_most stats entries count e short = record {
 -- the counts of the first entries of a list
 pub counts_of_first : (stats : Stats) (entries : List TextEntry) (i : ℕ) → stats ≡ stats_of (take i entries) → AreAtMost stats i
 counts_of_first stats entries i e = stats_are_at_most stats (take i entries) i e (omega (arith, length-take i entries))
-
--- the counts of the first entries of a joined list
-pub counts_of_first_joined : (stats : Stats) (entries : List JoinedEntry) (i : ℕ) → stats ≡ stats_of (entries_of (input_entries (take i entries))) → AreAtMost stats i
-counts_of_first_joined stats entries i e =
-    stats_are_at_most stats (entries_of (input_entries (take i entries))) i e
-    (omega (arith, length-take i entries, length-map (take i entries) input_entry, length-map (input_entries (take i entries)) (λ (e : InputEntry). e.entry)))

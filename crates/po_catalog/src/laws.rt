@@ -1,5 +1,6 @@
-//! Laws of catalogues, each on a function that does nothing: a crate that rests on one calls it.
-ghost use Rattle.std.specs.Prelude.{◌≡◌, List, All, map};
+//! Laws of catalogues, each on a function that does nothing: a crate that rests on one calls it. Those of the crates
+//! below are passed on.
+ghost use Rattle.std.specs.Prelude.{◌≡◌, ◌⊎◌, List, All, map};
 ghost use Rattle.po_syntax.specs.PoText.{IsSmall};
 ghost use Rattle.po_entry.specs.TextEntry.{TextEntry, with_line};
 ghost use Rattle.po_entry.specs.Validity.{IsCatalogueEntry};
@@ -8,8 +9,12 @@ ghost use Rattle.po_catalog.specs.Duplicate.{HasNoDuplicate, IsFirstDuplicate};
 ghost use Rattle.po_catalog.specs.Joined.{InputEntry, entries_of};
 ghost use Rattle.po_writer.specs.WrittenText.{arranged, written_text};
 
-use po_reader::laws::one_reading;
-use po_writer::laws::{written_text_again, written_text_reads};
+pub use po_entry::laws::equal_but_line;
+pub use po_reader::laws::{
+    entries_can_stand, entries_or_fault, no_fault_is_memory, no_fault_where_entries, one_fault,
+    one_reading,
+};
+pub use po_writer::laws::{written_text_again, written_text_reads};
 
 /// The written text of a catalogue's entries, if it is within the limit of a text, is read: as the
 /// arranged entries, but for their lines, and as nothing else.
@@ -34,4 +39,18 @@ pub fn what_is_read_back_is_written_again()
 pub fn no_first_duplicate_where_none()
     ensures { (entries : List InputEntry) (first later : InputEntry)
         → HasNoDuplicate (entries_of entries) → IsFirstDuplicate entries first later → ⊥ }
+{}
+
+/// Every list has no duplicate, or a first one.
+pub fn no_duplicate_or_first()
+    ensures { (entries : List InputEntry)
+        → HasNoDuplicate (entries_of entries)
+        ⊎ ((first later : InputEntry) × IsFirstDuplicate entries first later) }
+{}
+
+/// A list has at most one first duplicate.
+pub fn one_first_duplicate()
+    ensures { (entries : List InputEntry) (first later other last : InputEntry)
+        → IsFirstDuplicate entries first later → IsFirstDuplicate entries other last
+        → (first ≡ other) × (later ≡ last) }
 {}

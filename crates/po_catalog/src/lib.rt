@@ -10,8 +10,8 @@ mod stats;
 mod tests;
 
 pub use crate::duplicate::{JoinError, duplicates, joined_duplicates};
-pub use crate::joining::{JoinedEntry, joined};
-pub use crate::stats::{Stats, has_translation, joined_statistics, statistics};
-pub use po_entry::{Catalogue, Entry, Previous};
+pub use crate::joining::{JoinedEntry, into_joined, joined};
+pub use crate::stats::{Stats, entry_statistics, has_translation, statistics};
+pub use po_entry::{Catalogue, Entry, Fields, Previous};
 pub use po_reader::read;
 pub use po_writer::write;

@@ -1,10 +1,7 @@
 ghost use Rattle.std.specs.Prelude.{◌≡◌, ◌+◌, ◌-◌, ◌<◌, ◌^◌, ◌++◌, IfOk, IfErr, OnOk};
 ghost use Rattle.po_catalog.specs.Duplicate.{entry_memory};
-ghost use Rattle.po_catalog.specs.Joined.{entries_of};
 ghost use Rattle.po_catalog.specs.Statistics.{stats_of, counted, further, has_translation};
-ghost use Rattle.po_catalog.specs.JoinedView.{input_entries};
 
-use crate::joining::JoinedEntry;
 use itoa::Buffer;
 use po_entry::{Catalogue, Entry};
 use po_syntax::PoError;
@@ -62,29 +59,20 @@ impl Stats {
 pub fn statistics(catalogue: &Catalogue) -> Stats
     ensures { result ≡ stats_of catalogue.now }
 {
-    let mut stats = Stats {
-        translated: 0,
-        fuzzy: 0,
-        untranslated: 0,
-    };
-    let entries = catalogue.entries();
-    for entry in entries {
-        stats.add(entry);
-    }
-    stats
+    entry_statistics(catalogue.entries())
 }
 
-/// The statistics of a joined list.
-pub fn joined_statistics(entries: &[JoinedEntry<'_>]) -> Stats
-    ensures { result ≡ stats_of (entries_of (input_entries entries.now)) }
+/// How many live ones of some entries are translated, fuzzy and untranslated. A header isn't counted.
+pub fn entry_statistics(entries: &[Entry]) -> Stats
+    ensures { result ≡ stats_of entries.now }
 {
     let mut stats = Stats {
         translated: 0,
         fuzzy: 0,
         untranslated: 0,
     };
-    for joined in entries {
-        stats.add(joined.entry);
+    for entry in entries {
+        stats.add(entry);
     }
     stats
 }

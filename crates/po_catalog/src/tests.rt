@@ -1,6 +1,9 @@
 mod whole_entry;
 
-use crate::{Catalogue, JoinError, Stats, duplicates, joined_duplicates, read, statistics, write};
+use crate::{
+    Catalogue, JoinError, Stats, duplicates, into_joined, joined_duplicates, read, statistics,
+    write,
+};
 use po_syntax::{PoError, PoFault};
 use std::alloc::Global;
 use std::process::Abort;
@@ -82,5 +85,20 @@ fn no_duplicate(rt: HostRuntime) -> Result<(), Fail> {
         assert_eq!(rt; read.entries().len(), 2);
         assert!(rt; duplicates(rt.alloc(), &read).is_ok());
     }
+    Ok(())
+}
+
+#[test]
+fn entries_of_two_inputs(rt: HostRuntime) -> Result<(), Fail> {
+    let headed = b"msgid \"\"\nmsgstr \"X\"\n\nmsgid \"a\"\nmsgstr \"A\"\n".as_slice();
+    let first = catalogue(&rt, rt.alloc(), headed);
+    let second = catalogue(&rt, rt.alloc(), headed);
+    let entries = into_joined(rt.alloc(), vec![in rt.alloc(); first, second]?)?;
+    let [header, a, b] = entries.as_slice() else {
+        panic!(rt; "{} entries", entries.len());
+    };
+    assert!(rt; header.is_header());
+    assert_eq!(rt; a.id(), b"a".as_slice());
+    assert_eq!(rt; b.id(), b"a".as_slice());
     Ok(())
 }

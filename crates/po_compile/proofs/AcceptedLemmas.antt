@@ -27,7 +27,7 @@ abbrev pub NoFirstDuplicate : Type 0
 NoFirstDuplicate = (entries : List InputEntry) (first later : InputEntry) → HasNoDuplicate (entries_of entries) → IsFirstDuplicate entries first later → ⊥
 
 -- texts read as one list of catalogues
-same_catalogues : OneReading → (texts : List (List ℕ)) (some others : List (List TextEntry)) → AllZip ReadsDistinct texts some → AllZip ReadsDistinct texts others → some ≡ others
+pub same_catalogues : OneReading → (texts : List (List ℕ)) (some others : List (List TextEntry)) → AllZip ReadsDistinct texts some → AllZip ReadsDistinct texts others → some ≡ others
 same_catalogues one [] [] [] a b = refl
 same_catalogues one [] [] (d ∷ ds) a b = absurd b
 same_catalogues one [] (c ∷ cs) ds a b = absurd a
@@ -46,20 +46,19 @@ read_at (b ∷ before) text after [] each = absurd each
 read_at (b ∷ before) text after (c ∷ cs) each = read_at before text after cs each.1
 
 -- a text that reads, without a duplicate, has no fault
-text_faultless : OneReading → NoReadFault → NoFirstDuplicate → (text : List ℕ) (entries : List TextEntry) (error : PoError) → ReadsDistinct text entries → IsTextFault text error → ⊥
+pub text_faultless : OneReading → NoReadFault → NoFirstDuplicate → (text : List ℕ) (entries : List TextEntry) (error : PoError) → ReadsDistinct text entries → IsTextFault text error → ⊥
 text_faultless one no_fault no_first text entries error read (inl fault) = no_fault text entries error.kind error.line read.reads fault
 text_faultless one no_fault no_first text entries error read (inr found) =
     let same : entries ≡ found.entries = one text entries found.entries read.reads found.reads in
     let list : found.entries ≡ entries_of (map (in_input 0) found.entries) = sym (entries_of_input 0 found.entries) in
     no_first (map (in_input 0) found.entries) found.first found.later (subst HasNoDuplicate (same ∙ list) read.distinct) found.duplicate
 
-input_faultless : OneReading → NoReadFault → NoFirstDuplicate → (texts : List (List ℕ)) (catalogues : List (List TextEntry)) (error : JoinError) → AreRead texts catalogues → IsFaultOfInput texts error → ⊥
-input_faultless one no_fault no_first texts catalogues error read fault =
-    let each = subst (λ list. AllZip ReadsDistinct list catalogues) fault.order read.each in
-    let here = read_at fault.before fault.text fault.after catalogues each in
+pub input_faultless : OneReading → NoReadFault → NoFirstDuplicate → (texts : List (List ℕ)) (catalogues : List (List TextEntry)) (error : JoinError) → AllZip ReadsDistinct texts catalogues → IsFaultOfInput texts error → ⊥
+input_faultless one no_fault no_first texts catalogues error each fault =
+    let here = read_at fault.before fault.text fault.after catalogues (subst (λ list. AllZip ReadsDistinct list catalogues) fault.order each) in
     text_faultless one no_fault no_first fault.text here.0 error.error here.1 fault.fault
 
-joined_faultless : OneReading → NoFirstDuplicate → (texts : List (List ℕ)) (catalogues : List (List TextEntry)) (error : JoinError) → AreRead texts catalogues → HasJoinedDuplicate texts error → ⊥
+pub joined_faultless : OneReading → NoFirstDuplicate → (texts : List (List ℕ)) (catalogues : List (List TextEntry)) (error : JoinError) → AreRead texts catalogues → HasJoinedDuplicate texts error → ⊥
 joined_faultless one no_first texts catalogues error read found =
     let same : catalogues ≡ found.catalogues = same_catalogues one texts catalogues found.catalogues read.each found.each in
     no_first (joined found.catalogues) found.first found.later (subst (λ list. HasNoDuplicate (joined_entries list)) same read.distinct) found.duplicate
@@ -77,7 +76,7 @@ pub accepted_faultless : OneReading → NoReadFault → NoFirstDuplicate → Mes
     → AreAccepted options texts catalogues → IsCompileFault options texts error → error ≡ join_memory
 accepted_faultless one no_fault no_first one_list options texts catalogues error accepted (inl (inl memory)) = memory
 accepted_faultless one no_fault no_first one_list options texts catalogues error accepted (inl (inr (inl fault))) =
-    absurd (input_faultless one no_fault no_first texts catalogues error accepted.read fault)
+    absurd (input_faultless one no_fault no_first texts catalogues error accepted.read.each fault)
 accepted_faultless one no_fault no_first one_list options texts catalogues error accepted (inl (inr (inr found))) =
     absurd (joined_faultless one no_first texts catalogues error accepted.read found)
 accepted_faultless one no_fault no_first one_list options texts catalogues error accepted (inr fault) =

@@ -23,7 +23,8 @@ kept_valid : (headed : Bool) (entries : List TextEntry) → All IsCatalogueEntry
 kept_valid true entries valid = All-filter (λ e. not (is_live_header e)) IsCatalogueEntry entries valid
 kept_valid false entries valid = valid
 
-joined_valid : EntriesCanStand → (input : ℕ) (headed : Bool) (texts : List (List ℕ)) (catalogues : List (List TextEntry)) → AllZip ReadsDistinct texts catalogues
+-- so does the joined list of texts that are read
+pub joined_valid : EntriesCanStand → (input : ℕ) (headed : Bool) (texts : List (List ℕ)) (catalogues : List (List TextEntry)) → AllZip ReadsDistinct texts catalogues
     → All IsCatalogueEntry (entries_of (joined_from input headed catalogues))
 joined_valid stand input headed [] [] each = All-nil IsCatalogueEntry
 joined_valid stand input headed [] (entries ∷ catalogues) each = absurd each

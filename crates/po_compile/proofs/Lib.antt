@@ -6,3 +6,6 @@ pub mod ReadingLemmas
 pub mod OneListLemmas
 pub mod HeadlineLemmas
 pub mod AcceptedLemmas
+pub mod SortedMessages
+pub mod AcceptedOrFault
+pub mod OneFaultLemmas

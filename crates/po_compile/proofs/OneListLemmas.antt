@@ -11,7 +11,8 @@ use Rattle.po_compile.specs.CompiledMessages.{messages_of_entries}
 use Rattle.po_compile.specs.Headline.{MessagesAreOne}
 use Rattle.po_compile.proofs.FindLemmas.{rising_below}
 
-abbrev IsBelow : Message → Message → Type 0
+-- the key of the first is below that of the second
+abbrev pub IsBelow : Message → Message → Type 0
 IsBelow m n = key_cmp (key_of m.original) (key_of n.original) ≡ Less
 
 not_below_itself : (m : Message) → ¬ IsBelow m m

@@ -9,11 +9,11 @@ use Rattle.po_syntax.specs.declared.fault.PoFault.{PoFault}
 use Rattle.po_syntax.specs.declared.fault.PoFault.TheVariants.{NotUtf8, BadToken, UnterminatedString, BadEscape, ForbiddenByte, BadOrder, BadPluralIndex, MixedObsolete, Duplicate, ForeignCharset, TooLarge, OutOfMemory}
 use Rattle.po_entry.specs.TextEntry.{TextEntry, slice_texts}
 use Rattle.po_catalog.specs.Joined.{joined, joined_entries, entries_of, in_input}
-use Rattle.po_compile.specs.Compiling.{HasLargeLayout, IsLayoutFault}
+use Rattle.po_compile.specs.Compiling.{IsLayoutFault}
 use Rattle.po_compile.specs.declared.options.Options.{Options}
-use Rattle.po_catalog.specs.Duplicate.{IsDuplicateFault, entry_memory}
+use Rattle.po_catalog.specs.Duplicate.{HasNoDuplicate, IsDuplicateFault, entry_memory}
 use Rattle.po_catalog.specs.declared.duplicate.JoinError.{JoinError}
-use Rattle.po_compile.specs.Accepted.{ReadsDistinct, IsTextFault, IsReadingFault, fault_input, fault_of_input, IsTextCompileFault}
+use Rattle.po_compile.specs.Accepted.{ReadsDistinct, AreRead, IsTextFault, IsReadingFault, IsCompileFault, fault_input, fault_of_input, fault_of_only_input}
 
 zip_push : (texts : List (List ℕ)) (catalogues : List (List TextEntry)) (text : List ℕ) (entries : List TextEntry)
     → AllZip ReadsDistinct texts catalogues → ReadsDistinct text entries → AllZip ReadsDistinct (texts ++ text ∷ []) (catalogues ++ entries ∷ [])
@@ -107,14 +107,44 @@ entries_of_input input (x ∷ xs) = ap (λ l. x ∷ l) (entries_of_input input x
 pub joined_one : (entries : List TextEntry) → joined_entries (entries ∷ []) ≡ entries
 joined_one entries = ap entries_of (append-nil (map (in_input 0) entries)) ∙ entries_of_input 0 entries
 
--- a layout of one text that is refused
-pub text_refused : (options : Options) (text : List ℕ) (entries : List TextEntry) (error : JoinError) → ReadsDistinct text entries
-    → IsLayoutFault options (joined_entries (entries ∷ [])) error → IsTextCompileFault options text error.error
-text_refused options text entries error read fault =
-    ⊎_elim (λ memory. inl (ap (λ (e : JoinError). e.error) memory))
-    (λ large. inr (inr (record {
-      entries = entries;
-      read = read;
-      large = subst (HasLargeLayout options) (joined_one entries) large.1;
-      error_is = ap (λ (e : JoinError). e.error) large.0;
-    }))) fault
+-- one catalogue at most has no duplicate across inputs
+pub distinct_of_one : (texts : List (List ℕ)) (catalogues : List (List TextEntry)) → length catalogues ≤ 1 → AllZip ReadsDistinct texts catalogues → HasNoDuplicate (joined_entries catalogues)
+distinct_of_one texts [] few each = λ i j d before inside. absurd (omega (arith, inside))
+distinct_of_one [] (c ∷ []) few each = absurd each
+distinct_of_one (t ∷ ts) (c ∷ []) few each = subst HasNoDuplicate (sym (joined_one c)) each.0.distinct
+distinct_of_one texts (c ∷ d ∷ cs) few each = absurd (omega (arith, few))
+
+module _ (text : List ℕ) where
+  -- one text reads as one catalogue
+  pub only_read : (entries : List TextEntry) → ReadsDistinct text entries → AreRead (text ∷ []) (entries ∷ [])
+  only_read entries reads =
+      record { each = (reads, tt); distinct = subst HasNoDuplicate (sym (joined_one entries)) reads.distinct }
+
+  -- why one text isn't read
+  pub only_refused : (options : Options) (error : PoError) → (error ≡ entry_memory) ⊎ ((error.kind ≢ OutOfMemory) × IsTextFault text error)
+      → IsCompileFault options (text ∷ []) (fault_of_only_input error)
+  only_refused options error why =
+      ⊎_elim (λ memory. inl (inl (ap fault_of_only_input memory)))
+      (λ fault. inl (inr (inl (record {
+        before = [];
+        text = text;
+        after = [];
+        order = refl;
+        catalogues = [];
+        faultless = tt;
+        input = refl;
+        first_input = refl;
+        fault = fault.1;
+      })))) why
+
+  -- why what one text reads as isn't laid out
+  pub only_too_large : (options : Options) (catalogues : List (List TextEntry)) (error : JoinError) → AreRead (text ∷ []) catalogues
+      → IsLayoutFault options (joined_entries catalogues) error → IsCompileFault options (text ∷ []) (fault_of_only_input error.error)
+  only_too_large options catalogues error read fault =
+      ⊎_elim (λ memory. inl (inl (ap (λ (e : JoinError). fault_of_only_input e.error) memory)))
+      (λ large. inr (record {
+        catalogues = catalogues;
+        read = read;
+        large = large.1;
+        error_is = ap (λ (e : JoinError). fault_of_only_input e.error) large.0;
+      })) fault

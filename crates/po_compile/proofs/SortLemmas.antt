@@ -22,7 +22,8 @@ use Rattle.mo_file.specs.Pairs.{message, messages_of_pairs}
 use Rattle.mo_file.specs.Building.{IsBuildFault}
 use Rattle.mo_file.specs.declared.building.BuildError.{BuildError}
 use Rattle.mo_file.specs.declared.building.BuildError.TheVariants.{TooLarge as Large, NotSorted, OutOfMemory as NoMemory}
-use Rattle.po_compile.specs.Compiling.{IsLayoutFault, layout_error}
+use Rattle.po_compile.specs.Compiling.{IsLayoutFault, IsLayoutError}
+use Rattle.po_catalog.specs.declared.duplicate.JoinError.{JoinError}
 use Rattle.po_compile.specs.declared.options.Options.{Options}
 use Rattle.mo_file.specs.declared.pairs.Pair.{Pair}
 use Rattle.po_entry.specs.TextEntry.{TextEntry}
@@ -104,7 +105,7 @@ keys_rise a b ka kb apart up =
     ∙ nat_list_cmp_total.antisymm ka.key kb.key ∙ ap ordering_reverse greater
 
 -- entries of different messages have different keys
-keys_differ : (e f : TextEntry) → IsClean e → IsClean f → ¬ IsSameMessage e f → key_of (original_of e) ≢ key_of (original_of f)
+pub keys_differ : (e f : TextEntry) → IsClean e → IsClean f → ¬ IsSameMessage e f → key_of (original_of e) ≢ key_of (original_of f)
 keys_differ e f ce cf apart same =
     apart (query_key_is_one e.context f.context e.id f.id ce.context_eot cf.context_eot ce.id_eot cf.id_eot
     (sym (key_of-original e ce) ∙ same ∙ key_of-original f cf))
@@ -206,10 +207,17 @@ compiled_messages use_fuzzy entries before after valid none is permuted sorted =
 
 -- the faults of a file that isn't built of sorted messages
 pub layout_refused : (options : Options) (entries : List TextEntry) (messages : List Message) → AreMessagesOf (compiled_list options.use_fuzzy entries) messages
-    → (error : BuildError) → IsBuildFault options.order messages error → IsLayoutFault options entries (layout_error error)
-layout_refused options entries messages are Large fault = inr (refl, record { messages = messages; are_messages = are; large = fault })
-layout_refused options entries messages are NotSorted fault = absurd (fault.1 are.rising)
-layout_refused options entries messages are NoMemory fault = inl refl
+    → (built : BuildError) (error : JoinError) → IsBuildFault options.order messages built → IsLayoutError built error → IsLayoutFault options entries error
+layout_refused options entries messages are Large error fault is = inr (is, record { messages = messages; are_messages = are; large = fault })
+layout_refused options entries messages are NotSorted error fault is = absurd is
+layout_refused options entries messages are NoMemory error fault is = inl is
+
+-- messages whose keys rise are not refused as unsorted
+pub never_unsorted : (options : Options) (entries : List TextEntry) (messages : List Message) → AreMessagesOf entries messages
+    → (built : BuildError) → IsBuildFault options.order messages built → built ≢ NotSorted
+never_unsorted options entries messages are Large fault same = cc
+never_unsorted options entries messages are NotSorted fault same = fault.1 are.rising
+never_unsorted options entries messages are NoMemory fault same = cc
 
 pub count_of_messages : (entries : List TextEntry) (pairs : List Pair) → AreMessagesOf entries (messages_of_pairs pairs) → length pairs ≡ length entries
 count_of_messages entries pairs are =

@@ -11,7 +11,7 @@ use Rattle.po_entry.specs.TextEntry.{TextEntry}
 use Rattle.po_entry.specs.Reads.{ReadsText}
 use Rattle.po_reader.specs.Faults.{IsReadFault}
 use Rattle.po_catalog.specs.Joined.{InputEntry, in_input, joined, joined_entries}
-use Rattle.po_catalog.specs.Duplicate.{HasNoDuplicate, IsFirstDuplicate, duplicate_error, entry_memory, join_memory}
+use Rattle.po_catalog.specs.Duplicate.{HasNoDuplicate, IsFirstDuplicate, duplicate_error, join_memory}
 use Rattle.po_catalog.specs.declared.duplicate.JoinError.{JoinError}
 use Rattle.po_compile.specs.CompiledList.{compiled_list}
 use Rattle.po_compile.specs.CompiledMessages.{AreMessagesOf}
@@ -46,12 +46,6 @@ pub record AreCompiled (options : Options) (texts : List (List ℕ)) (compiled :
   pub read : AreRead texts catalogues
   pub is_compiled : IsCompiled options (joined_entries catalogues) compiled
 
--- one text is compiled: what its entries are compiled to
-pub record IsTextCompiled (options : Options) (text : List ℕ) (compiled : Compiled) : Type 0 where
-  pub entries : List TextEntry
-  pub read : ReadsDistinct text entries
-  pub is_compiled : IsCompiled options entries compiled
-
 -- the first duplicate of a text that reads as entries
 pub record HasDuplicate (text : List ℕ) (error : PoError) : Type 0 where
   pub entries : List TextEntry
@@ -72,6 +66,10 @@ fault_input input _ = input
 
 abbrev pub fault_of_input : ℕ → PoError → JoinError
 fault_of_input input error = record { input = fault_input input error.kind; first_input = fault_input input error.kind; error = error }
+
+-- the fault of a text, where it is the only input
+abbrev pub fault_of_only_input : PoError → JoinError
+fault_of_only_input error = record { input = 0; first_input = 0; error = error }
 
 -- the first input with a fault, and that fault
 pub record IsFaultOfInput (texts : List (List ℕ)) (error : JoinError) : Type 0 where
@@ -108,14 +106,3 @@ pub record IsTooLarge (options : Options) (texts : List (List ℕ)) (error : Joi
 -- why texts aren't compiled: they aren't read, or their layout is too large
 abbrev pub IsCompileFault : Options → List (List ℕ) → JoinError → Type 0
 IsCompileFault options texts error = IsReadingFault texts error ⊎ IsTooLarge options texts error
-
--- the layout of one text is too large
-pub record IsTextTooLarge (options : Options) (text : List ℕ) (error : PoError) : Type 0 where
-  pub entries : List TextEntry
-  pub read : ReadsDistinct text entries
-  pub large : HasLargeLayout options entries
-  pub error_is : error ≡ layout_fault.error
-
--- why one text isn't compiled
-abbrev pub IsTextCompileFault : Options → List ℕ → PoError → Type 0
-IsTextCompileFault options text error = (error ≡ entry_memory) ⊎ IsTextFault text error ⊎ IsTextTooLarge options text error

@@ -38,11 +38,11 @@ pub record HasLargeLayout (options : Options) (entries : List TextEntry) : Type 
 abbrev pub layout_fault : JoinError
 layout_fault = record { input = 0; first_input = 0; error = record { kind = TooLarge; line = 0 } }
 
--- what is told of a file that isn't built; messages that are sorted are never told to be out of order
-abbrev pub layout_error : BuildError → JoinError
-layout_error Large = layout_fault
-layout_error NotSorted = join_memory
-layout_error NoMemory = join_memory
+-- what is told of a file that isn't built of messages; those that are sorted are never out of order
+abbrev pub IsLayoutError : BuildError → JoinError → Type 0
+IsLayoutError Large error = error ≡ layout_fault
+IsLayoutError NotSorted error = ⊥
+IsLayoutError NoMemory error = error ≡ join_memory
 
 -- why entries of which no two live ones are of one message aren't compiled: their layout, or want of memory
 abbrev pub IsLayoutFault : Options → List TextEntry → JoinError → Type 0

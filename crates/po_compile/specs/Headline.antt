@@ -1,5 +1,5 @@
 -- Laws of compiling: what is looked up in a compiled catalogue is what its entries mean.
-use Rattle.std.specs.Prelude.{◌≡◌, ℕ, List, All}
+use Rattle.std.specs.Prelude.{◌≡◌, ◌≢◌, ◌⊎◌, ℕ, List, All}
 use Rattle.mo_file.specs.Message.{Message}
 use Rattle.mo_file.specs.Layout.{layout}
 use Rattle.mo_file.specs.Catalog.{IsCatalog}
@@ -39,3 +39,17 @@ abbrev pub NoFaultWhereAccepted : Type 0
 NoFaultWhereAccepted =
     (options : Options) (texts : List (List ℕ)) (catalogues : List (List TextEntry)) (error : JoinError)
     → AreAccepted options texts catalogues → IsCompileFault options texts error → error ≡ join_memory
+
+-- Texts are accepted or have a fault, which is not want of memory.
+abbrev pub AcceptedOrFault : Type 0
+AcceptedOrFault =
+    (options : Options) (texts : List (List ℕ))
+    → ((catalogues : List (List TextEntry)) × AreAccepted options texts catalogues)
+    ⊎ ((error : JoinError) × IsCompileFault options texts error × (error ≢ join_memory))
+
+-- Texts have at most one fault, of one input on one line, beside want of memory.
+abbrev pub OneCompileFault : Type 0
+OneCompileFault =
+    (options : Options) (texts : List (List ℕ)) (error other : JoinError)
+    → IsCompileFault options texts error → IsCompileFault options texts other
+    → error ≢ join_memory → other ≢ join_memory → error ≡ other

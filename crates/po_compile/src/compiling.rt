@@ -1,24 +1,19 @@
-ghost use Rattle.std.specs.Prelude.{◌≡◌, ◌<◌, ◌^◌, length, All, MatchResult, IfOk, OnOk};
-ghost use Rattle.mo_file.specs.Pairs.{messages_of_pairs};
+ghost use Rattle.std.specs.Prelude.{◌≡◌, ◌≢◌, ◌<◌, ◌^◌, [], ◌∷◌, length, MatchResult};
 ghost use Rattle.po_entry.specs.TextEntry.{slice_texts};
-ghost use Rattle.po_entry.specs.Validity.{IsCatalogueEntry};
 ghost use Rattle.po_catalog.specs.Joined.{joined_entries};
 ghost use Rattle.po_catalog.specs.Duplicate.{HasNoDuplicate};
-ghost use Rattle.po_catalog.specs.Statistics.{stats_of};
-ghost use Rattle.po_compile.specs.Accepted.{AreCompiled, IsCompileFault, IsTextCompiled, IsTextCompileFault};
-ghost use Rattle.po_compile.specs.CompiledList.{compiled_list};
-ghost use Rattle.po_compile.specs.CompiledMessages.{messages_of_entries};
-ghost use Rattle.po_compile.specs.Compiling.{IsCompiled, IsLayoutFault, layout_error};
+ghost use Rattle.po_compile.specs.Accepted.{AreCompiled, IsCompileFault, fault_of_only_input};
+ghost use Rattle.po_compile.specs.Compiling.{IsCompiled, IsLayoutFault, IsLayoutError};
 
 use crate::laws::messages_mean_entries;
 use crate::messages::{messages_of, sort_messages};
 use crate::options::{Compiled, Options};
 use crate::reading::{read_all, read_distinct};
-use mo_file::{BuildError, Pair, build, layout_is_catalog};
-use po_catalog::{JoinError, Stats, joined, joined_statistics};
+use mo_file::{BuildError, build, layout_is_catalog};
+use po_catalog::{JoinError, entry_statistics, into_joined};
 use po_entry::Catalogue;
 use po_syntax::{PoError, PoFault};
-use std::alloc::{AllocError, Global};
+use std::alloc::Global;
 
 /// Compiles PO texts to one MO file. An empty list of texts is compiled as one empty text is.
 ///
@@ -33,11 +28,11 @@ pub fn compile_all(alloc: Global, texts: &[&[u8]], options: Options) -> Result<C
     compile_catalogues(alloc, catalogues, options)
 }
 
-/// Compiles a PO text to an MO file. Refused with the fault of `read`, then of `duplicates`; then with `TooLarge`, at
-/// line 0, where the file would have more than 4,294,967,295 bytes. `OutOfMemory`, at line 0, may come in place of
-/// any answer.
+/// Compiles a PO text to an MO file, as `compile_all` does where it is the only one. Refused with the fault of `read`,
+/// then of `duplicates`; then with `TooLarge`, at line 0, where the file would have more than 4,294,967,295 bytes.
+/// `OutOfMemory`, at line 0, may come in place of any answer.
 pub fn compile(alloc: Global, text: &[u8], options: Options) -> Result<Compiled, PoError>
-    ensures { MatchResult result (IsTextCompiled options text.now) (IsTextCompileFault options text.now) }
+    ensures { MatchResult result (AreCompiled options (text.now ∷ [])) (λ e. IsCompileFault options (text.now ∷ []) (fault_of_only_input e)) }
 {
     let catalogue = read_distinct(alloc, text)?;
     let mut catalogues = Vec::with_capacity(alloc, 1)?;
@@ -48,20 +43,20 @@ pub fn compile(alloc: Global, text: &[u8], options: Options) -> Result<Compiled,
     }
 }
 
-/// Compiles the joined list of catalogues, in which `joined_duplicates` finds none. It gives the catalogues up,
-/// so that their memory is free before the file is laid out. Refused with `TooLarge`, at line 0 of input 0, where
-/// the file would have more than 4,294,967,295 bytes, and for want of memory.
+/// Compiles the joined list of catalogues, in which `joined_duplicates` finds none. It gives the catalogues up: their
+/// texts are moved into the messages, and what else they hold is free before the file is laid out. Refused with
+/// `TooLarge`, at line 0 of input 0, where the file would have more than 4,294,967,295 bytes, and for want of memory.
 pub fn compile_catalogues(
     alloc: Global,
     catalogues: Vec<Catalogue>,
     options: Options,
 ) -> Result<Compiled, JoinError>
-    requires few { length catalogues.items < 2 ^ 32 }
-    requires distinct { HasNoDuplicate (joined_entries catalogues.items) }
+    requires { HasNoDuplicate (joined_entries catalogues.items) }
     ensures { MatchResult result (IsCompiled options (joined_entries catalogues.items)) (IsLayoutFault options (joined_entries catalogues.items)) }
 {
-    let (mut pairs, stats) = messages_and_statistics(alloc, &catalogues, options.use_fuzzy)?;
-    drop(catalogues);
+    let entries = into_joined(alloc, catalogues)?;
+    let stats = entry_statistics(&entries);
+    let mut pairs = messages_of(alloc, entries, options.use_fuzzy)?;
     sort_messages(&mut pairs);
     layout_is_catalog();
     messages_mean_entries();
@@ -75,30 +70,15 @@ pub fn compile_catalogues(
     }
 }
 
-/// The messages of the compiled entries of a joined list, in its order, and the statistics of the list.
-fn messages_and_statistics(
-    alloc: Global,
-    catalogues: &[Catalogue],
-    use_fuzzy: bool,
-) -> Result<(Vec<Pair>, Stats), AllocError>
-    requires { length catalogues.now < 2 ^ 32 }
-    ensures messages { IfOk result (λ r. messages_of_pairs r.0.items ≡ messages_of_entries (compiled_list use_fuzzy (joined_entries catalogues.now))) }
-    ensures statistics { IfOk result (λ r. r.1 ≡ stats_of (joined_entries catalogues.now)) }
-    ensures valid { OnOk result (All IsCatalogueEntry (joined_entries catalogues.now)) }
-{
-    let entries = joined(alloc, catalogues)?;
-    let stats = joined_statistics(&entries);
-    let pairs = messages_of(alloc, &entries, use_fuzzy)?;
-    Ok((pairs, stats))
-}
-
 /// What is told where no file is built of sorted messages.
 fn layout_error(error: BuildError) -> JoinError
-    ensures { result ≡ layout_error error }
+    requires { error ≢ BuildError.NotSorted }
+    ensures { IsLayoutError error result }
 {
     let kind = match error {
         BuildError::TooLarge => PoFault::TooLarge,
-        BuildError::NotSorted | BuildError::OutOfMemory => PoFault::OutOfMemory,
+        BuildError::OutOfMemory => PoFault::OutOfMemory,
+        BuildError::NotSorted => unreachable!(),
     };
     JoinError {
         input: 0,

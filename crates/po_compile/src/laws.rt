@@ -1,10 +1,13 @@
 //! Laws of compiling, each of which a call makes known.
 
-ghost use Rattle.po_compile.specs.Headline.{LookUpMeansEntries, MessagesAreOne, MessagesMeanEntries, NoFaultWhereAccepted};
+ghost use Rattle.po_compile.specs.Headline.{AcceptedOrFault, LookUpMeansEntries, MessagesAreOne, MessagesMeanEntries, NoFaultWhereAccepted, OneCompileFault};
 
 use mo_file::layout_is_catalog;
-use po_catalog::laws::no_first_duplicate_where_none;
-use po_reader::laws::{entries_can_stand, no_fault_where_entries, one_reading};
+use po_catalog::laws::{no_duplicate_or_first, no_first_duplicate_where_none, one_first_duplicate};
+use po_reader::laws::{
+    entries_can_stand, entries_or_fault, no_fault_is_memory, no_fault_where_entries, one_fault,
+    one_reading,
+};
 
 /// The messages that entries are compiled to answer every query as the entries do.
 pub fn messages_mean_entries()
@@ -35,4 +38,25 @@ pub fn no_fault_where_accepted()
     no_fault_where_entries();
     no_first_duplicate_where_none();
     messages_are_one();
+}
+
+/// Every list of texts is accepted or has a fault.
+pub fn accepted_or_fault()
+    ensures { AcceptedOrFault }
+{
+    entries_or_fault();
+    no_fault_is_memory();
+    no_duplicate_or_first();
+    entries_can_stand();
+}
+
+/// A list of texts has at most one fault: one kind, of one input, on one line.
+pub fn one_compile_fault()
+    ensures { OneCompileFault }
+{
+    one_reading();
+    no_fault_where_entries();
+    no_first_duplicate_where_none();
+    one_fault();
+    one_first_duplicate();
 }

@@ -22,7 +22,10 @@ pub fn read_all(alloc: Global, texts: &[&[u8]]) -> Result<Vec<Catalogue>, JoinEr
             Err(error) => return Err(fault_of_input(input as u32, error)),
         }
     }
-    joined_duplicates(alloc, &catalogues)?;
+    // The joined list of one catalogue is that catalogue, in which there is no duplicate.
+    if catalogues.len() > 1 {
+        joined_duplicates(alloc, &catalogues)?;
+    }
     Ok(catalogues)
 }
 

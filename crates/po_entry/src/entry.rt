@@ -112,6 +112,15 @@ impl Entry {
         Entry { fields }
     }
 
+    /// The fields of the entry, given up by it: each text is moved and none is copied.
+    pub fn into_fields(self) -> Fields
+        ensures fields { entry_of result ≡ self }
+        ensures valid { IsEntry (entry_of result) }
+    {
+        let Entry { fields } = self;
+        fields
+    }
+
     /// A copy of the entry, with its line; refused only by want of memory.
     pub fn copy(&self, alloc: Global) -> Result<Entry, PoError>
         ensures copy { IfOk result (λ e. e ≡ self.now) }

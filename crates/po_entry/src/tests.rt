@@ -26,6 +26,10 @@ fn built_entry(rt: HostRuntime) -> Result<(), Fail> {
     assert!(rt; catalogue.push(copy).is_ok());
     assert_eq!(rt; catalogue.entries().len(), 1);
     assert_eq!(rt; catalogue.into_entries().len(), 1);
+    let fields = entry.into_fields();
+    assert_eq!(rt; fields.id.as_slice(), b"a".as_slice());
+    assert_eq!(rt; fields.forms.len(), 2);
+    assert!(rt; fields.obsolete && fields.context.is_none());
     Ok(())
 }
 

@@ -15,3 +15,16 @@ pub mod Once
 pub mod OneReading
 pub mod OneFault
 pub mod ValidEntries
+pub mod Steps
+pub mod Looks
+pub mod Cuts
+pub mod Blocked
+pub mod BlockedParts
+pub mod BlockedEntries
+pub mod Misfits
+pub mod StopFaults
+pub mod ItemsFaults
+pub mod Totality
+pub mod Readable
+pub mod TextEnds
+pub mod NoMemory

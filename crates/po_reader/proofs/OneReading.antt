@@ -16,6 +16,7 @@ use Rattle.po_entry.specs.Head as head
 use Rattle.po_entry.specs.Reads.{Reads, comments, entry, AreComments, ReadsText, HasReadableTexts}
 use Rattle.po_reader.specs.Stops as stop
 use Rattle.po_reader.specs.Faults as fault
+use Rattle.po_reader.proofs.ItemsFaults.{fault_unread}
 use Rattle.po_reader.proofs.Once.{head_once, head_or_stop, body_once, body_or_stop}
 
 -- a step over a comment goes on behind it
@@ -122,7 +123,7 @@ pub text_or_fault : ((text : List ℕ) (items others : List TextItem) → Spells
 text_or_fault spelt_once no_fault text a kind line h (fault.in_text f) = no_fault text h.items kind line h.spelt f
 text_or_fault spelt_once no_fault text a kind line h (fault.in_items {items = items} spelt s) =
     let same = spelt_once text h.items items h.spelt spelt in
-    reads_or_stop (subst (λ (i : List TextItem). Reads i a) same h.reads) s
+    fault_unread s (subst (λ (i : List TextItem). Reads i a) same h.reads)
 text_or_fault spelt_once no_fault text a kind line h (fault.in_texts {items = items} {entries = entries} spelt reads s) =
     let same = spelt_once text h.items items h.spelt spelt in
     let entries_same = reads_once (subst (λ (i : List TextItem). Reads i a) same h.reads) reads in

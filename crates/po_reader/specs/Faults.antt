@@ -1,19 +1,13 @@
 -- Why a text does not read as entries: the first fault, with its line, in the order in which faults are told (manual, "The Format of PO Files").
-use Rattle.std.specs.Prelude.{◌≡◌, ℕ, List, [], ◌∷◌, All, IsUtf8}
+use Rattle.std.specs.Prelude.{◌≡◌, ℕ, List, ◌∷◌, All, IsUtf8}
 use Rattle.po_syntax.specs.declared.fault.PoFault.{PoFault}
 use Rattle.po_syntax.specs.declared.fault.PoFault.TheVariants.{NotUtf8, ForbiddenByte, ForeignCharset}
-use Rattle.po_syntax.specs.TextItem.{TextItem, line_of}
+use Rattle.po_syntax.specs.TextItem.{TextItem}
 use Rattle.po_syntax.specs.PoText.{SpellsText, TextFault}
 use Rattle.po_entry.specs.TextEntry.{TextEntry, quoted_texts}
 use Rattle.po_entry.specs.Header.{HasAdmittedCharset}
 use Rattle.po_entry.specs.Reads.{Reads, HasReadableTexts, HasNoEot}
-use Rattle.po_reader.specs.Stops.{EntriesStop}
-
--- the line of the last item, 0 where there is none
-abbrev pub last_line : List TextItem → ℕ
-last_line [] = 0
-last_line (item ∷ []) = line_of item
-last_line (item ∷ next ∷ items) = last_line (next ∷ items)
+use Rattle.po_reader.specs.Viable.{ItemsFault}
 
 -- why the texts of an entry can't be read: one is not UTF-8; or all are, and its own context or msgid holds an EOT
 pub data UnreadableTexts (entry : TextEntry) : PoFault → Type 0 where
@@ -30,9 +24,9 @@ pub data CharsetStops : List TextEntry → ℕ → Type 0 where
   here : {entry : TextEntry} {entries : List TextEntry} {line : ℕ} → (HasAdmittedCharset entry → ⊥) → line ≡ entry.line → CharsetStops (entry ∷ entries) line
   later : {entry : TextEntry} {entries : List TextEntry} {line : ℕ} → HasAdmittedCharset entry → CharsetStops entries line → CharsetStops (entry ∷ entries) line
 
--- The first fault of a text, with its line: a fault of the text or of its items' spelling; the first item that can't go on; the first entry whose texts can't be read; the first header of a foreign charset.
+-- The first fault of a text, with its line: a fault of the text or of its items' spelling; the fault of items that are no entries; the first entry whose texts can't be read; the first header of a foreign charset.
 pub data IsReadFault (text : List ℕ) : PoFault → ℕ → Type 0 where
   in_text : {fault : PoFault} {line : ℕ} → TextFault text fault line → IsReadFault text fault line
-  in_items : {items : List TextItem} {fault : PoFault} {line : ℕ} → SpellsText text items → EntriesStop (last_line items) items fault line → IsReadFault text fault line
+  in_items : {items : List TextItem} {fault : PoFault} {line : ℕ} → SpellsText text items → ItemsFault items fault line → IsReadFault text fault line
   in_texts : {items : List TextItem} {entries : List TextEntry} {fault : PoFault} {line : ℕ} → SpellsText text items → Reads items entries → TextsStop entries fault line → IsReadFault text fault line
   in_charset : {items : List TextItem} {entries : List TextEntry} {line : ℕ} → SpellsText text items → Reads items entries → All HasReadableTexts entries → CharsetStops entries line → IsReadFault text ForeignCharset line

@@ -1,4 +1,5 @@
 pub mod Stops
+pub mod Viable
 pub mod Seen
 pub mod Heads
 pub mod Faults

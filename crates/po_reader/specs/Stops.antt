@@ -1,4 +1,4 @@
--- Where a list of items stops being a list of entries: the first item that can't go on, with its fault and its line (manual, "The Format of PO Files").
+-- For the reader's own functions alone: at which part of an entry items stop, with the fault and the line. The contract of `read` speaks of `Viable.ItemsFault`, which follows (manual, "The Format of PO Files").
 -- At the end of the items the line told is `end`, that of the last item.
 use Rattle.std.specs.Prelude.{◌≡◌, ℕ, ◌+◌, Bool, true, List, [], ◌∷◌}
 use Rattle.po_syntax.specs.declared.fault.PoFault.{PoFault}

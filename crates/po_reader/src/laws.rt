@@ -1,5 +1,5 @@
 //! Laws of the definitions, each on an empty function: a crate that rests on one calls it.
-ghost use Rattle.std.specs.Prelude.{◌≡◌, ℕ, List, All};
+ghost use Rattle.std.specs.Prelude.{◌≡◌, ◌≢◌, ◌⊎◌, ℕ, List, All};
 ghost use Rattle.po_syntax.specs.declared.fault.PoFault.{PoFault};
 ghost use Rattle.po_entry.specs.TextEntry.{TextEntry};
 ghost use Rattle.po_entry.specs.Reads.{ReadsText};
@@ -41,4 +41,21 @@ pub fn entries_can_stand()
     ensures { (text : List ℕ) (entries : List TextEntry) → ReadsText text entries → All IsCatalogueEntry entries }
 {
     syntax::items_hold_text();
+}
+
+/// Every text either reads as entries or has a first fault.
+pub fn entries_or_fault()
+    ensures { (text : List ℕ)
+        → ((entries : List TextEntry) × ReadsText text entries)
+        ⊎ ((fault : PoFault) × (line : ℕ) × IsReadFault text fault line) }
+{
+    syntax::items_or_fault();
+}
+
+/// No fault of a text is want of memory.
+pub fn no_fault_is_memory()
+    ensures { (text : List ℕ) (fault : PoFault) (line : ℕ)
+        → IsReadFault text fault line → fault ≢ PoFault.OutOfMemory }
+{
+    syntax::no_fault_is_memory();
 }

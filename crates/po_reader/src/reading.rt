@@ -5,7 +5,8 @@ ghost use Rattle.po_entry.specs.Header.{HasAdmittedCharset};
 ghost use Rattle.po_entry.specs.Reads.{ReadsText};
 ghost use Rattle.po_entry.specs.Validity.{IsEntry, HasTexts};
 ghost use Rattle.po_reader.specs.Drafts.{DraftsStop};
-ghost use Rattle.po_reader.specs.Faults.{last_line, CharsetStops, IsReadFault};
+ghost use Rattle.po_reader.specs.Faults.{CharsetStops, IsReadFault};
+ghost use Rattle.po_reader.specs.Viable.{last_line};
 
 use crate::drafts::drafts_of;
 use crate::place::line_of;
@@ -60,12 +61,13 @@ fn catalogue_of(alloc: Global, drafts: Vec<Fields>) -> Result<Catalogue, PoError
 ///
 /// Told is the first of these that holds: `TooLarge`, without a line, above 2,147,483,647 bytes;
 /// `NotUtf8` at the first byte that is not; `ForbiddenByte` at the first NUL; the leftmost fault of
-/// an item's spelling; `BadPluralIndex`, `BadOrder` or `MixedObsolete` at the first item that can't
-/// go on, or on the line of the last item where the text ends too early; entry by entry, on the
-/// line of its `msgid`, `NotUtf8` for a text of its strings, then `ForbiddenByte` for an EOT in its
-/// context or msgid; `ForeignCharset` on the line of the `msgid` of the first header, live or
-/// obsolete, whose charset is not admitted. `OutOfMemory`, without a line, may come in place of any
-/// answer.
+/// an item's spelling; at the item behind the longest front of items that some continuation would
+/// complete, `BadPluralIndex` where another index could stand there, `MixedObsolete` where the item
+/// could under another obsolete mark, else `BadOrder`, which also is told, on the line of the last
+/// item, where the text only ends too early; entry by entry, on the line of its `msgid`, `NotUtf8`
+/// for a text of its strings, then `ForbiddenByte` for an EOT in its context or msgid;
+/// `ForeignCharset` on the line of the `msgid` of the first header, live or obsolete, whose charset
+/// is not admitted. `OutOfMemory`, without a line, may come in place of any answer.
 pub fn read(alloc: Global, text: &[u8]) -> Result<Catalogue, PoError>
     ensures found { IfOk result (λ entries. ReadsText text.now entries) }
     ensures fault { IfErr result (λ e. e.kind ≢ PoFault.OutOfMemory → IsReadFault text.now e.kind e.line) }

@@ -12,3 +12,4 @@ pub mod CleanLines
 pub mod TrimmedReturns
 pub mod ItemTexts
 pub mod QuotedTexts
+pub mod NoMemory

@@ -1,5 +1,5 @@
 //! Laws of the definitions, each on an empty function: a crate that rests on one calls it.
-ghost use Rattle.std.specs.Prelude.{◌≡◌, ◌⊎◌, ◌<◌, ◌≤◌, ℕ, List, ◌++◌, All, IsUtf8};
+ghost use Rattle.std.specs.Prelude.{◌≡◌, ◌≢◌, ◌⊎◌, ◌<◌, ◌≤◌, ℕ, List, ◌++◌, All, IsUtf8};
 ghost use Rattle.po_syntax.specs.declared.fault.PoFault.{PoFault};
 ghost use Rattle.po_syntax.specs.ItemText.{HoldsText};
 ghost use Rattle.po_syntax.specs.PoText.{SpellsText, TextFault};
@@ -32,6 +32,12 @@ pub fn items_or_fault()
     ensures { (text : List ℕ)
         → ((items : List TextItem) × SpellsText text items)
         ⊎ ((fault : PoFault) × (line : ℕ) × TextFault text fault line) }
+{}
+
+/// No fault of a text is want of memory.
+pub fn no_fault_is_memory()
+    ensures { (text : List ℕ) (fault : PoFault) (line : ℕ)
+        → TextFault text fault line → fault ≢ PoFault.OutOfMemory }
 {}
 
 /// The quoted form of bytes without NUL spells just these bytes, and ends where it ends.

@@ -5,14 +5,21 @@ mod fault_text;
 mod gettext;
 mod msgfmt;
 mod profile;
+mod program_fault;
+#[cfg(test)]
+mod program_tests;
 mod run;
 #[cfg(test)]
 mod tests;
+mod unread;
+mod words;
 
 pub use gettext::{GettextOptions, NgettextOptions, plan_gettext, plan_ngettext};
 pub use msgfmt::{MsgfmtOptions, plan_msgfmt, profile_check, run_msgfmt};
 pub use po_catalog::JoinError;
-pub use po_compile::laws::{look_up_means_entries, messages_are_one, messages_mean_entries};
-pub use po_compile::{Compiled, Options, compile, compile_all};
+pub use po_compile::{Compiled, Options, compile, compile_all, laws};
 pub use profile::CheckFault;
-pub use run::{Run, deliver};
+pub use program_fault::{ProgramFault, tell};
+pub use run::{Run, STANDARD, STDIN_NAME, deliver, shown_name};
+pub use unread::plan_msgfmt_before;
+pub use words::{EnvsubstWords, GettextWords, NgettextWords};

@@ -2,11 +2,13 @@
 ghost use Rattle.std.specs.Prelude.{◌<◌, ◌^◌, length};
 
 use crate::{
-    GettextOptions, MsgfmtOptions, NgettextOptions, Run, deliver, plan_gettext, plan_msgfmt,
-    plan_ngettext, run_msgfmt,
+    CheckFault, GettextOptions, MsgfmtOptions, NgettextOptions, Run, deliver, plan_gettext,
+    plan_msgfmt, plan_ngettext, profile_check, run_msgfmt,
 };
 use mo_file::Order;
+use po_catalog::{Catalogue, read};
 use po_shell::{Counted, Failing, ToolFault};
+use std::alloc::Global;
 use std::process::Abort;
 use std::test::Fail;
 
@@ -25,6 +27,9 @@ const TOLD: MsgfmtOptions = MsgfmtOptions {
 };
 
 const ONE_MESSAGE: &[u8] = b"msgid \"a\"\nmsgstr \"b\"\n";
+
+const FUZZY_AND_OBSOLETE: &[u8] =
+    b"#, fuzzy\nmsgid \"\"\nmsgstr \"Content-Type: text/plain; charset=UTF-8\\n\"\n\nmsgid \"a\"\nmsgstr \"A\"\n\n#, fuzzy\nmsgid \"b\"\nmsgstr \"B\"\n\nmsgid \"c\"\nmsgstr \"\"\n\n#~ msgid \"d\"\n#~ msgstr \"D\"\n";
 
 const ONE_FILE: &[u8] =
     b"\xde\x12\x04\x95\0\0\0\0\x01\0\0\0\x1c\0\0\0\x24\0\0\0\0\0\0\0\x2c\0\0\0\x01\0\0\0\x2c\0\0\0\x01\0\0\0\x2e\0\0\0a\0b\0";
@@ -50,6 +55,22 @@ fn assert_answered(rt: &impl Abort, plan: Result<Run, ToolFault>, output: &[u8],
         }
         Err(_) => panic!(rt; "refused"),
     }
+}
+
+// The catalogue of a text that is read.
+fn catalogue(rt: &impl Abort, alloc: Global, text: &[u8]) -> Catalogue {
+    match read(alloc, text) {
+        Ok(catalogue) => catalogue,
+        Err(error) => panic!(rt; "refused at line {}", error.line),
+    }
+}
+
+#[test]
+fn checked_catalogues(rt: HostRuntime) {
+    let headless = catalogue(&rt, rt.alloc(), ONE_MESSAGE);
+    assert!(rt; profile_check(rt.alloc(), &[headless], false) == Err((0, CheckFault::NoHeader)));
+    let fit = catalogue(&rt, rt.alloc(), FUZZY_AND_OBSOLETE);
+    assert!(rt; profile_check(rt.alloc(), &[fit], false).is_ok());
 }
 
 #[test]

@@ -1,26 +1,29 @@
 use Rattle.std.proofs.Common.{[], ◌∷◌, ◌++◌, subst, sym, ap, ◌∙◌}
-use Rattle.po_catalog.specs.Joined.{joined_entries}
-use Rattle.po_catalog.specs.Duplicate.{HasNoDuplicate}
-use Rattle.po_compile.specs.Compiling.{IsCompiled, IsLayoutFault}
-use Rattle.po_compile.proofs.ReadingLemmas.{joined_one, text_refused}
+use Rattle.std.proofs.lemmas.Result.{err_from_is_err_and}
+use Rattle.po_compile.specs.Accepted.{AreRead}
+use Rattle.po_compile.proofs.ReadingLemmas.{only_read, only_refused, only_too_large}
 use Rattle.po_compile.proofs.compiling.compile.Goals as goal
+use Rattle.po_compile.proofs.compiling.compile.Goals.{In_ok-push}
 
-pub compile_catalogues-requires-clause-distinct : goal.compile_catalogues-requires-clause-distinct
-compile_catalogues-requires-clause-distinct c =
+-- the text reads as the one catalogue of the list
+read : (c : In_ok-push) → AreRead (c.args.text.now ∷ []) c.push.new.self.items
+read c =
     let one = c.in_ok-push.ensures.items ∙ ap (λ cs. cs ++ c.in_ok-catalogue.catalogue ∷ []) c.in_ok-catalogues.ensures.items in
-    subst HasNoDuplicate (sym (ap joined_entries one ∙ joined_one c.in_ok-catalogue.catalogue)) c.in_ok-catalogue.ensures.distinct
+    subst (AreRead (c.args.text.now ∷ [])) (sym one) (only_read c.args.text.now c.in_ok-catalogue.catalogue c.in_ok-catalogue.ensures)
+
+pub returns-in_err-catalogue : goal.returns-in_err-catalogue
+returns-in_err-catalogue c =
+    let p = err_from_is_err_and c.from_residual.result c.from_residual.ensures.1 in
+    rw (p.1, p.2) (only_refused c.args.text.now c.args.options c.in_err-catalogue.field-0.0 c.in_err-catalogue.ensures)
+
+pub compile_catalogues-requires : goal.compile_catalogues-requires
+compile_catalogues-requires c =
+    let reads = read (goal.at.compile_catalogues-requires c).In_ok-push in reads.distinct
 
 pub returns-in-Ok : goal.returns-in-Ok
 returns-in-Ok c =
-    let one = c.in_ok-push.ensures.items ∙ ap (λ cs. cs ++ c.in_ok-catalogue.catalogue ∷ []) c.in_ok-catalogues.ensures.items in
-    record {
-      entries = c.in_ok-catalogue.catalogue;
-      read = c.in_ok-catalogue.ensures;
-      is_compiled = subst (λ entries. IsCompiled c.args.options entries c.in-Ok.compiled) (ap joined_entries one ∙ joined_one c.in_ok-catalogue.catalogue) c.in-Ok.ensures;
-    }
+    record { catalogues = c.push.new.self.items; read = read (goal.at.returns-in-Ok c).In_ok-push; is_compiled = c.in-Ok.ensures }
 
 pub returns-in-Err : goal.returns-in-Err
 returns-in-Err c =
-    let one = c.in_ok-push.ensures.items ∙ ap (λ cs. cs ++ c.in_ok-catalogue.catalogue ∷ []) c.in_ok-catalogues.ensures.items in
-    text_refused c.args.options c.args.text.now c.in_ok-catalogue.catalogue c.in-Err.error c.in_ok-catalogue.ensures
-    (subst (λ cs. IsLayoutFault c.args.options (joined_entries cs) c.in-Err.error) one c.in-Err.ensures)
+    only_too_large c.args.text.now c.args.options c.push.new.self.items c.in-Err.error (read (goal.at.returns-in-Err c).In_ok-push) c.in-Err.ensures

@@ -4,10 +4,11 @@ use Rattle.std.proofs.lemmas.List.{get_or_default}
 use Rattle.std.proofs.lemmas.Result.{err_from_is_err_and}
 use Rattle.std.specs.List.{AllZip}
 use Rattle.po_entry.specs.TextEntry.{slice_texts}
-use Rattle.po_catalog.specs.Joined.{joined}
-use Rattle.po_catalog.specs.Duplicate.{IsDuplicateFault}
+use Rattle.po_catalog.specs.Joined.{joined, joined_entries}
+use Rattle.po_catalog.specs.Duplicate.{HasNoDuplicate, IsDuplicateFault}
 use Rattle.po_compile.specs.Accepted.{ReadsDistinct, IsReadingFault}
-use Rattle.po_compile.proofs.ReadingLemmas.{read_more, refused_input, read_few, read_to_end, joined_refused}
+use Rattle.po_compile.proofs.ReadingLemmas.{read_more, refused_input, read_few, read_to_end, joined_refused, distinct_of_one}
+use Rattle.po_compile.proofs.reading.read_all.Goals.{then-len-gt1+in_ok-joined_duplicates, else-len-gt1}
 use Rattle.po_compile.proofs.reading.read_all.Goals as goal
 
 pub loop-input-preserved : goal.loop-input-preserved
@@ -42,3 +43,16 @@ returns-in_err-joined_duplicates c =
     (subst (λ cs. IsDuplicateFault (joined cs) c.in_err-joined_duplicates.field-0.0) c.deref.ensures.value c.in_err-joined_duplicates.ensures.exact) in
     let p = err_from_is_err_and c.from_residual-in_err-joined_duplicates.result c.from_residual-in_err-joined_duplicates.ensures.1 in
     rw (p.1, p.2) refused
+
+pub returns : goal.returns
+returns c =
+    let texts = c.args.texts.now in
+    let catalogues = c.loop-input.catalogues.items in
+    let all = read_to_end texts c.loop-input.input catalogues c.loop-input-test.false c.loop-input.invariant in
+    elim c.if-len-gt1.branch [
+      | then-len-gt1+in_ok-joined_duplicates w ↦ record {
+        each = all;
+        distinct = subst (λ cs. HasNoDuplicate (joined_entries cs)) w.deref.ensures.value w.in_ok-joined_duplicates.ensures.exact;
+      }
+      | else-len-gt1 w ↦ record { each = all; distinct = distinct_of_one (slice_texts texts) catalogues (omega (arith, w.if-len-gt1.false, c.len.ensures)) all }
+    ]

@@ -4,6 +4,7 @@ use Rattle.po_syntax.specs.TextItem.{views}
 use Rattle.po_entry.specs.EntryText.{entry_of}
 use Rattle.po_entry.specs.Reads.{ReadsText}
 use Rattle.po_reader.specs.Faults.IsReadFault.{in_text, in_items, in_texts, in_charset}
+use Rattle.po_reader.proofs.StopFaults.{items_fault}
 use Rattle.po_reader.proofs.SoundItems.{items_sound}
 use Rattle.po_reader.proofs.SoundCatalogue.{entries_sound, drafts_valid, all_readable, stops_readable, draft_kind}
 use Rattle.po_reader.proofs.Results.{ok_step, ok_same, err_step}
@@ -18,7 +19,7 @@ pub returns-in_err-drafts-clause-fault : goal.returns-in_err-drafts-clause-fault
 returns-in_err-drafts-clause-fault c =
     let p = err_from_is_err_and c.from_residual-in_err-drafts.result c.from_residual-in_err-drafts.ensures.1 in
     let stops = rw (c.last_line.ensures, c.deref.ensures.value, c.deref-2.ensures.value) at c.in_err-drafts.ensures.fault in
-    rw (p.1, p.2) (λ other. in_items c.in_ok-items.ensures.found (stops other))
+    rw (p.1, p.2) (λ other. in_items c.in_ok-items.ensures.found (items_fault (stops other)))
 
 pub returns-in_err-check_drafts-clause-fault : goal.returns-in_err-check_drafts-clause-fault
 returns-in_err-check_drafts-clause-fault c =

@@ -1,0 +1,29 @@
+-- Each text reads as entries or has a first fault.
+use Rattle.std.proofs.Common.{ℕ, List, inl, inr, ◌⊎◌}
+use Rattle.po_syntax.specs.declared.fault.PoFault.{PoFault}
+use Rattle.po_syntax.specs.declared.fault.PoFault.TheVariants.{ForeignCharset}
+use Rattle.po_syntax.specs.TextItem.{TextItem}
+use Rattle.po_syntax.specs.PoText.{SpellsText, TextFault}
+use Rattle.po_entry.specs.TextEntry.{TextEntry}
+use Rattle.po_entry.specs.Reads.{ReadsText}
+use Rattle.po_reader.specs.Faults as fault
+use Rattle.po_reader.specs.Viable.{last_line}
+use Rattle.po_reader.proofs.StopFaults.{items_fault}
+use Rattle.po_reader.proofs.Readable.{texts_end, charsets_end}
+use Rattle.po_reader.proofs.Totality.{entries_end}
+
+pub text_ends : ((text : List ℕ) → ((items : List TextItem) × SpellsText text items) ⊎ ((kind : PoFault) × (line : ℕ) × TextFault text kind line))
+    → (text : List ℕ) → ((entries : List TextEntry) × ReadsText text entries) ⊎ ((kind : PoFault) × (line : ℕ) × fault.IsReadFault text kind line)
+text_ends items_or_fault text = elim (items_or_fault text) [
+  | inl spelt ↦ elim (entries_end (last_line spelt.0) spelt.0) [
+    | inl read ↦ elim (texts_end read.0) [
+      | inl readable ↦ elim (charsets_end read.0) [
+        | inl admitted ↦ inl (read.0, record { items = spelt.0; spelt = spelt.1; reads = read.1; texts = readable; charsets = admitted })
+        | inr found ↦ inr (ForeignCharset, found.0, fault.in_charset spelt.1 read.1 readable found.1)
+      ]
+      | inr found ↦ inr (found.0, found.1, fault.in_texts spelt.1 read.1 found.2)
+    ]
+    | inr found ↦ inr (found.0, found.1, fault.in_items spelt.1 (items_fault found.2))
+  ]
+  | inr found ↦ inr (found.0, found.1, fault.in_text found.2)
+]

@@ -1,0 +1,57 @@
+-- Why items are no entries: how far they could still become some, and what is wrong with the item behind (manual, "The Format of PO Files").
+use Rattle.std.specs.Prelude.{◌≡◌, ◌≢◌, ℕ, Bool, false, List, [], ◌∷◌, ◌++◌}
+use Rattle.po_syntax.specs.declared.fault.PoFault.{PoFault}
+use Rattle.po_syntax.specs.declared.fault.PoFault.TheVariants.{BadOrder, BadPluralIndex, MixedObsolete}
+use Rattle.po_syntax.specs.declared.item.Keyword.TheVariants.{MsgCtxt, MsgId, MsgIdPlural, MsgStr, MsgStrAt}
+use Rattle.po_syntax.specs.TextItem.{TextItem, Comment, Word, Str, line_of}
+use Rattle.po_entry.specs.Strings.{own_marks}
+use Rattle.po_entry.specs.TextEntry.{TextEntry}
+use Rattle.po_entry.specs.Reads.{Reads}
+
+-- some items could follow these, and then all of them read as entries
+abbrev pub IsViable : List TextItem → Type 0
+IsViable items = (behind : List TextItem) × (entries : List TextEntry) × Reads (items ++ behind) entries
+
+-- an item of an entry's own lines: no comment, and not on a line of previous texts
+abbrev pub IsOwn : TextItem → Type 0
+IsOwn (Comment kind text line) = ⊥
+IsOwn (Word keyword marks line) = marks.previous ≡ false
+IsOwn (Str bytes marks line) = marks.previous ≡ false
+
+-- the item under this obsolete mark
+abbrev pub with_obsolete : Bool → TextItem → TextItem
+with_obsolete obsolete (Comment kind text line) = Comment kind text line
+with_obsolete obsolete (Word keyword marks line) = Word keyword (record { obsolete = obsolete; previous = marks.previous }) line
+with_obsolete obsolete (Str bytes marks line) = Str bytes (record { obsolete = obsolete; previous = marks.previous }) line
+
+-- the item is an own `msgstr` with an index, and one with another index could follow the front, under some obsolete mark
+abbrev pub IsWrongIndex : List TextItem → TextItem → Type 0
+IsWrongIndex front (Word (MsgStrAt index) marks line) =
+    (marks.previous ≡ false) × (other : ℕ) × (obsolete : Bool) × (other ≢ index) × IsViable (front ++ Word (MsgStrAt other) (own_marks obsolete) line ∷ [])
+IsWrongIndex front (Word MsgCtxt marks line) = ⊥
+IsWrongIndex front (Word MsgId marks line) = ⊥
+IsWrongIndex front (Word MsgIdPlural marks line) = ⊥
+IsWrongIndex front (Word MsgStr marks line) = ⊥
+IsWrongIndex front (Comment kind text line) = ⊥
+IsWrongIndex front (Str bytes marks line) = ⊥
+
+-- the item is one of an entry's own lines, and it could follow the front under some obsolete mark
+abbrev pub IsMixed : List TextItem → TextItem → Type 0
+IsMixed front item = IsOwn item × ((obsolete : Bool) × IsViable (front ++ with_obsolete obsolete item ∷ []))
+
+-- what is wrong with an item that can't follow the front: its index; else its obsolete mark; else its order
+pub data Misfit (front : List TextItem) (item : TextItem) : PoFault → Type 0 where
+  index : IsWrongIndex front item → Misfit front item BadPluralIndex
+  mixed : (IsWrongIndex front item → ⊥) → IsMixed front item → Misfit front item MixedObsolete
+  order : (IsWrongIndex front item → ⊥) → (IsMixed front item → ⊥) → Misfit front item BadOrder
+
+-- the line of the last item, 0 where there is none
+abbrev pub last_line : List TextItem → ℕ
+last_line [] = 0
+last_line (item ∷ []) = line_of item
+last_line (item ∷ next ∷ items) = last_line (next ∷ items)
+
+-- The fault of items that are no entries, with its line: that of the item behind the longest viable front; or, where the items could still become entries and only end too early, BadOrder on the last line.
+pub data ItemsFault : List TextItem → PoFault → ℕ → Type 0 where
+  at : {front : List TextItem} {item : TextItem} (rest : List TextItem) {fault : PoFault} → IsViable front → (IsViable (front ++ item ∷ []) → ⊥) → Misfit front item fault → ItemsFault (front ++ item ∷ rest) fault (line_of item)
+  at_end : {items : List TextItem} → IsViable items → ((entries : List TextEntry) → Reads items entries → ⊥) → ItemsFault items BadOrder (last_line items)
