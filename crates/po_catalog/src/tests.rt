@@ -1,3 +1,5 @@
+mod whole_entry;
+
 use crate::{
     Catalogue, JoinError, Stats, duplicates, into_joined, joined_duplicates, read, statistics,
     write,
@@ -67,6 +69,21 @@ fn duplicates_within_and_across(rt: HostRuntime) -> Result<(), Fail> {
     match joined_duplicates(rt.alloc(), &[catalogue(&rt, rt.alloc(), text), one]) {
         Ok(()) => panic!(rt; "no duplicate is told"),
         Err(error) => assert!(rt; error == across),
+    }
+    Ok(())
+}
+
+// What does not repeat the message `a`: one under another context, and an obsolete one.
+#[test]
+fn no_duplicate(rt: HostRuntime) -> Result<(), Fail> {
+    for text in [
+        b"msgid \"a\"\nmsgstr \"A\"\n\n# x\nmsgctxt \"c\"\nmsgid \"a\"\nmsgstr \"B\"\n".as_slice(),
+        b"msgid \"a\"\nmsgstr \"A\"\n\n# x\n#~ msgid \"a\"\n#~ msgstr \"B\"\n",
+        b"msgid \"a\"\nmsgstr \"A\"\n\nmsgctxt \"\"\nmsgid \"a\"\nmsgstr \"A\"\n",
+    ] {
+        let read = catalogue(&rt, rt.alloc(), text);
+        assert_eq!(rt; read.entries().len(), 2);
+        assert!(rt; duplicates(rt.alloc(), &read).is_ok());
     }
     Ok(())
 }

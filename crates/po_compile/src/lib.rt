@@ -10,5 +10,6 @@ mod reading;
 mod tests;
 
 pub use crate::compiling::{compile, compile_all, compile_catalogues};
+pub use crate::messages::is_compiled;
 pub use crate::options::{Compiled, Options};
 pub use crate::reading::read_all;

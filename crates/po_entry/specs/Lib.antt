@@ -1,6 +1,7 @@
 pub mod TextEntry
 pub mod EntryText
 pub mod Bytes
+pub mod Halves
 pub mod Header
 pub mod Validity
 pub mod Strings
