@@ -1,6 +1,8 @@
+mod order;
+mod refused;
+
 use crate::read;
 use po_entry::{Catalogue, Entry};
-use po_syntax::PoFault;
 use std::alloc::Global;
 use std::test::Fail;
 
@@ -142,6 +144,31 @@ fn texts_of_entries(rt: HostRuntime) -> Result<(), Fail> {
             b"||||-;-;-;|c||-|charset=latin1;.\n",
             2,
         ),
+        (
+            b"  \tmsgid\t\"a\"\"b\"\n\x0c\x0bmsgstr\"c\"\n",
+            b"||||-;-;-;|-|ab|-|c;.\n",
+            1,
+        ),
+        (
+            b"msgid \"a\"\nmsgstr \"\\n\\t\\b\\r\\f\\v\\a\\\\\\\"\\1012\\18\"\n",
+            b"||||-;-;-;|-|a|-|\n\t\x08\r\x0c\x0b\x07\\\"A2\x018;.\n",
+            1,
+        ),
+        (
+            b"msgid \"\"\nmsgid_plural \"\"\nmsgstr[0] \"charset=ASCII\"\nmsgstr[1] \"charset=x\"\n",
+            b"||||-;-;-;|-|||charset=ASCII;charset=x;.\n",
+            1,
+        ),
+        (
+            b"msgid \"a\"\nmsgstr \"b\"\n# end\n#. e\n#~ # o\n",
+            b"||||-;-;-;|-|a|-|b;.\n",
+            1,
+        ),
+        (
+            b"#| msgid \"p\"\n#~ msgid \"a\"\n#~ msgstr \"b\"\n",
+            b"||||-;p;-;|-|a|-|b;~\n",
+            2,
+        ),
     ] {
         let catalogue: Catalogue = read(rt.alloc(), text)?;
         let mut all = Vec::new(rt.alloc());
@@ -167,162 +194,5 @@ fn built_entry(rt: HostRuntime) -> Result<(), Fail> {
     assert_eq!(rt; entries.len(), 1);
     assert_eq!(rt; entries[0].line(), 2);
     assert!(rt; entries[0] == built && entries[0] != other);
-    Ok(())
-}
-
-// Texts with the fault that the format tells, and its line.
-#[test]
-fn refused_texts(rt: HostRuntime) -> Result<(), Fail> {
-    for (text, kind, line) in [
-        (
-            b"msgid \"a\"\nmsgid_plural \"as\"\nmsgstr[0] \"A\"\nmsgstr[2] \"B\"\n".as_slice(),
-            PoFault::BadPluralIndex,
-            4,
-        ),
-        (
-            b"msgid \"a\"\nmsgid_plural \"as\"\nmsgstr[1] \"A\"\n",
-            PoFault::BadPluralIndex,
-            3,
-        ),
-        (
-            b"msgid \"a\"\nmsgid_plural \"as\"\n#~ msgstr[1] \"A\"\n",
-            PoFault::BadPluralIndex,
-            3,
-        ),
-        (
-            b"msgid \"a\"\nmsgid_plural \"as\"\nmsgstr[0] \"A\"\nmsgstr[0] \"B\"\n",
-            PoFault::BadPluralIndex,
-            4,
-        ),
-        (
-            b"msgid \"a\"\nmsgstr[4294967296] \"A\"\n",
-            PoFault::BadPluralIndex,
-            2,
-        ),
-        (b"msgid \"a\"\n#~ msgstr \"b\"\n", PoFault::MixedObsolete, 2),
-        (
-            b"#~ msgid \"a\"\n#~ \"b\"\n\"c\"\n#~ msgstr \"b\"\n",
-            PoFault::MixedObsolete,
-            3,
-        ),
-        (
-            b"#~ msgctxt \"a\"\nmsgid \"b\"\n",
-            PoFault::MixedObsolete,
-            2,
-        ),
-        (
-            b"msgid \"a\"\nmsgid_plural \"as\"\n#~ msgstr[0] \"b\"\n",
-            PoFault::MixedObsolete,
-            3,
-        ),
-        (b"msgid \"a\"\n", PoFault::BadOrder, 1),
-        (b"msgid \"a\"\n# c\nmsgstr \"b\"\n", PoFault::BadOrder, 2),
-        (
-            b"#~ # c\n#, fuzzy , c-format,, c-format\n#: a.c:1 b.c:2\n#: c.c:3\n#| msgid \"o\"\nmsgid \"k\" \"l\"\n\"m\"\nmsgstr [ 0 ] \"v\"\n",
-            PoFault::BadOrder,
-            8,
-        ),
-        (b"msgstr \"b\"\n", PoFault::BadOrder, 1),
-        (b"\n\"b\"\n", PoFault::BadOrder, 2),
-        (
-            b"msgid \"a\"\nmsgstr \"b\"\nmsgstr \"c\"\n",
-            PoFault::BadOrder,
-            3,
-        ),
-        (
-            b"msgid \"a\"\nmsgstr \"b\"\n#| msgid \"c\"\n# d\n",
-            PoFault::BadOrder,
-            4,
-        ),
-        (
-            b"#| msgid \"a\"\n#| msgctxt \"c\"\nmsgid \"b\"\nmsgstr \"c\"\n",
-            PoFault::BadOrder,
-            2,
-        ),
-        (
-            b"#| msgid \"a\"\n#| msgid \"a\"\nmsgid \"b\"\nmsgstr \"c\"\n",
-            PoFault::BadOrder,
-            2,
-        ),
-        (
-            b"#| msgid \"a\"\n#~| \"b\"\nmsgid \"b\"\nmsgstr \"c\"\n",
-            PoFault::BadOrder,
-            2,
-        ),
-        (
-            b"#| msgid\n# k\n#| \"b\"\nmsgid \"b\"\nmsgstr \"c\"\n",
-            PoFault::BadOrder,
-            2,
-        ),
-        (
-            b"#| msgstr \"a\"\nmsgid \"b\"\nmsgstr \"c\"\n",
-            PoFault::BadOrder,
-            1,
-        ),
-        (b"msgid \"a\"\n#| msgstr \"b\"\n", PoFault::BadOrder, 2),
-        (b"msgctxt \"a\"\nmsgctxt \"b\"\n", PoFault::BadOrder, 2),
-        (
-            b"\n# c\nmsgid \"\"\nmsgstr \"Content-Type: text/plain; charset=ISO-8859-1\\n\"\n",
-            PoFault::ForeignCharset,
-            3,
-        ),
-        (
-            b"msgid \"\"\nmsgstr \"charset=ascii\"\nmsgid \"a\"\nmsgstr \"b\"\n#~ msgid \"\"\n#~ msgstr \"charset=UTF-16;\"\n",
-            PoFault::ForeignCharset,
-            5,
-        ),
-        (b"msgid \"a\"\nmsgstr \"\\xff\"\n", PoFault::NotUtf8, 1),
-        (
-            b"#| msgid \"\\xc3\"\nmsgctxt \"c\"\nmsgid \"a\"\nmsgstr \"b\"\n",
-            PoFault::NotUtf8,
-            3,
-        ),
-        (
-            b"msgid \"a\\004\"\nmsgstr \"b\"\nmsgid \"c\"\nmsgstr \"\\xff\"\n",
-            PoFault::ForbiddenByte,
-            1,
-        ),
-        (
-            b"msgctxt \"\\004\"\nmsgid \"a\"\nmsgstr \"b\"\n",
-            PoFault::ForbiddenByte,
-            2,
-        ),
-        (b"msgid \"a\\004\"\nmsgstr \"\\xff\"\n", PoFault::NotUtf8, 1),
-        (
-            b"msgid \"\"\nmsgstr \"charset=x\"\nmsgid \"\\004\"\nmsgstr \"\"\n",
-            PoFault::ForbiddenByte,
-            3,
-        ),
-        (
-            b"msgid \"\\004\"\nmsgstr \"\"\nmsgid \"a\"\n",
-            PoFault::BadOrder,
-            3,
-        ),
-        (
-            b"msgid \"a\"\nmsgid \"b\"\nmsgstr \"\\q\"\n",
-            PoFault::BadEscape,
-            3,
-        ),
-        (b"msgid \"a\"\nmsgstr \"\\400\"\n", PoFault::BadEscape, 2),
-        (b"msgid \"a\"\nmsgstr \"\\0\"\n", PoFault::ForbiddenByte, 2),
-        (b"msgid \"a\nmsgstr \"b\"\n", PoFault::UnterminatedString, 1),
-        (b"msgid \"a\"\nmsgstr \"b", PoFault::UnterminatedString, 2),
-        (b"msgid \"a\"\nmsgstr \"b\" x\n", PoFault::BadToken, 2),
-        (b"#~ #| msgid \"a\"\n", PoFault::BadToken, 1),
-        (b"msgid \"a\"\nmsgstr \"\xff\"\n", PoFault::NotUtf8, 2),
-        (
-            b"msgid \"a\"\nmsgid \"b\"\nmsgstr \"\x00\"\n",
-            PoFault::ForbiddenByte,
-            3,
-        ),
-    ] {
-        match read(rt.alloc(), text) {
-            Ok(_) => panic!(rt; "{kind:?} at line {line}"),
-            Err(error) => {
-                assert_eq!(rt; error.kind, kind, "{kind:?} at line {line}");
-                assert_eq!(rt; error.line, line, "{kind:?}");
-            }
-        }
-    }
     Ok(())
 }
