@@ -1,6 +1,6 @@
 //! An entry with every field: each reads as the text says, and it is written anew.
 
-use crate::{read, write};
+use po_catalog::{read, write};
 use std::process::Abort;
 use std::test::Fail;
 

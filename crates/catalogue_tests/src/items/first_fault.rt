@@ -1,4 +1,4 @@
-use crate::{PoError, PoFault};
+use po_syntax::{PoError, PoFault};
 
 /// Where a reader of single bytes stands on a line.
 #[derive(Clone, Copy)]

@@ -1,4 +1,4 @@
-use crate::{Catalogue, Entry};
+use po_entry::{Catalogue, Entry};
 use po_syntax::PoFault;
 use std::test::Fail;
 

@@ -1,6 +1,6 @@
 use Rattle.std.proofs.Common.{◌<◌, arith}
-use Rattle.mo_lookup.proofs.LetterLemmas.{length-letters, key_at-letters}
-use Rattle.mo_lookup.proofs.tests.letters.LettersKeys.compare.Goals as goal
+use Rattle.look_up_tests.proofs.LetterLemmas.{length-letters, key_at-letters}
+use Rattle.look_up_tests.proofs.look_ups.letters.LettersKeys.compare.Goals as goal
 
 pub overflow_cast-i : goal.overflow_cast-i
 overflow_cast-i c = let few = c.args.self.now.few in omega (arith, length-letters c.args.self.now.many)

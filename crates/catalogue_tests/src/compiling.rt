@@ -1,9 +1,9 @@
 ghost use Rattle.std.specs.Prelude.{◌<◌, ◌^◌, length};
 
-use crate::{Compiled, Options, compile, compile_all};
 use mo_file::{Meter, Order};
 use mo_lookup::Catalog;
 use po_catalog::{JoinError, Stats};
+use po_compile::{Compiled, Options, compile, compile_all};
 use po_syntax::{PoError, PoFault};
 use std::alloc::Global;
 use std::process::Abort;

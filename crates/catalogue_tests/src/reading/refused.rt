@@ -1,6 +1,6 @@
 //! Texts that are refused for their bytes, the spelling of their items, or the texts of their entries.
 
-use crate::read;
+use po_reader::read;
 use po_syntax::PoFault;
 use std::alloc::Global;
 use std::process::Abort;

@@ -1,5 +1,5 @@
 //! Values that were worked out by hand, and the rules of real languages.
-use crate::{Reason, Rule, Source};
+use plural_rule::{Reason, Rule, Source};
 use std::alloc::{AllocError, Global};
 use std::test::Fail;
 

@@ -1,7 +1,7 @@
 mod first_fault;
 
-use super::*;
 use first_fault::first_fault;
+use po_syntax::{CommentKind, Item, Keyword, Marks, PoError, PoFault, items, quote};
 use std::alloc::Global;
 use std::fmt::Write;
 use std::process::Abort;

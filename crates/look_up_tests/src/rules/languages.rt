@@ -1,5 +1,5 @@
 //! The plural rules of languages, as the GNU gettext manual and Unicode's list of plural rules give them.
-use crate::{Rule, Source};
+use plural_rule::{Rule, Source};
 
 /// Which form a count takes, told without an expression.
 #[derive(Clone, Copy, Drop)]

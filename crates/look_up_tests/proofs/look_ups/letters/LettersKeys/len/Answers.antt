@@ -1,6 +1,6 @@
 use Rattle.std.proofs.Common.{sym}
-use Rattle.mo_lookup.proofs.LetterLemmas.{length-letters, letters-rising}
-use Rattle.mo_lookup.proofs.tests.letters.LettersKeys.len.Goals as goal
+use Rattle.look_up_tests.proofs.LetterLemmas.{length-letters, letters-rising}
+use Rattle.look_up_tests.proofs.look_ups.letters.LettersKeys.len.Goals as goal
 
 pub returns-clause-count : goal.returns-clause-count
 returns-clause-count c = sym (length-letters c.args.self.now.many)

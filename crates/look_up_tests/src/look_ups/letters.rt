@@ -3,8 +3,8 @@
 ghost use Rattle.std.specs.Prelude.{◌≡◌, ◌+◌, ◌*◌, ◌≤◌, ◌<◌, ◌^◌, [], ◌∷◌, map};
 ghost use Rattle.std.specs.List.{range_with_len};
 
-use crate::Keys;
 use mo_file::compare_key;
+use mo_lookup::Keys;
 use std::cmp::Ordering;
 
 /// The keys `b`, `d`, `f` and so on, eight at most.

@@ -1,8 +1,8 @@
 mod order;
 mod refused;
 
-use crate::read;
 use po_entry::{Catalogue, Entry};
+use po_reader::read;
 use std::alloc::Global;
 use std::test::Fail;
 

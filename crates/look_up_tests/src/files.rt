@@ -2,7 +2,7 @@
 
 ghost use Rattle.std.specs.Prelude.{◌≤◌};
 
-use crate::{
+use mo_file::{
     BuildError, Meter, MoError, MoView, Order, Pair, build, catalog_is_unique, compare_key,
     layout_is_catalog,
 };

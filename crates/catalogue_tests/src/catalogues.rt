@@ -1,6 +1,6 @@
 mod whole_entry;
 
-use crate::{
+use po_catalog::{
     Catalogue, JoinError, Stats, duplicates, into_joined, joined_duplicates, read, statistics,
     write,
 };
@@ -73,21 +73,6 @@ fn duplicates_within_and_across(rt: HostRuntime) -> Result<(), Fail> {
     Ok(())
 }
 
-// What does not repeat the message `a`: one under another context, and an obsolete one.
-#[test]
-fn no_duplicate(rt: HostRuntime) -> Result<(), Fail> {
-    for text in [
-        b"msgid \"a\"\nmsgstr \"A\"\n\n# x\nmsgctxt \"c\"\nmsgid \"a\"\nmsgstr \"B\"\n".as_slice(),
-        b"msgid \"a\"\nmsgstr \"A\"\n\n# x\n#~ msgid \"a\"\n#~ msgstr \"B\"\n",
-        b"msgid \"a\"\nmsgstr \"A\"\n\nmsgctxt \"\"\nmsgid \"a\"\nmsgstr \"A\"\n",
-    ] {
-        let read = catalogue(&rt, rt.alloc(), text);
-        assert_eq!(rt; read.entries().len(), 2);
-        assert!(rt; duplicates(rt.alloc(), &read).is_ok());
-    }
-    Ok(())
-}
-
 #[test]
 fn entries_of_two_inputs(rt: HostRuntime) -> Result<(), Fail> {
     let headed = b"msgid \"\"\nmsgstr \"X\"\n\nmsgid \"a\"\nmsgstr \"A\"\n".as_slice();
@@ -100,5 +85,20 @@ fn entries_of_two_inputs(rt: HostRuntime) -> Result<(), Fail> {
     assert!(rt; header.is_header());
     assert_eq!(rt; a.id(), b"a".as_slice());
     assert_eq!(rt; b.id(), b"a".as_slice());
+    Ok(())
+}
+
+// What does not repeat the message `a`: one under another context, and an obsolete one.
+#[test]
+fn no_duplicate(rt: HostRuntime) -> Result<(), Fail> {
+    for text in [
+        b"msgid \"a\"\nmsgstr \"A\"\n\n# x\nmsgctxt \"c\"\nmsgid \"a\"\nmsgstr \"B\"\n".as_slice(),
+        b"msgid \"a\"\nmsgstr \"A\"\n\n# x\n#~ msgid \"a\"\n#~ msgstr \"B\"\n",
+        b"msgid \"a\"\nmsgstr \"A\"\n\nmsgctxt \"\"\nmsgid \"a\"\nmsgstr \"A\"\n",
+    ] {
+        let read = catalogue(&rt, rt.alloc(), text);
+        assert_eq!(rt; read.entries().len(), 2);
+        assert!(rt; duplicates(rt.alloc(), &read).is_ok());
+    }
     Ok(())
 }

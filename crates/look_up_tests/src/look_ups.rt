@@ -2,9 +2,9 @@
 
 mod letters;
 
-use crate::{Answer, Catalog, Chain, Keys, Reason, Source, find};
 use letters::Letters;
 use mo_file::{Meter, Order, Pair, build};
+use mo_lookup::{Answer, Catalog, Chain, Keys, Reason, Source, find};
 use std::alloc::Global;
 use std::test::Fail;
 
