@@ -1,5 +1,5 @@
 -- Texts are accepted or have a fault.
-use Rattle.std.proofs.Common.{◌≡◌, ◌≢◌, ◌⊎◌, ℕ, ◌+◌, ◌<◌, ◌≤◌, ◌^◌, false, suc, List, [], ◌∷◌, ◌++◌, refl, ap, subst, length, map, inl, inr}
+use Rattle.std.proofs.Common.{◌≢◌, ◌⊎◌, ℕ, ◌^◌, false, suc, List, [], ◌∷◌, refl, ap, subst, length, map, inl, inr}
 use Rattle.std.proofs.lemmas.Bool.{cases_lt}
 use Rattle.std.proofs.lemmas.List.Elements.{All-weaker}
 use Rattle.std.specs.List.{AllZip}
@@ -17,7 +17,6 @@ use Rattle.po_catalog.specs.declared.duplicate.JoinError.{JoinError}
 use Rattle.po_compile.specs.Accepted.{ReadsDistinct, AreRead, AreAccepted, IsTextFault, IsFaultOfInput, IsCompileFault}
 use Rattle.po_compile.specs.Compiling.{layout_fault}
 use Rattle.po_compile.specs.CompiledList.{compiled_list}
-use Rattle.po_compile.specs.CompiledMessages.{AreMessagesOf}
 use Rattle.po_compile.specs.Headline.{AcceptedOrFault}
 use Rattle.po_compile.specs.declared.options.Options.{Options}
 use Rattle.po_compile.proofs.HeadlineLemmas.{EntriesCanStand, joined_valid}

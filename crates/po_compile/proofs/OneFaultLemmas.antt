@@ -1,16 +1,15 @@
 -- Texts have at most one fault but want of memory.
-use Rattle.std.proofs.Common.{◌≡◌, ◌≢◌, ℕ, suc, List, [], ◌∷◌, ◌++◌, refl, sym, ap, ◌∙◌, subst, length, map, inl, inr}
+use Rattle.std.proofs.Common.{◌≡◌, ℕ, suc, List, [], ◌∷◌, ◌++◌, refl, sym, ap, ◌∙◌, subst, length, map, inl, inr}
 use Rattle.std.specs.List.{AllZip}
 use Rattle.po_syntax.specs.declared.fault.PoError.{PoError}
 use Rattle.po_syntax.specs.declared.fault.PoFault.{PoFault}
 use Rattle.po_entry.specs.TextEntry.{TextEntry}
 use Rattle.po_reader.specs.Faults.{IsReadFault}
 use Rattle.po_catalog.specs.Joined.{InputEntry, in_input, joined}
-use Rattle.po_catalog.specs.Duplicate.{IsFirstDuplicate, duplicate_error, join_memory}
+use Rattle.po_catalog.specs.Duplicate.{IsFirstDuplicate, duplicate_error}
 use Rattle.po_catalog.specs.declared.duplicate.JoinError.{JoinError}
-use Rattle.po_compile.specs.Accepted.{ReadsDistinct, IsTextFault, IsFaultOfInput, HasJoinedDuplicate, IsCompileFault}
+use Rattle.po_compile.specs.Accepted.{ReadsDistinct, IsTextFault, IsFaultOfInput, HasJoinedDuplicate}
 use Rattle.po_compile.specs.Headline.{OneCompileFault}
-use Rattle.po_compile.specs.declared.options.Options.{Options}
 use Rattle.po_compile.proofs.AcceptedLemmas.{OneReading, NoReadFault, NoFirstDuplicate, same_catalogues, text_faultless, input_faultless, joined_faultless}
 
 abbrev pub OneReadFault : Type 0

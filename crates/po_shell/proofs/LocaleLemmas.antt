@@ -9,7 +9,7 @@ use Rattle.std.proofs.lemmas.List.{take_all, drop-drop}
 use Rattle.std.proofs.lemmas.List.Splits.{slice_split_first, slice_split-cons_no}
 use Rattle.std.proofs.lemmas.List.Sums.{take_while-cons}
 use Rattle.memchr.specs.Find.{is_byte}
-use Rattle.po_shell.specs.Locales.{given, locale_of, has_slash, languages, candidates_in, candidates_of, is_untranslated, before, from_first, variants, is_language, language_parts, with_name}
+use Rattle.po_shell.specs.Locales.{given, locale_of, has_slash, languages, candidates_in, candidates_of, is_untranslated, before, from_first, variants, is_path_part, language_parts, with_name}
 use Rattle.po_shell.specs.declared.locale.Environment.{Environment}
 use Rattle.po_shell.specs.LocaleSteps.{variants_in}
 use Rattle.po_shell.proofs.SearchLemmas.{byte-here, byte-later}
@@ -58,10 +58,10 @@ split-last (b ∷ bs) e = elim (cases_Bool (eqb b 58)) [
 ]
 
 -- the candidates of a part that counts, and those behind it
-counted-next : (part : List ℕ) (parts : List (List ℕ)) → flat_map variants (filter is_language (part ∷ parts)) ≡ variants_in part ++ flat_map variants (filter is_language parts)
-counted-next part parts = elim (cases_Bool (is_language part)) [
-  | inl e ↦ ap (flat_map variants) (cond-true (is_language part) (part ∷ filter is_language parts) (filter is_language parts) e) ∙ ap (λ l. l ++ flat_map variants (filter is_language parts)) (sym (cond-true (is_language part) (variants part) [] e))
-  | inr e ↦ ap (flat_map variants) (cond-false (is_language part) (part ∷ filter is_language parts) (filter is_language parts) e) ∙ ap (λ l. l ++ flat_map variants (filter is_language parts)) (sym (cond-false (is_language part) (variants part) [] e))
+counted-next : (part : List ℕ) (parts : List (List ℕ)) → flat_map variants (filter is_path_part (part ∷ parts)) ≡ variants_in part ++ flat_map variants (filter is_path_part parts)
+counted-next part parts = elim (cases_Bool (is_path_part part)) [
+  | inl e ↦ ap (flat_map variants) (cond-true (is_path_part part) (part ∷ filter is_path_part parts) (filter is_path_part parts) e) ∙ ap (λ l. l ++ flat_map variants (filter is_path_part parts)) (sym (cond-true (is_path_part part) (variants part) [] e))
+  | inr e ↦ ap (flat_map variants) (cond-false (is_path_part part) (part ∷ filter is_path_part parts) (filter is_path_part parts) e) ∙ ap (λ l. l ++ flat_map variants (filter is_path_part parts)) (sym (cond-false (is_path_part part) (variants part) [] e))
 ]
 
 -- a part, and those behind it
@@ -71,28 +71,28 @@ counts part = not (is_untranslated part)
 pub parts-next : (bs : List ℕ) (n : ℕ) → n ≡ position_or_len (is_byte 58) bs → n < length bs → is_untranslated (take n bs) ≡ false → flat_map variants (language_parts bs) ≡ variants_in (take n bs) ++ flat_map variants (language_parts (drop (n + 1) bs))
 unfolding language_parts
 parts-next bs n place l goes =
-    ap (λ parts. flat_map variants (filter is_language (take_while counts parts))) (split-next bs n place l)
-    ∙ ap (λ parts. flat_map variants (filter is_language parts)) (take_while-cons counts (take n bs) (slice_split (is_byte 58) (drop (n + 1) bs)) ∙ cond-true (counts (take n bs)) _ _ (ap not goes))
+    ap (λ parts. flat_map variants (filter is_path_part (take_while counts parts))) (split-next bs n place l)
+    ∙ ap (λ parts. flat_map variants (filter is_path_part parts)) (take_while-cons counts (take n bs) (slice_split (is_byte 58) (drop (n + 1) bs)) ∙ cond-true (counts (take n bs)) _ _ (ap not goes))
     ∙ counted-next (take n bs) (take_while counts (slice_split (is_byte 58) (drop (n + 1) bs)))
 
 pub parts-last : (bs : List ℕ) (n : ℕ) → n ≡ position_or_len (is_byte 58) bs → n ≡ length bs → is_untranslated (take n bs) ≡ false → flat_map variants (language_parts bs) ≡ variants_in (take n bs)
 unfolding language_parts
 parts-last bs n place end goes =
     let whole : take n bs ≡ bs = take_all n bs (omega (arith, end)) in
-    ap (λ parts. flat_map variants (filter is_language (take_while counts parts))) (split-last bs (sym place ∙ end) ∙ ap (λ part. part ∷ []) (sym whole))
-    ∙ ap (λ parts. flat_map variants (filter is_language parts)) (take_while-cons counts (take n bs) [] ∙ cond-true (counts (take n bs)) _ _ (ap not goes))
+    ap (λ parts. flat_map variants (filter is_path_part (take_while counts parts))) (split-last bs (sym place ∙ end) ∙ ap (λ part. part ∷ []) (sym whole))
+    ∙ ap (λ parts. flat_map variants (filter is_path_part parts)) (take_while-cons counts (take n bs) [] ∙ cond-true (counts (take n bs)) _ _ (ap not goes))
     ∙ counted-next (take n bs) [] ∙ append-nil (variants_in (take n bs))
 
 pub parts-stop : (bs : List ℕ) (n : ℕ) → n ≡ position_or_len (is_byte 58) bs → n ≤ length bs → is_untranslated (take n bs) ≡ true → language_parts bs ≡ []
 unfolding language_parts
 parts-stop bs n place l stops = elim (cases_lt n (length bs)) [
-  | inl short ↦ ap (λ parts. filter is_language (take_while counts parts)) (split-next bs n place short)
-      ∙ ap (filter is_language) (take_while-cons counts (take n bs) (slice_split (is_byte 58) (drop (n + 1) bs)) ∙ cond-false (counts (take n bs)) _ _ (ap not stops))
+  | inl short ↦ ap (λ parts. filter is_path_part (take_while counts parts)) (split-next bs n place short)
+      ∙ ap (filter is_path_part) (take_while-cons counts (take n bs) (slice_split (is_byte 58) (drop (n + 1) bs)) ∙ cond-false (counts (take n bs)) _ _ (ap not stops))
   | inr past ↦
       let end : n ≡ length bs = omega arith in
       let whole : take n bs ≡ bs = take_all n bs past in
-      ap (λ parts. filter is_language (take_while counts parts)) (split-last bs (sym place ∙ end) ∙ ap (λ part. part ∷ []) (sym whole))
-      ∙ ap (filter is_language) (take_while-cons counts (take n bs) [] ∙ cond-false (counts (take n bs)) _ _ (ap not stops))
+      ap (λ parts. filter is_path_part (take_while counts parts)) (split-last bs (sym place ∙ end) ∙ ap (λ part. part ∷ []) (sym whole))
+      ∙ ap (filter is_path_part) (take_while-cons counts (take n bs) [] ∙ cond-false (counts (take n bs)) _ _ (ap not stops))
 ]
 
 -- the candidates of a part, before those of the parts behind it

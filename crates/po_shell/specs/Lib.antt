@@ -12,3 +12,4 @@ pub mod CountSteps
 pub mod Escapes
 pub mod Locales
 pub mod LocaleSteps
+pub mod Catalogues

@@ -39,13 +39,13 @@ variants name =
     let language = before 95 base in
     name ∷ (base ++ modifier) ∷ (language ++ modifier) ∷ base ∷ language ∷ []
 
--- a part of LANGUAGE counts where it isn't empty and has no slash
-abbrev pub is_language : List ℕ → Bool
-is_language part = not (length part == 0) && not (has_slash part)
+-- a name that can stand in a path: it isn't empty and has no slash
+abbrev pub is_path_part : List ℕ → Bool
+is_path_part name = not (length name == 0) && not (has_slash name)
 
 -- the parts of LANGUAGE that count, up to the first `C` or `POSIX`
 unfoldable pub language_parts : List ℕ → List (List ℕ)
-language_parts text = filter is_language (take_while (λ part. not (is_untranslated part)) (slice_split (is_byte 58) text))
+language_parts text = filter is_path_part (take_while (λ part. not (is_untranslated part)) (slice_split (is_byte 58) text))
 
 -- one more name, if it isn't among those before
 unfoldable pub with_name : List (List ℕ) → List ℕ → List (List ℕ)
@@ -69,7 +69,3 @@ candidates_in language (Some locale) =
 -- the candidates of an environment, the first to be asked first
 unfoldable pub candidates_of : Environment → List (List ℕ)
 candidates_of env = candidates_in (given env.language) (locale_of env)
-
--- where the catalogue of a domain lies for a locale
-abbrev pub path_of : List ℕ → List ℕ → List ℕ → List ℕ
-path_of dir locale domain = ((((dir ++ codes "/") ++ locale) ++ codes "/LC_MESSAGES/") ++ domain) ++ codes ".mo"

@@ -1,6 +1,6 @@
 -- Names and references in a text ("Invoking the envsubst program" of the GNU gettext manual).
-use Rattle.std.specs.Prelude.{ℕ, ◌+◌, Bool, false, ◌&&◌, ◌||◌, ◌==◌, nat_lt, if◌then◌else◌, List, [], ◌∷◌, length, drop, take_while, Option, Some, None}
-use Rattle.std.specs.List.{cons_option}
+use Rattle.std.specs.Prelude.{ℕ, ◌+◌, Bool, false, ◌&&◌, ◌||◌, ◌==◌, nat_lt, if◌then◌else◌, List, [], ◌∷◌, ◌++◌, length, drop, take_while, Option, Some, None}
+use Rattle.std.specs.List.{cons_option, flat_map}
 use Rattle.std.specs.Char.{is_ascii_alphabetic, is_ascii_alphanumeric}
 use Rattle.std.specs.Option.{option_map}
 
@@ -50,3 +50,7 @@ unfoldable pub names_in : List ℕ → List (List ℕ)
 names_in [] = []
 names_in (b ∷ bs) =
     cons_option (if b == 36 then option_map (λ r. r.name) (reference_behind bs) else None) (names_in bs)
+
+-- the names of the references in a text, one a line
+abbrev pub name_lines : List ℕ → List ℕ
+name_lines text = flat_map (λ name. name ++ 10 ∷ []) (names_in text)

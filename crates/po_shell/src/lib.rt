@@ -2,6 +2,7 @@
 //! the locales to look for, escapes, counts, and the substitution of variables.
 #![tactic(auto)]
 
+mod catalogue;
 mod count;
 mod delivery;
 mod device;
@@ -18,6 +19,7 @@ mod search;
 mod substituter;
 mod variable;
 
+pub use catalogue::{DEFAULT_FOLDER, catalogue_path, catalogue_paths};
 pub use count::{OTHER_COUNT, count_of};
 pub use delivery::put_all;
 pub use device::{ByteIn, ByteOut, Counted};
@@ -26,9 +28,10 @@ pub use escape::{Expanded, expand};
 pub use failing::Failing;
 pub use fault::ToolFault;
 pub use input::{INPUT_LIMIT, read_input};
-pub use locale::{Environment, catalogue_path, locale_candidates};
-pub use reference::{LONGEST_NAME, names};
+pub use locale::{Environment, locale_candidates};
+pub use reference::{LONGEST_NAME, name_lines, names};
 pub use substituter::Substituter;
+pub use variable::name_and_value;
 
 #[cfg(test)]
 mod tests;

@@ -4,7 +4,7 @@ ghost use Rattle.std.specs.Prelude.{◌≡◌, ◌++◌, map, fold, IfOk, OnOk, 
 ghost use Rattle.std.specs.List.{flat_map, list_any};
 ghost use Rattle.std.specs.Option.{option_map};
 ghost use Rattle.std.specs.Str.{bytes_eq};
-ghost use Rattle.po_shell.specs.Locales.{given, locale_of, is_untranslated, has_slash, before, from_first, variants, language_parts, with_name, candidates_of, path_of};
+ghost use Rattle.po_shell.specs.Locales.{given, locale_of, is_untranslated, has_slash, is_path_part, before, from_first, variants, language_parts, with_name, candidates_of};
 ghost use Rattle.po_shell.specs.LocaleSteps.{variants_in};
 
 use crate::fault::ToolFault;
@@ -60,28 +60,8 @@ pub fn locale_candidates(
     }
 }
 
-/// Where the catalogue of a domain lies for a locale: `DIR/LOCALE/LC_MESSAGES/DOMAIN.mo`, with
-/// each part as it is.
-pub fn catalogue_path(
-    alloc: Global,
-    dir: &[u8],
-    locale: &[u8],
-    domain: &[u8],
-) -> Result<Vec<u8>, ToolFault>
-    ensures path { IfOk result (λ path. path.items ≡ path_of dir.now locale.now domain.now) }
-    ensures fault { OnErr result (result ≡ Err ToolFault.OutOfMemory) }
-{
-    let mut path = Vec::from_slice(alloc, dir)?;
-    path.extend_from_slice(b"/")?;
-    path.extend_from_slice(locale)?;
-    path.extend_from_slice(b"/LC_MESSAGES/")?;
-    path.extend_from_slice(domain)?;
-    path.extend_from_slice(b".mo")?;
-    Ok(path)
-}
-
-// A variable that is set and not empty.
-fn given(variable: Option<&[u8]>) -> Option<&[u8]>
+/// A variable that is set and not empty.
+pub(crate) fn given(variable: Option<&[u8]>) -> Option<&[u8]>
     ensures { option_map (λ value. value.now) result ≡ given variable.entry }
 {
     match variable {
@@ -116,6 +96,13 @@ fn has_slash(name: &[u8]) -> bool
     name.contains(&b'/')
 }
 
+/// Whether a name can stand in a path.
+pub(crate) fn is_path_part(name: &[u8]) -> bool
+    ensures { result ≡ is_path_part name.now }
+{
+    !name.is_empty() && !has_slash(name)
+}
+
 // Adds the candidates of the parts of LANGUAGE.
 fn add_languages(
     alloc: Global,
@@ -147,10 +134,11 @@ fn add_language(alloc: Global, candidates: &mut Vec<Vec<u8>>, part: &[u8]) -> Re
         ≡ fold with_name (map (λ name. name.items) candidates.old.items) (variants_in part.now)) }
     ensures fault { OnErr result (result ≡ Err ToolFault.OutOfMemory) }
 {
-    if part.is_empty() || has_slash(part) {
-        return Ok(());
+    if is_path_part(part) {
+        add_variants(alloc, candidates, part)
+    } else {
+        Ok(())
     }
-    add_variants(alloc, candidates, part)
 }
 
 // Adds the candidates of a name L[_T][.C][@M].

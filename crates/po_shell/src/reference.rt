@@ -2,7 +2,7 @@
 ghost use Rattle.std.specs.Prelude.{◌≡◌, ◌<◌, ◌≤◌, [], map, length, IfNone, IfSome, IfOk, OnErr, Err};
 ghost use Rattle.std.specs.Option.{option_map};
 ghost use Rattle.std.specs.List.{cons_option};
-ghost use Rattle.po_shell.specs.References.{begins_with, is_letter, is_name_byte, is_name, name_run, reference_behind, names_in};
+ghost use Rattle.po_shell.specs.References.{begins_with, is_letter, is_name_byte, is_name, name_run, reference_behind, names_in, name_lines};
 
 use crate::fault::ToolFault;
 use crate::search::len_before;
@@ -103,4 +103,18 @@ pub fn names(alloc: Global, format: &[u8]) -> Result<Vec<&[u8]>, ToolFault>
         }
     }
     Ok(names)
+}
+
+/// The names of the references in a text such as SHELL-FORMAT, one a line.
+pub fn name_lines(alloc: Global, format: &[u8]) -> Result<Vec<u8>, ToolFault>
+    ensures lines { IfOk result (λ lines. lines.items ≡ name_lines format.now) }
+    ensures fault { OnErr result (result ≡ Err ToolFault.OutOfMemory) }
+{
+    let names = names(alloc, format)?;
+    let mut lines = Vec::new(alloc);
+    for name in &names {
+        lines.extend_from_slice(name)?;
+        lines.push(b'\n')?;
+    }
+    Ok(lines)
 }

@@ -255,14 +255,19 @@ const UNSET: Environment<'static> = Environment {
     textdomaindir: None,
 };
 
-// The candidates of an environment, with a space behind each.
-fn listed(alloc: Global, environment: &Environment<'_>) -> Result<Vec<u8>, Fail> {
+// Names, with a space behind each.
+fn spaced(alloc: Global, names: &[Vec<u8>]) -> Result<Vec<u8>, Fail> {
     let mut line = Vec::new(alloc);
-    for name in &locale_candidates(alloc, environment)? {
+    for name in names {
         line.extend_from_slice(name)?;
         line.push(b' ')?;
     }
     Ok(line)
+}
+
+// The candidates of an environment, with a space behind each.
+fn listed(alloc: Global, environment: &Environment<'_>) -> Result<Vec<u8>, Fail> {
+    spaced(alloc, &locale_candidates(alloc, environment)?)
 }
 
 #[test]
@@ -355,4 +360,117 @@ fn places_a_catalogue(rt: HostRuntime) -> Result<(), Fail> {
     let path = catalogue_path(rt.alloc(), b"/d", b"de", b"x")?;
     assert_eq!(rt; path.as_slice(), b"/d/de/LC_MESSAGES/x.mo".as_slice());
     Ok(())
+}
+
+// The catalogues for de_AT, with a space behind each.
+fn placed(
+    alloc: Global,
+    word: Option<&[u8]>,
+    option: Option<&[u8]>,
+    textdomain: Option<&[u8]>,
+    textdomaindir: Option<&[u8]>,
+) -> Result<Vec<u8>, Fail> {
+    let environment = Environment {
+        lang: Some(b"de_AT".as_slice()),
+        textdomain,
+        textdomaindir,
+        ..UNSET
+    };
+    spaced(alloc, &catalogue_paths(alloc, word, option, &environment)?)
+}
+
+#[test]
+fn takes_the_word_before_the_option_before_textdomain(rt: HostRuntime) -> Result<(), Fail> {
+    let dir = Some(b"/d".as_slice());
+    let [w, o, v] = [b"w", b"o", b"v"].map(|name| Some(name.as_slice()));
+    for (word, option, textdomain, wanted) in [
+        (
+            w,
+            o,
+            v,
+            b"/d/de_AT/LC_MESSAGES/w.mo /d/de/LC_MESSAGES/w.mo ".as_slice(),
+        ),
+        (
+            w,
+            None,
+            None,
+            b"/d/de_AT/LC_MESSAGES/w.mo /d/de/LC_MESSAGES/w.mo ",
+        ),
+        (
+            None,
+            o,
+            v,
+            b"/d/de_AT/LC_MESSAGES/o.mo /d/de/LC_MESSAGES/o.mo ",
+        ),
+        (
+            None,
+            None,
+            v,
+            b"/d/de_AT/LC_MESSAGES/v.mo /d/de/LC_MESSAGES/v.mo ",
+        ),
+        (None, None, None, b""),
+    ] {
+        let paths = placed(rt.alloc(), word, option, textdomain, dir)?;
+        assert_eq!(rt;
+            paths.as_slice(),
+            wanted,
+            "of {word:?}, {option:?}, {textdomain:?}"
+        );
+    }
+    Ok(())
+}
+
+#[test]
+fn has_no_catalogue_of_an_empty_domain_and_of_one_with_a_slash(
+    rt: HostRuntime,
+) -> Result<(), Fail> {
+    let dir = Some(b"/d".as_slice());
+    let [empty, slash, v] = [b"".as_slice(), b"a/b", b"v"].map(|name| Some(name));
+    for (word, option, textdomain) in [
+        (empty, v, v),
+        (None, empty, v),
+        (None, None, empty),
+        (slash, v, v),
+        (None, slash, v),
+        (None, None, slash),
+    ] {
+        let paths = placed(rt.alloc(), word, option, textdomain, dir)?;
+        assert_eq!(rt;
+            paths.as_slice(),
+            b"".as_slice(),
+            "of {word:?}, {option:?}, {textdomain:?}"
+        );
+    }
+    Ok(())
+}
+
+#[test]
+fn looks_below_the_default_folder_without_textdomaindir(rt: HostRuntime) -> Result<(), Fail> {
+    let word = Some(b"w".as_slice());
+    let wanted = b"/usr/share/locale/de_AT/LC_MESSAGES/w.mo /usr/share/locale/de/LC_MESSAGES/w.mo ";
+    for textdomaindir in [None, Some(b"".as_slice())] {
+        let paths = placed(rt.alloc(), word, None, None, textdomaindir)?;
+        assert_eq!(rt; paths.as_slice(), wanted.as_slice(), "of {textdomaindir:?}");
+    }
+    Ok(())
+}
+
+#[test]
+fn lists_names_in_lines(rt: HostRuntime) -> Result<(), Fail> {
+    let lines = name_lines(rt.alloc(), b"$A ${B}$A")?;
+    assert_eq!(rt; lines.as_slice(), b"A\nB\nA\n".as_slice());
+    Ok(())
+}
+
+#[test]
+fn cuts_an_entry_at_its_first_equals_sign(rt: HostRuntime) {
+    assert_eq!(rt;
+        name_and_value(b"A=b=c"),
+        Some((b"A".as_slice(), b"b=c".as_slice()))
+    );
+    assert_eq!(rt;
+        name_and_value(b"=x"),
+        Some((b"".as_slice(), b"x".as_slice()))
+    );
+    assert_eq!(rt; name_and_value(b"A"), None);
 }

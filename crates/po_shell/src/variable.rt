@@ -1,7 +1,20 @@
-// What the references to a name become ("Invoking the envsubst program" of the GNU gettext manual).
-ghost use Rattle.std.specs.Prelude.{◌≡◌};
+// Variables, and what the references to a name become ("Invoking the envsubst program" of the GNU
+// gettext manual).
+ghost use Rattle.std.specs.Prelude.{◌≡◌, ◌≢◌, ◌++◌, ◌∷◌, All, IfSome, IsNone};
 ghost use Rattle.std.specs.Option.{option_map};
 ghost use Rattle.po_shell.specs.Substitution.{value_of, is_replaced, values_given, pairs_in, names_given};
+
+const EQUALS: u8 = b'=';
+
+/// The name and the value of an entry of the environment, `NAME=VALUE`, where there is a `=`.
+pub fn name_and_value(entry: &[u8]) -> Option<(&[u8], &[u8])>
+    ensures parts { IfSome result (λ v. entry.now ≡ v.0.now ++ EQUALS ∷ v.1.now) }
+    ensures first { IfSome result (λ v. All (λ b. b ≢ EQUALS) v.0.now) }
+    ensures none { IsNone result → All (λ b. b ≢ EQUALS) entry.now }
+{
+    let at = entry.iter().position(|&byte| byte == EQUALS)?;
+    Some((&entry[..at], &entry[at + 1..]))
+}
 
 // The value of the first variable of that name, and nothing where it is unset.
 fn value_of<'a>(vars: &[(&'a [u8], &'a [u8])], name: &[u8]) -> &'a [u8]

@@ -1,12 +1,13 @@
 -- The files that are left to open, how many catalogues a chain has, and the answers to the words.
-use Rattle.std.proofs.Common.{◌≡◌, ◌≤◌, ◌<◌, ◌+◌, ◌||◌, ℕ, Bool, true, false, List, [], ◌∷◌, ◌++◌, suc, drop, get_or, map, length, flat_map, refl, sym, ap, ◌∙◌, append_assoc, append-nil, drop-cons, drop_of_length-le, add-one, arith}
+use Rattle.std.proofs.Common.{◌≡◌, ◌≤◌, ◌<◌, ◌+◌, ◌||◌, ℕ, Bool, true, false, List, [], ◌∷◌, ◌++◌, drop, get_or, map, length, flat_map, refl, sym, ap, ◌∙◌, append_assoc, append-nil, drop-cons, drop_of_length-le, add-one, arith}
 use Rattle.std.proofs.lemmas.List.{length-map}
 use Rattle.std.specs.Borrow.{Bor}
 use Rattle.std.specs.List.{join_with_byte, list_any}
 use Rattle.mo_lookup.specs.Contents.{Contents}
 use Rattle.po_tools.specs.declared.gettext.Opened.{Opened}
-use Rattle.po_tools.specs.Gettext.{NamedFile, Opens, none, opened, refused}
-use Rattle.po_tools.specs.GettextView.{named_file, named_files, OpensFile}
+use Rattle.po_tools.specs.Gettext.{Opens, none, opened, refused}
+use Rattle.po_tools.specs.NamedFile.{NamedFile, named_file, named_files}
+use Rattle.po_tools.specs.OpensFile.{OpensFile}
 
 -- whatever the files from i on add completes what the files before made
 abbrev pub Completes : List ℕ → List (Bor (List ℕ) × Bor (List ℕ)) → ℕ → Opened → Type 0

@@ -1,5 +1,5 @@
 -- What a run of msgfmt comes to, by the way in which it ends.
-use Rattle.std.proofs.Common.{◌≡◌, ◌≢◌, ◌⊎◌, ℕ, true, List, Option, None, Some, length, IfOk, Result, ap, ◌∙◌, inl, inr, ⊎_elim}
+use Rattle.std.proofs.Common.{◌≡◌, ◌≢◌, ◌⊎◌, ℕ, true, false, List, None, Some, length, IfOk, Result, sym, ap, subst, ◌∙◌, inl, inr, ⊎_elim, arith}
 use Rattle.std.proofs.lemmas.List.{length-map}
 use Rattle.std.proofs.lemmas.Result.{IfOk-weaker}
 use Rattle.std.proofs.lemmas.Slice.Zip.{AllZip-long}
@@ -16,11 +16,10 @@ use Rattle.po_compile.specs.declared.options.Options.{Options}
 use Rattle.po_tools.specs.declared.msgfmt.MsgfmtOptions.{MsgfmtOptions}
 use Rattle.po_tools.specs.declared.profile.CheckFault.TheVariants.{OutOfMemory}
 use Rattle.po_tools.specs.declared.run.Run.{Run}
-use Rattle.po_tools.specs.Gettext.{NamedFile}
-use Rattle.po_tools.specs.GettextView.{named_file, named_files}
-use Rattle.po_tools.specs.Msgfmt.{AreChecked, IsMsgfmtRun, check_line, compile_options, compiled_run, input_texts, join_line}
+use Rattle.po_tools.specs.Msgfmt.{AreChecked, AreTaken, IsMsgfmtRun, IsRefused, check_line, compile_options, compiled_run, input_texts, join_line}
+use Rattle.po_tools.specs.NamedFile.{NamedFile, named_file, named_files}
 use Rattle.po_tools.specs.Profile.{Told}
-use Rattle.po_tools.specs.Run.{refusal, report}
+use Rattle.po_tools.specs.Run.{Report, refusal, report}
 
 -- each input has its catalogue
 pub read-count : (inputs : List (Bor (List ℕ) × Bor (List ℕ))) (catalogues : List (List TextEntry)) → AreRead (input_texts (named_files inputs)) catalogues
@@ -66,3 +65,21 @@ pub run-done : (inputs : List NamedFile) (o : MsgfmtOptions) (catalogues : List 
 run-done inputs o catalogues compiled r read is_compiled checked =
     IfOk-weaker r (λ run. report run ≡ compiled_run o compiled) (λ run. IsMsgfmtRun inputs o (report run))
     (λ run told. inr (inr (record { catalogues = catalogues; read = read; compiled = compiled; is_compiled = is_compiled; checked = checked; report = told })))
+
+-- where no check is asked for, a run of status 0 is that of inputs that are compiled
+pub taken : (inputs : List NamedFile) (o unchecked : MsgfmtOptions) (run : Report) → unchecked.profile_check ≡ false → compile_options unchecked ≡ compile_options o
+    → IsMsgfmtRun inputs unchecked run → run.status ≡ 0 → AreTaken inputs o
+taken inputs o unchecked run none same (inl refused) ok = let one : run.status ≡ 1 = ap (λ r. r.status) refused.report in absurd (omega (arith, one, ok))
+taken inputs o unchecked run none same (inr (inl unfit)) ok = let wrong : true ≡ false = sym unfit.asked ∙ none in cc
+taken inputs o unchecked run none same (inr (inr done)) ok =
+    let Of : Options → Type 0 = λ options. IsCompiled options (joined_entries done.catalogues) done.compiled in
+    inr (done.compiled, record { catalogues = done.catalogues; read = done.read; is_compiled = subst Of same done.is_compiled })
+
+-- and one of any other status is that of inputs that are refused
+pub refused : (inputs : List NamedFile) (o unchecked : MsgfmtOptions) (run : Report) → unchecked.profile_check ≡ false → compile_options unchecked ≡ compile_options o
+    → IsMsgfmtRun inputs unchecked run → run.status ≢ 0 → IsRefused inputs o run
+refused inputs o unchecked run none same (inl told) bad =
+    let Of : Options → Type 0 = λ options. IsCompileFault options (input_texts inputs) told.error in
+    record { error = told.error; fault = subst Of same told.fault; not_memory = told.not_memory; report = told.report }
+refused inputs o unchecked run none same (inr (inl unfit)) bad = let wrong : true ≡ false = sym unfit.asked ∙ none in cc
+refused inputs o unchecked run none same (inr (inr done)) bad = absurd (bad (ap (λ r. r.status) done.report))

@@ -1,5 +1,5 @@
 -- What gettext and ngettext write (manual, "Invoking the gettext program" and "Invoking the ngettext program").
-use Rattle.std.specs.Prelude.{◌≡◌, ℕ, Bool, false, not, ◌&&◌, ◌||◌, List, [], ◌∷◌, ◌++◌, map, Option, None, Some, codes, if◌then◌else◌}
+use Rattle.std.specs.Prelude.{◌≡◌, ℕ, Bool, false, not, ◌&&◌, List, [], ◌∷◌, ◌++◌, map, Option, None, Some, codes, if◌then◌else◌}
 use Rattle.std.specs.List.{join_with_byte, list_any}
 use Rattle.mo_file.specs.declared.byte_order.Order.{Order}
 use Rattle.mo_file.specs.declared.fault.MoError.{MoError}
@@ -7,16 +7,11 @@ use Rattle.mo_file.specs.Catalog.{IsCatalog}
 use Rattle.mo_file.specs.Fault.{IsFirstFault}
 use Rattle.mo_lookup.specs.Chain.{chain_told}
 use Rattle.mo_lookup.specs.Contents.{Contents, AreContents}
-use Rattle.mo_lookup.specs.Query.{Query}
 use Rattle.po_shell.specs.Counts.{count_in}
 use Rattle.po_shell.specs.Escapes.{expansion, has_no_newline}
 use Rattle.po_tools.specs.FaultText.{fault_line, mo_text}
+use Rattle.po_tools.specs.NamedFile.{NamedFile}
 use Rattle.po_tools.specs.Run.{Report}
-
--- a file, by its name and its bytes
-pub record NamedFile : Type 0 where
-  pub name : List ℕ
-  pub bytes : List ℕ
 
 -- The files that are catalogues make the chain, in order; each other one is told by a line, in order.
 pub data Opens (tool : List ℕ) : List NamedFile → List Contents → List ℕ → Type 0 where

@@ -1,6 +1,11 @@
 pub mod FaultText
+pub mod NamedFile
 pub mod Run
+pub mod ProgramFaults
+pub mod Words
+pub mod WordsView
 pub mod Profile
 pub mod Gettext
 pub mod GettextView
+pub mod OpensFile
 pub mod Msgfmt

@@ -8,7 +8,7 @@ use Rattle.po_entry.specs.TextEntry.{TextEntry}
 use Rattle.po_catalog.specs.Joined.{InputEntry, joined, joined_entries}
 use Rattle.po_catalog.specs.Statistics.{stats_line}
 use Rattle.po_catalog.specs.declared.duplicate.JoinError.{JoinError}
-use Rattle.po_compile.specs.Accepted.{AreRead, IsCompileFault}
+use Rattle.po_compile.specs.Accepted.{AreCompiled, AreRead, IsCompileFault}
 use Rattle.po_compile.specs.CompiledList.{is_compiled}
 use Rattle.po_compile.specs.Compiling.{IsCompiled}
 use Rattle.po_compile.specs.declared.options.Compiled.{Compiled}
@@ -17,7 +17,7 @@ use Rattle.po_tools.specs.declared.msgfmt.MsgfmtOptions.{MsgfmtOptions}
 use Rattle.po_tools.specs.declared.profile.CheckFault.{CheckFault}
 use Rattle.po_tools.specs.declared.profile.CheckFault.TheVariants.{NoHeader, NoRule, FormCount, LeadingNewline, TrailingNewline, Undefined, IndexOutside, OutOfMemory}
 use Rattle.po_tools.specs.FaultText.{po_text, duplicate_text, fault_line}
-use Rattle.po_tools.specs.Gettext.{NamedFile}
+use Rattle.po_tools.specs.NamedFile.{NamedFile}
 use Rattle.po_tools.specs.Profile.{IsChecked, Told}
 use Rattle.po_tools.specs.Run.{Report, refusal, DeliversPrefix}
 
@@ -114,6 +114,10 @@ pub record IsDone (inputs : List NamedFile) (o : MsgfmtOptions) (run : Report) :
 -- what a run of msgfmt comes to
 abbrev pub IsMsgfmtRun : List NamedFile → MsgfmtOptions → Report → Type 0
 IsMsgfmtRun inputs o run = IsRefused inputs o run ⊎ IsUnfit inputs o run ⊎ IsDone inputs o run
+
+-- no input is refused: there is none, or they are compiled
+abbrev pub AreTaken : List NamedFile → MsgfmtOptions → Type 0
+AreTaken inputs o = (inputs ≡ []) ⊎ ((compiled : Compiled) × AreCompiled (compile_options o) (input_texts inputs) compiled)
 
 -- the run of the one input that is read, or of its first 2,147,483,648 bytes
 pub record IsMsgfmtRunOf (remaining : Option (List ℕ)) (name : List ℕ) (o : MsgfmtOptions) (run : Report) : Type 0 where

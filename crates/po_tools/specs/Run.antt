@@ -1,6 +1,7 @@
 -- What a run of a tool writes, tells and answers.
-use Rattle.std.specs.Prelude.{ℕ, Bool, List, [], false, Option, ◌⊎◌}
+use Rattle.std.specs.Prelude.{ℕ, Bool, not, ◌&&◌, if◌then◌else◌, List, [], false, Option, Some, None, codes, ◌⊎◌}
 use Rattle.std.specs.Io.KnownBytes.{Appends, Keeps}
+use Rattle.std.specs.Str.{bytes_eq}
 use Rattle.po_shell.specs.Device.{AppendsPrefix}
 use Rattle.po_tools.specs.declared.run.Run.{Run}
 
@@ -22,3 +23,15 @@ refusal messages = record { output = []; create = false; messages = messages; st
 abbrev pub DeliversPrefix : Option (List ℕ) → Option (List ℕ) → Option (List ℕ) → Option (List ℕ) → Report → Type 0
 DeliversPrefix out out' err err' run =
     (AppendsPrefix out out' run.output × Keeps err err') ⊎ (Appends out out' run.output × AppendsPrefix err err' run.messages)
+
+-- `-` stands for standard input and for standard output
+abbrev pub is_standard : List ℕ → Bool
+is_standard word = bytes_eq word (codes "-")
+
+-- the name of an input in fault lines
+abbrev pub shown_name : List ℕ → List ℕ
+shown_name word = if is_standard word then codes "<stdin>" else word
+
+-- the file that is made for the output
+abbrev pub output_file : Report → List ℕ → Option (List ℕ)
+output_file run word = if run.create && not (is_standard word) then Some word else None

@@ -8,7 +8,9 @@ ghost use Rattle.po_shell.specs.Escapes.{expansion, has_no_newline};
 ghost use Rattle.po_tools.specs.FaultText.{fault_line, mo_text};
 ghost use Rattle.po_tools.specs.Run.{report};
 ghost use Rattle.po_tools.specs.Gettext.{IsGettextRun, IsNgettextRun, Opens, answers, ngettext_output, stops_line, word_answer};
-ghost use Rattle.po_tools.specs.GettextView.{asked, asked_plural, named_files, OpensFile};
+ghost use Rattle.po_tools.specs.GettextView.{asked, asked_plural};
+ghost use Rattle.po_tools.specs.NamedFile.{named_files};
+ghost use Rattle.po_tools.specs.OpensFile.{OpensFile};
 
 use crate::fault_text::{push_mo_text, push_place};
 use crate::run::Run;

@@ -5,9 +5,14 @@ mod fault_text;
 mod gettext;
 mod msgfmt;
 mod profile;
+mod program_fault;
+#[cfg(test)]
+mod program_tests;
 mod run;
 #[cfg(test)]
 mod tests;
+mod unread;
+mod words;
 
 pub use gettext::{GettextOptions, NgettextOptions, plan_gettext, plan_ngettext};
 pub use msgfmt::{MsgfmtOptions, plan_msgfmt, profile_check, run_msgfmt};
@@ -15,4 +20,7 @@ pub use po_catalog::JoinError;
 pub use po_compile::laws;
 pub use po_compile::{Compiled, Options, compile, compile_all};
 pub use profile::CheckFault;
-pub use run::{Run, deliver};
+pub use program_fault::{ProgramFault, tell};
+pub use run::{Run, STANDARD, STDIN_NAME, deliver, shown_name};
+pub use unread::plan_msgfmt_before;
+pub use words::{EnvsubstWords, GettextWords, NgettextWords};

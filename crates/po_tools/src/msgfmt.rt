@@ -5,7 +5,7 @@ ghost use Rattle.po_catalog.specs.JoinedView.{input_entries};
 ghost use Rattle.po_compile.specs.Accepted.{AreRead};
 ghost use Rattle.po_compile.specs.CompiledList.{is_compiled};
 ghost use Rattle.po_tools.specs.FaultText.{duplicate_text};
-ghost use Rattle.po_tools.specs.GettextView.{named_files};
+ghost use Rattle.po_tools.specs.NamedFile.{named_files};
 ghost use Rattle.po_tools.specs.Msgfmt.{AreChecked, IsMsgfmtCut, IsMsgfmtDelivered, IsMsgfmtRun, across_text, check_line, check_place, check_text, compiled_inputs, compiled_run, input_name, input_texts, join_line, join_text};
 ghost use Rattle.po_tools.specs.Run.{refusal, report};
 

@@ -8,25 +8,34 @@ ghost use Rattle.po_tools.specs.Profile.{IsChecked, counts_below, count_fault, d
 use plural_rule::{Reason, Rule, Source};
 use po_catalog::JoinedEntry;
 use po_entry::Entry;
+use thiserror::Error;
 
 /// What `--profile-check` finds wrong with the messages that are compiled.
-#[derive(Clone, Copy, Debug, PartialEq, Eq)]
+#[derive(Clone, Copy, Debug, PartialEq, Eq, Error)]
 pub enum CheckFault {
     /// There is no header.
+    #[error("no header")]
     NoHeader,
     /// The message at this line has a plural, and the header has no readable rule, for this reason.
+    #[error("no readable plural rule")]
     NoRule(u32, Reason),
     /// The message at this line has another number of plural forms than the rule.
+    #[error("wrong number of plural forms")]
     FormCount(u32),
     /// At this line the plural or a form begins with a newline where the msgid doesn't, or the other way round.
+    #[error("first newline differs")]
     LeadingNewline(u32),
     /// At this line the plural or a form ends with a newline where the msgid doesn't, or the other way round.
+    #[error("last newline differs")]
     TrailingNewline(u32),
     /// The rule divides by 0 at this count.
+    #[error("plural rule undefined for {0}")]
     Undefined(u64),
     /// The rule's value at this count is no index of a plural form.
+    #[error("plural rule too large for {0}")]
     IndexOutside(u64),
     /// A growth was refused.
+    #[error("out of memory")]
     OutOfMemory,
 }
 

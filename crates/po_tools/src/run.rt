@@ -1,8 +1,22 @@
 ghost use Rattle.std.specs.Prelude.{◌≡◌, ◌+◌, ◌^◌, ◌<◌, Err, OnOk, OnErr};
 ghost use Rattle.std.specs.Io.KnownBytes.{Appends};
-ghost use Rattle.po_tools.specs.Run.{report, DeliversPrefix};
+ghost use Rattle.std.specs.Option.{option_copied};
+ghost use Rattle.po_tools.specs.Run.{report, output_file, shown_name, DeliversPrefix};
 
 use po_shell::{ByteOut, ToolFault, put_all};
+
+/// The word for standard input among the inputs, and for standard output.
+pub const STANDARD: &str = "-";
+
+/// The name of standard input in fault lines.
+pub const STDIN_NAME: &str = "<stdin>";
+
+/// The name of an input in fault lines, by the word for it.
+pub fn shown_name(word: &str) -> &str
+    ensures { result.now ≡ shown_name word.now }
+{
+    if word == STANDARD { STDIN_NAME } else { word }
+}
 
 /// What a run of a tool comes to: the bytes of its output and of its messages on standard error, whether an
 /// output file is to be made, and the exit status.
@@ -16,6 +30,20 @@ pub struct Run {
     pub messages: Vec<u8>,
     /// The exit status: 0, or 1 for any fault.
     pub status: u8,
+}
+
+impl Run {
+    /// The file that is made for the output, by the word for it, where there is something to write
+    /// and the word isn't that for standard output.
+    pub fn output_file<'a>(&self, word: &'a str) -> Option<&'a str>
+        ensures { option_copied result ≡ output_file (report self.now) word.now }
+    {
+        if self.create && word != STANDARD {
+            Some(word)
+        } else {
+            None
+        }
+    }
 }
 
 /// Writes all of a run's output, then all of its messages. A `WriteFault` comes where a call of a writer failed

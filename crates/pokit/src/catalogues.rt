@@ -1,16 +1,14 @@
 // The compiled catalogues of a text domain.
 ghost use Rattle.std.specs.Prelude.{◌≤◌, length, IfOk};
 
-use crate::environment::{self, Variables};
-use crate::fault::Fault;
+use crate::environment::Variables;
 use crate::files::read_file;
-use po_shell::{ToolFault, catalogue_path, locale_candidates};
+use po_shell::{ToolFault, catalogue_paths};
+use po_tools::ProgramFault;
 use std::alloc::Global;
 use std::env::Env;
 use std::fs;
 use std::rt::Files;
-
-const DEFAULT_FOLDER: &[u8] = b"/usr/share/locale";
 
 // As many as a chain of catalogues can count.
 const MOST_CATALOGUES: usize = u32::MAX as usize;
@@ -22,27 +20,34 @@ pub struct CatalogueFile {
     bytes: Vec<u8>,
 }
 
-/// The catalogues of the text domain, in the order of the locales that the environment asks for:
-/// those whose files can be read. The domain is the given one, else that of `TEXTDOMAIN`.
+/// The catalogues of the text domain, given by a word or by an option, in the order in which the
+/// environment asks for them: those whose files can be read.
 pub fn find<'a, R: Files + Env>(
     alloc: Global,
     rt: &R,
-    domain: Option<&str>,
-) -> Result<Vec<CatalogueFile>, Fault<'a>> {
-    match domain {
-        Some(domain) => find_domain(alloc, rt, domain.as_bytes()),
-        None => match environment::variable(alloc, rt, "TEXTDOMAIN")? {
-            Some(domain) => find_domain(alloc, rt, domain.as_slice()),
-            None => Ok(Vec::new(alloc)),
-        },
+    word: Option<&str>,
+    option: Option<&str>,
+) -> Result<Vec<CatalogueFile>, ProgramFault<'a>> {
+    let variables = Variables::read(alloc, rt)?;
+    let mut found = Vec::new(alloc);
+    for path in catalogue_paths(
+        alloc,
+        bytes_of(word),
+        bytes_of(option),
+        &variables.environment(),
+    )? {
+        if let Some(catalogue) = read(alloc, rt, path)? {
+            found.push(catalogue)?;
+        }
     }
+    Ok(found)
 }
 
 /// The catalogues, lent, with their paths for names.
 pub fn lent<'a>(
     alloc: Global,
     catalogues: &[CatalogueFile],
-) -> Result<Vec<(&str, &[u8])>, Fault<'a>>
+) -> Result<Vec<(&str, &[u8])>, ProgramFault<'a>>
     ensures { IfOk result (λ all. length all.items ≤ MOST_CATALOGUES) }
 {
     let mut all = Vec::with_capacity(alloc, catalogues.len())?;
@@ -53,28 +58,11 @@ pub fn lent<'a>(
     Ok(all)
 }
 
-fn find_domain<'a, R: Files + Env>(
-    alloc: Global,
-    rt: &R,
-    domain: &[u8],
-) -> Result<Vec<CatalogueFile>, Fault<'a>> {
-    let mut found = Vec::new(alloc);
-    if domain.is_empty() || domain.contains(&b'/') {
-        return Ok(found);
+fn bytes_of(text: Option<&str>) -> Option<&[u8]> {
+    match text {
+        Some(text) => Some(text.as_bytes()),
+        None => None,
     }
-    let variables = Variables::read(alloc, rt)?;
-    let environment = variables.environment(domain);
-    let folder = match environment.textdomaindir {
-        Some(folder) if !folder.is_empty() => folder,
-        _ => DEFAULT_FOLDER,
-    };
-    for locale in locale_candidates(alloc, &environment)? {
-        let path = catalogue_path(alloc, folder, locale.as_slice(), domain)?;
-        if let Some(catalogue) = read(alloc, rt, path)? {
-            found.push(catalogue)?;
-        }
-    }
-    Ok(found)
 }
 
 // A path that isn't UTF-8 is that of no file.
@@ -82,7 +70,7 @@ fn read<'a>(
     alloc: Global,
     rt: &impl Files,
     path: Vec<u8>,
-) -> Result<Option<CatalogueFile>, Fault<'a>> {
+) -> Result<Option<CatalogueFile>, ProgramFault<'a>> {
     let Ok(path) = String::from_utf8(path) else {
         return Ok(None);
     };
@@ -91,7 +79,7 @@ fn read<'a>(
     };
     match read_file(alloc, file) {
         Ok(bytes) => Ok(Some(CatalogueFile { path, bytes })),
-        Err(ToolFault::OutOfMemory) => Err(Fault::OutOfMemory),
+        Err(ToolFault::OutOfMemory) => Err(ProgramFault::OutOfMemory),
         Err(_) => Ok(None),
     }
 }

@@ -1,6 +1,4 @@
 // The environment's variables. Their values are bytes, and needn't be text.
-ghost use Rattle.std.specs.Prelude.{◌≡◌, ◌≢◌, ◌++◌, ◌∷◌, All, IfSome, IsNone};
-
 use po_shell::Environment;
 use std::alloc::{AllocError, Global};
 use std::env::{Env, FillError};
@@ -14,15 +12,14 @@ enum Query<'a> {
 
 const FIRST_CAPACITY: usize = 256;
 
-const EQUALS: u8 = b'=';
-
-/// The variables that choose the locale and the folder of a catalogue.
+/// The variables that choose a catalogue.
 #[derive(Drop)]
 pub struct Variables {
     lc_all: Option<Vec<u8>>,
     lc_messages: Option<Vec<u8>>,
     lang: Option<Vec<u8>>,
     language: Option<Vec<u8>>,
+    textdomain: Option<Vec<u8>>,
     textdomaindir: Option<Vec<u8>>,
 }
 
@@ -34,25 +31,26 @@ impl Variables {
             lc_messages: variable(alloc, env, "LC_MESSAGES")?,
             lang: variable(alloc, env, "LANG")?,
             language: variable(alloc, env, "LANGUAGE")?,
+            textdomain: variable(alloc, env, "TEXTDOMAIN")?,
             textdomaindir: variable(alloc, env, "TEXTDOMAINDIR")?,
         })
     }
 
-    /// The same, lent, with the text domain that was chosen.
-    pub fn environment<'a>(&'a self, domain: &'a [u8]) -> Environment<'a> {
+    /// The same, lent.
+    pub fn environment(&self) -> Environment<'_> {
         Environment {
             lc_all: bytes(&self.lc_all),
             lc_messages: bytes(&self.lc_messages),
             lang: bytes(&self.lang),
             language: bytes(&self.language),
-            textdomain: Some(domain),
+            textdomain: bytes(&self.textdomain),
             textdomaindir: bytes(&self.textdomaindir),
         }
     }
 }
 
-/// The value of the variable of this name, where it is set.
-pub fn variable(alloc: Global, env: &impl Env, name: &str) -> Result<Option<Vec<u8>>, AllocError> {
+// The value of the variable of this name, where it is set.
+fn variable(alloc: Global, env: &impl Env, name: &str) -> Result<Option<Vec<u8>>, AllocError> {
     ask(alloc, env, Query::Variable(name))
 }
 
@@ -66,16 +64,6 @@ pub fn entries(alloc: Global, env: &impl Env) -> Result<Vec<Vec<u8>>, AllocError
         }
     }
     Ok(entries)
-}
-
-/// The name and the value of an entry. One without `=` has none.
-pub fn name_and_value(entry: &[u8]) -> Option<(&[u8], &[u8])>
-    ensures parts { IfSome result (λ v. entry.now ≡ v.0.now ++ EQUALS ∷ v.1.now) }
-    ensures first { IfSome result (λ v. All (λ b. b ≢ EQUALS) v.0.now) }
-    ensures none { IsNone result → All (λ b. b ≢ EQUALS) entry.now }
-{
-    let at = entry.iter().position(|&byte| byte == EQUALS)?;
-    Some((&entry[..at], &entry[at + 1..]))
 }
 
 fn bytes(value: &Option<Vec<u8>>) -> Option<&[u8]> {

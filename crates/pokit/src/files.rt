@@ -1,14 +1,10 @@
 // Inputs by their names, and outputs.
-use crate::fault::{Fault, STDIN_NAME};
 use po_shell::{Counted, INPUT_LIMIT, ToolFault, read_input};
-use po_tools::{Run, deliver};
+use po_tools::{ProgramFault, Run, STANDARD, deliver, shown_name};
 use std::alloc::Global;
 use std::fs::{self, OpenFile};
 use std::io::{self, ErrorKind, Input, Print, Read, Write};
 use std::rt::Files;
-
-/// The word for standard input among the inputs, and for standard output.
-pub const STANDARD: &str = "-";
 
 /// The inputs with their names, in the order of the words, up to the first that can't be read.
 #[derive(Drop)]
@@ -16,7 +12,7 @@ pub struct Inputs<'a> {
     /// The name of each input in fault lines, and its bytes.
     pub texts: Vec<(&'a str, Vec<u8>)>,
     /// Why the next input can't be read, where one can't.
-    pub fault: Option<Fault<'a>>,
+    pub fault: Option<ProgramFault<'a>>,
 }
 
 impl<'a> Inputs<'a> {
@@ -25,7 +21,7 @@ impl<'a> Inputs<'a> {
         alloc: Global,
         rt: &R,
         files: &[&'a str],
-    ) -> Result<Inputs<'a>, Fault<'a>> {
+    ) -> Result<Inputs<'a>, ProgramFault<'a>> {
         let mut texts = Vec::new(alloc);
         let mut is_stdin_read = false;
         for &file in files {
@@ -38,7 +34,7 @@ impl<'a> Inputs<'a> {
                 read_stdin(alloc, rt)
             };
             match text {
-                Ok(text) => texts.push((name_of(file), text))?,
+                Ok(text) => texts.push((shown_name(file), text))?,
                 Err(fault) => return Ok(Inputs {
                     texts,
                     fault: Some(fault),
@@ -49,7 +45,7 @@ impl<'a> Inputs<'a> {
     }
 
     /// The inputs that were read, lent.
-    pub fn lent(&self, alloc: Global) -> Result<Vec<(&str, &[u8])>, Fault<'a>> {
+    pub fn lent(&self, alloc: Global) -> Result<Vec<(&str, &[u8])>, ProgramFault<'a>> {
         let mut texts = Vec::with_capacity(alloc, self.texts.len())?;
         for (name, text) in &self.texts {
             texts.push((*name, text.as_slice()))?;
@@ -58,17 +54,17 @@ impl<'a> Inputs<'a> {
     }
 }
 
-fn name_of(file: &str) -> &str {
-    if file == STANDARD { STDIN_NAME } else { file }
-}
-
-fn read_stdin<'a>(alloc: Global, rt: &impl Input) -> Result<Vec<u8>, Fault<'a>> {
+fn read_stdin<'a>(alloc: Global, rt: &impl Input) -> Result<Vec<u8>, ProgramFault<'a>> {
     Ok(read_input(alloc, &mut Counted::new(rt.reader()))?)
 }
 
-fn read_named<'a>(alloc: Global, rt: &impl Files, file: &'a str) -> Result<Vec<u8>, Fault<'a>> {
-    let opened = fs::open(rt, file).map_err(|_| Fault::CannotOpen(file))?;
-    read_file(alloc, opened).map_err(|fault| Fault::of_input(fault, file))
+fn read_named<'a>(
+    alloc: Global,
+    rt: &impl Files,
+    file: &'a str,
+) -> Result<Vec<u8>, ProgramFault<'a>> {
+    let opened = fs::open(rt, file).map_err(|_| ProgramFault::CannotOpen(file))?;
+    read_file(alloc, opened).map_err(|fault| ProgramFault::of_input(fault, file))
 }
 
 /// The bytes of an open file, or its first `INPUT_LIMIT`, in a buffer of its size.
@@ -84,21 +80,21 @@ pub fn read_file<F: Read + OpenFile + Drop>(alloc: Global, file: F) -> Result<Ve
     }
 }
 
-/// Writes what a run gave: its output to the file of this name, which is made only where the run
-/// says so, or to standard output, and then its messages to standard error. The answer is the
-/// run's status.
+/// Writes what a run gave: its output to the file that is made for it, or to standard output where
+/// none is, and then its messages to standard error. The answer is the run's status.
 pub fn write_run<'a, R: Files + Print, E: Write + Drop>(
     rt: &R,
     errors: E,
     run: &Run,
     file: &'a str,
-) -> Result<u8, Fault<'a>> {
+) -> Result<u8, ProgramFault<'a>> {
     let mut errors = Counted::new(errors);
-    if run.create && file != STANDARD {
-        let created = fs::create(rt, file).map_err(|_| Fault::CannotCreate(file))?;
-        deliver(run, &mut Counted::new(created), &mut errors)?;
-    } else {
-        deliver(run, &mut Counted::new(io::writer(rt)), &mut errors)?;
+    match run.output_file(file) {
+        Some(file) => {
+            let created = fs::create(rt, file).map_err(|_| ProgramFault::CannotCreate(file))?;
+            deliver(run, &mut Counted::new(created), &mut errors)?;
+        }
+        None => deliver(run, &mut Counted::new(io::writer(rt)), &mut errors)?,
     }
     Ok(run.status)
 }

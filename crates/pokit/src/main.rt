@@ -4,20 +4,21 @@
 mod catalogues;
 mod commands;
 mod environment;
-mod fault;
 mod files;
 mod tools;
 
 use clap::ArgMatches;
 use clap::error::ErrorKind;
-use fault::Fault;
+use po_shell::Counted;
+use po_tools::ProgramFault;
+use std::env;
+use std::io::{self, Write};
 use std::process::ExitCode;
-use std::{env, io};
 
 fn main(rt: HostRuntime) -> ExitCode {
     match arguments(&rt) {
         Ok(words) => run(&rt, words.as_slice()),
-        Err(error) => tell(&rt, None, Fault::of_arguments(&error)),
+        Err(error) => tell(rt.stderr(), None, fault_of_words(&error)),
     }
 }
 
@@ -26,15 +27,27 @@ fn arguments(rt: &HostRuntime) -> io::Result<Vec<String>> {
     Ok(env::args(rt)?.collect(rt.alloc())?)
 }
 
+// What is told where the words can't be had.
+fn fault_of_words(error: &io::Error) -> ProgramFault<'static> {
+    match error.kind() {
+        io::ErrorKind::OutOfMemory => ProgramFault::OutOfMemory,
+        _ => ProgramFault::NotText,
+    }
+}
+
 fn run(rt: &HostRuntime, words: &[String]) -> ExitCode {
     let first = words.get(1).map(|word| word.as_str());
     let parsed = match commands::program(rt.alloc(), first) {
         Ok(command) => command.try_get_matches_from(words),
-        Err(_) => return tell(rt, first, Fault::OutOfMemory),
+        Err(_) => return tell(rt.stderr(), first, ProgramFault::OutOfMemory),
     };
     match parsed {
         Ok(matches) => run_tool(rt, &matches),
-        Err(error) if error.kind() == ErrorKind::OutOfMemory => tell(rt, first, Fault::OutOfMemory),
+        Err(error) if error.kind() == ErrorKind::OutOfMemory => tell(
+            rt.stderr(),
+            first,
+            ProgramFault::OutOfMemory,
+        ),
         Err(error) => {
             let is_shown = error.print(rt).is_ok();
             exit_code(is_shown && !error.use_stderr())
@@ -55,16 +68,13 @@ fn run_tool(rt: &HostRuntime, matches: &ArgMatches<'_>) -> ExitCode {
     };
     match outcome {
         Ok(status) => exit_code(status == 0),
-        Err(fault) => tell(rt, Some(tool), fault),
+        Err(fault) => tell(rt.stderr(), Some(tool), fault),
     }
 }
 
-// Prints the fault's line on standard error. Where that fails too, the status alone tells it.
-fn tell(rt: &impl Eprint, tool: Option<&str>, fault: Fault<'_>) -> ExitCode {
-    let _ = match tool {
-        Some(tool) => eprintln!(rt; "pokit {tool}: {fault}"),
-        None => eprintln!(rt; "pokit: {fault}"),
-    };
+// Tells a fault. Where that fails too, the status alone tells it.
+fn tell(errors: impl Write + Drop, tool: Option<&str>, fault: ProgramFault<'_>) -> ExitCode {
+    let _ = po_tools::tell(&mut Counted::new(errors), tool, fault);
     ExitCode::FAILURE
 }
 

@@ -1,8 +1,8 @@
 // Puts the values of variables into a text.
-use crate::environment::{entries, name_and_value};
-use crate::fault::Fault;
+use crate::environment::entries;
 use clap::ArgMatches;
-use po_shell::{Counted, ToolFault, names, put_all, run_envsubst};
+use po_shell::{Counted, ToolFault, name_and_value, name_lines, names, put_all, run_envsubst};
+use po_tools::{EnvsubstWords, ProgramFault};
 use std::alloc::Global;
 use std::env::Env;
 use std::io::{self, BufWriter, Input, Print, Write};
@@ -14,27 +14,24 @@ pub fn run<'a, R: Env + Input + Print>(
     alloc: Global,
     rt: &R,
     matches: &ArgMatches<'a>,
-) -> Result<u8, Fault<'a>> {
+) -> Result<u8, ProgramFault<'a>> {
     let words = matches.get_strs("SHELL-FORMAT").unwrap_or(&[]);
-    match (matches.get_flag("variables"), words) {
-        (true, [format]) => print_names(alloc, rt, format)?,
-        (false, []) => substitute(alloc, rt, None)?,
-        (false, [format]) => {
+    let words = EnvsubstWords::of(matches.get_flag("variables"), words).ok_or(
+        ProgramFault::WrongArguments,
+    )?;
+    match words {
+        EnvsubstWords::Names(format) => print_names(alloc, rt, format)?,
+        EnvsubstWords::Replaced(None) => substitute(alloc, rt, None)?,
+        EnvsubstWords::Replaced(Some(format)) => {
             let only = names(alloc, format.as_bytes())?;
             substitute(alloc, rt, Some(only.as_slice()))?;
         }
-        _ => return Err(Fault::WrongArguments),
     }
     Ok(0)
 }
 
-// The names of the references in the format, one a line.
 fn print_names(alloc: Global, rt: &impl Print, format: &str) -> Result<(), ToolFault> {
-    let mut lines = Vec::new(alloc);
-    for name in names(alloc, format.as_bytes())? {
-        lines.extend_from_slice(name)?;
-        lines.push(b'\n')?;
-    }
+    let lines = name_lines(alloc, format.as_bytes())?;
     put_all(&mut Counted::new(io::writer(rt)), lines.as_slice())
 }
 

@@ -1,9 +1,8 @@
 // Looks messages up.
 use crate::catalogues;
-use crate::fault::Fault;
-use crate::files::{STANDARD, write_run};
+use crate::files::write_run;
 use clap::ArgMatches;
-use po_tools::{GettextOptions, plan_gettext};
+use po_tools::{GettextOptions, GettextWords, ProgramFault, STANDARD, plan_gettext};
 use std::alloc::Global;
 use std::env::Env;
 use std::io::{Print, Write};
@@ -15,18 +14,13 @@ pub fn run<'a, R: Files + Env + Print, E: Write + Drop>(
     rt: &R,
     errors: E,
     matches: &ArgMatches<'a>,
-) -> Result<u8, Fault<'a>> {
+) -> Result<u8, ProgramFault<'a>> {
     let shell = matches.get_flag("shell");
     let words = matches.get_strs("MSGID").unwrap_or(&[]);
-    let (domain, messages) = match words {
-        _ if shell => (None, words),
-        [_] => (None, words),
-        [domain, _] => (Some(*domain), &words[1..]),
-        _ => return Err(Fault::WrongArguments),
-    };
-    let found = catalogues::find(alloc, rt, domain.or(matches.get_str("domain")))?;
+    let words = GettextWords::of(shell, words).ok_or(ProgramFault::WrongArguments)?;
+    let found = catalogues::find(alloc, rt, words.domain, matches.get_str("domain"))?;
     let options = GettextOptions {
-        messages,
+        messages: words.messages,
         context: matches.get_str("context"),
         expand: matches.get_flag("expand"),
         no_newline: matches.get_flag("no-newline"),

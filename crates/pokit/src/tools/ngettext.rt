@@ -1,9 +1,8 @@
 // Looks up a message with a count.
 use crate::catalogues;
-use crate::fault::Fault;
-use crate::files::{STANDARD, write_run};
+use crate::files::write_run;
 use clap::ArgMatches;
-use po_tools::{NgettextOptions, plan_ngettext};
+use po_tools::{NgettextOptions, NgettextWords, ProgramFault, STANDARD, plan_ngettext};
 use std::alloc::Global;
 use std::env::Env;
 use std::io::{Print, Write};
@@ -15,20 +14,16 @@ pub fn run<'a, R: Files + Env + Print, E: Write + Drop>(
     rt: &R,
     errors: E,
     matches: &ArgMatches<'a>,
-) -> Result<u8, Fault<'a>> {
+) -> Result<u8, ProgramFault<'a>> {
     let words = matches.get_strs("MSGID").unwrap_or(&[]);
-    let (domain, id, plural, count) = match words {
-        [id, plural, count] => (None, *id, *plural, *count),
-        [domain, id, plural, count] => (Some(*domain), *id, *plural, *count),
-        _ => return Err(Fault::WrongArguments),
-    };
-    let found = catalogues::find(alloc, rt, domain.or(matches.get_str("domain")))?;
+    let words = NgettextWords::of(words).ok_or(ProgramFault::WrongArguments)?;
+    let found = catalogues::find(alloc, rt, words.domain, matches.get_str("domain"))?;
     let options = NgettextOptions {
         context: matches.get_str("context"),
         expand: matches.get_flag("expand"),
-        id,
-        plural,
-        count,
+        id: words.id,
+        plural: words.plural,
+        count: words.count,
     };
     let lent = catalogues::lent(alloc, found.as_slice())?;
     let run = plan_ngettext(alloc, lent.as_slice(), &options)?;

@@ -1,4 +1,4 @@
-use Rattle.std.proofs.Common.{[], ◌∷◌, refl, sym, append-nil}
+use Rattle.std.proofs.Common.{[], ◌∷◌, sym, append-nil}
 use Rattle.po_tools.specs.Gettext.{opened, refused}
 use Rattle.po_tools.proofs.gettext.open_file.Goals as goal
 

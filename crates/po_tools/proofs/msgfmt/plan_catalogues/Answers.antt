@@ -1,4 +1,4 @@
-use Rattle.po_tools.specs.GettextView.{named_files}
+use Rattle.po_tools.specs.NamedFile.{named_files}
 use Rattle.po_tools.specs.Msgfmt.{compile_options, input_texts}
 use Rattle.po_tools.proofs.MsgfmtLemmas.{layout-refuses, run-refused, run-done, run-unfit}
 use Rattle.po_tools.proofs.msgfmt.plan_catalogues.Goals as goal

@@ -1,5 +1,5 @@
 use Rattle.std.proofs.Common.{arith, inl}
-use Rattle.po_tools.specs.GettextView.{named_files}
+use Rattle.po_tools.specs.NamedFile.{named_files}
 use Rattle.po_tools.proofs.MsgfmtLemmas.{read-count, run-refused}
 use Rattle.po_tools.proofs.msgfmt.plan_msgfmt.Goals as goal
 

@@ -1,6 +1,6 @@
 use Rattle.std.proofs.Common.{◌≡◌, take}
 use Rattle.po_entry.specs.TextEntry.{slice_texts}
-use Rattle.po_tools.specs.GettextView.{named_files}
+use Rattle.po_tools.specs.NamedFile.{named_files}
 use Rattle.po_tools.specs.Msgfmt.{input_texts}
 use Rattle.po_tools.proofs.msgfmt.texts_of.Given as goal
 

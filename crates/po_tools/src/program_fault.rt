@@ -1,0 +1,134 @@
+// Faults of the program itself, and the lines that tell them.
+ghost use Rattle.std.specs.Prelude.{◌≡◌, ◌+◌, ◌^◌, ◌<◌, ◌++◌, OnOk, OnErr, Err};
+ghost use Rattle.std.specs.Io.KnownBytes.{Appends};
+ghost use Rattle.std.specs.Option.{option_copied};
+ghost use Rattle.po_tools.specs.ProgramFaults.{input_fault, program_line, program_text, tool_mark};
+
+use crate::run::STDIN_NAME;
+use po_shell::{ByteOut, ToolFault, put_all};
+use std::alloc::{AllocError, AllocFailed};
+use thiserror::Error;
+
+/// Why a tool gave no answer of its own.
+#[derive(Clone, Copy, Debug, Error)]
+pub enum ProgramFault<'a> {
+    /// The words aren't UTF-8, so that no tool is known.
+    #[error("arguments are not UTF-8")]
+    NotText,
+    /// The words behind the options fit none of the tool's forms.
+    #[error("wrong number of arguments")]
+    WrongArguments,
+    /// The input file of this name can't be opened.
+    #[error("cannot open")]
+    CannotOpen(&'a str),
+    /// The output file of this name can't be made.
+    #[error("cannot create")]
+    CannotCreate(&'a str),
+    /// The input of this name was opened, and reading it failed.
+    #[error("read fault")]
+    ReadFault(&'a str),
+    /// The output, or standard error, took no more.
+    #[error("write fault")]
+    WriteFault,
+    /// Memory couldn't grow.
+    #[error("out of memory")]
+    OutOfMemory,
+}
+
+impl<'a> ProgramFault<'a> {
+    /// A fault met while the input of this name was read, or while a tool worked on it.
+    pub fn of_input(fault: ToolFault, name: &'a str) -> ProgramFault<'a>
+        ensures { result ≡ input_fault fault name.entry }
+    {
+        match fault {
+            ToolFault::ReadFault => ProgramFault::ReadFault(name),
+            ToolFault::WriteFault => ProgramFault::WriteFault,
+            ToolFault::OutOfMemory => ProgramFault::OutOfMemory,
+        }
+    }
+}
+
+// A tool that reads by itself reads standard input.
+impl From<ToolFault> for ProgramFault<'_> {
+    fn from(fault: ToolFault) -> Self {
+        ProgramFault::of_input(fault, STDIN_NAME)
+    }
+}
+
+impl From<AllocError> for ProgramFault<'_> {
+    fn from(_error: AllocError) -> Self {
+        ProgramFault::OutOfMemory
+    }
+}
+
+impl<T: Drop> From<AllocFailed<T>> for ProgramFault<'_> {
+    fn from(_failed: AllocFailed<T>) -> Self {
+        ProgramFault::OutOfMemory
+    }
+}
+
+/// Writes the line of a fault, behind `pokit TOOL: ` or behind `pokit: ` where no tool is known.
+/// It takes no memory. A `WriteFault` comes where a call of the writer failed or took no byte.
+pub fn tell<E: ByteOut>(
+    err: &mut E,
+    tool: Option<&str>,
+    fault: ProgramFault<'_>,
+) -> Result<(), ToolFault>
+    requires { E.failures err.old < 2 ^ 63 }
+    ensures line { OnOk result (Appends (E.contents err.old) (E.contents err.new) (program_line (option_copied tool.entry) fault.entry)) }
+    ensures fault { OnErr result (result ≡ Err ToolFault.WriteFault) }
+    ensures no_failure { OnOk result (E.failures err.new ≡ E.failures err.old) }
+    ensures cause { OnErr result (E.failures err.new ≡ E.failures err.old + 1) }
+{
+    put_tool(err, tool)?;
+    put_text(err, fault)?;
+    put_all(err, b"\n")
+}
+
+/// Writes which tool tells a fault.
+fn put_tool<E: ByteOut>(err: &mut E, tool: Option<&str>) -> Result<(), ToolFault>
+    requires { E.failures err.old < 2 ^ 63 }
+    ensures mark { OnOk result (Appends (E.contents err.old) (E.contents err.new) (tool_mark (option_copied tool.entry))) }
+    ensures fault { OnErr result (result ≡ Err ToolFault.WriteFault) }
+    ensures no_failure { OnOk result (E.failures err.new ≡ E.failures err.old) }
+    ensures cause { OnErr result (E.failures err.new ≡ E.failures err.old + 1) }
+{
+    match tool {
+        None => put_all(err, b"pokit: "),
+        Some(tool) => {
+            put_all(err, b"pokit ")?;
+            put_both(err, tool, ": ")
+        }
+    }
+}
+
+/// Writes what is wrong.
+fn put_text<E: ByteOut>(err: &mut E, fault: ProgramFault<'_>) -> Result<(), ToolFault>
+    requires { E.failures err.old < 2 ^ 63 }
+    ensures text { OnOk result (Appends (E.contents err.old) (E.contents err.new) (program_text fault.entry)) }
+    ensures fault { OnErr result (result ≡ Err ToolFault.WriteFault) }
+    ensures no_failure { OnOk result (E.failures err.new ≡ E.failures err.old) }
+    ensures cause { OnErr result (E.failures err.new ≡ E.failures err.old + 1) }
+{
+    match fault {
+        ProgramFault::NotText => put_all(err, b"arguments are not UTF-8"),
+        ProgramFault::WrongArguments => put_all(err, b"wrong number of arguments"),
+        ProgramFault::CannotOpen(file) => put_both(err, file, ": cannot open"),
+        ProgramFault::CannotCreate(file) => put_both(err, file, ": cannot create"),
+        ProgramFault::ReadFault(file) => put_both(err, file, ": read fault"),
+        ProgramFault::WriteFault => put_all(err, b"write fault"),
+        ProgramFault::OutOfMemory => put_all(err, b"out of memory"),
+    }
+}
+
+/// Writes one text and then another.
+fn put_both<E: ByteOut>(err: &mut E, first: &str, second: &str) -> Result<(), ToolFault>
+    requires { E.failures err.old < 2 ^ 63 }
+    ensures texts { OnOk result (Appends (E.contents err.old) (E.contents err.new) (first.now ++ second.now)) }
+    ensures fault { OnErr result (result ≡ Err ToolFault.WriteFault) }
+    ensures no_failure { OnOk result (E.failures err.new ≡ E.failures err.old) }
+    ensures cause { OnErr result (E.failures err.new ≡ E.failures err.old + 1) }
+{
+    put_all(err, first.as_bytes())?;
+    put_all(err, second.as_bytes())
+}
