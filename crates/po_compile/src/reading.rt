@@ -23,7 +23,8 @@ pub fn read_all(alloc: Global, texts: &[&[u8]]) -> Result<Vec<Catalogue>, JoinEr
         }
     }
     // The joined list of one catalogue is that catalogue, in which there is no duplicate.
-    if catalogues.len() > 1 {
+    let are_several = catalogues.len() > 1;
+    if are_several {
         joined_duplicates(alloc, &catalogues)?;
     }
     Ok(catalogues)

@@ -8,7 +8,7 @@ use Rattle.po_catalog.specs.Joined.{joined, joined_entries}
 use Rattle.po_catalog.specs.Duplicate.{HasNoDuplicate, IsDuplicateFault}
 use Rattle.po_compile.specs.Accepted.{ReadsDistinct, IsReadingFault}
 use Rattle.po_compile.proofs.ReadingLemmas.{read_more, refused_input, read_few, read_to_end, joined_refused, distinct_of_one}
-use Rattle.po_compile.proofs.reading.read_all.Goals.{then-len-gt1+in_ok-joined_duplicates, else-len-gt1}
+use Rattle.po_compile.proofs.reading.read_all.Goals.{then-are_several+in_ok-joined_duplicates, else-are_several}
 use Rattle.po_compile.proofs.reading.read_all.Goals as goal
 
 pub loop-input-preserved : goal.loop-input-preserved
@@ -49,10 +49,10 @@ returns c =
     let texts = c.args.texts.now in
     let catalogues = c.loop-input.catalogues.items in
     let all = read_to_end texts c.loop-input.input catalogues c.loop-input-test.false c.loop-input.invariant in
-    elim c.if-len-gt1.branch [
-      | then-len-gt1+in_ok-joined_duplicates w ↦ record {
+    elim c.if-are_several.branch [
+      | then-are_several+in_ok-joined_duplicates w ↦ record {
         each = all;
         distinct = subst (λ cs. HasNoDuplicate (joined_entries cs)) w.deref.ensures.value w.in_ok-joined_duplicates.ensures.exact;
       }
-      | else-len-gt1 w ↦ record { each = all; distinct = distinct_of_one (slice_texts texts) catalogues (omega (arith, w.if-len-gt1.false, c.len.ensures)) all }
+      | else-are_several w ↦ record { each = all; distinct = distinct_of_one (slice_texts texts) catalogues (omega (arith, w.if-are_several.false, c.len-are_several.ensures)) all }
     ]
