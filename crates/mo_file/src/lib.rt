@@ -17,8 +17,6 @@ mod key;
 mod laws;
 mod pairs;
 mod strings;
-#[cfg(test)]
-mod tests;
 mod view;
 mod writing;
 

@@ -5,4 +5,3 @@ pub mod FormLemmas
 pub mod QueryLemmas
 pub mod TranslationLemmas
 pub mod ChainLemmas
-pub mod LetterLemmas

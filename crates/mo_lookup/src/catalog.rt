@@ -48,6 +48,7 @@ impl<'a> Model for Catalog<'a> {
 
 /// The text of a file's header entry, which stands under the empty key and so first; empty where there is none.
 /// For a file with messages this is one comparison.
+#[inline(never)]
 fn header_text<'a>(view: &MoView<'a>, meter: &mut Meter) -> &'a [u8]
     requires { meter.old < 2 ^ 63 + length view.now }
     ensures text { result.now ≡ header_text view.now }
@@ -69,6 +70,7 @@ impl<'a> Catalog<'a> {
     /// in the order of `MoError` exactly where they are no valid file. The meter rises by at most the number of
     /// messages; where a key is out of order, by at most the place of the message that is told; else where the
     /// bytes are refused, not at all. Before the call its count is below 2^63.
+    #[inline(always)]
     pub fn open(bytes: &'a [u8], meter: &mut Meter) -> Result<Catalog<'a>, MoError>
         requires { meter.old < 2 ^ 63 }
         ensures exact { MatchResult result (λ catalog. (order : Order) × IsCatalog order bytes.now catalog.messages)

@@ -14,8 +14,6 @@ mod forms;
 mod laws;
 mod query;
 mod search;
-#[cfg(test)]
-mod tests;
 mod view_keys;
 
 pub use answer::Answer;

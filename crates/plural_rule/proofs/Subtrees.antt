@@ -7,7 +7,7 @@ use Rattle.plural_rule.specs.declared.operator.Operator.{Operator}
 use Rattle.plural_rule.specs.declared.node.Node.{Node}
 use Rattle.plural_rule.specs.declared.node.Node.TheVariants.{Count as CountNode, Number as NumberNode, Not as NotNode, Binary as BinaryNode, Conditional as ConditionalNode}
 use Rattle.plural_rule.specs.Expression.{Tree, Count, Number, Not, Binary, Conditional, nodes}
-use Rattle.plural_rule.specs.PostOrder.{layout}
+use Rattle.plural_rule.specs.PostOrder.{layout, numeral, numeral-parts}
 use Rattle.plural_rule.specs.Evaluation.{subtree, IsNodeOf}
 use Rattle.plural_rule.proofs.ParserSteps.{length-layout}
 
@@ -44,7 +44,7 @@ record Places (t : Tree) (base i : ℕ) (part : Tree) : Type 0 where
 -- the node is that of the part, with its operands in the same table
 abbrev Stands : Tree → ℕ → Tree → Node → Type 0
 Stands t base part CountNode = part ≡ Count
-Stands t base part (NumberNode v) = part ≡ Number v
+Stands t base part (NumberNode a b c d) = part ≡ Number (numeral a b c d)
 Stands t base part (NotNode i) = (a : Tree) × Places t base i a × (part ≡ Not a)
 Stands t base part (BinaryNode op i j) = (a : Tree) × (b : Tree) × Places t base i a × Places t base j b × (part ≡ Binary op a b)
 Stands t base part (ConditionalNode i j k) =
@@ -66,7 +66,7 @@ lift a t base inner offset i part e inside p =
 
 lift-node : (a t : Tree) (base inner offset : ℕ) (part : Tree) (node : Node) → inner ≡ base + offset → Inside a offset t → Stands a inner part node → Stands t base part node
 lift-node a t base inner offset part CountNode e inside s = s
-lift-node a t base inner offset part (NumberNode v) e inside s = s
+lift-node a t base inner offset part (NumberNode w x y z) e inside s = s
 lift-node a t base inner offset part (NotNode i) e inside s =
     (s.0, lift a t base inner offset i s.0 e inside s.1, s.2)
 lift-node a t base inner offset part (BinaryNode op i j) e inside s =
@@ -147,7 +147,7 @@ last-node t base i d node front l e s =
 node-at : (t : Tree) (base i : ℕ) (d : Node) → i < nodes t → StandsAt t base (layout base t) i d
 node-at Count base zero d h = refl
 node-at Count base (suc i) d h = absurd (omega arith)
-node-at (Number v) base zero d h = refl
+node-at (Number v) base zero d h = ap Number (sym (numeral-parts v))
 node-at (Number v) base (suc i) d h = absurd (omega arith)
 node-at (Not a) base i d h =
     let lengths = length-layout a base in
@@ -259,7 +259,7 @@ node-at (Conditional a b c) base i d h =
 -- a node that stands in the whole table names indices of it
 of-node : (whole part : Tree) (node : Node) → Stands whole 0 part node → IsNodeOf whole part node
 of-node whole part CountNode s = s
-of-node whole part (NumberNode v) s = s
+of-node whole part (NumberNode a b c d) s = s
 of-node whole part (NotNode i) s =
     let p = s.1 in
     let at : i ≡ p.at = p.is ∙ omega arith in

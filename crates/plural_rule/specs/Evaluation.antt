@@ -6,6 +6,7 @@ use Rattle.plural_rule.specs.declared.evaluator.Frame.{Frame}
 use Rattle.plural_rule.specs.declared.evaluator.Frame.TheVariants.{Not as NotFrame, First, Second, Condition}
 use Rattle.plural_rule.specs.declared.evaluator.Step.{Step}
 use Rattle.plural_rule.specs.declared.evaluator.Step.TheVariants.{Visit, Stop}
+use Rattle.plural_rule.specs.PostOrder.{numeral}
 use Rattle.plural_rule.specs.Expression.{Tree, Count, Number, Not, Binary, Conditional, nodes, negated, binary_value, combined, chosen, value, visited, visited_right}
 
 -- the part of a tree whose node stands at an index of the tree's table
@@ -24,7 +25,7 @@ subtree (Conditional a b c) i =
 -- the node is that of a part of the whole tree, and names the indices of its operands
 abbrev pub IsNodeOf : Tree → Tree → Node → Type 0
 IsNodeOf whole part CountNode = part ≡ Count
-IsNodeOf whole part (NumberNode v) = part ≡ Number v
+IsNodeOf whole part (NumberNode a b c d) = part ≡ Number (numeral a b c d)
 IsNodeOf whole part (NotNode i) = (i < nodes whole) × (part ≡ Not (subtree whole i))
 IsNodeOf whole part (BinaryNode op i j) =
     (i < nodes whole) × (j < nodes whole) × (part ≡ Binary op (subtree whole i) (subtree whole j))

@@ -1,15 +1,25 @@
 -- Internal: the table of nodes that holds a tree, operands before their node, each named by its index.
-use Rattle.std.specs.Prelude.{◌≡◌, ℕ, ◌+◌, ◌-◌, List, [], ◌∷◌, ◌++◌, refl}
+use Rattle.std.specs.Prelude.{◌≡◌, ℕ, ◌+◌, ◌-◌, ◌*◌, ◌/◌, ◌%◌, ◌^◌, List, [], ◌∷◌, ◌++◌, refl}
 use Rattle.std.specs.Coded.{Coded, code_by, coded_list}
 use Rattle.std.proofs.Common.{◌∙◌, ap, sym, append_assoc, append-nil}
+use Rattle.std.proofs.lemmas.Nat.{div-add-mod'}
 use Rattle.plural_rule.specs.declared.node.Node.{Node}
 use Rattle.plural_rule.specs.declared.node.Node.TheVariants.{Count as CountNode, Number as NumberNode, Not as NotNode, Binary as BinaryNode, Conditional as ConditionalNode}
 use Rattle.plural_rule.specs.Expression.{Tree, Count, Number, Not, Binary, Conditional, nodes}
 
+-- the numeral of four parts of 16 bits, the highest first
+abbrev pub numeral : ℕ → ℕ → ℕ → ℕ → ℕ
+numeral a b c d = ((a * 2 ^ 16 + b) * 2 ^ 16 + c) * 2 ^ 16 + d
+
+-- the node of a numeral
+abbrev pub numeral_node : ℕ → Node
+numeral_node v =
+    NumberNode (((v / 2 ^ 16) / 2 ^ 16) / 2 ^ 16) (((v / 2 ^ 16) / 2 ^ 16) % 2 ^ 16) ((v / 2 ^ 16) % 2 ^ 16) (v % 2 ^ 16)
+
 -- the nodes of a tree, the first of which stands at index base
 abbrev pub layout : ℕ → Tree → List Node
 layout base Count = CountNode ∷ []
-layout base (Number v) = NumberNode v ∷ []
+layout base (Number v) = numeral_node v ∷ []
 layout base (Not a) = layout base a ++ NotNode (base + nodes a - 1) ∷ []
 layout base (Binary op a b) =
     layout base a ++ (layout (base + nodes a) b ++ BinaryNode op (base + nodes a - 1) (base + nodes a + nodes b - 1) ∷ [])
@@ -20,7 +30,7 @@ layout base (Conditional a b c) =
 -- the trees read so far, newest first, behind one more node
 abbrev pub with_node : Node → List Tree → List Tree
 with_node CountNode trees = Count ∷ trees
-with_node (NumberNode v) trees = Number v ∷ trees
+with_node (NumberNode a b c d) trees = Number (numeral a b c d) ∷ trees
 with_node (NotNode i) [] = []
 with_node (NotNode i) (a ∷ trees) = Not a ∷ trees
 with_node (BinaryNode op i j) [] = []
@@ -44,9 +54,15 @@ newest (t ∷ trees) = t
 unfoldable pub tree_of : List Node → Tree
 tree_of table = newest (with_nodes [] table)
 
+pub numeral-parts : (v : ℕ) → numeral (((v / 2 ^ 16) / 2 ^ 16) / 2 ^ 16) (((v / 2 ^ 16) / 2 ^ 16) % 2 ^ 16) ((v / 2 ^ 16) % 2 ^ 16) (v % 2 ^ 16) ≡ v
+numeral-parts v =
+    ap (λ x. (x * 2 ^ 16 + (v / 2 ^ 16) % 2 ^ 16) * 2 ^ 16 + v % 2 ^ 16) (div-add-mod' ((v / 2 ^ 16) / 2 ^ 16) (2 ^ 16))
+    ∙ ap (λ x. x * 2 ^ 16 + v % 2 ^ 16) (div-add-mod' (v / 2 ^ 16) (2 ^ 16))
+    ∙ div-add-mod' v (2 ^ 16)
+
 with_nodes-layout : (t : Tree) (base : ℕ) (trees : List Tree) (rest : List Node) → with_nodes trees (layout base t ++ rest) ≡ with_nodes (t ∷ trees) rest
 with_nodes-layout Count base trees rest = refl
-with_nodes-layout (Number v) base trees rest = refl
+with_nodes-layout (Number v) base trees rest = ap (λ x. with_nodes (Number x ∷ trees) rest) (numeral-parts v)
 with_nodes-layout (Not a) base trees rest =
     let last = NotNode (base + nodes a - 1) in
     ap (with_nodes trees) (append_assoc (layout base a) (last ∷ []) rest) ∙ with_nodes-layout a base trees (last ∷ rest)

@@ -8,7 +8,7 @@ ghost use Rattle.plural_rule.specs.Expression.{Tree, nodes, value, visited};
 ghost use Rattle.plural_rule.specs.PostOrder.{layout, tree_of};
 ghost use Rattle.plural_rule.specs.Evaluation.{subtree, IsNodeOf, Outcome, outcome_of, finished, finished_step, remaining, remaining_step, AreFramesOf, IsStepOf};
 
-use crate::node::Node;
+use crate::node::{Node, numeral};
 use crate::operator::{Operator, truth};
 use crate::rule::LIMIT;
 use arrayvec::ArrayVec;
@@ -120,7 +120,9 @@ fn visit<const DEPTH: usize>(
 {
     match node_at(table, place) {
         Node::Count => resume(frames, count),
-        Node::Number(number) => resume(frames, number),
+        Node::Number(first, second, third, fourth) => {
+            resume(frames, numeral(first, second, third, fourth))
+        }
         Node::Not(operand) => {
             frames.push(Frame::Not);
             Step::Visit(operand)

@@ -14,8 +14,6 @@ mod node;
 mod operator;
 mod parser;
 mod rule;
-#[cfg(test)]
-mod tests;
 mod token;
 
 pub use rule::{LIMIT, Reason, Rule, Source};

@@ -1,4 +1,7 @@
 //! The table of nodes that holds an expression.
+ghost use Rattle.std.specs.Prelude.{◌≡◌};
+ghost use Rattle.plural_rule.specs.PostOrder.{numeral, numeral_node};
+
 use crate::operator::Operator;
 use crate::rule::LIMIT;
 use arrayvec::ArrayVec;
@@ -10,14 +13,37 @@ use arrayvec::ArrayVec;
 pub enum Node {
     /// `n`, the count that the rule is asked for.
     Count,
-    /// A numeral.
-    Number(u64),
+    /// A numeral in four parts of 16 bits, the highest first, so that a node takes 10 bytes.
+    Number(u16, u16, u16, u16),
     /// `!` with the index of its operand.
     Not(u16),
     /// An operator with the indices of its two operands.
     Binary(Operator, u16, u16),
     /// `a ? b : c` with the indices of its three operands.
     Conditional(u16, u16, u16),
+}
+
+impl Node {
+    /// The node of a numeral.
+    pub fn numeral(value: u64) -> Node
+        ensures { result ≡ numeral_node value }
+    {
+        let third = value / 65536;
+        let second = third / 65536;
+        Node::Number(
+            (second / 65536) as u16,
+            (second % 65536) as u16,
+            (third % 65536) as u16,
+            (value % 65536) as u16,
+        )
+    }
+}
+
+/// The numeral of four parts, the highest first.
+pub fn numeral(first: u16, second: u16, third: u16, fourth: u16) -> u64
+    ensures { result ≡ numeral first second third fourth }
+{
+    ((first as u64 * 65536 + second as u64) * 65536 + third as u64) * 65536 + fourth as u64
 }
 
 impl Default for Node {

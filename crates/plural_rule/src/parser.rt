@@ -112,7 +112,7 @@ fn take_operand<const DEPTH: usize>(
             Some(true)
         }
         Token::Number(number) => {
-            table.push(Node::Number(number));
+            table.push(Node::numeral(number));
             Some(true)
         }
         Token::Not => {

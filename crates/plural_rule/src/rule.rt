@@ -2,7 +2,7 @@
 ghost use Rattle.std.specs.Prelude.{◌≡◌, ◌≤◌, [], MatchResult};
 ghost use Rattle.plural_rule.specs.Expression.{value, visited, nodes};
 ghost use Rattle.plural_rule.specs.PluralRule.{IsRuleOf, IsReason, default_tree};
-ghost use Rattle.plural_rule.specs.PostOrder.{layout};
+ghost use Rattle.plural_rule.specs.PostOrder.{layout, tree_of};
 ghost use Rattle.plural_rule.specs.ParserState.{HoldsRule};
 
 use crate::node::{Node, Table};
@@ -68,17 +68,12 @@ impl Rule {
     /// The number of plural forms stands behind the first `nplurals=`, and the expression behind the
     /// first `plural=`, up to `;`, a line feed or the end. Where one of them is missing or can't be
     /// read, the rule is the default, and `source` says why.
+    #[inline(always)]
     pub fn parse(header: &[u8]) -> Rule
         ensures { IsRuleOf LIMIT header.now result }
     {
         let mut table = Table::new();
-        let (source, number) = match read(header, &mut table) {
-            Ok(number) => (Source::Header, number),
-            Err(reason) => {
-                write_default(&mut table);
-                (Source::Default(reason), 2)
-            }
-        };
+        let (source, number) = fill(header, &mut table);
         Rule {
             source,
             number,
@@ -119,6 +114,23 @@ impl Rule {
     }
 }
 
+/// Writes the expression of a header's rule into the empty `table`, and tells where the rule comes from and its
+/// number of plural forms.
+#[inline(never)]
+fn fill(header: &[u8], table: &mut Table) -> (Source, u64)
+    requires { table.old.items ≡ [] }
+    ensures rule { IsRuleOf LIMIT header.now (record { source = result.0; number = result.1; tree = tree_of table.new.items }) }
+    ensures laid { table.new.items ≡ layout 0 (tree_of table.new.items) }
+{
+    match read(header, table) {
+        Ok(number) => (Source::Header, number),
+        Err(reason) => {
+            write_default(table);
+            (Source::Default(reason), 2)
+        }
+    }
+}
+
 /// Reads a header's number, and its expression into the empty `table`.
 fn read(header: &[u8], table: &mut Table) -> Result<u64, Reason>
     requires { table.old.items ≡ [] }
@@ -150,6 +162,6 @@ fn write_default(table: &mut Table)
 {
     table.clear();
     table.push(Node::Count);
-    table.push(Node::Number(1));
+    table.push(Node::numeral(1));
     table.push(Node::Binary(Operator::NotEqual, 0, 1));
 }

@@ -1,5 +1,5 @@
 -- The search for a first duplicate: the map has one entry for each live entry so far.
-use Rattle.std.proofs.Common.{◌≡◌, ℕ, ◌+◌, ◌<◌, ◌≤◌, Bool, true, false, ◌&&◌, not, cond, List, [], ◌∷◌, ◌++◌, Option, Some, None, refl, sym, ap, ◌∙◌, subst, length, take, drop, map, filter, get_or, arith, append-nil, All, suc, ⊎_elim, length-append, Result, Ok, Err, MatchResult, IsOkUnless}
+use Rattle.std.proofs.Common.{◌≡◌, ℕ, ◌+◌, ◌<◌, ◌≤◌, Bool, true, false, ◌&&◌, cond, List, [], ◌∷◌, ◌++◌, Option, Some, None, refl, sym, ap, ◌∙◌, subst, length, take, drop, map, filter, get_or, arith, append-nil, All, suc, ⊎_elim, length-append, Result, Ok, Err, MatchResult, IsOkUnless}
 use Rattle.std.proofs.Math.Seq.{drop-cons, get_or-append_seam}
 use Rattle.std.proofs.Math.ListN.{get_or-append}
 use Rattle.std.proofs.lemmas.List.{take_all, take-append-drop, map-append}
@@ -134,19 +134,19 @@ module _ (kept : List (MessageKey × (ℕ × ℕ))) (xs : List InputEntry) (i : 
       ∙ ap (λ y. live_entries (take i xs) ++ cond (is_live y.entry) (y ∷ []) []) (sym here)
       ∙ ap (λ b. live_entries (take i xs) ++ cond b (x ∷ []) []) e
 
-  pub IsSeen-skip : x.entry.obsolete ≡ true → IsSeen kept (take (i + 1) xs)
+  pub IsSeen-skip : is_live x.entry ≡ false → IsSeen kept (take (i + 1) xs)
   IsSeen-skip obsolete =
-      let same = one_more false (ap not obsolete) ∙ append-nil (live_entries (take i xs)) in
+      let same = one_more false obsolete ∙ append-nil (live_entries (take i xs)) in
       record {
         stand = subst (λ l. AllZip StandsFor kept l) (sym same) seen.stand;
         differ = subst (λ l. AllDiffer (entries_of l)) (sym same) seen.differ;
       }
 
-  pub IsSeen-more : x.entry.obsolete ≡ false → (key : MessageKey) → IsKeyOf key x.entry → lookup (same_key key) kept ≡ None
+  pub IsSeen-more : is_live x.entry ≡ true → (key : MessageKey) → IsKeyOf key x.entry → lookup (same_key key) kept ≡ None
       → IsSeen (kept ++ (key, (x.input, x.entry.line)) ∷ []) (take (i + 1) xs)
   IsSeen-more live key is_key none =
       let front = live_entries (take i xs) in
-      let one = one_more true (ap not live) in
+      let one = one_more true live in
       let others = absent kept front key x.entry seen.stand is_key none in
       let apart : All (λ e. ¬ IsSameMessage e x.entry) (entries_of front) = All-map (λ e. ¬ IsSameMessage e x.entry) (λ (e : InputEntry). e.entry) front others in
       let pushed = all_pairs_push (λ a b. ¬ IsSameMessage a b) (entries_of front) x.entry seen.differ apart in
@@ -156,7 +156,7 @@ module _ (kept : List (MessageKey × (ℕ × ℕ))) (xs : List InputEntry) (i : 
         differ = subst (λ l. AllDiffer (entries_of l)) (sym one) (subst AllDiffer (sym (map-append (λ (e : InputEntry). e.entry) front (x ∷ []))) pushed);
       }
 
-  pub IsSeen-repeats : x.entry.obsolete ≡ false → (key : MessageKey) → IsKeyOf key x.entry → (place : ℕ × ℕ) → lookup (same_key key) kept ≡ Some place
+  pub IsSeen-repeats : is_live x.entry ≡ true → (key : MessageKey) → IsKeyOf key x.entry → (place : ℕ × ℕ) → lookup (same_key key) kept ≡ Some place
       → (first : InputEntry) × IsFirstDuplicate xs first x × (place ≡ (first.input, first.entry.line))
   IsSeen-repeats live key is_key place found =
       let front = live_entries (take i xs) in
@@ -166,7 +166,7 @@ module _ (kept : List (MessageKey × (ℕ × ℕ))) (xs : List InputEntry) (i : 
       let whole : live_entries xs ≡ front ++ live_entries (drop i xs) =
       ap live_entries (sym (take-append-drop i xs)) ∙ filter-append (λ y. is_live y.entry) (take i xs) (drop i xs) in
       let order : live_entries xs ≡ front ++ x ∷ behind =
-      whole ∙ ap (λ l. front ++ live_entries l) rest ∙ ap (λ b. front ++ cond (not b) (x ∷ behind) behind) live in (
+      whole ∙ ap (λ l. front ++ live_entries l) rest ∙ ap (λ b. front ++ cond b (x ∷ behind) behind) live in (
         f.first,
         record {
           before = f.before;

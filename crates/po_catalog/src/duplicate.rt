@@ -4,7 +4,7 @@ ghost use Rattle.po_catalog.specs.JoinedView.{input_entries};
 ghost use Rattle.po_catalog.specs.Joined.{joined, joined_entries, entries_of};
 ghost use Rattle.po_catalog.specs.Duplicate.{HasNoDuplicate, IsDuplicateFault, IsDuplicateErrorOf, join_memory, entry_memory};
 
-use crate::joining::{JoinedEntry, add_entries, joined};
+use crate::joining::{JoinedEntry, add_entries, is_live, joined};
 use indexmap::IndexMap;
 use po_entry::Catalogue;
 use po_syntax::{PoError, PoFault};
@@ -81,7 +81,7 @@ fn first_duplicate(alloc: Global, entries: &[JoinedEntry<'_>]) -> Result<(), Joi
     let mut seen = IndexMap::with_capacity(alloc, entries.len())?;
     for joined in entries {
         let entry = joined.entry;
-        if entry.obsolete() {
+        if !is_live(entry) {
             continue;
         }
         let place = (joined.input, entry.line());

@@ -1,6 +1,6 @@
 ghost use Rattle.std.specs.Prelude.{◌≡◌, ◌++◌, ◌<◌, ◌^◌, length, map, All, OnOk, IfOk};
 ghost use Rattle.std.specs.List.{list_any};
-ghost use Rattle.po_catalog.specs.Joined.{in_input, is_live_header, kept_entries, joined, joined_entries};
+ghost use Rattle.po_catalog.specs.Joined.{in_input, is_live, is_live_header, kept_entries, joined, joined_entries};
 ghost use Rattle.po_entry.specs.Validity.{IsCatalogueEntry};
 ghost use Rattle.po_catalog.specs.JoinedView.{input_entries};
 
@@ -99,5 +99,12 @@ fn has_live_header(entries: &[Entry]) -> bool
 fn is_live_header(entry: &Entry) -> bool
     ensures { result ≡ is_live_header entry.now }
 {
-    entry.is_header() && !entry.obsolete()
+    entry.is_header() && is_live(entry)
+}
+
+/// Whether the entry is not obsolete.
+pub(crate) fn is_live(entry: &Entry) -> bool
+    ensures { result ≡ is_live entry.now }
+{
+    !entry.obsolete()
 }

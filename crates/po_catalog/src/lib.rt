@@ -6,8 +6,6 @@ mod duplicate;
 mod joining;
 pub mod laws;
 mod stats;
-#[cfg(test)]
-mod tests;
 
 pub use crate::duplicate::{JoinError, duplicates, joined_duplicates};
 pub use crate::joining::{JoinedEntry, into_joined, joined};

@@ -1,10 +1,9 @@
 -- The messages of entries mean these entries.
-use Rattle.std.proofs.Common.{◌≡◌, ◌≢◌, ℕ, ◌+◌, ◌<◌, Bool, true, false, ◌&&◌, ◌||◌, ◌==◌, not, cond, List, [], ◌∷◌, ◌++◌, Option, None, Some, refl, sym, ap, ◌∙◌, subst, length, arith, All, find, IfSome, length-append, option_to_list}
+use Rattle.std.proofs.Common.{◌≡◌, ◌≢◌, ℕ, ◌<◌, Bool, true, false, ◌&&◌, ◌||◌, ◌==◌, not, cond, List, [], ◌∷◌, ◌++◌, Option, None, Some, refl, sym, ap, ◌∙◌, subst, length, arith, All, find, IfSome, option_to_list}
 use Rattle.std.specs.Bool.{Decides, one_answer}
 use Rattle.std.specs.List.{list_any, join_with_byte}
 use Rattle.std.specs.Option.{option_map, option_map_or, option_eq, unwrap_or}
 use Rattle.std.specs.Str.{bytes_eq}
-use Rattle.std.proofs.lemmas.List.{get_or-append-add, get_or_append_left}
 use Rattle.std.proofs.lemmas.List.Elements.{All-head, All-tail, All-cons, All-nil, All-weaker, All-contains}
 use Rattle.std.proofs.lemmas.Slice.Eq.{bytes_eq-Decides}
 use Rattle.std.proofs.lemmas.Bool.Decides.{Decides-eqb, Decides-and, Decides-like}
@@ -16,6 +15,7 @@ use Rattle.mo_lookup.specs.Contents.{translation_under, forms, header_text, expr
 use Rattle.plural_rule.specs.PluralRule.{IsRuleOf}
 use Rattle.po_entry.specs.TextEntry.{TextEntry, quoted_texts, previous_texts}
 use Rattle.po_entry.specs.Bytes.{Lacks}
+use Rattle.po_entry.specs.Halves.{All-left, All-right}
 use Rattle.po_entry.specs.Header.{first_form}
 use Rattle.po_entry.specs.Validity.{IsEntry, IsText}
 use Rattle.po_compile.specs.CompiledMessages.{original_of, translation_of, message_of, messages_of_entries, AreMessagesOf}
@@ -23,12 +23,6 @@ use Rattle.po_compile.specs.Meaning.{is_message, header_of}
 use Rattle.po_compile.specs.Headline.{MessagesMeanEntries}
 use Rattle.po_compile.proofs.TextLemmas.{key_of-plural_part, query_key_lacks, query_key_is_one, slice_split-join}
 use Rattle.po_compile.proofs.FindLemmas.{find_permuted, find_found, has_key}
-
-All-left : {X : Type 0} (P : X → Type 0) (xs ys : List X) → All P (xs ++ ys) → All P xs
-All-left P xs ys h = λ k d inside. subst P (get_or_append_left xs ys d k inside) (h k d (omega (arith, length-append xs ys)))
-
-All-right : {X : Type 0} (P : X → Type 0) (xs ys : List X) → All P (xs ++ ys) → All P ys
-All-right P xs ys h = λ k d inside. subst P (get_or-append-add xs ys k d) (h (length xs + k) d (omega (arith, length-append xs ys)))
 
 optional : (P : List ℕ → Type 0) (text : Option (List ℕ)) → All P (option_to_list text) → IfSome text P
 optional P None h = tt

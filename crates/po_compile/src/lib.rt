@@ -6,9 +6,8 @@ pub mod laws;
 mod messages;
 mod options;
 mod reading;
-#[cfg(test)]
-mod tests;
 
 pub use crate::compiling::{compile, compile_all, compile_catalogues};
+pub use crate::messages::is_compiled;
 pub use crate::options::{Compiled, Options};
 pub use crate::reading::read_all;

@@ -13,8 +13,9 @@ use po_catalog::has_translation;
 use po_entry::{Entry, Fields};
 use std::alloc::{AllocError, Global};
 
-/// Whether the entry is compiled.
-fn is_compiled(entry: &Entry, use_fuzzy: bool) -> bool
+/// Whether an entry of a joined list is compiled: it is live and translated, and not marked as fuzzy where fuzzy
+/// entries are left out. A header's mark is ignored.
+pub fn is_compiled(entry: &Entry, use_fuzzy: bool) -> bool
     ensures { result ≡ is_compiled use_fuzzy entry.now }
 {
     !entry.obsolete()

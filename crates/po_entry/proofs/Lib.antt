@@ -3,3 +3,7 @@ pub mod Changes
 pub mod Checks
 pub mod Headers
 pub mod SameTexts
+pub mod SameMarks
+pub mod PreviousOrder
+pub mod Spelt
+pub mod SpeltReads

@@ -1,6 +1,7 @@
 pub mod TextEntry
 pub mod EntryText
 pub mod Bytes
+pub mod Halves
 pub mod Header
 pub mod Validity
 pub mod Strings
@@ -8,6 +9,8 @@ pub mod Words
 pub mod Body
 pub mod Head
 pub mod Notes
+pub mod Spelling
 pub mod Reads
+pub mod Descent
 pub mod Equality
 pub mod EqualityLaws

@@ -1,45 +1,11 @@
 -- How a PO text reads as a list of entries (manual, "The Format of PO Files").
-use Rattle.std.specs.Prelude.{ℕ, List, [], ◌∷◌, All, IfSome, IsUtf8}
-use Rattle.po_syntax.specs.TextItem.{TextItem, Comment, Word, Str}
+use Rattle.std.specs.Prelude.{ℕ, List, All, IfSome, IsUtf8}
+use Rattle.po_syntax.specs.TextItem.{TextItem}
 use Rattle.po_syntax.specs.PoText.{SpellsText}
 use Rattle.po_entry.specs.TextEntry.{TextEntry, quoted_texts}
 use Rattle.po_entry.specs.Bytes.{Lacks}
 use Rattle.po_entry.specs.Header.{HasAdmittedCharset}
-use Rattle.po_entry.specs.Body.{Body, IsBody}
-use Rattle.po_entry.specs.Head.{Note, PreviousText, IsHead}
-use Rattle.po_entry.specs.Notes.{comments_of, extracted_of, references_of, fuzzy_of, flags_of, previous_of}
-
--- the entry with this head and this body
-abbrev pub entry_from : List Note → List PreviousText → Body → TextEntry
-entry_from notes previous body = record {
-  comments = comments_of notes;
-  extracted = extracted_of notes;
-  references = references_of notes;
-  fuzzy = fuzzy_of notes;
-  flags = flags_of notes;
-  previous = previous_of previous;
-  context = body.context;
-  id = body.id;
-  plural = body.plural;
-  forms = body.forms;
-  obsolete = body.obsolete;
-  line = body.line;
-}
-
-abbrev pub IsCommentItem : TextItem → Type 0
-IsCommentItem (Comment kind text line) = Unit {0}
-IsCommentItem (Word keyword marks line) = ⊥
-IsCommentItem (Str bytes marks line) = ⊥
-
-abbrev pub AreComments : List TextItem → Type 0
-AreComments [] = Unit {0}
-AreComments (item ∷ items) = IsCommentItem item × AreComments items
-
--- the items are one spelling for each entry, joined, and then comments alone
-pub data Reads : List TextItem → List TextEntry → Type 0 where
-  comments : {items : List TextItem} → AreComments items → Reads items []
-  entry : {items own rest : List TextItem} {notes : List Note} {previous : List PreviousText} {body : Body} {entries : List TextEntry} → IsHead 0 items notes previous own → IsBody own body rest → Reads rest entries
-      → Reads items (entry_from notes previous body ∷ entries)
+use Rattle.po_entry.specs.Spelling.{SpellsEntries}
 
 -- the entry's own context and msgid hold no EOT; previous texts may hold one
 pub record HasNoEot (entry : TextEntry) : Type 0 where
@@ -55,6 +21,6 @@ pub record HasReadableTexts (entry : TextEntry) : Type 0 where
 pub record ReadsText (text : List ℕ) (entries : List TextEntry) : Type 0 where
   pub items : List TextItem
   pub spelt : SpellsText text items
-  pub reads : Reads items entries
+  pub reads : SpellsEntries items entries
   pub texts : All HasReadableTexts entries
   pub charsets : All HasAdmittedCharset entries

@@ -246,7 +246,7 @@ impl Entry {
     pub fn clear_previous(&mut self)
         ensures { self.new ≡ record self.old { previous = no_previous } }
     {
-        self.fields.previous = Previous::none();
+        self.fields.previous.clear();
     }
 
     /// Makes each form empty, and keeps how many there are.

@@ -10,8 +10,6 @@ mod equality;
 mod fields;
 pub mod laws;
 mod previous;
-#[cfg(test)]
-mod tests;
 mod texts;
 
 pub use crate::catalogue::Catalogue;

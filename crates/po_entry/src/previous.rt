@@ -37,6 +37,15 @@ impl Previous {
         }
     }
 
+    /// Drops the texts.
+    pub(crate) fn clear(&mut self)
+        ensures { self.new ≡ no_previous }
+    {
+        self.context = None;
+        self.id = None;
+        self.plural = None;
+    }
+
     /// A copy of the texts; refused only by want of memory.
     pub fn copy(&self, alloc: Global) -> Result<Previous, AllocError>
         ensures { IfOk result (λ p. p ≡ self.now) }

@@ -11,7 +11,7 @@ use Rattle.po_entry.specs.Strings as string
 use Rattle.po_entry.specs.Words as word
 use Rattle.po_entry.specs.Body.{begins_form}
 use Rattle.po_entry.specs.Head as head
-use Rattle.po_entry.specs.Reads.{Reads}
+use Rattle.po_entry.specs.Spelling.{SpellsEntries}
 use Rattle.po_reader.specs.Stops.{line_at}
 use Rattle.po_reader.specs.Viable.{IsViable}
 use Rattle.po_reader.proofs.Cuts.{Cut}
@@ -38,7 +38,7 @@ abbrev pub Alike : List TextItem → List TextItem → Type 0
 Alike items others = (string.begins_string items ≡ string.begins_string others) × (begins_form items ≡ begins_form others)
 
 abbrev pub IsUnread : List TextItem → Type 0
-IsUnread items = (entries : List TextEntry) → Reads items entries → ⊥
+IsUnread items = (entries : List TextEntry) → SpellsEntries items entries → ⊥
 
 -- these items stop before this tail: what the place refuses alike is never read, and what it accepts could become entries
 pub record Blocked (end : ℕ) (items : List TextItem) (fault : PoFault) (line : ℕ) : Type 0 where
@@ -75,7 +75,7 @@ alike_behind rest others (item ∷ own) e alike =
 
 -- what could become entries could do so from its front
 pub shorter : (items more : List TextItem) → IsViable (items ++ more) → IsViable items
-shorter items more viable = (more ++ viable.0, viable.1, subst (λ (i : List TextItem). Reads i viable.1) (append_assoc items more viable.0) viable.2)
+shorter items more viable = (more ++ viable.0, viable.1, subst (λ (i : List TextItem). SpellsEntries i viable.1) (append_assoc items more viable.0) viable.2)
 
 -- some more items stand behind these, up to a longer list
 abbrev pub Longer : List TextItem → List TextItem → Type 0

@@ -4,10 +4,12 @@ use Rattle.po_syntax.specs.declared.fault.PoFault.{PoFault}
 use Rattle.po_syntax.specs.TextItem.{TextItem}
 use Rattle.po_entry.specs.TextEntry.{TextEntry}
 use Rattle.po_entry.specs.Head as head
-use Rattle.po_entry.specs.Reads.{Reads, comments, entry}
+use Rattle.po_entry.specs.Descent.{Reads, comments, entry}
+use Rattle.po_entry.specs.Spelling.{SpellsEntries}
+use Rattle.po_entry.proofs.Spelt.{reads_spelt}
 use Rattle.po_reader.specs.Stops as stop
 use Rattle.po_reader.specs.Viable.{IsViable}
-use Rattle.po_reader.proofs.OneReading.{reads_or_stop}
+use Rattle.po_reader.proofs.OneReading.{spelt_or_stop}
 use Rattle.po_reader.proofs.Looks.{FormsEnd, forms_end, head_look, reads_look, body_starts, stop_starts}
 use Rattle.po_reader.proofs.Cuts.{followed, extended, remark_cut, previous_cut, strings_cut, body_cut, head_cut}
 use Rattle.po_reader.proofs.Blocked.{Blocked, Context, AtHead, shorter, as_long, lifted, deeper}
@@ -77,6 +79,6 @@ pub items_blocked : {end line : ℕ} {items : List TextItem} {fault : PoFault} �
 items_blocked s = entries_blocked (record {
   own = [];
   split = refl;
-  unread = λ others fault line alike stopped entries read. reads_or_stop read stopped;
-  viable = λ others part. ([], part.0, subst (λ (i : List TextItem). Reads i part.0) (sym (append-nil others)) part.1);
+  unread = λ others fault line alike stopped entries read. spelt_or_stop read stopped;
+  viable = λ others part. ([], part.0, subst (λ (i : List TextItem). SpellsEntries i part.0) (sym (append-nil others)) (reads_spelt part.1));
 }) s

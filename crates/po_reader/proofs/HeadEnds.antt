@@ -10,7 +10,7 @@ use Rattle.po_syntax.specs.declared.item.Marks.{Marks}
 use Rattle.po_syntax.specs.TextItem.{TextItem, Comment, Word, Str}
 use Rattle.po_entry.specs.Body.{body_start, NoStart}
 use Rattle.po_entry.specs.Head.{Note, PreviousText, Remark, Previous, Over, Refuse, head_step, rank, begins_body, IsHead, over, remark, previous}
-use Rattle.po_entry.specs.Reads.{AreComments}
+use Rattle.po_entry.specs.Spelling.{AreComments}
 
 -- a head ends where nothing more of it stands
 pub head_over : {above : ℕ} {items rest : List TextItem} {notes : List Note} {others : List PreviousText} → IsHead above items notes others rest → (behind : ℕ) × (head_step behind rest ≡ Over)

@@ -3,7 +3,7 @@ use Rattle.std.proofs.Common.{◌≡◌, ℕ, List, [], ◌∷◌, ◌++◌, ref
 use Rattle.po_syntax.specs.declared.fault.PoFault.{PoFault}
 use Rattle.po_syntax.specs.TextItem.{TextItem, line_of}
 use Rattle.po_entry.specs.TextEntry.{TextEntry}
-use Rattle.po_entry.specs.Reads.{Reads}
+use Rattle.po_entry.specs.Spelling.{SpellsEntries}
 use Rattle.po_reader.specs.Viable.{IsViable, Misfit, index, mixed, order, ItemsFault, at, at_end, last_line}
 use Rattle.po_reader.proofs.Blocked.{shorter}
 
@@ -11,9 +11,9 @@ use Rattle.po_reader.proofs.Blocked.{shorter}
 viable_up_to : (front : List TextItem) (item : TextItem) (rest : List TextItem) → IsViable (front ++ item ∷ rest) → IsViable (front ++ item ∷ [])
 viable_up_to front item rest viable = shorter (front ++ item ∷ []) rest (subst IsViable (sym (append_assoc front (item ∷ []) rest)) viable)
 
-pub fault_unread : {items : List TextItem} {fault : PoFault} {line : ℕ} {entries : List TextEntry} → ItemsFault items fault line → Reads items entries → ⊥
+pub fault_unread : {items : List TextItem} {fault : PoFault} {line : ℕ} {entries : List TextEntry} → ItemsFault items fault line → SpellsEntries items entries → ⊥
 fault_unread {entries = entries} (at {front = front} {item = item} rest viable never misfit) reads =
-    never (rest, entries, subst (λ (i : List TextItem). Reads i entries) (sym (append_assoc front (item ∷ []) rest)) reads)
+    never (rest, entries, subst (λ (i : List TextItem). SpellsEntries i entries) (sym (append_assoc front (item ∷ []) rest)) reads)
 fault_unread {entries = entries} (at_end viable none) reads = none entries reads
 
 misfit_once : {front : List TextItem} {item : TextItem} {f g : PoFault} → Misfit front item f → Misfit front item g → f ≡ g

@@ -12,7 +12,8 @@ use Rattle.po_entry.specs.Strings as string
 use Rattle.po_entry.specs.Words as word
 use Rattle.po_entry.specs.Body as body
 use Rattle.po_entry.specs.Head as head
-use Rattle.po_entry.specs.Reads.{Reads, comments, entry, AreComments}
+use Rattle.po_entry.specs.Descent.{Reads, comments, entry}
+use Rattle.po_entry.specs.Spelling.{AreComments}
 use Rattle.po_reader.specs.Stops as stop
 use Rattle.po_reader.proofs.Steps.{word_told}
 

@@ -13,7 +13,10 @@ use Rattle.po_entry.specs.TextEntry.{TextEntry}
 use Rattle.po_entry.specs.Header.{HasAdmittedCharset}
 use Rattle.po_entry.specs.Body as body
 use Rattle.po_entry.specs.Head as head
-use Rattle.po_entry.specs.Reads.{Reads, comments, entry, AreComments, ReadsText, HasReadableTexts}
+use Rattle.po_entry.specs.Descent.{Reads, comments, entry}
+use Rattle.po_entry.specs.Reads.{ReadsText, HasReadableTexts}
+use Rattle.po_entry.specs.Spelling.{AreComments, SpellsEntries}
+use Rattle.po_entry.proofs.SpeltReads.{spelt_reads}
 use Rattle.po_reader.specs.Stops as stop
 use Rattle.po_reader.specs.Faults as fault
 use Rattle.po_reader.proofs.ItemsFaults.{fault_unread}
@@ -100,6 +103,12 @@ reads_or_stop {end} {line} {kind} (entry h own more) (stop.later {rest = after} 
     let bodies = body_once own (subst (λ (i : List TextItem). body.IsBody i b after) (sym heads.2) also) in
     reads_or_stop more (subst (λ (i : List TextItem). stop.EntriesStop end i kind line) (sym bodies.1) s)
 
+pub spelt_once : {items : List TextItem} {a b : List TextEntry} → SpellsEntries items a → SpellsEntries items b → a ≡ b
+spelt_once h k = reads_once (spelt_reads h) (spelt_reads k)
+
+pub spelt_or_stop : {end line : ℕ} {kind : PoFault} {items : List TextItem} {a : List TextEntry} → SpellsEntries items a → stop.EntriesStop end items kind line → ⊥
+spelt_or_stop h s = reads_or_stop (spelt_reads h) s
+
 pub unreadable : (read : TextEntry) (kind : PoFault) → HasReadableTexts read → fault.UnreadableTexts read kind → ⊥
 unreadable read kind h (fault.not_utf8 some) = some h.utf8
 unreadable read kind h (fault.forbidden utf8 some) = some h.no_eot
@@ -113,22 +122,22 @@ charsets_go_on (fault.CharsetStops.here {entry = read} {entries = entries} f l) 
 charsets_go_on (fault.CharsetStops.later {entry = read} {entries = entries} r s) h = charsets_go_on s (All-tail HasAdmittedCharset read entries h)
 
 pub text_once : ((text : List ℕ) (items others : List TextItem) → SpellsText text items → SpellsText text others → items ≡ others) → (text : List ℕ) (a b : List TextEntry) → ReadsText text a → ReadsText text b → a ≡ b
-text_once spelt_once text a b h k =
-    let same = spelt_once text h.items k.items h.spelt k.spelt in
-    reads_once h.reads (subst (λ (i : List TextItem). Reads i b) (sym same) k.reads)
+text_once items_once text a b h k =
+    let same = items_once text h.items k.items h.spelt k.spelt in
+    spelt_once h.reads (subst (λ (i : List TextItem). SpellsEntries i b) (sym same) k.reads)
 
 pub text_or_fault : ((text : List ℕ) (items others : List TextItem) → SpellsText text items → SpellsText text others → items ≡ others)
     → ((text : List ℕ) (items : List TextItem) (kind : PoFault) (line : ℕ) → SpellsText text items → TextFault text kind line → ⊥)
     → (text : List ℕ) (a : List TextEntry) (kind : PoFault) (line : ℕ) → ReadsText text a → fault.IsReadFault text kind line → ⊥
-text_or_fault spelt_once no_fault text a kind line h (fault.in_text f) = no_fault text h.items kind line h.spelt f
-text_or_fault spelt_once no_fault text a kind line h (fault.in_items {items = items} spelt s) =
-    let same = spelt_once text h.items items h.spelt spelt in
-    fault_unread s (subst (λ (i : List TextItem). Reads i a) same h.reads)
-text_or_fault spelt_once no_fault text a kind line h (fault.in_texts {items = items} {entries = entries} spelt reads s) =
-    let same = spelt_once text h.items items h.spelt spelt in
-    let entries_same = reads_once (subst (λ (i : List TextItem). Reads i a) same h.reads) reads in
+text_or_fault items_once no_fault text a kind line h (fault.in_text f) = no_fault text h.items kind line h.spelt f
+text_or_fault items_once no_fault text a kind line h (fault.in_items {items = items} spelt s) =
+    let same = items_once text h.items items h.spelt spelt in
+    fault_unread s (subst (λ (i : List TextItem). SpellsEntries i a) same h.reads)
+text_or_fault items_once no_fault text a kind line h (fault.in_texts {items = items} {entries = entries} spelt reads s) =
+    let same = items_once text h.items items h.spelt spelt in
+    let entries_same = spelt_once (subst (λ (i : List TextItem). SpellsEntries i a) same h.reads) reads in
     texts_go_on s (subst (All HasReadableTexts) entries_same h.texts)
-text_or_fault spelt_once no_fault text a kind line h (fault.in_charset {items = items} {entries = entries} spelt reads readable s) =
-    let same = spelt_once text h.items items h.spelt spelt in
-    let entries_same = reads_once (subst (λ (i : List TextItem). Reads i a) same h.reads) reads in
+text_or_fault items_once no_fault text a kind line h (fault.in_charset {items = items} {entries = entries} spelt reads readable s) =
+    let same = items_once text h.items items h.spelt spelt in
+    let entries_same = spelt_once (subst (λ (i : List TextItem). SpellsEntries i a) same h.reads) reads in
     charsets_go_on s (subst (All HasAdmittedCharset) entries_same h.charsets)

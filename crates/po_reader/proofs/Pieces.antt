@@ -85,7 +85,3 @@ parts_fail p (b ∷ text) = found (p b) refl (slice_split p text) (parts_fail p 
   found false e [] more = All-cons (All (λ b. p b ≡ false)) (b ∷ []) [] (All-cons (λ b. p b ≡ false) b [] e (All-nil _)) (All-nil _)
   found false e (part ∷ parts) more =
       All-cons (All (λ b. p b ≡ false)) (b ∷ part) parts (All-cons (λ b. p b ≡ false) b part e (All-head (All (λ b. p b ≡ false)) part parts more)) (All-tail (All (λ b. p b ≡ false)) part parts more)
-
-pub All-left : {X : Type 0} (P : X → Type 0) (xs ys : List X) → All P (xs ++ ys) → All P xs
-All-left P [] ys h = All-nil P
-All-left P (x ∷ xs) ys h = All-cons P x xs (All-head P x (xs ++ ys) h) (All-left P xs ys (All-tail P x (xs ++ ys) h))

@@ -13,7 +13,9 @@ use Rattle.po_entry.specs.Bytes.{Lacks, AreDistinct}
 use Rattle.po_entry.specs.Body.{Body}
 use Rattle.po_entry.specs.Head.{Note, PreviousText}
 use Rattle.po_entry.specs.Notes.{texts_of, comments_of, extracted_of, references_of, flag_words_of, flags_of, previous_of}
-use Rattle.po_entry.specs.Reads.{Reads, comments, entry, entry_from, HasReadableTexts, HasNoEot}
+use Rattle.po_entry.specs.Descent.{Reads, comments, entry}
+use Rattle.po_entry.specs.Reads.{HasReadableTexts, HasNoEot}
+use Rattle.po_entry.specs.Spelling.{entry_from}
 use Rattle.po_entry.specs.Validity as validity
 use Rattle.po_entry.specs.Validity.{IsEntry, IsText, IsComment, IsTranslatorComment, IsReference, IsFlag, HasTexts, IsClean, TextsFault}
 use Rattle.po_reader.specs.Drafts.{DraftsStop}

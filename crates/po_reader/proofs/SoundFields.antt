@@ -11,12 +11,13 @@ use Rattle.po_syntax.specs.declared.item.CommentKind.TheVariants.{Translator, Ex
 use Rattle.po_syntax.specs.Token.{is_blank, skip_blanks}
 use Rattle.po_entry.specs.TextEntry.{TextPrevious, previous_texts, no_previous}
 use Rattle.po_entry.specs.Bytes.{Lacks, trimmed, AreDistinct}
+use Rattle.po_entry.specs.Halves.{All-left}
 use Rattle.po_entry.specs.Head.{Note, PreviousText, rank}
 use Rattle.po_entry.specs.Notes.{same_kind, texts_of, is_not_empty, is_comma, words_of, flag_words, is_fuzzy_word, with_flag, with_previous, previous_of}
 use Rattle.po_entry.specs.Validity.{IsText, IsReference, IsFlag}
 use Rattle.po_reader.proofs.SoundItems.{SoundComment, IsLineText}
 use Rattle.po_reader.proofs.SoundEntries.{SoundNote, SoundPrevious}
-use Rattle.po_reader.proofs.Pieces.{utf8_behind, utf8_before, utf8_parts, all_parts, parts_fail, blank_is_ascii, All-left}
+use Rattle.po_reader.proofs.Pieces.{utf8_behind, utf8_before, utf8_parts, all_parts, parts_fail, blank_is_ascii}
 use Rattle.po_reader.proofs.Trims.{end_keeps, start_keeps, ends_once}
 
 same_kinds : (a b : CommentKind) → same_kind a b ≡ true → b ≡ a

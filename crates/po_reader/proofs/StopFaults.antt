@@ -7,7 +7,7 @@ use Rattle.po_syntax.specs.TextItem.{TextItem}
 use Rattle.po_entry.specs.Strings as string
 use Rattle.po_entry.specs.Words as word
 use Rattle.po_entry.specs.Head as head
-use Rattle.po_entry.specs.Reads.{Reads}
+use Rattle.po_entry.specs.Spelling.{SpellsEntries}
 use Rattle.po_reader.specs.Stops.{EntriesStop, line_at}
 use Rattle.po_reader.specs.Viable.{IsViable, ItemsFault, at, at_end, last_line}
 use Rattle.po_reader.proofs.Steps.{string_item, word_item, head_item, HeadDoes}
@@ -56,7 +56,7 @@ told items front (item ∷ rest) point fault line split refused placed unread vi
     let here = first_alike item rest [] in
     let there = first_alike other [] could.0 in
     unread (other ∷ could.0) shuns.0 (here.0 ∙ alike.0 ∙ there.0, here.1 ∙ alike.1 ∙ there.1) (shuns.1 could.0) could.1
-    (subst (λ (i : List TextItem). Reads i could.1) (append_assoc front (other ∷ []) could.0) could.2) in
+    (subst (λ (i : List TextItem). SpellsEntries i could.1) (append_assoc front (other ∷ []) could.0) could.2) in
     let misfit = misfit_at front point item rest fault never viable refused in
     subst₂ (λ (i : List TextItem) (l : ℕ). ItemsFault i fault l) (sym split) (sym placed) (at rest before (never item (refl, refl) (shunned point item rest fault refused)) misfit)
 

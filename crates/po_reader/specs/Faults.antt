@@ -6,7 +6,8 @@ use Rattle.po_syntax.specs.TextItem.{TextItem}
 use Rattle.po_syntax.specs.PoText.{SpellsText, TextFault}
 use Rattle.po_entry.specs.TextEntry.{TextEntry, quoted_texts}
 use Rattle.po_entry.specs.Header.{HasAdmittedCharset}
-use Rattle.po_entry.specs.Reads.{Reads, HasReadableTexts, HasNoEot}
+use Rattle.po_entry.specs.Reads.{HasReadableTexts, HasNoEot}
+use Rattle.po_entry.specs.Spelling.{SpellsEntries}
 use Rattle.po_reader.specs.Viable.{ItemsFault}
 
 -- why the texts of an entry can't be read: one is not UTF-8; or all are, and its own context or msgid holds an EOT
@@ -28,5 +29,5 @@ pub data CharsetStops : List TextEntry → ℕ → Type 0 where
 pub data IsReadFault (text : List ℕ) : PoFault → ℕ → Type 0 where
   in_text : {fault : PoFault} {line : ℕ} → TextFault text fault line → IsReadFault text fault line
   in_items : {items : List TextItem} {fault : PoFault} {line : ℕ} → SpellsText text items → ItemsFault items fault line → IsReadFault text fault line
-  in_texts : {items : List TextItem} {entries : List TextEntry} {fault : PoFault} {line : ℕ} → SpellsText text items → Reads items entries → TextsStop entries fault line → IsReadFault text fault line
-  in_charset : {items : List TextItem} {entries : List TextEntry} {line : ℕ} → SpellsText text items → Reads items entries → All HasReadableTexts entries → CharsetStops entries line → IsReadFault text ForeignCharset line
+  in_texts : {items : List TextItem} {entries : List TextEntry} {fault : PoFault} {line : ℕ} → SpellsText text items → SpellsEntries items entries → TextsStop entries fault line → IsReadFault text fault line
+  in_charset : {items : List TextItem} {entries : List TextEntry} {line : ℕ} → SpellsText text items → SpellsEntries items entries → All HasReadableTexts entries → CharsetStops entries line → IsReadFault text ForeignCharset line

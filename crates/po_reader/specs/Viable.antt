@@ -6,11 +6,11 @@ use Rattle.po_syntax.specs.declared.item.Keyword.TheVariants.{MsgCtxt, MsgId, Ms
 use Rattle.po_syntax.specs.TextItem.{TextItem, Comment, Word, Str, line_of}
 use Rattle.po_entry.specs.Strings.{own_marks}
 use Rattle.po_entry.specs.TextEntry.{TextEntry}
-use Rattle.po_entry.specs.Reads.{Reads}
+use Rattle.po_entry.specs.Spelling.{SpellsEntries}
 
 -- some items could follow these, and then all of them read as entries
 abbrev pub IsViable : List TextItem → Type 0
-IsViable items = (behind : List TextItem) × (entries : List TextEntry) × Reads (items ++ behind) entries
+IsViable items = (behind : List TextItem) × (entries : List TextEntry) × SpellsEntries (items ++ behind) entries
 
 -- an item of an entry's own lines: no comment, and not on a line of previous texts
 abbrev pub IsOwn : TextItem → Type 0
@@ -54,4 +54,4 @@ last_line (item ∷ next ∷ items) = last_line (next ∷ items)
 -- The fault of items that are no entries, with its line: that of the item behind the longest viable front; or, where the items could still become entries and only end too early, BadOrder on the last line.
 pub data ItemsFault : List TextItem → PoFault → ℕ → Type 0 where
   at : {front : List TextItem} {item : TextItem} (rest : List TextItem) {fault : PoFault} → IsViable front → (IsViable (front ++ item ∷ []) → ⊥) → Misfit front item fault → ItemsFault (front ++ item ∷ rest) fault (line_of item)
-  at_end : {items : List TextItem} → IsViable items → ((entries : List TextEntry) → Reads items entries → ⊥) → ItemsFault items BadOrder (last_line items)
+  at_end : {items : List TextItem} → IsViable items → ((entries : List TextEntry) → SpellsEntries items entries → ⊥) → ItemsFault items BadOrder (last_line items)

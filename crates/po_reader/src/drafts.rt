@@ -2,7 +2,8 @@ ghost use Rattle.std.specs.Prelude.{◌≡◌, ◌≢◌, ◌<◌, ◌^◌, ℕ,
 ghost use Rattle.po_syntax.specs.TextItem.{views};
 ghost use Rattle.po_entry.specs.EntryText.{entry_of};
 ghost use Rattle.po_entry.specs.Head.{Note, PreviousText};
-ghost use Rattle.po_entry.specs.Reads.{Reads, entry_from};
+ghost use Rattle.po_entry.specs.Descent.{Reads};
+ghost use Rattle.po_entry.specs.Spelling.{entry_from};
 ghost use Rattle.po_reader.specs.Heads.{HoldsHead};
 ghost use Rattle.po_reader.specs.Seen.{body_seen};
 ghost use Rattle.po_reader.specs.Stops.{EntriesStop};

@@ -10,8 +10,6 @@ mod notes;
 mod place;
 mod reading;
 mod strings;
-#[cfg(test)]
-mod tests;
 mod words;
 
 pub use crate::reading::read;

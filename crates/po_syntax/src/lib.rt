@@ -9,8 +9,6 @@ pub mod laws;
 mod line;
 mod quoted_string;
 mod quoting;
-#[cfg(test)]
-mod tests;
 mod text;
 mod token;
 

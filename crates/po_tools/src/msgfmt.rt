@@ -3,7 +3,6 @@ ghost use Rattle.std.specs.Io.KnownBytes.{Keeps};
 ghost use Rattle.po_entry.specs.TextEntry.{slice_texts};
 ghost use Rattle.po_catalog.specs.JoinedView.{input_entries};
 ghost use Rattle.po_compile.specs.Accepted.{AreRead};
-ghost use Rattle.po_compile.specs.CompiledList.{is_compiled};
 ghost use Rattle.po_tools.specs.FaultText.{duplicate_text};
 ghost use Rattle.po_tools.specs.NamedFile.{named_files};
 ghost use Rattle.po_tools.specs.Msgfmt.{AreChecked, IsMsgfmtCut, IsMsgfmtDelivered, IsMsgfmtRun, across_text, check_line, check_place, check_text, compiled_inputs, compiled_run, input_name, input_texts, join_line, join_text};
@@ -13,8 +12,8 @@ use crate::fault_text::{push_numbered, push_place, push_po_text};
 use crate::profile::{CheckFault, check_entries};
 use crate::run::{Run, deliver};
 use mo_file::Order;
-use po_catalog::{Catalogue, Entry, JoinError, JoinedEntry, has_translation, joined};
-use po_compile::{Compiled, Options, compile_catalogues, read_all};
+use po_catalog::{Catalogue, JoinError, JoinedEntry, joined};
+use po_compile::{Compiled, Options, compile_catalogues, is_compiled, read_all};
 use po_shell::{ByteIn, ByteOut, ToolFault, read_input};
 use po_syntax::PoFault;
 use std::alloc::{AllocError, Global};
@@ -30,15 +29,6 @@ pub struct MsgfmtOptions {
     pub statistics: bool,
     /// `--profile-check`: the messages that are compiled are checked.
     pub profile_check: bool,
-}
-
-/// Whether an entry of a joined list is compiled.
-fn is_compiled(entry: &Entry, use_fuzzy: bool) -> bool
-    ensures { result ≡ is_compiled use_fuzzy entry.now }
-{
-    !entry.obsolete()
-        && has_translation(entry)
-        && (use_fuzzy || !entry.fuzzy() || entry.is_header())
 }
 
 /// The entries that are compiled.

@@ -13,19 +13,18 @@ use Rattle.po_entry.specs.Words.{Wanted, is_wanted, Form, Id, Translation, IsWor
 use Rattle.po_entry.specs.Body.{IsForms, last, more, begins_form, IsTranslation, single as single_form, plural as plural_forms, IsBody, without_context, with_context}
 use Rattle.po_entry.specs.Head.{PreviousText, previous, over, rank}
 use Rattle.po_entry.specs.Notes.{previous_of}
+use Rattle.po_entry.specs.Spelling.{previous_marks}
+use Rattle.po_entry.proofs.SameMarks.{same_bool-refl}
 use Rattle.po_writer.specs.WrittenText.{keyword_lines, optional_lines, previous_lines, form_lines, translation_lines}
 use Rattle.po_writer.proofs.Spelling.{Block, empty_block, two_blocks, weaker_block}
 use Rattle.po_writer.proofs.Tokens.{QuotedFormsSpell}
-use Rattle.po_writer.proofs.KeywordTexts.{TextPart, StringsPart, IsLinePrefix, IsLineKeyword, IsQuotable, text_block, same_bool-refl}
+use Rattle.po_writer.proofs.KeywordTexts.{TextPart, StringsPart, IsLinePrefix, IsLineKeyword, IsQuotable, text_block}
 use Rattle.po_writer.proofs.Heads.{IsFresh, HeadFrom, HeadPart, two_parts}
 
 -- the previous text of this word, where there is one
 abbrev pub previous_text : Keyword → Option (List ℕ) → List PreviousText
 previous_text keyword None = []
 previous_text keyword (Some text) = record { keyword = keyword; text = text } ∷ []
-
-abbrev pub previous_marks : Bool → Marks
-previous_marks obsolete = record { obsolete = obsolete; previous = true }
 
 -- no plural form begins with this word
 abbrev IsNoForm : Keyword → Type 0

@@ -4,7 +4,7 @@ use Rattle.std.specs.List.{flat_map, list_any}
 use Rattle.std.proofs.lemmas.List.{append-nil}
 use Rattle.std.proofs.lemmas.List.Elements.{All-nil, All-cons, All-head, All-weaker}
 use Rattle.std.proofs.lemmas.Bool.{ne_eqb}
-use Rattle.po_entry.proofs.Lists.{All-left, All-right}
+use Rattle.po_entry.specs.Halves.{All-left, All-right}
 use Rattle.po_syntax.specs.declared.item.CommentKind.TheVariants.{Translator, Extracted, Reference, Flags}
 use Rattle.po_syntax.specs.TextItem.{TextItem}
 use Rattle.po_entry.specs.Bytes.{Lacks, AreDistinct}
@@ -14,7 +14,8 @@ use Rattle.po_entry.specs.Strings.{own_marks}
 use Rattle.po_entry.specs.Notes.{comments_of, extracted_of, references_of, flag_words_of, fuzzy_of, flags_of, words_of, flag_words, is_fuzzy_word, with_flag, is_comma}
 use Rattle.po_entry.specs.Head.{Note}
 use Rattle.po_entry.specs.Body.{Body}
-use Rattle.po_entry.specs.Reads.{Reads, entry, entry_from}
+use Rattle.po_entry.specs.Descent.{Reads, entry}
+use Rattle.po_entry.specs.Spelling.{entry_from, previous_marks}
 use Rattle.po_writer.specs.WrittenText.{comment_lines, words_line, all_flags, previous_prefix, own_prefix, previous_lines, own_lines, entry_lines}
 use Rattle.po_writer.proofs.Utf8.{IsLine, is_plain, line-append, line-empty, plain_line}
 use Rattle.po_writer.proofs.Spelling.{Block, two_blocks}
@@ -23,7 +24,7 @@ use Rattle.po_writer.proofs.KeywordTexts.{IsLinePrefix, IsQuotable}
 use Rattle.po_writer.proofs.Heads.{IsFresh, HeadPart, two_parts, remarks, IsMarked, comments_block, translator_shape, extracted_shape, reference_shape, flags_shape}
 use Rattle.po_writer.proofs.Words.{IsWord, IsEnded, word_ended, IsFlagWord, flag_ended}
 use Rattle.po_writer.proofs.Fields.{words_text, all_remarks, comments_kept, extracted_kept, reference_texts, flag_texts, references_kept, flag_words_kept, fuzzy_kept, flags_kept, words_block}
-use Rattle.po_writer.proofs.Bodies.{WordsWritten, BodyPart, HasForms, body_block, previous_marks, all_previous, previous_kept, previous_lines_block}
+use Rattle.po_writer.proofs.Bodies.{WordsWritten, BodyPart, HasForms, body_block, all_previous, previous_kept, previous_lines_block}
 
 -- behind whatever stands before, the items read as this entry, and then what stands behind them
 abbrev pub EntryPart : TextEntry → List TextItem → Type 0

@@ -6,12 +6,13 @@ use Rattle.std.proofs.lemmas.Str.{IsUtf8-nil}
 use Rattle.std.proofs.lemmas.List.{append-nil}
 use Rattle.std.proofs.lemmas.List.Elements.{All-nil, All-cons, All-head, All-tail}
 use Rattle.std.proofs.lemmas.Bool.{eqb-true, ltb-true}
-use Rattle.po_entry.proofs.Lists.{All-left, All-right}
+use Rattle.po_entry.specs.Halves.{All-left, All-right}
 use Rattle.po_syntax.specs.declared.item.Keyword.{Keyword}
 use Rattle.po_syntax.specs.declared.item.Marks.{Marks}
 use Rattle.po_syntax.specs.QuotedForm.{quoted}
 use Rattle.po_syntax.specs.TextItem.{TextItem, Word, Str}
-use Rattle.po_entry.specs.Strings.{IsStrings, last, more, same_bool, same_marks, begins_string}
+use Rattle.po_entry.specs.Strings.{IsStrings, last, more, begins_string}
+use Rattle.po_entry.proofs.SameMarks.{same_marks-refl}
 use Rattle.po_writer.specs.WrittenText.{cut, string_line, keyword_lines}
 use Rattle.po_writer.proofs.Utf8.{IsLine, line-append, quoted_line, text_some, pieces_utf8, line-ascii, plain_one, no_text}
 use Rattle.po_writer.proofs.Spelling.{Block, BeginsLow, low-append, two_blocks, weaker_block, line_block}
@@ -24,13 +25,6 @@ StringsPart marks text here = (later : List TextItem) → (begins_string later �
 -- the items are a word with the strings of its text
 abbrev pub TextPart : Keyword → Marks → List ℕ → List TextItem → Type 0
 TextPart keyword marks text here = (number : ℕ) × (strings : List TextItem) × (here ≡ Word keyword marks number ∷ strings) × StringsPart marks text strings
-
-pub same_bool-refl : (b : Bool) → same_bool b b ≡ true
-same_bool-refl true = refl
-same_bool-refl false = refl
-
-same_marks-refl : (marks : Marks) → same_marks marks marks ≡ true
-same_marks-refl marks = rw (same_bool-refl marks.obsolete, same_bool-refl marks.previous) refl
 
 last_string : (marks : Marks) (number : ℕ) (text : List ℕ) → StringsPart marks text (Str text marks number ∷ [])
 last_string marks number text later = (λ ends. last (rw (same_marks-refl marks) refl) ends, refl)

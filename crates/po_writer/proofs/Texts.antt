@@ -12,7 +12,9 @@ use Rattle.po_syntax.specs.Token.{first_token}
 use Rattle.po_entry.specs.TextEntry.{TextEntry, with_line, quoted_texts}
 use Rattle.po_entry.specs.Header.{HasAdmittedCharset}
 use Rattle.po_entry.specs.Validity.{IsText, IsEntry, IsCatalogueEntry}
-use Rattle.po_entry.specs.Reads.{Reads, comments, HasReadableTexts, ReadsText}
+use Rattle.po_entry.specs.Descent.{Reads, comments}
+use Rattle.po_entry.specs.Reads.{HasReadableTexts, ReadsText}
+use Rattle.po_entry.proofs.Spelt.{reads_spelt}
 use Rattle.po_writer.specs.WrittenText.{keyword_lines, form_lines, translation_lines, own_lines, own_prefix, entry_lines, arranged, written_text}
 use Rattle.po_writer.proofs.Separated.{keyword_some}
 use Rattle.po_writer.proofs.Utf8.{line-empty}
@@ -163,7 +165,7 @@ written_reads law entries h small =
       record {
         items = spelt.0;
         spelt = spelt.2;
-        reads = spelt.1.2;
+        reads = reads_spelt spelt.1.2;
         texts = numbered_all IsCatalogueEntry HasReadableTexts (arranged entries) read readable spelt.1.3 all;
         charsets = numbered_all IsCatalogueEntry HasAdmittedCharset (arranged entries) read (λ e line g. g.charset) spelt.1.3 all;
       },

@@ -1,7 +1,7 @@
 use Rattle.std.proofs.Common.{◌<◌, [], length, append_assoc, arith, inl, inr}
 use Rattle.std.proofs.lemmas.Result.{err_from_is_err_and}
 use Rattle.std.proofs.lemmas.List.{append-nil, map_push}
-use Rattle.po_entry.specs.Reads.Reads.{comments, entry}
+use Rattle.po_entry.specs.Descent.Reads.{comments, entry}
 use Rattle.po_reader.specs.Stops.EntriesStop.{in_head, in_body, later}
 use Rattle.po_reader.proofs.HeadEnds.{head_over, over_cases, head_at_end}
 use Rattle.po_reader.proofs.Places.{none_at_end, some_before_end}

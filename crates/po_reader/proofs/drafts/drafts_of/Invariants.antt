@@ -3,7 +3,7 @@ use Rattle.po_syntax.specs.declared.fault.PoFault.{PoFault}
 use Rattle.po_syntax.specs.TextItem.{views}
 use Rattle.po_entry.specs.TextEntry.{TextEntry}
 use Rattle.po_entry.specs.EntryText.{entry_of}
-use Rattle.po_entry.specs.Reads.{Reads}
+use Rattle.po_entry.specs.Descent.{Reads}
 use Rattle.po_reader.specs.Stops.{EntriesStop}
 use Rattle.po_reader.proofs.drafts.drafts_of.Given as goal
 

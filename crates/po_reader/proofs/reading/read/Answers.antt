@@ -3,6 +3,7 @@ use Rattle.std.proofs.lemmas.Result.{err_from_is_err_and}
 use Rattle.po_syntax.specs.TextItem.{views}
 use Rattle.po_entry.specs.EntryText.{entry_of}
 use Rattle.po_entry.specs.Reads.{ReadsText}
+use Rattle.po_entry.proofs.Spelt.{reads_spelt}
 use Rattle.po_reader.specs.Faults.IsReadFault.{in_text, in_items, in_texts, in_charset}
 use Rattle.po_reader.proofs.StopFaults.{items_fault}
 use Rattle.po_reader.proofs.SoundItems.{items_sound}
@@ -27,7 +28,7 @@ returns-in_err-check_drafts-clause-fault c =
     let reads = rw c.deref.ensures.value at c.in_ok-drafts.ensures.found in
     let sound = entries_sound reads (items_sound _ (c.items_hold_text.ensures _ _ c.in_ok-items.ensures.found)) in
     let stops = rw c.deref-3.ensures.value at c.in_err-check_drafts.ensures.fault in
-    rw (p.1, p.2) (λ other. in_texts c.in_ok-items.ensures.found reads (stops_readable stops sound))
+    rw (p.1, p.2) (λ other. in_texts c.in_ok-items.ensures.found (reads_spelt reads) (stops_readable stops sound))
 
 pub returns-in_err-check_drafts-clause-memory : goal.returns-in_err-check_drafts-clause-memory
 returns-in_err-check_drafts-clause-memory c =
@@ -47,11 +48,11 @@ returns-clause-found c =
     let asked = rw c.deref-3.ensures.value at c.in_ok-check_drafts.ensures.ok in
     let readable = all_readable c.in_ok-drafts.drafts.items asked in
     ok_same (ReadsText c.args.text.now) (map entry_of c.in_ok-drafts.drafts.items) c.catalogue_of.result c.catalogue_of.ensures.entries
-    (ok_step c.catalogue_of.result (λ _ charsets. record { items = views c.in_ok-items.items.items; spelt = c.in_ok-items.ensures.found; reads = reads; texts = readable; charsets = charsets }) c.catalogue_of.ensures.charsets)
+    (ok_step c.catalogue_of.result (λ _ charsets. record { items = views c.in_ok-items.items.items; spelt = c.in_ok-items.ensures.found; reads = reads_spelt reads; texts = readable; charsets = charsets }) c.catalogue_of.ensures.charsets)
 
 pub returns-clause-fault : goal.returns-clause-fault
 returns-clause-fault c =
     let reads = rw c.deref.ensures.value at c.in_ok-drafts.ensures.found in
     let asked = rw c.deref-3.ensures.value at c.in_ok-check_drafts.ensures.ok in
     let readable = all_readable c.in_ok-drafts.drafts.items asked in
-    err_step c.catalogue_of.result (λ e h other. let foreign = h other in rw foreign.0 (in_charset c.in_ok-items.ensures.found reads readable foreign.1)) c.catalogue_of.ensures.fault
+    err_step c.catalogue_of.result (λ e h other. let foreign = h other in rw foreign.0 (in_charset c.in_ok-items.ensures.found (reads_spelt reads) readable foreign.1)) c.catalogue_of.ensures.fault

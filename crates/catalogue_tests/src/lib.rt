@@ -1,0 +1,16 @@
+//! Tests of the crates that read, write and compile catalogues, through their public calls: texts and
+//! answers that were worked out by hand. They stand in a crate of their own, since the gate proves a
+//! crate once more together with the tests in it.
+
+#![tactic(auto)]
+
+#[cfg(test)]
+mod built_entries;
+#[cfg(test)]
+mod catalogues;
+#[cfg(test)]
+mod compiling;
+#[cfg(test)]
+mod items;
+#[cfg(test)]
+mod reading;

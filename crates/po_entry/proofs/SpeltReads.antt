@@ -1,0 +1,113 @@
+-- A spelling reads before any rest that begins with neither a string nor a plural form.
+use Rattle.std.proofs.Common.{◌≡◌, ℕ, Bool, true, false, List, [], ◌∷◌, ◌++◌, Option, append_assoc, refl}
+use Rattle.std.proofs.lemmas.Bool.{lt-ltb, eq-eqb}
+use Rattle.po_syntax.specs.declared.item.Keyword.{Keyword}
+use Rattle.po_syntax.specs.declared.item.Keyword.TheVariants.{MsgCtxt, MsgId, MsgIdPlural, MsgStr, MsgStrAt}
+use Rattle.po_syntax.specs.declared.item.Marks.{Marks}
+use Rattle.po_syntax.specs.TextItem.{TextItem, Comment, Word, Str}
+use Rattle.po_entry.specs.TextEntry.{TextEntry}
+use Rattle.po_entry.specs.Strings as string
+use Rattle.po_entry.specs.Words as word
+use Rattle.po_entry.specs.Body as body
+use Rattle.po_entry.specs.Head as head
+use Rattle.po_entry.specs.Descent as read
+use Rattle.po_entry.specs.Spelling as spell
+use Rattle.po_entry.proofs.SameMarks.{same_bool-refl, same_marks-refl}
+use Rattle.po_entry.proofs.PreviousOrder.{Rise, words, order_rises}
+
+-- neither a string nor a plural form stands first
+abbrev IsApart : List TextItem → Type 0
+IsApart items = (string.begins_string items ≡ false) × (body.begins_form items ≡ false)
+
+-- the head of an entry ends here
+abbrev Starts : List TextItem → Type 0
+Starts items = (above : ℕ) → head.head_step above items ≡ head.Over
+
+strings_begin : {marks : Marks} {own : List TextItem} {bytes : List ℕ} → spell.SpellsStrings marks own bytes → (rest : List TextItem) → string.begins_string (own ++ rest) ≡ true
+strings_begin spell.last rest = refl
+strings_begin (spell.more s) rest = refl
+
+strings_read : {marks : Marks} {own : List TextItem} {bytes : List ℕ} → spell.SpellsStrings marks own bytes → (rest : List TextItem) → string.begins_string rest ≡ false → string.IsStrings marks (own ++ rest) bytes rest
+strings_read {marks} spell.last rest ends = string.last (rw (same_marks-refl marks) refl) ends
+strings_read {marks} (spell.more s) rest ends = string.more (rw (same_marks-refl marks) refl) (strings_begin s rest) (strings_read s rest ends)
+
+word_begins : {keyword : Keyword} {marks : Marks} {line : ℕ} {own : List TextItem} {text : List ℕ} → spell.SpellsWord keyword marks line own text → (rest : List TextItem) → string.begins_string (own ++ rest) ≡ false
+word_begins (spell.worded s) rest = refl
+
+word_read : {keyword : Keyword} {obsolete : Bool} {line : ℕ} {own : List TextItem} {text : List ℕ} → spell.SpellsWord keyword (string.own_marks obsolete) line own text → (wanted : word.Wanted) → word.is_wanted wanted keyword ≡ true
+    → (rest : List TextItem) → string.begins_string rest ≡ false → word.IsWorded wanted obsolete (own ++ rest) keyword line text rest
+word_read {keyword} {obsolete} (spell.worded s) wanted found rest ends = word.worded (rw (found, same_bool-refl obsolete) refl) (strings_read s rest ends)
+
+form_begins : {index line : ℕ} {obsolete : Bool} {own : List TextItem} {form : List ℕ} → spell.SpellsWord (MsgStrAt index) (string.own_marks obsolete) line own form → (rest : List TextItem) → body.begins_form (own ++ rest) ≡ true
+form_begins (spell.worded s) rest = refl
+
+forms_begin : {obsolete : Bool} {index : ℕ} {own : List TextItem} {forms : List (List ℕ)} → spell.SpellsForms obsolete index own forms → (rest : List TextItem) → (string.begins_string (own ++ rest) ≡ false) × (body.begins_form (own ++ rest) ≡ true)
+forms_begin (spell.last_form w) rest = (word_begins w rest, form_begins w rest)
+forms_begin (spell.more_forms {own = own} {items = items} w f) rest = rw (append_assoc own items rest) (word_begins w (items ++ rest), form_begins w (items ++ rest))
+
+forms_read : {obsolete : Bool} {index : ℕ} {own : List TextItem} {forms : List (List ℕ)} → spell.SpellsForms obsolete index own forms → (rest : List TextItem) → IsApart rest → body.IsForms obsolete index (own ++ rest) forms rest
+forms_read {obsolete} {index} (spell.last_form w) rest apart = body.last (word_read w (word.Form index) (eq-eqb index index refl) rest apart.0) apart.1
+forms_read {obsolete} {index} (spell.more_forms {own = own} {items = items} w f) rest apart =
+    let begins = forms_begin f rest in
+    rw (append_assoc own items rest) (body.more (word_read w (word.Form index) (eq-eqb index index refl) (items ++ rest) begins.0) begins.1 (forms_read f rest apart))
+
+translation_begins : {obsolete : Bool} {own : List TextItem} {plural : Option (List ℕ)} {forms : List (List ℕ)} → spell.SpellsTranslation obsolete own plural forms → (rest : List TextItem) → string.begins_string (own ++ rest) ≡ false
+translation_begins (spell.single w) rest = word_begins w rest
+translation_begins (spell.plural {own = own} {items = items} w f) rest = rw (append_assoc own items rest) (word_begins w (items ++ rest))
+
+translation_read : {obsolete : Bool} {own : List TextItem} {plural : Option (List ℕ)} {forms : List (List ℕ)} → spell.SpellsTranslation obsolete own plural forms → (rest : List TextItem) → IsApart rest
+    → body.IsTranslation obsolete (own ++ rest) plural forms rest
+translation_read (spell.single w) rest apart = body.single (word_read w word.Translation refl rest apart.0)
+translation_read (spell.plural {own = own} {items = items} w f) rest apart =
+    rw (append_assoc own items rest) (body.plural (word_read w word.Translation refl (items ++ rest) (forms_begin f rest).0) (forms_read f rest apart))
+
+body_read : {own : List TextItem} {lines : body.Body} → spell.SpellsBody own lines → (rest : List TextItem) → IsApart rest → body.IsBody (own ++ rest) lines rest
+body_read (spell.own_lines {last = last} spell.no_context (spell.worded {strings = strings} s) t) rest apart =
+    rw (append_assoc strings last rest) (body.without_context refl (strings_read s (last ++ rest) (translation_begins t rest)) (translation_read t rest apart))
+body_read (spell.own_lines {own = own} {last = last} (spell.context (spell.worded {strings = strings} s)) w t) rest apart =
+    rw (append_assoc (strings ++ own) last rest, append_assoc strings own (last ++ rest))
+    (body.with_context refl (strings_read s (own ++ (last ++ rest)) (word_begins w (last ++ rest))) (word_read w word.Id refl (last ++ rest) (translation_begins t rest)) (translation_read t rest apart))
+
+body_begins : {own : List TextItem} {lines : body.Body} → spell.SpellsBody own lines → (rest : List TextItem) → Starts (own ++ rest) × IsApart (own ++ rest)
+body_begins (spell.own_lines spell.no_context (spell.worded s) t) rest = (λ above. refl, (refl, refl))
+body_begins (spell.own_lines (spell.context (spell.worded s)) w t) rest = (λ above. refl, (refl, refl))
+
+-- a previous text is no plural form
+previous_apart : (keyword : Keyword) (obsolete : Bool) (line : ℕ) (rest : List TextItem) → IsApart (Word keyword (spell.previous_marks obsolete) line ∷ rest)
+previous_apart MsgCtxt obsolete line rest = (refl, refl)
+previous_apart MsgId obsolete line rest = (refl, refl)
+previous_apart MsgIdPlural obsolete line rest = (refl, refl)
+previous_apart MsgStr obsolete line rest = (refl, refl)
+previous_apart (MsgStrAt index) obsolete line rest = (refl, refl)
+
+head_apart : {own : List TextItem} {notes : List head.Note} {previous : List head.PreviousText} → spell.SpellsHead own notes previous → (rest : List TextItem) → IsApart rest → IsApart (own ++ rest)
+head_apart spell.nothing rest apart = apart
+head_apart (spell.remark h) rest apart = (refl, refl)
+head_apart (spell.previous_text {keyword = keyword} {obsolete = obsolete} {line = line} {items = items} (spell.worded {strings = strings} s) h) rest apart = previous_apart keyword obsolete line (strings ++ items ++ rest)
+
+head_read : {own : List TextItem} {notes : List head.Note} {previous : List head.PreviousText} → spell.SpellsHead own notes previous → (above : ℕ) → Rise above (words previous) → (rest : List TextItem) → Starts rest → IsApart rest
+    → head.IsHead above (own ++ rest) notes previous rest
+head_read spell.nothing above rise rest starts apart = head.over (starts above)
+head_read (spell.remark h) above rise rest starts apart = head.remark refl (head_read h above rise rest starts apart)
+head_read (spell.previous_text {keyword = keyword} {obsolete = obsolete} {line = line} {items = items} (spell.worded {strings = strings} s) h) above rise rest starts apart =
+    let behind = strings ++ (items ++ rest) in
+    let step : head.head_step above (Word keyword (spell.previous_marks obsolete) line ∷ behind) ≡ head.Previous keyword (spell.previous_marks obsolete) behind = rw (lt-ltb above (head.rank keyword) rise.0) refl in
+    rw (append_assoc strings items rest)
+    (head.previous step (strings_read s (items ++ rest) (head_apart h rest apart).0) (head_read h (head.rank keyword) rise.1 rest starts apart))
+
+comments_apart : (items : List TextItem) → spell.AreComments items → IsApart items
+comments_apart [] only = (refl, refl)
+comments_apart (Comment kind text line ∷ items) only = (refl, refl)
+comments_apart (Word keyword marks line ∷ items) only = absurd only.0
+comments_apart (Str bytes marks line ∷ items) only = absurd only.0
+
+entries_apart : {items : List TextItem} {entries : List TextEntry} → spell.SpellsEntries items entries → IsApart items
+entries_apart (spell.comments {items = items} only) = comments_apart items only
+entries_apart (spell.entries {items = items} (spell.entry {head = front} {own = own} h order b) more) =
+    rw (append_assoc front own items) (head_apart h (own ++ items) (body_begins b items).1)
+
+pub spelt_reads : {items : List TextItem} {entries : List TextEntry} → spell.SpellsEntries items entries → read.Reads items entries
+spelt_reads (spell.comments only) = read.comments only
+spelt_reads (spell.entries {items = items} (spell.entry {head = front} {own = own} {previous = previous} h order b) more) =
+    let begins = body_begins b items in
+    rw (append_assoc front own items) (read.entry (head_read h 0 (order_rises previous order) (own ++ items) begins.0 begins.1) (body_read b items (entries_apart more)) (spelt_reads more))
