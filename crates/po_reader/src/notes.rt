@@ -77,6 +77,17 @@ fn cut_at_comma(text: &[u8]) -> (&[u8], Option<&[u8]>)
     (word, Some(rest.split_at(1).1))
 }
 
+/// Adds a word. The first gets room for itself alone, as most lists have no other.
+fn add_word(words: &mut Vec<Vec<u8>>, word: Vec<u8>) -> Result<(), AllocError>
+    ensures { OnOk result (texts words.new.items ≡ texts words.old.items ++ word.items ∷ []) }
+{
+    if words.is_empty() {
+        words.reserve_exact(1)?;
+    }
+    words.push(word)?;
+    Ok(())
+}
+
 /// Adds the words of a text, which stand between blanks.
 pub(crate) fn add_words(
     alloc: Global,
@@ -89,7 +100,7 @@ pub(crate) fn add_words(
     loop {
         let (word, behind) = cut_at_blank(rest);
         if !word.is_empty() {
-            words.push(word.to_vec(alloc)?)?;
+            add_word(words, word.to_vec(alloc)?)?;
         }
         let Some(behind) = behind else {
             return Ok(());
