@@ -40,6 +40,13 @@ pub fn no_fault_is_memory()
         → TextFault text fault line → fault ≢ PoFault.OutOfMemory }
 {}
 
+/// Behind an opening quote a text spells at most one string, which ends at one place.
+pub fn one_string()
+    ensures { (text bytes others rest end : List ℕ)
+        → IsQuoted text bytes rest → IsQuoted text others end
+        → (bytes ≡ others) × (rest ≡ end) }
+{}
+
 /// The quoted form of bytes without NUL spells just these bytes, and ends where it ends.
 pub fn quoted_form_spells()
     ensures { (bytes rest : List ℕ) → All (λ b. (0 < b) × (b < 256)) bytes
