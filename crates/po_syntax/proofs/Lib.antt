@@ -13,3 +13,5 @@ pub mod TrimmedReturns
 pub mod ItemTexts
 pub mod QuotedTexts
 pub mod NoMemory
+pub mod Escapes
+pub mod SpeltEscapes

@@ -1,5 +1,6 @@
 pub mod TextItem
 pub mod QuotedString
+pub mod Escapes
 pub mod Token
 pub mod Line
 pub mod CodeView

@@ -1,6 +1,7 @@
 //! Laws of the definitions, each on an empty function: a crate that rests on one calls it.
-ghost use Rattle.std.specs.Prelude.{◌≡◌, ◌≢◌, ◌⊎◌, ◌<◌, ◌≤◌, ℕ, List, ◌++◌, All, IsUtf8};
+ghost use Rattle.std.specs.Prelude.{◌≡◌, ◌≢◌, ◌↔◌, ◌⊎◌, ◌<◌, ◌≤◌, ℕ, List, ◌++◌, All, IsUtf8};
 ghost use Rattle.po_syntax.specs.declared.fault.PoFault.{PoFault};
+ghost use Rattle.po_syntax.specs.Escapes.{SpellsString};
 ghost use Rattle.po_syntax.specs.ItemText.{HoldsText};
 ghost use Rattle.po_syntax.specs.PoText.{SpellsText, TextFault};
 ghost use Rattle.po_syntax.specs.QuotedForm.{quoted};
@@ -45,6 +46,13 @@ pub fn one_string()
     ensures { (text bytes others rest end : List ℕ)
         → IsQuoted text bytes rest → IsQuoted text others end
         → (bytes ≡ others) × (rest ≡ end) }
+{}
+
+/// Behind an opening quote a string is read, step by step, exactly where it is spelt: each of its
+/// bytes by itself or by an escape, and then the closing quote.
+pub fn strings_are_spelt()
+    ensures { (text bytes rest : List ℕ)
+        → IsQuoted text bytes rest ↔ SpellsString text bytes rest }
 {}
 
 /// The quoted form of bytes without NUL spells just these bytes, and ends where it ends.

@@ -1,0 +1,77 @@
+-- Each spelling of a quoted string is read by its steps.
+use Rattle.std.proofs.Common.{◌≡◌, ◌⊎◌, inl, inr, refl, ℕ, zero, suc, ◌≤◌, List, [], ◌∷◌, ◌++◌, length, take, drop, arith}
+use Rattle.std.specs.Char.{digit_value}
+use Rattle.std.specs.Str.Parse.{AllDigits, IsNumeral, digits_value}
+use Rattle.std.proofs.Math.Seq.{take-append_seam, drop-append_seam}
+use Rattle.std.proofs.lemmas.Bool.{ne_eqb, lt-ltb, le-ltb}
+use Rattle.po_syntax.specs.QuotedString.{End, Byte, digit_count, number_step, escape_at, step_at, IsQuoted, ended, spelt}
+use Rattle.po_syntax.specs.Escapes.{NoDigitFirst, IsByteNumber, SpellsEscape, alert, backspace, form_feed, line_feed, carriage_return, tab, vertical_tab, backslash, quote, octal, hexadecimal, SpellsString, closed, plain, escape}
+
+-- as many digits as there are, up to so many
+count_front : (base most : ℕ) (digits rest : List ℕ) → AllDigits base digits → length digits ≤ most → (length digits ≡ most) ⊎ NoDigitFirst base rest → digit_count base (take most (digits ++ rest)) ≡ length digits
+count_front base zero [] rest all within end = refl
+count_front base (suc most) [] rest all within (inl full) = absurd (omega (arith, full))
+count_front base (suc most) [] [] all within (inr none) = refl
+count_front base (suc most) [] (b ∷ rest) all within (inr none) = rw (le-ltb (digit_value b) base none) refl
+count_front base zero (d ∷ digits) rest all within end = absurd (omega (arith, within))
+count_front base (suc most) (d ∷ digits) rest all within (inl full) =
+    rw (lt-ltb (digit_value d) base all.0) (omega (arith, count_front base most digits rest all.1 (omega (arith, within)) (inl (omega (arith, full)))))
+count_front base (suc most) (d ∷ digits) rest all within (inr none) =
+    rw (lt-ltb (digit_value d) base all.0) (omega (arith, count_front base most digits rest all.1 (omega (arith, within)) (inr none)))
+
+-- as many digits as there are
+count_all : (base : ℕ) (digits rest : List ℕ) → AllDigits base digits → NoDigitFirst base rest → digit_count base (digits ++ rest) ≡ length digits
+count_all base [] [] all none = refl
+count_all base [] (b ∷ rest) all none = rw (le-ltb (digit_value b) base none) refl
+count_all base (d ∷ digits) rest all none =
+    rw (lt-ltb (digit_value d) base all.0) (omega (arith, count_all base digits rest all.1 none))
+
+number_read : (base : ℕ) (digits rest : List ℕ) → IsByteNumber (digits_value base digits) → number_step base (length digits) (digits ++ rest) ≡ Byte (digits_value base digits) rest
+number_read base digits rest small =
+    rw (take-append_seam digits rest, drop-append_seam digits rest, ne_eqb (digits_value base digits) 0 (λ none. omega (arith, small.0, none)), lt-ltb (digits_value base digits) 256 small.1) refl
+
+octal_read : (digits rest : List ℕ) → IsNumeral 8 digits → length digits ≤ 3 → (length digits ≡ 3) ⊎ NoDigitFirst 8 rest → IsByteNumber (digits_value 8 digits) → escape_at (digits ++ rest) ≡ Byte (digits_value 8 digits) rest
+unfolding escape_at
+octal_read [] rest numeral within end small = absurd (omega (arith, numeral.0))
+octal_read (d ∷ digits) rest numeral within end small =
+    let count = count_front 8 3 (d ∷ digits) rest numeral.1 within end in
+    let first = lt-ltb (digit_value d) 8 numeral.1.0 in
+    rw (count, first) (number_read 8 (d ∷ digits) rest small)
+
+hexadecimal_read : (digits rest : List ℕ) → IsNumeral 16 digits → NoDigitFirst 16 rest → IsByteNumber (digits_value 16 digits) → escape_at (120 ∷ digits ++ rest) ≡ Byte (digits_value 16 digits) rest
+unfolding escape_at
+hexadecimal_read digits rest numeral none small =
+    let count = count_all 16 digits rest numeral.1 none in
+    let some = ne_eqb (length digits) 0 (λ same. omega (arith, same, numeral.0)) in
+    rw (count, some) (number_read 16 digits rest small)
+
+escape_read : {text rest : List ℕ} {b : ℕ} → SpellsEscape text b rest → escape_at text ≡ Byte b rest
+unfolding escape_at
+escape_read alert = refl
+escape_read backspace = refl
+escape_read form_feed = refl
+escape_read line_feed = refl
+escape_read carriage_return = refl
+escape_read tab = refl
+escape_read vertical_tab = refl
+escape_read backslash = refl
+escape_read quote = refl
+escape_read (octal digits {rest = rest} numeral within end small) = octal_read digits rest numeral within end small
+escape_read (hexadecimal digits {rest = rest} numeral none small) = hexadecimal_read digits rest numeral none small
+
+closing_quote : (rest : List ℕ) → step_at (34 ∷ rest) ≡ End rest
+unfolding step_at
+closing_quote rest = refl
+
+plain_read : (b : ℕ) (text : List ℕ) → (b ≡ 34 → ⊥) → (b ≡ 92 → ⊥) → step_at (b ∷ text) ≡ Byte b text
+unfolding step_at
+plain_read b text inside raw = rw (ne_eqb b 34 inside, ne_eqb b 92 raw) refl
+
+backslash_read : (text : List ℕ) {rest : List ℕ} {b : ℕ} → SpellsEscape text b rest → step_at (92 ∷ text) ≡ Byte b rest
+unfolding step_at
+backslash_read text h = escape_read h
+
+pub spelt_quoted : {text bytes rest : List ℕ} → SpellsString text bytes rest → IsQuoted text bytes rest
+spelt_quoted (closed {rest = rest}) = ended (closing_quote rest)
+spelt_quoted (plain {b = b} {text = text} inside raw more) = spelt (plain_read b text inside raw) (spelt_quoted more)
+spelt_quoted (escape {text = text} h more) = spelt (backslash_read text h) (spelt_quoted more)
