@@ -344,6 +344,7 @@ pub fn run_msgfmt<R: ByteIn, O: ByteOut, E: ByteOut>(
     requires read_failures { R.failures reader.old < 2 ^ 63 }
     requires out_failures { O.failures out.old < 2 ^ 63 }
     requires err_failures { E.failures err.old < 2 ^ 63 }
+    ensures calls { R.calls reader.new ≤ R.calls reader.old + 4294967296 }
     ensures delivered { IfOk result (λ status. IsMsgfmtDelivered (R.remaining reader.old) name.now options.now (O.contents out.old) (O.contents out.new) (E.contents err.old) (E.contents err.new) status) }
     ensures prefix { IsErrOf result ToolFault.WriteFault → IsMsgfmtCut (R.remaining reader.old) name.now options.now (O.contents out.old) (O.contents out.new) (E.contents err.old) (E.contents err.new) }
     ensures no_output { (result ≡ Err ToolFault.ReadFault) ⊎ (result ≡ Err ToolFault.OutOfMemory) → Keeps (O.contents out.old) (O.contents out.new) }
