@@ -29,3 +29,9 @@ abbrev pub input_fault : ToolFault → Bor (List ℕ) → ProgramFault
 input_fault NotRead name = ReadFault name
 input_fault NotWritten name = WriteFault
 input_fault NoMemory name = OutOfMemory
+
+-- what a tool tells that reads standard input by itself
+abbrev pub stdin_text : ToolFault → List ℕ
+stdin_text NotRead = codes "<stdin>: read fault"
+stdin_text NotWritten = codes "write fault"
+stdin_text NoMemory = codes "out of memory"

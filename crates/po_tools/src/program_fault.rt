@@ -2,7 +2,8 @@
 ghost use Rattle.std.specs.Prelude.{◌≡◌, ◌+◌, ◌^◌, ◌<◌, ◌++◌, OnOk, OnErr, Err};
 ghost use Rattle.std.specs.Io.KnownBytes.{Appends};
 ghost use Rattle.std.specs.Option.{option_copied};
-ghost use Rattle.po_tools.specs.ProgramFaults.{input_fault, program_line, program_text, tool_mark};
+ghost use Rattle.po_tools.specs.ProgramFaults.{input_fault, program_line, program_text, stdin_text, tool_mark};
+ghost use Rattle.po_tools.specs.declared.program_fault.ProgramFault.TheVariants.{OutOfMemory};
 
 use crate::run::STDIN_NAME;
 use po_shell::{ByteOut, ToolFault, put_all};
@@ -50,18 +51,24 @@ impl<'a> ProgramFault<'a> {
 
 // A tool that reads by itself reads standard input.
 impl From<ToolFault> for ProgramFault<'_> {
+    ghost from_gives = { λ fault told. program_text told ≡ stdin_text fault };
+
     fn from(fault: ToolFault) -> Self {
         ProgramFault::of_input(fault, STDIN_NAME)
     }
 }
 
 impl From<AllocError> for ProgramFault<'_> {
+    ghost from_gives = { λ _ told. told ≡ OutOfMemory };
+
     fn from(_error: AllocError) -> Self {
         ProgramFault::OutOfMemory
     }
 }
 
 impl<T: Drop> From<AllocFailed<T>> for ProgramFault<'_> {
+    ghost from_gives = { λ _ told. told ≡ OutOfMemory };
+
     fn from(_failed: AllocFailed<T>) -> Self {
         ProgramFault::OutOfMemory
     }
