@@ -363,12 +363,12 @@ fn places_a_catalogue(rt: HostRuntime) -> Result<(), Fail> {
 }
 
 // The catalogues for de_AT, with a space behind each.
-fn placed(
+fn placed<'x>(
     alloc: Global,
-    word: Option<&[u8]>,
-    option: Option<&[u8]>,
-    textdomain: Option<&[u8]>,
-    textdomaindir: Option<&[u8]>,
+    word: Option<&'x [u8]>,
+    option: Option<&'x [u8]>,
+    textdomain: Option<&'x [u8]>,
+    textdomaindir: Option<&'x [u8]>,
 ) -> Result<Vec<u8>, Fail> {
     let environment = Environment {
         lang: Some(b"de_AT".as_slice()),
