@@ -1,0 +1,162 @@
+//! The locales of an environment, and where their catalogues lie.
+
+use po_shell::{Environment, ToolFault, catalogue_path, catalogue_paths, locale_candidates};
+use std::alloc::Global;
+
+const UNSET: Environment<'static> = Environment {
+    lc_all: None,
+    lc_messages: None,
+    lang: None,
+    language: None,
+    textdomain: None,
+    textdomaindir: None,
+};
+
+/// LANG, LANGUAGE, and the candidates.
+const LOCALES: &[(&[u8], Option<&[u8]>, &[&[u8]])] = &[
+    (b"de", None, &[b"de"]),
+    (
+        b"de_AT.UTF-8@euro",
+        None,
+        &[
+            b"de_AT.UTF-8@euro",
+            b"de_AT@euro",
+            b"de@euro",
+            b"de_AT",
+            b"de",
+        ],
+    ),
+    (b"de_AT@", None, &[b"de_AT@", b"de@", b"de_AT", b"de"]),
+    (b"de_AT.UTF-8", None, &[b"de_AT.UTF-8", b"de_AT", b"de"]),
+    (b"de@a.b_c", None, &[b"de@a.b_c", b"de"]),
+    (b".UTF-8", None, &[b".UTF-8", b""]),
+    (b"C", None, &[]),
+    (b"POSIX", None, &[]),
+    (b"de/AT", None, &[]),
+    (b"", None, &[]),
+    (b"de_AT", Some(b"fr:de_AT:de"), &[b"fr", b"de_AT", b"de"]),
+    (b"C", Some(b"fr"), &[]),
+    (b"de", Some(b"fr:C:de"), &[b"fr"]),
+    (b"de", Some(b"C:fr"), &[]),
+    (b"de", Some(b"fr:POSIX"), &[b"fr"]),
+    (b"de", Some(b":"), &[]),
+    (b"de", Some(b""), &[b"de"]),
+    (b"de", Some(b":a/b::fr:"), &[b"fr"]),
+    (b"de", Some(b"de_AT:fr:de"), &[b"de_AT", b"de", b"fr"]),
+];
+
+/// LC_ALL, LC_MESSAGES, LANG, and the candidates.
+const ORDER: &[(Option<&[u8]>, Option<&[u8]>, Option<&[u8]>, &[&[u8]])] = &[
+    (Some(b""), Some(b"fr"), Some(b"de"), &[b"fr"]),
+    (Some(b"C"), Some(b"fr"), Some(b"de"), &[]),
+    (None, None, None, &[]),
+];
+
+const OF_W: &[&[u8]] = &[b"/d/de_AT/LC_MESSAGES/w.mo", b"/d/de/LC_MESSAGES/w.mo"];
+
+const OF_O: &[&[u8]] = &[b"/d/de_AT/LC_MESSAGES/o.mo", b"/d/de/LC_MESSAGES/o.mo"];
+
+const OF_V: &[&[u8]] = &[b"/d/de_AT/LC_MESSAGES/v.mo", b"/d/de/LC_MESSAGES/v.mo"];
+
+const IN_THE_DEFAULT_FOLDER: &[&[u8]] = &[
+    b"/usr/share/locale/de_AT/LC_MESSAGES/w.mo",
+    b"/usr/share/locale/de/LC_MESSAGES/w.mo",
+];
+
+/// The text domain as a word, of the option, and TEXTDOMAIN; TEXTDOMAINDIR; and the catalogues for de_AT.
+const DOMAINS: &[(
+    Option<&[u8]>,
+    Option<&[u8]>,
+    Option<&[u8]>,
+    Option<&[u8]>,
+    &[&[u8]],
+)] = &[
+    (Some(b"w"), Some(b"o"), Some(b"v"), Some(b"/d"), OF_W),
+    (Some(b"w"), None, None, Some(b"/d"), OF_W),
+    (None, Some(b"o"), Some(b"v"), Some(b"/d"), OF_O),
+    (None, None, Some(b"v"), Some(b"/d"), OF_V),
+    (None, None, None, Some(b"/d"), &[]),
+    (Some(b""), Some(b"v"), Some(b"v"), Some(b"/d"), &[]),
+    (None, Some(b""), Some(b"v"), Some(b"/d"), &[]),
+    (None, None, Some(b""), Some(b"/d"), &[]),
+    (Some(b"a/b"), Some(b"v"), Some(b"v"), Some(b"/d"), &[]),
+    (None, Some(b"a/b"), Some(b"v"), Some(b"/d"), &[]),
+    (None, None, Some(b"a/b"), Some(b"/d"), &[]),
+    (Some(b"w"), None, None, None, IN_THE_DEFAULT_FOLDER),
+    (Some(b"w"), None, None, Some(b""), IN_THE_DEFAULT_FOLDER),
+];
+
+/// Whether these names are listed.
+fn are_listed(listed: Result<Vec<Vec<u8>>, ToolFault>, wanted: &[&[u8]]) -> bool {
+    let Ok(names) = listed else {
+        return false;
+    };
+    if names.len() != wanted.len() {
+        return false;
+    }
+    for (name, wanted_name) in names.iter().zip(wanted) {
+        if name.as_slice() != *wanted_name {
+            return false;
+        }
+    }
+    true
+}
+
+#[test]
+fn lists_the_candidates_of_locales(rt: HostRuntime) {
+    for (lang, language, wanted) in LOCALES {
+        let environment = Environment {
+            lang: Some(lang),
+            language: *language,
+            ..UNSET
+        };
+        assert!(rt;
+            are_listed(locale_candidates(rt.alloc(), &environment), wanted),
+            "of {lang:?}, {language:?}"
+        );
+    }
+}
+
+#[test]
+fn asks_lc_all_before_lc_messages_before_lang(rt: HostRuntime) {
+    for (lc_all, lc_messages, lang, wanted) in ORDER {
+        let environment = Environment {
+            lc_all: *lc_all,
+            lc_messages: *lc_messages,
+            lang: *lang,
+            ..UNSET
+        };
+        assert!(rt;
+            are_listed(locale_candidates(rt.alloc(), &environment), wanted),
+            "of {lc_all:?}, {lc_messages:?}, {lang:?}"
+        );
+    }
+}
+
+#[test]
+fn places_the_catalogues_of_a_domain(rt: HostRuntime) {
+    for (word, option, textdomain, textdomaindir, wanted) in DOMAINS {
+        let environment = Environment {
+            lang: Some(b"de_AT"),
+            textdomain: *textdomain,
+            textdomaindir: *textdomaindir,
+            ..UNSET
+        };
+        assert!(rt;
+            are_listed(
+                catalogue_paths(rt.alloc(), *word, *option, &environment),
+                wanted
+            ),
+            "of {word:?}, {option:?}, {textdomain:?}, {textdomaindir:?}"
+        );
+    }
+}
+
+#[test]
+fn places_a_catalogue(rt: HostRuntime) {
+    let is_placed = match catalogue_path(rt.alloc(), b"/d", b"de", b"x") {
+        Ok(path) => path.as_slice() == b"/d/de/LC_MESSAGES/x.mo".as_slice(),
+        Err(_) => false,
+    };
+    assert!(rt; is_placed);
+}
