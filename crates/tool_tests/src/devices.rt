@@ -3,7 +3,7 @@
 use mo_file::Order;
 use po_shell::{Counted, Failing, Substituter, ToolFault, put_all, read_input, run_envsubst};
 use po_tools::{MsgfmtOptions, Run, deliver, run_msgfmt};
-use std::alloc::{AllocError, Global};
+use std::alloc::Global;
 
 const STATISTICS: MsgfmtOptions = MsgfmtOptions {
     use_fuzzy: false,
@@ -93,17 +93,8 @@ fn puts(
     outcome == told && writer.into_inner().into_inner().as_slice() == written
 }
 
-/// A run with the output `ab` and the message `c`.
-fn run(alloc: Global) -> Result<Run, AllocError> {
-    Ok(Run {
-        output: Vec::from_slice(alloc, b"ab")?,
-        create: true,
-        messages: Vec::from_slice(alloc, b"c")?,
-        status: 0,
-    })
-}
-
-/// Whether that run delivered to such writers tells this, and this has gone out to each.
+/// Whether a run with the output `ab` and the message `c`, delivered to such writers, tells this, and this has gone
+/// out to each.
 fn delivers(
     alloc: Global,
     out: Failing<Vec<u8>>,
@@ -112,13 +103,19 @@ fn delivers(
     output: &[u8],
     messages: &[u8],
 ) -> bool {
-    let Ok(run) = run(alloc) else {
-        return false;
+    let mut run = Run {
+        output: Vec::new(alloc),
+        create: true,
+        messages: Vec::new(alloc),
+        status: 0,
     };
+    let has_room = run.output.extend_from_slice(b"ab").is_ok()
+        && run.messages.extend_from_slice(b"c").is_ok();
     let mut out = Counted::new(out);
     let mut err = Counted::new(err);
     let outcome = deliver(&run, &mut out, &mut err);
-    outcome == told
+    has_room
+        && outcome == told
         && out.into_inner().into_inner().as_slice() == output
         && err.into_inner().into_inner().as_slice() == messages
 }

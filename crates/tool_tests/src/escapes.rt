@@ -53,6 +53,6 @@ fn expands_escapes(rt: HostRuntime) {
 #[test]
 fn reads_counts(rt: HostRuntime) {
     for (text, count) in COUNTS {
-        assert_eq!(rt; count_of(text), *count, "of {text:?}");
+        assert!(rt; count_of(text) == *count, "of {text:?}");
     }
 }

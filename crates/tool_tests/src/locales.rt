@@ -12,11 +12,18 @@ const UNSET: Environment<'static> = Environment {
     textdomaindir: None,
 };
 
-/// LANG, LANGUAGE, and the candidates.
-const LOCALES: &[(&[u8], Option<&[u8]>, &[&[u8]])] = &[
-    (b"de", None, &[b"de"]),
+/// The value of a variable of the environment, where it is set.
+type Variable = Option<&'static [u8]>;
+
+type Names = &'static [&'static [u8]];
+
+/// LC_ALL, LC_MESSAGES, LANG, LANGUAGE, and the candidates.
+const LOCALES: &[(Variable, Variable, Variable, Variable, Names)] = &[
+    (None, None, Some(b"de"), None, &[b"de"]),
     (
-        b"de_AT.UTF-8@euro",
+        None,
+        None,
+        Some(b"de_AT.UTF-8@euro"),
         None,
         &[
             b"de_AT.UTF-8@euro",
@@ -26,51 +33,65 @@ const LOCALES: &[(&[u8], Option<&[u8]>, &[&[u8]])] = &[
             b"de",
         ],
     ),
-    (b"de_AT@", None, &[b"de_AT@", b"de@", b"de_AT", b"de"]),
-    (b"de_AT.UTF-8", None, &[b"de_AT.UTF-8", b"de_AT", b"de"]),
-    (b"de@a.b_c", None, &[b"de@a.b_c", b"de"]),
-    (b".UTF-8", None, &[b".UTF-8", b""]),
-    (b"C", None, &[]),
-    (b"POSIX", None, &[]),
-    (b"de/AT", None, &[]),
-    (b"", None, &[]),
-    (b"de_AT", Some(b"fr:de_AT:de"), &[b"fr", b"de_AT", b"de"]),
-    (b"C", Some(b"fr"), &[]),
-    (b"de", Some(b"fr:C:de"), &[b"fr"]),
-    (b"de", Some(b"C:fr"), &[]),
-    (b"de", Some(b"fr:POSIX"), &[b"fr"]),
-    (b"de", Some(b":"), &[]),
-    (b"de", Some(b""), &[b"de"]),
-    (b"de", Some(b":a/b::fr:"), &[b"fr"]),
-    (b"de", Some(b"de_AT:fr:de"), &[b"de_AT", b"de", b"fr"]),
+    (
+        None,
+        None,
+        Some(b"de_AT@"),
+        None,
+        &[b"de_AT@", b"de@", b"de_AT", b"de"],
+    ),
+    (
+        None,
+        None,
+        Some(b"de_AT.UTF-8"),
+        None,
+        &[b"de_AT.UTF-8", b"de_AT", b"de"],
+    ),
+    (None, None, Some(b"de@a.b_c"), None, &[b"de@a.b_c", b"de"]),
+    (None, None, Some(b".UTF-8"), None, &[b".UTF-8", b""]),
+    (None, None, Some(b"C"), None, &[]),
+    (None, None, Some(b"POSIX"), None, &[]),
+    (None, None, Some(b"de/AT"), None, &[]),
+    (None, None, Some(b""), None, &[]),
+    (Some(b""), Some(b"fr"), Some(b"de"), None, &[b"fr"]),
+    (Some(b"C"), Some(b"fr"), Some(b"de"), None, &[]),
+    (None, None, None, None, &[]),
+    (
+        None,
+        None,
+        Some(b"de_AT"),
+        Some(b"fr:de_AT:de"),
+        &[b"fr", b"de_AT", b"de"],
+    ),
+    (None, None, Some(b"C"), Some(b"fr"), &[]),
+    (None, None, Some(b"de"), Some(b"fr:C:de"), &[b"fr"]),
+    (None, None, Some(b"de"), Some(b"C:fr"), &[]),
+    (None, None, Some(b"de"), Some(b"fr:POSIX"), &[b"fr"]),
+    (None, None, Some(b"de"), Some(b":"), &[]),
+    (None, None, Some(b"de"), Some(b""), &[b"de"]),
+    (None, None, Some(b"de"), Some(b":a/b::fr:"), &[b"fr"]),
+    (
+        None,
+        None,
+        Some(b"de"),
+        Some(b"de_AT:fr:de"),
+        &[b"de_AT", b"de", b"fr"],
+    ),
 ];
 
-/// LC_ALL, LC_MESSAGES, LANG, and the candidates.
-const ORDER: &[(Option<&[u8]>, Option<&[u8]>, Option<&[u8]>, &[&[u8]])] = &[
-    (Some(b""), Some(b"fr"), Some(b"de"), &[b"fr"]),
-    (Some(b"C"), Some(b"fr"), Some(b"de"), &[]),
-    (None, None, None, &[]),
-];
+const OF_W: Names = &[b"/d/de_AT/LC_MESSAGES/w.mo", b"/d/de/LC_MESSAGES/w.mo"];
 
-const OF_W: &[&[u8]] = &[b"/d/de_AT/LC_MESSAGES/w.mo", b"/d/de/LC_MESSAGES/w.mo"];
+const OF_O: Names = &[b"/d/de_AT/LC_MESSAGES/o.mo", b"/d/de/LC_MESSAGES/o.mo"];
 
-const OF_O: &[&[u8]] = &[b"/d/de_AT/LC_MESSAGES/o.mo", b"/d/de/LC_MESSAGES/o.mo"];
+const OF_V: Names = &[b"/d/de_AT/LC_MESSAGES/v.mo", b"/d/de/LC_MESSAGES/v.mo"];
 
-const OF_V: &[&[u8]] = &[b"/d/de_AT/LC_MESSAGES/v.mo", b"/d/de/LC_MESSAGES/v.mo"];
-
-const IN_THE_DEFAULT_FOLDER: &[&[u8]] = &[
+const IN_THE_DEFAULT_FOLDER: Names = &[
     b"/usr/share/locale/de_AT/LC_MESSAGES/w.mo",
     b"/usr/share/locale/de/LC_MESSAGES/w.mo",
 ];
 
 /// The text domain as a word, of the option, and TEXTDOMAIN; TEXTDOMAINDIR; and the catalogues for de_AT.
-const DOMAINS: &[(
-    Option<&[u8]>,
-    Option<&[u8]>,
-    Option<&[u8]>,
-    Option<&[u8]>,
-    &[&[u8]],
-)] = &[
+const DOMAINS: &[(Variable, Variable, Variable, Variable, Names)] = &[
     (Some(b"w"), Some(b"o"), Some(b"v"), Some(b"/d"), OF_W),
     (Some(b"w"), None, None, Some(b"/d"), OF_W),
     (None, Some(b"o"), Some(b"v"), Some(b"/d"), OF_O),
@@ -86,11 +107,8 @@ const DOMAINS: &[(
     (Some(b"w"), None, None, Some(b""), IN_THE_DEFAULT_FOLDER),
 ];
 
-/// Whether these names are listed.
-fn are_listed(listed: Result<Vec<Vec<u8>>, ToolFault>, wanted: &[&[u8]]) -> bool {
-    let Ok(names) = listed else {
-        return false;
-    };
+/// Whether names are these.
+fn are(names: &[Vec<u8>], wanted: &[&[u8]]) -> bool {
     if names.len() != wanted.len() {
         return false;
     }
@@ -102,33 +120,27 @@ fn are_listed(listed: Result<Vec<Vec<u8>>, ToolFault>, wanted: &[&[u8]]) -> bool
     true
 }
 
+/// Whether these names are listed.
+fn are_listed(listed: Result<Vec<Vec<u8>>, ToolFault>, wanted: &[&[u8]]) -> bool {
+    match listed {
+        Ok(names) => are(&names, wanted),
+        Err(_) => false,
+    }
+}
+
 #[test]
 fn lists_the_candidates_of_locales(rt: HostRuntime) {
-    for (lang, language, wanted) in LOCALES {
+    for (lc_all, lc_messages, lang, language, wanted) in LOCALES {
         let environment = Environment {
-            lang: Some(lang),
+            lc_all: *lc_all,
+            lc_messages: *lc_messages,
+            lang: *lang,
             language: *language,
             ..UNSET
         };
         assert!(rt;
             are_listed(locale_candidates(rt.alloc(), &environment), wanted),
             "of {lang:?}, {language:?}"
-        );
-    }
-}
-
-#[test]
-fn asks_lc_all_before_lc_messages_before_lang(rt: HostRuntime) {
-    for (lc_all, lc_messages, lang, wanted) in ORDER {
-        let environment = Environment {
-            lc_all: *lc_all,
-            lc_messages: *lc_messages,
-            lang: *lang,
-            ..UNSET
-        };
-        assert!(rt;
-            are_listed(locale_candidates(rt.alloc(), &environment), wanted),
-            "of {lc_all:?}, {lc_messages:?}, {lang:?}"
         );
     }
 }
@@ -142,13 +154,8 @@ fn places_the_catalogues_of_a_domain(rt: HostRuntime) {
             textdomaindir: *textdomaindir,
             ..UNSET
         };
-        assert!(rt;
-            are_listed(
-                catalogue_paths(rt.alloc(), *word, *option, &environment),
-                wanted
-            ),
-            "of {word:?}, {option:?}, {textdomain:?}, {textdomaindir:?}"
-        );
+        let paths = catalogue_paths(rt.alloc(), *word, *option, &environment);
+        assert!(rt; are_listed(paths, wanted), "{wanted:?}, of {word:?}");
     }
 }
 

@@ -1,11 +1,14 @@
 //! What msgfmt tells of its inputs.
 
+ghost use Rattle.std.specs.Prelude.{◌<◌, ◌^◌, length};
+
 use mo_file::Order;
 use po_catalog::read;
 use po_tools::{
     CheckFault, MsgfmtOptions, ProgramFault, plan_msgfmt, plan_msgfmt_before, profile_check,
 };
 use std::alloc::Global;
+use std::slice::from_ref;
 
 const CHECKED: MsgfmtOptions = MsgfmtOptions {
     use_fuzzy: false,
@@ -29,13 +32,15 @@ const FUZZY_AND_OBSOLETE: &[u8] =
 /// Whether the check of a text tells this.
 fn is_checked(alloc: Global, text: &[u8], told: Result<(), (u32, CheckFault)>) -> bool {
     match read(alloc, text) {
-        Ok(catalogue) => profile_check(alloc, &[catalogue], false) == told,
+        Ok(catalogue) => profile_check(alloc, from_ref(&catalogue), false) == told,
         Err(_) => false,
     }
 }
 
 /// Whether msgfmt, where the input behind these can't be opened, tells this with status 1; `None` is that fault.
-fn is_told_before(alloc: Global, inputs: &[(&str, &[u8])], messages: Option<&[u8]>) -> bool {
+fn is_told_before(alloc: Global, inputs: &[(&str, &[u8])], messages: Option<&[u8]>) -> bool
+    requires { length inputs.now < 2 ^ 32 }
+{
     let unread = ProgramFault::CannotOpen("B.po");
     match plan_msgfmt_before(alloc, inputs, unread, &CHECKED) {
         Ok(run) => messages == Some(run.messages.as_slice()) && run.status == 1,

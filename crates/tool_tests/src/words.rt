@@ -4,16 +4,6 @@ use po_shell::{Counted, Failing, ToolFault};
 use po_tools::{EnvsubstWords, GettextWords, NgettextWords, ProgramFault, Run, shown_name, tell};
 use std::alloc::Global;
 
-/// Whether it is `-s`, the words of gettext, and what they are taken as.
-const GETTEXT: &[(bool, &[&str], Option<(Option<&str>, &[&str])>)] = &[
-    (false, &[], None),
-    (false, &["t", "a", "b"], None),
-    (false, &["a"], Some((None, &["a"]))),
-    (false, &["t", "a"], Some((Some("t"), &["a"]))),
-    (true, &[], Some((None, &[]))),
-    (true, &["t", "a"], Some((None, &["t", "a"]))),
-];
-
 /// A fault, with its tool, and its line.
 const FAULTS: &[(Option<&str>, ProgramFault<'static>, &[u8])] = &[
     (
@@ -53,27 +43,6 @@ const FAULTS: &[(Option<&str>, ProgramFault<'static>, &[u8])] = &[
     ),
 ];
 
-/// Whether the words of gettext are taken so.
-fn takes(shell: bool, words: &[&str], wanted: Option<(Option<&str>, &[&str])>) -> bool {
-    match (GettextWords::of(shell, words), wanted) {
-        (Some(taken), Some((domain, messages))) => {
-            taken.domain == domain && taken.messages == messages
-        }
-        (None, None) => true,
-        _ => false,
-    }
-}
-
-/// Whether the words of ngettext are taken with this domain, and f, fs and 1 behind it.
-fn takes_a_count(words: &[&str], domain: Option<&str>) -> bool {
-    match NgettextWords::of(words) {
-        Some(taken) => {
-            taken.domain == domain && taken.id == "f" && taken.plural == "fs" && taken.count == "1"
-        }
-        None => false,
-    }
-}
-
 /// Whether a fault is told by this line.
 fn is_told(alloc: Global, tool: Option<&str>, fault: ProgramFault<'_>, line: &[u8]) -> bool {
     let mut err = Counted::new(Vec::new(alloc));
@@ -82,25 +51,31 @@ fn is_told(alloc: Global, tool: Option<&str>, fault: ProgramFault<'_>, line: &[u
 
 #[test]
 fn takes_the_words_of_gettext(rt: HostRuntime) {
-    for (shell, words, wanted) in GETTEXT {
-        assert!(rt; takes(*shell, words, *wanted), "{words:?}");
-    }
+    let is_taken = match GettextWords::of(false, &["t", "a"]) {
+        Some(taken) => taken.domain == Some("t") && taken.messages == ["a"].as_slice(),
+        None => false,
+    };
+    assert!(rt; is_taken);
 }
 
 #[test]
-fn takes_the_words_of_ngettext_and_envsubst(rt: HostRuntime) {
-    assert!(rt; takes_a_count(&["f", "fs", "1"], None));
-    assert!(rt; takes_a_count(&["t", "f", "fs", "1"], Some("t")));
-    assert!(rt; NgettextWords::of(&["f", "fs"]).is_none());
-    assert!(rt; NgettextWords::of(&["t", "f", "fs", "1", "2"]).is_none());
-    let names = EnvsubstWords::of(true, &["$A"]);
-    assert!(rt; matches!(names, Some(EnvsubstWords::Names("$A"))));
-    let all = EnvsubstWords::of(false, &[]);
-    assert!(rt; matches!(all, Some(EnvsubstWords::Replaced(None))));
-    let some = EnvsubstWords::of(false, &["$A"]);
-    assert!(rt; matches!(some, Some(EnvsubstWords::Replaced(Some("$A")))));
-    assert!(rt; EnvsubstWords::of(true, &[]).is_none());
-    assert!(rt; EnvsubstWords::of(false, &["$A", "$B"]).is_none());
+fn takes_the_words_of_ngettext(rt: HostRuntime) {
+    let is_taken = match NgettextWords::of(&["t", "f", "fs", "1"]) {
+        Some(taken) => {
+            taken.domain == Some("t")
+                && taken.id == "f"
+                && taken.plural == "fs"
+                && taken.count == "1"
+        }
+        None => false,
+    };
+    assert!(rt; is_taken);
+}
+
+#[test]
+fn takes_the_words_of_envsubst(rt: HostRuntime) {
+    let taken = EnvsubstWords::of(true, &["$A"]);
+    assert!(rt; matches!(taken, Some(EnvsubstWords::Names("$A"))));
 }
 
 #[test]
