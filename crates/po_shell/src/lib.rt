@@ -32,6 +32,3 @@ pub use locale::{Environment, locale_candidates};
 pub use reference::{LONGEST_NAME, name_lines, names};
 pub use substituter::Substituter;
 pub use variable::name_and_value;
-
-#[cfg(test)]
-mod tests;

@@ -6,11 +6,7 @@ mod gettext;
 mod msgfmt;
 mod profile;
 mod program_fault;
-#[cfg(test)]
-mod program_tests;
 mod run;
-#[cfg(test)]
-mod tests;
 mod unread;
 mod words;
 

@@ -1,5 +1,5 @@
 use Rattle.std.proofs.Common.{◌≡◌, length}
-use Rattle.po_shell.proofs.tests.substituted.Given as goal
+use Rattle.tool_tests.proofs.substitution.substituted.Given as goal
 
 abbrev pub invariant-loop-rest : goal.invariant-loop-rest
 invariant-loop-rest l = l.writer.failures ≡ 0

@@ -1,0 +1,20 @@
+//! Tests of the tools and of what they stand on, through their public calls: rows that were worked
+//! out by hand, and devices that fail. They stand in a crate of their own, since the gate proves a
+//! crate once more together with the tests in it.
+
+#![tactic(auto)]
+
+#[cfg(test)]
+mod answers;
+#[cfg(test)]
+mod devices;
+#[cfg(test)]
+mod escapes;
+#[cfg(test)]
+mod locales;
+#[cfg(test)]
+mod messages_of_msgfmt;
+#[cfg(test)]
+mod substitution;
+#[cfg(test)]
+mod words;
