@@ -3,6 +3,7 @@
 
 mod plain;
 
+use crate::look_ups::answers;
 use crate::samples::{CONTEXTS, ONE, TWO, put};
 use mo_file::Meter;
 use mo_lookup::Catalog;
@@ -12,20 +13,6 @@ use std::test::Fail;
 /// The most comparisons among so many keys: how often their number can be halved.
 fn bound(count: u32) -> u32 {
     u32::BITS - count.leading_zeros()
-}
-
-/// Whether a query is answered with this text and within the bound, or with the msgid where there is no text.
-fn answers<'x>(
-    catalog: &Catalog<'x>,
-    context: Option<&[u8]>,
-    id: &'x [u8],
-    text: Option<&[u8]>,
-    bound: u32,
-) -> bool {
-    let answer = catalog.look(context, id, None, &mut Meter::new());
-    answer.found == text.is_some()
-        && answer.text == text.unwrap_or(id)
-        && answer.comparisons <= bound
 }
 
 /// Whether each key of a file, and three msgids, are answered as its plain reading has them.

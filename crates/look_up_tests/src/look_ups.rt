@@ -11,6 +11,20 @@ use mo_file::{Meter, MoError, Order};
 use mo_lookup::{Catalog, Chain, Keys, Reason, Source, find};
 use std::test::Fail;
 
+/// Whether a query is answered with this text and within the bound, or with the msgid where there is no text.
+pub(crate) fn answers<'x>(
+    catalog: &Catalog<'x>,
+    context: Option<&[u8]>,
+    id: &'x [u8],
+    text: Option<&[u8]>,
+    bound: u32,
+) -> bool {
+    let answer = catalog.look(context, id, None, &mut Meter::new());
+    answer.found == text.is_some()
+        && answer.text == text.unwrap_or(id)
+        && answer.comparisons <= bound
+}
+
 /// The context, the msgid, the plural and its count, and of the answer the text, whether it was found, the least and
 /// the most comparisons, and the steps.
 type Query = (
@@ -97,13 +111,6 @@ fn place_of(letter: u8, count: usize) -> Option<u32> {
     there.then_some(u32::from(place))
 }
 
-/// Whether a letter is found where it is there, and within the bound.
-fn is_found(catalog: &Catalog<'_>, letter: u8, present: bool, bound: u32) -> bool {
-    let id = [letter];
-    let answer = catalog.look(None, &id, None, &mut Meter::new());
-    answer.found == present && answer.text == id.as_slice() && answer.comparisons <= bound
-}
-
 #[test]
 fn a_look_up_stays_within_its_bound(rt: HostRuntime) -> Result<(), Fail> {
     for (count, bound) in BOUNDS {
@@ -111,11 +118,13 @@ fn a_look_up_stays_within_its_bound(rt: HostRuntime) -> Result<(), Fail> {
         let bytes = built(rt.alloc(), Order::Little, messages)?;
         let catalog = Catalog::open(bytes.as_slice(), &mut Meter::new()).expect(&rt, "a file");
         for letter in b'a'..=b'q' {
-            let present = place_of(letter, *count).is_some();
-            assert!(rt;
-                is_found(&catalog, letter, present, *bound),
-                "{letter} of {count}"
-            );
+            let id = [letter];
+            let text = match place_of(letter, *count) {
+                Some(_) => Some(id.as_slice()),
+                None => None,
+            };
+            let is_right = answers(&catalog, None, &id, text, *bound);
+            assert!(rt; is_right, "{letter} of {count}");
         }
     }
     Ok(())

@@ -191,48 +191,44 @@ fn header(
     Ok(text)
 }
 
-/// What is repeated how often before and behind what, the nodes, and at a count the value and the nodes visited.
-const LONG_EXPRESSIONS: &[(usize, (&str, &str, &str), u32, u64, u64, u32)] = &[
-    (1023, ("!", "n", ""), 1024, 0, 1, 1024),
-    (1024, ("!", "n", ""), 1025, 0, 0, 1025),
-    (4095, ("!", "n", ""), 4096, 0, 1, 4096),
-    (255, ("n?n:", "n", ""), 766, 0, 0, 511),
-    (255, ("n?n:", "n", ""), 766, 1, 1, 3),
-    (511, ("n+", "n", ""), 1023, 36028797018963968, 0, 1023),
-    (2047, ("n+", "n", ""), 4095, 2, 4096, 4095),
-    (1023, ("n?n:", "n", ""), 3070, 0, 0, 2047),
-    (511, ("(", "n", ")"), 1, 5, 5, 1),
-    (2047, ("(", "n", ")"), 1, 5, 5, 1),
+/// What is repeated how often before and behind what, and the nodes, a count, the value there and the nodes that are
+/// visited, or why it gives the default rule.
+const LONG_EXPRESSIONS: &[(
+    usize,
+    (&str, &str, &str),
+    Result<(u32, u64, u64, u32), Reason>,
+)] = &[
+    (1023, ("!", "n", ""), Ok((1024, 0, 1, 1024))),
+    (1024, ("!", "n", ""), Ok((1025, 0, 0, 1025))),
+    (4095, ("!", "n", ""), Ok((4096, 0, 1, 4096))),
+    (255, ("n?n:", "n", ""), Ok((766, 0, 0, 511))),
+    (255, ("n?n:", "n", ""), Ok((766, 1, 1, 3))),
+    (511, ("n+", "n", ""), Ok((1023, 36028797018963968, 0, 1023))),
+    (2047, ("n+", "n", ""), Ok((4095, 2, 4096, 4095))),
+    (1023, ("n?n:", "n", ""), Ok((3070, 0, 0, 2047))),
+    (511, ("(", "n", ")"), Ok((1, 5, 5, 1))),
+    (2047, ("(", "n", ")"), Ok((1, 5, 5, 1))),
+    (4096, ("!", "n", ""), Err(Reason::TooLong)),
+    (1025, (" ", "", ""), Err(Reason::Unreadable)),
+    (4096, (" ", "", ""), Err(Reason::Unreadable)),
+    (4097, (" ", "", ""), Err(Reason::TooLong)),
 ];
 
-/// What is repeated how often before what, and why it gives the default rule.
-const LONG_DEFAULTS: &[(usize, (&str, &str, &str), Reason)] = &[
-    (1025, (" ", "", ""), Reason::Unreadable),
-    (4096, (" ", "", ""), Reason::Unreadable),
-    (4097, (" ", "", ""), Reason::TooLong),
-    (4096, ("!", "n", ""), Reason::TooLong),
-];
-
-#[test]
-fn long_expressions(rt: HostRuntime) -> Result<(), Fail> {
-    for (times, pieces, nodes, count, value, steps) in LONG_EXPRESSIONS {
-        let rule = Rule::parse(&header(rt.alloc(), *times, *pieces)?);
-        let is_right = is_named(&rule, 2)
-            && rule.nodes() == *nodes
-            && rule.eval(*count) == (Some(*value), *steps);
-        assert!(rt; is_right, "{times} {pieces:?} at {count}");
+/// The rule with these nodes, value and steps, or the default rule for this reason.
+fn is_wanted(rule: &Rule, wanted: Result<(u32, u64, u64, u32), Reason>) -> bool {
+    match wanted {
+        Ok((nodes, count, value, steps)) => {
+            is_named(rule, 2) && rule.nodes() == nodes && rule.eval(count) == (Some(value), steps)
+        }
+        Err(reason) => is_default(rule, reason),
     }
-    Ok(())
 }
 
 #[test]
-fn long_defaults(rt: HostRuntime) -> Result<(), Fail> {
-    for (times, pieces, reason) in LONG_DEFAULTS {
+fn long_expressions(rt: HostRuntime) -> Result<(), Fail> {
+    for (row, (times, pieces, wanted)) in LONG_EXPRESSIONS.iter().enumerate() {
         let text = header(rt.alloc(), *times, *pieces)?;
-        assert!(rt;
-            is_default(&Rule::parse(&text), *reason),
-            "{times} {pieces:?}"
-        );
+        assert!(rt; is_wanted(&Rule::parse(&text), *wanted), "row {row}");
     }
     Ok(())
 }
