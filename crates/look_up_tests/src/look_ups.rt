@@ -7,7 +7,7 @@ mod letters;
 use crate::files::built;
 use crate::samples::{EMPTY, ONE, put};
 use letters::Letters;
-use mo_file::{Meter, MoError, Order};
+use mo_file::{Meter, Order};
 use mo_lookup::{Catalog, Chain, Keys, Reason, Source, find};
 use std::test::Fail;
 
@@ -37,30 +37,31 @@ type Query = (
     u32,
 );
 
-/// The place of the first query that isn't answered as it says, or why the file is refused.
-fn first_wrong(bytes: &[u8], queries: &[Query]) -> Result<Option<usize>, MoError> {
-    let catalog = Catalog::open(bytes, &mut Meter::new())?;
+/// How many messages a file has, the most comparisons of opening it, the source of its rule, and queries to it.
+type Opened = (u32, u64, Source, &'static [Query]);
+
+/// The place of the first query that isn't answered as it says, or their number where the file isn't as it should be.
+fn first_wrong(bytes: &[u8], (count, most, source, queries): Opened) -> Option<usize> {
+    let mut meter = Meter::new();
+    let Ok(catalog) = Catalog::open(bytes, &mut meter) else {
+        return Some(queries.len());
+    };
+    if catalog.len() != count || meter.count() > most || catalog.rule().source() != source {
+        return Some(queries.len());
+    }
     for (place, query) in queries.iter().enumerate() {
         let (context, id, plural, text, found, (least, most), steps) = *query;
         let answer = catalog.look(context, id, plural, &mut Meter::new());
         let counted = least <= answer.comparisons && answer.comparisons <= most;
         if answer.text != text || answer.found != found || !counted || answer.steps != steps {
-            return Ok(Some(place));
+            return Some(place);
         }
     }
-    Ok(None)
+    None
 }
 
-/// Whether a file has so many messages and its rule this source, and is opened with so many comparisons at most.
-fn opens_as(bytes: &[u8], count: u32, most: u64, source: Source) -> bool {
-    let mut meter = Meter::new();
-    match Catalog::open(bytes, &mut meter) {
-        Ok(catalog) => {
-            catalog.len() == count && meter.count() <= most && catalog.rule().source() == source
-        }
-        Err(_) => false,
-    }
-}
+/// The source where no header names a rule.
+const NO_NUMBER: Source = Source::Default(Reason::NoNumber);
 
 const OF_EMPTY: &[Query] = &[(None, b"x", None, b"x", false, (0, 0), 0)];
 
@@ -75,17 +76,21 @@ const OF_ONE: &[Query] = &[
 
 const OF_OVERLAP: &[Query] = &[(None, b"a", None, b"a", true, (1, 1), 0)];
 
+/// Files that were laid out by hand.
+const LAID_OUT: &[(&[u8], Opened)] = &[
+    (&EMPTY, (0, 0, NO_NUMBER, OF_EMPTY)),
+    (&ONE, (1, 1, NO_NUMBER, OF_ONE)),
+];
+
 #[test]
 fn one_message_or_none(rt: HostRuntime) {
-    let default = Source::Default(Reason::NoNumber);
-    assert!(rt; opens_as(&EMPTY, 0, 0, default));
-    assert!(rt; opens_as(&ONE, 1, 1, default));
-    assert_eq!(rt; first_wrong(&EMPTY, OF_EMPTY), Ok(None));
-    assert_eq!(rt; first_wrong(&ONE, OF_ONE), Ok(None));
+    for (bytes, opened) in LAID_OUT {
+        assert_eq!(rt; first_wrong(bytes, *opened), None);
+    }
     for (at, byte) in [(40, 44), (16, 28)] {
         let mut file = ONE;
         put(&mut file, at, &[byte]);
-        assert_eq!(rt; first_wrong(&file, OF_OVERLAP), Ok(None));
+        assert_eq!(rt; first_wrong(&file, (1, 1, NO_NUMBER, OF_OVERLAP)), None);
     }
 }
 
@@ -170,19 +175,18 @@ const OF_NO_FORMS: &[Query] = &[
     (None, b"f", Some((b"fs", 2)), b"a", true, (0, 2), 1),
 ];
 
-/// Messages, how many they are, the source of the rule, and the queries to their file.
-const BUILT: &[(&[(&[u8], &[u8])], u32, Source, &[Query])] = &[
-    (CONTEXT, 1, Source::Default(Reason::NoNumber), OF_CONTEXT),
-    (TWO_FORMS, 2, Source::Header, OF_TWO_FORMS),
-    (NO_FORMS, 2, Source::Header, OF_NO_FORMS),
+/// Files that are built from these messages.
+const BUILT: &[(&[(&[u8], &[u8])], Opened)] = &[
+    (CONTEXT, (1, 1, NO_NUMBER, OF_CONTEXT)),
+    (TWO_FORMS, (2, 2, Source::Header, OF_TWO_FORMS)),
+    (NO_FORMS, (2, 2, Source::Header, OF_NO_FORMS)),
 ];
 
 #[test]
 fn contexts_and_forms(rt: HostRuntime) -> Result<(), Fail> {
-    for (messages, count, source, queries) in BUILT {
+    for (messages, opened) in BUILT {
         let bytes = built(rt.alloc(), Order::Little, messages)?;
-        assert!(rt; opens_as(&bytes, *count, 2, *source));
-        assert_eq!(rt; first_wrong(&bytes, queries), Ok(None));
+        assert_eq!(rt; first_wrong(&bytes, *opened), None);
     }
     Ok(())
 }

@@ -137,7 +137,7 @@ pub(super) fn parts(key: &[u8]) -> (Option<&[u8]>, &[u8]) {
     match place_of(key, 4) {
         Some(end) => (
             key.get(..end),
-            key.get(end.saturating_add(1)..).unwrap_or(b""),
+            key.get(end.saturating_add(1)..key.len()).unwrap_or(b""),
         ),
         None => (None, key),
     }

@@ -353,7 +353,7 @@ const LANGUAGES: &[(&str, &str, u64, Family)] = &[
     ),
 ];
 
-/// The first count at which a rule doesn't choose the form of the family, or 201 where it does at all below.
+/// The first count at which a rule doesn't choose the form of the family, or 201 where it does at each up to 200.
 fn first_wrong(rule: &Rule, family: Family) -> u64 {
     for count in 0..=200 {
         if rule.eval(count).0 != Some(family.form(count)) {
