@@ -12,19 +12,17 @@ pub(super) struct Plain<'a> {
 impl<'a> Plain<'a> {
     /// The file of these bytes, in the order that its magic number shows, or None where it shows none.
     fn new(bytes: &'a [u8]) -> Option<Plain<'a>> {
-        let magic = bytes.get(..4)?;
-        if magic == [0xde, 0x12, 0x04, 0x95].as_slice() {
-            Some(Plain {
+        let big = Plain {
+            bytes,
+            little: false,
+        };
+        match big.word(0) {
+            0x9504_12de => Some(big),
+            0xde12_0495 => Some(Plain {
                 bytes,
                 little: true,
-            })
-        } else if magic == [0x95, 0x04, 0x12, 0xde].as_slice() {
-            Some(Plain {
-                bytes,
-                little: false,
-            })
-        } else {
-            None
+            }),
+            _ => None,
         }
     }
 
