@@ -1,12 +1,16 @@
 //! Tests of the MO file, the plural rule and look-up, through their public calls: files, rules and
-//! answers that were worked out by hand. They stand in a crate of their own, since the gate proves a
-//! crate once more together with the tests in it.
+//! answers that were worked out by hand, and sweeps over damaged files. They stand in a crate of their
+//! own, since the gate proves a crate once more together with the tests in it.
 
 #![tactic(auto)]
 
+#[cfg(test)]
+mod damage;
 #[cfg(test)]
 mod files;
 #[cfg(test)]
 mod look_ups;
 #[cfg(test)]
 mod rules;
+#[cfg(test)]
+mod samples;

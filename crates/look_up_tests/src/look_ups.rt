@@ -1,127 +1,144 @@
-//! Values that were worked out by hand.
+//! Answers that were worked out by hand.
+
+ghost use Rattle.std.specs.Prelude.{◌<◌, ◌^◌, length};
 
 mod letters;
 
+use crate::files::built;
+use crate::samples::{EMPTY, ONE, put};
 use letters::Letters;
-use mo_file::{Meter, Order, Pair, build};
-use mo_lookup::{Answer, Catalog, Chain, Keys, Reason, Source, find};
-use std::alloc::Global;
+use mo_file::{Meter, Order};
+use mo_lookup::{Catalog, Chain, Keys, Reason, Source, find};
 use std::test::Fail;
 
-/// The file of an empty list of messages.
-const EMPTY: [u8; 28] = [
-    0xde, 0x12, 0x04, 0x95, 0, 0, 0, 0, 0, 0, 0, 0, 0x1c, 0, 0, 0, 0x1c, 0, 0, 0, 0, 0, 0, 0, 0x1c,
-    0, 0, 0,
+/// Whether a query is answered with this text and within the bound, or with the msgid where there is no text.
+pub(crate) fn answers<'x>(
+    catalog: &Catalog<'x>,
+    context: Option<&[u8]>,
+    id: &'x [u8],
+    text: Option<&[u8]>,
+    bound: u32,
+) -> bool {
+    let answer = catalog.look(context, id, None, &mut Meter::new());
+    answer.found == text.is_some()
+        && answer.text == text.unwrap_or(id)
+        && answer.comparisons <= bound
+}
+
+/// The context, the msgid, the plural and its count, and of the answer the text, whether it was found, the least and
+/// the most comparisons, and the steps.
+type Query = (
+    Option<&'static [u8]>,
+    &'static [u8],
+    Option<(&'static [u8], u64)>,
+    &'static [u8],
+    bool,
+    (u32, u32),
+    u32,
+);
+
+/// How many messages a file has, the most comparisons of opening it, the source of its rule, and queries to it.
+type Opened = (u32, u64, Source, &'static [Query]);
+
+/// The place of the first query that isn't answered as it says, or their number where the file isn't as it should be.
+fn first_wrong(bytes: &[u8], (count, most, source, queries): Opened) -> Option<usize> {
+    let mut meter = Meter::new();
+    let Ok(catalog) = Catalog::open(bytes, &mut meter) else {
+        return Some(queries.len());
+    };
+    if catalog.len() != count || meter.count() > most || catalog.rule().source() != source {
+        return Some(queries.len());
+    }
+    for (place, query) in queries.iter().enumerate() {
+        let (context, id, plural, text, found, (least, most), steps) = *query;
+        let answer = catalog.look(context, id, plural, &mut Meter::new());
+        let counted = least <= answer.comparisons && answer.comparisons <= most;
+        if answer.text != text || answer.found != found || !counted || answer.steps != steps {
+            return Some(place);
+        }
+    }
+    None
+}
+
+/// The source where no header names a rule.
+const NO_NUMBER: Source = Source::Default(Reason::NoNumber);
+
+const OF_EMPTY: &[Query] = &[(None, b"x", None, b"x", false, (0, 0), 0)];
+
+const OF_ONE: &[Query] = &[
+    (None, b"a", None, b"b", true, (1, 1), 0),
+    (None, b"z", None, b"z", false, (0, 1), 0),
+    (None, b"a", Some((b"as", 5)), b"b", true, (0, 1), 3),
+    (None, b"f", Some((b"fs", 1)), b"f", false, (0, 1), 0),
+    (None, b"f", Some((b"fs", 0)), b"fs", false, (0, 1), 0),
+    (None, b"f", Some((b"fs", 99)), b"fs", false, (0, 1), 0),
 ];
 
-/// The file of the message `a`, translated as `b`.
-const ONE: [u8; 48] = [
-    0xde, 0x12, 0x04, 0x95, 0, 0, 0, 0, 1, 0, 0, 0, 0x1c, 0, 0, 0, 0x24, 0, 0, 0, 0, 0, 0, 0, 0x2c,
-    0, 0, 0, 1, 0, 0, 0, 0x2c, 0, 0, 0, 1, 0, 0, 0, 0x2e, 0, 0, 0, b'a', 0, b'b', 0,
+const OF_OVERLAP: &[Query] = &[(None, b"a", None, b"a", true, (1, 1), 0)];
+
+/// Files that were laid out by hand.
+const LAID_OUT: &[(&[u8], Opened)] = &[
+    (&EMPTY, (0, 0, NO_NUMBER, OF_EMPTY)),
+    (&ONE, (1, 1, NO_NUMBER, OF_ONE)),
 ];
 
-/// The bytes of a file with these originals and translations, in rising order of their keys.
-fn file(alloc: Global, messages: &[(&[u8], &[u8])]) -> Result<Vec<u8>, Fail> {
-    let mut pairs = Vec::new(alloc);
-    for (original, translation) in messages {
-        pairs.push(Pair {
-            original: original.to_vec(alloc)?,
-            translation: translation.to_vec(alloc)?,
-        })?;
+#[test]
+fn one_message_or_none(rt: HostRuntime) {
+    for (bytes, opened) in LAID_OUT {
+        assert_eq!(rt; first_wrong(bytes, *opened), None);
     }
-    Ok(build(alloc, Order::Little, pairs.as_slice())?)
 }
 
-/// A look-up without a plural, with a meter of its own.
-fn look<'q>(catalog: &Catalog<'q>, context: Option<&[u8]>, id: &'q [u8]) -> Answer<'q> {
-    catalog.look(context, id, None, &mut Meter::new())
-}
-
-/// A look-up of `f` and its plural `fs`, with a meter of its own.
-fn look_plural<'q>(catalog: &Catalog<'q>, count: u64) -> Answer<'q> {
-    catalog.look(None, b"f", Some((b"fs", count)), &mut Meter::new())
-}
+const OVERLAP: Opened = (1, 1, NO_NUMBER, OF_OVERLAP);
 
 #[test]
-fn no_message(rt: HostRuntime) -> Result<(), Fail> {
-    let mut meter = Meter::new();
-    let catalog = Catalog::open(&EMPTY, &mut meter)?;
-    assert_eq!(rt; catalog.len(), 0);
-    assert_eq!(rt; meter.count(), 0);
-    let answer = look(&catalog, None, b"x");
-    assert_eq!(rt; answer.text, b"x".as_slice());
-    assert!(rt; !answer.found);
-    assert_eq!(rt; answer.comparisons, 0);
-    Ok(())
-}
-
-#[test]
-fn one_message(rt: HostRuntime) -> Result<(), Fail> {
-    let mut meter = Meter::new();
-    let catalog = Catalog::open(&ONE, &mut meter)?;
-    assert_eq!(rt; catalog.len(), 1);
-    assert!(rt; meter.count() <= 1);
-    assert!(rt; catalog.rule().source() == Source::Default(Reason::NoNumber));
-
-    let answer = look(&catalog, None, b"a");
-    assert_eq!(rt; answer.text, b"b".as_slice());
-    assert!(rt; answer.found);
-    assert_eq!(rt; answer.comparisons, 1);
-    assert_eq!(rt; answer.steps, 0);
-
-    let answer = look(&catalog, None, b"z");
-    assert_eq!(rt; answer.text, b"z".as_slice());
-    assert!(rt; !answer.found);
-    assert!(rt; answer.comparisons <= 1);
-
-    let answer = catalog.look(None, b"a", Some((b"as", 5)), &mut Meter::new());
-    assert_eq!(rt; answer.text, b"b".as_slice());
-    assert!(rt; answer.found);
-    assert_eq!(rt; answer.steps, 3);
-
-    for (count, text) in [(1, b"f".as_slice()), (0, b"fs"), (99, b"fs")] {
-        let answer = look_plural(&catalog, count);
-        assert_eq!(rt; answer.text, text, "at {count}");
-        assert!(rt; !answer.found);
-        assert_eq!(rt; answer.steps, 0);
+fn strings_and_tables_that_overlap(rt: HostRuntime) {
+    for (at, byte) in [(40, 44), (16, 28)] {
+        let mut file = ONE;
+        put(&mut file, at, &[byte]);
+        assert_eq!(rt; first_wrong(&file, OVERLAP), None);
     }
-    Ok(())
-}
-
-#[test]
-fn strings_and_tables_that_overlap(rt: HostRuntime) -> Result<(), Fail> {
-    for (place, byte) in [(40, 0x2c), (16, 0x1c)] {
-        let mut bytes = ONE;
-        bytes[place] = byte;
-        let catalog = Catalog::open(&bytes, &mut Meter::new())?;
-        let answer = look(&catalog, None, b"a");
-        assert_eq!(rt; answer.text, b"a".as_slice());
-        assert!(rt; answer.found);
-        assert_eq!(rt; answer.comparisons, 1);
-    }
-    Ok(())
 }
 
 /// How many comparisons are allowed among so many keys.
-const BOUNDS: [(usize, u32); 6] = [(1, 1), (2, 2), (3, 2), (4, 3), (7, 3), (8, 4)];
+const BOUNDS: &[(usize, u32)] = &[(1, 1), (2, 2), (3, 2), (4, 3), (7, 3), (8, 4)];
+
+/// The keys of `Letters`, each translated as itself.
+const LETTERS: &[(&[u8], &[u8])] = &[
+    (b"b", b"b"),
+    (b"d", b"d"),
+    (b"f", b"f"),
+    (b"h", b"h"),
+    (b"j", b"j"),
+    (b"l", b"l"),
+    (b"n", b"n"),
+    (b"p", b"p"),
+];
+
+/// The place of a letter among so many keys.
+fn place_of(letter: u8, count: usize) -> Option<u32> {
+    let place = letter.saturating_sub(b'b') / 2;
+    if letter % 2 == 0 && usize::from(place) < count {
+        Some(u32::from(place))
+    } else {
+        None
+    }
+}
 
 #[test]
 fn a_look_up_stays_within_its_bound(rt: HostRuntime) -> Result<(), Fail> {
-    let letters: [&[u8]; 8] = [b"b", b"d", b"f", b"h", b"j", b"l", b"n", b"p"];
     for (count, bound) in BOUNDS {
-        let mut messages = Vec::new(rt.alloc());
-        for letter in letters.iter().take(count) {
-            messages.push((*letter, *letter))?;
-        }
-        let bytes = file(rt.alloc(), messages.as_slice())?;
-        let catalog = Catalog::open(bytes.as_slice(), &mut Meter::new())?;
+        let messages = LETTERS.get(..*count).unwrap_or(LETTERS);
+        let bytes = built(rt.alloc(), Order::Little, messages)?;
+        let catalog = Catalog::open(bytes.as_slice(), &mut Meter::new()).expect(&rt, "a file");
         for letter in b'a'..=b'q' {
             let id = [letter];
-            let answer = look(&catalog, None, &id);
-            let present = letters.iter().take(count).any(|key| *key == id.as_slice());
-            assert_eq!(rt; answer.found, present, "{letter} of {count}");
-            assert_eq!(rt; answer.text, id.as_slice());
-            assert!(rt; answer.comparisons <= bound, "{letter} of {count}");
+            let text = match place_of(letter, *count) {
+                Some(_) => Some(id.as_slice()),
+                None => None,
+            };
+            let is_right = answers(&catalog, None, &id, text, *bound);
+            assert!(rt; is_right, "{letter} of {count}");
         }
     }
     Ok(())
@@ -130,103 +147,112 @@ fn a_look_up_stays_within_its_bound(rt: HostRuntime) -> Result<(), Fail> {
 #[test]
 fn a_search_sees_keys_by_comparing_alone(rt: HostRuntime) {
     for (count, bound) in BOUNDS {
+        assert!(rt; *count <= 8);
         for letter in b'a'..=b'q' {
-            let mut keys = Letters::new(count as u32);
+            let mut keys = Letters::new(*count as u32);
             let place = find(&mut keys, None, &[letter]);
-            let there = u32::from(letter - b'a') / 2;
-            let present = (letter - b'a') % 2 == 1 && there < count as u32;
-            assert_eq!(rt; place, present.then_some(there), "{letter} of {count}");
-            assert!(rt; keys.count() <= u64::from(bound), "{letter} of {count}");
+            let is_right = place == place_of(letter, *count) && keys.count() <= u64::from(*bound);
+            assert!(rt; is_right, "{letter} of {count}");
         }
     }
 }
 
+/// A file with a context.
+const CONTEXT: &[(&[u8], &[u8])] = &[(b"a\x04b", b"x")];
+
+const OF_CONTEXT: &[Query] = &[
+    (None, b"a\x04b", None, b"a\x04b", false, (0, 0), 0),
+    (Some(b"a"), b"b", None, b"x", true, (0, 1), 0),
+];
+
+/// A file with two of three forms.
+const TWO_FORMS: &[(&[u8], &[u8])] = &[(b"", b"nplurals=3; plural=n;"), (b"f\0fs", b"a\0")];
+
+const OF_TWO_FORMS: &[Query] = &[
+    (None, b"f", Some((b"fs", 0)), b"a", true, (0, 2), 1),
+    (None, b"f", Some((b"fs", 1)), b"", true, (0, 2), 1),
+    (None, b"f", Some((b"fs", 2)), b"a", true, (0, 2), 1),
+    (None, b"f", Some((b"fs", 3)), b"a", true, (0, 2), 1),
+];
+
+/// A file with two forms, and a rule that names none.
+const NO_FORMS: &[(&[u8], &[u8])] = &[(b"", b"nplurals=0; plural=0;"), (b"f\0fs", b"a\0b")];
+
+const OF_NO_FORMS: &[Query] = &[
+    (None, b"f", Some((b"fs", 0)), b"a", true, (0, 2), 1),
+    (None, b"f", Some((b"fs", 1)), b"a", true, (0, 2), 1),
+    (None, b"f", Some((b"fs", 2)), b"a", true, (0, 2), 1),
+];
+
+/// Files that are built from these messages.
+const BUILT: &[(&[(&[u8], &[u8])], Opened)] = &[
+    (CONTEXT, (1, 1, NO_NUMBER, OF_CONTEXT)),
+    (TWO_FORMS, (2, 2, Source::Header, OF_TWO_FORMS)),
+    (NO_FORMS, (2, 2, Source::Header, OF_NO_FORMS)),
+];
+
 #[test]
-fn a_context_ends_at_eot(rt: HostRuntime) -> Result<(), Fail> {
-    let bytes = file(rt.alloc(), &[(b"a\x04b", b"x")])?;
-    let catalog = Catalog::open(bytes.as_slice(), &mut Meter::new())?;
-    let answer = look(&catalog, None, b"a\x04b");
-    assert_eq!(rt; answer.text, b"a\x04b".as_slice());
-    assert!(rt; !answer.found);
-    assert_eq!(rt; answer.comparisons, 0);
-    assert_eq!(rt; answer.steps, 0);
-
-    let answer = look(&catalog, Some(b"a"), b"b");
-    assert_eq!(rt; answer.text, b"x".as_slice());
-    assert!(rt; answer.found);
-    Ok(())
-}
-
-#[test]
-fn form_zero_stands_in_for_a_form_that_is_not_there(rt: HostRuntime) -> Result<(), Fail> {
-    let bytes = file(
-        rt.alloc(),
-        &[(b"", b"nplurals=3; plural=n;"), (b"f\0fs", b"a\0")],
-    )?;
-    let catalog = Catalog::open(bytes.as_slice(), &mut Meter::new())?;
-    assert!(rt; catalog.rule().source() == Source::Header);
-    for (count, text) in [(0, b"a".as_slice()), (1, b""), (2, b"a"), (3, b"a")] {
-        let answer = look_plural(&catalog, count);
-        assert_eq!(rt; answer.text, text, "at {count}");
-        assert!(rt; answer.found);
-        assert_eq!(rt; answer.steps, 1);
-    }
-
-    let bytes = file(
-        rt.alloc(),
-        &[(b"", b"nplurals=0; plural=0;"), (b"f\0fs", b"a\0b")],
-    )?;
-    let catalog = Catalog::open(bytes.as_slice(), &mut Meter::new())?;
-    assert!(rt; catalog.rule().source() == Source::Header);
-    for count in [0, 1, 2] {
-        assert_eq!(rt;
-            look_plural(&catalog, count).text,
-            b"a".as_slice(),
-            "at {count}"
-        );
+fn contexts_and_forms(rt: HostRuntime) -> Result<(), Fail> {
+    for (messages, opened) in BUILT {
+        let bytes = built(rt.alloc(), Order::Little, messages)?;
+        assert_eq!(rt; first_wrong(&bytes, *opened), None);
     }
     Ok(())
 }
+
+/// The msgid, the plural and its count, and of the answer the text, whether it was found, how many catalogues were
+/// asked, the most comparisons, and the steps.
+type ChainQuery = (
+    &'static [u8],
+    Option<(&'static [u8], u64)>,
+    &'static [u8],
+    bool,
+    u32,
+    u64,
+    u32,
+);
+
+/// The place of the first query that the chain doesn't answer as it says.
+fn first_wrong_of_chain(members: &[Catalog<'_>], queries: &[ChainQuery]) -> Option<usize>
+    requires { length members.now < 2 ^ 32 }
+{
+    let chain = Chain::new(members);
+    for (place, query) in queries.iter().enumerate() {
+        let (id, plural, text, found, asked, most, steps) = *query;
+        let answer = chain.look(None, id, plural, &mut Meter::new());
+        let counted = answer.asked == asked && answer.comparisons <= most;
+        if answer.text != text || answer.found != found || !counted || answer.steps != steps {
+            return Some(place);
+        }
+    }
+    None
+}
+
+const OF_NO_FILE: &[ChainQuery] = &[(b"a", None, b"a", false, 0, 0, 0)];
+
+const SECOND: &[(&[u8], &[u8])] = &[(b"a", b"1"), (b"b", b"2")];
+
+const OF_ONE_AND_SECOND: &[ChainQuery] = &[
+    (b"a", None, b"b", true, 1, 1, 0),
+    (b"b", None, b"2", true, 2, 3, 0),
+    (b"z", None, b"z", false, 2, 3, 0),
+    (b"a\x04b", None, b"a\x04b", false, 0, 0, 0),
+];
+
+const THIRD: &[(&[u8], &[u8])] = &[(b"", b"nplurals=3; plural=n;"), (b"f\0fs", b"0\x001\x002")];
+
+const OF_ONE_AND_THIRD: &[ChainQuery] = &[(b"f", Some((b"fs", 2)), b"2", true, 2, 3, 1)];
 
 #[test]
 fn a_chain_asks_up_to_the_first_that_has_the_message(rt: HostRuntime) -> Result<(), Fail> {
-    let second = file(rt.alloc(), &[(b"a", b"1"), (b"b", b"2")])?;
-    let third = file(
-        rt.alloc(),
-        &[(b"", b"nplurals=3; plural=n;"), (b"f\0fs", b"0\x001\x002")],
-    )?;
-    let members = [
-        Catalog::open(&ONE, &mut Meter::new())?,
-        Catalog::open(second.as_slice(), &mut Meter::new())?,
-    ];
-    let chain = Chain::new(&members);
-    let rows = [
-        (b"a".as_slice(), b"b".as_slice(), true, 1, 1),
-        (b"b", b"2", true, 2, 3),
-        (b"z", b"z", false, 2, 3),
-        (b"a\x04b", b"a\x04b", false, 0, 0),
-    ];
-    for (id, text, found, asked, bound) in rows {
-        let answer = chain.look(None, id, None, &mut Meter::new());
-        assert_eq!(rt; answer.text, text);
-        assert_eq!(rt; answer.found, found);
-        assert_eq!(rt; answer.asked, asked);
-        assert!(rt; answer.comparisons <= bound);
-        assert_eq!(rt; answer.steps, 0);
+    assert_eq!(rt; first_wrong_of_chain(&[], OF_NO_FILE), None);
+    for (messages, queries) in [(SECOND, OF_ONE_AND_SECOND), (THIRD, OF_ONE_AND_THIRD)] {
+        let bytes = built(rt.alloc(), Order::Little, messages)?;
+        let members = [
+            Catalog::open(&ONE, &mut Meter::new()).expect(&rt, "a file"),
+            Catalog::open(&bytes, &mut Meter::new()).expect(&rt, "a file"),
+        ];
+        assert_eq!(rt; first_wrong_of_chain(&members, queries), None);
     }
-
-    let members = [
-        Catalog::open(&ONE, &mut Meter::new())?,
-        Catalog::open(third.as_slice(), &mut Meter::new())?,
-    ];
-    let answer = Chain::new(&members).look(None, b"f", Some((b"fs", 2)), &mut Meter::new());
-    assert_eq!(rt; answer.text, b"2".as_slice());
-    assert_eq!(rt; answer.asked, 2);
-    assert_eq!(rt; answer.steps, 1);
-
-    let answer = Chain::new(&[]).look(None, b"a", None, &mut Meter::new());
-    assert_eq!(rt; answer.text, b"a".as_slice());
-    assert!(rt; !answer.found);
-    assert_eq!(rt; answer.asked, 0);
     Ok(())
 }

@@ -4,7 +4,7 @@ use mo_file::MoError;
 
 /// A file of either byte order.
 #[derive(Clone, Copy, Drop)]
-pub(crate) struct Plain<'a> {
+pub(super) struct Plain<'a> {
     bytes: &'a [u8],
     little: bool,
 }
@@ -12,19 +12,17 @@ pub(crate) struct Plain<'a> {
 impl<'a> Plain<'a> {
     /// The file of these bytes, in the order that its magic number shows, or None where it shows none.
     fn new(bytes: &'a [u8]) -> Option<Plain<'a>> {
-        let magic = bytes.get(..4)?;
-        if magic == [0xde, 0x12, 0x04, 0x95].as_slice() {
-            Some(Plain {
+        let big = Plain {
+            bytes,
+            little: false,
+        };
+        match big.word(0) {
+            0x9504_12de => Some(big),
+            0xde12_0495 => Some(Plain {
                 bytes,
                 little: true,
-            })
-        } else if magic == [0x95, 0x04, 0x12, 0xde].as_slice() {
-            Some(Plain {
-                bytes,
-                little: false,
-            })
-        } else {
-            None
+            }),
+            _ => None,
         }
     }
 
@@ -44,7 +42,7 @@ impl<'a> Plain<'a> {
     }
 
     /// How many messages the header names.
-    pub(crate) fn count(&self) -> u32 {
+    pub(super) fn count(&self) -> u32 {
         self.word(8)
     }
 
@@ -62,13 +60,23 @@ impl<'a> Plain<'a> {
     }
 
     /// The key of message `i`.
-    pub(crate) fn key(&self, i: u32) -> &'a [u8] {
+    pub(super) fn key(&self, i: u32) -> &'a [u8] {
         before_nul(self.string(12, i))
     }
 
     /// Form 0 of the translation of message `i`.
-    pub(crate) fn first_form(&self, i: u32) -> &'a [u8] {
+    pub(super) fn first_form(&self, i: u32) -> &'a [u8] {
         before_nul(self.string(16, i))
+    }
+
+    /// Form 0 of the translation of the message with this key.
+    pub(super) fn form_of(&self, key: &[u8]) -> Option<&'a [u8]> {
+        for i in 0..self.count() {
+            if self.key(i) == key {
+                return Some(self.first_form(i));
+            }
+        }
+        None
     }
 
     /// The first fault behind the magic number.
@@ -104,16 +112,37 @@ impl<'a> Plain<'a> {
     }
 }
 
+/// The first place of a byte.
+pub(super) fn place_of(bytes: &[u8], wanted: u8) -> Option<usize> {
+    for (place, byte) in bytes.iter().enumerate() {
+        if *byte == wanted {
+            return Some(place);
+        }
+    }
+    None
+}
+
 /// What stands before the first NUL, or all.
 fn before_nul(bytes: &[u8]) -> &[u8] {
-    match bytes.iter().position(|byte| *byte == 0) {
+    match place_of(bytes, 0) {
         Some(end) => bytes.get(..end).unwrap_or(b""),
         None => bytes,
     }
 }
 
+/// The context and the msgid of a key: what stands before and behind the first EOT.
+pub(super) fn parts(key: &[u8]) -> (Option<&[u8]>, &[u8]) {
+    match place_of(key, 4) {
+        Some(end) => (
+            key.get(..end),
+            key.get(end.saturating_add(1)..key.len()).unwrap_or(b""),
+        ),
+        None => (None, key),
+    }
+}
+
 /// The file of these bytes, or its first fault.
-pub(crate) fn read(bytes: &[u8]) -> Result<Plain<'_>, MoError> {
+pub(super) fn read(bytes: &[u8]) -> Result<Plain<'_>, MoError> {
     if bytes.len() < 28 {
         return Err(MoError::TooShort);
     }
