@@ -1,8 +1,7 @@
-mod whole_entry;
+//! The statistics of catalogues, their duplicates, and how they are joined.
 
 use po_catalog::{
     Catalogue, JoinError, Stats, duplicates, into_joined, joined_duplicates, read, statistics,
-    write,
 };
 use po_syntax::{PoError, PoFault};
 use std::alloc::Global;
@@ -16,48 +15,66 @@ fn catalogue(rt: &impl Abort, alloc: Global, text: &[u8]) -> Catalogue {
     }
 }
 
+/// A translated, a fuzzy and an untranslated message.
+const HEADED_ONE_EACH: &[u8] =
+    b"#, fuzzy\nmsgid \"\"\nmsgstr \"X\"\n\nmsgid \"a\"\nmsgstr \"A\"\n\n#, fuzzy\nmsgid \"b\"\nmsgstr \"B\"\n\nmsgid \"c\"\nmsgstr \"\"\n\n#~ msgid \"d\"\n#~ msgstr \"D\"\n";
+
+/// Numbers of translated, fuzzy and untranslated messages, with their line.
+const LINES: &[(u64, u64, u64, &[u8])] = &[
+    (0, 0, 0, b"0 translated messages.\n"),
+    (
+        1,
+        1,
+        1,
+        b"1 translated message, 1 fuzzy translation, 1 untranslated message.\n",
+    ),
+    (
+        2,
+        0,
+        3,
+        b"2 translated messages, 3 untranslated messages.\n",
+    ),
+];
+
 #[test]
 fn statistics_lines(rt: HostRuntime) -> Result<(), Fail> {
-    let empty = statistics(&catalogue(&rt, rt.alloc(), b""));
-    assert!(rt; empty.line(rt.alloc())?.as_slice() == b"0 translated messages.\n".as_slice());
-    let text =
-        b"#, fuzzy\nmsgid \"\"\nmsgstr \"X\"\n\nmsgid \"a\"\nmsgstr \"A\"\n\n#, fuzzy\nmsgid \"b\"\nmsgstr \"B\"\n\nmsgid \"c\"\nmsgstr \"\"\n\n#~ msgid \"d\"\n#~ msgstr \"D\"\n";
-    let one_each = statistics(&catalogue(&rt, rt.alloc(), text.as_slice()));
-    assert!(rt;
-        one_each.line(rt.alloc())?.as_slice()
-            == b"1 translated message, 1 fuzzy translation, 1 untranslated message.\n".as_slice()
-    );
-    let without_fuzzy = Stats {
-        translated: 2,
-        fuzzy: 0,
-        untranslated: 3,
-    };
-    assert!(rt;
-        without_fuzzy.line(rt.alloc())?.as_slice()
-            == b"2 translated messages, 3 untranslated messages.\n".as_slice()
-    );
+    for (translated, fuzzy, untranslated, wanted) in LINES {
+        let stats = Stats {
+            translated: *translated,
+            fuzzy: *fuzzy,
+            untranslated: *untranslated,
+        };
+        assert_eq!(rt; stats.line(rt.alloc())?.as_slice(), *wanted);
+    }
     Ok(())
 }
 
 #[test]
-fn duplicates_within_and_across(rt: HostRuntime) -> Result<(), Fail> {
-    let text = b"msgid \"a\"\nmsgstr \"A\"\n".as_slice();
-    let one = catalogue(&rt, rt.alloc(), text);
+fn statistics_of_texts(rt: HostRuntime) {
+    for (text, each) in [(b"".as_slice(), 0), (HEADED_ONE_EACH, 1)] {
+        let wanted = Stats {
+            translated: each,
+            fuzzy: each,
+            untranslated: each,
+        };
+        assert!(rt; statistics(&catalogue(&rt, rt.alloc(), text)) == wanted);
+    }
+}
+
+const ONE_MESSAGE: &[u8] = b"msgid \"a\"\nmsgstr \"A\"\n";
+
+const TWICE: &[u8] = b"msgid \"a\"\nmsgstr \"A\"\n\n# x\nmsgid \"a\"\nmsgstr \"B\"\n";
+
+#[test]
+fn duplicates_within_and_across(rt: HostRuntime) {
+    let one = catalogue(&rt, rt.alloc(), ONE_MESSAGE);
     assert!(rt; duplicates(rt.alloc(), &one).is_ok());
-    assert!(rt; write(rt.alloc(), &one)?.as_slice() == text);
-    let twice = catalogue(
-        &rt,
-        rt.alloc(),
-        b"msgid \"a\"\nmsgstr \"A\"\n\n# x\nmsgid \"a\"\nmsgstr \"B\"\n",
-    );
     let within = PoError {
         kind: PoFault::Duplicate(1),
         line: 5,
     };
-    match duplicates(rt.alloc(), &twice) {
-        Ok(()) => panic!(rt; "no duplicate is told"),
-        Err(error) => assert!(rt; error == within),
-    }
+    let twice = catalogue(&rt, rt.alloc(), TWICE);
+    assert!(rt; duplicates(rt.alloc(), &twice).err() == Some(within));
     let across = JoinError {
         input: 1,
         first_input: 0,
@@ -66,11 +83,8 @@ fn duplicates_within_and_across(rt: HostRuntime) -> Result<(), Fail> {
             line: 1,
         },
     };
-    match joined_duplicates(rt.alloc(), &[catalogue(&rt, rt.alloc(), text), one]) {
-        Ok(()) => panic!(rt; "no duplicate is told"),
-        Err(error) => assert!(rt; error == across),
-    }
-    Ok(())
+    let both = [catalogue(&rt, rt.alloc(), ONE_MESSAGE), one];
+    assert!(rt; joined_duplicates(rt.alloc(), &both).err() == Some(across));
 }
 
 #[test]

@@ -1,51 +1,10 @@
-mod first_fault;
+//! The items of texts, their first faults, and quoted forms.
 
-use first_fault::first_fault;
-use po_syntax::{CommentKind, Item, Keyword, Marks, PoError, PoFault, items, quote};
+use crate::texts::{ESCAPES, EVERY_LINE};
+use po_syntax::{Item, Marks, PoError, PoFault, items, quote};
 use std::alloc::Global;
 use std::fmt::Write;
-use std::process::Abort;
 use std::test::Fail;
-
-const EVERY_LINE: &[u8] = b"#~ # c
-#, fuzzy , c-format,, c-format
-#: a.c:1 b.c:2
-#: c.c:3
-#| msgid \"o\"
-msgid \"k\" \"l\"
-\"m\"
-msgid_plural \"p\"
-msgstr [ 0 ] \"v\"
-";
-
-const FUZZY_AND_OBSOLETE: &[u8] = b"#, fuzzy
-msgid \"\"
-msgstr \"Content-Type: text/plain; charset=UTF-8\\n\"
-
-msgid \"a\"
-msgstr \"A\"
-
-#, fuzzy
-msgid \"b\"
-msgstr \"B\"
-
-msgid \"c\"
-msgstr \"\"
-
-#~ msgid \"d\"
-#~ msgstr \"D\"
-";
-
-/// A byte order mark, CR LF, all five blanks, all marks, and each escape.
-const ESCAPES: &[u8] = b"\xef\xbb\xbf#| msgctxt \"\\101\\x41\\xc3\\xa9\"\r
-#~|\x0bmsgid\x0c\"\\a\\b\\t\\n\\v\\f\\r\\\\\\\"\\1777\\18\"
-\t#~ msgstr[1]\"\\7\" \"q\\x7\"
-#~ #. e\r\r
-#|
-#~
-#~|
-#
-#=!";
 
 /// The items of a text, each on a line of its own: its line, marks and kind, and its bytes in Rust's
 /// escapes.
@@ -73,11 +32,10 @@ fn show(alloc: Global, text: &[u8]) -> Result<String, Fail> {
 }
 
 fn mark_text(marks: Marks) -> &'static str {
-    match (marks.obsolete, marks.previous) {
-        (false, false) => "",
-        (false, true) => "|",
-        (true, false) => "~",
-        (true, true) => "~|",
+    if marks.obsolete {
+        if marks.previous { "~|" } else { "~" }
+    } else {
+        if marks.previous { "|" } else { "" }
     }
 }
 
@@ -134,89 +92,64 @@ fn items_of_escapes_and_marks(rt: HostRuntime) -> Result<(), Fail> {
     Ok(())
 }
 
+/// Texts with the leftmost fault and its line.
+const FAULTS: &[(&[u8], PoFault, u32)] = &[
+    (b"msgid \"a\"\n\xff", PoFault::NotUtf8, 2),
+    (b"\n\n\xc3\n", PoFault::NotUtf8, 3),
+    (b"@\n\0", PoFault::ForbiddenByte, 2),
+    (b"msgstr \"\\0\"", PoFault::ForbiddenByte, 1),
+    (b"\nmsgstr \"\\q\"", PoFault::BadEscape, 2),
+    (b"\"\\q", PoFault::BadEscape, 1),
+    (b"\"\\400\"", PoFault::BadEscape, 1),
+    (b"\"\\x414\"", PoFault::BadEscape, 1),
+    (b"\"\\x\"", PoFault::BadEscape, 1),
+    (b"\"\\\n\"", PoFault::BadEscape, 1),
+    (b"msgid \"\"\n\"a\n\"", PoFault::UnterminatedString, 2),
+    (b"msgstr[4294967296", PoFault::BadPluralIndex, 1),
+    (b"msgstr[", PoFault::BadToken, 1),
+    (b"msgstr[0", PoFault::BadToken, 1),
+    (b"msgid[0]", PoFault::BadToken, 1),
+    (b"msgids", PoFault::BadToken, 1),
+    (b"\"a\" # b", PoFault::BadToken, 1),
+    (b"#~ #~", PoFault::BadToken, 1),
+    (b"#~ #| msgid", PoFault::BadToken, 1),
+    (b"#~ |", PoFault::BadToken, 1),
+];
+
 #[test]
 fn tells_the_leftmost_fault(rt: HostRuntime) {
-    for (text, kind, line) in [
-        (b"msgid \"a\"\n\xff".as_slice(), PoFault::NotUtf8, 2),
-        (b"\n\n\xc3\n".as_slice(), PoFault::NotUtf8, 3),
-        (b"@\n\0".as_slice(), PoFault::ForbiddenByte, 2),
-        (b"msgstr \"\\0\"".as_slice(), PoFault::ForbiddenByte, 1),
-        (b"\nmsgstr \"\\q\"".as_slice(), PoFault::BadEscape, 2),
-        (b"\"\\q".as_slice(), PoFault::BadEscape, 1),
-        (b"\"\\400\"".as_slice(), PoFault::BadEscape, 1),
-        (b"\"\\x414\"".as_slice(), PoFault::BadEscape, 1),
-        (b"\"\\x\"".as_slice(), PoFault::BadEscape, 1),
-        (b"\"\\\n\"".as_slice(), PoFault::BadEscape, 1),
-        (
-            b"msgid \"\"\n\"a\n\"".as_slice(),
-            PoFault::UnterminatedString,
-            2,
-        ),
-        (b"msgstr[4294967296".as_slice(), PoFault::BadPluralIndex, 1),
-        (b"msgstr[".as_slice(), PoFault::BadToken, 1),
-        (b"msgstr[0".as_slice(), PoFault::BadToken, 1),
-        (b"msgid[0]".as_slice(), PoFault::BadToken, 1),
-        (b"msgids".as_slice(), PoFault::BadToken, 1),
-        (b"\"a\" # b".as_slice(), PoFault::BadToken, 1),
-        (b"#~ #~".as_slice(), PoFault::BadToken, 1),
-        (b"#~ #| msgid".as_slice(), PoFault::BadToken, 1),
-        (b"#~ |".as_slice(), PoFault::BadToken, 1),
-    ] {
-        assert_eq!(rt;
-            items(rt.alloc(), text).err(),
-            Some(PoError { kind, line }),
-            "at {}",
-            text.escape_ascii()
-        );
+    for (text, kind, line) in FAULTS {
+        let wanted = PoError {
+            kind: *kind,
+            line: *line,
+        };
+        let told = items(rt.alloc(), text).err();
+        assert_eq!(rt; told, Some(wanted), "at {}", text.escape_ascii());
     }
 }
 
-fn tells_first_fault(rt: &impl Abort, alloc: Global, text: &[u8]) {
-    let told = items(alloc, text).err();
-    assert_eq!(rt; told, first_fault(text), "at {}", text.escape_ascii());
-}
-
-#[test]
-fn tells_the_first_fault_of_damaged_texts(rt: HostRuntime) -> Result<(), Fail> {
-    let mut damaged = Vec::new(rt.alloc());
-    for text in [EVERY_LINE, FUZZY_AND_OBSOLETE, ESCAPES] {
-        tells_first_fault(&rt, rt.alloc(), text);
-        assert_eq!(rt; first_fault(text), None);
-        for place in 0..text.len() {
-            damaged.clear();
-            damaged.extend_from_slice(&text[..place])?;
-            tells_first_fault(&rt, rt.alloc(), &damaged);
-            for byte in *b"\"\\#\n\0\xff" {
-                damaged.clear();
-                damaged.extend_from_slice(text)?;
-                if let Some(changed) = damaged.get_mut(place) {
-                    *changed = byte;
-                }
-                tells_first_fault(&rt, rt.alloc(), &damaged);
-            }
-        }
-    }
-    Ok(())
-}
+const QUOTED: &[(&[u8], &[u8])] = &[
+    (b"", b"\"\""),
+    (b"k", b"\"k\""),
+    (b"a\n", b"\"a\\n\""),
+    (
+        b"\x07\x08\t\n\x0b\x0c\r\"\\",
+        b"\"\\a\\b\\t\\n\\v\\f\\r\\\"\\\\\"",
+    ),
+    (
+        b"\x01\x1b1\x7f \xc3\xa9~",
+        b"\"\\001\\0331\\177 \xc3\xa9~\"",
+    ),
+];
 
 #[test]
 fn quotes(rt: HostRuntime) -> Result<(), Fail> {
-    for (bytes, wanted) in [
-        (b"".as_slice(), b"\"\"".as_slice()),
-        (b"k".as_slice(), b"\"k\"".as_slice()),
-        (b"a\n".as_slice(), b"\"a\\n\"".as_slice()),
-        (
-            b"\x07\x08\t\n\x0b\x0c\r\"\\".as_slice(),
-            b"\"\\a\\b\\t\\n\\v\\f\\r\\\"\\\\\"".as_slice(),
-        ),
-        (
-            b"\x01\x1b1\x7f \xc3\xa9~".as_slice(),
-            b"\"\\001\\0331\\177 \xc3\xa9~\"".as_slice(),
-        ),
-    ] {
-        let mut out = b"msgid ".to_vec(rt.alloc())?;
+    let mut out = Vec::new(rt.alloc());
+    for (bytes, wanted) in QUOTED {
+        out.clear();
+        out.extend_from_slice(b"msgid ")?;
         quote(bytes, &mut out)?;
-        assert_eq!(rt; out.get(6..), Some(wanted), "at {}", bytes.escape_ascii());
+        assert_eq!(rt; out.get(6..), Some(*wanted), "at {}", bytes.escape_ascii());
     }
     Ok(())
 }

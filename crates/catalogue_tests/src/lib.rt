@@ -1,6 +1,6 @@
 //! Tests of the crates that read, write and compile catalogues, through their public calls: texts and
-//! answers that were worked out by hand. They stand in a crate of their own, since the gate proves a
-//! crate once more together with the tests in it.
+//! answers that were worked out by hand, and a sweep over damaged texts. They stand in a crate of their
+//! own, since the gate proves a crate once more together with the tests in it.
 
 #![tactic(auto)]
 
@@ -11,6 +11,14 @@ mod catalogues;
 #[cfg(test)]
 mod compiling;
 #[cfg(test)]
+mod damaged;
+#[cfg(test)]
 mod items;
 #[cfg(test)]
 mod reading;
+#[cfg(test)]
+mod summary;
+#[cfg(test)]
+mod texts;
+#[cfg(test)]
+mod writing;

@@ -4,8 +4,6 @@
 mod entry_lines;
 mod keyword_lines;
 pub mod laws;
-#[cfg(test)]
-mod tests;
 mod text;
 
 pub use crate::text::write;

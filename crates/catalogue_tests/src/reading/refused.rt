@@ -1,23 +1,22 @@
 //! Texts that are refused for their bytes, the spelling of their items, or the texts of their entries.
 
 use po_reader::read;
-use po_syntax::PoFault;
+use po_syntax::{PoError, PoFault};
 use std::alloc::Global;
 use std::process::Abort;
 use std::test::Fail;
 
 /// A text with the fault that is told first, and its line.
-pub(crate) type Refused = (&'static [u8], PoFault, u32);
+pub(super) type Refused = (&'static [u8], PoFault, u32);
 
-pub(crate) fn check(rt: &impl Abort, alloc: Global, rows: &[Refused]) {
+pub(super) fn check(rt: &impl Abort, alloc: Global, rows: &[Refused]) {
     for (text, kind, line) in rows {
-        match read(alloc, text) {
-            Ok(_) => panic!(rt; "{kind:?} at line {line}"),
-            Err(error) => {
-                assert_eq!(rt; error.kind, *kind, "{kind:?} at line {line}");
-                assert_eq!(rt; error.line, *line, "{kind:?}");
-            }
-        }
+        let wanted = PoError {
+            kind: *kind,
+            line: *line,
+        };
+        let told = read(alloc, text).err();
+        assert_eq!(rt; told, Some(wanted), "at {}", text.escape_ascii());
     }
 }
 
@@ -196,12 +195,10 @@ fn too_large(rt: HostRuntime) -> Result<(), Fail> {
         text.extend_from_slice(&zeros)?;
     }
     assert_eq!(rt; text.len(), 2_147_483_648);
-    match read(rt.alloc(), &text) {
-        Ok(_) => panic!(rt; "a text of 2^31 bytes was read"),
-        Err(error) => {
-            assert_eq!(rt; error.kind, PoFault::TooLarge);
-            assert_eq!(rt; error.line, 0);
-        }
-    }
+    let wanted = PoError {
+        kind: PoFault::TooLarge,
+        line: 0,
+    };
+    assert!(rt; read(rt.alloc(), &text).err() == Some(wanted));
     Ok(())
 }

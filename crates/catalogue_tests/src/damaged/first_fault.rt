@@ -21,7 +21,7 @@ enum State {
 }
 
 /// The first fault of a text that is within the limit of its length, found byte by byte.
-pub fn first_fault(text: &[u8]) -> Option<PoError> {
+pub(super) fn first_fault(text: &[u8]) -> Option<PoError> {
     if let Err(error) = std::str::from_utf8(text) {
         return Some(fault_at(text, error.valid_up_to(), PoFault::NotUtf8));
     }
@@ -183,5 +183,5 @@ fn is_blank(byte: u8) -> bool {
 }
 
 fn is_word_byte(byte: u8) -> bool {
-    byte.is_ascii_alphanumeric() || byte == b'_'
+    matches!(byte, b'0'..=b'9' | b'A'..=b'Z' | b'a'..=b'z' | b'_')
 }

@@ -1,0 +1,50 @@
+//! An entry on a line, so that a whole catalogue is compared at once.
+
+use po_entry::Entry;
+use std::test::Fail;
+
+fn push_pieces(line: &mut Vec<u8>, pieces: &[&[u8]]) -> Result<(), Fail> {
+    for piece in pieces {
+        line.extend_from_slice(piece)?;
+    }
+    Ok(())
+}
+
+/// Appends texts, each with a semicolon behind it, and then an end.
+fn push_texts(line: &mut Vec<u8>, texts: &[Vec<u8>], end: &[u8]) -> Result<(), Fail> {
+    for text in texts {
+        line.extend_from_slice(text)?;
+        line.push(b';')?;
+    }
+    line.extend_from_slice(end)?;
+    Ok(())
+}
+
+/// Appends a line for an entry: its marks and its texts, in the order of its fields.
+pub(crate) fn push_summary(line: &mut Vec<u8>, entry: &Entry) -> Result<(), Fail> {
+    push_texts(line, entry.comments(), b"|")?;
+    push_texts(line, entry.extracted(), b"|")?;
+    let mark: &[u8] = if entry.fuzzy() { b"|fuzzy!" } else { b"|" };
+    push_texts(line, entry.references(), mark)?;
+    push_texts(line, entry.flags(), b"|")?;
+    let previous = entry.previous();
+    push_pieces(
+        line,
+        &[
+            previous.context.as_deref().unwrap_or(b"-"),
+            b";",
+            previous.id.as_deref().unwrap_or(b"-"),
+            b";",
+            previous.plural.as_deref().unwrap_or(b"-"),
+            b";|",
+            entry.context().unwrap_or(b"-"),
+            b"|",
+            entry.id(),
+            b"|",
+            entry.plural().unwrap_or(b"-"),
+            b"|",
+        ],
+    )?;
+    let end: &[u8] = if entry.obsolete() { b"~\n" } else { b".\n" };
+    push_texts(line, entry.forms(), end)
+}
