@@ -77,7 +77,8 @@ fn substitutes(
 ) -> bool {
     let mut writer = Counted::new(Vec::new(alloc));
     let outcome = run_envsubst(&mut Counted::new(reader), &mut writer, vars, None);
-    outcome == told && writer.into_inner().as_slice() == written
+    let gone_out = writer.into_inner();
+    outcome == told && gone_out.as_slice() == written
 }
 
 /// Whether `ab` put to such a writer tells this, and this has gone out.
@@ -90,7 +91,8 @@ fn puts(
 ) -> bool {
     let mut writer = Counted::new(Failing::new(Vec::new(alloc), failing_call, most));
     let outcome = put_all(&mut writer, b"ab");
-    outcome == told && writer.into_inner().into_inner().as_slice() == written
+    let gone_out = writer.into_inner().into_inner();
+    outcome == told && gone_out.as_slice() == written
 }
 
 /// Whether a run with the output `ab` and the message `c`, delivered to such writers, tells this, and this has gone
@@ -114,10 +116,12 @@ fn delivers(
     let mut out = Counted::new(out);
     let mut err = Counted::new(err);
     let outcome = deliver(&run, &mut out, &mut err);
+    let gone_out = out.into_inner().into_inner();
+    let gone_to_err = err.into_inner().into_inner();
     has_room
         && outcome == told
-        && out.into_inner().into_inner().as_slice() == output
-        && err.into_inner().into_inner().as_slice() == messages
+        && gone_out.as_slice() == output
+        && gone_to_err.as_slice() == messages
 }
 
 /// Whether msgfmt over a reader of one message tells this, and this has gone out.
@@ -139,9 +143,9 @@ fn compiles(
         "<stdin>",
         &STATISTICS,
     );
-    outcome == told
-        && out.into_inner().as_slice() == output
-        && err.into_inner().as_slice() == messages
+    let gone_out = out.into_inner();
+    let gone_to_err = err.into_inner();
+    outcome == told && gone_out.as_slice() == output && gone_to_err.as_slice() == messages
 }
 
 #[test]

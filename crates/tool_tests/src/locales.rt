@@ -140,7 +140,7 @@ fn lists_the_candidates_of_locales(rt: HostRuntime) {
         };
         assert!(rt;
             are_listed(locale_candidates(rt.alloc(), &environment), wanted),
-            "of {lang:?}, {language:?}"
+            "{wanted:?}, of {lang:?}"
         );
     }
 }

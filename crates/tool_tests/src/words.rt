@@ -46,7 +46,9 @@ const FAULTS: &[(Option<&str>, ProgramFault<'static>, &[u8])] = &[
 /// Whether a fault is told by this line.
 fn is_told(alloc: Global, tool: Option<&str>, fault: ProgramFault<'_>, line: &[u8]) -> bool {
     let mut err = Counted::new(Vec::new(alloc));
-    tell(&mut err, tool, fault).is_ok() && err.into_inner().as_slice() == line
+    let told = tell(&mut err, tool, fault);
+    let gone_out = err.into_inner();
+    told.is_ok() && gone_out.as_slice() == line
 }
 
 #[test]
