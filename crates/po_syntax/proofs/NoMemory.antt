@@ -1,5 +1,5 @@
 -- No fault of a text is want of memory.
-use Rattle.std.proofs.Common.{◌≡◌, ◌≢◌, ◌⊎◌, inl, inr, ◌==◌, ◌^◌, ◌+◌, ℕ, Bool, true, false, if◌then◌else◌, nat_lt, List, [], ◌∷◌, Option, Some, None, take, drop, codes, bytes_eq, sym, subst}
+use Rattle.std.proofs.Common.{◌≢◌, inl, inr, ◌==◌, ◌^◌, ◌+◌, ℕ, Bool, true, false, if◌then◌else◌, nat_lt, List, [], ◌∷◌, Option, Some, None, take, drop, codes, bytes_eq, subst}
 use Rattle.std.specs.List.{prefix_len}
 use Rattle.std.specs.Char.{is_digit}
 use Rattle.std.specs.Str.Parse.{digits_value}
@@ -8,7 +8,7 @@ use Rattle.po_syntax.specs.declared.fault.PoFault.TheVariants.{OutOfMemory}
 use Rattle.po_syntax.specs.Line.{TokensStop, halt, in_string, after_word, after_string, LineStops, no_shape, in_tokens}
 use Rattle.po_syntax.specs.PoText.{LinesStop, TextFault, too_large, not_utf8, nul, stops}
 use Rattle.po_syntax.specs.QuotedString.{Step, End, Byte, Stop, digit_count, numbered, letter_value, letter_step, escape_at, step_at, QuotedStops, here, later}
-use Rattle.po_syntax.specs.Token.{Token, Nothing, Open, Key, Halt, is_word_byte, skip_blanks, close_token, index_token, bracket_token, keyword_token, word_token, first_token, token_at}
+use Rattle.po_syntax.specs.Token.{Token, Nothing, Open, Key, Halt, is_word_byte, skip_blanks, close_token, index_token, bracket_token, keyword_token, first_token}
 
 abbrev IsTold : PoFault → Type 0
 IsTold fault = fault ≢ OutOfMemory
