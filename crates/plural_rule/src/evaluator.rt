@@ -15,7 +15,7 @@ use arrayvec::ArrayVec;
 
 /// A node that waits for the value of an operand.
 #[derive(Clone, Copy, Drop)]
-pub enum Frame {
+pub(crate) enum Frame {
     /// `!`
     Not,
     /// An operator before its first operand, with the index of the second.
@@ -40,7 +40,7 @@ const SHORT: usize = 64;
 
 /// What to do next.
 #[derive(Clone, Copy, Drop)]
-pub enum Step {
+pub(crate) enum Step {
     /// Evaluate the node at this index.
     Visit(u16),
     /// Stop, with the value of the whole expression.
@@ -48,7 +48,7 @@ pub enum Step {
 }
 
 /// The value of the expression in `table` at `count`, or `None` where it is undefined, and how many nodes were visited.
-pub fn evaluate(table: &[Node], count: u64) -> (Option<u64>, u32)
+pub(crate) fn evaluate(table: &[Node], count: u64) -> (Option<u64>, u32)
     requires laid { table.now ≡ layout 0 (tree_of table.now) }
     requires limit { nodes (tree_of table.now) ≤ LIMIT }
     ensures value { result.0 ≡ value (tree_of table.now) count }

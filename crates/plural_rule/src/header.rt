@@ -20,7 +20,7 @@ fn behind_first<'a>(text: &'a [u8], word: &[u8]) -> Option<&'a [u8]>
 }
 
 /// The digits of the number of plural forms, of which there is one at least.
-pub fn number_digits(header: &[u8]) -> Option<&[u8]>
+pub(crate) fn number_digits(header: &[u8]) -> Option<&[u8]>
     ensures { MatchOption result (number_of header.now ≡ None)
         (λ digits. AllDigits digits.now × (number_of header.now ≡ Some (decimal_value digits.now))) }
 {
@@ -36,7 +36,7 @@ pub fn number_digits(header: &[u8]) -> Option<&[u8]>
 }
 
 /// The text of the expression.
-pub fn expression(header: &[u8]) -> Option<&[u8]>
+pub(crate) fn expression(header: &[u8]) -> Option<&[u8]>
     ensures { MatchOption result (expression_of header.now ≡ None)
         (λ text. expression_of header.now ≡ Some text.now) }
 {

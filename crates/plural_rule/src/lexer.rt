@@ -42,7 +42,7 @@ fn digits(text: &[u8]) -> usize
 }
 
 /// The text without the spaces and TABs at its front.
-pub fn without_blanks(text: &[u8]) -> &[u8]
+pub(crate) fn without_blanks(text: &[u8]) -> &[u8]
     ensures value { result.now ≡ without_blanks text.now }
     ensures shorter { length result.now ≤ length text.now }
 {
@@ -50,14 +50,14 @@ pub fn without_blanks(text: &[u8]) -> &[u8]
 }
 
 /// The decimal digits at the front of the text.
-pub fn leading_digits(text: &[u8]) -> &[u8]
+pub(crate) fn leading_digits(text: &[u8]) -> &[u8]
     ensures { result.now ≡ take_while is_digit text.now }
 {
     &text[..digits(text)]
 }
 
 /// The number that decimal digits spell, or `None` where it is 2^64 or more.
-pub fn decimal_value(digits: &[u8]) -> Option<u64>
+pub(crate) fn decimal_value(digits: &[u8]) -> Option<u64>
     requires { AllDigits digits.now }
     ensures { SomeIff result (decimal_value digits.now < 2 ^ 64) (decimal_value digits.now) }
 {
@@ -77,7 +77,7 @@ pub fn decimal_value(digits: &[u8]) -> Option<u64>
 /// The token at the front of a text, the longest that fits, and how many bytes it has.
 ///
 /// There is none where no token begins the text, or only a numeral of 2^64 or more.
-pub fn token(text: &[u8]) -> Option<(Token, usize)>
+pub(crate) fn token(text: &[u8]) -> Option<(Token, usize)>
     requires { 0 < length text.now }
     ensures { MatchOption result (HasNoToken text.now) (λ r. IsTokenAt text.now r.0 r.1) }
 {

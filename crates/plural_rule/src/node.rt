@@ -10,7 +10,7 @@ use arrayvec::ArrayVec;
 ///
 /// An operand is named by its index in the table.
 #[derive(Clone, Copy, Drop)]
-pub enum Node {
+pub(crate) enum Node {
     /// `n`, the count that the rule is asked for.
     Count,
     /// A numeral in four parts of 16 bits, the highest first, so that a node takes 10 bytes.
@@ -25,7 +25,7 @@ pub enum Node {
 
 impl Node {
     /// The node of a numeral.
-    pub fn numeral(value: u64) -> Node
+    pub(crate) fn numeral(value: u64) -> Node
         ensures { result ≡ numeral_node value }
     {
         let third = value / 65536;
@@ -40,7 +40,7 @@ impl Node {
 }
 
 /// The numeral of four parts, the highest first.
-pub fn numeral(first: u16, second: u16, third: u16, fourth: u16) -> u64
+pub(crate) fn numeral(first: u16, second: u16, third: u16, fourth: u16) -> u64
     ensures { result ≡ numeral first second third fourth }
 {
     ((first as u64 * 65536 + second as u64) * 65536 + third as u64) * 65536 + fourth as u64
@@ -53,4 +53,4 @@ impl Default for Node {
 }
 
 /// The nodes of an expression, the whole one's last.
-pub type Table = ArrayVec<Node, LIMIT>;
+pub(crate) type Table = ArrayVec<Node, LIMIT>;

@@ -5,7 +5,7 @@ ghost use Rattle.plural_rule.specs.Grammar.{level};
 
 /// An operator of two operands, with the meaning that it has in C for unsigned numbers of 64 bits.
 #[derive(Clone, Copy, Drop)]
-pub enum Operator {
+pub(crate) enum Operator {
     /// `||`
     Or,
     /// `&&`
@@ -36,7 +36,7 @@ pub enum Operator {
 
 impl Operator {
     /// How tight the operator binds, from 1 for `||` to 6 for `*`, `/` and `%`.
-    pub fn level(self) -> u8
+    pub(crate) fn level(self) -> u8
         ensures { result ≡ level self }
     {
         match self {
@@ -50,7 +50,7 @@ impl Operator {
     }
 
     /// Whether the second operand is evaluated, where the first one's value is `left`.
-    pub fn needs_right(self, left: u64) -> bool
+    pub(crate) fn needs_right(self, left: u64) -> bool
         ensures { result ≡ needs_right self left }
     {
         match self {
@@ -61,7 +61,7 @@ impl Operator {
     }
 
     /// The value where the second operand isn't evaluated.
-    pub fn settled(self) -> u64
+    pub(crate) fn settled(self) -> u64
         ensures { result ≡ settled self }
     {
         match self {
@@ -71,7 +71,7 @@ impl Operator {
     }
 
     /// The value where both operands are evaluated, or `None` for a division by 0.
-    pub fn combined(self, left: u64, right: u64) -> Option<u64>
+    pub(crate) fn combined(self, left: u64, right: u64) -> Option<u64>
         ensures { result ≡ combined self left right }
     {
         let value = match self {
@@ -93,7 +93,7 @@ impl Operator {
 }
 
 /// 1 for true, and 0 for false.
-pub fn truth(holds: bool) -> u64
+pub(crate) fn truth(holds: bool) -> u64
     ensures { result ≡ truth holds }
 {
     if holds { 1 } else { 0 }

@@ -18,7 +18,7 @@ use arrayvec::ArrayVec;
 
 /// What waits for its last operand, with the indices of the operands before it.
 #[derive(Clone, Copy, Drop)]
-pub enum Pending {
+pub(crate) enum Pending {
     /// `!`
     Not,
     /// `(`
@@ -213,7 +213,7 @@ fn finish<const DEPTH: usize>(table: &mut Table, stack: &mut Stack<DEPTH>, compl
 }
 
 /// Writes the expression that a text spells into the empty `table`, and tells whether it spells one.
-pub fn parse(text: &[u8], table: &mut Table) -> bool
+pub(crate) fn parse(text: &[u8], table: &mut Table) -> bool
     requires empty { table.old.items ≡ [] }
     requires limit { length text.now ≤ LIMIT }
     ensures { MatchBool result (HoldsExpression text.now table.new.items) ((tree : Tree) → Spelt tree text.now → ⊥) }

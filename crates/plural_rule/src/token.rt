@@ -3,7 +3,7 @@ use crate::operator::Operator;
 
 /// A token of a plural expression.
 #[derive(Clone, Copy, Drop)]
-pub enum Token {
+pub(crate) enum Token {
     /// `n`
     Count,
     /// A decimal numeral.
