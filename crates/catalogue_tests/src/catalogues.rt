@@ -22,6 +22,7 @@ const HEADED_ONE_EACH: &[u8] =
 /// Numbers of translated, fuzzy and untranslated messages, with their line.
 const LINES: &[(u64, u64, u64, &[u8])] = &[
     (0, 0, 0, b"0 translated messages.\n"),
+    (2, 0, 0, b"2 translated messages.\n"),
     (
         1,
         1,
@@ -63,18 +64,33 @@ fn statistics_of_texts(rt: HostRuntime) {
 
 const ONE_MESSAGE: &[u8] = b"msgid \"a\"\nmsgstr \"A\"\n";
 
-const TWICE: &[u8] = b"msgid \"a\"\nmsgstr \"A\"\n\n# x\nmsgid \"a\"\nmsgstr \"B\"\n";
+const HEADED: &[u8] = b"msgid \"\"\nmsgstr \"X\"\n\nmsgid \"a\"\nmsgstr \"A\"\n";
+
+const REPEATED: &[u8] = b"msgid \"a\"\nmsgstr \"A\"\n\n# x\nmsgid \"a\"\nmsgstr \"B\"\n";
 
 #[test]
-fn duplicates_within_and_across(rt: HostRuntime) {
-    let one = catalogue(&rt, rt.alloc(), ONE_MESSAGE);
-    assert!(rt; duplicates(rt.alloc(), &one).is_ok());
+fn duplicates_within_a_text(rt: HostRuntime) {
     let within = PoError {
         kind: PoFault::Duplicate(1),
         line: 5,
     };
-    let twice = catalogue(&rt, rt.alloc(), TWICE);
-    assert!(rt; duplicates(rt.alloc(), &twice).err() == Some(within));
+    for (text, wanted) in [(ONE_MESSAGE, None), (REPEATED, Some(within))] {
+        let read = catalogue(&rt, rt.alloc(), text);
+        assert!(rt; duplicates(rt.alloc(), &read).err() == wanted);
+    }
+}
+
+/// Two catalogues of the same text.
+fn twice(rt: &impl Abort, alloc: Global, text: &[u8]) -> Result<Vec<Catalogue>, Fail> {
+    let mut both = Vec::new(alloc);
+    for _ in 0..2 {
+        both.push(catalogue(rt, alloc, text))?;
+    }
+    Ok(both)
+}
+
+#[test]
+fn duplicates_across_texts(rt: HostRuntime) -> Result<(), Fail> {
     let across = JoinError {
         input: 1,
         first_input: 0,
@@ -83,22 +99,20 @@ fn duplicates_within_and_across(rt: HostRuntime) {
             line: 1,
         },
     };
-    let both = [catalogue(&rt, rt.alloc(), ONE_MESSAGE), one];
+    let both = twice(&rt, rt.alloc(), ONE_MESSAGE)?;
     assert!(rt; joined_duplicates(rt.alloc(), &both).err() == Some(across));
+    Ok(())
 }
 
 #[test]
 fn entries_of_two_inputs(rt: HostRuntime) -> Result<(), Fail> {
-    let headed = b"msgid \"\"\nmsgstr \"X\"\n\nmsgid \"a\"\nmsgstr \"A\"\n".as_slice();
-    let first = catalogue(&rt, rt.alloc(), headed);
-    let second = catalogue(&rt, rt.alloc(), headed);
-    let entries = into_joined(rt.alloc(), vec![in rt.alloc(); first, second]?)?;
+    let both = twice(&rt, rt.alloc(), HEADED)?;
+    let entries = into_joined(rt.alloc(), both)?;
     let [header, a, b] = entries.as_slice() else {
         panic!(rt; "{} entries", entries.len());
     };
     assert!(rt; header.is_header());
-    assert_eq!(rt; a.id(), b"a".as_slice());
-    assert_eq!(rt; b.id(), b"a".as_slice());
+    assert!(rt; a.id() == b"a".as_slice() && b.id() == b"a".as_slice());
     Ok(())
 }
 

@@ -16,13 +16,17 @@ fn show(alloc: Global, text: &[u8]) -> Result<String, Fail> {
                 writeln!(shown, "{line} {kind:?} {}", text.escape_ascii())?;
             }
             Item::Word(keyword, marks, line) => {
-                writeln!(shown, "{line}{} {keyword:?}", mark_text(marks))?;
+                writeln!(
+                    shown,
+                    "{line}{} {keyword:?}",
+                    mark_bytes(marks).escape_ascii()
+                )?;
             }
             Item::Str(bytes, marks, line) => {
                 writeln!(
                     shown,
                     "{line}{} {}",
-                    mark_text(marks),
+                    mark_bytes(marks).escape_ascii(),
                     bytes.as_slice().escape_ascii()
                 )?;
             }
@@ -31,11 +35,11 @@ fn show(alloc: Global, text: &[u8]) -> Result<String, Fail> {
     Ok(shown)
 }
 
-fn mark_text(marks: Marks) -> &'static str {
+fn mark_bytes(marks: Marks) -> &'static [u8] {
     if marks.obsolete {
-        if marks.previous { "~|" } else { "~" }
+        if marks.previous { b"~|" } else { b"~" }
     } else {
-        if marks.previous { "|" } else { "" }
+        if marks.previous { b"|" } else { b"" }
     }
 }
 
@@ -128,17 +132,18 @@ fn tells_the_leftmost_fault(rt: HostRuntime) {
     }
 }
 
+/// Bytes, each with their quoted form behind a keyword.
 const QUOTED: &[(&[u8], &[u8])] = &[
-    (b"", b"\"\""),
-    (b"k", b"\"k\""),
-    (b"a\n", b"\"a\\n\""),
+    (b"", b"msgid \"\""),
+    (b"k", b"msgid \"k\""),
+    (b"a\n", b"msgid \"a\\n\""),
     (
         b"\x07\x08\t\n\x0b\x0c\r\"\\",
-        b"\"\\a\\b\\t\\n\\v\\f\\r\\\"\\\\\"",
+        b"msgid \"\\a\\b\\t\\n\\v\\f\\r\\\"\\\\\"",
     ),
     (
         b"\x01\x1b1\x7f \xc3\xa9~",
-        b"\"\\001\\0331\\177 \xc3\xa9~\"",
+        b"msgid \"\\001\\0331\\177 \xc3\xa9~\"",
     ),
 ];
 
@@ -149,7 +154,7 @@ fn quotes(rt: HostRuntime) -> Result<(), Fail> {
         out.clear();
         out.extend_from_slice(b"msgid ")?;
         quote(bytes, &mut out)?;
-        assert_eq!(rt; out.get(6..), Some(*wanted), "at {}", bytes.escape_ascii());
+        assert!(rt; out.as_slice() == *wanted, "at {}", bytes.escape_ascii());
     }
     Ok(())
 }
