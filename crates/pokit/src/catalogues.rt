@@ -15,14 +15,14 @@ const MOST_CATALOGUES: usize = u32::MAX as usize;
 
 /// A compiled catalogue's bytes, with the path that names it in fault lines.
 #[derive(Drop)]
-pub struct CatalogueFile {
+pub(crate) struct CatalogueFile {
     path: String,
     bytes: Vec<u8>,
 }
 
 /// The catalogues of the text domain, given by a word or by an option, in the order in which the
 /// environment asks for them: those whose files can be read.
-pub fn find<'a, R: Files + Env>(
+pub(crate) fn find<'a, R: Files + Env>(
     alloc: Global,
     rt: &R,
     word: Option<&str>,
@@ -44,7 +44,7 @@ pub fn find<'a, R: Files + Env>(
 }
 
 /// The catalogues, lent, with their paths for names.
-pub fn lent<'a>(
+pub(crate) fn lent<'a>(
     alloc: Global,
     catalogues: &[CatalogueFile],
 ) -> Result<Vec<(&str, &[u8])>, ProgramFault<'a>>

@@ -3,12 +3,12 @@ use clap::{Arg, ArgAction, Command};
 use std::alloc::{AllocError, Global};
 
 /// The MO file that msgfmt writes where the words name none.
-pub const DEFAULT_OUTPUT: &str = "messages.mo";
+pub(crate) const DEFAULT_OUTPUT: &str = "messages.mo";
 
 static BYTE_ORDERS: [&str; 2] = ["little", "big"];
 
 /// The whole program. Where the first word names a tool, that one alone is built.
-pub fn program<'a>(alloc: Global, first: Option<&str>) -> Result<Command<'a>, AllocError> {
+pub(crate) fn program<'a>(alloc: Global, first: Option<&str>) -> Result<Command<'a>, AllocError> {
     let program = Command::new(alloc, "pokit")
         .about("Compiles message catalogues and looks messages up in them")
         .disable_version_flag(true)

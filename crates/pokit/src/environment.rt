@@ -14,7 +14,7 @@ const FIRST_CAPACITY: usize = 256;
 
 /// The variables that choose a catalogue.
 #[derive(Drop)]
-pub struct Variables {
+pub(crate) struct Variables {
     lc_all: Option<Vec<u8>>,
     lc_messages: Option<Vec<u8>>,
     lang: Option<Vec<u8>>,
@@ -25,7 +25,7 @@ pub struct Variables {
 
 impl Variables {
     /// The variables as they stand in the environment.
-    pub fn read(alloc: Global, env: &impl Env) -> Result<Variables, AllocError> {
+    pub(crate) fn read(alloc: Global, env: &impl Env) -> Result<Variables, AllocError> {
         Ok(Variables {
             lc_all: variable(alloc, env, "LC_ALL")?,
             lc_messages: variable(alloc, env, "LC_MESSAGES")?,
@@ -37,7 +37,7 @@ impl Variables {
     }
 
     /// The same, lent.
-    pub fn environment(&self) -> Environment<'_> {
+    pub(crate) fn environment(&self) -> Environment<'_> {
         Environment {
             lc_all: bytes(&self.lc_all),
             lc_messages: bytes(&self.lc_messages),
@@ -55,7 +55,7 @@ fn variable(alloc: Global, env: &impl Env, name: &str) -> Result<Option<Vec<u8>>
 }
 
 /// All entries of the environment in order, each `NAME=value`.
-pub fn entries(alloc: Global, env: &impl Env) -> Result<Vec<Vec<u8>>, AllocError> {
+pub(crate) fn entries(alloc: Global, env: &impl Env) -> Result<Vec<Vec<u8>>, AllocError> {
     let mut entries = Vec::new(alloc);
     for place in 0..usize::MAX {
         match ask(alloc, env, Query::Entry(place))? {

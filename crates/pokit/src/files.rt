@@ -8,16 +8,16 @@ use std::rt::Files;
 
 /// The inputs with their names, in the order of the words, up to the first that can't be read.
 #[derive(Drop)]
-pub struct Inputs<'a> {
+pub(crate) struct Inputs<'a> {
     /// The name of each input in fault lines, and its bytes.
-    pub texts: Vec<(&'a str, Vec<u8>)>,
+    pub(crate) texts: Vec<(&'a str, Vec<u8>)>,
     /// Why the next input can't be read, where one can't.
-    pub fault: Option<ProgramFault<'a>>,
+    pub(crate) fault: Option<ProgramFault<'a>>,
 }
 
 impl<'a> Inputs<'a> {
     /// Reads each file. Standard input is read where it is named first, and empty from then on.
-    pub fn read<R: Files + Input>(
+    pub(crate) fn read<R: Files + Input>(
         alloc: Global,
         rt: &R,
         files: &[&'a str],
@@ -45,7 +45,7 @@ impl<'a> Inputs<'a> {
     }
 
     /// The inputs that were read, lent.
-    pub fn lent(&self, alloc: Global) -> Result<Vec<(&str, &[u8])>, ProgramFault<'a>> {
+    pub(crate) fn lent(&self, alloc: Global) -> Result<Vec<(&str, &[u8])>, ProgramFault<'a>> {
         let mut texts = Vec::with_capacity(alloc, self.texts.len())?;
         for (name, text) in &self.texts {
             texts.push((*name, text.as_slice()))?;
@@ -68,7 +68,10 @@ fn read_named<'a>(
 }
 
 /// The bytes of an open file, or its first `INPUT_LIMIT`, in a buffer of its size.
-pub fn read_file<F: Read + OpenFile + Drop>(alloc: Global, file: F) -> Result<Vec<u8>, ToolFault> {
+pub(crate) fn read_file<F: Read + OpenFile + Drop>(
+    alloc: Global,
+    file: F,
+) -> Result<Vec<u8>, ToolFault> {
     let size = file.metadata().map_or(0, |metadata| metadata.len());
     let limit = INPUT_LIMIT as u64;
     // A byte of room more shows the end of the file without another growth.
@@ -82,7 +85,7 @@ pub fn read_file<F: Read + OpenFile + Drop>(alloc: Global, file: F) -> Result<Ve
 
 /// Writes what a run gave: its output to the file that is made for it, or to standard output where
 /// none is, and then its messages to standard error. The answer is the run's status.
-pub fn write_run<'a, R: Files + Print, E: Write + Drop>(
+pub(crate) fn write_run<'a, R: Files + Print, E: Write + Drop>(
     rt: &R,
     errors: E,
     run: &Run,

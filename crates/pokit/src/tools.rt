@@ -1,5 +1,5 @@
 // The tools, each with what stands between its words and its run.
-pub mod envsubst;
-pub mod gettext;
-pub mod msgfmt;
-pub mod ngettext;
+pub(crate) mod envsubst;
+pub(crate) mod gettext;
+pub(crate) mod msgfmt;
+pub(crate) mod ngettext;

@@ -10,7 +10,7 @@ use std::io::{self, BufWriter, Input, Print, Write};
 const OUTPUT_CAPACITY: usize = 1 << 16;
 
 /// Runs `pokit envsubst` and gives its status.
-pub fn run<'a, R: Env + Input + Print>(
+pub(crate) fn run<'a, R: Env + Input + Print>(
     alloc: Global,
     rt: &R,
     matches: &ArgMatches<'a>,

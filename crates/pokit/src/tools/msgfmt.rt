@@ -9,7 +9,7 @@ use std::io::{Input, Print, Write};
 use std::rt::Files;
 
 /// Runs `pokit msgfmt` and gives its status.
-pub fn run<'a, R: Files + Input + Print, E: Write + Drop>(
+pub(crate) fn run<'a, R: Files + Input + Print, E: Write + Drop>(
     alloc: Global,
     rt: &R,
     errors: E,

@@ -9,7 +9,7 @@ use std::io::{Print, Write};
 use std::rt::Files;
 
 /// Runs `pokit ngettext` and gives its status.
-pub fn run<'a, R: Files + Env + Print, E: Write + Drop>(
+pub(crate) fn run<'a, R: Files + Env + Print, E: Write + Drop>(
     alloc: Global,
     rt: &R,
     errors: E,
