@@ -100,6 +100,7 @@ fn duplicates_across_texts(rt: HostRuntime) -> Result<(), Fail> {
         },
     };
     let both = twice(&rt, rt.alloc(), ONE_MESSAGE)?;
+    assert_eq!(rt; both.len(), 2);
     assert!(rt; joined_duplicates(rt.alloc(), &both).err() == Some(across));
     Ok(())
 }
