@@ -17,10 +17,14 @@ demo: build/pokit
 test:
 	tests/run
 
+# The wrong bodies that the gate leaves out.
+wrong-bodies:
+	tests/wrong-bodies/run
+
 install: build/pokit
 	install -D build/pokit $(DESTDIR)$(PREFIX)/bin/pokit
 
 clean:
 	rm -rf build
 
-.PHONY: all demo test install clean
+.PHONY: all demo test wrong-bodies install clean
