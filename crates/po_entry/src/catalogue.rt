@@ -37,6 +37,15 @@ impl Catalogue {
         }
     }
 
+    /// The catalogue of these entries, in each of which the charset of a header is admitted. It takes
+    /// no memory.
+    pub fn of(entries: Vec<Entry>) -> Catalogue
+        requires { All IsCatalogueEntry entries.items }
+        ensures { result ≡ entries.items }
+    {
+        Catalogue { entries }
+    }
+
     /// The entries, in order.
     pub fn entries(&self) -> &[Entry]
         ensures entries { result.now ≡ self.now }
