@@ -6,8 +6,7 @@ all: build/pokit
 
 # Each crate is proved before the program is built.
 build/pokit: $(SOURCES)
-	cd crates/pokit && rt run -- --help > /dev/null
-	install -D crates/pokit/out/pokit $@
+	@scripts/build
 
 # Compiles the examples, and asks messages of them.
 demo: build/pokit
@@ -15,11 +14,11 @@ demo: build/pokit
 
 # The gate, and then the runs of the program that it built.
 test:
-	tests/run
+	@tests/run
 
-# The wrong bodies that the gate leaves out.
-wrong-bodies:
-	tests/wrong-bodies/run
+# The mutants of all crates, which the gate tries too.
+mutants:
+	@tests/mutants/run
 
 install: build/pokit
 	install -D build/pokit $(DESTDIR)$(PREFIX)/bin/pokit
@@ -27,4 +26,4 @@ install: build/pokit
 clean:
 	rm -rf build
 
-.PHONY: all demo test wrong-bodies install clean
+.PHONY: all demo test mutants install clean
