@@ -20,10 +20,14 @@ test:
 mutants:
 	@tests/mutants/run
 
+# The program, GNU's names for its tools in a folder of their own, manuals and completions.
 install: build/pokit
-	install -D build/pokit $(DESTDIR)$(PREFIX)/bin/pokit
+	scripts/install install "$(DESTDIR)" "$(PREFIX)"
+
+uninstall:
+	scripts/install uninstall "$(DESTDIR)" "$(PREFIX)"
 
 clean:
 	rm -rf build
 
-.PHONY: all demo test mutants install clean
+.PHONY: all demo test mutants install uninstall clean
