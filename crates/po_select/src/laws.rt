@@ -1,0 +1,23 @@
+//! Laws of the selection, each on a function that does nothing: a crate that rests on one calls it.
+ghost use Rattle.std.specs.Prelude.{◌≡◌, List, All};
+ghost use Rattle.po_entry.specs.TextEntry.{TextEntry};
+ghost use Rattle.po_entry.specs.Validity.{IsCatalogueEntry};
+ghost use Rattle.po_select.specs.declared.selection.Selection.{Selection};
+ghost use Rattle.po_select.specs.Selected.{ChangesNothing, every_entry, selected};
+
+/// Without an option, all entries are selected as they are.
+pub fn nothing_given_selects_all()
+    ensures { (entries : List TextEntry) → selected every_entry entries ≡ entries }
+{}
+
+/// Conditions alone select the same entries when they are asked again.
+pub fn conditions_select_once()
+    ensures { (selection : Selection) (entries : List TextEntry) → ChangesNothing selection
+        → selected selection (selected selection entries) ≡ selected selection entries }
+{}
+
+/// What is selected of a catalogue's entries can stand in a catalogue.
+pub fn selected_entries_can_stand()
+    ensures { (selection : Selection) (entries : List TextEntry)
+        → All IsCatalogueEntry entries → All IsCatalogueEntry (selected selection entries) }
+{}

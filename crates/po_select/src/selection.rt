@@ -1,0 +1,112 @@
+ghost use Rattle.std.specs.Prelude.{◌≡◌};
+ghost use Rattle.po_catalog.specs.Joined.{is_live_header};
+ghost use Rattle.po_entry.specs.Validity.{IsCatalogueEntry};
+ghost use Rattle.po_select.specs.Selected.{changed, fuzzy_after, is_emptied, is_kept, meets, obsolete_after};
+
+use po_catalog::has_translation;
+use po_entry::Entry;
+
+/// Which entries of a catalogue are kept, and how those that are kept are changed: the options of
+/// msgattrib (GNU gettext manual, "Invoking the msgattrib Program"). `--fuzzy` stands for
+/// `only_fuzzy` with `clear_fuzzy`, and `--obsolete` for `only_obsolete` with `clear_obsolete`.
+#[derive(Clone, Copy, Debug, PartialEq, Eq)]
+pub struct Selection {
+    /// `--translated`: entries whose first form isn't empty are kept.
+    pub translated: bool,
+    /// `--untranslated`: entries whose first form is empty are kept.
+    pub untranslated: bool,
+    /// `--no-fuzzy`: entries without the flag `fuzzy` are kept.
+    pub no_fuzzy: bool,
+    /// `--only-fuzzy`: entries with the flag `fuzzy` are kept.
+    pub only_fuzzy: bool,
+    /// `--no-obsolete`: live entries are kept.
+    pub no_obsolete: bool,
+    /// `--only-obsolete`: obsolete entries are kept.
+    pub only_obsolete: bool,
+    /// `--set-fuzzy`: each entry gets the flag `fuzzy`.
+    pub set_fuzzy: bool,
+    /// `--clear-fuzzy`: without `set_fuzzy`, no entry has the flag `fuzzy` any more.
+    pub clear_fuzzy: bool,
+    /// `--set-obsolete`: each entry but a live header becomes obsolete.
+    pub set_obsolete: bool,
+    /// `--clear-obsolete`: without `set_obsolete`, each entry becomes live.
+    pub clear_obsolete: bool,
+    /// `--clear-previous`: the previous texts are dropped.
+    pub clear_previous: bool,
+    /// `--empty`: where the flag `fuzzy` is taken from an entry, its forms become empty, except
+    /// those of a header.
+    pub empty: bool,
+}
+
+impl Selection {
+    /// Whether an entry is kept: as a live header, or since it meets each given condition.
+    pub(crate) fn keeps(&self, entry: &Entry) -> bool
+        ensures { result ≡ is_kept self.now entry.now }
+    {
+        is_live_header(entry) || self.is_met_by(entry)
+    }
+
+    /// Changes an entry that is kept.
+    pub(crate) fn change(&self, entry: &mut Entry)
+        requires { IsCatalogueEntry entry.old }
+        ensures changed { entry.new ≡ changed self.now entry.old }
+        ensures valid { IsCatalogueEntry entry.new }
+    {
+        let fuzzy = self.fuzzy_after(entry);
+        let obsolete = self.obsolete_after(entry);
+        if self.empties(entry) {
+            entry.empty_forms();
+        }
+        entry.set_fuzzy(fuzzy);
+        entry.set_obsolete(obsolete);
+        if self.clear_previous {
+            entry.clear_previous();
+        }
+        entry.invariant();
+    }
+
+    /// Whether an entry meets each given condition.
+    fn is_met_by(&self, entry: &Entry) -> bool
+        ensures { result ≡ meets self.now entry.now }
+    {
+        let is_translated = has_translation(entry);
+        (!self.translated || is_translated)
+            && (!self.untranslated || !is_translated)
+            && (!self.no_fuzzy || !entry.fuzzy())
+            && (!self.only_fuzzy || entry.fuzzy())
+            && (!self.no_obsolete || !entry.obsolete())
+            && (!self.only_obsolete || entry.obsolete())
+    }
+
+    /// Whether an entry has the flag `fuzzy` once it is changed.
+    fn fuzzy_after(&self, entry: &Entry) -> bool
+        ensures { result ≡ fuzzy_after self.now entry.now }
+    {
+        self.set_fuzzy || (entry.fuzzy() && !self.clear_fuzzy)
+    }
+
+    /// Whether the forms of an entry become empty.
+    fn empties(&self, entry: &Entry) -> bool
+        ensures { result ≡ is_emptied self.now entry.now }
+    {
+        self.empty && entry.fuzzy() && !self.fuzzy_after(entry) && !entry.is_header()
+    }
+
+    /// Whether an entry is obsolete once it is changed.
+    fn obsolete_after(&self, entry: &Entry) -> bool
+        ensures { result ≡ obsolete_after self.now entry.now }
+    {
+        if self.set_obsolete {
+            !is_live_header(entry)
+        } else {
+            entry.obsolete() && !self.clear_obsolete
+        }
+    }
+}
+
+/// Whether the entry is a header that is not obsolete.
+fn is_live_header(entry: &Entry) -> bool
+    ensures { result ≡ is_live_header entry.now }
+{
+    entry.is_header() && !entry.obsolete()
+}
