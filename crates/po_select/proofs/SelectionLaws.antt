@@ -1,0 +1,100 @@
+-- What is selected: all where nothing is given, the same again by conditions alone, and entries that can stand in a catalogue.
+use Rattle.std.proofs.Common.{◌≡◌, Bool, true, false, not, ◌&&◌, ◌||◌, List, [], ◌∷◌, map, filter, refl, if◌then◌else◌}
+use Rattle.std.specs.Prelude.{All}
+use Rattle.std.proofs.lemmas.List.Elements.{All-head, All-tail, All-nil, All-cons, All-filter, filter_passes}
+use Rattle.po_entry.specs.TextEntry.{TextEntry, no_previous}
+use Rattle.po_entry.specs.Header.{is_header}
+use Rattle.po_entry.specs.Validity.{IsEntry, IsCatalogueEntry}
+use Rattle.po_entry.proofs.Changes.{IsEntry-emptied, IsEntry-without_previous}
+use Rattle.po_catalog.specs.Joined.{is_live_header}
+use Rattle.po_select.specs.declared.selection.Selection.{Selection}
+use Rattle.po_select.specs.Selected.{ChangesNothing, changed, every_entry, fuzzy_after, is_emptied, is_kept, obsolete_after, selected}
+
+and-true : (b : Bool) → (b && true) ≡ b
+and-true true = refl
+and-true false = refl
+
+and-false : (b : Bool) → (b && false) ≡ false
+and-false true = refl
+and-false false = refl
+
+or-true : (b : Bool) → (b || true) ≡ true
+or-true true = refl
+or-true false = refl
+
+-- a flag that isn't taken away empties nothing
+not_emptied : (empty fuzzy header : Bool) → (empty && fuzzy && not (fuzzy && true) && header) ≡ false
+not_emptied true true header = refl
+not_emptied true false header = refl
+not_emptied false fuzzy header = refl
+
+unchanged : (s : Selection) (e : TextEntry) → ChangesNothing s → changed s e ≡ e
+unchanged s e h =
+    rw (h.set_fuzzy, h.clear_fuzzy, h.set_obsolete, h.clear_obsolete, h.clear_previous, not_emptied s.empty e.fuzzy (not (is_header e)), and-true e.fuzzy, and-true e.obsolete)
+    refl
+
+all_unchanged : (s : Selection) (entries : List TextEntry) → ChangesNothing s → map (changed s) entries ≡ entries
+all_unchanged s [] h = refl
+all_unchanged s (e ∷ entries) h = rw (unchanged s e h, all_unchanged s entries h) refl
+
+all_kept : (entries : List TextEntry) → filter (is_kept every_entry) entries ≡ entries
+all_kept [] = refl
+all_kept (e ∷ entries) = rw (or-true (is_live_header e), all_kept entries) refl
+
+passing_kept : (p : TextEntry → Bool) (entries : List TextEntry) → All (λ e. p e ≡ true) entries → filter p entries ≡ entries
+passing_kept p [] h = refl
+passing_kept p (e ∷ entries) h = rw (All-head (λ e. p e ≡ true) e entries h, passing_kept p entries (All-tail (λ e. p e ≡ true) e entries h)) refl
+
+pub nothing_given : (entries : List TextEntry) → selected every_entry entries ≡ entries
+nothing_given entries =
+    let none : ChangesNothing every_entry = record { set_fuzzy = refl; clear_fuzzy = refl; set_obsolete = refl; clear_obsolete = refl; clear_previous = refl } in
+    rw (all_kept entries) (all_unchanged every_entry entries none)
+
+pub selected_once : (s : Selection) (entries : List TextEntry) → ChangesNothing s → selected s (selected s entries) ≡ selected s entries
+selected_once s entries h =
+    rw (all_unchanged s (filter (is_kept s) entries) h)
+    (rw (passing_kept (is_kept s) (filter (is_kept s) entries) (filter_passes (is_kept s) entries)) (all_unchanged s (filter (is_kept s) entries) h))
+
+IsEntry-marked : (e : TextEntry) (fuzzy obsolete : Bool) → IsEntry e → IsEntry (record e { fuzzy = fuzzy; obsolete = obsolete })
+IsEntry-marked e fuzzy obsolete h = record {
+  comment_texts = h.comment_texts;
+  quoted_texts = h.quoted_texts;
+  comments = h.comments;
+  extracted = h.extracted;
+  references = h.references;
+  flags = h.flags;
+  distinct_flags = h.distinct_flags;
+  context = h.context;
+  id = h.id;
+  some_form = h.some_form;
+  one_form = h.one_form;
+}
+
+IsEntry-emptied_if : (e : TextEntry) (b : Bool) → IsEntry e → IsEntry (record e { forms = if b then map (λ _. []) e.forms else e.forms })
+IsEntry-emptied_if e true h = IsEntry-emptied e h
+IsEntry-emptied_if e false h = h
+
+IsEntry-cleared_if : (e : TextEntry) (b : Bool) → IsEntry e → IsEntry (record e { previous = if b then no_previous else e.previous })
+IsEntry-cleared_if e true h = IsEntry-without_previous e h
+IsEntry-cleared_if e false h = h
+
+header_kept : (emptied header : Bool) → header ≡ true → (emptied && not header) ≡ false
+header_kept emptied header is = rw is (and-false emptied)
+
+changed_can_stand : (s : Selection) (e : TextEntry) → IsCatalogueEntry e → IsCatalogueEntry (changed s e)
+changed_can_stand s e h =
+    let emptied : TextEntry = record e { forms = if is_emptied s e then map (λ _. []) e.forms else e.forms } in
+    let cleared : TextEntry = record emptied { previous = if s.clear_previous then no_previous else e.previous } in
+    record {
+      valid = IsEntry-marked cleared (fuzzy_after s e) (obsolete_after s e) (IsEntry-cleared_if emptied s.clear_previous (IsEntry-emptied_if e (is_emptied s e) h.valid));
+      charset = λ header. rw (header_kept (s.empty && e.fuzzy && not (fuzzy_after s e)) (is_header e) header) (h.charset header);
+    }
+
+all_can_stand : (s : Selection) (entries : List TextEntry) → All IsCatalogueEntry entries → All IsCatalogueEntry (map (changed s) entries)
+all_can_stand s [] h = All-nil IsCatalogueEntry
+all_can_stand s (e ∷ entries) h =
+    All-cons IsCatalogueEntry (changed s e) (map (changed s) entries) (changed_can_stand s e (All-head IsCatalogueEntry e entries h))
+    (all_can_stand s entries (All-tail IsCatalogueEntry e entries h))
+
+pub selected_can_stand : (s : Selection) (entries : List TextEntry) → All IsCatalogueEntry entries → All IsCatalogueEntry (selected s entries)
+selected_can_stand s entries h = all_can_stand s (filter (is_kept s) entries) (All-filter (is_kept s) IsCatalogueEntry entries h)
