@@ -10,4 +10,4 @@ mod reading;
 pub use crate::compiling::{compile, compile_all, compile_catalogues};
 pub use crate::messages::is_compiled;
 pub use crate::options::{Compiled, Options};
-pub use crate::reading::read_all;
+pub use crate::reading::{read_all, read_distinct};

@@ -9,3 +9,6 @@ pub mod Gettext
 pub mod GettextView
 pub mod OpensFile
 pub mod Msgfmt
+pub mod Written
+pub mod Delivered
+pub mod Msgattrib

@@ -3,17 +3,21 @@
 
 mod fault_text;
 mod gettext;
+mod msgattrib;
 mod msgfmt;
 mod profile;
 mod program_fault;
 mod run;
 mod unread;
 mod words;
+mod written;
 
 pub use gettext::{GettextOptions, NgettextOptions, plan_gettext, plan_ngettext};
+pub use msgattrib::{plan_msgattrib, run_msgattrib};
 pub use msgfmt::{MsgfmtOptions, plan_msgfmt, profile_check, run_msgfmt};
 pub use po_catalog::JoinError;
 pub use po_compile::{Compiled, Options, compile, compile_all, laws};
+pub use po_select::{Selection, select};
 pub use profile::CheckFault;
 pub use program_fault::{ProgramFault, tell};
 pub use run::{Run, STANDARD, STDIN_NAME, deliver, shown_name};

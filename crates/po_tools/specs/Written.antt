@@ -1,0 +1,14 @@
+-- What a tool comes to that writes a catalogue (manual, "The Format of PO Files").
+use Rattle.std.specs.Prelude.{ℕ, nat_lt, List, [], length}
+use Rattle.po_entry.specs.TextEntry.{TextEntry}
+use Rattle.po_writer.specs.WrittenText.{written_text}
+use Rattle.po_tools.specs.Run.{Report}
+
+-- the text of the entries, and a file where there is an entry
+abbrev pub written_run : List TextEntry → Report
+written_run entries = record {
+  output = written_text entries;
+  create = nat_lt 0 (length entries);
+  messages = [];
+  status = 0;
+}

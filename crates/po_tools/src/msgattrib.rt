@@ -1,0 +1,90 @@
+ghost use Rattle.std.specs.Prelude.{◌≡◌, ◌≢◌, ◌⊎◌, ◌+◌, ◌^◌, ◌<◌, ◌≤◌, IfOk, OnErr, IsErrOf, Err};
+ghost use Rattle.std.specs.Io.KnownBytes.{Keeps};
+ghost use Rattle.po_tools.specs.Delivered.{IsCut, IsDelivered};
+ghost use Rattle.po_tools.specs.Msgattrib.{IsMsgattribRun, error_line};
+ghost use Rattle.po_tools.specs.Run.{refusal, report};
+
+use crate::fault_text::{push_place, push_po_text};
+use crate::run::{Run, deliver};
+use crate::written::written_run;
+use po_catalog::duplicates;
+use po_compile::read_distinct;
+use po_select::{Selection, select};
+use po_shell::{ByteIn, ByteOut, ToolFault, read_input};
+use po_syntax::{PoError, PoFault};
+use std::alloc::Global;
+
+/// The run of a text that is refused.
+fn refused(alloc: Global, name: &str, error: PoError) -> Result<Run, ToolFault>
+    ensures run { IfOk result (λ run. (error.kind ≢ PoFault.OutOfMemory) × (report run ≡ refusal (error_line name.now error))) }
+    ensures memory { OnErr result (result ≡ Err ToolFault.OutOfMemory) }
+{
+    if error.kind == PoFault::OutOfMemory {
+        return Err(ToolFault::OutOfMemory);
+    }
+    let mut messages = Vec::new(alloc);
+    push_place(&mut messages, "msgattrib", name, error.line)?;
+    push_po_text(&mut messages, error.kind)?;
+    messages.extend_from_slice(b"\n")?;
+    Ok(Run {
+        output: Vec::new(alloc),
+        create: false,
+        messages,
+        status: 1,
+    })
+}
+
+/// What `msgattrib` writes and reports of a text with its name: the selected entries, changed as the
+/// selection says, and a file where there is one. A text that is refused is reported by one line,
+/// with status 1. So is a duplicate among the selected entries, without a line. Refused only by want
+/// of memory.
+pub fn plan_msgattrib(
+    alloc: Global,
+    text: &[u8],
+    name: &str,
+    selection: &Selection,
+) -> Result<Run, ToolFault>
+    ensures run { IfOk result (λ run. IsMsgattribRun name.now selection.now text.now (report run)) }
+    ensures memory { OnErr result (result ≡ Err ToolFault.OutOfMemory) }
+{
+    let catalogue = match read_distinct(alloc, text) {
+        Ok(catalogue) => catalogue,
+        Err(error) => return refused(alloc, name, error),
+    };
+    let Ok(selected) = select(catalogue, selection) else {
+        return Err(ToolFault::OutOfMemory);
+    };
+    match duplicates(alloc, &selected) {
+        Ok(()) => written_run(alloc, &selected),
+        Err(error) => refused(alloc, name, PoError { line: 0, ..error }),
+    }
+}
+
+/// Reads one input, selects of it as `plan_msgattrib` does under this name, and writes what the run
+/// comes to: its output and then its messages. The answer is the run's status. After a `ReadFault`,
+/// or want of memory, nothing is written; after a `WriteFault` a prefix is, as `deliver` says.
+pub fn run_msgattrib<R: ByteIn, O: ByteOut, E: ByteOut>(
+    alloc: Global,
+    reader: &mut R,
+    out: &mut O,
+    err: &mut E,
+    name: &str,
+    selection: &Selection,
+) -> Result<u8, ToolFault>
+    requires calls { R.calls reader.old < 2 ^ 63 }
+    requires read_failures { R.failures reader.old < 2 ^ 63 }
+    requires out_failures { O.failures out.old < 2 ^ 63 }
+    requires err_failures { E.failures err.old < 2 ^ 63 }
+    ensures calls { R.calls reader.new ≤ R.calls reader.old + 4294967296 }
+    ensures delivered { IfOk result (λ status. IsDelivered (IsMsgattribRun name.now selection.now) (R.remaining reader.old) (O.contents out.old) (O.contents out.new) (E.contents err.old) (E.contents err.new) status) }
+    ensures prefix { IsErrOf result ToolFault.WriteFault → IsCut (IsMsgattribRun name.now selection.now) (R.remaining reader.old) (O.contents out.old) (O.contents out.new) (E.contents err.old) (E.contents err.new) }
+    ensures no_output { (result ≡ Err ToolFault.ReadFault) ⊎ (result ≡ Err ToolFault.OutOfMemory) → Keeps (O.contents out.old) (O.contents out.new) }
+    ensures no_messages { (result ≡ Err ToolFault.ReadFault) ⊎ (result ≡ Err ToolFault.OutOfMemory) → Keeps (E.contents err.old) (E.contents err.new) }
+    ensures read_fault { IsErrOf result ToolFault.ReadFault → R.failures reader.new ≡ R.failures reader.old + 1 }
+    ensures write_fault { IsErrOf result ToolFault.WriteFault → O.failures out.new + E.failures err.new ≡ O.failures out.old + E.failures err.old + 1 }
+{
+    let text = read_input(alloc, reader)?;
+    let run = plan_msgattrib(alloc, &text, name, selection)?;
+    deliver(&run, out, err)?;
+    Ok(run.status)
+}
