@@ -16,11 +16,13 @@ pub(crate) fn program<'a>(alloc: Global, first: Option<&str>) -> Result<Command<
         .subcommand_required(true);
     match first {
         Some("msgfmt") => program.subcommand(msgfmt(alloc)?),
+        Some("msgattrib") => program.subcommand(msgattrib(alloc)?),
         Some("gettext") => program.subcommand(gettext(alloc)?),
         Some("ngettext") => program.subcommand(ngettext(alloc)?),
         Some("envsubst") => program.subcommand(envsubst(alloc)?),
         _ => program
             .subcommand(msgfmt(alloc)?)?
+            .subcommand(msgattrib(alloc)?)?
             .subcommand(gettext(alloc)?)?
             .subcommand(ngettext(alloc)?)?
             .subcommand(envsubst(alloc)?),
@@ -57,6 +59,53 @@ fn msgfmt<'a>(alloc: Global) -> Result<Command<'a>, AllocError> {
             alloc,
             "profile-check",
             "Refuse plural forms and newlines that don't fit",
+        ))
+}
+
+fn msgattrib<'a>(alloc: Global) -> Result<Command<'a>, AllocError> {
+    let command = Command::new(alloc, "msgattrib")
+        .about("Selects entries of a PO text and changes them")
+        .arg(Arg::new(alloc, "FILE").help("PO text to read; - or none is standard input"))?
+        .arg(value(
+            alloc,
+            "output-file",
+            "FILE",
+            "PO text to write; - or none is standard output",
+        )
+        .short('o'))?
+        .arg(flag(alloc, "no-wrap", "Wrap no line, as always"))?;
+    changes(alloc, conditions(alloc, command)?)
+}
+
+// The options of msgattrib that say which entries are kept.
+fn conditions<'a>(alloc: Global, command: Command<'a>) -> Result<Command<'a>, AllocError> {
+    command
+        .arg(flag(alloc, "translated", "Keep translated messages"))?
+        .arg(flag(alloc, "untranslated", "Keep untranslated messages"))?
+        .arg(flag(alloc, "no-fuzzy", "Keep messages that aren't fuzzy"))?
+        .arg(flag(alloc, "only-fuzzy", "Keep fuzzy messages"))?
+        .arg(flag(alloc, "no-obsolete", "Keep messages that aren't obsolete"))?
+        .arg(flag(alloc, "only-obsolete", "Keep obsolete messages"))
+}
+
+// The options of msgattrib that say how the entries that are kept are changed.
+fn changes<'a>(alloc: Global, command: Command<'a>) -> Result<Command<'a>, AllocError> {
+    command
+        .arg(flag(alloc, "set-fuzzy", "Make all messages fuzzy"))?
+        .arg(flag(alloc, "clear-fuzzy", "Make all messages not fuzzy"))?
+        .arg(flag(alloc, "set-obsolete", "Make all messages obsolete"))?
+        .arg(flag(alloc, "clear-obsolete", "Make all messages not obsolete"))?
+        .arg(flag(alloc, "clear-previous", "Drop the previous texts"))?
+        .arg(flag(
+            alloc,
+            "empty",
+            "With --clear-fuzzy, empty the translations of fuzzy messages",
+        ))?
+        .arg(flag(alloc, "fuzzy", "Stand for --only-fuzzy --clear-fuzzy"))?
+        .arg(flag(
+            alloc,
+            "obsolete",
+            "Stand for --only-obsolete --clear-obsolete",
         ))
 }
 

@@ -54,6 +54,19 @@ impl<'a> Inputs<'a> {
     }
 }
 
+/// The bytes of the only input.
+pub(crate) fn read_one<'a, R: Files + Input>(
+    alloc: Global,
+    rt: &R,
+    file: &'a str,
+) -> Result<Vec<u8>, ProgramFault<'a>> {
+    if file == STANDARD {
+        read_stdin(alloc, rt)
+    } else {
+        read_named(alloc, rt, file)
+    }
+}
+
 fn read_stdin<'a>(alloc: Global, rt: &impl Input) -> Result<Vec<u8>, ProgramFault<'a>> {
     Ok(read_input(alloc, &mut Counted::new(rt.reader()))?)
 }

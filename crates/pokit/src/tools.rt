@@ -1,5 +1,6 @@
 // The tools, each with what stands between its words and its run.
 pub(crate) mod envsubst;
 pub(crate) mod gettext;
+pub(crate) mod msgattrib;
 pub(crate) mod msgfmt;
 pub(crate) mod ngettext;
