@@ -1,3 +1,4 @@
 pub mod Profiles
 pub mod GettextLemmas
 pub mod MsgfmtLemmas
+pub mod MsgattribLemmas
