@@ -20,6 +20,10 @@ test:
 mutants:
 	@tests/mutants/run
 
+# Measures the program against GNU's tools, where they are on the machine.
+bench: build/pokit
+	bench/run
+
 # The program, GNU's names for its tools in a folder of their own, manuals and completions.
 install: build/pokit
 	scripts/install install "$(DESTDIR)" "$(PREFIX)"
@@ -30,4 +34,4 @@ uninstall:
 clean:
 	rm -rf build
 
-.PHONY: all demo test mutants install uninstall clean
+.PHONY: all demo test mutants bench install uninstall clean

@@ -1,0 +1,126 @@
+"""Catalogues and texts of any size, the same for the same seed."""
+
+import random
+
+PARTS = 5
+
+# A message of every catalogue.
+KNOWN = "a known message"
+KNOWN_TRANSLATION = "eine bekannte Meldung"
+
+HEADER = (
+    'msgid ""\n'
+    'msgstr ""\n'
+    '"Content-Type: text/plain; charset=UTF-8\\n"\n'
+    '"Plural-Forms: nplurals=3; plural=n%10==1 && n%100!=11 ? 0 : n%10>=2 && "\n'
+    '"n%10<=4 && (n%100<10 || n%100>=20) ? 1 : 2;\\n"\n'
+)
+
+WORDS = (
+    "open close file folder window message error warning value number list item save load "
+    "print copy paste select option server network user password cannot find invalid missing"
+).split()
+TRANSLATED = (
+    "öffnen schließen Datei Ordner Fenster Nachricht Fehler Warnung Wert Zahl Liste Eintrag "
+    "speichern laden drucken kopieren einfügen wählen Größe Verbindung Benutzer ungültig fehlt"
+).split()
+
+
+def phrase(chance, words):
+    return " ".join(chance.choice(words) for _ in range(chance.randint(2, 9)))
+
+
+def texts(keyword, text, prefix):
+    """A keyword with its text, which is cut after each line end."""
+    lines = [line + "\\n" for line in text.split("\n")]
+    lines[-1] = lines[-1][:-2]
+    if len(lines) == 1:
+        return f'{prefix}{keyword} "{lines[0]}"\n'
+    return f'{prefix}{keyword} ""\n' + "".join(f'{prefix}"{line}"\n' for line in lines)
+
+
+def comments(chance, number):
+    """The comments of a message, and its references and flags but `fuzzy`."""
+    out = []
+    if chance.random() < 0.25:
+        out.append(f"# {phrase(chance, WORDS)}\n")
+    if chance.random() < 0.2:
+        out.append(f"#. {phrase(chance, WORDS)}\n")
+    if chance.random() < 0.7:
+        out.append(f"#: {' '.join(place(chance) for _ in range(number % 3 + 1))}\n")
+    return out
+
+
+def place(chance):
+    return f"src/{chance.choice(WORDS)}.c:{chance.randint(1, 5000)}"
+
+
+def flags(chance, is_fuzzy):
+    names = (["fuzzy"] if is_fuzzy else []) + (["c-format"] if chance.random() < 0.2 else [])
+    return f"#, {', '.join(names)}\n" if names else ""
+
+
+def forms(chance, count):
+    """So many forms; one in ten has a second line."""
+    between = "\n" if chance.random() < 0.1 else " "
+    halves = [(phrase(chance, TRANSLATED), phrase(chance, TRANSLATED)) for _ in range(count)]
+    return [between.join(pair) for pair in halves]
+
+
+def message(chance, number):
+    """A message: of 100, 3 are obsolete, 5 fuzzy, 5 untranslated, 8 have a plural, 10 a context."""
+    prefix = "#~ " if chance.random() < 0.03 else ""
+    is_fuzzy = chance.random() < 0.05
+    is_plural = chance.random() < 0.08
+    id = f"{phrase(chance, WORDS)} {number} {phrase(chance, WORDS)}"
+    out = comments(chance, number) if not prefix else []
+    out.append(flags(chance, is_fuzzy))
+    if is_fuzzy:
+        out.append(texts("msgid", phrase(chance, WORDS), "#~| " if prefix else "#| "))
+    if chance.random() < 0.1:
+        out.append(texts("msgctxt", chance.choice(WORDS), prefix))
+    out.append(texts("msgid", id, prefix))
+    translations = forms(chance, 3 if is_plural else 1)
+    if chance.random() < 0.05:
+        translations = [""] * len(translations)
+    if is_plural:
+        out.append(texts("msgid_plural", id + "s", prefix))
+        out += [texts(f"msgstr[{i}]", form, prefix) for i, form in enumerate(translations)]
+    else:
+        out.append(texts("msgstr", translations[0], prefix))
+    return "".join(out)
+
+
+def write_catalogue(path, count, seed):
+    """A catalogue of so many messages besides its header and KNOWN."""
+    chance = random.Random(seed)
+    with open(path, "w", encoding="utf-8") as out:
+        out.write(HEADER + f'\nmsgid "{KNOWN}"\nmsgstr "{KNOWN_TRANSLATION}"\n')
+        for number in range(count):
+            out.write("\n" + message(chance, number))
+
+
+def write_parts(paths, count, seed):
+    """The messages of a catalogue, dealt out to several: one in ten to two, in other words."""
+    chance = random.Random(seed)
+    files = [open(path, "w", encoding="utf-8") for path in paths]
+    for out in files:
+        out.write(HEADER)
+    for number in range(count):
+        state = chance.getstate() if number % 10 == 0 else None
+        files[number % len(files)].write("\n" + message(chance, number))
+        if state is not None:
+            again = random.Random()
+            again.setstate(state)
+            other = message(again, number).replace("ö", "oe")
+            files[(number + 1) % len(files)].write("\n" + other)
+    for out in files:
+        out.close()
+
+
+def write_template(path, count, seed):
+    """A text of so many lines for envsubst, each with two references."""
+    chance = random.Random(seed)
+    with open(path, "w", encoding="utf-8") as out:
+        for _ in range(count):
+            out.write(f"{phrase(chance, WORDS)} $USER {phrase(chance, WORDS)} ${{BENCH}}\n")

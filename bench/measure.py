@@ -1,0 +1,53 @@
+"""Runs commands in turn, and prints the time and the peak memory of each run.
+
+    measure.py RUNS SOURCE OUTPUT WORD.. [; WORD..]..
+
+Each command, after one run of all that isn't measured, runs so often. A line for a run has the
+number of its command, its seconds and its peak in KiB. A program that fails ends the measuring.
+
+A process counts the memory of the one that it was made from, up to the start of its own program. So
+this script is one of its own, and imports next to nothing.
+"""
+
+import posix
+import sys
+import time
+
+
+def run(command, source, output):
+    """The seconds and the peak in KiB of one run, from its start to its end."""
+    actions = [
+        (posix.POSIX_SPAWN_OPEN, 0, source, posix.O_RDONLY, 0),
+        (posix.POSIX_SPAWN_OPEN, 1, output, posix.O_WRONLY | posix.O_CREAT | posix.O_TRUNC, 0o600),
+        (posix.POSIX_SPAWN_OPEN, 2, "/dev/null", posix.O_WRONLY, 0),
+    ]
+    begin = time.perf_counter()
+    process = posix.posix_spawn(command[0], command, posix.environ, file_actions=actions)
+    _, status, usage = posix.wait4(process, 0)
+    seconds = time.perf_counter() - begin
+    if status != 0:
+        sys.exit(f"{' '.join(command)}: status {status}")
+    return seconds, usage.ru_maxrss
+
+
+def commands_of(words):
+    """The commands, between which a `;` stands."""
+    commands = [[]]
+    for word in words:
+        if word == ";":
+            commands.append([])
+        else:
+            commands[-1].append(word)
+    return commands
+
+
+def main(runs, source, output, *words):
+    commands = commands_of(words)
+    for turn in range(int(runs) + 1):
+        for number, command in enumerate(commands):
+            seconds, peak = run(command, source, output)
+            if turn > 0:
+                print(number, seconds, peak)
+
+
+main(*sys.argv[1:])
