@@ -36,8 +36,8 @@ fn refused(alloc: Global, name: &str, error: PoError) -> Result<Run, ToolFault>
 
 /// What `msgattrib` writes and reports of a text with its name: the selected entries, changed as the
 /// selection says, and a file where there is one. A text that is refused is reported by one line,
-/// with status 1. So is a duplicate among the selected entries, without a line. Refused only by want
-/// of memory.
+/// with status 1. So is a duplicate among the selected entries, without a line number. `OutOfMemory`
+/// is the only refusal.
 pub fn plan_msgattrib(
     alloc: Global,
     text: &[u8],
@@ -61,8 +61,8 @@ pub fn plan_msgattrib(
 }
 
 /// Reads one input, selects of it as `plan_msgattrib` does under this name, and writes what the run
-/// comes to: its output and then its messages. The answer is the run's status. After a `ReadFault`,
-/// or want of memory, nothing is written; after a `WriteFault` a prefix is, as `deliver` says.
+/// comes to: its output and then its messages. The answer is the run's status. After a `ReadFault`
+/// or `OutOfMemory` nothing is written; after a `WriteFault` a prefix is, as `deliver` says.
 pub fn run_msgattrib<R: ByteIn, O: ByteOut, E: ByteOut>(
     alloc: Global,
     reader: &mut R,
