@@ -98,3 +98,25 @@ all_can_stand s (e ∷ entries) h =
 
 pub selected_can_stand : (s : Selection) (entries : List TextEntry) → All IsCatalogueEntry entries → All IsCatalogueEntry (selected s entries)
 selected_can_stand s entries h = all_can_stand s (filter (is_kept s) entries) (All-filter (is_kept s) IsCatalogueEntry entries h)
+
+header_of_live : (header obsolete : Bool) → (header && not obsolete) ≡ true → header ≡ true
+header_of_live true obsolete live = refl
+header_of_live false obsolete live = cc
+
+-- a live header is as live under `--set-obsolete`, and without it
+live_after : (header obsolete set clear : Bool) → (header && not obsolete) ≡ true
+    → (header && not (if set then not (header && not obsolete) else obsolete && not clear)) ≡ true
+live_after true false true clear live = refl
+live_after true false false clear live = refl
+live_after true true set clear live = cc
+live_after false obsolete set clear live = cc
+
+pub live_header_kept : (s : Selection) (e : TextEntry) → is_live_header e ≡ true → is_kept s e ≡ true
+live_header_kept s e live = rw live refl
+
+pub live_header_live : (s : Selection) (e : TextEntry) → is_live_header e ≡ true → is_live_header (changed s e) ≡ true
+live_header_live s e live = live_after (is_header e) e.obsolete s.set_obsolete s.clear_obsolete live
+
+pub live_header_forms : (s : Selection) (e : TextEntry) → is_live_header e ≡ true → (changed s e).forms ≡ e.forms
+live_header_forms s e live =
+    rw (header_kept (s.empty && e.fuzzy && not (fuzzy_after s e)) (is_header e) (header_of_live (is_header e) e.obsolete live)) refl
