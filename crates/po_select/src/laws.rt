@@ -25,7 +25,10 @@ pub fn selected_entries_can_stand()
 
 /// A live header is kept whatever is given, stays a live header and keeps its forms.
 pub fn live_header_stays()
-    ensures kept { (selection : Selection) (entry : TextEntry) → is_live_header entry ≡ true → is_kept selection entry ≡ true }
-    ensures live { (selection : Selection) (entry : TextEntry) → is_live_header entry ≡ true → is_live_header (changed selection entry) ≡ true }
-    ensures forms { (selection : Selection) (entry : TextEntry) → is_live_header entry ≡ true → (changed selection entry).forms ≡ entry.forms }
+    ensures kept { (selection : Selection) (entry : TextEntry) → is_live_header entry ≡ true
+        → is_kept selection entry ≡ true }
+    ensures live { (selection : Selection) (entry : TextEntry) → is_live_header entry ≡ true
+        → is_live_header (changed selection entry) ≡ true }
+    ensures forms { (selection : Selection) (entry : TextEntry) → is_live_header entry ≡ true
+        → (changed selection entry).forms ≡ entry.forms }
 {}

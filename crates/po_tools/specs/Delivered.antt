@@ -10,7 +10,8 @@ pub record IsRunOf (IsRun : List ℕ → Report → Type 0) (remaining : Option 
   pub is_run : IsRun input run
 
 -- all of the run has gone out, and this is its status
-pub record IsDelivered (IsRun : List ℕ → Report → Type 0) (remaining : Option (List ℕ)) (out out' err err' : Option (List ℕ)) (status : ℕ) : Type 0 where
+pub record IsDelivered (IsRun : List ℕ → Report → Type 0) (remaining : Option (List ℕ))
+    (out out' err err' : Option (List ℕ)) (status : ℕ) : Type 0 where
   pub run : Report
   pub is_run : IsRunOf IsRun remaining run
   pub output : Appends out out' run.output
@@ -18,7 +19,8 @@ pub record IsDelivered (IsRun : List ℕ → Report → Type 0) (remaining : Opt
   pub status_is : status ≡ run.status
 
 -- a prefix of the run has gone out
-pub record IsCut (IsRun : List ℕ → Report → Type 0) (remaining : Option (List ℕ)) (out out' err err' : Option (List ℕ)) : Type 0 where
+pub record IsCut (IsRun : List ℕ → Report → Type 0) (remaining : Option (List ℕ))
+    (out out' err err' : Option (List ℕ)) : Type 0 where
   pub run : Report
   pub is_run : IsRunOf IsRun remaining run
   pub prefix : DeliversPrefix out out' err err' run

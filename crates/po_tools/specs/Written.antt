@@ -1,5 +1,5 @@
 -- What a tool comes to that writes a catalogue (manual, "The Format of PO Files").
-use Rattle.std.specs.Prelude.{ℕ, nat_lt, List, [], length}
+use Rattle.std.specs.Prelude.{nat_lt, List, [], length}
 use Rattle.po_entry.specs.TextEntry.{TextEntry}
 use Rattle.po_writer.specs.WrittenText.{written_text}
 use Rattle.po_tools.specs.Run.{Report}

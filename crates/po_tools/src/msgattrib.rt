@@ -16,7 +16,8 @@ use std::alloc::Global;
 
 /// The run of a text that is refused.
 fn refused(alloc: Global, name: &str, error: PoError) -> Result<Run, ToolFault>
-    ensures run { IfOk result (λ run. (error.kind ≢ PoFault.OutOfMemory) × (report run ≡ refusal (error_line name.now error))) }
+    ensures run { IfOk result (λ run. (error.kind ≢ PoFault.OutOfMemory)
+        × (report run ≡ refusal (error_line name.now error))) }
     ensures memory { OnErr result (result ≡ Err ToolFault.OutOfMemory) }
 {
     if error.kind == PoFault::OutOfMemory {
@@ -76,12 +77,17 @@ pub fn run_msgattrib<R: ByteIn, O: ByteOut, E: ByteOut>(
     requires out_failures { O.failures out.old < 2 ^ 63 }
     requires err_failures { E.failures err.old < 2 ^ 63 }
     ensures calls { R.calls reader.new ≤ R.calls reader.old + 4294967296 }
-    ensures delivered { IfOk result (λ status. IsDelivered (IsMsgattribRun name.now selection.now) (R.remaining reader.old) (O.contents out.old) (O.contents out.new) (E.contents err.old) (E.contents err.new) status) }
-    ensures prefix { IsErrOf result ToolFault.WriteFault → IsCut (IsMsgattribRun name.now selection.now) (R.remaining reader.old) (O.contents out.old) (O.contents out.new) (E.contents err.old) (E.contents err.new) }
-    ensures no_output { (result ≡ Err ToolFault.ReadFault) ⊎ (result ≡ Err ToolFault.OutOfMemory) → Keeps (O.contents out.old) (O.contents out.new) }
-    ensures no_messages { (result ≡ Err ToolFault.ReadFault) ⊎ (result ≡ Err ToolFault.OutOfMemory) → Keeps (E.contents err.old) (E.contents err.new) }
+    ensures delivered { IfOk result (λ status. IsDelivered (IsMsgattribRun name.now selection.now) (R.remaining reader.old)
+        (O.contents out.old) (O.contents out.new) (E.contents err.old) (E.contents err.new) status) }
+    ensures prefix { IsErrOf result ToolFault.WriteFault → IsCut (IsMsgattribRun name.now selection.now) (R.remaining reader.old)
+        (O.contents out.old) (O.contents out.new) (E.contents err.old) (E.contents err.new) }
+    ensures no_output { (result ≡ Err ToolFault.ReadFault) ⊎ (result ≡ Err ToolFault.OutOfMemory)
+        → Keeps (O.contents out.old) (O.contents out.new) }
+    ensures no_messages { (result ≡ Err ToolFault.ReadFault) ⊎ (result ≡ Err ToolFault.OutOfMemory)
+        → Keeps (E.contents err.old) (E.contents err.new) }
     ensures read_fault { IsErrOf result ToolFault.ReadFault → R.failures reader.new ≡ R.failures reader.old + 1 }
-    ensures write_fault { IsErrOf result ToolFault.WriteFault → O.failures out.new + E.failures err.new ≡ O.failures out.old + E.failures err.old + 1 }
+    ensures write_fault { IsErrOf result ToolFault.WriteFault
+        → O.failures out.new + E.failures err.new ≡ O.failures out.old + E.failures err.old + 1 }
 {
     let text = read_input(alloc, reader)?;
     let run = plan_msgattrib(alloc, &text, name, selection)?;

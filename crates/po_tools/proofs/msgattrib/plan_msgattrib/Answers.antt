@@ -1,4 +1,3 @@
-use Rattle.po_catalog.specs.Duplicate.{IsDuplicateErrorOf}
 use Rattle.po_tools.proofs.MsgattribLemmas.{run-repeating}
 use Rattle.po_tools.proofs.msgattrib.plan_msgattrib.Goals as goal
 
