@@ -2,3 +2,4 @@ pub mod StatisticsLemmas
 pub mod DuplicateLemmas
 pub mod JoiningLemmas
 pub mod FirstDuplicates
+pub mod OmittedHeaders

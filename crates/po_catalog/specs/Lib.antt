@@ -1,4 +1,5 @@
 pub mod Joined
+pub mod Omitted
 pub mod JoinedView
 pub mod Duplicate
 pub mod Statistics

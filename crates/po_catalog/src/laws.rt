@@ -7,6 +7,7 @@ ghost use Rattle.po_entry.specs.Validity.{IsCatalogueEntry};
 ghost use Rattle.po_entry.specs.Reads.{ReadsText};
 ghost use Rattle.po_catalog.specs.Duplicate.{HasNoDuplicate, IsFirstDuplicate};
 ghost use Rattle.po_catalog.specs.Joined.{InputEntry, entries_of};
+ghost use Rattle.po_catalog.specs.Omitted.{OmitsLaterHeaders};
 ghost use Rattle.po_writer.specs.WrittenText.{arranged, written_text};
 
 pub use po_entry::laws::equal_but_line;
@@ -53,4 +54,10 @@ pub fn one_first_duplicate()
     ensures { (entries : List InputEntry) (first later other last : InputEntry)
         → IsFirstDuplicate entries first later → IsFirstDuplicate entries other last
         → (first ≡ other) × (later ≡ last) }
+{}
+
+/// Of all entries of several inputs, in order, their joined list omits just the live headers where an earlier input,
+/// whichever it is, has a live header.
+pub fn later_headers_are_omitted()
+    ensures { (inputs : List (List TextEntry)) → OmitsLaterHeaders inputs }
 {}
