@@ -7,3 +7,4 @@ pub mod SameMarks
 pub mod PreviousOrder
 pub mod Spelt
 pub mod SpeltReads
+pub mod CharsetNames

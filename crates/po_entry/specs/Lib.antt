@@ -3,6 +3,7 @@ pub mod EntryText
 pub mod Bytes
 pub mod Halves
 pub mod Header
+pub mod Charset
 pub mod Validity
 pub mod Strings
 pub mod Words

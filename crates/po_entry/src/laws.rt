@@ -1,8 +1,10 @@
 //! Laws of the definitions, each on an empty function: a crate that rests on one calls it.
-ghost use Rattle.std.specs.Prelude.{◌↔◌, List, Decides};
+ghost use Rattle.std.specs.Prelude.{◌≡◌, ◌↔◌, ℕ, List, Decides};
 ghost use Rattle.po_syntax.specs.TextItem.{TextItem};
 ghost use Rattle.po_entry.specs.TextEntry.{TextEntry, SameButLine};
+ghost use Rattle.po_entry.specs.Charset.{NamesCharset};
 ghost use Rattle.po_entry.specs.Equality.{entry_eq};
+ghost use Rattle.po_entry.specs.Header.{charset_of};
 ghost use Rattle.po_entry.specs.Descent.{Reads};
 ghost use Rattle.po_entry.specs.Spelling.{SpellsEntries};
 
@@ -16,4 +18,10 @@ pub fn equal_but_line()
 pub fn entries_are_spelt()
     ensures { (items : List TextItem) (entries : List TextEntry)
         → Reads items entries ↔ SpellsEntries items entries }
+{}
+
+/// The charset that is found in a header's text is the one that it names: the bytes after its first
+/// `charset=`, up to a space, TAB, CR, LF or semicolon or the text's end; none without `charset=`.
+pub fn charset_is_named()
+    ensures { (text name : List ℕ) → (name ≡ charset_of text) ↔ NamesCharset text name }
 {}

@@ -1,4 +1,5 @@
 pub mod TextItem
+pub mod Runs
 pub mod QuotedString
 pub mod Escapes
 pub mod Token

@@ -1,0 +1,26 @@
+-- The name of a charset in a header's text, with a case each for a header that names one and one that doesn't
+-- (manual, "Filling in the Header Entry").
+use Rattle.std.specs.Prelude.{◌≡◌, ℕ, ◌≤◌, List, [], ◌∷◌, ◌++◌, All, length, codes}
+
+-- a space, TAB, CR, LF or semicolon ends a charset's name
+pub data EndsName : ℕ → Type 0 where
+  space : EndsName 32
+  tab : EndsName 9
+  carriage_return : EndsName 13
+  line_feed : EndsName 10
+  semicolon : EndsName 59
+
+-- a name ends where the text does, or before a byte that ends it
+pub data IsAfterName : List ℕ → Type 0 where
+  at_end : IsAfterName []
+  at_byte : {b : ℕ} {rest : List ℕ} → EndsName b → IsAfterName (b ∷ rest)
+
+-- in the text `charset=` stands after these bytes, and before the rest
+abbrev pub IsAround : List ℕ → List ℕ → List ℕ → Type 0
+IsAround text before rest = text ≡ before ++ (codes "charset=" ++ rest)
+
+-- the text names this charset: the bytes after its first `charset=`, or none where it has no `charset=`
+pub data NamesCharset : List ℕ → List ℕ → Type 0 where
+  unnamed : {text : List ℕ} → ((before rest : List ℕ) → IsAround text before rest → ⊥) → NamesCharset text []
+  named : {text name : List ℕ} (before rest : List ℕ) → IsAround text before (name ++ rest) → ((other more : List ℕ) → IsAround text other more → length before ≤ length other)
+      → All (λ b. EndsName b → ⊥) name → IsAfterName rest → NamesCharset text name
