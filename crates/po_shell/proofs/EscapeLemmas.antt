@@ -16,7 +16,7 @@ units-skipped (suc n) [] = refl
 units-skipped (suc n) (b ∷ bs) = units-skipped n bs
 
 -- a byte that is no backslash stands for itself
-units-plain : (b : ℕ) (bs : List ℕ) → eqb b 92 ≡ false → units_after 0 (b ∷ bs) ≡ Some b ∷ units_after 0 bs
+pub units-plain : (b : ℕ) (bs : List ℕ) → eqb b 92 ≡ false → units_after 0 (b ∷ bs) ≡ Some b ∷ units_after 0 bs
 unfolding units_after
 units-plain b bs other = ap (λ e. unit b e (λ skip. units_after skip bs)) (cond-false (eqb b 92) (escape_behind bs) None other)
 

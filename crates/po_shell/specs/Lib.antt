@@ -3,6 +3,7 @@ pub mod Counted
 pub mod Failing
 pub mod References
 pub mod Substitution
+pub mod Replacing
 pub mod Stream
 pub mod Holding
 pub mod Substituting
@@ -10,6 +11,7 @@ pub mod Envsubst
 pub mod Counts
 pub mod CountSteps
 pub mod Escapes
+pub mod Expanding
 pub mod Locales
 pub mod LocaleSteps
 pub mod Catalogues

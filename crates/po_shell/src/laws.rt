@@ -1,8 +1,35 @@
-//! Laws on substitution, each carried by a function that does nothing: call one to use its law.
+//! Laws on substitution and on escapes, each carried by a function that does nothing: call one to use its law.
+ghost use Rattle.std.specs.Prelude.{◌≡◌, ◌↔◌, ℕ, Bool, List};
+ghost use Rattle.po_shell.specs.Escapes.{expansion, has_no_newline};
+ghost use Rattle.po_shell.specs.Expanding.{Expands};
+ghost use Rattle.po_shell.specs.References.{names_in};
+ghost use Rattle.po_shell.specs.Replacing.{HoldsNames, Replaces};
 ghost use Rattle.po_shell.specs.Stream.{CutsAgree};
+ghost use Rattle.po_shell.specs.Substitution.{Values, substitution};
 
 /// However a text is cut into pieces, the calls that take them write, together with what is still
 /// held back, what the whole text becomes.
 pub fn any_cutting()
     ensures { CutsAgree }
+{}
+
+/// The substitution of a text is the text in which each reference to a name that is replaced,
+/// `$NAME` or `${NAME}`, stands for its value, and any other byte for itself.
+pub fn references_are_replaced()
+    ensures { (values : Values) (text result : List ℕ)
+        → (result ≡ substitution values text) ↔ Replaces values text result }
+{}
+
+/// The names in a text are those of its references, in order.
+pub fn names_are_listed()
+    ensures { (text : List ℕ) (names : List (List ℕ))
+        → (names ≡ names_in text) ↔ HoldsNames text names }
+{}
+
+/// The expansion of a text is the text in which each escape stands for its byte, `\c` for none, and
+/// any other byte for itself.
+pub fn escapes_are_expanded()
+    ensures { (text bytes : List ℕ) (is_marked : Bool)
+        → ((bytes ≡ expansion text) × (is_marked ≡ has_no_newline text))
+        ↔ Expands text bytes is_marked }
 {}
