@@ -23,7 +23,7 @@ front base (suc most) [] = (tt, omega arith, inr tt)
 front base (suc most) (b ∷ text) = front_step base most b text (digit_count base (take most text)) (1 + digit_count base (take most text)) (is_digit b base) (omega arith) refl (front base most text)
 
 -- the first n bytes are digits, and no digit follows
-abbrev AreAll : ℕ → List ℕ → ℕ → Type 0
+abbrev pub AreAll : ℕ → List ℕ → ℕ → Type 0
 AreAll base text n = AllDigits base (take n text) × (n ≤ length (take n text)) × NoDigitFirst base (drop n text)
 
 all_step : (base b : ℕ) (text : List ℕ) (n more : ℕ) (test : Bool) → more ≡ suc n → is_digit b base ≡ test → AreAll base text n → AreAll base (b ∷ text) (cond test more 0)
@@ -31,7 +31,7 @@ all_step base b text n more true same e h =
     rw same ((ltb-true (digit_value b) base e, h.0), omega (arith, h.1), h.2)
 all_step base b text n more false same e h = (tt, omega arith, ltb-false (digit_value b) base e)
 
-all_digits : (base : ℕ) (text : List ℕ) → AreAll base text (digit_count base text)
+pub all_digits : (base : ℕ) (text : List ℕ) → AreAll base text (digit_count base text)
 all_digits base [] = (tt, omega arith, tt)
 all_digits base (b ∷ text) = all_step base b text (digit_count base text) (1 + digit_count base text) (is_digit b base) (omega arith) refl (all_digits base text)
 
@@ -45,7 +45,7 @@ if_escape : (text : List ℕ) (test : Bool) (s t : Step) → (test ≡ true → 
 if_escape text true s t p q = p refl
 if_escape text false s t p q = q refl
 
-positive : (n : ℕ) → (n == 0) ≡ false → 0 < n
+pub positive : (n : ℕ) → (n == 0) ≡ false → 0 < n
 positive zero e = absurd (cc)
 positive (suc n) e = omega arith
 

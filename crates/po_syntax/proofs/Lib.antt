@@ -15,3 +15,5 @@ pub mod QuotedTexts
 pub mod NoMemory
 pub mod Escapes
 pub mod SpeltEscapes
+pub mod SpeltKeywords
+pub mod SpeltLines

@@ -20,7 +20,7 @@ count_front base (suc most) (d ∷ digits) rest all within (inr none) =
     rw (lt-ltb (digit_value d) base all.0) (omega (arith, count_front base most digits rest all.1 (omega (arith, within)) (inr none)))
 
 -- as many digits as there are
-count_all : (base : ℕ) (digits rest : List ℕ) → AllDigits base digits → NoDigitFirst base rest → digit_count base (digits ++ rest) ≡ length digits
+pub count_all : (base : ℕ) (digits rest : List ℕ) → AllDigits base digits → NoDigitFirst base rest → digit_count base (digits ++ rest) ≡ length digits
 count_all base [] [] all none = refl
 count_all base [] (b ∷ rest) all none = rw (le-ltb (digit_value b) base none) refl
 count_all base (d ∷ digits) rest all none =

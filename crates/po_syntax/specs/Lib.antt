@@ -4,6 +4,7 @@ pub mod QuotedString
 pub mod Escapes
 pub mod Token
 pub mod Line
+pub mod Spelling
 pub mod CodeView
 pub mod ItemText
 pub mod PoText

@@ -3,9 +3,11 @@ ghost use Rattle.std.specs.Prelude.{◌≡◌, ◌≢◌, ◌↔◌, ◌⊎◌, 
 ghost use Rattle.po_syntax.specs.declared.fault.PoFault.{PoFault};
 ghost use Rattle.po_syntax.specs.Escapes.{SpellsString};
 ghost use Rattle.po_syntax.specs.ItemText.{HoldsText};
+ghost use Rattle.po_syntax.specs.Line.{SpellsLine};
 ghost use Rattle.po_syntax.specs.PoText.{SpellsText, TextFault};
 ghost use Rattle.po_syntax.specs.QuotedForm.{quoted};
 ghost use Rattle.po_syntax.specs.QuotedString.{IsQuoted};
+ghost use Rattle.po_syntax.specs.Spelling.{HoldsItems};
 ghost use Rattle.po_syntax.specs.TextItem.{TextItem};
 ghost use Rattle.po_syntax.specs.Token.{Open, token_at};
 
@@ -53,6 +55,13 @@ pub fn one_string()
 pub fn strings_are_spelt()
     ensures { (text bytes rest : List ℕ)
         → IsQuoted text bytes rest ↔ SpellsString text bytes rest }
+{}
+
+/// A line is read, by its first bytes and token by token, as the items that it holds: a comment, or
+/// keywords and strings under the line's marks.
+pub fn lines_are_spelt()
+    ensures { (line : ℕ) (text : List ℕ) (items : List TextItem)
+        → SpellsLine line text items ↔ HoldsItems line text items }
 {}
 
 /// The quoted form of bytes without NUL spells just these bytes, and ends where it ends.

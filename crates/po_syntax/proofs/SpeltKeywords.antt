@@ -1,0 +1,258 @@
+-- Each keyword is read where it is spelt, and what is read as one is spelt.
+use Rattle.std.proofs.Common.{◌≡◌, ◌∙◌, refl, sym, ap, subst, ℕ, suc, ◌+◌, ◌^◌, ◌<◌, ◌≤◌, ◌==◌, ◌||◌, Bool, true, false, if◌then◌else◌, nat_lt, List, [], ◌∷◌, ◌++◌, append_assoc, length, take, drop, codes, bytes_eq, All, inl, inr, arith}
+use Rattle.std.specs.Char.{digit_value, is_digit}
+use Rattle.std.specs.Int.{is_in_range}
+use Rattle.std.specs.List.{prefix_len, list_all}
+use Rattle.std.specs.Str.Parse.{AllDigits, IsNumeral, digits_value}
+use Rattle.std.proofs.Math.Seq.{take-append_seam, drop-append_seam}
+use Rattle.std.proofs.Math.Numerals.{one-add}
+use Rattle.std.proofs.lemmas.Bool.{and_parts, and_from, or_cases, or_left, or_right, both_ways, cond-true, cond-false, eqb-true, eqb-false, ne_eqb, leb-true, le-leb, ltb-true, ltb-false, lt-ltb, false_from_ne_true, false≢true}
+use Rattle.std.proofs.lemmas.List.{take-append-drop}
+use Rattle.std.proofs.lemmas.List.Elements.{All-head}
+use Rattle.std.proofs.lemmas.Slice.Eq.{bytes_eq-Decides}
+use Rattle.po_syntax.specs.declared.fault.PoFault.TheVariants.{BadToken, BadPluralIndex}
+use Rattle.po_syntax.specs.declared.item.Keyword.{Keyword}
+use Rattle.po_syntax.specs.declared.item.Keyword.TheVariants.{MsgCtxt, MsgId, MsgIdPlural, MsgStr, MsgStrAt}
+use Rattle.po_syntax.specs.Escapes.{NoDigitFirst}
+use Rattle.po_syntax.specs.QuotedString.{digit_count}
+use Rattle.po_syntax.specs.Runs.{FailsFirst, parts_of, run_length, all_pass}
+use Rattle.po_syntax.specs.Spelling.{IsBlank, space, tab, vertical_tab, form_feed, carriage_return, IsWordByte, upper, lower, digit, underscore, EndsWord, HasNoBracket, SpellsKeyword, msgctxt, msgid, msgid_plural, msgstr, form}
+use Rattle.po_syntax.specs.Token.{Token, Nothing, Open, Key, Halt, is_blank, is_word_byte, skip_blanks, close_token, index_token, bracket_token, keyword_token, word_token, first_token, token_at}
+use Rattle.po_syntax.proofs.Escapes.{all_digits, positive}
+use Rattle.po_syntax.proofs.SpeltEscapes.{count_all}
+
+or_step : {P : Type 0} (x y : Bool) → (x ≡ true → P) → (y ≡ true → P) → (x || y) ≡ true → P
+or_step true y p q e = p refl
+or_step false y p q e = q e
+
+pub blank_says : (b : ℕ) → is_blank b ≡ true → IsBlank b
+blank_says b e =
+    or_step (b == 32 || b == 9 || b == 11 || b == 12) (b == 13) (or_step (b == 32 || b == 9 || b == 11) (b == 12) (or_step (b == 32 || b == 9) (b == 11) (or_step (b == 32) (b == 9)
+    (λ h. subst IsBlank (sym (eqb-true b 32 h)) space) (λ h. subst IsBlank (sym (eqb-true b 9 h)) tab)) (λ h. subst IsBlank (sym (eqb-true b 11 h)) vertical_tab))
+    (λ h. subst IsBlank (sym (eqb-true b 12 h)) form_feed)) (λ h. subst IsBlank (sym (eqb-true b 13 h)) carriage_return) e
+
+pub blank_passes : {b : ℕ} → IsBlank b → is_blank b ≡ true
+blank_passes space = refl
+blank_passes tab = refl
+blank_passes vertical_tab = refl
+blank_passes form_feed = refl
+blank_passes carriage_return = refl
+
+blanks_pass : (blanks : List ℕ) → All IsBlank blanks → All (λ b. is_blank b ≡ true) blanks
+blanks_pass blanks h = λ k d below. blank_passes (h k d below)
+
+blanks_say : (blanks : List ℕ) → All (λ b. is_blank b ≡ true) blanks → All IsBlank blanks
+blanks_say blanks h = λ k d below. blank_says _ (h k d below)
+
+range_says : (low high b : ℕ) → is_in_range low high b ≡ true → (low ≤ b) × (b ≤ high)
+range_says low high b e = let p = and_parts _ _ e in (leb-true low b p.0, leb-true b high p.1)
+
+range_passes : (low high b : ℕ) → low ≤ b → b ≤ high → is_in_range low high b ≡ true
+range_passes low high b least most = and_from _ _ (le-leb low b least) (le-leb b high most)
+
+word_byte_says : (b : ℕ) → is_word_byte b ≡ true → IsWordByte b
+word_byte_says b e =
+    elim (or_cases ((is_in_range 48 57 b || is_in_range 65 90 b) || is_in_range 97 122 b) (b == 95) e) [
+      | inl h ↦ elim (or_cases (is_in_range 48 57 b || is_in_range 65 90 b) (is_in_range 97 122 b) h) [
+        | inl more ↦ elim (or_cases (is_in_range 48 57 b) (is_in_range 65 90 b) more) [
+          | inl one ↦ digit (range_says 48 57 b one).0 (range_says 48 57 b one).1
+          | inr one ↦ upper (range_says 65 90 b one).0 (range_says 65 90 b one).1
+        ]
+        | inr one ↦ lower (range_says 97 122 b one).0 (range_says 97 122 b one).1
+      ]
+      | inr h ↦ subst IsWordByte (sym (eqb-true b 95 h)) underscore
+    ]
+
+word_byte_passes : {b : ℕ} → IsWordByte b → is_word_byte b ≡ true
+word_byte_passes (upper {b = b} least most) = or_left _ _ (or_left _ _ (or_right _ _ (range_passes 65 90 b least most)))
+word_byte_passes (lower {b = b} least most) = or_left _ _ (or_right _ _ (range_passes 97 122 b least most))
+word_byte_passes (digit {b = b} least most) = or_left _ _ (or_left _ _ (or_left _ _ (range_passes 48 57 b least most)))
+word_byte_passes underscore = refl
+
+-- a text is blanks, and a rest that begins with none
+pub record SkipsBlanks (text : List ℕ) : Type 0 where
+  pub blanks : List ℕ
+  pub are_blanks : All IsBlank blanks
+  pub whole : blanks ++ skip_blanks text ≡ text
+  pub other : FailsFirst is_blank (skip_blanks text)
+
+pub skips : (text : List ℕ) → SkipsBlanks text
+skips text =
+    let parts = parts_of is_blank text in record {
+      blanks = take (prefix_len is_blank text) text;
+      are_blanks = blanks_say _ parts.passes;
+      whole = parts.whole;
+      other = parts.ends;
+    }
+
+pub skip_front : (blanks rest : List ℕ) → All IsBlank blanks → FailsFirst is_blank rest → skip_blanks (blanks ++ rest) ≡ rest
+skip_front blanks rest all other =
+    ap (λ n. drop n (blanks ++ rest)) (run_length is_blank blanks rest (blanks_pass blanks all) other) ∙ drop-append_seam blanks rest
+
+ends_fails : (rest : List ℕ) → EndsWord rest → FailsFirst is_word_byte rest
+ends_fails [] h = tt
+ends_fails (b ∷ rest) h = false_from_ne_true (is_word_byte b) (λ passes. h (word_byte_says b passes))
+
+fails_ends : (rest : List ℕ) → FailsFirst is_word_byte rest → EndsWord rest
+fails_ends [] h = tt
+fails_ends (b ∷ rest) h = λ is. both_ways (is_word_byte b) h (word_byte_passes is)
+
+word_front : (word rest : List ℕ) → list_all is_word_byte word ≡ true → EndsWord rest → word_token (word ++ rest) ≡ keyword_token word rest
+word_front word rest all ends =
+    let count = run_length is_word_byte word rest (all_pass is_word_byte word all) (ends_fails rest ends) in
+    rw (count, take-append_seam word rest, drop-append_seam word rest) refl
+
+-- a word that begins with `m`
+m_read : (word rest : List ℕ) → list_all is_word_byte (109 ∷ word) ≡ true → EndsWord rest → token_at ((109 ∷ word) ++ rest) ≡ keyword_token (109 ∷ word) rest
+unfolding first_token
+m_read word rest all ends = word_front (109 ∷ word) rest all ends
+
+blank_no_word : {b : ℕ} → IsBlank b → IsWordByte b → ⊥
+blank_no_word {b} blank is = both_ways (is_word_byte b) (no_word blank) (word_byte_passes is) where
+  no_word : {a : ℕ} → IsBlank a → is_word_byte a ≡ false
+  no_word space = refl
+  no_word tab = refl
+  no_word vertical_tab = refl
+  no_word form_feed = refl
+  no_word carriage_return = refl
+
+bracket_no_word : IsWordByte 91 → ⊥
+bracket_no_word is = both_ways (is_word_byte 91) refl (word_byte_passes is)
+
+ends_before_bracket : (blanks rest : List ℕ) → All IsBlank blanks → EndsWord (blanks ++ 91 ∷ rest)
+ends_before_bracket [] rest all = bracket_no_word
+ends_before_bracket (b ∷ blanks) rest all = blank_no_word (All-head IsBlank b blanks all)
+
+no_bracket_token : (rest after : List ℕ) → ((inside : List ℕ) → after ≡ 91 ∷ inside → ⊥) → bracket_token rest after ≡ Key MsgStr rest
+no_bracket_token rest [] none = refl
+no_bracket_token rest (b ∷ inside) none = cond-false (b == 91) (index_token (skip_blanks inside)) (Key MsgStr rest) (ne_eqb b 91 (λ is. none inside (ap (λ a. a ∷ inside) is)))
+
+bracket_missing : (rest : List ℕ) → HasNoBracket rest → bracket_token rest (skip_blanks rest) ≡ Key MsgStr rest
+bracket_missing rest none =
+    let parts = skips rest in
+    no_bracket_token rest (skip_blanks rest) (λ inside is. none parts.blanks inside parts.are_blanks (sym parts.whole ∙ ap (λ l. parts.blanks ++ l) is))
+
+blank_no_digit : {b : ℕ} → IsBlank b → 10 ≤ digit_value b
+blank_no_digit space = ltb-false (digit_value 32) 10 refl
+blank_no_digit tab = ltb-false (digit_value 9) 10 refl
+blank_no_digit vertical_tab = ltb-false (digit_value 11) 10 refl
+blank_no_digit form_feed = ltb-false (digit_value 12) 10 refl
+blank_no_digit carriage_return = ltb-false (digit_value 13) 10 refl
+
+no_digit_before_bracket : (blanks rest : List ℕ) → All IsBlank blanks → NoDigitFirst 10 (blanks ++ 93 ∷ rest)
+no_digit_before_bracket [] rest all = ltb-false (digit_value 93) 10 refl
+no_digit_before_bracket (b ∷ blanks) rest all = blank_no_digit (All-head IsBlank b blanks all)
+
+digits_no_blank : (digits rest : List ℕ) → IsNumeral 10 digits → FailsFirst is_blank (digits ++ rest)
+digits_no_blank [] rest numeral = absurd (omega (arith, numeral.0))
+digits_no_blank (d ∷ digits) rest numeral =
+    false_from_ne_true (is_blank d) (λ passes. let most = numeral.1.0 in omega (arith, most, blank_no_digit (blank_says d passes)))
+
+index_read : (digits after rest : List ℕ) → IsNumeral 10 digits → digits_value 10 digits < 2 ^ 32 → All IsBlank after → index_token (digits ++ (after ++ 93 ∷ rest)) ≡ Key (MsgStrAt (digits_value 10 digits)) rest
+unfolding index_token
+index_read digits after rest numeral fits all =
+    let closing = after ++ 93 ∷ rest in
+    let count = count_all 10 digits closing numeral.1 (no_digit_before_bracket after rest all) in
+    let some = ne_eqb (length digits) 0 (λ same. omega (arith, same, numeral.0)) in
+    rw (count, some, take-append_seam digits closing, drop-append_seam digits closing, lt-ltb (digits_value 10 digits) (2 ^ 32) fits, skip_front after (93 ∷ rest) all refl) refl
+
+form_read : (before inside digits after rest : List ℕ) → All IsBlank before → All IsBlank inside → IsNumeral 10 digits → digits_value 10 digits < 2 ^ 32 → All IsBlank after
+    → bracket_token (before ++ 91 ∷ (inside ++ (digits ++ (after ++ 93 ∷ rest)))) (skip_blanks (before ++ 91 ∷ (inside ++ (digits ++ (after ++ 93 ∷ rest))))) ≡ Key (MsgStrAt (digits_value 10 digits)) rest
+form_read before inside digits after rest p q numeral fits r =
+    let index = digits ++ (after ++ 93 ∷ rest) in
+    ap (bracket_token (before ++ 91 ∷ (inside ++ index))) (skip_front before (91 ∷ (inside ++ index)) p refl)
+    ∙ ap index_token (skip_front inside index q (digits_no_blank digits (after ++ 93 ∷ rest) numeral)) ∙ index_read digits after rest numeral fits r
+
+pub keyword_read : {text rest : List ℕ} {word : Keyword} → SpellsKeyword text word rest → token_at text ≡ Key word rest
+unfolding keyword_token
+keyword_read (msgctxt {rest = rest} ends) = m_read (codes "sgctxt") rest refl ends
+keyword_read (msgid {rest = rest} ends) = m_read (codes "sgid") rest refl ends
+keyword_read (msgid_plural {rest = rest} ends) = m_read (codes "sgid_plural") rest refl ends
+keyword_read (msgstr {rest = rest} ends none) = m_read (codes "sgstr") rest refl ends ∙ bracket_missing rest none
+keyword_read (form before inside digits after {rest = rest} p q numeral fits r) =
+    let closing = before ++ 91 ∷ (inside ++ (digits ++ (after ++ 93 ∷ rest))) in
+    m_read (codes "sgstr") closing refl (ends_before_bracket before _ p) ∙ form_read before inside digits after rest p q numeral fits r
+
+-- what a token says of the text that it is read from
+abbrev pub TokenSays : List ℕ → Token → Type 0
+TokenSays text Nothing = text ≡ []
+TokenSays text (Open rest) = text ≡ 34 ∷ rest
+TokenSays text (Key word rest) = SpellsKeyword text word rest
+TokenSays text (Halt fault) = Unit {0}
+
+if_says : (text : List ℕ) (test : Bool) (s t : Token) → (test ≡ true → TokenSays text s) → (test ≡ false → TokenSays text t) → TokenSays text (if test then s else t)
+if_says text true s t p q = p refl
+if_says text false s t p q = q refl
+
+-- behind `msgstr`, blanks and a bracket, with blanks before the index
+record IsOpened (whole before inside index : List ℕ) : Type 0 where
+  text : whole ≡ codes "msgstr" ++ (before ++ 91 ∷ (inside ++ index))
+  before_blank : All IsBlank before
+  inside_blank : All IsBlank inside
+
+close_says : (whole before inside index digits : List ℕ) → IsOpened whole before inside index → IsNumeral 10 digits → digits_value 10 digits < 2 ^ 32 → (rest after end : List ℕ) → index ≡ digits ++ rest → rest ≡ after ++ end → All IsBlank after
+    → TokenSays whole (close_token (digits_value 10 digits) end)
+close_says whole before inside index digits opened numeral fits rest after [] is ends all = tt
+close_says whole before inside index digits opened numeral fits rest after (b ∷ end) is ends all =
+    if_says whole (b == 93) _ _
+    (λ e.
+      let closing : rest ≡ after ++ 93 ∷ end = ends ∙ ap (λ a. after ++ a ∷ end) (eqb-true b 93 e) in
+      let text = opened.text ∙ ap (λ l. codes "msgstr" ++ (before ++ 91 ∷ (inside ++ l))) (is ∙ ap (λ l. digits ++ l) closing) in
+      subst (λ t. SpellsKeyword t (MsgStrAt (digits_value 10 digits)) end) (sym text) (form before inside digits after opened.before_blank opened.inside_blank numeral fits all))
+    (λ _. tt)
+
+index_says : (whole before inside index : List ℕ) → IsOpened whole before inside index → TokenSays whole (index_token index)
+unfolding index_token
+index_says whole before inside index opened =
+    let count = digit_count 10 index in
+    let digits = take count index in
+    let rest = drop count index in
+    let all = all_digits 10 index in
+    if_says whole (count == 0) _ _ (λ _. tt) (λ other.
+    if_says whole (nat_lt (digits_value 10 digits) (2 ^ 32)) _ _
+    (λ less.
+      let some : 0 < length digits = omega (arith, positive count other, all.1) in
+      let parts = skips rest in
+      close_says whole before inside index digits opened (some, all.0) (ltb-true _ _ less) rest parts.blanks (skip_blanks rest) (sym (take-append-drop count index)) (sym parts.whole) parts.are_blanks)
+    (λ _. tt))
+
+no_bracket_from : (rest after : List ℕ) → skip_blanks rest ≡ after → ((inside : List ℕ) → after ≡ 91 ∷ inside → ⊥) → HasNoBracket rest
+no_bracket_from rest after is none blanks inside all e = none inside (sym is ∙ ap skip_blanks e ∙ skip_front blanks (91 ∷ inside) all refl)
+
+bracket_says : (whole rest : List ℕ) → whole ≡ codes "msgstr" ++ rest → EndsWord rest → (before after : List ℕ) → skip_blanks rest ≡ after → rest ≡ before ++ after → All IsBlank before → TokenSays whole (bracket_token rest after)
+bracket_says whole rest text ends before [] is parts all =
+    subst (λ t. SpellsKeyword t MsgStr rest) (sym text) (msgstr ends (no_bracket_from rest [] is (λ inside e. nil_no_cons inside e))) where
+  nil_no_cons : (inside : List ℕ) → [] ≡ 91 ∷ inside → ⊥
+  nil_no_cons inside e = cc
+bracket_says whole rest text ends before (b ∷ inside) is parts all =
+    if_says whole (b == 91) _ (Key MsgStr rest)
+    (λ e.
+      let more = skips inside in
+      index_says whole before more.blanks (skip_blanks inside) (record {
+        text = text ∙ ap (λ l. codes "msgstr" ++ l) (parts ∙ ap (λ a. before ++ a ∷ inside) (eqb-true b 91 e) ∙ ap (λ l. before ++ 91 ∷ l) (sym more.whole));
+        before_blank = all;
+        inside_blank = more.are_blanks;
+      }))
+    (λ other. subst (λ t. SpellsKeyword t MsgStr rest) (sym text) (msgstr ends (no_bracket_from rest (b ∷ inside) is (λ more e. eqb-false b 91 other (head_same more e))))) where
+  head_same : (more : List ℕ) → b ∷ inside ≡ 91 ∷ more → b ≡ 91
+  head_same more e = cc
+
+keyword_says : (whole word rest : List ℕ) → whole ≡ word ++ rest → EndsWord rest → TokenSays whole (keyword_token word rest)
+unfolding keyword_token
+keyword_says whole word rest text ends =
+    let is = λ (name : List ℕ) (e : bytes_eq word name ≡ true). text ∙ ap (λ w. w ++ rest) ((bytes_eq-Decides word name).0 e) in
+    if_says whole (bytes_eq word (codes "msgctxt")) (Key MsgCtxt rest) _ (λ e. subst (λ t. SpellsKeyword t MsgCtxt rest) (sym (is (codes "msgctxt") e)) (msgctxt ends)) (λ _.
+    if_says whole (bytes_eq word (codes "msgid")) (Key MsgId rest) _ (λ e. subst (λ t. SpellsKeyword t MsgId rest) (sym (is (codes "msgid") e)) (msgid ends)) (λ _.
+    if_says whole (bytes_eq word (codes "msgid_plural")) (Key MsgIdPlural rest) _ (λ e. subst (λ t. SpellsKeyword t MsgIdPlural rest) (sym (is (codes "msgid_plural") e)) (msgid_plural ends)) (λ _.
+    if_says whole (bytes_eq word (codes "msgstr")) _ (Halt BadToken)
+    (λ e. let parts = skips rest in bracket_says whole rest (is (codes "msgstr") e) ends parts.blanks (skip_blanks rest) refl (sym parts.whole) parts.are_blanks)
+    (λ _. tt))))
+
+pub first_says : (text : List ℕ) → TokenSays text (first_token text)
+unfolding first_token
+first_says [] = refl
+first_says (b ∷ rest) =
+    if_says (b ∷ rest) (b == 34) (Open rest) _ (λ e. ap (λ a. a ∷ rest) (eqb-true b 34 e)) (λ _.
+    if_says (b ∷ rest) (is_word_byte b) _ _
+    (λ _. let parts = parts_of is_word_byte (b ∷ rest) in keyword_says (b ∷ rest) _ _ (sym parts.whole) (fails_ends _ parts.ends))
+    (λ _. tt))

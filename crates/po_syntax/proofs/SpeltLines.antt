@@ -1,0 +1,292 @@
+-- Each line is read as the items that it holds, and holds what is read of it.
+use Rattle.std.proofs.Common.{◌≡◌, ◌==◌, ◌∙◌, refl, sym, ap, subst, ℕ, suc, ◌+◌, Bool, true, false, if◌then◌else◌, List, [], ◌∷◌, ◌++◌, drop, All, inl, inr, arith}
+use Rattle.std.specs.List.{prefix_len}
+use Rattle.std.proofs.Math.Numerals.{one-add}
+use Rattle.std.proofs.lemmas.Bool.{cond-true, cond-false, eqb-true, eqb-false, ne_eqb, cases_Bool, eq-eqb}
+use Rattle.std.proofs.lemmas.List.Elements.{All-head, All-tail}
+use Rattle.po_syntax.specs.declared.fault.PoFault.TheVariants.{BadToken}
+use Rattle.po_syntax.specs.declared.item.CommentKind.{CommentKind}
+use Rattle.po_syntax.specs.declared.item.CommentKind.TheVariants.{Translator, Extracted, Reference, Flags}
+use Rattle.po_syntax.specs.declared.item.Marks.{Marks}
+use Rattle.po_syntax.specs.Line as line
+use Rattle.po_syntax.specs.Line.{Shape, Note, Tokens, NoShape, note_shape, obsolete_shape, tilde_shape, hash_shape, first_shape, shape_of, trim_returns, SpellsTokens, none, word, SpellsLine}
+use Rattle.po_syntax.specs.Runs.{FailsFirst, end_parts, kept_is}
+use Rattle.po_syntax.specs.Spelling.{IsBlank, HoldsTokens, end, blank, keyword, string, IsMark, dot, colon, comma, bar, tilde, BeginsWithNoMark, SpellsComment, extracted, reference, flags, translator, IsWithoutReturns, marked, HoldsItems, indented, comment, obsolete_comment, live, previous, obsolete, obsolete_previous}
+use Rattle.po_syntax.specs.TextItem.{TextItem, Comment, Str}
+use Rattle.po_syntax.specs.Token.{Token, Nothing, Open, Key, Halt, is_blank, skip_blanks, first_token, token_at}
+use Rattle.po_syntax.proofs.Escapes.{quoted_spelt}
+use Rattle.po_syntax.proofs.SpeltEscapes.{spelt_quoted}
+use Rattle.po_syntax.proofs.SpeltKeywords.{blank_passes, blank_says, skips, skip_front, keyword_read, TokenSays, first_says}
+
+-- blanks before tokens
+after_blanks : {marks : Marks} {number : ℕ} {items : List TextItem} (blanks text : List ℕ) → All IsBlank blanks → HoldsTokens marks number text items → HoldsTokens marks number (blanks ++ text) items
+after_blanks [] text all h = h
+after_blanks (b ∷ blanks) text all h = blank (All-head IsBlank b blanks all) (after_blanks blanks text (All-tail IsBlank b blanks all) h)
+
+behind_blanks : {marks : Marks} {number : ℕ} {items : List TextItem} (text : List ℕ) → HoldsTokens marks number (skip_blanks text) items → HoldsTokens marks number text items
+behind_blanks {marks} {number} {items} text h =
+    let parts = skips text in
+    subst (λ t. HoldsTokens marks number t items) parts.whole (after_blanks parts.blanks (skip_blanks text) parts.are_blanks h)
+
+says_at : (text : List ℕ) (token : Token) → token_at text ≡ token → TokenSays (skip_blanks text) token
+says_at text token e = subst (TokenSays (skip_blanks text)) e (first_says (skip_blanks text))
+
+tokens_hold : {marks : Marks} {number : ℕ} {text : List ℕ} {items : List TextItem} → SpellsTokens marks number text items → HoldsTokens marks number text items
+tokens_hold {marks} {number} (none {text = text} e) = behind_blanks text (subst (λ t. HoldsTokens marks number t []) (sym (says_at text Nothing e)) end)
+tokens_hold (word {text = text} {rest = rest} {keyword = key} e more) = behind_blanks text (keyword (says_at text (Key key rest) e) (tokens_hold more))
+tokens_hold {marks} {number} (line.string {text = text} {inner = inner} {bytes = bytes} {rest = rest} {items = items} e quoted more) =
+    let spelt = Str bytes marks number ∷ items in
+    let read : HoldsTokens marks number (34 ∷ inner) spelt = string (quoted_spelt quoted) (tokens_hold more) in
+    behind_blanks text (subst (λ t. HoldsTokens marks number t spelt) (sym (says_at text (Open inner) e)) read)
+
+-- a text whose first token is that of another spells the same tokens
+same_tokens : {marks : Marks} {number : ℕ} {text other : List ℕ} {items : List TextItem} → token_at text ≡ token_at other → SpellsTokens marks number other items → SpellsTokens marks number text items
+same_tokens same (none e) = none (same ∙ e)
+same_tokens same (word e more) = word (same ∙ e) more
+same_tokens same (line.string e quoted more) = line.string (same ∙ e) quoted more
+
+blank_skipped : (b : ℕ) (text : List ℕ) → IsBlank b → skip_blanks (b ∷ text) ≡ skip_blanks text
+blank_skipped b text h =
+    let count = cond-true (is_blank b) (1 + prefix_len is_blank text) 0 (blank_passes h) ∙ one-add (prefix_len is_blank text) in
+    ap (λ n. drop n (b ∷ text)) count
+
+quote_opens : (text : List ℕ) → token_at (34 ∷ text) ≡ Open text
+unfolding first_token
+quote_opens text = refl
+
+nothing_ends : token_at [] ≡ Nothing
+unfolding first_token
+nothing_ends = refl
+
+hold_tokens : {marks : Marks} {number : ℕ} {text : List ℕ} {items : List TextItem} → HoldsTokens marks number text items → SpellsTokens marks number text items
+hold_tokens end = none nothing_ends
+hold_tokens (blank {b = b} {text = text} is more) = same_tokens (ap first_token (blank_skipped b text is)) (hold_tokens more)
+hold_tokens (keyword spelt more) = word (keyword_read spelt) (hold_tokens more)
+hold_tokens (string {text = text} spelt more) = line.string (quote_opens text) (spelt_quoted spelt) (hold_tokens more)
+
+-- a text whose first token is a fault spells none
+no_tokens : {marks : Marks} {number : ℕ} {text : List ℕ} {items : List TextItem} → SpellsTokens marks number text items → token_at text ≡ Halt BadToken → ⊥
+no_tokens (none e) h = cc
+no_tokens (word e more) h = cc
+no_tokens (line.string e quoted more) h = cc
+
+-- the text of a comment is the rest without the CRs at its end
+return_passes : (returns : List ℕ) → All (λ b. b ≡ 13) returns → All (λ b. (b == 13) ≡ true) returns
+return_passes returns h = λ k d below. eq-eqb _ 13 (h k d below)
+
+return_says : (returns : List ℕ) → All (λ b. (b == 13) ≡ true) returns → All (λ b. b ≡ 13) returns
+return_says returns h = λ k d below. eqb-true _ 13 (h k d below)
+
+trimmed : (text : List ℕ) → IsWithoutReturns text (trim_returns text)
+trimmed text =
+    let parts = end_parts (λ b. b == 13) text in record {
+      returns = parts.end;
+      whole = parts.whole;
+      are_returns = return_says parts.end parts.passes;
+      none_left = λ before is. eqb-false 13 13 (parts.fails before 13 is) refl;
+    }
+
+is_trimmed : (text kept : List ℕ) → IsWithoutReturns text kept → kept ≡ trim_returns text
+is_trimmed text kept h =
+    sym (ap trim_returns h.whole ∙ kept_is (λ b. b == 13) kept (λ before b is. ne_eqb b 13 (λ same. h.none_left before (is ∙ ap (λ a. before ++ a ∷ []) same))) h.returns (return_passes h.returns h.are_returns))
+
+-- what a shape says of the line that it is read from
+abbrev ShapeSays : List ℕ → Shape → Type 0
+ShapeSays text (Note kind rest) = (number : ℕ) → HoldsItems number text (Comment kind (trim_returns rest) number ∷ [])
+ShapeSays text (Tokens marks rest) = (number : ℕ) (items : List TextItem) → HoldsTokens marks number rest items → HoldsItems number text items
+ShapeSays text NoShape = Unit {0}
+
+if_says : (text : List ℕ) (test : Bool) (s t : Shape) → (test ≡ true → ShapeSays text s) → (test ≡ false → ShapeSays text t) → ShapeSays text (if test then s else t)
+if_says text true s t p q = p refl
+if_says text false s t p q = q refl
+
+-- what a comment's shape says of the text after its `#`
+abbrev NoteSays : List ℕ → Shape → Type 0
+NoteSays text (Note kind rest) = SpellsComment text kind rest
+NoteSays text (Tokens marks rest) = ⊥
+NoteSays text NoShape = Unit {0}
+
+if_note : (text : List ℕ) (test : Bool) (s t : Shape) → (test ≡ true → NoteSays text s) → (test ≡ false → NoteSays text t) → NoteSays text (if test then s else t)
+if_note text true s t p q = p refl
+if_note text false s t p q = q refl
+
+no_mark : (b : ℕ) → (b == 46) ≡ false → (b == 58) ≡ false → (b == 44) ≡ false → (b == 124) ≡ false → (b == 126) ≡ false → IsMark b → ⊥
+no_mark b p q r s t dot = eqb-false 46 46 p refl
+no_mark b p q r s t colon = eqb-false 58 58 q refl
+no_mark b p q r s t comma = eqb-false 44 44 r refl
+no_mark b p q r s t bar = eqb-false 124 124 s refl
+no_mark b p q r s t tilde = eqb-false 126 126 t refl
+
+note_says : (text : List ℕ) → NoteSays text (note_shape text)
+note_says [] = translator tt
+note_says (b ∷ rest) =
+    if_note (b ∷ rest) (b == 46) (Note Extracted rest) _ (λ e. subst (λ a. SpellsComment (a ∷ rest) Extracted rest) (sym (eqb-true b 46 e)) extracted) (λ p.
+    if_note (b ∷ rest) (b == 58) (Note Reference rest) _ (λ e. subst (λ a. SpellsComment (a ∷ rest) Reference rest) (sym (eqb-true b 58 e)) reference) (λ q.
+    if_note (b ∷ rest) (b == 44) (Note Flags rest) _ (λ e. subst (λ a. SpellsComment (a ∷ rest) Flags rest) (sym (eqb-true b 44 e)) flags) (λ r.
+    if_note (b ∷ rest) (b == 124) NoShape _ (λ _. tt) (λ s.
+    if_note (b ∷ rest) (b == 126) NoShape (Note Translator (b ∷ rest)) (λ _. tt) (λ t. translator (no_mark b p q r s t))))))
+
+note_line : (text : List ℕ) (shape : Shape) → NoteSays text shape → ShapeSays (35 ∷ text) shape
+note_line text (Note kind rest) h = λ number. comment h (trimmed rest)
+note_line text (Tokens marks rest) h = absurd h
+note_line text NoShape h = tt
+
+obsolete_note_line : (blanks text : List ℕ) (shape : Shape) → All IsBlank blanks → NoteSays text shape → ShapeSays (35 ∷ 126 ∷ (blanks ++ 35 ∷ text)) shape
+obsolete_note_line blanks text (Note kind rest) all h = λ number. obsolete_comment blanks all h (trimmed rest)
+obsolete_note_line blanks text (Tokens marks rest) all h = absurd h
+obsolete_note_line blanks text NoShape all h = tt
+
+obsolete_says : (blanks after : List ℕ) → All IsBlank blanks → ShapeSays (35 ∷ 126 ∷ (blanks ++ after)) (obsolete_shape after)
+unfolding obsolete_shape
+obsolete_says blanks [] all = λ number items h. obsolete (after_blanks blanks [] all h)
+obsolete_says blanks (b ∷ rest) all =
+    if_says (35 ∷ 126 ∷ (blanks ++ b ∷ rest)) (b == 35) _ (Tokens (marked true false) (b ∷ rest))
+    (λ e. subst (λ a. ShapeSays (35 ∷ 126 ∷ (blanks ++ a ∷ rest)) (note_shape rest)) (sym (eqb-true b 35 e)) (obsolete_note_line blanks rest (note_shape rest) all (note_says rest)))
+    (λ _ number items h. obsolete (after_blanks blanks (b ∷ rest) all h))
+
+obsolete_line : (text : List ℕ) → ShapeSays (35 ∷ 126 ∷ text) (obsolete_shape (skip_blanks text))
+obsolete_line text =
+    let parts = skips text in
+    subst (λ t. ShapeSays (35 ∷ 126 ∷ t) (obsolete_shape (skip_blanks text))) parts.whole (obsolete_says parts.blanks (skip_blanks text) parts.are_blanks)
+
+tilde_says : (text : List ℕ) → ShapeSays (35 ∷ 126 ∷ text) (tilde_shape text)
+unfolding tilde_shape
+tilde_says [] = obsolete_line []
+tilde_says (b ∷ rest) =
+    if_says (35 ∷ 126 ∷ b ∷ rest) (b == 124) (Tokens (marked true true) rest) _
+    (λ e number items h. subst (λ a. HoldsItems number (35 ∷ 126 ∷ a ∷ rest) items) (sym (eqb-true b 124 e)) (obsolete_previous h))
+    (λ _. obsolete_line (b ∷ rest))
+
+hash_says : (text : List ℕ) → ShapeSays (35 ∷ text) (hash_shape text)
+unfolding hash_shape
+hash_says [] = note_line [] (note_shape []) (note_says [])
+hash_says (b ∷ rest) =
+    if_says (35 ∷ b ∷ rest) (b == 124) (Tokens (marked false true) rest) _
+    (λ e number items h. subst (λ a. HoldsItems number (35 ∷ a ∷ rest) items) (sym (eqb-true b 124 e)) (previous h)) (λ _.
+    if_says (35 ∷ b ∷ rest) (b == 126) _ _
+    (λ e. subst (λ a. ShapeSays (35 ∷ a ∷ rest) (tilde_shape rest)) (sym (eqb-true b 126 e)) (tilde_says rest))
+    (λ _. note_line (b ∷ rest) (note_shape (b ∷ rest)) (note_says (b ∷ rest))))
+
+shape_says : (text : List ℕ) → ShapeSays text (first_shape text)
+unfolding first_shape
+shape_says [] = λ number items h. live h
+shape_says (b ∷ rest) =
+    if_says (b ∷ rest) (b == 35) _ (Tokens (marked false false) (b ∷ rest))
+    (λ e. subst (λ a. ShapeSays (a ∷ rest) (hash_shape rest)) (sym (eqb-true b 35 e)) (hash_says rest))
+    (λ _ number items h. live h)
+
+-- blanks before a line's items
+indented_all : {number : ℕ} {items : List TextItem} (blanks text : List ℕ) → All IsBlank blanks → HoldsItems number text items → HoldsItems number (blanks ++ text) items
+indented_all [] text all h = h
+indented_all (b ∷ blanks) text all h = indented (All-head IsBlank b blanks all) (indented_all blanks text (All-tail IsBlank b blanks all) h)
+
+behind_indent : {number : ℕ} {items : List TextItem} (text : List ℕ) → HoldsItems number (skip_blanks text) items → HoldsItems number text items
+behind_indent {number} {items} text h =
+    let parts = skips text in
+    subst (λ t. HoldsItems number t items) parts.whole (indented_all parts.blanks (skip_blanks text) parts.are_blanks h)
+
+line_says : (text : List ℕ) (shape : Shape) → shape_of text ≡ shape → ShapeSays (skip_blanks text) shape
+line_says text shape e = subst (ShapeSays (skip_blanks text)) e (shape_says (skip_blanks text))
+
+pub line_holds : {number : ℕ} {text : List ℕ} {items : List TextItem} → SpellsLine number text items → HoldsItems number text items
+line_holds {number} (line.comment {text = text} {rest = rest} {kind = kind} e) = behind_indent text (line_says text (Note kind rest) e number)
+line_holds {number} (line.tokens {text = text} {rest = rest} {marks = marks} {items = items} e more) = behind_indent text (line_says text (Tokens marks rest) e number items (tokens_hold more))
+
+-- a line whose shape is that of another spells the same items
+same_line : {number : ℕ} {text other : List ℕ} {items : List TextItem} → shape_of text ≡ shape_of other → SpellsLine number other items → SpellsLine number text items
+same_line same (line.comment e) = line.comment (same ∙ e)
+same_line same (line.tokens e more) = line.tokens (same ∙ e) more
+
+note_read : {text rest : List ℕ} {kind : CommentKind} → SpellsComment text kind rest → note_shape text ≡ Note kind rest
+note_read extracted = refl
+note_read reference = refl
+note_read flags = refl
+note_read (translator {text = []} h) = refl
+note_read (translator {text = b ∷ rest} h) =
+    rw (ne_eqb b 46 (λ is. h (subst IsMark (sym is) dot)), ne_eqb b 58 (λ is. h (subst IsMark (sym is) colon)), ne_eqb b 44 (λ is. h (subst IsMark (sym is) comma)), ne_eqb b 124 (λ is. h (subst IsMark (sym is) bar)), ne_eqb b 126 (λ is. h (subst IsMark (sym is) tilde))) refl
+
+note_hash : {text rest : List ℕ} {kind : CommentKind} → SpellsComment text kind rest → hash_shape text ≡ note_shape text
+unfolding hash_shape
+note_hash extracted = refl
+note_hash reference = refl
+note_hash flags = refl
+note_hash (translator {text = []} h) = refl
+note_hash (translator {text = b ∷ rest} h) =
+    cond-false (b == 124) _ _ (ne_eqb b 124 (λ is. h (subst IsMark (sym is) bar))) ∙ cond-false (b == 126) _ _ (ne_eqb b 126 (λ is. h (subst IsMark (sym is) tilde)))
+
+hash_first : (text : List ℕ) → shape_of (35 ∷ text) ≡ hash_shape text
+unfolding first_shape
+hash_first text = refl
+
+bar_first : (text : List ℕ) → hash_shape (124 ∷ text) ≡ Tokens (marked false true) text
+unfolding hash_shape
+bar_first text = refl
+
+tilde_first : (text : List ℕ) → hash_shape (126 ∷ text) ≡ tilde_shape text
+unfolding hash_shape
+tilde_first text = refl
+
+tilde_bar_first : (text : List ℕ) → tilde_shape (124 ∷ text) ≡ Tokens (marked true true) text
+unfolding tilde_shape
+tilde_bar_first text = refl
+
+obsolete_hash : (text : List ℕ) → obsolete_shape (35 ∷ text) ≡ note_shape text
+unfolding obsolete_shape
+obsolete_hash text = refl
+
+blank_no_bar : {b : ℕ} → IsBlank b → (b == 124) ≡ false
+blank_no_bar {b} is = ne_eqb b 124 (λ same. bar_no_blank (subst IsBlank same is)) where
+  bar_no_blank : IsBlank 124 → ⊥
+  bar_no_blank h = let t = blank_passes h in cc
+
+tilde_comment : (blanks text : List ℕ) → All IsBlank blanks → tilde_shape (blanks ++ 35 ∷ text) ≡ note_shape text
+unfolding tilde_shape
+tilde_comment [] text all = obsolete_hash text
+tilde_comment (b ∷ blanks) text all =
+    cond-false (b == 124) (Tokens (marked true true) (blanks ++ 35 ∷ text)) _ (blank_no_bar (All-head IsBlank b blanks all))
+    ∙ ap obsolete_shape (skip_front (b ∷ blanks) (35 ∷ text) all refl) ∙ obsolete_hash text
+
+-- tokens begin with no `#` and no `|`
+wrong_first : (b : ℕ) (text : List ℕ) → (b ≡ 35) → token_at (b ∷ text) ≡ Halt BadToken
+unfolding first_token
+wrong_first b text is = ap (λ a. token_at (a ∷ text)) is
+
+wrong_bar : (b : ℕ) (text : List ℕ) → (b ≡ 124) → token_at (b ∷ text) ≡ Halt BadToken
+unfolding first_token
+wrong_bar b text is = ap (λ a. token_at (a ∷ text)) is
+
+skipped_twice : (text : List ℕ) → skip_blanks (skip_blanks text) ≡ skip_blanks text
+skipped_twice text = skip_front [] (skip_blanks text) (λ k d below. absurd (omega (arith, below))) (skips text).other
+
+-- tokens are read behind blanks
+tokens_skipped : {marks : Marks} {number : ℕ} {text : List ℕ} {items : List TextItem} → SpellsTokens marks number text items → SpellsTokens marks number (skip_blanks text) items
+tokens_skipped {text = text} h = same_tokens (ap first_token (skipped_twice text)) h
+
+live_shape : {number : ℕ} {marks : Marks} {items : List TextItem} (text : List ℕ) → SpellsTokens marks number text items → first_shape text ≡ Tokens (marked false false) text
+unfolding first_shape
+live_shape [] h = refl
+live_shape (b ∷ text) h = cond-false (b == 35) _ _ (ne_eqb b 35 (λ is. no_tokens h (wrong_first b text is)))
+
+obsolete_tokens : {number : ℕ} {marks : Marks} {items : List TextItem} (text : List ℕ) → SpellsTokens marks number text items → obsolete_shape text ≡ Tokens (marked true false) text
+unfolding obsolete_shape
+obsolete_tokens [] h = refl
+obsolete_tokens (b ∷ text) h = cond-false (b == 35) _ _ (ne_eqb b 35 (λ is. no_tokens h (wrong_first b text is)))
+
+tilde_tokens : {number : ℕ} {marks : Marks} {items : List TextItem} (text : List ℕ) → SpellsTokens marks number text items → tilde_shape text ≡ Tokens (marked true false) (skip_blanks text)
+unfolding tilde_shape
+tilde_tokens [] h = obsolete_tokens [] h
+tilde_tokens (b ∷ text) h =
+    cond-false (b == 124) _ _ (ne_eqb b 124 (λ is. no_tokens h (wrong_bar b text is))) ∙ obsolete_tokens (skip_blanks (b ∷ text)) (tokens_skipped h)
+
+pub hold_line : {number : ℕ} {text : List ℕ} {items : List TextItem} → HoldsItems number text items → SpellsLine number text items
+hold_line (indented {b = b} {text = text} is more) = same_line (ap first_shape (blank_skipped b text is)) (hold_line more)
+hold_line {number} (comment {kind = kind} {text = text} {rest = rest} {shown = shown} spelt without) =
+    subst (λ t. SpellsLine number (35 ∷ text) (Comment kind t number ∷ [])) (sym (is_trimmed rest shown without)) (line.comment (hash_first text ∙ note_hash spelt ∙ note_read spelt))
+hold_line {number} (obsolete_comment blanks {kind = kind} {text = text} {rest = rest} {shown = shown} all spelt without) =
+    let whole = blanks ++ 35 ∷ text in
+    subst (λ t. SpellsLine number (35 ∷ 126 ∷ whole) (Comment kind t number ∷ [])) (sym (is_trimmed rest shown without))
+    (line.comment (hash_first (126 ∷ whole) ∙ tilde_first whole ∙ tilde_comment blanks text all ∙ note_read spelt))
+hold_line (live {text = text} h) = let read = tokens_skipped (hold_tokens h) in line.tokens (live_shape (skip_blanks text) read) read
+hold_line (previous {text = text} h) = line.tokens (hash_first (124 ∷ text) ∙ bar_first text) (hold_tokens h)
+hold_line (obsolete {text = text} h) = let read = hold_tokens h in line.tokens (hash_first (126 ∷ text) ∙ tilde_first text ∙ tilde_tokens text read) (tokens_skipped read)
+hold_line (obsolete_previous {text = text} h) = line.tokens (hash_first (126 ∷ 124 ∷ text) ∙ tilde_first (124 ∷ text) ∙ tilde_bar_first text) (hold_tokens h)
