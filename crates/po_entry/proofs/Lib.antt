@@ -8,3 +8,4 @@ pub mod PreviousOrder
 pub mod Spelt
 pub mod SpeltReads
 pub mod CharsetNames
+pub mod ListedWords

@@ -10,6 +10,7 @@ pub mod Words
 pub mod Body
 pub mod Head
 pub mod Notes
+pub mod Listed
 pub mod Spelling
 pub mod Reads
 pub mod Descent

@@ -4,7 +4,10 @@ ghost use Rattle.po_syntax.specs.TextItem.{TextItem};
 ghost use Rattle.po_entry.specs.TextEntry.{TextEntry, SameButLine};
 ghost use Rattle.po_entry.specs.Charset.{NamesCharset};
 ghost use Rattle.po_entry.specs.Equality.{entry_eq};
+ghost use Rattle.po_entry.specs.Head.{Note};
 ghost use Rattle.po_entry.specs.Header.{charset_of};
+ghost use Rattle.po_entry.specs.Listed.{KeepsFlags, ListsFlags, ListsReferences};
+ghost use Rattle.po_entry.specs.Notes.{flag_words, flag_words_of, flags_of, words_of};
 ghost use Rattle.po_entry.specs.Descent.{Reads};
 ghost use Rattle.po_entry.specs.Spelling.{SpellsEntries};
 
@@ -24,4 +27,24 @@ pub fn entries_are_spelt()
 /// `charset=`, up to a space, TAB, CR, LF or semicolon or the text's end; none without `charset=`.
 pub fn charset_is_named()
     ensures { (text name : List ℕ) → (name ≡ charset_of text) ↔ NamesCharset text name }
+{}
+
+/// The references that are found in the text of a comment are those that it lists, between blanks.
+pub fn references_are_listed()
+    ensures { (text : List ℕ) (references : List (List ℕ))
+        → (references ≡ words_of text) ↔ ListsReferences text references }
+{}
+
+/// The flags that are found in the text of a comment are those that it lists, between commas and
+/// without the blanks at their ends.
+pub fn flags_are_listed()
+    ensures { (text : List ℕ) (flags : List (List ℕ))
+        → (flags ≡ flag_words text) ↔ ListsFlags text flags }
+{}
+
+/// Of all the flags that an entry's comments list, the entry keeps each where it first stands, and
+/// never `fuzzy`.
+pub fn flags_are_kept_once()
+    ensures { (notes : List Note) (flags : List (List ℕ))
+        → (flags ≡ flags_of notes) ↔ KeepsFlags (flag_words_of notes) flags }
 {}

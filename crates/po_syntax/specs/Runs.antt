@@ -65,7 +65,7 @@ from_reversed : {X : Type 0} (Q : List X → Type 0) → Q [] → ((xs : List X)
 from_reversed Q none more [] = none
 from_reversed Q none more (x ∷ xs) = rw (reverse-append (x ∷ []) xs) (more (reverse xs) x (from_reversed Q none more xs))
 
-from_end : {X : Type 0} (Q : List X → Type 0) → Q [] → ((xs : List X) (x : X) → Q xs → Q (xs ++ x ∷ [])) → (xs : List X) → Q xs
+pub from_end : {X : Type 0} (Q : List X → Type 0) → Q [] → ((xs : List X) (x : X) → Q xs → Q (xs ++ x ∷ [])) → (xs : List X) → Q xs
 from_end Q none more xs = rw reverse-reverse at (from_reversed Q none more (reverse xs))
 
 suffix_step : {X : Type 0} (test : X → Bool) (xs : List X) (x : X) → suffix_len test (xs ++ x ∷ []) ≡ cond (test x) (1 + suffix_len test xs) 0

@@ -1,0 +1,274 @@
+-- The references and flags that are found in comment lines are those that the lines list.
+use Rattle.std.proofs.Common.{◌≡◌, ◌≢◌, ◌⊎◌, inl, inr, ◌∙◌, refl, sym, ap, subst, ℕ, suc, ◌+◌, ◌<◌, ◌≤◌, Bool, true, false, not, ◌||◌, ◌==◌, cond, if◌then◌else◌, List, [], ◌∷◌, ◌++◌, append_assoc, append-nil, length, take, drop, map, filter, fold, codes, bytes_eq, All, arith}
+use Rattle.std.specs.Prelude.{◌↔◌, Contains}
+use Rattle.std.specs.List.{slice_split, list_any, prefix_len}
+use Rattle.std.proofs.lemmas.Bool.{cases_Bool, or_cases, or_from, or_left, or_right, cond-true, cond-false, eqb-true, eqb-false, ne_eqb, both_ways, false_from_ne_true, false≢true}
+use Rattle.std.proofs.Math.Seq.{drop-append_seam}
+use Rattle.std.proofs.lemmas.List.Elements.{All-append, All-cons, All-nil, All-head, Contains-append_left, Contains-push, Contains-push_cases}
+use Rattle.std.proofs.lemmas.List.Folds.{list_any_at}
+use Rattle.std.proofs.lemmas.List.Splits.{slice_split_none, slice_split_at, slice_split-cons_yes}
+use Rattle.std.proofs.lemmas.List.Sums.{fold_push}
+use Rattle.std.proofs.lemmas.Map.Views.{Contains-from_any}
+use Rattle.std.proofs.lemmas.Slice.Eq.{bytes_eq-Decides}
+use Rattle.po_syntax.specs.Runs.{FailsFirst, FailsLast, parts_of, run_length, end_parts, kept_is, from_end}
+use Rattle.po_syntax.specs.Spelling.{IsBlank, space, tab, vertical_tab, form_feed, carriage_return}
+use Rattle.po_syntax.specs.Token.{is_blank, skip_blanks}
+use Rattle.po_entry.specs.Bytes.{Lacks, without_end_blanks, trimmed}
+use Rattle.po_entry.specs.Head.{Note}
+use Rattle.po_entry.specs.Notes.{is_not_empty, words_of, is_comma, flag_words, flag_words_of, is_fuzzy_word, with_flag, flags_of}
+use Rattle.po_entry.specs.Listed.{EndsReference, ListsReferences, no_text, blank, reference, IsWithoutBlanks, NamesFlag, no_flag, flag, ListsFlags, last, more, KeepsFlags, none, first, fuzzy, repeated}
+
+or_step : {P : Type 0} (x y : Bool) → (x ≡ true → P) → (y ≡ true → P) → (x || y) ≡ true → P
+or_step true y p q e = p refl
+or_step false y p q e = q e
+
+blank_says : (b : ℕ) → is_blank b ≡ true → IsBlank b
+blank_says b e =
+    or_step (b == 32 || b == 9 || b == 11 || b == 12) (b == 13) (or_step (b == 32 || b == 9 || b == 11) (b == 12) (or_step (b == 32 || b == 9) (b == 11) (or_step (b == 32) (b == 9)
+    (λ h. subst IsBlank (sym (eqb-true b 32 h)) space) (λ h. subst IsBlank (sym (eqb-true b 9 h)) tab)) (λ h. subst IsBlank (sym (eqb-true b 11 h)) vertical_tab))
+    (λ h. subst IsBlank (sym (eqb-true b 12 h)) form_feed)) (λ h. subst IsBlank (sym (eqb-true b 13 h)) carriage_return) e
+
+blank_passes : {b : ℕ} → IsBlank b → is_blank b ≡ true
+blank_passes space = refl
+blank_passes tab = refl
+blank_passes vertical_tab = refl
+blank_passes form_feed = refl
+blank_passes carriage_return = refl
+
+no_blank : (b : ℕ) → is_blank b ≡ false → IsBlank b → ⊥
+no_blank b e h = both_ways (is_blank b) e (blank_passes h)
+
+blank_fails : (b : ℕ) → (IsBlank b → ⊥) → is_blank b ≡ false
+blank_fails b h = false_from_ne_true (is_blank b) (λ e. h (blank_says b e))
+
+-- a part of a list that was cut is among the words unless it is empty
+abbrev kept : List ℕ → List (List ℕ) → List (List ℕ)
+kept word words = cond (is_not_empty word) (word ∷ words) words
+
+some_kept : (b : ℕ) (word : List ℕ) (words : List (List ℕ)) → kept (b ∷ word) words ≡ (b ∷ word) ∷ words
+some_kept b word words = cond-true (is_not_empty (b ∷ word)) ((b ∷ word) ∷ words) words (ap not (ne_eqb (length (b ∷ word)) 0 (λ e. omega (arith, e))))
+
+-- references
+
+some_word : (b : ℕ) (word : List ℕ) → (b ∷ word) ≡ [] → ⊥
+some_word b word e = cc
+
+before_end : (front : List ℕ) → All (λ b. is_blank b ≡ false) front → ListsReferences front (kept front [])
+before_end [] all = no_text
+before_end (b ∷ front) all =
+    subst (ListsReferences (b ∷ front)) (sym (some_kept b front [])) (subst (λ t. ListsReferences t ((b ∷ front) ∷ [])) (append-nil (b ∷ front)) (reference (some_word b front) (λ k d below. no_blank _ (all k d below)) tt no_text))
+
+before_blank : (front : List ℕ) (b : ℕ) (text : List ℕ) (words : List (List ℕ)) → All (λ b. is_blank b ≡ false) front → is_blank b ≡ true → ListsReferences text words → ListsReferences (front ++ b ∷ text) (kept front words)
+before_blank [] b text words all e later = blank (blank_says b e) later
+before_blank (a ∷ front) b text words all e later =
+    subst (ListsReferences ((a ∷ front) ++ b ∷ text)) (sym (some_kept a front words)) (reference (some_word a front) (λ k d below. no_blank _ (all k d below)) (blank_says b e) (blank (blank_says b e) later))
+
+lists : (text front : List ℕ) → All (λ b. is_blank b ≡ false) front → ListsReferences (front ++ text) (words_of (front ++ text))
+lists [] front all =
+    let text : front ++ [] ≡ front = append-nil front in
+    let cut = slice_split_none is_blank front all in
+    subst (λ t. ListsReferences t (words_of t)) (sym text) (subst (λ l. ListsReferences front (filter is_not_empty l)) (sym cut) (before_end front all))
+lists (b ∷ text) front all =
+    elim (cases_Bool (is_blank b)) [
+      | inl e ↦ subst (λ l. ListsReferences (front ++ b ∷ text) (filter is_not_empty l)) (sym (slice_split_at is_blank front b text all e))
+          (before_blank front b text (words_of text) all e (lists text [] (All-nil (λ c. is_blank c ≡ false))))
+      | inr e ↦ let longer = All-append (λ c. is_blank c ≡ false) front (b ∷ []) all (All-cons (λ c. is_blank c ≡ false) b [] e (All-nil (λ c. is_blank c ≡ false))) in
+          subst (λ t. ListsReferences t (words_of t)) (append_assoc front (b ∷ []) text) (lists text (front ++ b ∷ []) longer)
+    ]
+
+words_front : (word : List ℕ) → word ≢ [] → (words : List (List ℕ)) → kept word words ≡ word ∷ words
+words_front [] some words = absurd (some refl)
+words_front (b ∷ word) some words = some_kept b word words
+
+word_then : (word rest : List ℕ) → word ≢ [] → All (λ b. IsBlank b → ⊥) word → EndsReference rest → words_of (word ++ rest) ≡ word ∷ words_of rest
+word_then word [] some all ends =
+    let fails : All (λ b. is_blank b ≡ false) word = λ k d below. blank_fails _ (all k d below) in
+    ap words_of (append-nil word) ∙ ap (filter is_not_empty) (slice_split_none is_blank word fails) ∙ words_front word some []
+word_then word (b ∷ rest) some all ends =
+    let fails : All (λ b. is_blank b ≡ false) word = λ k d below. blank_fails _ (all k d below) in
+    ap (filter is_not_empty) (slice_split_at is_blank word b rest fails (blank_passes ends)) ∙ words_front word some (words_of rest)
+    ∙ ap (λ l. word ∷ l) (sym (ap (filter is_not_empty) (slice_split-cons_yes is_blank b rest (blank_passes ends))))
+
+are_words : {text : List ℕ} {words : List (List ℕ)} → ListsReferences text words → words ≡ words_of text
+are_words no_text = refl
+are_words (blank {b = b} {text = text} is later) = are_words later ∙ sym (ap (filter is_not_empty) (slice_split-cons_yes is_blank b text (blank_passes is)))
+are_words (reference {word = word} {rest = rest} some all ends later) = ap (λ l. word ∷ l) (are_words later) ∙ sym (word_then word rest some all ends)
+
+pub references_listed : (text : List ℕ) (references : List (List ℕ)) → (references ≡ words_of text) ↔ ListsReferences text references
+references_listed text references = (λ e. subst (ListsReferences text) (sym e) (lists text [] (All-nil (λ c. is_blank c ≡ false))), λ h. are_words h)
+
+-- texts without the blanks at their ends
+
+skip_front : (blanks rest : List ℕ) → All IsBlank blanks → FailsFirst is_blank rest → skip_blanks (blanks ++ rest) ≡ rest
+skip_front blanks rest all other =
+    let passes : All (λ b. is_blank b ≡ true) blanks = λ k d below. blank_passes (all k d below) in
+    ap (λ n. drop n (blanks ++ rest)) (run_length is_blank blanks rest passes other) ∙ drop-append_seam blanks rest
+
+no_first_blank : (text : List ℕ) → FailsFirst is_blank text → (b : ℕ) (rest : List ℕ) → text ≡ b ∷ rest → IsBlank b → ⊥
+no_first_blank [] fails b rest e is = cc
+no_first_blank (a ∷ text) fails b rest e is = let same : a ≡ b = cc in no_blank a fails (subst IsBlank (sym same) is)
+
+first_kept : (kept end : List ℕ) → FailsFirst is_blank (kept ++ end) → FailsFirst is_blank kept
+first_kept [] end h = tt
+first_kept (b ∷ kept) end h = h
+
+trimmed_is : (text : List ℕ) → IsWithoutBlanks text (trimmed text)
+trimmed_is text =
+    let start = parts_of is_blank text in
+    let end = end_parts is_blank (skip_blanks text) in record {
+      before = take (prefix_len is_blank text) text;
+      after = end.end;
+      whole = sym start.whole ∙ ap (λ l. take (prefix_len is_blank text) text ++ l) end.whole;
+      before_blank = λ k d below. blank_says _ (start.passes k d below);
+      after_blank = λ k d below. blank_says _ (end.passes k d below);
+      no_first = no_first_blank (trimmed text) (first_kept (trimmed text) end.end (subst (FailsFirst is_blank) end.whole start.ends));
+      no_last = λ front b e is. no_blank b (end.fails front b e) is;
+    }
+
+-- a text of blanks alone
+all_blank : (text : List ℕ) → All IsBlank text → trimmed text ≡ []
+all_blank text all =
+    let nothing : skip_blanks text ≡ [] = ap skip_blanks (sym (append-nil text)) ∙ skip_front text [] all tt in
+    ap without_end_blanks nothing
+
+is_trimmed : (text kept : List ℕ) → IsWithoutBlanks text kept → trimmed text ≡ kept
+is_trimmed text [] h = ap trimmed h.whole ∙ all_blank (h.before ++ h.after) (All-append IsBlank h.before h.after h.before_blank h.after_blank)
+is_trimmed text (b ∷ kept) h =
+    let after_passes : All (λ c. is_blank c ≡ true) h.after = λ k d below. blank_passes (h.after_blank k d below) in
+    let start = skip_front h.before ((b ∷ kept) ++ h.after) h.before_blank (blank_fails b (h.no_first b kept refl)) in
+    ap trimmed h.whole ∙ ap without_end_blanks start ∙ kept_is is_blank (b ∷ kept) (λ front c e. blank_fails c (h.no_last front c e)) h.after after_passes
+
+-- flags
+
+names : (text : List ℕ) → NamesFlag text (kept (trimmed text) [])
+names text = at (trimmed text) (trimmed_is text) where
+  at : (word : List ℕ) → IsWithoutBlanks text word → NamesFlag text (kept word [])
+  at [] h = no_flag h
+  at (b ∷ word) h = subst (NamesFlag text) (sym (some_kept b word [])) (flag (some_word b word) h)
+
+kept_append : (word : List ℕ) (words : List (List ℕ)) → kept word [] ++ words ≡ kept word words
+kept_append [] words = refl
+kept_append (b ∷ word) words = ap (λ l. l ++ words) (some_kept b word []) ∙ sym (some_kept b word words)
+
+comma_says : (b : ℕ) → is_comma b ≡ true → b ≡ 44
+comma_says b e = eqb-true b 44 e
+
+lacks_comma : (text : List ℕ) → All (λ b. is_comma b ≡ false) text → Lacks 44 text
+lacks_comma text all = λ k d below e. eqb-false _ 44 (all k d below) e
+
+no_comma : (text : List ℕ) → Lacks 44 text → All (λ b. is_comma b ≡ false) text
+no_comma text lacks = λ k d below. ne_eqb _ 44 (lacks k d below)
+
+abbrev flags_in : List (List ℕ) → List (List ℕ)
+flags_in texts = filter is_not_empty (map trimmed texts)
+
+list_flags : (text front : List ℕ) → All (λ b. is_comma b ≡ false) front → ListsFlags (front ++ text) (flag_words (front ++ text))
+list_flags [] front all =
+    let text : front ++ [] ≡ front = append-nil front in
+    let cut = slice_split_none is_comma front all in
+    subst (λ t. ListsFlags t (flag_words t)) (sym text) (subst (λ l. ListsFlags front (flags_in l)) (sym cut) (last (lacks_comma front all) (names front)))
+list_flags (b ∷ text) front all =
+    elim (cases_Bool (is_comma b)) [
+      | inl e ↦ let later = list_flags text [] (All-nil (λ c. is_comma c ≡ false)) in
+          let here = more (lacks_comma front all) (names front) later in
+          subst (λ l. ListsFlags (front ++ b ∷ text) (flags_in l)) (sym (slice_split_at is_comma front b text all e))
+          (subst (λ a. ListsFlags (front ++ a ∷ text) (kept (trimmed front) (flag_words text))) (sym (comma_says b e)) (subst (ListsFlags (front ++ 44 ∷ text)) (kept_append (trimmed front) (flag_words text)) here))
+      | inr e ↦ let longer = All-append (λ c. is_comma c ≡ false) front (b ∷ []) all (All-cons (λ c. is_comma c ≡ false) b [] e (All-nil (λ c. is_comma c ≡ false))) in
+          subst (λ t. ListsFlags t (flag_words t)) (append_assoc front (b ∷ []) text) (list_flags text (front ++ b ∷ []) longer)
+    ]
+
+named_is : {text : List ℕ} {here : List (List ℕ)} → NamesFlag text here → here ≡ kept (trimmed text) []
+named_is (no_flag {text = text} h) = ap (λ w. kept w []) (sym (is_trimmed text [] h))
+named_is (flag {text = text} {kept = word} some h) = sym (words_front word some []) ∙ ap (λ w. kept w []) (sym (is_trimmed text word h))
+
+are_flags : {text : List ℕ} {flags : List (List ℕ)} → ListsFlags text flags → flags ≡ flag_words text
+are_flags (last {text = text} lacks here) = named_is here ∙ sym (ap flags_in (slice_split_none is_comma text (no_comma text lacks)))
+are_flags (more {text = text} {rest = rest} {here = here} {later = later} lacks named others) =
+    ap (λ l. l ++ later) (named_is named) ∙ kept_append (trimmed text) later ∙ ap (kept (trimmed text)) (are_flags others)
+    ∙ sym (ap flags_in (slice_split_at is_comma text 44 rest (no_comma text lacks) refl))
+
+pub flags_listed : (text : List ℕ) (flags : List (List ℕ)) → (flags ≡ flag_words text) ↔ ListsFlags text flags
+flags_listed text flags = (λ e. subst (ListsFlags text) (sym e) (list_flags text [] (All-nil (λ c. is_comma c ≡ false))), λ h. are_flags h)
+
+-- the flags that are kept
+
+among_says : (flags : List (List ℕ)) (word : List ℕ) → list_any (bytes_eq word) flags ≡ true → Contains flags word
+among_says flags word e = Contains-from_any {eq = bytes_eq} (λ x y same. (bytes_eq-Decides x y).0 same) word flags e
+
+among_passes : (flags : List (List ℕ)) (word : List ℕ) → Contains flags word → list_any (bytes_eq word) flags ≡ true
+among_passes flags word h = list_any_at (bytes_eq word) flags h.0 word h.1 ((bytes_eq-Decides word _).1 (sym h.2))
+
+-- a flag is kept exactly where it is named and isn't `fuzzy`
+abbrev AreNamed : List (List ℕ) → List (List ℕ) → Type 0
+AreNamed named flags = (word : List ℕ) → (Contains flags word → Contains named word) × (Contains named word → word ≢ codes "fuzzy" → Contains flags word)
+
+nothing_contained : (word : List ℕ) → Contains {X = List ℕ} [] word → ⊥
+nothing_contained word h = let below = h.1 in omega (arith, below)
+
+are_named : {named flags : List (List ℕ)} → KeepsFlags named flags → AreNamed named flags
+are_named none = λ word. (λ h. absurd (nothing_contained word h), λ h _. absurd (nothing_contained word h))
+are_named (first {named = named} {kept = flags} {flag = new} before other absent) = λ word. (
+  λ h. elim (Contains-push_cases flags new word h) [
+    | inl old ↦ Contains-append_left named (new ∷ []) word ((are_named before word).0 old)
+    | inr is ↦ subst (Contains (named ++ new ∷ [])) is (Contains-push named new)
+  ],
+  λ h not_fuzzy. elim (Contains-push_cases named new word h) [
+    | inl old ↦ Contains-append_left flags (new ∷ []) word ((are_named before word).1 old not_fuzzy)
+    | inr is ↦ subst (Contains (flags ++ new ∷ [])) is (Contains-push flags new)
+  ],
+)
+are_named (fuzzy {named = named} {kept = flags} before) = λ word. (
+  λ h. Contains-append_left named (codes "fuzzy" ∷ []) word ((are_named before word).0 h),
+  λ h not_fuzzy. elim (Contains-push_cases named (codes "fuzzy") word h) [
+    | inl old ↦ (are_named before word).1 old not_fuzzy
+    | inr is ↦ absurd (not_fuzzy (sym is))
+  ],
+)
+are_named (repeated {named = named} {kept = flags} {flag = new} before there) = λ word. (
+  λ h. Contains-append_left named (new ∷ []) word ((are_named before word).0 h),
+  λ h not_fuzzy. elim (Contains-push_cases named new word h) [
+    | inl old ↦ (are_named before word).1 old not_fuzzy
+    | inr is ↦ (are_named before word).1 (subst (Contains named) is there) not_fuzzy
+  ],
+)
+
+abbrev keep : List (List ℕ) → List (List ℕ)
+keep named = fold with_flag [] named
+
+one_more : (named flags : List (List ℕ)) (word : List ℕ) → KeepsFlags named flags → KeepsFlags (named ++ word ∷ []) (with_flag flags word)
+one_more named flags word before =
+    elim (cases_Bool (is_fuzzy_word word)) [
+      | inl e ↦ let is = (bytes_eq-Decides word (codes "fuzzy")).0 e in
+          subst (KeepsFlags (named ++ word ∷ [])) (sym (cond-true (is_fuzzy_word word || list_any (bytes_eq word) flags) flags (flags ++ word ∷ []) (or_left _ _ e)))
+          (subst (λ w. KeepsFlags (named ++ w ∷ []) flags) (sym is) (fuzzy before))
+      | inr other ↦ elim (cases_Bool (list_any (bytes_eq word) flags)) [
+        | inl e ↦ subst (KeepsFlags (named ++ word ∷ [])) (sym (cond-true (is_fuzzy_word word || list_any (bytes_eq word) flags) flags (flags ++ word ∷ []) (or_right _ _ e)))
+            (repeated before ((are_named before word).0 (among_says flags word e)))
+        | inr absent ↦ let not_fuzzy : word ≢ codes "fuzzy" = λ is. both_ways (is_fuzzy_word word) other ((bytes_eq-Decides word (codes "fuzzy")).1 is) in
+            subst (KeepsFlags (named ++ word ∷ [])) (sym (cond-false (is_fuzzy_word word || list_any (bytes_eq word) flags) flags (flags ++ word ∷ []) (or_from _ _ other absent)))
+            (first before not_fuzzy (λ there. both_ways (list_any (bytes_eq word) flags) absent (among_passes flags word ((are_named before word).1 there not_fuzzy))))
+      ]
+    ]
+
+keeps : (named : List (List ℕ)) → KeepsFlags named (keep named)
+keeps =
+    from_end (λ named. KeepsFlags named (keep named)) none
+    (λ named word before. subst (KeepsFlags (named ++ word ∷ [])) (sym (fold_push with_flag [] named word)) (one_more named (keep named) word before))
+
+kept_once : {named flags : List (List ℕ)} → KeepsFlags named flags → flags ≡ keep named
+kept_once none = refl
+kept_once (first {named = named} {kept = flags} {flag = word} before other absent) =
+    let fails = or_from (is_fuzzy_word word) (list_any (bytes_eq word) flags) (false_from_ne_true _ (λ e. other ((bytes_eq-Decides word (codes "fuzzy")).0 e)))
+        (false_from_ne_true _ (λ e. absent ((are_named before word).0 (among_says flags word e)))) in
+    sym (cond-false (is_fuzzy_word word || list_any (bytes_eq word) flags) flags (flags ++ word ∷ []) fails) ∙ ap (λ l. with_flag l word) (kept_once before) ∙ sym (fold_push with_flag [] named word)
+kept_once (fuzzy {named = named} {kept = flags} before) =
+    sym (cond-true (is_fuzzy_word (codes "fuzzy") || list_any (bytes_eq (codes "fuzzy")) flags) flags (flags ++ codes "fuzzy" ∷ []) refl) ∙ ap (λ l. with_flag l (codes "fuzzy")) (kept_once before) ∙ sym (fold_push with_flag [] named (codes "fuzzy"))
+kept_once (repeated {named = named} {kept = flags} {flag = word} before there) =
+    let passes : (is_fuzzy_word word || list_any (bytes_eq word) flags) ≡ true = elim (cases_Bool (is_fuzzy_word word)) [
+      | inl e ↦ or_left _ _ e
+      | inr other ↦ or_right _ _ (among_passes flags word ((are_named before word).1 there (λ is. both_ways (is_fuzzy_word word) other ((bytes_eq-Decides word (codes "fuzzy")).1 is))))
+    ] in
+    sym (cond-true (is_fuzzy_word word || list_any (bytes_eq word) flags) flags (flags ++ word ∷ []) passes) ∙ ap (λ l. with_flag l word) (kept_once before) ∙ sym (fold_push with_flag [] named word)
+
+pub flags_kept : (notes : List Note) (flags : List (List ℕ)) → (flags ≡ flags_of notes) ↔ KeepsFlags (flag_words_of notes) flags
+flags_kept notes flags = (λ e. subst (KeepsFlags (flag_words_of notes)) (sym e) (keeps (flag_words_of notes)), λ h. kept_once h)

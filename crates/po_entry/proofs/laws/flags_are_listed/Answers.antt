@@ -1,0 +1,5 @@
+use Rattle.po_entry.proofs.ListedWords.{flags_listed}
+use Rattle.po_entry.proofs.laws.flags_are_listed.Goals as goal
+
+pub returns : goal.returns
+returns c = flags_listed

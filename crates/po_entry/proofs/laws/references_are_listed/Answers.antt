@@ -1,0 +1,5 @@
+use Rattle.po_entry.proofs.ListedWords.{references_listed}
+use Rattle.po_entry.proofs.laws.references_are_listed.Goals as goal
+
+pub returns : goal.returns
+returns c = references_listed
