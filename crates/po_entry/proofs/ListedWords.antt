@@ -1,16 +1,16 @@
 -- The references and flags that are found in comment lines are those that the lines list.
-use Rattle.std.proofs.Common.{◌≡◌, ◌≢◌, ◌⊎◌, inl, inr, ◌∙◌, refl, sym, ap, subst, ℕ, suc, ◌+◌, ◌<◌, ◌≤◌, Bool, true, false, not, ◌||◌, ◌==◌, cond, if◌then◌else◌, List, [], ◌∷◌, ◌++◌, append_assoc, append-nil, length, take, drop, map, filter, fold, codes, bytes_eq, All, arith}
+use Rattle.std.proofs.Common.{◌≡◌, ◌≢◌, inl, inr, ◌∙◌, refl, sym, ap, subst, ℕ, Bool, true, false, not, ◌||◌, ◌==◌, cond, List, [], ◌∷◌, ◌++◌, append_assoc, append-nil, length, take, drop, map, filter, fold, codes, bytes_eq, All, arith}
 use Rattle.std.specs.Prelude.{◌↔◌, Contains}
-use Rattle.std.specs.List.{slice_split, list_any, prefix_len}
-use Rattle.std.proofs.lemmas.Bool.{cases_Bool, or_cases, or_from, or_left, or_right, cond-true, cond-false, eqb-true, eqb-false, ne_eqb, both_ways, false_from_ne_true, false≢true}
+use Rattle.std.specs.List.{list_any, prefix_len}
+use Rattle.std.proofs.lemmas.Bool.{cases_Bool, or_from, or_left, or_right, cond-true, cond-false, eqb-true, eqb-false, ne_eqb, both_ways, false_from_ne_true}
 use Rattle.std.proofs.Math.Seq.{drop-append_seam}
-use Rattle.std.proofs.lemmas.List.Elements.{All-append, All-cons, All-nil, All-head, Contains-append_left, Contains-push, Contains-push_cases}
+use Rattle.std.proofs.lemmas.List.Elements.{All-append, All-cons, All-nil, Contains-append_left, Contains-push, Contains-push_cases}
 use Rattle.std.proofs.lemmas.List.Folds.{list_any_at}
 use Rattle.std.proofs.lemmas.List.Splits.{slice_split_none, slice_split_at, slice_split-cons_yes}
 use Rattle.std.proofs.lemmas.List.Sums.{fold_push}
 use Rattle.std.proofs.lemmas.Map.Views.{Contains-from_any}
 use Rattle.std.proofs.lemmas.Slice.Eq.{bytes_eq-Decides}
-use Rattle.po_syntax.specs.Runs.{FailsFirst, FailsLast, parts_of, run_length, end_parts, kept_is, from_end}
+use Rattle.po_syntax.specs.Runs.{FailsFirst, parts_of, run_length, end_parts, kept_is, from_end}
 use Rattle.po_syntax.specs.Spelling.{IsBlank, space, tab, vertical_tab, form_feed, carriage_return}
 use Rattle.po_syntax.specs.Token.{is_blank, skip_blanks}
 use Rattle.po_entry.specs.Bytes.{Lacks, without_end_blanks, trimmed}
@@ -259,7 +259,7 @@ kept_once : {named flags : List (List ℕ)} → KeepsFlags named flags → flags
 kept_once none = refl
 kept_once (first {named = named} {kept = flags} {flag = word} before other absent) =
     let fails = or_from (is_fuzzy_word word) (list_any (bytes_eq word) flags) (false_from_ne_true _ (λ e. other ((bytes_eq-Decides word (codes "fuzzy")).0 e)))
-        (false_from_ne_true _ (λ e. absent ((are_named before word).0 (among_says flags word e)))) in
+    (false_from_ne_true _ (λ e. absent ((are_named before word).0 (among_says flags word e)))) in
     sym (cond-false (is_fuzzy_word word || list_any (bytes_eq word) flags) flags (flags ++ word ∷ []) fails) ∙ ap (λ l. with_flag l word) (kept_once before) ∙ sym (fold_push with_flag [] named word)
 kept_once (fuzzy {named = named} {kept = flags} before) =
     sym (cond-true (is_fuzzy_word (codes "fuzzy") || list_any (bytes_eq (codes "fuzzy")) flags) flags (flags ++ codes "fuzzy" ∷ []) refl) ∙ ap (λ l. with_flag l (codes "fuzzy")) (kept_once before) ∙ sym (fold_push with_flag [] named (codes "fuzzy"))

@@ -13,3 +13,4 @@ pub mod SpeltReferences
 pub mod ReplacedReferences
 pub mod SpeltEscapes
 pub mod ExpandedEscapes
+pub mod VariableValues

@@ -1,5 +1,5 @@
 -- The substitution of a text is the text with its references replaced.
-use Rattle.std.proofs.Common.{◌≡◌, inl, inr, refl, sym, ap, ◌∙◌, subst, ℕ, zero, suc, Bool, true, false, ◌==◌, if◌then◌else◌, eqb, List, [], ◌∷◌, ◌++◌, drop, Option, Some, None}
+use Rattle.std.proofs.Common.{◌≡◌, inl, inr, refl, sym, ap, ◌∙◌, subst, ℕ, zero, suc, false, ◌==◌, if◌then◌else◌, eqb, List, [], ◌∷◌, ◌++◌, drop, Option, Some, None}
 use Rattle.std.specs.Prelude.{◌↔◌}
 use Rattle.std.specs.List.{cons_option}
 use Rattle.std.specs.Option.{option_map}
@@ -8,7 +8,7 @@ use Rattle.po_shell.specs.References.{Reference, reference_behind, names_in}
 use Rattle.po_shell.specs.Substitution.{Values, Replacement, replacement_of, place, substitution_after, substitution}
 use Rattle.po_shell.specs.Replacing.{SpellsReference, BeginsNoReplaced, Replaces, nothing, copied, replaced, HoldsNames, no_text, no_reference, reference}
 use Rattle.po_shell.proofs.SpeltReferences.{reference_read, reference_spelt}
-use Rattle.po_shell.proofs.SubstitutionLemmas.{skipped, plain, not-replaced, replaced as is-replaced}
+use Rattle.po_shell.proofs.SubstitutionLemmas.{plain, not-replaced, replaced as is-replaced}
 
 -- where a byte is no `$`, it begins no reference
 not_dollar : (b : ℕ) (text name rest : List ℕ) → eqb b 36 ≡ false → SpellsReference (b ∷ text) name rest → ⊥
@@ -21,8 +21,8 @@ read_behind : (text name rest : List ℕ) → SpellsReference (36 ∷ text) name
 read_behind text name rest h =
     let read = reference_read h in
     let same = behind_same read.dollar in (read.size, ap reference_behind same ∙ read.read, ap (drop read.size) same ∙ read.after) where
-  behind_same : {behind : List ℕ} → 36 ∷ text ≡ 36 ∷ behind → text ≡ behind
-  behind_same e = cc
+      behind_same : {behind : List ℕ} → 36 ∷ text ≡ 36 ∷ behind → text ≡ behind
+      behind_same e = cc
 
 -- how a spelt reference is replaced
 replacement_some : (values : Values) (text name value : List ℕ) (size : ℕ) → reference_behind text ≡ Some (record { name = name; size = size }) → values name ≡ Some value → replacement_of values (reference_behind text) ≡ Some (record { value = value; size = size })
@@ -124,10 +124,11 @@ names_held (b ∷ text) =
 names_read : (b : ℕ) (text name rest : List ℕ) → SpellsReference (b ∷ text) name rest → (size : ℕ) × (b ≡ 36) × (reference_behind text ≡ Some (record { name = name; size = size }))
 names_read b text name rest h =
     let read = reference_read h in (read.size, first read.dollar, ap reference_behind (others read.dollar) ∙ read.read) where
-  first : {behind : List ℕ} → b ∷ text ≡ 36 ∷ behind → b ≡ 36
-  first e = cc
-  others : {behind : List ℕ} → b ∷ text ≡ 36 ∷ behind → text ≡ behind
-  others e = cc
+      first : {behind : List ℕ} → b ∷ text ≡ 36 ∷ behind → b ≡ 36
+      first e = cc
+
+      others : {behind : List ℕ} → b ∷ text ≡ 36 ∷ behind → text ≡ behind
+      others e = cc
 
 -- the names of a text with one more byte, by what is read at it
 names_step : (b : ℕ) (text : List ℕ) (o : Option Reference) → reference_behind text ≡ o → b ≡ 36 → names_in (b ∷ text) ≡ cons_option (option_map (λ r. r.name) o) (names_in text)

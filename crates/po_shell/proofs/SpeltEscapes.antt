@@ -1,11 +1,11 @@
 -- Each escape is read where it is spelt, and what is read as one is spelt.
-use Rattle.std.proofs.Common.{◌≡◌, refl, sym, ap, ◌∙◌, subst, inl, inr, ℕ, zero, suc, ◌+◌, ◌-◌, ◌*◌, ◌%◌, ◌<◌, ◌≤◌, ◌==◌, Bool, true, false, if◌then◌else◌, eqb, List, [], ◌∷◌, length, take, drop, Option, Some, None, arith}
+use Rattle.std.proofs.Common.{◌≡◌, refl, sym, ap, ◌∙◌, subst, inl, inr, ℕ, zero, suc, ◌+◌, ◌-◌, ◌*◌, ◌%◌, ◌<◌, ◌≤◌, ◌==◌, Bool, true, false, if◌then◌else◌, List, [], ◌∷◌, length, take, drop, Option, Some, None, arith}
 use Rattle.std.specs.List.{take_while}
 use Rattle.std.proofs.lemmas.Bool.{and_parts, and_from, cases_Bool, cond-true, cond-false, eqb-true, leb-true, le-leb, false_from_ne_true, false≢true}
 use Rattle.std.proofs.lemmas.List.Sums.{take_while-cons}
 use Rattle.po_shell.specs.declared.escape.Escape.{Escape}
 use Rattle.po_shell.specs.Escapes.{is_octal, octal_run, octal_value, letter, letter_escape, escape_behind}
-use Rattle.po_shell.specs.Expanding.{NoOctalFirst, SpellsByte, alert, backspace, form_feed, line_feed, carriage_return, tab, vertical_tab, backslash, one_digit, two_digits, three_digits, IsNoEscape}
+use Rattle.po_shell.specs.Expanding.{NoOctalFirst, SpellsByte, alert, backspace, form_feed, line_feed, carriage_return, tab, vertical_tab, backslash, one_digit, two_digits, three_digits}
 
 octal_digit : (a : ℕ) → a < 8 → is_octal (48 + a) ≡ true
 octal_digit a l = and_from _ _ (le-leb 48 (48 + a) (omega arith)) (le-leb (48 + a) 55 (omega (arith, l)))
@@ -111,10 +111,13 @@ octal_says : (a : ℕ) (text : List ℕ) → a < 8 → Says ((48 + a) ∷ text) 
 octal_says a text l = more text where
   one : (rest : List ℕ) → NoOctalFirst rest → Says ((48 + a) ∷ rest) (escape_behind ((48 + a) ∷ rest))
   one rest none = subst (Says ((48 + a) ∷ rest)) (sym (one_read a rest l none)) (one_digit a l none)
+
   two : (b : ℕ) (rest : List ℕ) → b < 8 → NoOctalFirst rest → Says ((48 + a) ∷ (48 + b) ∷ rest) (escape_behind ((48 + a) ∷ (48 + b) ∷ rest))
   two b rest m none = subst (Says ((48 + a) ∷ (48 + b) ∷ rest)) (sym (two_read a b rest l m none)) (two_digits a b l m none)
+
   three : (b c : ℕ) (rest : List ℕ) → b < 8 → c < 8 → Says ((48 + a) ∷ (48 + b) ∷ (48 + c) ∷ rest) (escape_behind ((48 + a) ∷ (48 + b) ∷ (48 + c) ∷ rest))
   three b c rest m k = subst (Says ((48 + a) ∷ (48 + b) ∷ (48 + c) ∷ rest)) (sym (three_read a b c rest l m k)) (three_digits a b c l m k)
+
   third : (b : ℕ) → b < 8 → (rest : List ℕ) → Says ((48 + a) ∷ (48 + b) ∷ rest) (escape_behind ((48 + a) ∷ (48 + b) ∷ rest))
   third b m [] = two b [] m tt
   third b m (c ∷ rest) =
@@ -122,6 +125,7 @@ octal_says a text l = more text where
         | inl e ↦ let d = digit_of c e in subst (λ x. Says ((48 + a) ∷ (48 + b) ∷ x ∷ rest) (escape_behind ((48 + a) ∷ (48 + b) ∷ x ∷ rest))) (sym d.1) (three b d.0 rest m d.2)
         | inr e ↦ two b (c ∷ rest) m (no_octal c e)
       ]
+
   more : (rest : List ℕ) → Says ((48 + a) ∷ rest) (escape_behind ((48 + a) ∷ rest))
   more [] = one [] tt
   more (b ∷ rest) =

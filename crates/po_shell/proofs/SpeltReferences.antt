@@ -1,8 +1,8 @@
 -- Each reference is read where it is spelt, and what is read as one is spelt.
-use Rattle.std.proofs.Common.{◌≡◌, ◌⊎◌, inl, inr, refl, sym, ap, ◌∙◌, subst, ℕ, suc, ◌+◌, ◌<◌, ◌≤◌, Bool, true, false, ◌||◌, ◌&&◌, cond, eqb, List, [], ◌∷◌, ◌++◌, length, take, drop, All, Option, Some, None, append-nil, arith}
+use Rattle.std.proofs.Common.{◌≡◌, inl, inr, refl, sym, ap, ◌∙◌, subst, ℕ, suc, ◌+◌, ◌≤◌, true, ◌||◌, ◌&&◌, eqb, List, [], ◌∷◌, ◌++◌, length, drop, All, Option, Some, None, arith}
 use Rattle.std.specs.List.{list_all}
 use Rattle.std.specs.Int.{is_in_range}
-use Rattle.std.proofs.lemmas.Bool.{and_parts, and_from, or_cases, or_left, or_right, cond-true, cond-false, cond_both, cases_Bool, eqb-true, leb-true, le-leb, ltb-true, lt-ltb, both_ways, false_from_ne_true, false≢true}
+use Rattle.std.proofs.lemmas.Bool.{and_parts, and_from, or_cases, or_left, or_right, cond_both, eqb-true, leb-true, le-leb, ltb-true, lt-ltb, both_ways, false_from_ne_true, false≢true}
 use Rattle.std.proofs.lemmas.List.{drop_at, drop-drop}
 use Rattle.std.proofs.lemmas.List.Elements.{All-nil, All-cons, All-head, All-tail}
 use Rattle.std.proofs.lemmas.List.Sums.{take_while-cons}
@@ -152,10 +152,10 @@ braced_says bytes =
     let rest = drop (length name) bytes in
     cond_both (is_name name && begins_with 125 rest) _ None (Says (123 ∷ bytes))
     (λ both.
-      let p = and_parts (is_name name) (begins_with 125 rest) both in
-      let closed = closed_by rest p.1 in
-      subst (λ end. SpellsReference (36 ∷ 123 ∷ bytes) name end) (sym (two_more (length name) 123 bytes))
-      (subst (λ text. SpellsReference (36 ∷ 123 ∷ text) name (drop 1 rest)) (ap (λ l. name ++ l) (sym closed) ∙ run.2) (braced (name_says name p.0 run.0))))
+    let p = and_parts (is_name name) (begins_with 125 rest) both in
+    let closed = closed_by rest p.1 in
+    subst (λ end. SpellsReference (36 ∷ 123 ∷ bytes) name end) (sym (two_more (length name) 123 bytes))
+    (subst (λ text. SpellsReference (36 ∷ 123 ∷ text) name (drop 1 rest)) (ap (λ l. name ++ l) (sym closed) ∙ run.2) (braced (name_says name p.0 run.0))))
     (λ _. tt)
 
 opened_by : (bytes : List ℕ) → begins_with 123 bytes ≡ true → 123 ∷ drop 1 bytes ≡ bytes

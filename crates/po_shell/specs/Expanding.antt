@@ -1,5 +1,5 @@
 -- A text with its escapes expanded, with a case for each escape ("Invoking the gettext program" of the GNU gettext manual).
-use Rattle.std.specs.Prelude.{◌≡◌, ◌≢◌, ℕ, ◌+◌, ◌*◌, ◌%◌, ◌<◌, ◌≤◌, Bool, true, false, List, [], ◌∷◌}
+use Rattle.std.specs.Prelude.{◌≢◌, ℕ, ◌+◌, ◌*◌, ◌%◌, ◌<◌, ◌≤◌, Bool, true, false, List, [], ◌∷◌}
 
 -- no octal digit stands first
 abbrev pub NoOctalFirst : List ℕ → Type 0

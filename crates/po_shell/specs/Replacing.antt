@@ -1,5 +1,5 @@
 -- What spells a reference, and a text with its references replaced, with a case each ("Invoking the envsubst program" of the GNU gettext manual).
-use Rattle.std.specs.Prelude.{◌≡◌, ℕ, ◌≤◌, List, [], ◌∷◌, ◌++◌, length, All, Option, Some}
+use Rattle.std.specs.Prelude.{◌≡◌, ℕ, ◌≤◌, List, [], ◌∷◌, ◌++◌, length, All, Option, Some, ◌≢◌, None, Contains}
 use Rattle.po_shell.specs.Substitution.{Values}
 
 -- what a name begins with: an ASCII letter or `_`
@@ -43,3 +43,13 @@ pub data HoldsNames : List ℕ → List (List ℕ) → Type 0 where
   no_text : HoldsNames [] []
   no_reference : {b : ℕ} {text : List ℕ} {names : List (List ℕ)} → ((name rest : List ℕ) → SpellsReference (b ∷ text) name rest → ⊥) → HoldsNames text names → HoldsNames (b ∷ text) names
   reference : {b : ℕ} {text name rest : List ℕ} {names : List (List ℕ)} → SpellsReference (b ∷ text) name rest → HoldsNames text names → HoldsNames (b ∷ text) (name ∷ names)
+
+-- among variables the value of a name: that of the first of this name, and nothing where there is none
+pub data HasValue (name : List ℕ) : List (List ℕ × List ℕ) → List ℕ → Type 0 where
+  unset : {vars : List (List ℕ × List ℕ)} → All (λ v. v.0 ≢ name) vars → HasValue name vars []
+  set : {vars : List (List ℕ × List ℕ)} {value : List ℕ} (before after : List (List ℕ × List ℕ)) → vars ≡ before ++ (name, value) ∷ after → All (λ v. v.0 ≢ name) before → HasValue name vars value
+
+-- with a SHELL-FORMAT only the names in it are replaced
+abbrev pub IsReplaced : Option (List (List ℕ)) → List ℕ → Type 0
+IsReplaced None name = Unit {0}
+IsReplaced (Some names) name = Contains names name

@@ -1,11 +1,11 @@
 //! Laws on substitution and on escapes, each carried by a function that does nothing: call one to use its law.
-ghost use Rattle.std.specs.Prelude.{◌≡◌, ◌↔◌, ℕ, Bool, List};
+ghost use Rattle.std.specs.Prelude.{◌≡◌, ◌↔◌, ℕ, Bool, List, Option, Some};
 ghost use Rattle.po_shell.specs.Escapes.{expansion, has_no_newline};
 ghost use Rattle.po_shell.specs.Expanding.{Expands};
 ghost use Rattle.po_shell.specs.References.{names_in};
-ghost use Rattle.po_shell.specs.Replacing.{HoldsNames, Replaces};
+ghost use Rattle.po_shell.specs.Replacing.{HasValue, HoldsNames, IsReplaced, Replaces};
 ghost use Rattle.po_shell.specs.Stream.{CutsAgree};
-ghost use Rattle.po_shell.specs.Substitution.{Values, substitution};
+ghost use Rattle.po_shell.specs.Substitution.{Values, substitution, values_of};
 
 /// However a text is cut into pieces, the calls that take them write, together with what is still
 /// held back, what the whole text becomes.
@@ -18,6 +18,13 @@ pub fn any_cutting()
 pub fn references_are_replaced()
     ensures { (values : Values) (text result : List ℕ)
         → (result ≡ substitution values text) ↔ Replaces values text result }
+{}
+
+/// A name is replaced where there is no SHELL-FORMAT or it stands there, by the value of the first
+/// variable of that name, and by nothing where there is none.
+pub fn variables_have_values()
+    ensures { (vars : List (List ℕ × List ℕ)) (only : Option (List (List ℕ))) (name value : List ℕ)
+        → (values_of vars only name ≡ Some value) ↔ (IsReplaced only name × HasValue name vars value) }
 {}
 
 /// The names in a text are those of its references, in order.

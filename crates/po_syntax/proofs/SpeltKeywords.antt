@@ -1,16 +1,15 @@
 -- Each keyword is read where it is spelt, and what is read as one is spelt.
-use Rattle.std.proofs.Common.{◌≡◌, ◌∙◌, refl, sym, ap, subst, ℕ, suc, ◌+◌, ◌^◌, ◌<◌, ◌≤◌, ◌==◌, ◌||◌, Bool, true, false, if◌then◌else◌, nat_lt, List, [], ◌∷◌, ◌++◌, append_assoc, length, take, drop, codes, bytes_eq, All, inl, inr, arith}
-use Rattle.std.specs.Char.{digit_value, is_digit}
+use Rattle.std.proofs.Common.{◌≡◌, ◌∙◌, refl, sym, ap, subst, ℕ, ◌^◌, ◌<◌, ◌≤◌, ◌==◌, ◌||◌, Bool, true, false, if◌then◌else◌, nat_lt, List, [], ◌∷◌, ◌++◌, length, take, drop, codes, bytes_eq, All, inl, inr, arith}
+use Rattle.std.specs.Char.{digit_value}
 use Rattle.std.specs.Int.{is_in_range}
 use Rattle.std.specs.List.{prefix_len, list_all}
-use Rattle.std.specs.Str.Parse.{AllDigits, IsNumeral, digits_value}
+use Rattle.std.specs.Str.Parse.{IsNumeral, digits_value}
 use Rattle.std.proofs.Math.Seq.{take-append_seam, drop-append_seam}
-use Rattle.std.proofs.Math.Numerals.{one-add}
-use Rattle.std.proofs.lemmas.Bool.{and_parts, and_from, or_cases, or_left, or_right, both_ways, cond-true, cond-false, eqb-true, eqb-false, ne_eqb, leb-true, le-leb, ltb-true, ltb-false, lt-ltb, false_from_ne_true, false≢true}
+use Rattle.std.proofs.lemmas.Bool.{and_parts, and_from, or_cases, or_left, or_right, both_ways, cond-false, eqb-true, eqb-false, ne_eqb, leb-true, le-leb, ltb-true, ltb-false, lt-ltb, false_from_ne_true}
 use Rattle.std.proofs.lemmas.List.{take-append-drop}
 use Rattle.std.proofs.lemmas.List.Elements.{All-head}
 use Rattle.std.proofs.lemmas.Slice.Eq.{bytes_eq-Decides}
-use Rattle.po_syntax.specs.declared.fault.PoFault.TheVariants.{BadToken, BadPluralIndex}
+use Rattle.po_syntax.specs.declared.fault.PoFault.TheVariants.{BadToken}
 use Rattle.po_syntax.specs.declared.item.Keyword.{Keyword}
 use Rattle.po_syntax.specs.declared.item.Keyword.TheVariants.{MsgCtxt, MsgId, MsgIdPlural, MsgStr, MsgStrAt}
 use Rattle.po_syntax.specs.Escapes.{NoDigitFirst}
@@ -196,9 +195,9 @@ close_says whole before inside index digits opened numeral fits rest after [] is
 close_says whole before inside index digits opened numeral fits rest after (b ∷ end) is ends all =
     if_says whole (b == 93) _ _
     (λ e.
-      let closing : rest ≡ after ++ 93 ∷ end = ends ∙ ap (λ a. after ++ a ∷ end) (eqb-true b 93 e) in
-      let text = opened.text ∙ ap (λ l. codes "msgstr" ++ (before ++ 91 ∷ (inside ++ l))) (is ∙ ap (λ l. digits ++ l) closing) in
-      subst (λ t. SpellsKeyword t (MsgStrAt (digits_value 10 digits)) end) (sym text) (form before inside digits after opened.before_blank opened.inside_blank numeral fits all))
+    let closing : rest ≡ after ++ 93 ∷ end = ends ∙ ap (λ a. after ++ a ∷ end) (eqb-true b 93 e) in
+    let text = opened.text ∙ ap (λ l. codes "msgstr" ++ (before ++ 91 ∷ (inside ++ l))) (is ∙ ap (λ l. digits ++ l) closing) in
+    subst (λ t. SpellsKeyword t (MsgStrAt (digits_value 10 digits)) end) (sym text) (form before inside digits after opened.before_blank opened.inside_blank numeral fits all))
     (λ _. tt)
 
 index_says : (whole before inside index : List ℕ) → IsOpened whole before inside index → TokenSays whole (index_token index)
@@ -211,9 +210,9 @@ index_says whole before inside index opened =
     if_says whole (count == 0) _ _ (λ _. tt) (λ other.
     if_says whole (nat_lt (digits_value 10 digits) (2 ^ 32)) _ _
     (λ less.
-      let some : 0 < length digits = omega (arith, positive count other, all.1) in
-      let parts = skips rest in
-      close_says whole before inside index digits opened (some, all.0) (ltb-true _ _ less) rest parts.blanks (skip_blanks rest) (sym (take-append-drop count index)) (sym parts.whole) parts.are_blanks)
+    let some : 0 < length digits = omega (arith, positive count other, all.1) in
+    let parts = skips rest in
+    close_says whole before inside index digits opened (some, all.0) (ltb-true _ _ less) rest parts.blanks (skip_blanks rest) (sym (take-append-drop count index)) (sym parts.whole) parts.are_blanks)
     (λ _. tt))
 
 no_bracket_from : (rest after : List ℕ) → skip_blanks rest ≡ after → ((inside : List ℕ) → after ≡ 91 ∷ inside → ⊥) → HasNoBracket rest
@@ -222,20 +221,20 @@ no_bracket_from rest after is none blanks inside all e = none inside (sym is ∙
 bracket_says : (whole rest : List ℕ) → whole ≡ codes "msgstr" ++ rest → EndsWord rest → (before after : List ℕ) → skip_blanks rest ≡ after → rest ≡ before ++ after → All IsBlank before → TokenSays whole (bracket_token rest after)
 bracket_says whole rest text ends before [] is parts all =
     subst (λ t. SpellsKeyword t MsgStr rest) (sym text) (msgstr ends (no_bracket_from rest [] is (λ inside e. nil_no_cons inside e))) where
-  nil_no_cons : (inside : List ℕ) → [] ≡ 91 ∷ inside → ⊥
-  nil_no_cons inside e = cc
+      nil_no_cons : (inside : List ℕ) → [] ≡ 91 ∷ inside → ⊥
+      nil_no_cons inside e = cc
 bracket_says whole rest text ends before (b ∷ inside) is parts all =
     if_says whole (b == 91) _ (Key MsgStr rest)
     (λ e.
-      let more = skips inside in
-      index_says whole before more.blanks (skip_blanks inside) (record {
-        text = text ∙ ap (λ l. codes "msgstr" ++ l) (parts ∙ ap (λ a. before ++ a ∷ inside) (eqb-true b 91 e) ∙ ap (λ l. before ++ 91 ∷ l) (sym more.whole));
-        before_blank = all;
-        inside_blank = more.are_blanks;
-      }))
+    let more = skips inside in
+    index_says whole before more.blanks (skip_blanks inside) (record {
+      text = text ∙ ap (λ l. codes "msgstr" ++ l) (parts ∙ ap (λ a. before ++ a ∷ inside) (eqb-true b 91 e) ∙ ap (λ l. before ++ 91 ∷ l) (sym more.whole));
+      before_blank = all;
+      inside_blank = more.are_blanks;
+    }))
     (λ other. subst (λ t. SpellsKeyword t MsgStr rest) (sym text) (msgstr ends (no_bracket_from rest (b ∷ inside) is (λ more e. eqb-false b 91 other (head_same more e))))) where
-  head_same : (more : List ℕ) → b ∷ inside ≡ 91 ∷ more → b ≡ 91
-  head_same more e = cc
+      head_same : (more : List ℕ) → b ∷ inside ≡ 91 ∷ more → b ≡ 91
+      head_same more e = cc
 
 keyword_says : (whole word rest : List ℕ) → whole ≡ word ++ rest → EndsWord rest → TokenSays whole (keyword_token word rest)
 unfolding keyword_token

@@ -1,8 +1,8 @@
 -- Each line is read as the items that it holds, and holds what is read of it.
-use Rattle.std.proofs.Common.{◌≡◌, ◌==◌, ◌∙◌, refl, sym, ap, subst, ℕ, suc, ◌+◌, Bool, true, false, if◌then◌else◌, List, [], ◌∷◌, ◌++◌, drop, All, inl, inr, arith}
+use Rattle.std.proofs.Common.{◌≡◌, ◌==◌, ◌∙◌, refl, sym, ap, subst, ℕ, ◌+◌, Bool, true, false, if◌then◌else◌, List, [], ◌∷◌, ◌++◌, drop, All, arith}
 use Rattle.std.specs.List.{prefix_len}
 use Rattle.std.proofs.Math.Numerals.{one-add}
-use Rattle.std.proofs.lemmas.Bool.{cond-true, cond-false, eqb-true, eqb-false, ne_eqb, cases_Bool, eq-eqb}
+use Rattle.std.proofs.lemmas.Bool.{cond-true, cond-false, eqb-true, eqb-false, ne_eqb, eq-eqb}
 use Rattle.std.proofs.lemmas.List.Elements.{All-head, All-tail}
 use Rattle.po_syntax.specs.declared.fault.PoFault.TheVariants.{BadToken}
 use Rattle.po_syntax.specs.declared.item.CommentKind.{CommentKind}
@@ -10,13 +10,13 @@ use Rattle.po_syntax.specs.declared.item.CommentKind.TheVariants.{Translator, Ex
 use Rattle.po_syntax.specs.declared.item.Marks.{Marks}
 use Rattle.po_syntax.specs.Line as line
 use Rattle.po_syntax.specs.Line.{Shape, Note, Tokens, NoShape, note_shape, obsolete_shape, tilde_shape, hash_shape, first_shape, shape_of, trim_returns, SpellsTokens, none, word, SpellsLine}
-use Rattle.po_syntax.specs.Runs.{FailsFirst, end_parts, kept_is}
-use Rattle.po_syntax.specs.Spelling.{IsBlank, HoldsTokens, end, blank, keyword, string, IsMark, dot, colon, comma, bar, tilde, BeginsWithNoMark, SpellsComment, extracted, reference, flags, translator, IsWithoutReturns, marked, HoldsItems, indented, comment, obsolete_comment, live, previous, obsolete, obsolete_previous}
+use Rattle.po_syntax.specs.Runs.{end_parts, kept_is}
+use Rattle.po_syntax.specs.Spelling.{IsBlank, HoldsTokens, end, blank, keyword, string, IsMark, dot, colon, comma, bar, tilde, SpellsComment, extracted, reference, flags, translator, IsWithoutReturns, marked, HoldsItems, indented, comment, obsolete_comment, live, previous, obsolete, obsolete_previous}
 use Rattle.po_syntax.specs.TextItem.{TextItem, Comment, Str}
 use Rattle.po_syntax.specs.Token.{Token, Nothing, Open, Key, Halt, is_blank, skip_blanks, first_token, token_at}
 use Rattle.po_syntax.proofs.Escapes.{quoted_spelt}
 use Rattle.po_syntax.proofs.SpeltEscapes.{spelt_quoted}
-use Rattle.po_syntax.proofs.SpeltKeywords.{blank_passes, blank_says, skips, skip_front, keyword_read, TokenSays, first_says}
+use Rattle.po_syntax.proofs.SpeltKeywords.{blank_passes, skips, skip_front, keyword_read, TokenSays, first_says}
 
 -- blanks before tokens
 after_blanks : {marks : Marks} {number : ℕ} {items : List TextItem} (blanks text : List ℕ) → All IsBlank blanks → HoldsTokens marks number text items → HoldsTokens marks number (blanks ++ text) items

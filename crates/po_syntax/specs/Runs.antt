@@ -121,5 +121,5 @@ pub kept_is : {X : Type 0} (test : X → Bool) (kept : List X) → FailsLast tes
 kept_is test kept fails =
     from_end (λ end. All (λ x. test x ≡ true) end → without_end test (kept ++ end) ≡ kept) (λ _. ap (without_end test) (append-nil kept) ∙ kept_all test kept fails)
     (λ end x ih passes.
-      let p = last_passes (λ y. test y ≡ true) end x passes in
-      ap (without_end test) (sym (append_assoc kept end (x ∷ []))) ∙ end_passes test (kept ++ end) x p.1 ∙ ih p.0)
+    let p = last_passes (λ y. test y ≡ true) end x passes in
+    ap (without_end test) (sym (append_assoc kept end (x ∷ []))) ∙ end_passes test (kept ++ end) x p.1 ∙ ih p.0)
