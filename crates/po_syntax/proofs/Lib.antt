@@ -17,3 +17,4 @@ pub mod Escapes
 pub mod SpeltEscapes
 pub mod SpeltKeywords
 pub mod SpeltLines
+pub mod FaultyLines

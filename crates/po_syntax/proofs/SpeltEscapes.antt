@@ -8,7 +8,7 @@ use Rattle.po_syntax.specs.QuotedString.{End, Byte, digit_count, number_step, es
 use Rattle.po_syntax.specs.Escapes.{NoDigitFirst, IsByteNumber, SpellsEscape, alert, backspace, form_feed, line_feed, carriage_return, tab, vertical_tab, backslash, quote, octal, hexadecimal, SpellsString, closed, plain, escape}
 
 -- as many digits as there are, up to so many
-count_front : (base most : ℕ) (digits rest : List ℕ) → AllDigits base digits → length digits ≤ most → (length digits ≡ most) ⊎ NoDigitFirst base rest → digit_count base (take most (digits ++ rest)) ≡ length digits
+pub count_front : (base most : ℕ) (digits rest : List ℕ) → AllDigits base digits → length digits ≤ most → (length digits ≡ most) ⊎ NoDigitFirst base rest → digit_count base (take most (digits ++ rest)) ≡ length digits
 count_front base zero [] rest all within end = refl
 count_front base (suc most) [] rest all within (inl full) = absurd (omega (arith, full))
 count_front base (suc most) [] [] all within (inr none) = refl
@@ -63,11 +63,11 @@ closing_quote : (rest : List ℕ) → step_at (34 ∷ rest) ≡ End rest
 unfolding step_at
 closing_quote rest = refl
 
-plain_read : (b : ℕ) (text : List ℕ) → (b ≡ 34 → ⊥) → (b ≡ 92 → ⊥) → step_at (b ∷ text) ≡ Byte b text
+pub plain_read : (b : ℕ) (text : List ℕ) → (b ≡ 34 → ⊥) → (b ≡ 92 → ⊥) → step_at (b ∷ text) ≡ Byte b text
 unfolding step_at
 plain_read b text inside raw = rw (ne_eqb b 34 inside, ne_eqb b 92 raw) refl
 
-backslash_read : (text : List ℕ) {rest : List ℕ} {b : ℕ} → SpellsEscape text b rest → step_at (92 ∷ text) ≡ Byte b rest
+pub backslash_read : (text : List ℕ) {rest : List ℕ} {b : ℕ} → SpellsEscape text b rest → step_at (92 ∷ text) ≡ Byte b rest
 unfolding step_at
 backslash_read text h = escape_read h
 

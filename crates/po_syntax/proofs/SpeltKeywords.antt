@@ -49,7 +49,7 @@ range_says low high b e = let p = and_parts _ _ e in (leb-true low b p.0, leb-tr
 range_passes : (low high b : ℕ) → low ≤ b → b ≤ high → is_in_range low high b ≡ true
 range_passes low high b least most = and_from _ _ (le-leb low b least) (le-leb b high most)
 
-word_byte_says : (b : ℕ) → is_word_byte b ≡ true → IsWordByte b
+pub word_byte_says : (b : ℕ) → is_word_byte b ≡ true → IsWordByte b
 word_byte_says b e =
     elim (or_cases ((is_in_range 48 57 b || is_in_range 65 90 b) || is_in_range 97 122 b) (b == 95) e) [
       | inl h ↦ elim (or_cases (is_in_range 48 57 b || is_in_range 65 90 b) (is_in_range 97 122 b) h) [
@@ -62,7 +62,7 @@ word_byte_says b e =
       | inr h ↦ subst IsWordByte (sym (eqb-true b 95 h)) underscore
     ]
 
-word_byte_passes : {b : ℕ} → IsWordByte b → is_word_byte b ≡ true
+pub word_byte_passes : {b : ℕ} → IsWordByte b → is_word_byte b ≡ true
 word_byte_passes (upper {b = b} least most) = or_left _ _ (or_left _ _ (or_right _ _ (range_passes 65 90 b least most)))
 word_byte_passes (lower {b = b} least most) = or_left _ _ (or_right _ _ (range_passes 97 122 b least most))
 word_byte_passes (digit {b = b} least most) = or_left _ _ (or_left _ _ (or_left _ _ (range_passes 48 57 b least most)))
@@ -96,17 +96,17 @@ fails_ends : (rest : List ℕ) → FailsFirst is_word_byte rest → EndsWord res
 fails_ends [] h = tt
 fails_ends (b ∷ rest) h = λ is. both_ways (is_word_byte b) h (word_byte_passes is)
 
-word_front : (word rest : List ℕ) → list_all is_word_byte word ≡ true → EndsWord rest → word_token (word ++ rest) ≡ keyword_token word rest
+pub word_front : (word rest : List ℕ) → list_all is_word_byte word ≡ true → EndsWord rest → word_token (word ++ rest) ≡ keyword_token word rest
 word_front word rest all ends =
     let count = run_length is_word_byte word rest (all_pass is_word_byte word all) (ends_fails rest ends) in
     rw (count, take-append_seam word rest, drop-append_seam word rest) refl
 
 -- a word that begins with `m`
-m_read : (word rest : List ℕ) → list_all is_word_byte (109 ∷ word) ≡ true → EndsWord rest → token_at ((109 ∷ word) ++ rest) ≡ keyword_token (109 ∷ word) rest
+pub m_read : (word rest : List ℕ) → list_all is_word_byte (109 ∷ word) ≡ true → EndsWord rest → token_at ((109 ∷ word) ++ rest) ≡ keyword_token (109 ∷ word) rest
 unfolding first_token
 m_read word rest all ends = word_front (109 ∷ word) rest all ends
 
-blank_no_word : {b : ℕ} → IsBlank b → IsWordByte b → ⊥
+pub blank_no_word : {b : ℕ} → IsBlank b → IsWordByte b → ⊥
 blank_no_word {b} blank is = both_ways (is_word_byte b) (no_word blank) (word_byte_passes is) where
   no_word : {a : ℕ} → IsBlank a → is_word_byte a ≡ false
   no_word space = refl
@@ -118,7 +118,7 @@ blank_no_word {b} blank is = both_ways (is_word_byte b) (no_word blank) (word_by
 bracket_no_word : IsWordByte 91 → ⊥
 bracket_no_word is = both_ways (is_word_byte 91) refl (word_byte_passes is)
 
-ends_before_bracket : (blanks rest : List ℕ) → All IsBlank blanks → EndsWord (blanks ++ 91 ∷ rest)
+pub ends_before_bracket : (blanks rest : List ℕ) → All IsBlank blanks → EndsWord (blanks ++ 91 ∷ rest)
 ends_before_bracket [] rest all = bracket_no_word
 ends_before_bracket (b ∷ blanks) rest all = blank_no_word (All-head IsBlank b blanks all)
 
@@ -142,7 +142,7 @@ no_digit_before_bracket : (blanks rest : List ℕ) → All IsBlank blanks → No
 no_digit_before_bracket [] rest all = ltb-false (digit_value 93) 10 refl
 no_digit_before_bracket (b ∷ blanks) rest all = blank_no_digit (All-head IsBlank b blanks all)
 
-digits_no_blank : (digits rest : List ℕ) → IsNumeral 10 digits → FailsFirst is_blank (digits ++ rest)
+pub digits_no_blank : (digits rest : List ℕ) → IsNumeral 10 digits → FailsFirst is_blank (digits ++ rest)
 digits_no_blank [] rest numeral = absurd (omega (arith, numeral.0))
 digits_no_blank (d ∷ digits) rest numeral =
     false_from_ne_true (is_blank d) (λ passes. let most = numeral.1.0 in omega (arith, most, blank_no_digit (blank_says d passes)))

@@ -45,12 +45,12 @@ same_tokens same (none e) = none (same ∙ e)
 same_tokens same (word e more) = word (same ∙ e) more
 same_tokens same (line.string e quoted more) = line.string (same ∙ e) quoted more
 
-blank_skipped : (b : ℕ) (text : List ℕ) → IsBlank b → skip_blanks (b ∷ text) ≡ skip_blanks text
+pub blank_skipped : (b : ℕ) (text : List ℕ) → IsBlank b → skip_blanks (b ∷ text) ≡ skip_blanks text
 blank_skipped b text h =
     let count = cond-true (is_blank b) (1 + prefix_len is_blank text) 0 (blank_passes h) ∙ one-add (prefix_len is_blank text) in
     ap (λ n. drop n (b ∷ text)) count
 
-quote_opens : (text : List ℕ) → token_at (34 ∷ text) ≡ Open text
+pub quote_opens : (text : List ℕ) → token_at (34 ∷ text) ≡ Open text
 unfolding first_token
 quote_opens text = refl
 
@@ -214,23 +214,23 @@ note_hash (translator {text = []} h) = refl
 note_hash (translator {text = b ∷ rest} h) =
     cond-false (b == 124) _ _ (ne_eqb b 124 (λ is. h (subst IsMark (sym is) bar))) ∙ cond-false (b == 126) _ _ (ne_eqb b 126 (λ is. h (subst IsMark (sym is) tilde)))
 
-hash_first : (text : List ℕ) → shape_of (35 ∷ text) ≡ hash_shape text
+pub hash_first : (text : List ℕ) → shape_of (35 ∷ text) ≡ hash_shape text
 unfolding first_shape
 hash_first text = refl
 
-bar_first : (text : List ℕ) → hash_shape (124 ∷ text) ≡ Tokens (marked false true) text
+pub bar_first : (text : List ℕ) → hash_shape (124 ∷ text) ≡ Tokens (marked false true) text
 unfolding hash_shape
 bar_first text = refl
 
-tilde_first : (text : List ℕ) → hash_shape (126 ∷ text) ≡ tilde_shape text
+pub tilde_first : (text : List ℕ) → hash_shape (126 ∷ text) ≡ tilde_shape text
 unfolding hash_shape
 tilde_first text = refl
 
-tilde_bar_first : (text : List ℕ) → tilde_shape (124 ∷ text) ≡ Tokens (marked true true) text
+pub tilde_bar_first : (text : List ℕ) → tilde_shape (124 ∷ text) ≡ Tokens (marked true true) text
 unfolding tilde_shape
 tilde_bar_first text = refl
 
-obsolete_hash : (text : List ℕ) → obsolete_shape (35 ∷ text) ≡ note_shape text
+pub obsolete_hash : (text : List ℕ) → obsolete_shape (35 ∷ text) ≡ note_shape text
 unfolding obsolete_shape
 obsolete_hash text = refl
 
@@ -239,7 +239,7 @@ blank_no_bar {b} is = ne_eqb b 124 (λ same. bar_no_blank (subst IsBlank same is
   bar_no_blank : IsBlank 124 → ⊥
   bar_no_blank h = let t = blank_passes h in cc
 
-tilde_comment : (blanks text : List ℕ) → All IsBlank blanks → tilde_shape (blanks ++ 35 ∷ text) ≡ note_shape text
+pub tilde_comment : (blanks text : List ℕ) → All IsBlank blanks → tilde_shape (blanks ++ 35 ∷ text) ≡ note_shape text
 unfolding tilde_shape
 tilde_comment [] text all = obsolete_hash text
 tilde_comment (b ∷ blanks) text all =

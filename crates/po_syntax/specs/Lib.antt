@@ -5,6 +5,7 @@ pub mod Escapes
 pub mod Token
 pub mod Line
 pub mod Spelling
+pub mod LineFaults
 pub mod CodeView
 pub mod ItemText
 pub mod PoText

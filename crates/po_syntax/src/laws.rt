@@ -3,7 +3,8 @@ ghost use Rattle.std.specs.Prelude.{◌≡◌, ◌≢◌, ◌↔◌, ◌⊎◌, 
 ghost use Rattle.po_syntax.specs.declared.fault.PoFault.{PoFault};
 ghost use Rattle.po_syntax.specs.Escapes.{SpellsString};
 ghost use Rattle.po_syntax.specs.ItemText.{HoldsText};
-ghost use Rattle.po_syntax.specs.Line.{SpellsLine};
+ghost use Rattle.po_syntax.specs.Line.{LineStops, SpellsLine};
+ghost use Rattle.po_syntax.specs.LineFaults.{LineFault};
 ghost use Rattle.po_syntax.specs.PoText.{SpellsText, TextFault};
 ghost use Rattle.po_syntax.specs.QuotedForm.{quoted};
 ghost use Rattle.po_syntax.specs.QuotedString.{IsQuoted};
@@ -62,6 +63,12 @@ pub fn strings_are_spelt()
 pub fn lines_are_spelt()
     ensures { (line : ℕ) (text : List ℕ) (items : List TextItem)
         → SpellsLine line text items ↔ HoldsItems line text items }
+{}
+
+/// A line is read up to its first fault: the first place where no form of a line, a keyword, an index,
+/// a string or an escape goes on. It has one such fault at most, and none where it holds items.
+pub fn line_faults_are_first()
+    ensures { (text : List ℕ) (fault : PoFault) → LineFault text fault → LineStops text fault }
 {}
 
 /// The quoted form of bytes without NUL spells just these bytes, and ends where it ends.

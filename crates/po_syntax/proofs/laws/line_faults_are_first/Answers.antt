@@ -1,0 +1,5 @@
+use Rattle.po_syntax.proofs.FaultyLines.{line_stops}
+use Rattle.po_syntax.proofs.laws.line_faults_are_first.Goals as goal
+
+pub returns : goal.returns
+returns c = λ text fault h. line_stops h
