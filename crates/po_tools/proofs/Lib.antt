@@ -2,3 +2,4 @@ pub mod Profiles
 pub mod GettextLemmas
 pub mod MsgfmtLemmas
 pub mod MsgattribLemmas
+pub mod FirstFaults

@@ -5,6 +5,7 @@ pub mod ProgramFaults
 pub mod Words
 pub mod WordsView
 pub mod Profile
+pub mod ProfileFaults
 pub mod Gettext
 pub mod GettextView
 pub mod OpensFile
