@@ -1,4 +1,4 @@
--- The joined list omits the live headers of each input that is behind one with a live header, and no other entry.
+-- The joined list omits the live headers of each input that is after one with a live header, and no other entry.
 use Rattle.std.proofs.Common.{◌≡◌, ℕ, ◌+◌, ◌<◌, ◌≤◌, Bool, true, false, not, ◌&&◌, ◌||◌, cond, nat_lt, List, [], ◌∷◌, ◌++◌, map, filter, All, refl, sym, ap, ◌∙◌, append_assoc, arith}
 use Rattle.std.specs.List.{list_any}
 use Rattle.std.proofs.lemmas.Bool.{lt-ltb, le-ltb}
@@ -92,7 +92,7 @@ header_before before input inputs h =
     ∙ ap (λ b. list_any (counts input) before || b) (none_count input (entries_from input inputs) (later_inputs input input inputs (omega arith)))
     ∙ or_false (list_any (counts input) before) ∙ earlier_count input before h
 
--- the inputs from one on, behind all entries before it
+-- the inputs from one on, after all entries before it
 joined_rest : (all before : List InputEntry) (input : ℕ) (inputs : List (List TextEntry)) → all ≡ before ++ entries_from input inputs → All (λ e. e.input < input) before
     → joined_from input (list_any headed before) inputs ≡ filter (keeps all) (entries_from input inputs)
 joined_rest all before input [] is h = refl

@@ -25,23 +25,23 @@ Found text rest = (HasNone text × (rest ≡ [])) ⊎ ((before : List ℕ) × Is
 starts : List ℕ → Bool
 starts text = starts_with nat_eq text (codes "charset=")
 
-front_starts : (text rest : List ℕ) → IsAround text [] rest → starts text ≡ true
+prefix_starts : (text rest : List ℕ) → IsAround text [] rest → starts text ≡ true
 unfolding starts
-front_starts text rest e = (starts_is Decides-eqb text (codes "charset=") (starts_with nat_eq text (codes "charset=")) refl).1 rest e
+prefix_starts text rest e = (starts_is Decides-eqb text (codes "charset=") (starts_with nat_eq text (codes "charset=")) refl).1 rest e
 
-starts_front : (text : List ℕ) → starts text ≡ true → IsAround text [] (drop 8 text)
+starts_prefix : (text : List ℕ) → starts text ≡ true → IsAround text [] (drop 8 text)
 unfolding starts
-starts_front text e = (starts_is Decides-eqb text (codes "charset=") (starts_with nat_eq text (codes "charset=")) refl).0 e
+starts_prefix text e = (starts_is Decides-eqb text (codes "charset=") (starts_with nat_eq text (codes "charset=")) refl).0 e
 
 tail_around : (b x : ℕ) (text before rest : List ℕ) → IsAround (b ∷ text) (x ∷ before) rest → IsAround text before rest
 tail_around b x text before rest e = cc
 
 none_more : (b : ℕ) (text : List ℕ) → starts (b ∷ text) ≡ false → HasNone text → HasNone (b ∷ text)
-none_more b text other none [] rest e = false≢true (sym other ∙ front_starts (b ∷ text) rest e)
+none_more b text other none [] rest e = false≢true (sym other ∙ prefix_starts (b ∷ text) rest e)
 none_more b text other none (x ∷ before) rest e = none before rest (tail_around b x text before rest e)
 
 earliest_more : (b place : ℕ) (text : List ℕ) → starts (b ∷ text) ≡ false → IsEarliest text place → IsEarliest (b ∷ text) (suc place)
-earliest_more b place text other first [] more e = absurd (false≢true (sym other ∙ front_starts (b ∷ text) more e))
+earliest_more b place text other first [] more e = absurd (false≢true (sym other ∙ prefix_starts (b ∷ text) more e))
 earliest_more b place text other first (x ∷ before) more e = let later = first before more (tail_around b x text before more e) in omega (arith, later)
 
 found_more : (b : ℕ) (text rest : List ℕ) → starts (b ∷ text) ≡ false → Found text rest → Found (b ∷ text) rest
@@ -57,7 +57,7 @@ unfolding starts
 found [] = inl (none_in_nothing, refl)
 found (b ∷ text) =
     elim (cases_Bool (starts (b ∷ text))) [
-      | inl e ↦ subst (Found (b ∷ text)) (sym (cond-true (starts (b ∷ text)) _ _ e)) (inr ([], starts_front (b ∷ text) e, λ other more h. omega arith))
+      | inl e ↦ subst (Found (b ∷ text)) (sym (cond-true (starts (b ∷ text)) _ _ e)) (inr ([], starts_prefix (b ∷ text) e, λ other more h. omega arith))
       | inr e ↦ subst (Found (b ∷ text)) (sym (cond-false (starts (b ∷ text)) _ _ e)) (found_more b text (behind_charset text) e (found text))
     ]
 
@@ -130,8 +130,8 @@ name_once (x ∷ name) (y ∷ other) rest end a b p q e =
     let later = name_once name other rest end (All-tail (λ c. EndsName c → ⊥) x name a) (All-tail (λ c. EndsName c → ⊥) y other b) p q more in
     rw (here, later) refl
 
-same_behind : (before other rest end : List ℕ) → length before ≡ length other → before ++ rest ≡ other ++ end → rest ≡ end
-same_behind before other rest end l e = sym (drop_at before rest (length before) refl) ∙ ap (drop (length before)) e ∙ drop_at other end (length before) (sym l)
+same_rest : (before other rest end : List ℕ) → length before ≡ length other → before ++ rest ≡ other ++ end → rest ≡ end
+same_rest before other rest end l e = sym (drop_at before rest (length before) refl) ∙ ap (drop (length before)) e ∙ drop_at other end (length before) (sym l)
 
 named_once : {text name other : List ℕ} → NamesCharset text name → NamesCharset text other → name ≡ other
 named_once (unnamed none) (unnamed others) = refl
@@ -140,8 +140,8 @@ named_once (named {name = name} before rest around first holds ends) (unnamed no
 named_once (named {name = name} before rest around first holds ends) (named {name = called} other end about earliest has stops) =
     let p = first other (called ++ end) about in
     let q = earliest before (name ++ rest) around in
-    let behind = same_behind before other (codes "charset=" ++ (name ++ rest)) (codes "charset=" ++ (called ++ end)) (omega (arith, p, q)) (sym around ∙ about) in
-    name_once name called rest end holds has ends stops (append_cancel_left (codes "charset=") (name ++ rest) (called ++ end) behind)
+    let after = same_rest before other (codes "charset=" ++ (name ++ rest)) (codes "charset=" ++ (called ++ end)) (omega (arith, p, q)) (sym around ∙ about) in
+    name_once name called rest end holds has ends stops (append_cancel_left (codes "charset=") (name ++ rest) (called ++ end) after)
 
 pub charset_named : (text name : List ℕ) → (name ≡ charset_of text) ↔ NamesCharset text name
 charset_named text name = (λ e. subst (NamesCharset text) (sym e) (found_named text), λ h. named_once h (found_named text))

@@ -53,40 +53,40 @@ some_kept b word words = cond-true (is_not_empty (b ∷ word)) ((b ∷ word) ∷
 some_word : (b : ℕ) (word : List ℕ) → (b ∷ word) ≡ [] → ⊥
 some_word b word e = cc
 
-before_end : (front : List ℕ) → All (λ b. is_blank b ≡ false) front → ListsReferences front (kept front [])
+before_end : (prefix : List ℕ) → All (λ b. is_blank b ≡ false) prefix → ListsReferences prefix (kept prefix [])
 before_end [] all = no_text
-before_end (b ∷ front) all =
-    subst (ListsReferences (b ∷ front)) (sym (some_kept b front [])) (subst (λ t. ListsReferences t ((b ∷ front) ∷ [])) (append-nil (b ∷ front)) (reference (some_word b front) (λ k d below. no_blank _ (all k d below)) tt no_text))
+before_end (b ∷ prefix) all =
+    subst (ListsReferences (b ∷ prefix)) (sym (some_kept b prefix [])) (subst (λ t. ListsReferences t ((b ∷ prefix) ∷ [])) (append-nil (b ∷ prefix)) (reference (some_word b prefix) (λ k d below. no_blank _ (all k d below)) tt no_text))
 
-before_blank : (front : List ℕ) (b : ℕ) (text : List ℕ) (words : List (List ℕ)) → All (λ b. is_blank b ≡ false) front → is_blank b ≡ true → ListsReferences text words → ListsReferences (front ++ b ∷ text) (kept front words)
+before_blank : (prefix : List ℕ) (b : ℕ) (text : List ℕ) (words : List (List ℕ)) → All (λ b. is_blank b ≡ false) prefix → is_blank b ≡ true → ListsReferences text words → ListsReferences (prefix ++ b ∷ text) (kept prefix words)
 before_blank [] b text words all e later = blank (blank_says b e) later
-before_blank (a ∷ front) b text words all e later =
-    subst (ListsReferences ((a ∷ front) ++ b ∷ text)) (sym (some_kept a front words)) (reference (some_word a front) (λ k d below. no_blank _ (all k d below)) (blank_says b e) (blank (blank_says b e) later))
+before_blank (a ∷ prefix) b text words all e later =
+    subst (ListsReferences ((a ∷ prefix) ++ b ∷ text)) (sym (some_kept a prefix words)) (reference (some_word a prefix) (λ k d below. no_blank _ (all k d below)) (blank_says b e) (blank (blank_says b e) later))
 
-lists : (text front : List ℕ) → All (λ b. is_blank b ≡ false) front → ListsReferences (front ++ text) (words_of (front ++ text))
-lists [] front all =
-    let text : front ++ [] ≡ front = append-nil front in
-    let cut = slice_split_none is_blank front all in
-    subst (λ t. ListsReferences t (words_of t)) (sym text) (subst (λ l. ListsReferences front (filter is_not_empty l)) (sym cut) (before_end front all))
-lists (b ∷ text) front all =
+lists : (text prefix : List ℕ) → All (λ b. is_blank b ≡ false) prefix → ListsReferences (prefix ++ text) (words_of (prefix ++ text))
+lists [] prefix all =
+    let text : prefix ++ [] ≡ prefix = append-nil prefix in
+    let cut = slice_split_none is_blank prefix all in
+    subst (λ t. ListsReferences t (words_of t)) (sym text) (subst (λ l. ListsReferences prefix (filter is_not_empty l)) (sym cut) (before_end prefix all))
+lists (b ∷ text) prefix all =
     elim (cases_Bool (is_blank b)) [
-      | inl e ↦ subst (λ l. ListsReferences (front ++ b ∷ text) (filter is_not_empty l)) (sym (slice_split_at is_blank front b text all e))
-          (before_blank front b text (words_of text) all e (lists text [] (All-nil (λ c. is_blank c ≡ false))))
-      | inr e ↦ let longer = All-append (λ c. is_blank c ≡ false) front (b ∷ []) all (All-cons (λ c. is_blank c ≡ false) b [] e (All-nil (λ c. is_blank c ≡ false))) in
-          subst (λ t. ListsReferences t (words_of t)) (append_assoc front (b ∷ []) text) (lists text (front ++ b ∷ []) longer)
+      | inl e ↦ subst (λ l. ListsReferences (prefix ++ b ∷ text) (filter is_not_empty l)) (sym (slice_split_at is_blank prefix b text all e))
+          (before_blank prefix b text (words_of text) all e (lists text [] (All-nil (λ c. is_blank c ≡ false))))
+      | inr e ↦ let longer = All-append (λ c. is_blank c ≡ false) prefix (b ∷ []) all (All-cons (λ c. is_blank c ≡ false) b [] e (All-nil (λ c. is_blank c ≡ false))) in
+          subst (λ t. ListsReferences t (words_of t)) (append_assoc prefix (b ∷ []) text) (lists text (prefix ++ b ∷ []) longer)
     ]
 
-words_front : (word : List ℕ) → word ≢ [] → (words : List (List ℕ)) → kept word words ≡ word ∷ words
-words_front [] some words = absurd (some refl)
-words_front (b ∷ word) some words = some_kept b word words
+words_prefix : (word : List ℕ) → word ≢ [] → (words : List (List ℕ)) → kept word words ≡ word ∷ words
+words_prefix [] some words = absurd (some refl)
+words_prefix (b ∷ word) some words = some_kept b word words
 
 word_then : (word rest : List ℕ) → word ≢ [] → All (λ b. IsBlank b → ⊥) word → EndsReference rest → words_of (word ++ rest) ≡ word ∷ words_of rest
 word_then word [] some all ends =
     let fails : All (λ b. is_blank b ≡ false) word = λ k d below. blank_fails _ (all k d below) in
-    ap words_of (append-nil word) ∙ ap (filter is_not_empty) (slice_split_none is_blank word fails) ∙ words_front word some []
+    ap words_of (append-nil word) ∙ ap (filter is_not_empty) (slice_split_none is_blank word fails) ∙ words_prefix word some []
 word_then word (b ∷ rest) some all ends =
     let fails : All (λ b. is_blank b ≡ false) word = λ k d below. blank_fails _ (all k d below) in
-    ap (filter is_not_empty) (slice_split_at is_blank word b rest fails (blank_passes ends)) ∙ words_front word some (words_of rest)
+    ap (filter is_not_empty) (slice_split_at is_blank word b rest fails (blank_passes ends)) ∙ words_prefix word some (words_of rest)
     ∙ ap (λ l. word ∷ l) (sym (ap (filter is_not_empty) (slice_split-cons_yes is_blank b rest (blank_passes ends))))
 
 are_words : {text : List ℕ} {words : List (List ℕ)} → ListsReferences text words → words ≡ words_of text
@@ -99,8 +99,8 @@ references_listed text references = (λ e. subst (ListsReferences text) (sym e) 
 
 -- texts without the blanks at their ends
 
-skip_front : (blanks rest : List ℕ) → All IsBlank blanks → FailsFirst is_blank rest → skip_blanks (blanks ++ rest) ≡ rest
-skip_front blanks rest all other =
+skip_prefix : (blanks rest : List ℕ) → All IsBlank blanks → FailsFirst is_blank rest → skip_blanks (blanks ++ rest) ≡ rest
+skip_prefix blanks rest all other =
     let passes : All (λ b. is_blank b ≡ true) blanks = λ k d below. blank_passes (all k d below) in
     ap (λ n. drop n (blanks ++ rest)) (run_length is_blank blanks rest passes other) ∙ drop-append_seam blanks rest
 
@@ -122,21 +122,21 @@ trimmed_is text =
       before_blank = λ k d below. blank_says _ (start.passes k d below);
       after_blank = λ k d below. blank_says _ (end.passes k d below);
       no_first = no_first_blank (trimmed text) (first_kept (trimmed text) end.end (subst (FailsFirst is_blank) end.whole start.ends));
-      no_last = λ front b e is. no_blank b (end.fails front b e) is;
+      no_last = λ prefix b e is. no_blank b (end.fails prefix b e) is;
     }
 
 -- a text of blanks alone
 all_blank : (text : List ℕ) → All IsBlank text → trimmed text ≡ []
 all_blank text all =
-    let nothing : skip_blanks text ≡ [] = ap skip_blanks (sym (append-nil text)) ∙ skip_front text [] all tt in
+    let nothing : skip_blanks text ≡ [] = ap skip_blanks (sym (append-nil text)) ∙ skip_prefix text [] all tt in
     ap without_end_blanks nothing
 
 is_trimmed : (text kept : List ℕ) → IsWithoutBlanks text kept → trimmed text ≡ kept
 is_trimmed text [] h = ap trimmed h.whole ∙ all_blank (h.before ++ h.after) (All-append IsBlank h.before h.after h.before_blank h.after_blank)
 is_trimmed text (b ∷ kept) h =
     let after_passes : All (λ c. is_blank c ≡ true) h.after = λ k d below. blank_passes (h.after_blank k d below) in
-    let start = skip_front h.before ((b ∷ kept) ++ h.after) h.before_blank (blank_fails b (h.no_first b kept refl)) in
-    ap trimmed h.whole ∙ ap without_end_blanks start ∙ kept_is is_blank (b ∷ kept) (λ front c e. blank_fails c (h.no_last front c e)) h.after after_passes
+    let start = skip_prefix h.before ((b ∷ kept) ++ h.after) h.before_blank (blank_fails b (h.no_first b kept refl)) in
+    ap trimmed h.whole ∙ ap without_end_blanks start ∙ kept_is is_blank (b ∷ kept) (λ prefix c e. blank_fails c (h.no_last prefix c e)) h.after after_passes
 
 -- flags
 
@@ -162,24 +162,24 @@ no_comma text lacks = λ k d below. ne_eqb _ 44 (lacks k d below)
 abbrev flags_in : List (List ℕ) → List (List ℕ)
 flags_in texts = filter is_not_empty (map trimmed texts)
 
-list_flags : (text front : List ℕ) → All (λ b. is_comma b ≡ false) front → ListsFlags (front ++ text) (flag_words (front ++ text))
-list_flags [] front all =
-    let text : front ++ [] ≡ front = append-nil front in
-    let cut = slice_split_none is_comma front all in
-    subst (λ t. ListsFlags t (flag_words t)) (sym text) (subst (λ l. ListsFlags front (flags_in l)) (sym cut) (last (lacks_comma front all) (names front)))
-list_flags (b ∷ text) front all =
+list_flags : (text prefix : List ℕ) → All (λ b. is_comma b ≡ false) prefix → ListsFlags (prefix ++ text) (flag_words (prefix ++ text))
+list_flags [] prefix all =
+    let text : prefix ++ [] ≡ prefix = append-nil prefix in
+    let cut = slice_split_none is_comma prefix all in
+    subst (λ t. ListsFlags t (flag_words t)) (sym text) (subst (λ l. ListsFlags prefix (flags_in l)) (sym cut) (last (lacks_comma prefix all) (names prefix)))
+list_flags (b ∷ text) prefix all =
     elim (cases_Bool (is_comma b)) [
       | inl e ↦ let later = list_flags text [] (All-nil (λ c. is_comma c ≡ false)) in
-          let here = more (lacks_comma front all) (names front) later in
-          subst (λ l. ListsFlags (front ++ b ∷ text) (flags_in l)) (sym (slice_split_at is_comma front b text all e))
-          (subst (λ a. ListsFlags (front ++ a ∷ text) (kept (trimmed front) (flag_words text))) (sym (comma_says b e)) (subst (ListsFlags (front ++ 44 ∷ text)) (kept_append (trimmed front) (flag_words text)) here))
-      | inr e ↦ let longer = All-append (λ c. is_comma c ≡ false) front (b ∷ []) all (All-cons (λ c. is_comma c ≡ false) b [] e (All-nil (λ c. is_comma c ≡ false))) in
-          subst (λ t. ListsFlags t (flag_words t)) (append_assoc front (b ∷ []) text) (list_flags text (front ++ b ∷ []) longer)
+          let here = more (lacks_comma prefix all) (names prefix) later in
+          subst (λ l. ListsFlags (prefix ++ b ∷ text) (flags_in l)) (sym (slice_split_at is_comma prefix b text all e))
+          (subst (λ a. ListsFlags (prefix ++ a ∷ text) (kept (trimmed prefix) (flag_words text))) (sym (comma_says b e)) (subst (ListsFlags (prefix ++ 44 ∷ text)) (kept_append (trimmed prefix) (flag_words text)) here))
+      | inr e ↦ let longer = All-append (λ c. is_comma c ≡ false) prefix (b ∷ []) all (All-cons (λ c. is_comma c ≡ false) b [] e (All-nil (λ c. is_comma c ≡ false))) in
+          subst (λ t. ListsFlags t (flag_words t)) (append_assoc prefix (b ∷ []) text) (list_flags text (prefix ++ b ∷ []) longer)
     ]
 
 named_is : {text : List ℕ} {here : List (List ℕ)} → NamesFlag text here → here ≡ kept (trimmed text) []
 named_is (no_flag {text = text} h) = ap (λ w. kept w []) (sym (is_trimmed text [] h))
-named_is (flag {text = text} {kept = word} some h) = sym (words_front word some []) ∙ ap (λ w. kept w []) (sym (is_trimmed text word h))
+named_is (flag {text = text} {kept = word} some h) = sym (words_prefix word some []) ∙ ap (λ w. kept w []) (sym (is_trimmed text word h))
 
 are_flags : {text : List ℕ} {flags : List (List ℕ)} → ListsFlags text flags → flags ≡ flag_words text
 are_flags (last {text = text} lacks here) = named_is here ∙ sym (ap flags_in (slice_split_none is_comma text (no_comma text lacks)))

@@ -23,7 +23,7 @@ pub record IsWithoutBlanks (text kept : List ℕ) : Type 0 where
   pub before_blank : All IsBlank before
   pub after_blank : All IsBlank after
   pub no_first : (b : ℕ) (rest : List ℕ) → kept ≡ b ∷ rest → IsBlank b → ⊥
-  pub no_last : (front : List ℕ) (b : ℕ) → kept ≡ front ++ b ∷ [] → IsBlank b → ⊥
+  pub no_last : (prefix : List ℕ) (b : ℕ) → kept ≡ prefix ++ b ∷ [] → IsBlank b → ⊥
 
 -- what a text between two commas names: a flag, or nothing
 pub data NamesFlag : List ℕ → List (List ℕ) → Type 0 where

@@ -13,16 +13,16 @@ use Rattle.po_shell.proofs.SubstitutionLemmas.{plain, not-replaced, replaced as 
 -- where a byte is no `$`, it begins no reference
 not_dollar : (b : ℕ) (text name rest : List ℕ) → eqb b 36 ≡ false → SpellsReference (b ∷ text) name rest → ⊥
 not_dollar b text name rest other h = let read = reference_read h in let same : b ≡ 36 = dollar_first read.dollar in eqb-false b 36 other same where
-  dollar_first : {behind : List ℕ} → b ∷ text ≡ 36 ∷ behind → b ≡ 36
+  dollar_first : {bytes : List ℕ} → b ∷ text ≡ 36 ∷ bytes → b ≡ 36
   dollar_first e = cc
 
--- what is read behind a `$` of a spelt reference
-read_behind : (text name rest : List ℕ) → SpellsReference (36 ∷ text) name rest → (size : ℕ) × (reference_behind text ≡ Some (record { name = name; size = size })) × (drop size text ≡ rest)
-read_behind text name rest h =
+-- what is read after a `$` of a spelt reference
+read_after : (text name rest : List ℕ) → SpellsReference (36 ∷ text) name rest → (size : ℕ) × (reference_behind text ≡ Some (record { name = name; size = size })) × (drop size text ≡ rest)
+read_after text name rest h =
     let read = reference_read h in
-    let same = behind_same read.dollar in (read.size, ap reference_behind same ∙ read.read, ap (drop read.size) same ∙ read.after) where
-      behind_same : {behind : List ℕ} → 36 ∷ text ≡ 36 ∷ behind → text ≡ behind
-      behind_same e = cc
+    let same = bytes_same read.dollar in (read.size, ap reference_behind same ∙ read.read, ap (drop read.size) same ∙ read.after) where
+      bytes_same : {bytes : List ℕ} → 36 ∷ text ≡ 36 ∷ bytes → text ≡ bytes
+      bytes_same e = cc
 
 -- how a spelt reference is replaced
 replacement_some : (values : Values) (text name value : List ℕ) (size : ℕ) → reference_behind text ≡ Some (record { name = name; size = size }) → values name ≡ Some value → replacement_of values (reference_behind text) ≡ Some (record { value = value; size = size })
@@ -34,7 +34,7 @@ some_is_none x e = cc
 
 begins_none : (values : Values) (text : List ℕ) → replacement_of values (reference_behind text) ≡ None → BeginsNoReplaced values (36 ∷ text)
 begins_none values text none name value rest h is =
-    let read = read_behind text name rest h in some_is_none _ (sym (replacement_some values text name value read.0 read.1 is) ∙ none)
+    let read = read_after text name rest h in some_is_none _ (sym (replacement_some values text name value read.0 read.1 is) ∙ none)
 
 -- a replacement is that of a spelt reference
 record IsSpelt (values : Values) (text : List ℕ) (r : Replacement) : Type 0 where
@@ -93,7 +93,7 @@ replaced_step : (values : Values) (text name value rest : List ℕ) → SpellsRe
 replaced_step values text name value rest h is =
     let read = reference_read h in
     ap (substitution values) read.dollar
-    ∙ is-replaced values read.behind (record { value = value; size = read.size }) (replacement_some values read.behind name value read.size read.read is)
+    ∙ is-replaced values read.bytes (record { value = value; size = read.size }) (replacement_some values read.bytes name value read.size read.read is)
     ∙ ap (λ l. value ++ substitution values l) read.after
 
 is_substitution : {values : Values} {text result : List ℕ} → Replaces values text result → result ≡ substitution values text
@@ -107,7 +107,7 @@ pub references_replaced : (values : Values) (text result : List ℕ) → (result
 references_replaced values text result = (λ e. subst (Replaces values text) (sym e) (after values text 0), λ h. is_substitution h)
 
 dollar_names : (b : ℕ) (text : List ℕ) (names : List (List ℕ)) → b ≡ 36 → (o : Option Reference) → reference_behind text ≡ o → HoldsNames text names → HoldsNames (b ∷ text) (cons_option (option_map (λ r. r.name) o) names)
-dollar_names b text names is None e more = no_reference (subst (λ a. (name rest : List ℕ) → SpellsReference (a ∷ text) name rest → ⊥) (sym is) (λ name rest h. some_is_none _ (sym (read_behind text name rest h).1 ∙ e))) more
+dollar_names b text names is None e more = no_reference (subst (λ a. (name rest : List ℕ) → SpellsReference (a ∷ text) name rest → ⊥) (sym is) (λ name rest h. some_is_none _ (sym (read_after text name rest h).1 ∙ e))) more
 dollar_names b text names is (Some r) e more = reference (subst (λ a. SpellsReference (a ∷ text) r.name (drop r.size text)) (sym is) (reference_spelt text r e)) more
 
 names_held : (text : List ℕ) → HoldsNames text (names_in text)
@@ -124,10 +124,10 @@ names_held (b ∷ text) =
 names_read : (b : ℕ) (text name rest : List ℕ) → SpellsReference (b ∷ text) name rest → (size : ℕ) × (b ≡ 36) × (reference_behind text ≡ Some (record { name = name; size = size }))
 names_read b text name rest h =
     let read = reference_read h in (read.size, first read.dollar, ap reference_behind (others read.dollar) ∙ read.read) where
-      first : {behind : List ℕ} → b ∷ text ≡ 36 ∷ behind → b ≡ 36
+      first : {bytes : List ℕ} → b ∷ text ≡ 36 ∷ bytes → b ≡ 36
       first e = cc
 
-      others : {behind : List ℕ} → b ∷ text ≡ 36 ∷ behind → text ≡ behind
+      others : {bytes : List ℕ} → b ∷ text ≡ 36 ∷ bytes → text ≡ bytes
       others e = cc
 
 -- the names of a text with one more byte, by what is read at it

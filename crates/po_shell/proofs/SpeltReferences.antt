@@ -84,11 +84,11 @@ name_some (b ∷ bytes) h none = cc
 
 -- what is read of a spelt reference
 pub record IsRead (text name rest : List ℕ) : Type 0 where
-  pub behind : List ℕ
+  pub bytes : List ℕ
   pub size : ℕ
-  pub dollar : text ≡ 36 ∷ behind
-  pub read : reference_behind behind ≡ Some (record { name = name; size = size })
-  pub after : drop size behind ≡ rest
+  pub dollar : text ≡ 36 ∷ bytes
+  pub read : reference_behind bytes ≡ Some (record { name = name; size = size })
+  pub after : drop size bytes ≡ rest
 
 bare_read : (name rest : List ℕ) → IsName name → NoNameGoesOn rest → reference_behind (name ++ rest) ≡ Some (record { name = name; size = length name })
 bare_read name [] h ended = ending-some name (name_begun name h) (name_some name h)
@@ -96,14 +96,14 @@ bare_read name (b ∷ rest) h ended = ends name b rest (name_begun name h) (name
 
 pub reference_read : {text name rest : List ℕ} → SpellsReference text name rest → IsRead text name rest
 reference_read (bare {name = name} {rest = rest} h ended) = record {
-  behind = name ++ rest;
+  bytes = name ++ rest;
   size = length name;
   dollar = refl;
   read = bare_read name rest h ended;
   after = drop_at name rest (length name) refl;
 }
 reference_read (braced {name = name} {rest = rest} h) = record {
-  behind = 123 ∷ (name ++ 125 ∷ rest);
+  bytes = 123 ∷ (name ++ 125 ∷ rest);
   size = length name + 2;
   dollar = refl;
   read = closes name rest (name_begun name h) (name_some name h);

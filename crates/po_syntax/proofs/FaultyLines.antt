@@ -1,26 +1,25 @@
 -- A line is read up to its first fault.
-use Rattle.std.proofs.Common.{◌≡◌, ◌≢◌, ◌⊎◌, ◌==◌, ◌∙◌, refl, sym, ap, subst, ℕ, suc, ◌+◌, ◌^◌, ◌<◌, ◌≤◌, Bool, true, false, nat_lt, List, [], ◌∷◌, ◌++◌, take, drop, length, codes, bytes_eq, None, All, arith}
+use Rattle.std.proofs.Common.{◌≡◌, ◌≢◌, ◌⊎◌, ◌==◌, ◌∙◌, refl, sym, ap, subst, ℕ, ◌^◌, ◌<◌, ◌≤◌, true, false, List, [], ◌∷◌, ◌++◌, drop, length, codes, bytes_eq, None, All, arith}
 use Rattle.std.specs.Char.{digit_value, is_digit}
-use Rattle.std.specs.List.{list_all, prefix_len}
+use Rattle.std.specs.List.{list_all}
 use Rattle.std.specs.Str.Parse.{IsNumeral, digits_value}
 use Rattle.std.proofs.Math.Seq.{take-append_seam, drop-append_seam}
 use Rattle.std.proofs.lemmas.Bool.{and_from, cond-true, cond-false, ne_eqb, lt-ltb, le-ltb, ltb-true, false_from_ne_true}
 use Rattle.std.proofs.lemmas.List.Elements.{All-head, All-tail}
 use Rattle.std.proofs.lemmas.Slice.Eq.{bytes_eq-Decides}
 use Rattle.po_syntax.specs.declared.fault.PoFault.{PoFault}
-use Rattle.po_syntax.specs.declared.fault.PoFault.TheVariants.{UnterminatedString, BadEscape, ForbiddenByte, BadToken, BadPluralIndex}
-use Rattle.po_syntax.specs.declared.item.Keyword.TheVariants.{MsgStr}
+use Rattle.po_syntax.specs.declared.fault.PoFault.TheVariants.{UnterminatedString, BadEscape, BadToken, BadPluralIndex}
 use Rattle.po_syntax.specs.Escapes.{NoDigitFirst}
 use Rattle.po_syntax.specs.Line as line
 use Rattle.po_syntax.specs.Line.{Tokens, NoShape, note_shape, obsolete_shape, tilde_shape, hash_shape, first_shape, shape_of, TokensStop, halt, after_word, LineStops, no_shape, in_tokens}
 use Rattle.po_syntax.specs.LineFaults.{StartsEscape, octal_digit, hexadecimal, alert, backspace, form_feed, line_feed, carriage_return, tab, vertical_tab, backslash, quote, NumberFault, nul, large, EscapeFault, at_end, no_escape, octal, no_digit, hexadecimal_digits, StringFault, not_closed, in_escape, after_plain, after_escape, BeginsWithNoBlank, NoBracketFirst, IsNoKeyword, KeywordFault, no_keyword, no_index, large_index, not_closed_index, TokensFault, no_token, blank, in_keyword, in_string, after_keyword, after_string, BeginsTokens, BeginsWithNoBar, LineFault, indented, previous_again, obsolete_again, live, previous, obsolete, obsolete_previous}
-use Rattle.po_syntax.specs.QuotedString.{Step, Stop, digit_count, numbered, number_step, letter_value, letter_step, escape_at, step_at, QuotedStops, here, later}
+use Rattle.po_syntax.specs.QuotedString.{Stop, numbered, number_step, letter_value, letter_step, escape_at, step_at, QuotedStops, here, later}
 use Rattle.po_syntax.specs.Runs.{FailsFirst}
 use Rattle.po_syntax.specs.Spelling.{IsBlank, IsWordByte, EndsWord, marked}
-use Rattle.po_syntax.specs.Token.{Token, Key, Halt, is_blank, is_word_byte, skip_blanks, close_token, index_token, bracket_token, keyword_token, word_token, first_token, token_at}
+use Rattle.po_syntax.specs.Token.{Halt, is_blank, is_word_byte, skip_blanks, close_token, index_token, bracket_token, keyword_token, first_token, token_at}
 use Rattle.po_syntax.proofs.SpeltEscapes.{count_front, count_all, plain_read, backslash_read, spelt_quoted}
-use Rattle.po_syntax.proofs.SpeltKeywords.{blank_passes, blank_says, word_byte_says, word_byte_passes, skips, skip_front, keyword_read, m_read, word_front, ends_before_bracket, blank_no_word, digits_no_blank}
-use Rattle.po_syntax.proofs.SpeltLines.{quote_opens, blank_skipped, hash_first, bar_first, tilde_first, tilde_bar_first, obsolete_hash, tilde_comment}
+use Rattle.po_syntax.proofs.SpeltKeywords.{blank_says, word_byte_says, word_byte_passes, skip_prefix, keyword_read, m_read, word_prefix, ends_before_bracket, blank_no_word, digits_no_blank}
+use Rattle.po_syntax.proofs.SpeltLines.{quote_opens, blank_skipped, hash_first, bar_first, tilde_first, tilde_bar_first, tilde_comment}
 
 -- escapes
 
@@ -110,16 +109,16 @@ word_token_at b word rest all ends =
     let no_blank : is_blank b ≡ false = false_from_ne_true (is_blank b) (λ e. blank_no_word (blank_says b e) is_word) in
     let no_quote : (b == 34) ≡ false = ne_eqb b 34 (λ is. quote_no_word (subst IsWordByte is is_word)) in
     ap first_token (ap (λ n. drop n (b ∷ (word ++ rest))) (cond-false (is_blank b) _ 0 no_blank))
-    ∙ cond-false (b == 34) _ _ no_quote ∙ cond-true (is_word_byte b) _ _ (word_byte_passes is_word) ∙ word_front (b ∷ word) rest (all_word (b ∷ word) all) ends where
-  quote_no_word : IsWordByte 34 → ⊥
-  quote_no_word is = let t = word_byte_passes is in cc
+    ∙ cond-false (b == 34) _ _ no_quote ∙ cond-true (is_word_byte b) _ _ (word_byte_passes is_word) ∙ word_prefix (b ∷ word) rest (all_word (b ∷ word) all) ends where
+      quote_no_word : IsWordByte 34 → ⊥
+      quote_no_word is = let t = word_byte_passes is in cc
 
 opened : {fault : PoFault} (before inside index : List ℕ) → All IsBlank before → All IsBlank inside → FailsFirst is_blank index → index_token index ≡ Halt fault
     → token_at (codes "msgstr" ++ (before ++ 91 ∷ (inside ++ index))) ≡ Halt fault
 unfolding keyword_token
 opened before inside index p q first stops =
     m_read (codes "sgstr") (before ++ 91 ∷ (inside ++ index)) refl (ends_before_bracket before (inside ++ index) p)
-    ∙ ap (bracket_token (before ++ 91 ∷ (inside ++ index))) (skip_front before (91 ∷ (inside ++ index)) p refl) ∙ ap index_token (skip_front inside index q first) ∙ stops
+    ∙ ap (bracket_token (before ++ 91 ∷ (inside ++ index))) (skip_prefix before (91 ∷ (inside ++ index)) p refl) ∙ ap index_token (skip_prefix inside index q first) ∙ stops
 
 no_index_stops : (rest : List ℕ) → NoDigitFirst 10 rest → index_token rest ≡ Halt BadToken
 unfolding index_token
@@ -143,7 +142,7 @@ open_stops : (digits after rest : List ℕ) → IsNumeral 10 digits → NoDigitF
 unfolding index_token
 open_stops digits after rest numeral none fits all other =
     let some = ne_eqb (length digits) 0 (λ same. omega (arith, same, numeral.0)) in
-    rw (count_all 10 digits (after ++ rest) numeral.1 none, some, take-append_seam digits (after ++ rest), drop-append_seam digits (after ++ rest), lt-ltb (digits_value 10 digits) (2 ^ 32) fits, skip_front after rest all (bracket_fails rest other))
+    rw (count_all 10 digits (after ++ rest) numeral.1 none, some, take-append_seam digits (after ++ rest), drop-append_seam digits (after ++ rest), lt-ltb (digits_value 10 digits) (2 ^ 32) fits, skip_prefix after rest all (bracket_fails rest other))
     (not_closing (digits_value 10 digits) rest other)
 
 keyword_stops : {text : List ℕ} {fault : PoFault} → KeywordFault text fault → token_at text ≡ Halt fault
@@ -186,7 +185,7 @@ begins_fails [] h = tt
 begins_fails (b ∷ text) h = false_from_ne_true (is_blank b) (λ e. h.0 (blank_says b e))
 
 nothing_skipped : (text : List ℕ) → BeginsTokens text → skip_blanks text ≡ text
-nothing_skipped text h = skip_front [] text (λ k d below. absurd (omega (arith, below))) (begins_fails text h)
+nothing_skipped text h = skip_prefix [] text (λ k d below. absurd (omega (arith, below))) (begins_fails text h)
 
 live_shape : (text : List ℕ) → BeginsTokens text → first_shape text ≡ Tokens (marked false false) text
 unfolding first_shape
@@ -213,5 +212,5 @@ line_stops (live {text = text} first h) = in_tokens (ap first_shape (nothing_ski
 line_stops (previous {text = text} h) = in_tokens (hash_first (124 ∷ text) ∙ bar_first text) (tokens_stop h)
 line_stops (obsolete blanks {text = text} all first no_bar h) =
     let whole = blanks ++ text in
-    in_tokens (hash_first (126 ∷ whole) ∙ tilde_first whole ∙ tilde_other whole no_bar ∙ ap obsolete_shape (skip_front blanks text all (begins_fails text first)) ∙ obsolete_tokens text first) (tokens_stop h)
+    in_tokens (hash_first (126 ∷ whole) ∙ tilde_first whole ∙ tilde_other whole no_bar ∙ ap obsolete_shape (skip_prefix blanks text all (begins_fails text first)) ∙ obsolete_tokens text first) (tokens_stop h)
 line_stops (obsolete_previous {text = text} h) = in_tokens (hash_first (126 ∷ 124 ∷ text) ∙ tilde_first (124 ∷ text) ∙ tilde_bar_first text) (tokens_stop h)

@@ -84,8 +84,8 @@ skips text =
       other = parts.ends;
     }
 
-pub skip_front : (blanks rest : List ℕ) → All IsBlank blanks → FailsFirst is_blank rest → skip_blanks (blanks ++ rest) ≡ rest
-skip_front blanks rest all other =
+pub skip_prefix : (blanks rest : List ℕ) → All IsBlank blanks → FailsFirst is_blank rest → skip_blanks (blanks ++ rest) ≡ rest
+skip_prefix blanks rest all other =
     ap (λ n. drop n (blanks ++ rest)) (run_length is_blank blanks rest (blanks_pass blanks all) other) ∙ drop-append_seam blanks rest
 
 ends_fails : (rest : List ℕ) → EndsWord rest → FailsFirst is_word_byte rest
@@ -96,15 +96,15 @@ fails_ends : (rest : List ℕ) → FailsFirst is_word_byte rest → EndsWord res
 fails_ends [] h = tt
 fails_ends (b ∷ rest) h = λ is. both_ways (is_word_byte b) h (word_byte_passes is)
 
-pub word_front : (word rest : List ℕ) → list_all is_word_byte word ≡ true → EndsWord rest → word_token (word ++ rest) ≡ keyword_token word rest
-word_front word rest all ends =
+pub word_prefix : (word rest : List ℕ) → list_all is_word_byte word ≡ true → EndsWord rest → word_token (word ++ rest) ≡ keyword_token word rest
+word_prefix word rest all ends =
     let count = run_length is_word_byte word rest (all_pass is_word_byte word all) (ends_fails rest ends) in
     rw (count, take-append_seam word rest, drop-append_seam word rest) refl
 
 -- a word that begins with `m`
 pub m_read : (word rest : List ℕ) → list_all is_word_byte (109 ∷ word) ≡ true → EndsWord rest → token_at ((109 ∷ word) ++ rest) ≡ keyword_token (109 ∷ word) rest
 unfolding first_token
-m_read word rest all ends = word_front (109 ∷ word) rest all ends
+m_read word rest all ends = word_prefix (109 ∷ word) rest all ends
 
 pub blank_no_word : {b : ℕ} → IsBlank b → IsWordByte b → ⊥
 blank_no_word {b} blank is = both_ways (is_word_byte b) (no_word blank) (word_byte_passes is) where
@@ -153,14 +153,14 @@ index_read digits after rest numeral fits all =
     let closing = after ++ 93 ∷ rest in
     let count = count_all 10 digits closing numeral.1 (no_digit_before_bracket after rest all) in
     let some = ne_eqb (length digits) 0 (λ same. omega (arith, same, numeral.0)) in
-    rw (count, some, take-append_seam digits closing, drop-append_seam digits closing, lt-ltb (digits_value 10 digits) (2 ^ 32) fits, skip_front after (93 ∷ rest) all refl) refl
+    rw (count, some, take-append_seam digits closing, drop-append_seam digits closing, lt-ltb (digits_value 10 digits) (2 ^ 32) fits, skip_prefix after (93 ∷ rest) all refl) refl
 
 form_read : (before inside digits after rest : List ℕ) → All IsBlank before → All IsBlank inside → IsNumeral 10 digits → digits_value 10 digits < 2 ^ 32 → All IsBlank after
     → bracket_token (before ++ 91 ∷ (inside ++ (digits ++ (after ++ 93 ∷ rest)))) (skip_blanks (before ++ 91 ∷ (inside ++ (digits ++ (after ++ 93 ∷ rest))))) ≡ Key (MsgStrAt (digits_value 10 digits)) rest
 form_read before inside digits after rest p q numeral fits r =
     let index = digits ++ (after ++ 93 ∷ rest) in
-    ap (bracket_token (before ++ 91 ∷ (inside ++ index))) (skip_front before (91 ∷ (inside ++ index)) p refl)
-    ∙ ap index_token (skip_front inside index q (digits_no_blank digits (after ++ 93 ∷ rest) numeral)) ∙ index_read digits after rest numeral fits r
+    ap (bracket_token (before ++ 91 ∷ (inside ++ index))) (skip_prefix before (91 ∷ (inside ++ index)) p refl)
+    ∙ ap index_token (skip_prefix inside index q (digits_no_blank digits (after ++ 93 ∷ rest) numeral)) ∙ index_read digits after rest numeral fits r
 
 pub keyword_read : {text rest : List ℕ} {word : Keyword} → SpellsKeyword text word rest → token_at text ≡ Key word rest
 unfolding keyword_token
@@ -183,7 +183,7 @@ if_says : (text : List ℕ) (test : Bool) (s t : Token) → (test ≡ true → T
 if_says text true s t p q = p refl
 if_says text false s t p q = q refl
 
--- behind `msgstr`, blanks and a bracket, with blanks before the index
+-- after `msgstr`, blanks and a bracket, with blanks before the index
 record IsOpened (whole before inside index : List ℕ) : Type 0 where
   text : whole ≡ codes "msgstr" ++ (before ++ 91 ∷ (inside ++ index))
   before_blank : All IsBlank before
@@ -216,7 +216,7 @@ index_says whole before inside index opened =
     (λ _. tt))
 
 no_bracket_from : (rest after : List ℕ) → skip_blanks rest ≡ after → ((inside : List ℕ) → after ≡ 91 ∷ inside → ⊥) → HasNoBracket rest
-no_bracket_from rest after is none blanks inside all e = none inside (sym is ∙ ap skip_blanks e ∙ skip_front blanks (91 ∷ inside) all refl)
+no_bracket_from rest after is none blanks inside all e = none inside (sym is ∙ ap skip_blanks e ∙ skip_prefix blanks (91 ∷ inside) all refl)
 
 bracket_says : (whole rest : List ℕ) → whole ≡ codes "msgstr" ++ rest → EndsWord rest → (before after : List ℕ) → skip_blanks rest ≡ after → rest ≡ before ++ after → All IsBlank before → TokenSays whole (bracket_token rest after)
 bracket_says whole rest text ends before [] is parts all =

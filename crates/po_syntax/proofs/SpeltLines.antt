@@ -16,15 +16,15 @@ use Rattle.po_syntax.specs.TextItem.{TextItem, Comment, Str}
 use Rattle.po_syntax.specs.Token.{Token, Nothing, Open, Key, Halt, is_blank, skip_blanks, first_token, token_at}
 use Rattle.po_syntax.proofs.Escapes.{quoted_spelt}
 use Rattle.po_syntax.proofs.SpeltEscapes.{spelt_quoted}
-use Rattle.po_syntax.proofs.SpeltKeywords.{blank_passes, skips, skip_front, keyword_read, TokenSays, first_says}
+use Rattle.po_syntax.proofs.SpeltKeywords.{blank_passes, skips, skip_prefix, keyword_read, TokenSays, first_says}
 
 -- blanks before tokens
 after_blanks : {marks : Marks} {number : ℕ} {items : List TextItem} (blanks text : List ℕ) → All IsBlank blanks → HoldsTokens marks number text items → HoldsTokens marks number (blanks ++ text) items
 after_blanks [] text all h = h
 after_blanks (b ∷ blanks) text all h = blank (All-head IsBlank b blanks all) (after_blanks blanks text (All-tail IsBlank b blanks all) h)
 
-behind_blanks : {marks : Marks} {number : ℕ} {items : List TextItem} (text : List ℕ) → HoldsTokens marks number (skip_blanks text) items → HoldsTokens marks number text items
-behind_blanks {marks} {number} {items} text h =
+after_skipped : {marks : Marks} {number : ℕ} {items : List TextItem} (text : List ℕ) → HoldsTokens marks number (skip_blanks text) items → HoldsTokens marks number text items
+after_skipped {marks} {number} {items} text h =
     let parts = skips text in
     subst (λ t. HoldsTokens marks number t items) parts.whole (after_blanks parts.blanks (skip_blanks text) parts.are_blanks h)
 
@@ -32,12 +32,12 @@ says_at : (text : List ℕ) (token : Token) → token_at text ≡ token → Toke
 says_at text token e = subst (TokenSays (skip_blanks text)) e (first_says (skip_blanks text))
 
 tokens_hold : {marks : Marks} {number : ℕ} {text : List ℕ} {items : List TextItem} → SpellsTokens marks number text items → HoldsTokens marks number text items
-tokens_hold {marks} {number} (none {text = text} e) = behind_blanks text (subst (λ t. HoldsTokens marks number t []) (sym (says_at text Nothing e)) end)
-tokens_hold (word {text = text} {rest = rest} {keyword = key} e more) = behind_blanks text (keyword (says_at text (Key key rest) e) (tokens_hold more))
+tokens_hold {marks} {number} (none {text = text} e) = after_skipped text (subst (λ t. HoldsTokens marks number t []) (sym (says_at text Nothing e)) end)
+tokens_hold (word {text = text} {rest = rest} {keyword = key} e more) = after_skipped text (keyword (says_at text (Key key rest) e) (tokens_hold more))
 tokens_hold {marks} {number} (line.string {text = text} {inner = inner} {bytes = bytes} {rest = rest} {items = items} e quoted more) =
     let spelt = Str bytes marks number ∷ items in
     let read : HoldsTokens marks number (34 ∷ inner) spelt = string (quoted_spelt quoted) (tokens_hold more) in
-    behind_blanks text (subst (λ t. HoldsTokens marks number t spelt) (sym (says_at text (Open inner) e)) read)
+    after_skipped text (subst (λ t. HoldsTokens marks number t spelt) (sym (says_at text (Open inner) e)) read)
 
 -- a text whose first token is that of another spells the same tokens
 same_tokens : {marks : Marks} {number : ℕ} {text other : List ℕ} {items : List TextItem} → token_at text ≡ token_at other → SpellsTokens marks number other items → SpellsTokens marks number text items
@@ -180,8 +180,8 @@ indented_all : {number : ℕ} {items : List TextItem} (blanks text : List ℕ) �
 indented_all [] text all h = h
 indented_all (b ∷ blanks) text all h = indented (All-head IsBlank b blanks all) (indented_all blanks text (All-tail IsBlank b blanks all) h)
 
-behind_indent : {number : ℕ} {items : List TextItem} (text : List ℕ) → HoldsItems number (skip_blanks text) items → HoldsItems number text items
-behind_indent {number} {items} text h =
+after_indent : {number : ℕ} {items : List TextItem} (text : List ℕ) → HoldsItems number (skip_blanks text) items → HoldsItems number text items
+after_indent {number} {items} text h =
     let parts = skips text in
     subst (λ t. HoldsItems number t items) parts.whole (indented_all parts.blanks (skip_blanks text) parts.are_blanks h)
 
@@ -189,8 +189,8 @@ line_says : (text : List ℕ) (shape : Shape) → shape_of text ≡ shape → Sh
 line_says text shape e = subst (ShapeSays (skip_blanks text)) e (shape_says (skip_blanks text))
 
 pub line_holds : {number : ℕ} {text : List ℕ} {items : List TextItem} → SpellsLine number text items → HoldsItems number text items
-line_holds {number} (line.comment {text = text} {rest = rest} {kind = kind} e) = behind_indent text (line_says text (Note kind rest) e number)
-line_holds {number} (line.tokens {text = text} {rest = rest} {marks = marks} {items = items} e more) = behind_indent text (line_says text (Tokens marks rest) e number items (tokens_hold more))
+line_holds {number} (line.comment {text = text} {rest = rest} {kind = kind} e) = after_indent text (line_says text (Note kind rest) e number)
+line_holds {number} (line.tokens {text = text} {rest = rest} {marks = marks} {items = items} e more) = after_indent text (line_says text (Tokens marks rest) e number items (tokens_hold more))
 
 -- a line whose shape is that of another spells the same items
 same_line : {number : ℕ} {text other : List ℕ} {items : List TextItem} → shape_of text ≡ shape_of other → SpellsLine number other items → SpellsLine number text items
@@ -244,7 +244,7 @@ unfolding tilde_shape
 tilde_comment [] text all = obsolete_hash text
 tilde_comment (b ∷ blanks) text all =
     cond-false (b == 124) (Tokens (marked true true) (blanks ++ 35 ∷ text)) _ (blank_no_bar (All-head IsBlank b blanks all))
-    ∙ ap obsolete_shape (skip_front (b ∷ blanks) (35 ∷ text) all refl) ∙ obsolete_hash text
+    ∙ ap obsolete_shape (skip_prefix (b ∷ blanks) (35 ∷ text) all refl) ∙ obsolete_hash text
 
 -- tokens begin with no `#` and no `|`
 wrong_first : (b : ℕ) (text : List ℕ) → (b ≡ 35) → token_at (b ∷ text) ≡ Halt BadToken
@@ -256,9 +256,9 @@ unfolding first_token
 wrong_bar b text is = ap (λ a. token_at (a ∷ text)) is
 
 skipped_twice : (text : List ℕ) → skip_blanks (skip_blanks text) ≡ skip_blanks text
-skipped_twice text = skip_front [] (skip_blanks text) (λ k d below. absurd (omega (arith, below))) (skips text).other
+skipped_twice text = skip_prefix [] (skip_blanks text) (λ k d below. absurd (omega (arith, below))) (skips text).other
 
--- tokens are read behind blanks
+-- tokens are read after blanks
 tokens_skipped : {marks : Marks} {number : ℕ} {text : List ℕ} {items : List TextItem} → SpellsTokens marks number text items → SpellsTokens marks number (skip_blanks text) items
 tokens_skipped {text = text} h = same_tokens (ap first_token (skipped_twice text)) h
 

@@ -8,7 +8,7 @@ use Rattle.po_syntax.specs.declared.item.Keyword.{Keyword}
 use Rattle.po_syntax.specs.Escapes.{NoDigitFirst, SpellsEscape, SpellsString}
 use Rattle.po_syntax.specs.Spelling.{IsBlank, IsWordByte, EndsWord, SpellsKeyword}
 
--- what an escape begins with, behind its backslash
+-- what an escape begins with, after its backslash
 pub data StartsEscape : ℕ → Type 0 where
   octal_digit : {b : ℕ} → digit_value b < 8 → StartsEscape b
   hexadecimal : StartsEscape 120
@@ -27,7 +27,7 @@ pub data NumberFault : ℕ → PoFault → Type 0 where
   nul : NumberFault 0 ForbiddenByte
   large : {number : ℕ} → 256 ≤ number → NumberFault number BadEscape
 
--- behind a backslash no escape stands, or that of a byte that a string may not hold
+-- after a backslash no escape stands, or that of a byte that a string may not hold
 pub data EscapeFault : List ℕ → PoFault → Type 0 where
   at_end : EscapeFault [] BadEscape
   no_escape : {b : ℕ} {text : List ℕ} → (StartsEscape b → ⊥) → EscapeFault (b ∷ text) BadEscape
@@ -35,7 +35,7 @@ pub data EscapeFault : List ℕ → PoFault → Type 0 where
   no_digit : {rest : List ℕ} → NoDigitFirst 16 rest → EscapeFault (120 ∷ rest) BadEscape
   hexadecimal_digits : (digits rest : List ℕ) {fault : PoFault} → IsNumeral 16 digits → NoDigitFirst 16 rest → NumberFault (digits_value 16 digits) fault → EscapeFault (120 ∷ digits ++ rest) fault
 
--- behind an opening quote an escape has a fault, or the line ends before the closing quote
+-- after an opening quote an escape has a fault, or the line ends before the closing quote
 pub data StringFault : List ℕ → PoFault → Type 0 where
   not_closed : StringFault [] UnterminatedString
   in_escape : {text : List ℕ} {fault : PoFault} → EscapeFault text fault → StringFault (92 ∷ text) fault

@@ -24,28 +24,28 @@ use Rattle.po_tools.specs.ProfileFaults.{HasNewline, Differ, DiffersAt, HasOther
 
 -- newlines at the ends of texts
 
-last_byte : (front : List ℕ) (b : ℕ) → slice_get (front ++ b ∷ []) (length front) ≡ Some b
+last_byte : (prefix : List ℕ) (b : ℕ) → slice_get (prefix ++ b ∷ []) (length prefix) ≡ Some b
 last_byte [] b = refl
-last_byte (x ∷ front) b = last_byte front b
+last_byte (x ∷ prefix) b = last_byte prefix b
 
-ending_byte : (front : List ℕ) (b : ℕ) → end_byte Ending (front ++ b ∷ []) ≡ Some b
-ending_byte front b =
-    let place : length (front ++ b ∷ []) - 1 ≡ length front = omega (arith, length-append front (b ∷ [])) in
-    ap (slice_get (front ++ b ∷ [])) place ∙ last_byte front b
+ending_byte : (prefix : List ℕ) (b : ℕ) → end_byte Ending (prefix ++ b ∷ []) ≡ Some b
+ending_byte prefix b =
+    let place : length (prefix ++ b ∷ []) - 1 ≡ length prefix = omega (arith, length-append prefix (b ∷ [])) in
+    ap (slice_get (prefix ++ b ∷ [])) place ∙ last_byte prefix b
 
-ending_newline : (front : List ℕ) (b : ℕ) → has_newline Ending (front ++ b ∷ []) ≡ (b == 10)
-ending_newline front b = ap (λ o. option_map_or (λ c. c == 10) o false) (ending_byte front b)
+ending_newline : (prefix : List ℕ) (b : ℕ) → has_newline Ending (prefix ++ b ∷ []) ≡ (b == 10)
+ending_newline prefix b = ap (λ o. option_map_or (λ c. c == 10) o false) (ending_byte prefix b)
 
-nothing_ends : (front : List ℕ) (b : ℕ) → [] ≡ front ++ b ∷ [] → ⊥
+nothing_ends : (prefix : List ℕ) (b : ℕ) → [] ≡ prefix ++ b ∷ [] → ⊥
 nothing_ends [] b e = cc
-nothing_ends (x ∷ front) b e = cc
+nothing_ends (x ∷ prefix) b e = cc
 
 newline_says : (end : End) (text : List ℕ) → has_newline end text ≡ true → HasNewline end text
 newline_says Beginning [] e = absurd (false≢true e)
 newline_says Beginning (b ∷ text) e = (text, ap (λ a. a ∷ text) (eqb-true b 10 e))
 newline_says Ending text e =
     from_end (λ t. has_newline Ending t ≡ true → HasNewline Ending t) (λ none. absurd (false≢true none))
-    (λ front b ih has. (front, ap (λ a. front ++ a ∷ []) (eqb-true b 10 (sym (ending_newline front b) ∙ has)))) text e
+    (λ prefix b ih has. (prefix, ap (λ a. prefix ++ a ∷ []) (eqb-true b 10 (sym (ending_newline prefix b) ∙ has)))) text e
 
 newline_passes : (end : End) (text : List ℕ) → HasNewline end text → has_newline end text ≡ true
 newline_passes Beginning text h = ap (has_newline Beginning) h.1

@@ -17,7 +17,7 @@ use Rattle.po_tools.specs.Profile.{Told}
 -- the text begins, or ends, with a newline
 abbrev pub HasNewline : End → List ℕ → Type 0
 HasNewline Beginning text = (rest : List ℕ) × (text ≡ 10 ∷ rest)
-HasNewline Ending text = (front : List ℕ) × (text ≡ front ++ 10 ∷ [])
+HasNewline Ending text = (prefix : List ℕ) × (text ≡ prefix ++ 10 ∷ [])
 
 -- one of two texts has a newline there, and the other has none
 abbrev pub Differ : End → List ℕ → List ℕ → Type 0
