@@ -187,37 +187,57 @@ record IsLeast (f : ℕ → Option Told) (from end : ℕ) (told : Told) : Type 0
   given : f least ≡ Some told
   none_before : (n : ℕ) → from ≤ n → n < least → f n ≡ None
 
+past_of : (from k : ℕ) → from ≤ k → (from ≡ k → ⊥) → from < k
+past_of from k l apart =
+    elim (cases_Bool (nat_lt from k)) [
+      | inl less ↦ ltb-true from k less
+      | inr not_less ↦ let t = ltb-false from k not_less in absurd (apart (omega (arith, l, t)))
+    ]
+
+later_none : (f : ℕ → Option Told) (from least n : ℕ) → f from ≡ None → ((k : ℕ) → from + 1 ≤ k → k < least → f k ≡ None) → from ≤ n → n < least → f n ≡ None
+later_none f from least n here later on under =
+    elim (cases_Bool (from == n)) [
+      | inl same ↦ ap f (sym (eqb-true from n same)) ∙ here
+      | inr other ↦ let past = past_of from n on (eqb-false from n other) in later n (omega (arith, past)) under
+    ]
+
 least_later : (f : ℕ → Option Told) (from more : ℕ) (told : Told) → f from ≡ None → IsLeast f (from + 1) (from + 1 + more) told → IsLeast f from (from + suc more) told
-least_later f from more told none h = record {
-  least = h.least;
-  from_on = let on = h.from_on in omega (arith, on);
-  below = let under = h.below in omega (arith, under);
-  given = h.given;
-  none_before = λ n on under. at n on under;
-} where
-  at : (n : ℕ) → from ≤ n → n < h.least → f n ≡ None
-  at n on under = elim (cases_Bool (from == n)) [ inl same ↦ ap f (sym (eqb-true from n same)) ∙ none | inr other ↦ h.none_before n (past n on (eqb-false from n other)) under ] where
-    past : (k : ℕ) → from ≤ k → (from ≡ k → ⊥) → from + 1 ≤ k
-    past k l apart = elim (cases_Bool (nat_lt from k)) [ inl less ↦ let t = ltb-true from k less in omega (arith, t) | inr not_less ↦ let t = ltb-false from k not_less in absurd (apart (omega (arith, l, t))) ]
+least_later f from more told none h =
+    let on = h.from_on in
+    let under = h.below in record {
+      least = h.least;
+      from_on = omega (arith, on);
+      below = omega (arith, under);
+      given = h.given;
+      none_before = λ n low high. later_none f from h.least n none h.none_before low high;
+    }
+
+range_at : (f : ℕ → Option Told) (from more : ℕ) (told : Told) → (first_given f (range_with_len (from + 1) more) ≡ Some told → IsLeast f (from + 1) (from + 1 + more) told)
+    → (o : Option Told) → f from ≡ o → option_or o (first_given f (range_with_len (from + 1) more)) ≡ Some told → IsLeast f from (from + suc more) told
+range_at f from more told later None none e = least_later f from more told none (later e)
+range_at f from more told later (Some one) some same = record { least = from; from_on = omega arith; below = omega arith; given = some ∙ same; none_before = λ n on under. absurd (omega (arith, on, under)) }
 
 range_says : (f : ℕ → Option Told) (from more : ℕ) (told : Told) → first_given f (range_with_len from more) ≡ Some told → IsLeast f from (from + more) told
 range_says f from zero told e = absurd (none_some told e)
-range_says f from (suc more) told e = at (f from) refl e where
-  at : (o : Option Told) → f from ≡ o → option_or o (first_given f (range_with_len (from + 1) more)) ≡ Some told → IsLeast f from (from + suc more) told
-  at None none later = least_later f from more told none (range_says f (from + 1) more told later)
-  at (Some one) some same = record { least = from; from_on = omega arith; below = omega arith; given = some ∙ same; none_before = λ n on under. absurd (omega (arith, on, under)) }
+range_says f from (suc more) told e = range_at f from more told (λ later. range_says f (from + 1) more told later) (f from) refl e
 
 range_gives : (f : ℕ → Option Told) (from more least : ℕ) (told : Told) → from ≤ least → least < from + more → f least ≡ Some told → ((n : ℕ) → from ≤ n → n < least → f n ≡ None) → first_given f (range_with_len from more) ≡ Some told
 range_gives f from zero least told on below given none = absurd (omega (arith, on, below))
 range_gives f from (suc more) least told on below given none =
     elim (cases_Bool (from == least)) [
       | inl same ↦ ap (λ o. option_or o (first_given f (range_with_len (from + 1) more))) (ap f (eqb-true from least same) ∙ given)
-      | inr other ↦ let past : from < least = apart (eqb-false from least other) in
+      | inr other ↦ let past = past_of from least on (eqb-false from least other) in
           ap (λ o. option_or o (first_given f (range_with_len (from + 1) more))) (none from (omega arith) past)
           ∙ range_gives f (from + 1) more least told (omega (arith, past)) (omega (arith, below)) given (λ n more_than under. none n (omega (arith, more_than)) under)
-    ] where
-  apart : (from ≡ least → ⊥) → from < least
-  apart differ = elim (cases_Bool (nat_lt from least)) [ inl less ↦ ltb-true from least less | inr not_less ↦ let t = ltb-false from least not_less in absurd (differ (omega (arith, on, t))) ]
+    ]
+
+counts_say : (f : ℕ → Option Told) (end : ℕ) (told : Told) → first_given f (counts_below end) ≡ Some told → IsLeast f 0 end told
+unfolding counts_below
+counts_say f end told is = let whole : 0 + end ≡ end = omega arith in subst (λ n. IsLeast f 0 n told) whole (range_says f 0 end told is)
+
+counts_give : (f : ℕ → Option Told) (end least : ℕ) (told : Told) → least < end → f least ≡ Some told → ((n : ℕ) → n < least → f n ≡ None) → first_given f (counts_below end) ≡ Some told
+unfolding counts_below
+counts_give f end least told below given none = range_gives f 0 end least told (omega arith) (omega (arith, below)) given (λ n on under. none n under)
 
 -- what is first in a list
 
@@ -229,26 +249,29 @@ record IsGiven (f : InputEntry → Option Told) (entries : List InputEntry) (tol
   given : f e ≡ Some told
   none_before : All (λ o. f o ≡ None) before
 
+list_at : (f : InputEntry → Option Told) (x : InputEntry) (entries : List InputEntry) (told : Told) → (first_given f entries ≡ Some told → IsGiven f entries told) → (o : Option Told) → f x ≡ o → option_or o (first_given f entries) ≡ Some told
+    → IsGiven f (x ∷ entries) told
+list_at f x entries told later None none e =
+    let h = later e in
+    record { before = x ∷ h.before; e = h.e; after = h.after; whole = ap (λ l. x ∷ l) h.whole; given = h.given; none_before = All-cons (λ o. f o ≡ None) x h.before none h.none_before }
+list_at f x entries told later (Some one) some same = record { before = []; e = x; after = entries; whole = refl; given = some ∙ same; none_before = All-nil (λ o. f o ≡ None) }
+
 list_says : (f : InputEntry → Option Told) (entries : List InputEntry) (told : Told) → first_given f entries ≡ Some told → IsGiven f entries told
 list_says f [] told e = absurd (none_some told e)
-list_says f (x ∷ entries) told e = at (f x) refl e where
-  at : (o : Option Told) → f x ≡ o → option_or o (first_given f entries) ≡ Some told → IsGiven f (x ∷ entries) told
-  at None none later =
-      let h = list_says f entries told later in
-      record { before = x ∷ h.before; e = h.e; after = h.after; whole = ap (λ l. x ∷ l) h.whole; given = h.given; none_before = All-cons (λ o. f o ≡ None) x h.before none h.none_before }
-  at (Some one) some same = record { before = []; e = x; after = entries; whole = refl; given = some ∙ same; none_before = All-nil (λ o. f o ≡ None) }
+list_says f (x ∷ entries) told e = list_at f x entries told (λ later. list_says f entries told later) (f x) refl e
 
 list_gives : (f : InputEntry → Option Told) (before : List InputEntry) (e : InputEntry) (after : List InputEntry) (told : Told) → f e ≡ Some told → All (λ o. f o ≡ None) before → first_given f (before ++ e ∷ after) ≡ Some told
 list_gives f [] e after told given none = ap (λ o. option_or o (first_given f after)) given
 list_gives f (x ∷ before) e after told given none =
     ap (λ o. option_or o (first_given f (before ++ e ∷ after))) (All-head (λ o. f o ≡ None) x before none) ∙ list_gives f before e after told given (All-tail (λ o. f o ≡ None) x before none)
 
+none_at : (f : InputEntry → Option Told) (x : InputEntry) (entries : List InputEntry) → (first_given f entries ≡ None → All (λ o. f o ≡ None) entries) → (o : Option Told) → f x ≡ o → option_or o (first_given f entries) ≡ None → All (λ o. f o ≡ None) (x ∷ entries)
+none_at f x entries later None none e = All-cons (λ o. f o ≡ None) x entries none (later e)
+none_at f x entries later (Some one) some same = absurd (none_some one (sym same))
+
 list_none : (f : InputEntry → Option Told) (entries : List InputEntry) → first_given f entries ≡ None → All (λ o. f o ≡ None) entries
 list_none f [] e = All-nil (λ o. f o ≡ None)
-list_none f (x ∷ entries) e = at (f x) refl e where
-  at : (o : Option Told) → f x ≡ o → option_or o (first_given f entries) ≡ None → All (λ o. f o ≡ None) (x ∷ entries)
-  at None none later = All-cons (λ o. f o ≡ None) x entries none (list_none f entries later)
-  at (Some one) some same = absurd (none_some one (sym same))
+list_none f (x ∷ entries) e = none_at f x entries (λ later. list_none f entries later) (f x) refl e
 
 none_list : (f : InputEntry → Option Told) (entries : List InputEntry) → All (λ o. f o ≡ None) entries → first_given f entries ≡ None
 none_list f [] h = refl
@@ -323,9 +346,8 @@ entry_first entries rule told needs is =
     }) fault
 
 count_first : (entries : List InputEntry) (rule : Meaning) (e : InputEntry) (told : Told) → IsFirst HasPlural entries e → rule.source ≡ Header → in_entries entries rule ≡ None → first_given (count_fault rule) (counts_below 1001) ≡ Some told → FirstFault entries rule told
-unfolding counts_below
 count_first entries rule e told plural source none is =
-    let h = range_says (count_fault rule) 0 1001 told is in
+    let h = counts_say (count_fault rule) 1001 told is in
     let here = value_says rule h.least told (value rule.tree h.least) refl h.given in
     let below = h.below in
     let whole : told ≡ (0, told.1) = ap (λ n. (n, told.1)) here.0 in
@@ -354,10 +376,6 @@ no_rule_needed : (entries : List InputEntry) (rule : Meaning) → NeedsNoOtherRu
 no_rule_needed entries rule (inl source) = ap (λ s. rule_fault s (find is_plural entries)) source ∙ readable (find is_plural entries)
 no_rule_needed entries rule (inr none) = ap (rule_fault rule.source) (plural_none entries none)
 
-counts_give : (rule : Meaning) (least : ℕ) (fault : CheckFault) → least ≤ 1000 → ((n : ℕ) → n < least → HasNoCountFault rule n) → CountFault rule least fault → first_given (count_fault rule) (counts_below 1001) ≡ Some (0, fault)
-unfolding counts_below
-counts_give rule least fault most none h = range_gives (count_fault rule) 0 1001 least (0, fault) (omega arith) (omega (arith, most)) (count_at h) (λ n on under. none_counted rule n (none n under))
-
 found_passes : {entries : List InputEntry} {rule : Meaning} {told : Told} → FirstFault entries rule told → first_fault entries rule ≡ Some told
 found_passes {entries} {rule} (no_rule {e = e} {reason = reason} plural source) =
     ap (λ s. in_order entries rule s (find is_plural entries)) source ∙ ap (in_order entries rule (Default reason)) (first_plural entries e plural)
@@ -371,7 +389,7 @@ found_passes {entries} {rule} (at_count {e = e} {fault = fault} least plural sou
     let nothing = none_list (entry_fault rule.number) entries (λ k d below. none_found rule.number _ (fine k d below)) in
     ap (λ o. option_or o (option_or (in_entries entries rule) (at_counts rule (find is_plural entries)))) (no_rule_needed entries rule (inl source))
     ∙ ap (λ o. option_or o (at_counts rule (find is_plural entries))) nothing
-    ∙ ap (at_counts rule) (first_plural entries e plural) ∙ counts_give rule least fault most none wrong
+    ∙ ap (at_counts rule) (first_plural entries e plural) ∙ counts_give (count_fault rule) 1001 least (0, fault) (omega (arith, most)) (count_at wrong) (λ n under. none_counted rule n (none n under))
 
 pub first_found : (entries : List InputEntry) (rule : Meaning) (told : Told) → (first_fault entries rule ≡ Some told) ↔ FirstFault entries rule told
 first_found entries rule told = (λ e. found_says entries rule told e, λ h. found_passes h)

@@ -47,12 +47,12 @@ abbrev pub HasNoFault : ℕ → InputEntry → Type 0
 HasNoFault number e = (told : Told) → HasFault number e told → ⊥
 
 -- the fault of a rule's value at a count: it has none, or it is no index of a form
-pub data CountFault (rule : Meaning) (count : ℕ) : CheckFault → Type 0 where
-  undefined : value rule.tree count ≡ None → CountFault rule count (Undefined count)
-  outside : {index : ℕ} → value rule.tree count ≡ Some index → rule.number ≤ index → CountFault rule count (IndexOutside count)
+pub data CountFault (rule : Meaning) (n : ℕ) : CheckFault → Type 0 where
+  undefined : value rule.tree n ≡ None → CountFault rule n (Undefined n)
+  outside : {index : ℕ} → value rule.tree n ≡ Some index → rule.number ≤ index → CountFault rule n (IndexOutside n)
 
 abbrev pub HasNoCountFault : Meaning → ℕ → Type 0
-HasNoCountFault rule count = (fault : CheckFault) → CountFault rule count fault → ⊥
+HasNoCountFault rule n = (fault : CheckFault) → CountFault rule n fault → ⊥
 
 abbrev pub HasPlural : InputEntry → Type 0
 HasPlural e = e.entry.plural ≢ None
@@ -74,4 +74,4 @@ pub data FirstFault (entries : List InputEntry) (rule : Meaning) : Told → Type
   no_rule : {e : InputEntry} {reason : Reason} → IsFirst HasPlural entries e → rule.source ≡ Default reason → FirstFault entries rule (e.input, NoRule e.entry.line reason)
   in_entry : {e : InputEntry} {told : Told} → NeedsNoOtherRule entries rule → IsFirst (λ o. (other : Told) × HasFault rule.number o other) entries e → HasFault rule.number e told → FirstFault entries rule told
   at_count : {e : InputEntry} {fault : CheckFault} (least : ℕ) → IsFirst HasPlural entries e → rule.source ≡ Header → All (HasNoFault rule.number) entries → least ≤ 1000
-      → ((count : ℕ) → count < least → HasNoCountFault rule count) → CountFault rule least fault → FirstFault entries rule (0, fault)
+      → ((n : ℕ) → n < least → HasNoCountFault rule n) → CountFault rule least fault → FirstFault entries rule (0, fault)
