@@ -11,7 +11,7 @@ use Rattle.po_syntax.specs.declared.fault.PoFault.{PoFault}
 use Rattle.po_syntax.specs.declared.fault.PoFault.TheVariants.{UnterminatedString, BadEscape, BadToken, BadPluralIndex}
 use Rattle.po_syntax.specs.Escapes.{NoDigitFirst}
 use Rattle.po_syntax.specs.Line as line
-use Rattle.po_syntax.specs.Line.{Tokens, NoShape, note_shape, obsolete_shape, tilde_shape, hash_shape, first_shape, shape_of, TokensStop, halt, after_word, LineStops, no_shape, in_tokens}
+use Rattle.po_syntax.specs.Line.{Tokens, obsolete_shape, tilde_shape, first_shape, shape_of, TokensStop, halt, after_word, LineStops, no_shape, in_tokens}
 use Rattle.po_syntax.specs.LineFaults.{StartsEscape, octal_digit, hexadecimal, alert, backspace, form_feed, line_feed, carriage_return, tab, vertical_tab, backslash, quote, NumberFault, nul, large, EscapeFault, at_end, no_escape, octal, no_digit, hexadecimal_digits, StringFault, not_closed, in_escape, after_plain, after_escape, BeginsWithNoBlank, NoBracketFirst, IsNoKeyword, KeywordFault, no_keyword, no_index, large_index, not_closed_index, TokensFault, no_token, blank, in_keyword, in_string, after_keyword, after_string, BeginsTokens, BeginsWithNoBar, LineFault, indented, previous_again, obsolete_again, live, previous, obsolete, obsolete_previous}
 use Rattle.po_syntax.specs.QuotedString.{Stop, numbered, number_step, letter_value, letter_step, escape_at, step_at, QuotedStops, here, later}
 use Rattle.po_syntax.specs.Runs.{FailsFirst}
