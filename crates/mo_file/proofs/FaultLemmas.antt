@@ -1,14 +1,20 @@
 -- Faults: one byte order is shown, and which fault comes first.
-use Rattle.std.proofs.Common.{◌≡◌, ℕ, ◌+◌, ◌<◌, List, refl, ap, subst, arith, inl, inr}
+use Rattle.std.proofs.lemmas.Bool.{cases_lt}
+use Rattle.std.proofs.Common.{◌≡◌, ℕ, ◌+◌, ◌<◌, ◌≤◌, List, refl, ap, subst, arith, inl, inr}
 use Rattle.mo_file.specs.declared.byte_order.Order.{Order}
 use Rattle.mo_file.specs.declared.byte_order.Order.TheVariants.{Little, Big}
 use Rattle.mo_file.specs.declared.fault.MoError.{MoError}
 use Rattle.mo_file.specs.declared.fault.MoError.TheVariants.{TooShort, BadMagic, BadRevision, TableOutside}
 use Rattle.mo_file.specs.declared.fault.MoError.TheVariants.{StringOutside, NoTerminator, NotSorted}
 use Rattle.mo_file.specs.declared.header.Header.{Header}
-use Rattle.mo_file.specs.Header.{Shows}
+use Rattle.mo_file.specs.Header.{Shows, message_count, originals_table, translations_table}
+use Rattle.mo_file.specs.Message.{Message}
+use Rattle.mo_file.specs.Catalog.{IsCatalog}
 use Rattle.mo_file.specs.Fault.{HasFault, HasFaultIn, IsFirstFault, IsUnsorted}
-use Rattle.mo_file.specs.Checking.{HasStrings, IsHeader, IsSortedBelow}
+use Rattle.mo_file.specs.Checking.{HasStrings, IsChecked, IsHeader, IsSortedBelow}
+
+pub not_below : (a b : ℕ) → ¬ (a < b) → b ≤ a
+not_below a b not = elim (cases_lt a b) [ inl below ↦ absurd (not below) | inr at ↦ omega (arith, at) ]
 
 -- a file shows one byte order
 pub Shows-unique : (bytes : List ℕ) (order order' : Order) → Shows order bytes → Shows order' bytes →
@@ -60,3 +66,31 @@ module _ (header : Header) (bytes : List ℕ) (read : IsHeader header bytes) (st
   -- a file that has been checked has no fault
   pub faultless : IsSortedBelow header.order bytes header.count → (f : MoError) → ¬ HasFault bytes f
   faultless sorted f has = let fault = only_keys f has in sorted fault.0 fault.2 fault.3
+
+-- a header that was read from a valid file is that of a file that has been checked
+pub checked : (header : Header) (bytes : List ℕ) (messages : List Message) → IsCatalog header.order bytes messages →
+    header.count ≡ message_count header.order bytes → header.originals ≡ originals_table header.order bytes →
+    header.translations ≡ translations_table header.order bytes → IsChecked header bytes
+checked header bytes messages valid count originals translations =
+    let none = valid.faultless in
+    let shows = valid.shows in
+    record {
+      read = record {
+        long = not_below _ _ (none TooShort);
+        shows = shows;
+        known = not_below _ _ (λ new. none BadRevision (header.order, shows, new));
+        count = count;
+        originals = originals;
+        translations = translations;
+        originals_inside =
+            rw (count, originals) (not_below _ _ (λ outside. none TableOutside (header.order, shows, inl outside)));
+        translations_inside =
+            rw (count, translations) (not_below _ _ (λ outside. none TableOutside (header.order, shows, inr outside)));
+      };
+      strings = record {
+        inside = λ i below outside. none (StringOutside i) (header.order, shows, (below, outside));
+        terminated = λ i below unterminated. none (NoTerminator i) (header.order, shows, (below, unterminated));
+      };
+      sorted = λ i below unsorted.
+          none (NotSorted (i + 1)) (header.order, shows, (i, refl, rw count at below, unsorted));
+    }

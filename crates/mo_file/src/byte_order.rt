@@ -37,6 +37,18 @@ impl Order {
             None
         }
     }
+
+    /// The byte order of a file that has been checked.
+    pub(crate) fn of_checked(bytes: &[u8]) -> Order
+        requires { (order : Order) × Shows order bytes.now }
+        ensures { (order : Order) → Shows order bytes.now → result ≡ order }
+    {
+        if bytes.starts_with(&LITTLE_MAGIC) {
+            Order::Little
+        } else {
+            Order::Big
+        }
+    }
 }
 
 /// The word at a place.

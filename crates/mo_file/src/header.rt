@@ -1,6 +1,9 @@
-ghost use Rattle.std.specs.Prelude.{◌≡◌, IfErr, MatchResult};
+ghost use Rattle.std.specs.Prelude.{◌≡◌, List, IfErr, MatchResult};
+ghost use Rattle.mo_file.specs.declared.byte_order.Order.{Order};
+ghost use Rattle.mo_file.specs.Catalog.{IsCatalog};
 ghost use Rattle.mo_file.specs.Fault.{IsFirstFault, looks_before};
-ghost use Rattle.mo_file.specs.Checking.{IsHeader};
+ghost use Rattle.mo_file.specs.Message.{Message};
+ghost use Rattle.mo_file.specs.Checking.{IsChecked, IsHeader};
 
 use crate::byte_order::{Order, word};
 use crate::fault::MoError;
@@ -55,5 +58,20 @@ impl Header {
             originals,
             translations,
         })
+    }
+
+    /// Reads the header of a file that has been checked, and checks nothing.
+    pub(crate) fn of_checked(bytes: &[u8]) -> Header
+        requires { (order : Order) × (messages : List Message) × IsCatalog order bytes.now messages }
+        ensures { (order : Order) (messages : List Message) → IsCatalog order bytes.now messages
+            → (result.order ≡ order) × IsChecked result bytes.now }
+    {
+        let order = Order::of_checked(bytes);
+        Header {
+            order,
+            count: word(order, bytes, 8),
+            originals: word(order, bytes, 12),
+            translations: word(order, bytes, 16),
+        }
     }
 }

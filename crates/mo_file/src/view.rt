@@ -61,6 +61,19 @@ impl<'a> MoView<'a> {
         Ok(MoView { bytes, header })
     }
 
+    /// The view of bytes that [`MoView::open`] has accepted, and that haven't changed since: it reads the
+    /// header and checks nothing.
+    pub fn reopen(bytes: &'a [u8]) -> MoView<'a>
+        requires { (order : Order) × (messages : List Message) × IsCatalog order bytes.now messages }
+        ensures { (order : Order) (messages : List Message)
+            → IsCatalog order bytes.now messages → result ≡ messages }
+    {
+        MoView {
+            bytes,
+            header: Header::of_checked(bytes),
+        }
+    }
+
     /// How many messages the file has.
     pub fn len(&self) -> u32
         ensures count { result ≡ length self.now }
