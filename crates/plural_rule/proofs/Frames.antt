@@ -1,10 +1,11 @@
 -- What waits in an evaluation, with one more node at the end.
-use Rattle.std.proofs.Common.{◌≡◌, ℕ, ◌+◌, List, [], ◌∷◌, ◌++◌, None, refl, sym, ap, subst, ◌∙◌, ◌≤◌, arith}
+use Rattle.std.proofs.Common.{◌≡◌, ℕ, ◌+◌, List, [], ◌∷◌, ◌++◌, option_and_then, None, refl, sym, ap, subst, ◌∙◌, ◌≤◌, arith}
 use Rattle.plural_rule.specs.declared.evaluator.Frame.{Frame}
 use Rattle.plural_rule.specs.declared.evaluator.Frame.TheVariants.{Not as NotFrame, First, Second, Condition}
 use Rattle.plural_rule.specs.declared.operator.Operator.{Operator}
-use Rattle.plural_rule.specs.Expression.{Tree, Not, Binary, Conditional, negated, binary_value, chosen, value, visited, visited_right}
-use Rattle.plural_rule.specs.Evaluation.{Outcome, outcome_of, subtree, resumed, finished, remaining, remaining_frame, AreFramesOf, IsFrameOf}
+use Rattle.plural_rule.specs.Expression.{Tree, Not, Binary, Conditional, negated, binary_value, combined, chosen, value, visited, visited_right}
+use Rattle.plural_rule.specs.PostOrder.{numeral-parts}
+use Rattle.plural_rule.specs.Evaluation.{second_frame, Outcome, outcome_of, subtree, resumed, finished, remaining, remaining_frame, AreFramesOf, IsFrameOf}
 
 pub finished_more : (whole : Tree) (n : ℕ) (xs : List Frame) (f : Frame) (o : Outcome) → finished whole n (xs ++ f ∷ []) o ≡ finished whole n xs (resumed whole n f o)
 finished_more whole n [] f o = refl
@@ -22,11 +23,17 @@ pub frames_split : (whole : Tree) (xs : List Frame) (f : Frame) → AreFramesOf 
 frames_split whole [] f h = (tt, h.0)
 frames_split whole (x ∷ xs) f h = let s = frames_split whole xs f h.1 in ((h.0, s.0), s.1)
 
+-- an operator before its second operand
+pub resumed_second : (whole : Tree) (n : ℕ) (op : Operator) (left : ℕ) (o : Outcome) →
+    resumed whole n (second_frame op left) o ≡ record { value = option_and_then (combined op left) o.value; steps = o.steps }
+resumed_second whole n op left o =
+    ap (λ x. record { value = option_and_then (combined op x) o.value; steps = o.steps }) (numeral-parts left)
+
 -- an undefined operand makes the whole undefined
 resumed_undefined : (whole : Tree) (n steps : ℕ) (f : Frame) → resumed whole n f (record { value = None; steps = steps }) ≡ record { value = None; steps = steps }
 resumed_undefined whole n steps NotFrame = refl
 resumed_undefined whole n steps (First op j) = let e : steps + 0 ≡ steps = omega arith in ap (λ (s : ℕ). record { value = None; steps = s }) e
-resumed_undefined whole n steps (Second op left) = refl
+resumed_undefined whole n steps (Second op a b c d) = refl
 resumed_undefined whole n steps (Condition j k) = let e : steps + 0 ≡ steps = omega arith in ap (λ (s : ℕ). record { value = None; steps = s }) e
 
 pub finished_undefined : (whole : Tree) (n steps : ℕ) (xs : List Frame) → finished whole n xs (record { value = None; steps = steps }) ≡ record { value = None; steps = steps }

@@ -3,11 +3,11 @@ use Rattle.std.proofs.Common.{◌≡◌, ℕ, ◌+◌, ◌-◌, ◌==◌, false,
 use Rattle.std.proofs.lemmas.Bool.{cases_Bool}
 use Rattle.plural_rule.specs.declared.operator.Operator.{Operator}
 use Rattle.plural_rule.specs.declared.node.Node.{Node}
-use Rattle.plural_rule.specs.declared.node.Node.TheVariants.{Not as NotNode, Binary as BinaryNode, Conditional as ConditionalNode}
 use Rattle.plural_rule.specs.declared.parser.Pending.{Pending}
 use Rattle.plural_rule.specs.declared.parser.Pending.TheVariants.{Binary as BinaryPending, Question as QuestionPending, Colon as ColonPending}
 use Rattle.plural_rule.specs.Expression.{Tree, Count, Number, Not, Binary, Conditional, nodes}
 use Rattle.plural_rule.specs.Grammar.{level}
+use Rattle.plural_rule.specs.Node.{not_node, binary_node, conditional_node}
 use Rattle.plural_rule.specs.PostOrder.{layout}
 use Rattle.plural_rule.specs.ShiftReduce.{Waiting, WaitNot, WaitOpen, WaitBinary, WaitQuestion, WaitColon, Operand, completed, reduce, reduce_by, at_colon}
 use Rattle.plural_rule.specs.ParserState.{size, laid, pending, pendings, completed_node, IsWaiting, IsOperand, Answers}
@@ -75,14 +75,14 @@ pub record Completes (k : ℕ) (w : Waiting) (below : List Waiting) (t : Tree) (
 
 pub completes : (k last : ℕ) (w : Waiting) (below : List Waiting) (t : Tree) (node : Node) → last ≡ size (w ∷ below) + nodes t - 1 → completed_node k (pending (size below) w) last ≡ Some node → Completes k w below t node
 completes k last WaitNot below t node l e =
-    let is : node ≡ NotNode (size below + nodes t - 1) = cc in
+    let is : node ≡ not_node (size below + nodes t - 1) = cc in
     record { tree = Not t; is = refl; table_is = rw is (append_assoc (laid below) (layout (size below) t) _) }
 completes k last WaitOpen below t node l e = absurd cc
 completes k last (WaitBinary op a) below t node l e =
     elim (cases_Bool (nat_le k (level op))) [
       | inl b ↦
-          let e' : Some (BinaryNode op (size below + nodes a - 1) last) ≡ Some node = rw b at e in
-          let is : node ≡ BinaryNode op (size below + nodes a - 1) (size below + nodes a + nodes t - 1) = cc in
+          let e' : Some (binary_node op (size below + nodes a - 1) last) ≡ Some node = rw b at e in
+          let is : node ≡ binary_node op (size below + nodes a - 1) (size below + nodes a + nodes t - 1) = cc in
           record { tree = Binary op a t; is = rw b refl; table_is = rw is (simp append_assoc) }
       | inr b ↦ let e' : None ≡ Some node = rw b at e in absurd cc
     ]
@@ -90,8 +90,8 @@ completes k last (WaitQuestion a) below t node l e = absurd cc
 completes k last (WaitColon a b) below t node l e =
     elim (cases_Bool (k == 0)) [
       | inl b' ↦
-          let e' : Some (ConditionalNode (size below + nodes a - 1) (size below + nodes a + nodes b - 1) last) ≡ Some node = rw b' at e in
-          let is : node ≡ ConditionalNode (size below + nodes a - 1) (size below + nodes a + nodes b - 1) (size below + nodes a + nodes b + nodes t - 1) = cc in
+          let e' : Some (conditional_node (size below + nodes a - 1) (size below + nodes a + nodes b - 1) last) ≡ Some node = rw b' at e in
+          let is : node ≡ conditional_node (size below + nodes a - 1) (size below + nodes a + nodes b - 1) (size below + nodes a + nodes b + nodes t - 1) = cc in
           record { tree = Conditional a b t; is = rw b' refl; table_is = rw is (simp append_assoc) }
       | inr b' ↦ let e' : None ≡ Some node = rw b' at e in absurd cc
     ]
@@ -102,13 +102,13 @@ refuses k last base WaitNot t e = absurd cc
 refuses k last base WaitOpen t e = refl
 refuses k last base (WaitBinary op a) t e =
     elim (cases_Bool (nat_le k (level op))) [
-      | inl b ↦ let e' : Some (BinaryNode op (base + nodes a - 1) last) ≡ None = rw b at e in absurd cc
+      | inl b ↦ let e' : Some (binary_node op (base + nodes a - 1) last) ≡ None = rw b at e in absurd cc
       | inr b ↦ rw b refl
     ]
 refuses k last base (WaitQuestion a) t e = refl
 refuses k last base (WaitColon a b) t e =
     elim (cases_Bool (k == 0)) [
-      | inl b' ↦ let e' : Some (ConditionalNode (base + nodes a - 1) (base + nodes a + nodes b - 1) last) ≡ None = rw b' at e in absurd cc
+      | inl b' ↦ let e' : Some (conditional_node (base + nodes a - 1) (base + nodes a + nodes b - 1) last) ≡ None = rw b' at e in absurd cc
       | inr b' ↦ rw b' refl
     ]
 

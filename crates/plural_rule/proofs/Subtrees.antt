@@ -5,9 +5,11 @@ use Rattle.std.proofs.lemmas.Bool.Decides.{nat_tests}
 use Rattle.std.proofs.lemmas.List.{get_or_append_left, get_or-append_right}
 use Rattle.plural_rule.specs.declared.operator.Operator.{Operator}
 use Rattle.plural_rule.specs.declared.node.Node.{Node}
-use Rattle.plural_rule.specs.declared.node.Node.TheVariants.{Count as CountNode, Number as NumberNode, Not as NotNode, Binary as BinaryNode, Conditional as ConditionalNode}
+use Rattle.plural_rule.specs.declared.node.Shape.{Shape}
+use Rattle.plural_rule.specs.declared.node.Shape.TheVariants.{Count as CountShape, Number as NumberShape, Not as NotShape, Binary as BinaryShape, Conditional as ConditionalShape}
+use Rattle.plural_rule.specs.Node.{numeral, not_node, binary_node, conditional_node, shape_of, operator_of-code}
 use Rattle.plural_rule.specs.Expression.{Tree, Count, Number, Not, Binary, Conditional, nodes}
-use Rattle.plural_rule.specs.PostOrder.{layout, numeral, numeral-parts}
+use Rattle.plural_rule.specs.PostOrder.{layout, numeral-parts}
 use Rattle.plural_rule.specs.Evaluation.{subtree, IsNodeOf}
 use Rattle.plural_rule.proofs.ParserSteps.{length-layout}
 
@@ -42,12 +44,12 @@ record Places (t : Tree) (base i : ℕ) (part : Tree) : Type 0 where
   part_is : part ≡ subtree t at
 
 -- the node is that of the part, with its operands in the same table
-abbrev Stands : Tree → ℕ → Tree → Node → Type 0
-Stands t base part CountNode = part ≡ Count
-Stands t base part (NumberNode a b c d) = part ≡ Number (numeral a b c d)
-Stands t base part (NotNode i) = (a : Tree) × Places t base i a × (part ≡ Not a)
-Stands t base part (BinaryNode op i j) = (a : Tree) × (b : Tree) × Places t base i a × Places t base j b × (part ≡ Binary op a b)
-Stands t base part (ConditionalNode i j k) =
+abbrev Stands : Tree → ℕ → Tree → Shape → Type 0
+Stands t base part CountShape = part ≡ Count
+Stands t base part (NumberShape a b c d) = part ≡ Number (numeral a b c d)
+Stands t base part (NotShape i) = (a : Tree) × Places t base i a × (part ≡ Not a)
+Stands t base part (BinaryShape op i j) = (a : Tree) × (b : Tree) × Places t base i a × Places t base j b × (part ≡ Binary op a b)
+Stands t base part (ConditionalShape i j k) =
     (a : Tree) × (b : Tree) × (c : Tree) × Places t base i a × Places t base j b × Places t base k c × (part ≡ Conditional a b c)
 
 -- the parts of an operand, whose table begins `offset` nodes behind that of the whole
@@ -64,14 +66,14 @@ lift a t base inner offset i part e inside p =
     let is = p.is in
     record { at = offset + p.at; is = omega arith; within = s.within; part_is = p.part_is ∙ s.same }
 
-lift-node : (a t : Tree) (base inner offset : ℕ) (part : Tree) (node : Node) → inner ≡ base + offset → Inside a offset t → Stands a inner part node → Stands t base part node
-lift-node a t base inner offset part CountNode e inside s = s
-lift-node a t base inner offset part (NumberNode w x y z) e inside s = s
-lift-node a t base inner offset part (NotNode i) e inside s =
+lift-node : (a t : Tree) (base inner offset : ℕ) (part : Tree) (shape : Shape) → inner ≡ base + offset → Inside a offset t → Stands a inner part shape → Stands t base part shape
+lift-node a t base inner offset part CountShape e inside s = s
+lift-node a t base inner offset part (NumberShape w x y z) e inside s = s
+lift-node a t base inner offset part (NotShape i) e inside s =
     (s.0, lift a t base inner offset i s.0 e inside s.1, s.2)
-lift-node a t base inner offset part (BinaryNode op i j) e inside s =
+lift-node a t base inner offset part (BinaryShape op i j) e inside s =
     (s.0, s.1, lift a t base inner offset i s.0 e inside s.2, lift a t base inner offset j s.1 e inside s.3, s.4)
-lift-node a t base inner offset part (ConditionalNode i j k) e inside s =
+lift-node a t base inner offset part (ConditionalShape i j k) e inside s =
     (s.0, s.1, s.2, lift a t base inner offset i s.0 e inside s.3, lift a t base inner offset j s.1 e inside s.4, lift a t base inner offset k s.2 e inside s.5, s.6)
 
 root : (t : Tree) (base : ℕ) → Places t base (base + nodes t - 1) t
@@ -121,12 +123,12 @@ inside-third a b c k h =
 
 -- a node in an operand's part of a table
 abbrev StandsAt : Tree → ℕ → List Node → ℕ → Node → Type 0
-StandsAt t base table i d = Stands t base (subtree t i) (get_or table i d)
+StandsAt t base table i d = Stands t base (subtree t i) (shape_of (get_or table i d))
 
-in-operand : (a t : Tree) (base inner offset i : ℕ) (d : Node) (table : List Node) → inner ≡ base + offset → Inside a offset t → i < nodes a → Stands a inner (subtree a i) (get_or (layout inner a) i d) → get_or table (offset + i) d ≡ get_or (layout inner a) i d → StandsAt t base table (offset + i) d
+in-operand : (a t : Tree) (base inner offset i : ℕ) (d : Node) (table : List Node) → inner ≡ base + offset → Inside a offset t → i < nodes a → Stands a inner (subtree a i) (shape_of (get_or (layout inner a) i d)) → get_or table (offset + i) d ≡ get_or (layout inner a) i d → StandsAt t base table (offset + i) d
 in-operand a t base inner offset i d table e inside h s read =
-    let lifted = lift-node a t base inner offset (subtree a i) (get_or (layout inner a) i d) e inside s in
-    subst (λ node. Stands t base (subtree t (offset + i)) node) (sym read) (subst (λ p. Stands t base p (get_or (layout inner a) i d)) (inside i h).same lifted)
+    let lifted = lift-node a t base inner offset (subtree a i) (shape_of (get_or (layout inner a) i d)) e inside s in
+    subst (λ node. Stands t base (subtree t (offset + i)) (shape_of node)) (sym read) (subst (λ p. Stands t base p (shape_of (get_or (layout inner a) i d))) (inside i h).same lifted)
 
 -- which part of a table an index is in
 record Offset (n i : ℕ) : Type 0 where
@@ -136,10 +138,10 @@ record Offset (n i : ℕ) : Type 0 where
 offset : (n i : ℕ) → n ≤ i → Offset n i
 offset n i h = record { over = i - n; is = omega arith }
 
-last-node : (t : Tree) (base i : ℕ) (d node : Node) (front : List Node) → length front ≡ nodes t - 1 → i ≡ nodes t - 1 → Stands t base t node → StandsAt t base (front ++ node ∷ []) i d
+last-node : (t : Tree) (base i : ℕ) (d node : Node) (front : List Node) → length front ≡ nodes t - 1 → i ≡ nodes t - 1 → Stands t base t (shape_of node) → StandsAt t base (front ++ node ∷ []) i d
 last-node t base i d node front l e s =
     let read : get_or (front ++ node ∷ []) i d ≡ node = get_or-append_right front (node ∷ []) i i d (l ∙ sym e) (omega arith) ∙ ap (λ k. get_or (node ∷ []) k d) minus in
-    subst (λ p. Stands t base p (get_or (front ++ node ∷ []) i d)) (sym (ap (subtree t) e ∙ subtree-last t)) (subst (Stands t base t) (sym read) s)
+    subst (λ p. Stands t base p (shape_of (get_or (front ++ node ∷ []) i d))) (sym (ap (subtree t) e ∙ subtree-last t)) (subst (λ m. Stands t base t (shape_of m)) (sym read) s)
   where
     minus : i - i ≡ 0
     minus = omega arith
@@ -162,13 +164,13 @@ node-at (Not a) base i d h =
       | inr b ↦
           let large : nodes a ≤ i = grind (arith, nat_tests) in
           let base-zero : base ≡ base + 0 = omega arith in
-          last-node (Not a) base i d (NotNode (base + nodes a - 1)) (layout base a) (omega arith) (omega arith)
+          last-node (Not a) base i d (not_node (base + nodes a - 1)) (layout base a) (omega arith) (omega arith)
           (a, lift a (Not a) base base 0 (base + nodes a - 1) a base-zero (inside-not a) (root a base), refl)
     ]
 node-at (Binary op a b) base i d h =
     let t = Binary op a b in
     let inner = base + nodes a in
-    let node = BinaryNode op (base + nodes a - 1) (base + nodes a + nodes b - 1) in
+    let node = binary_node op (base + nodes a - 1) (base + nodes a + nodes b - 1) in
     let table = layout base t in
     let lengths = length-layout a base in
     let lengths' = length-layout b inner in
@@ -198,14 +200,14 @@ node-at (Binary op a b) base i d h =
                 let front-length : length front ≡ nodes t - 1 = omega (arith, length-append (layout base a) (layout inner b)) in
                 subst (λ xs. StandsAt t base xs i d) whole
                 (last-node t base i d node front front-length (omega arith)
-                (a, b, lift a t base base 0 (base + nodes a - 1) a base-zero (inside-left op a b) (root a base), lift b t base inner (nodes a) (base + nodes a + nodes b - 1) b refl (inside-right op a b) (root b inner), refl))
+                (a, b, lift a t base base 0 (base + nodes a - 1) a base-zero (inside-left op a b) (root a base), lift b t base inner (nodes a) (base + nodes a + nodes b - 1) b refl (inside-right op a b) (root b inner), ap (λ o. Binary o a b) (sym (operator_of-code op))))
           ]
     ]
 node-at (Conditional a b c) base i d h =
     let t = Conditional a b c in
     let inner = base + nodes a in
     let innermost = base + nodes a + nodes b in
-    let node = ConditionalNode (base + nodes a - 1) (base + nodes a + nodes b - 1) (base + nodes a + nodes b + nodes c - 1) in
+    let node = conditional_node (base + nodes a - 1) (base + nodes a + nodes b - 1) (base + nodes a + nodes b + nodes c - 1) in
     let table = layout base t in
     let lengths = length-layout a base in
     let lengths' = length-layout b inner in
@@ -256,15 +258,15 @@ node-at (Conditional a b c) base i d h =
           ]
     ]
 
--- a node that stands in the whole table names indices of it
-of-node : (whole part : Tree) (node : Node) → Stands whole 0 part node → IsNodeOf whole part node
-of-node whole part CountNode s = s
-of-node whole part (NumberNode a b c d) s = s
-of-node whole part (NotNode i) s =
+-- what stands in the whole table names indices of it
+of-node : (whole part : Tree) (shape : Shape) → Stands whole 0 part shape → IsNodeOf whole part shape
+of-node whole part CountShape s = s
+of-node whole part (NumberShape a b c d) s = s
+of-node whole part (NotShape i) s =
     let p = s.1 in
     let at : i ≡ p.at = p.is ∙ omega arith in
     (rw at p.within, rw at (s.2 ∙ ap Not p.part_is))
-of-node whole part (BinaryNode op i j) s =
+of-node whole part (BinaryShape op i j) s =
     let p = s.2 in
     let q = s.3 in
     let at : i ≡ p.at = p.is ∙ omega arith in
@@ -273,7 +275,7 @@ of-node whole part (BinaryNode op i j) s =
     let left-is = p.part_is in
     let right-is = q.part_is in
     (rw at p.within, rw at' q.within, (cc))
-of-node whole part (ConditionalNode i j k) s =
+of-node whole part (ConditionalShape i j k) s =
     let p = s.3 in
     let q = s.4 in
     let r = s.5 in
@@ -286,6 +288,6 @@ of-node whole part (ConditionalNode i j k) s =
     let third-is = r.part_is in
     (rw at p.within, rw at' q.within, rw at'' r.within, (cc))
 
-pub node_of : (table : List Node) (tree : Tree) (place : ℕ) (d : Node) → table ≡ layout 0 tree → place < nodes tree → IsNodeOf tree (subtree tree place) (get_or table place d)
+pub node_of : (table : List Node) (tree : Tree) (place : ℕ) (d : Node) → table ≡ layout 0 tree → place < nodes tree → IsNodeOf tree (subtree tree place) (shape_of (get_or table place d))
 node_of table tree place d laid h =
-    of-node tree (subtree tree place) (get_or table place d) (subst (λ xs. StandsAt tree 0 xs place d) (sym laid) (node-at tree 0 place d h))
+    of-node tree (subtree tree place) (shape_of (get_or table place d)) (subst (λ xs. StandsAt tree 0 xs place d) (sym laid) (node-at tree 0 place d h))

@@ -1,12 +1,13 @@
 -- Internal: an evaluation that is under way, with nodes that wait for an operand.
 use Rattle.std.specs.Prelude.{◌≡◌, ℕ, ◌+◌, ◌-◌, ◌<◌, List, [], ◌∷◌, Option, None, nat_lt, if◌then◌else◌, option_and_then}
-use Rattle.plural_rule.specs.declared.node.Node.{Node}
-use Rattle.plural_rule.specs.declared.node.Node.TheVariants.{Count as CountNode, Number as NumberNode, Not as NotNode, Binary as BinaryNode, Conditional as ConditionalNode}
+use Rattle.plural_rule.specs.declared.node.Shape.{Shape}
+use Rattle.plural_rule.specs.declared.node.Shape.TheVariants.{Count as CountShape, Number as NumberShape, Not as NotShape, Binary as BinaryShape, Conditional as ConditionalShape}
 use Rattle.plural_rule.specs.declared.evaluator.Frame.{Frame}
 use Rattle.plural_rule.specs.declared.evaluator.Frame.TheVariants.{Not as NotFrame, First, Second, Condition}
 use Rattle.plural_rule.specs.declared.evaluator.Step.{Step}
 use Rattle.plural_rule.specs.declared.evaluator.Step.TheVariants.{Visit, Stop}
-use Rattle.plural_rule.specs.PostOrder.{numeral}
+use Rattle.plural_rule.specs.declared.operator.Operator.{Operator}
+use Rattle.plural_rule.specs.Node.{numeral, numeral_node}
 use Rattle.plural_rule.specs.Expression.{Tree, Count, Number, Not, Binary, Conditional, nodes, negated, binary_value, combined, chosen, value, visited, visited_right}
 
 -- the part of a tree whose node stands at an index of the tree's table
@@ -23,13 +24,13 @@ subtree (Conditional a b c) i =
     else if nat_lt i (nodes a + nodes b + nodes c) then subtree c (i - nodes a - nodes b) else Conditional a b c
 
 -- the node is that of a part of the whole tree, and names the indices of its operands
-abbrev pub IsNodeOf : Tree → Tree → Node → Type 0
-IsNodeOf whole part CountNode = part ≡ Count
-IsNodeOf whole part (NumberNode a b c d) = part ≡ Number (numeral a b c d)
-IsNodeOf whole part (NotNode i) = (i < nodes whole) × (part ≡ Not (subtree whole i))
-IsNodeOf whole part (BinaryNode op i j) =
+abbrev pub IsNodeOf : Tree → Tree → Shape → Type 0
+IsNodeOf whole part CountShape = part ≡ Count
+IsNodeOf whole part (NumberShape a b c d) = part ≡ Number (numeral a b c d)
+IsNodeOf whole part (NotShape i) = (i < nodes whole) × (part ≡ Not (subtree whole i))
+IsNodeOf whole part (BinaryShape op i j) =
     (i < nodes whole) × (j < nodes whole) × (part ≡ Binary op (subtree whole i) (subtree whole j))
-IsNodeOf whole part (ConditionalNode i j k) =
+IsNodeOf whole part (ConditionalShape i j k) =
     (i < nodes whole) × (j < nodes whole) × (k < nodes whole)
     × (part ≡ Conditional (subtree whole i) (subtree whole j) (subtree whole k))
 
@@ -42,6 +43,10 @@ pub record Outcome : Type 0 where
 abbrev pub outcome_of : Tree → ℕ → ℕ → Outcome
 outcome_of tree n steps = record { value = value tree n; steps = steps + visited tree n }
 
+-- an operator before its second operand, with the value of the first
+abbrev pub second_frame : Operator → ℕ → Frame
+second_frame op left = let node = numeral_node left in Second op node.first node.second node.third node.fourth
+
 -- the outcome of a node that waits, from that of the operand that it waits for
 abbrev pub resumed : Tree → ℕ → Frame → Outcome → Outcome
 resumed whole n NotFrame o = record { value = negated o.value; steps = o.steps }
@@ -50,7 +55,8 @@ resumed whole n (First op j) o =
       value = binary_value op o.value (value (subtree whole j) n);
       steps = o.steps + visited_right op o.value (visited (subtree whole j) n);
     }
-resumed whole n (Second op left) o = record { value = option_and_then (combined op left) o.value; steps = o.steps }
+resumed whole n (Second op a b c d) o =
+    record { value = option_and_then (combined op (numeral a b c d)) o.value; steps = o.steps }
 resumed whole n (Condition j k) o =
     record {
       value = chosen o.value (value (subtree whole j) n) (value (subtree whole k) n) None;
@@ -71,7 +77,7 @@ finished_step whole n frames steps (Stop v) = record { value = v; steps = steps 
 abbrev pub remaining_frame : Tree → Frame → ℕ
 remaining_frame whole NotFrame = 0
 remaining_frame whole (First op j) = nodes (subtree whole j)
-remaining_frame whole (Second op left) = 0
+remaining_frame whole (Second op a b c d) = 0
 remaining_frame whole (Condition j k) = nodes (subtree whole j) + nodes (subtree whole k)
 
 abbrev pub remaining : Tree → List Frame → ℕ
@@ -87,7 +93,7 @@ remaining_step whole (Stop v) = 0
 abbrev pub IsFrameOf : Tree → Frame → Type 0
 IsFrameOf whole NotFrame = Unit {0}
 IsFrameOf whole (First op j) = j < nodes whole
-IsFrameOf whole (Second op left) = Unit {0}
+IsFrameOf whole (Second op a b c d) = Unit {0}
 IsFrameOf whole (Condition j k) = (j < nodes whole) × (k < nodes whole)
 
 abbrev pub AreFramesOf : Tree → List Frame → Type 0

@@ -3,6 +3,7 @@ pub mod Tokens
 pub mod Grammar
 pub mod Header
 pub mod PluralRule
+pub mod Node
 pub mod PostOrder
 pub mod ShiftReduce
 pub mod ParserState

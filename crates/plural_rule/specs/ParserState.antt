@@ -1,12 +1,12 @@
 -- Internal: how the parser's table and stack stand for what waits and for a complete operand.
 use Rattle.std.specs.Prelude.{◌≡◌, ℕ, ◌+◌, ◌-◌, nat_le, ◌==◌, Bool, true, false, List, [], ◌∷◌, ◌++◌, Option, Some, None, if◌then◌else◌}
 use Rattle.plural_rule.specs.declared.node.Node.{Node}
-use Rattle.plural_rule.specs.declared.node.Node.TheVariants.{Not as NotNode, Binary as BinaryNode, Conditional as ConditionalNode}
 use Rattle.plural_rule.specs.declared.parser.Pending.{Pending}
 use Rattle.plural_rule.specs.declared.parser.Pending.TheVariants.{Not as NotPending, Open as OpenPending, Binary as BinaryPending, Question as QuestionPending, Colon as ColonPending}
 use Rattle.plural_rule.specs.Expression.{Tree, nodes}
 use Rattle.plural_rule.specs.Grammar.{level, Spelt}
 use Rattle.plural_rule.specs.PluralRule.{IsReadable}
+use Rattle.plural_rule.specs.Node.{not_node, binary_node, conditional_node}
 use Rattle.plural_rule.specs.PostOrder.{layout}
 use Rattle.plural_rule.specs.ShiftReduce.{Waiting, WaitNot, WaitOpen, WaitBinary, WaitQuestion, WaitColon, State, Want, Have}
 
@@ -43,11 +43,11 @@ pendings (w ∷ stack) = pendings stack ++ pending (size stack) w ∷ []
 
 -- the node that the operand at index `last` completes, where an operator of level k follows it
 abbrev pub completed_node : ℕ → Pending → ℕ → Option Node
-completed_node k NotPending last = Some (NotNode last)
+completed_node k NotPending last = Some (not_node last)
 completed_node k OpenPending last = None
-completed_node k (BinaryPending op i) last = if nat_le k (level op) then Some (BinaryNode op i last) else None
+completed_node k (BinaryPending op i) last = if nat_le k (level op) then Some (binary_node op i last) else None
 completed_node k (QuestionPending i) last = None
-completed_node k (ColonPending i j) last = if k == 0 then Some (ConditionalNode i j last) else None
+completed_node k (ColonPending i j) last = if k == 0 then Some (conditional_node i j last) else None
 
 -- table and stack stand for what waits
 pub record IsWaiting (table : List Node) (entries : List Pending) (stack : List Waiting) : Type 0 where

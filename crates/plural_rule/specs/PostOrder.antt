@@ -1,47 +1,43 @@
--- Internal: the table of nodes that holds a tree, operands before their node, each named by its index.
+-- The table of nodes that holds a tree, operands before their node, each named by its index.
 use Rattle.std.specs.Prelude.{◌≡◌, ℕ, ◌+◌, ◌-◌, ◌*◌, ◌/◌, ◌%◌, ◌^◌, List, [], ◌∷◌, ◌++◌, refl}
 use Rattle.std.specs.Coded.{Coded, code_by, coded_list}
 use Rattle.std.proofs.Common.{◌∙◌, ap, sym, append_assoc, append-nil}
 use Rattle.std.proofs.lemmas.Nat.{div-add-mod'}
 use Rattle.plural_rule.specs.declared.node.Node.{Node}
-use Rattle.plural_rule.specs.declared.node.Node.TheVariants.{Count as CountNode, Number as NumberNode, Not as NotNode, Binary as BinaryNode, Conditional as ConditionalNode}
+use Rattle.plural_rule.specs.declared.node.Shape.{Shape}
+use Rattle.plural_rule.specs.declared.node.Shape.TheVariants.{Count as CountShape, Number as NumberShape, Not as NotShape, Binary as BinaryShape, Conditional as ConditionalShape}
+use Rattle.plural_rule.specs.Node.{count_node, numeral, numeral_node, not_node, binary_node, conditional_node, shape_of, operator_of-code}
 use Rattle.plural_rule.specs.Expression.{Tree, Count, Number, Not, Binary, Conditional, nodes}
-
--- the numeral of four parts of 16 bits, the highest first
-abbrev pub numeral : ℕ → ℕ → ℕ → ℕ → ℕ
-numeral a b c d = ((a * 2 ^ 16 + b) * 2 ^ 16 + c) * 2 ^ 16 + d
-
--- the node of a numeral
-abbrev pub numeral_node : ℕ → Node
-numeral_node v =
-    NumberNode (((v / 2 ^ 16) / 2 ^ 16) / 2 ^ 16) (((v / 2 ^ 16) / 2 ^ 16) % 2 ^ 16) ((v / 2 ^ 16) % 2 ^ 16) (v % 2 ^ 16)
 
 -- the nodes of a tree, the first of which stands at index base
 abbrev pub layout : ℕ → Tree → List Node
-layout base Count = CountNode ∷ []
+layout base Count = count_node ∷ []
 layout base (Number v) = numeral_node v ∷ []
-layout base (Not a) = layout base a ++ NotNode (base + nodes a - 1) ∷ []
+layout base (Not a) = layout base a ++ not_node (base + nodes a - 1) ∷ []
 layout base (Binary op a b) =
-    layout base a ++ (layout (base + nodes a) b ++ BinaryNode op (base + nodes a - 1) (base + nodes a + nodes b - 1) ∷ [])
+    layout base a ++ (layout (base + nodes a) b ++ binary_node op (base + nodes a - 1) (base + nodes a + nodes b - 1) ∷ [])
 layout base (Conditional a b c) =
     layout base a ++ (layout (base + nodes a) b ++ (layout (base + nodes a + nodes b) c
-    ++ ConditionalNode (base + nodes a - 1) (base + nodes a + nodes b - 1) (base + nodes a + nodes b + nodes c - 1) ∷ []))
+    ++ conditional_node (base + nodes a - 1) (base + nodes a + nodes b - 1) (base + nodes a + nodes b + nodes c - 1) ∷ []))
 
--- the trees read so far, newest first, behind one more node
+-- the trees read so far, newest first, and one more node, by what it is
+abbrev pub with_shape : Shape → List Tree → List Tree
+with_shape CountShape trees = Count ∷ trees
+with_shape (NumberShape a b c d) trees = Number (numeral a b c d) ∷ trees
+with_shape (NotShape i) [] = []
+with_shape (NotShape i) (a ∷ trees) = Not a ∷ trees
+with_shape (BinaryShape op i j) [] = []
+with_shape (BinaryShape op i j) (b ∷ []) = []
+with_shape (BinaryShape op i j) (b ∷ a ∷ trees) = Binary op a b ∷ trees
+with_shape (ConditionalShape i j k) [] = []
+with_shape (ConditionalShape i j k) (c ∷ []) = []
+with_shape (ConditionalShape i j k) (c ∷ b ∷ []) = []
+with_shape (ConditionalShape i j k) (c ∷ b ∷ a ∷ trees) = Conditional a b c ∷ trees
+
 abbrev pub with_node : Node → List Tree → List Tree
-with_node CountNode trees = Count ∷ trees
-with_node (NumberNode a b c d) trees = Number (numeral a b c d) ∷ trees
-with_node (NotNode i) [] = []
-with_node (NotNode i) (a ∷ trees) = Not a ∷ trees
-with_node (BinaryNode op i j) [] = []
-with_node (BinaryNode op i j) (b ∷ []) = []
-with_node (BinaryNode op i j) (b ∷ a ∷ trees) = Binary op a b ∷ trees
-with_node (ConditionalNode i j k) [] = []
-with_node (ConditionalNode i j k) (c ∷ []) = []
-with_node (ConditionalNode i j k) (c ∷ b ∷ []) = []
-with_node (ConditionalNode i j k) (c ∷ b ∷ a ∷ trees) = Conditional a b c ∷ trees
+with_node node trees = with_shape (shape_of node) trees
 
--- the same behind a list of nodes
+-- the same with a list of nodes
 abbrev pub with_nodes : List Tree → List Node → List Tree
 with_nodes trees [] = trees
 with_nodes trees (node ∷ rest) = with_nodes (with_node node trees) rest
@@ -64,17 +60,18 @@ with_nodes-layout : (t : Tree) (base : ℕ) (trees : List Tree) (rest : List Nod
 with_nodes-layout Count base trees rest = refl
 with_nodes-layout (Number v) base trees rest = ap (λ x. with_nodes (Number x ∷ trees) rest) (numeral-parts v)
 with_nodes-layout (Not a) base trees rest =
-    let last = NotNode (base + nodes a - 1) in
+    let last = not_node (base + nodes a - 1) in
     ap (with_nodes trees) (append_assoc (layout base a) (last ∷ []) rest) ∙ with_nodes-layout a base trees (last ∷ rest)
 with_nodes-layout (Binary op a b) base trees rest =
-    let last = BinaryNode op (base + nodes a - 1) (base + nodes a + nodes b - 1) in
+    let last = binary_node op (base + nodes a - 1) (base + nodes a + nodes b - 1) in
     let second = layout (base + nodes a) b in
     ap (with_nodes trees) (append_assoc (layout base a) (second ++ last ∷ []) rest)
     ∙ with_nodes-layout a base trees ((second ++ last ∷ []) ++ rest)
     ∙ ap (with_nodes (a ∷ trees)) (append_assoc second (last ∷ []) rest)
     ∙ with_nodes-layout b (base + nodes a) (a ∷ trees) (last ∷ rest)
+    ∙ ap (λ o. with_nodes (Binary o a b ∷ trees) rest) (operator_of-code op)
 with_nodes-layout (Conditional a b c) base trees rest =
-    let last = ConditionalNode (base + nodes a - 1) (base + nodes a + nodes b - 1) (base + nodes a + nodes b + nodes c - 1) in
+    let last = conditional_node (base + nodes a - 1) (base + nodes a + nodes b - 1) (base + nodes a + nodes b + nodes c - 1) in
     let second = layout (base + nodes a) b in
     let third = layout (base + nodes a + nodes b) c in
     ap (with_nodes trees) (append_assoc (layout base a) (second ++ (third ++ last ∷ [])) rest)

@@ -2,13 +2,13 @@
 //!
 //! What waits for an operand stands in a stack of fixed size, so the machine's stack doesn't grow with
 //! the expression.
-ghost use Rattle.std.specs.Prelude.{◌≡◌, ℕ, ◌+◌, ◌<◌, ◌≤◌, Some};
+ghost use Rattle.std.specs.Prelude.{◌≡◌, ℕ, ◌+◌, ◌<◌, ◌≤◌, Some, length};
 ghost use Rattle.arrayvec.specs.ArrayVec.{array_vec_len};
 ghost use Rattle.plural_rule.specs.Expression.{Tree, nodes, value, visited};
 ghost use Rattle.plural_rule.specs.PostOrder.{layout, tree_of};
-ghost use Rattle.plural_rule.specs.Evaluation.{subtree, IsNodeOf, Outcome, outcome_of, finished, finished_step, remaining, remaining_step, AreFramesOf, IsStepOf};
+ghost use Rattle.plural_rule.specs.Evaluation.{second_frame, subtree, IsNodeOf, Outcome, outcome_of, finished, finished_step, remaining, remaining_step, AreFramesOf, IsStepOf};
 
-use crate::node::{Node, numeral};
+use crate::node::{Node, Shape, numeral};
 use crate::operator::{Operator, truth};
 use crate::rule::LIMIT;
 use arrayvec::ArrayVec;
@@ -20,10 +20,21 @@ pub(crate) enum Frame {
     Not,
     /// An operator before its first operand, with the index of the second.
     First(Operator, u16),
-    /// An operator before its second operand, with the value of the first.
-    Second(Operator, u64),
+    /// An operator before its second operand, with the value of the first in four parts of 16 bits, the highest
+    /// first: so a frame has no gap, and an empty stack is cleared as one block.
+    Second(Operator, u16, u16, u16, u16),
     /// `a ? b : c` before `a`, with the indices of `b` and `c`.
     Condition(u16, u16),
+}
+
+impl Frame {
+    /// An operator before its second operand.
+    fn second(operator: Operator, left: u64) -> Frame
+        ensures { result ≡ second_frame operator left }
+    {
+        let node = Node::numeral(left);
+        Frame::Second(operator, node.first, node.second, node.third, node.fourth)
+    }
 }
 
 impl Default for Frame {
@@ -48,9 +59,11 @@ pub(crate) enum Step {
 }
 
 /// The value of the expression in `table` at `count`, or `None` where it is undefined, and how many nodes were visited.
-pub(crate) fn evaluate(table: &[Node], count: u64) -> (Option<u64>, u32)
+///
+/// The table is that of a rule: each node stands after its operands, and the whole expression's last.
+pub fn evaluate(table: &[Node], count: u64) -> (Option<u64>, u32)
     requires laid { table.now ≡ layout 0 (tree_of table.now) }
-    requires limit { nodes (tree_of table.now) ≤ LIMIT }
+    requires limit { length table.now ≤ LIMIT }
     ensures value { result.0 ≡ value (tree_of table.now) count }
     ensures steps { result.1 ≡ visited (tree_of table.now) count }
     ensures bound { result.1 ≤ nodes (tree_of table.now) }
@@ -85,14 +98,14 @@ fn evaluate_within<const DEPTH: usize>(table: &[Node], count: u64) -> (Option<u6
     }
 }
 
-/// The node at an index.
-fn node_at(table: &[Node], place: usize) -> Node
+/// What the node at an index is.
+fn node_at(table: &[Node], place: usize) -> Shape
     requires laid { table.now ≡ layout 0 (tree_of table.now) }
     requires limit { nodes (tree_of table.now) ≤ LIMIT }
     requires place { place < nodes (tree_of table.now) }
     ensures { IsNodeOf (tree_of table.now) (subtree (tree_of table.now) place) result }
 {
-    table[place]
+    table[place].shape()
 }
 
 /// Visits the node at an index: a leaf has its value, and any other node waits for its first operand.
@@ -119,19 +132,19 @@ fn visit<const DEPTH: usize>(
     ensures size { array_vec_len frames.new ≤ array_vec_len frames.old + 1 }
 {
     match node_at(table, place) {
-        Node::Count => resume(frames, count),
-        Node::Number(first, second, third, fourth) => {
+        Shape::Count => resume(frames, count),
+        Shape::Number(first, second, third, fourth) => {
             resume(frames, numeral(first, second, third, fourth))
         }
-        Node::Not(operand) => {
+        Shape::Not(operand) => {
             frames.push(Frame::Not);
             Step::Visit(operand)
         }
-        Node::Binary(operator, left, right) => {
+        Shape::Binary(operator, left, right) => {
             frames.push(Frame::First(operator, right));
             Step::Visit(left)
         }
-        Node::Conditional(condition, yes, no) => {
+        Shape::Conditional(condition, yes, no) => {
             frames.push(Frame::Condition(yes, no));
             Step::Visit(condition)
         }
@@ -139,7 +152,7 @@ fn visit<const DEPTH: usize>(
 }
 
 /// Hands a value to the nodes that wait for it, up to one that needs a further operand.
-#[tactic(auto, using(crate::proofs::Frames::finished_more, crate::proofs::Frames::remaining_more, crate::proofs::Frames::frames_more, crate::proofs::Frames::frames_split, crate::proofs::Frames::finished_undefined))]
+#[tactic(auto, using(crate::proofs::Frames::finished_more, crate::proofs::Frames::remaining_more, crate::proofs::Frames::frames_more, crate::proofs::Frames::frames_split, crate::proofs::Frames::finished_undefined, crate::proofs::Frames::resumed_second))]
 fn resume<const DEPTH: usize>(frames: &mut Frames<DEPTH>, operand: u64) -> Step
     requires room { array_vec_len frames.old ≤ DEPTH }
     requires size { DEPTH ≤ LIMIT }
@@ -158,15 +171,18 @@ fn resume<const DEPTH: usize>(frames: &mut Frames<DEPTH>, operand: u64) -> Step
             Frame::Not => value = truth(value == 0),
             Frame::First(operator, right) => {
                 if operator.needs_right(value) {
-                    frames.push(Frame::Second(operator, value));
+                    frames.push(Frame::second(operator, value));
                     return Step::Visit(right);
                 }
                 value = operator.settled();
             }
-            Frame::Second(operator, left) => match operator.combined(left, value) {
-                Some(combined) => value = combined,
-                None => return Step::Stop(None),
-            },
+            Frame::Second(operator, first, second, third, fourth) => {
+                let left = numeral(first, second, third, fourth);
+                match operator.combined(left, value) {
+                    Some(combined) => value = combined,
+                    None => return Step::Stop(None),
+                }
+            }
             Frame::Condition(yes, no) => return Step::Visit(if value == 0 { no } else { yes }),
         }
     }

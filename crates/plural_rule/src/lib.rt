@@ -16,4 +16,6 @@ mod parser;
 mod rule;
 mod token;
 
+pub use evaluator::evaluate;
+pub use node::Node;
 pub use rule::{LIMIT, Reason, Rule, Source};

@@ -1,19 +1,40 @@
 //! The table of nodes that holds an expression.
 ghost use Rattle.std.specs.Prelude.{◌≡◌};
-ghost use Rattle.plural_rule.specs.PostOrder.{numeral, numeral_node};
+ghost use Rattle.plural_rule.specs.Node.{count_node, numeral_node, not_node, binary_node, conditional_node, numeral, shape_of};
 
 use crate::operator::Operator;
 use crate::rule::LIMIT;
 use arrayvec::ArrayVec;
 
-/// A node of an expression in a table, in which it stands behind its operands.
+/// A node of an expression as it stands in a table, after its operands: plain numbers, so that C can
+/// hold a table too.
 ///
-/// An operand is named by its index in the table.
+/// An operand is named by its index in the table. What isn't named below is 0.
+#[repr(C)]
+#[derive(Clone, Copy, Debug, Drop)]
+pub struct Node {
+    /// 0 for `n`, the count that the rule is asked for; 1 for a numeral; 2 for `!`; 3 for an operator of two
+    /// operands; 4 for `a ? b : c`.
+    pub kind: u8,
+    /// Of an operator of two operands: 0 to 12 for `||`, `&&`, `==`, `!=`, `<`, `>`, `<=`, `>=`, `+`, `-`, `*`,
+    /// `/`, `%`.
+    pub operator: u8,
+    /// The index of the first operand, or the highest 16 bits of a numeral.
+    pub first: u16,
+    /// The index of the second operand, or the next 16 bits of a numeral.
+    pub second: u16,
+    /// The index of the third operand, or the next 16 bits of a numeral.
+    pub third: u16,
+    /// The lowest 16 bits of a numeral.
+    pub fourth: u16,
+}
+
+/// What a node is.
 #[derive(Clone, Copy, Drop)]
-pub(crate) enum Node {
-    /// `n`, the count that the rule is asked for.
+pub(crate) enum Shape {
+    /// `n`
     Count,
-    /// A numeral in four parts of 16 bits, the highest first, so that a node takes 10 bytes.
+    /// A numeral in four parts of 16 bits, the highest first.
     Number(u16, u16, u16, u16),
     /// `!` with the index of its operand.
     Not(u16),
@@ -24,18 +45,80 @@ pub(crate) enum Node {
 }
 
 impl Node {
+    /// The node of `n`, which is also what the unused places of a table hold.
+    pub const COUNT: Node = Node {
+        kind: 0,
+        operator: 0,
+        first: 0,
+        second: 0,
+        third: 0,
+        fourth: 0,
+    };
+
     /// The node of a numeral.
     pub(crate) fn numeral(value: u64) -> Node
         ensures { result ≡ numeral_node value }
     {
         let third = value / 65536;
         let second = third / 65536;
-        Node::Number(
-            (second / 65536) as u16,
-            (second % 65536) as u16,
-            (third % 65536) as u16,
-            (value % 65536) as u16,
-        )
+        Node {
+            kind: 1,
+            operator: 0,
+            first: (second / 65536) as u16,
+            second: (second % 65536) as u16,
+            third: (third % 65536) as u16,
+            fourth: (value % 65536) as u16,
+        }
+    }
+
+    /// The node of `!`.
+    pub(crate) fn not(operand: u16) -> Node
+        ensures { result ≡ not_node operand }
+    {
+        Node {
+            kind: 2,
+            first: operand,
+            ..Node::COUNT
+        }
+    }
+
+    /// The node of an operator of two operands.
+    pub(crate) fn binary(operator: Operator, left: u16, right: u16) -> Node
+        ensures { result ≡ binary_node operator left right }
+    {
+        Node {
+            kind: 3,
+            operator: operator.code(),
+            first: left,
+            second: right,
+            ..Node::COUNT
+        }
+    }
+
+    /// The node of `a ? b : c`.
+    pub(crate) fn conditional(condition: u16, yes: u16, no: u16) -> Node
+        ensures { result ≡ conditional_node condition yes no }
+    {
+        Node {
+            kind: 4,
+            first: condition,
+            second: yes,
+            third: no,
+            ..Node::COUNT
+        }
+    }
+
+    /// What the node is.
+    pub(crate) fn shape(self) -> Shape
+        ensures { result ≡ shape_of self }
+    {
+        match self.kind {
+            0 => Shape::Count,
+            1 => Shape::Number(self.first, self.second, self.third, self.fourth),
+            2 => Shape::Not(self.first),
+            3 => Shape::Binary(Operator::of_code(self.operator), self.first, self.second),
+            _ => Shape::Conditional(self.first, self.second, self.third),
+        }
     }
 }
 
@@ -48,7 +131,7 @@ pub(crate) fn numeral(first: u16, second: u16, third: u16, fourth: u16) -> u64
 
 impl Default for Node {
     fn default() -> Self {
-        Node::Count
+        Node::COUNT
     }
 }
 

@@ -2,6 +2,7 @@
 ghost use Rattle.std.specs.Prelude.{◌≡◌};
 ghost use Rattle.plural_rule.specs.Expression.{combined, needs_right, settled, truth};
 ghost use Rattle.plural_rule.specs.Grammar.{level};
+ghost use Rattle.plural_rule.specs.Node.{operator_code, operator_of};
 
 /// An operator of two operands, with the meaning that it has in C for unsigned numbers of 64 bits.
 #[derive(Clone, Copy, Drop)]
@@ -46,6 +47,48 @@ impl Operator {
             Operator::Less | Operator::Greater | Operator::AtMost | Operator::AtLeast => 4,
             Operator::Add | Operator::Subtract => 5,
             Operator::Multiply | Operator::Divide | Operator::Remainder => 6,
+        }
+    }
+
+    /// The number of the operator in a node.
+    pub(crate) fn code(self) -> u8
+        ensures { result ≡ operator_code self }
+    {
+        match self {
+            Operator::Or => 0,
+            Operator::And => 1,
+            Operator::Equal => 2,
+            Operator::NotEqual => 3,
+            Operator::Less => 4,
+            Operator::Greater => 5,
+            Operator::AtMost => 6,
+            Operator::AtLeast => 7,
+            Operator::Add => 8,
+            Operator::Subtract => 9,
+            Operator::Multiply => 10,
+            Operator::Divide => 11,
+            Operator::Remainder => 12,
+        }
+    }
+
+    /// The operator of a number.
+    pub(crate) fn of_code(code: u8) -> Operator
+        ensures { result ≡ operator_of code }
+    {
+        match code {
+            0 => Operator::Or,
+            1 => Operator::And,
+            2 => Operator::Equal,
+            3 => Operator::NotEqual,
+            4 => Operator::Less,
+            5 => Operator::Greater,
+            6 => Operator::AtMost,
+            7 => Operator::AtLeast,
+            8 => Operator::Add,
+            9 => Operator::Subtract,
+            10 => Operator::Multiply,
+            11 => Operator::Divide,
+            _ => Operator::Remainder,
         }
     }
 

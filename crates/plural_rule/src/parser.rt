@@ -49,12 +49,12 @@ impl Pending {
         ensures { result ≡ completed_node loosest self last }
     {
         match self {
-            Pending::Not => Some(Node::Not(last)),
+            Pending::Not => Some(Node::not(last)),
             Pending::Binary(operator, left) if loosest <= operator.level() => {
-                Some(Node::Binary(operator, left, last))
+                Some(Node::binary(operator, left, last))
             }
             Pending::Colon(condition, yes) if loosest == 0 => {
-                Some(Node::Conditional(condition, yes, last))
+                Some(Node::conditional(condition, yes, last))
             }
             _ => None,
         }
@@ -108,7 +108,7 @@ fn take_operand<const DEPTH: usize>(
 {
     match token {
         Token::Count => {
-            table.push(Node::Count);
+            table.push(Node::COUNT);
             Some(true)
         }
         Token::Number(number) => {

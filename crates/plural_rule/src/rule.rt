@@ -1,13 +1,14 @@
 //! The rule of a header text.
-ghost use Rattle.std.specs.Prelude.{◌≡◌, ◌≤◌, [], MatchResult};
+ghost use Rattle.std.specs.Prelude.{◌≡◌, ◌≤◌, [], length, MatchResult};
 ghost use Rattle.plural_rule.specs.Expression.{value, visited, nodes};
 ghost use Rattle.plural_rule.specs.PluralRule.{IsRuleOf, IsReason, default_tree};
 ghost use Rattle.plural_rule.specs.PostOrder.{layout, tree_of};
 ghost use Rattle.plural_rule.specs.ParserState.{HoldsRule};
 
+use crate::evaluator::evaluate;
 use crate::node::{Node, Table};
 use crate::operator::Operator;
-use crate::{evaluator, header, lexer, parser};
+use crate::{header, lexer, parser};
 use std::marker::Model;
 
 /// The most bytes that an expression may have, and so the most nodes.
@@ -110,7 +111,17 @@ impl Rule {
         ensures steps { result.1 ≡ visited self.now.tree count }
         ensures bound { result.1 ≤ nodes self.now.tree }
     {
-        evaluator::evaluate(self.table.as_slice(), count)
+        evaluate(self.table(), count)
+    }
+
+    /// The nodes of the expression, as [`evaluate`] takes them: each one after its operands, and the whole
+    /// expression's last.
+    pub fn table(&self) -> &[Node]
+        ensures laid { result.now ≡ layout 0 self.now.tree }
+        ensures tree { tree_of result.now ≡ self.now.tree }
+        ensures limit { length result.now ≤ LIMIT }
+    {
+        self.table.as_slice()
     }
 }
 
@@ -161,7 +172,7 @@ fn write_default(table: &mut Table)
     ensures { table.new.items ≡ layout 0 default_tree }
 {
     table.clear();
-    table.push(Node::Count);
+    table.push(Node::COUNT);
     table.push(Node::numeral(1));
-    table.push(Node::Binary(Operator::NotEqual, 0, 1));
+    table.push(Node::binary(Operator::NotEqual, 0, 1));
 }

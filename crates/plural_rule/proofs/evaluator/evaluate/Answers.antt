@@ -1,8 +1,23 @@
-use Rattle.std.proofs.Common.{length, ap, arith}
-use Rattle.plural_rule.specs.PostOrder.{tree_of}
+use Rattle.std.proofs.Common.{◌≡◌, List, length, ap, ◌∙◌, arith}
+use Rattle.plural_rule.specs.declared.node.Node.{Node}
+use Rattle.plural_rule.specs.Expression.{nodes}
+use Rattle.plural_rule.specs.PostOrder.{layout, tree_of}
 use Rattle.plural_rule.proofs.ParserSteps.{length-layout}
 use Rattle.plural_rule.proofs.evaluator.evaluate.Goals as goal
 
+count : (table : List Node) → table ≡ layout 0 (tree_of table) → length table ≡ nodes (tree_of table)
+count table laid = ap length laid ∙ length-layout (tree_of table) 0
+
+pub evaluate_within-requires-clause-limit : goal.evaluate_within-requires-clause-limit
+evaluate_within-requires-clause-limit c = omega (arith, count c.args.table.now c.requires.laid, c.requires.limit)
+
 pub evaluate_within-requires-clause-depth : goal.evaluate_within-requires-clause-depth
-evaluate_within-requires-clause-depth c =
-    omega (arith, ap length c.requires.laid, length-layout (tree_of c.args.table.now) 0)
+evaluate_within-requires-clause-depth c = omega (arith, count c.args.table.now c.requires.laid)
+
+pub evaluate_within-requires-else-table-le-SHORT-clause-limit : goal.evaluate_within-requires-else-table-le-SHORT-clause-limit
+evaluate_within-requires-else-table-le-SHORT-clause-limit c =
+    omega (arith, count c.args.table.now c.requires.laid, c.requires.limit)
+
+pub evaluate_within-requires-else-table-le-SHORT-clause-depth : goal.evaluate_within-requires-else-table-le-SHORT-clause-depth
+evaluate_within-requires-else-table-le-SHORT-clause-depth c =
+    omega (arith, count c.args.table.now c.requires.laid, c.requires.limit)

@@ -12,4 +12,5 @@ bounds-table-place c =
     omega arith
 
 pub returns : goal.returns
-returns c = node_of c.args.table.now (tree_of c.args.table.now) c.args.place _ c.requires.laid c.requires.place
+returns c =
+    rw c.shape.ensures (node_of c.args.table.now (tree_of c.args.table.now) c.args.place _ c.requires.laid c.requires.place)

@@ -21,7 +21,7 @@ returns-then-needs_right-clause-step g c whole h =
 pub returns-then-needs_right-clause-frames : goal.returns-then-needs_right-clause-frames
 returns-then-needs_right-clause-frames g c whole h =
     rw c.push.ensures.items
-    (frames_more whole _ _ (frames_pop whole _ _ _ _ c.in-Some.ensures.items c.in-First.is (c.loop-frame.invariant.frames whole h)).0 tt)
+    (frames_more whole _ _ (frames_pop whole _ _ _ _ c.in-Some.ensures.items c.in-First.is (c.loop-frame.invariant.frames whole h)).0 (rw c.second.ensures tt))
 
 pub loop-frame-preserved-in-First : goal.loop-frame-preserved-in-First
 loop-frame-preserved-in-First g c =
@@ -44,7 +44,7 @@ loop-frame-preserved g c =
     record {
       outcome = λ whole n steps.
           finished_pop whole n c.loop-frame.frames.items c.pop.new.self.items c.in-Some.frame _ _ _ split (c.loop-frame.invariant.outcome whole n steps)
-          (rw (c.in-Second.is, value) refl);
+          (rw (c.in-Second.is, ← c.numeral-left.ensures, value) refl);
       remaining = λ whole. omega (arith, c.loop-frame.invariant.remaining whole, remaining_pop whole _ _ _ split);
       frames = λ whole h. (frames_pop whole _ _ _ _ split c.in-Second.is (c.loop-frame.invariant.frames whole h)).0;
       size = omega (arith, c.in-Some.ensures.len, c.loop-frame.invariant.size);

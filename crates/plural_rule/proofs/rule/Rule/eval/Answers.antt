@@ -1,11 +1,6 @@
-use Rattle.std.proofs.Common.{length, ap, arith}
-use Rattle.plural_rule.specs.Expression.{nodes}
-use Rattle.plural_rule.specs.PostOrder.{tree_of}
-use Rattle.plural_rule.proofs.ParserSteps.{length-layout}
+use Rattle.std.proofs.Common.{sym, ◌∙◌, ap}
+use Rattle.plural_rule.specs.PostOrder.{layout}
 use Rattle.plural_rule.proofs.rule.Rule.eval.Goals as goal
 
-pub evaluate-requires-clause-limit : goal.evaluate-requires-clause-limit
-evaluate-requires-clause-limit c =
-    let tree = tree_of c.self.inside.table.items in
-    let same = ap tree_of c.as_slice.ensures.value in
-    omega (arith, c.as_slice.ensures.fits, ap length c.as_slice.ensures.value, ap nodes same, ap length c.self.invariant, length-layout tree 0)
+pub evaluate-requires-clause-laid : goal.evaluate-requires-clause-laid
+evaluate-requires-clause-laid c = c.table.ensures.laid ∙ ap (layout 0) (sym c.table.ensures.tree)
