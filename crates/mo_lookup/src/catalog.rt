@@ -15,10 +15,8 @@ ghost use Rattle.mo_lookup.specs.Contents.{AreContents, expression_limit, header
 ghost use Rattle.mo_lookup.specs.Answer.{outcome_of, translated};
 
 use crate::answer::Answer;
-use crate::forms::{first_form, selected_form};
-use crate::query::{is_clean_key, untranslated_text};
-use crate::search::find;
-use crate::view_keys::ViewKeys;
+use crate::forms::first_form;
+use crate::looking::{form, look, translation};
 use mo_file::{Meter, MoError, MoView};
 use plural_rule::Rule;
 use std::cmp::Ordering;
@@ -126,23 +124,15 @@ impl<'a> Catalog<'a> {
         ensures unclean { is_clean_key (option_copied context.entry) id.now ≡ false → result.comparisons ≡ 0 }
         ensures nodes { result.steps ≤ nodes self.now.rule.tree }
     {
-        let before = meter.count();
-        let translation = if is_clean_key(context, id) {
-            self.translation(context, id, meter)
-        } else {
-            None
-        };
-        let comparisons = (meter.count() - before) as u32;
-        let (text, steps) = match translation {
-            Some(translation) => self.form(translation, plural),
-            None => (untranslated_text(id, plural), 0),
-        };
-        Answer {
-            text,
-            found: translation.is_some(),
-            comparisons,
-            steps,
-        }
+        look(
+            &self.view,
+            self.rule.nplurals(),
+            self.rule.table(),
+            context,
+            id,
+            plural,
+            meter,
+        )
     }
 
     /// The translation under the key of a context and a msgid, which the search finds or not.
@@ -158,12 +148,7 @@ impl<'a> Catalog<'a> {
         ensures cost { meter.new ≤ meter.old + search_bound (length self.now.messages) }
         ensures small { meter.new ≤ meter.old + 32 }
     {
-        let mut keys = ViewKeys {
-            view: &self.view,
-            meter,
-        };
-        let place = find(&mut keys, context, id)?;
-        Some(self.view.translation(place))
+        translation(&self.view, context, id, meter)
     }
 
     /// The form of a translation, form 0 where no plural is asked for, and the nodes that were evaluated for it.
@@ -176,9 +161,6 @@ impl<'a> Catalog<'a> {
         ensures steps { result.1 ≡ (translated (forms translation.now) self.now.rule (given plural.entry)).steps }
         ensures nodes { result.1 ≤ nodes self.now.rule.tree }
     {
-        match plural {
-            Some((_, count)) => selected_form(translation, &self.rule, count),
-            None => (first_form(translation), 0),
-        }
+        form(self.rule.nplurals(), self.rule.table(), translation, plural)
     }
 }

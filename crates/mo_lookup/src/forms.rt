@@ -1,13 +1,14 @@
 //! The forms of a translation ("Plural forms"): the pieces between its NULs.
 
-ghost use Rattle.std.specs.Prelude.{◌≡◌, ◌≤◌, [], ◌∷◌, slice_get, MatchOption};
+ghost use Rattle.std.specs.Prelude.{◌≡◌, ◌≤◌, [], ◌∷◌, length, slice_get, MatchOption};
 ghost use Rattle.std.specs.Option.{option_copied};
 ghost use Rattle.plural_rule.specs.Expression.{nodes, value, visited};
+ghost use Rattle.plural_rule.specs.PostOrder.{layout, tree_of};
 ghost use Rattle.mo_lookup.specs.Answer.{form_at, selected_form};
 ghost use Rattle.mo_lookup.specs.Contents.{forms};
 
 use memchr::memchr;
-use plural_rule::Rule;
+use plural_rule::{LIMIT, Node, evaluate};
 
 /// Form 0 of a translation, which each translation has.
 pub(crate) fn first_form(translation: &[u8]) -> &[u8]
@@ -39,15 +40,22 @@ fn form(translation: &[u8], index: u64) -> Option<&[u8]>
     Some(first_form(rest))
 }
 
-/// The form that a rule selects for a count, and the nodes of its expression that were evaluated.
-pub(crate) fn selected_form<'t>(translation: &'t [u8], rule: &Rule, count: u64) -> (&'t [u8], u32)
-    ensures text { result.0.now ≡ selected_form (forms translation.now) rule.now.number (value rule.now.tree count) }
-    ensures steps { result.1 ≡ visited rule.now.tree count }
-    ensures nodes { result.1 ≤ nodes rule.now.tree }
+/// The form that a rule with `nplurals` forms selects for a count, and the nodes of its expression that were evaluated.
+pub(crate) fn selected_form<'t>(
+    translation: &'t [u8],
+    nplurals: u64,
+    table: &[Node],
+    count: u64,
+) -> (&'t [u8], u32)
+    requires laid { table.now ≡ layout 0 (tree_of table.now) }
+    requires limit { length table.now ≤ LIMIT }
+    ensures text { result.0.now ≡ selected_form (forms translation.now) nplurals (value (tree_of table.now) count) }
+    ensures steps { result.1 ≡ visited (tree_of table.now) count }
+    ensures nodes { result.1 ≤ nodes (tree_of table.now) }
 {
-    let (value, steps) = rule.eval(count);
+    let (value, steps) = evaluate(table, count);
     let selected = match value {
-        Some(index) if index < rule.nplurals() => form(translation, index),
+        Some(index) if index < nplurals => form(translation, index),
         _ => None,
     };
     match selected {

@@ -12,6 +12,7 @@ mod catalog;
 mod chain;
 mod forms;
 mod laws;
+mod looking;
 mod query;
 mod search;
 mod view_keys;
@@ -22,6 +23,7 @@ pub use chain::{Chain, ChainAnswer};
 pub use laws::{
     bound_halves, bound_is_logarithm, each_key_finds_its_translation, other_keys_find_none,
 };
+pub use looking::look;
 pub use plural_rule::laws::{longer_limit, one_rule, one_tree, visited_at_most_nodes};
-pub use plural_rule::{LIMIT, Reason, Rule, Source};
+pub use plural_rule::{LIMIT, Node, Reason, Rule, Source};
 pub use search::{Keys, find};

@@ -1,0 +1,105 @@
+//! Looking up a message in the view of a file, by the number of plural forms and the table of its rule.
+
+ghost use Rattle.std.specs.Prelude.{◌≡◌, ◌+◌, ◌^◌, ◌<◌, ◌≤◌, length, false};
+ghost use Rattle.std.specs.Option.{option_copied};
+ghost use Rattle.plural_rule.specs.declared.rule.Source.{Source};
+ghost use Rattle.plural_rule.specs.Expression.{nodes};
+ghost use Rattle.plural_rule.specs.PostOrder.{layout, tree_of};
+ghost use Rattle.mo_file.specs.Key.{query_key};
+ghost use Rattle.mo_lookup.specs.Bound.{search_bound};
+ghost use Rattle.mo_lookup.specs.Query.{query, given, is_clean_key};
+ghost use Rattle.mo_lookup.specs.Contents.{forms, told, translation_under};
+ghost use Rattle.mo_lookup.specs.Answer.{outcome_of, translated};
+
+use crate::answer::Answer;
+use crate::forms::{first_form, selected_form};
+use crate::query::{is_clean_key, untranslated_text};
+use crate::search::find;
+use crate::view_keys::ViewKeys;
+use mo_file::{Meter, MoView};
+use plural_rule::{LIMIT, Node};
+
+/// Looks up a message as [`Catalog::look`](crate::Catalog::look) does, in the messages of a view, with a rule of
+/// `nplurals` forms whose expression stands in `table`. The table is that of a rule of at most `LIMIT` nodes.
+pub fn look<'a, 'q>(
+    view: &MoView<'a>,
+    nplurals: u64,
+    table: &[Node],
+    context: Option<&[u8]>,
+    id: &'q [u8],
+    plural: Option<(&'q [u8], u64)>,
+    meter: &mut Meter,
+) -> Answer<'q>
+where
+    'a: 'q,
+    requires room { meter.old < 2 ^ 63 }
+    requires laid { table.now ≡ layout 0 (tree_of table.now) }
+    requires limit { length table.now ≤ LIMIT }
+    ensures told { (source : Source) → outcome_of result
+        ≡ told (record { messages = view.now; rule = record { source = source; number = nplurals; tree = tree_of table.now } })
+        (query context.entry id.now plural.entry) }
+    ensures counted { meter.new ≡ meter.old + result.comparisons }
+    ensures bound { result.comparisons ≤ search_bound (length view.now) }
+    ensures unclean { is_clean_key (option_copied context.entry) id.now ≡ false → result.comparisons ≡ 0 }
+    ensures nodes { result.steps ≤ nodes (tree_of table.now) }
+{
+    let before = meter.count();
+    let translation = if is_clean_key(context, id) {
+        translation(view, context, id, meter)
+    } else {
+        None
+    };
+    let comparisons = (meter.count() - before) as u32;
+    let (text, steps) = match translation {
+        Some(translation) => form(nplurals, table, translation, plural),
+        None => (untranslated_text(id, plural), 0),
+    };
+    Answer {
+        text,
+        found: translation.is_some(),
+        comparisons,
+        steps,
+    }
+}
+
+/// The translation under the key of a context and a msgid, which the search finds or not.
+pub(crate) fn translation<'a>(
+    view: &MoView<'a>,
+    context: Option<&[u8]>,
+    id: &[u8],
+    meter: &mut Meter,
+) -> Option<&'a [u8]>
+    requires { meter.old < 2 ^ 63 }
+    ensures found { option_copied result ≡ translation_under (query_key (option_copied context.entry) id.now) view.now }
+    ensures rises { meter.old ≤ meter.new }
+    ensures cost { meter.new ≤ meter.old + search_bound (length view.now) }
+    ensures small { meter.new ≤ meter.old + 32 }
+{
+    let _rising = view.len();
+    let mut keys = ViewKeys { view, meter };
+    let place = find(&mut keys, context, id)?;
+    Some(view.translation(place))
+}
+
+/// The form of a translation, form 0 where no plural is asked for, and the nodes that were evaluated for it.
+pub(crate) fn form<'a>(
+    nplurals: u64,
+    table: &[Node],
+    translation: &'a [u8],
+    plural: Option<(&[u8], u64)>,
+) -> (&'a [u8], u32)
+    requires laid { table.now ≡ layout 0 (tree_of table.now) }
+    requires limit { length table.now ≤ LIMIT }
+    ensures text { (source : Source) → result.0.now
+        ≡ (translated (forms translation.now) (record { source = source; number = nplurals; tree = tree_of table.now })
+        (given plural.entry)).text }
+    ensures steps { (source : Source) → result.1
+        ≡ (translated (forms translation.now) (record { source = source; number = nplurals; tree = tree_of table.now })
+        (given plural.entry)).steps }
+    ensures nodes { result.1 ≤ nodes (tree_of table.now) }
+{
+    match plural {
+        Some((_, count)) => selected_form(translation, nplurals, table, count),
+        None => (first_form(translation), 0),
+    }
+}
