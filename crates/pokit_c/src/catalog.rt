@@ -1,0 +1,18 @@
+//! A catalogue as C holds it.
+
+use plural_rule::Node;
+
+/// A catalogue that [`pokit_catalog_open`](crate::opening::pokit_catalog_open) has opened. It is never changed
+/// afterwards, and neither are its bytes, which outlive it.
+#[repr(C)]
+#[derive(Drop)]
+pub struct PokitCatalog<'a> {
+    /// The bytes of the MO file.
+    pub bytes: &'a [u8],
+    /// The number of plural forms that the header entry names.
+    pub nplurals: u64,
+    /// How many nodes the plural expression has.
+    pub used: u32,
+    /// The nodes of the plural expression, and behind them nodes without a meaning.
+    pub nodes: [Node; 4096],
+}

@@ -1,0 +1,50 @@
+//! Looking up a message.
+
+ghost use Rattle.std.specs.Prelude.{◌≡◌, ◌≤◌, length, false};
+ghost use Rattle.plural_rule.specs.Expression.{nodes};
+ghost use Rattle.mo_lookup.specs.Bound.{search_bound};
+ghost use Rattle.mo_lookup.specs.Contents.{Contents, told};
+ghost use Rattle.mo_lookup.specs.Query.{is_clean_key};
+ghost use Rattle.pokit_c.specs.Asked.{asked, outcome};
+ghost use Rattle.pokit_c.specs.Opened.{IsOpened};
+
+use crate::catalog::PokitCatalog;
+use crate::query::{PokitAnswer, PokitQuery};
+use mo_file::{Meter, MoView};
+use mo_lookup::look;
+
+/// Looks up a message in a catalogue that was opened, as mo_lookup's `Catalog::look` does. The text of `answer` lies in
+/// the bytes of the file or is the query's own ("Plural forms").
+#[unsafe(no_mangle)]
+pub extern "C" fn pokit_catalog_look<'a, 'q>(
+    catalog: &PokitCatalog<'a>,
+    query: &PokitQuery<'q>,
+    answer: &mut PokitAnswer<'q>,
+)
+where
+    'a: 'q,
+    requires { (contents : Contents) × IsOpened catalog.now contents }
+    ensures told { (contents : Contents) → IsOpened catalog.now contents → outcome answer.new ≡ told contents (asked query.now) }
+    ensures bound { (contents : Contents) → IsOpened catalog.now contents
+        → answer.new.comparisons ≤ search_bound (length contents.messages) }
+    ensures unclean { is_clean_key (asked query.now).context query.now.id.now ≡ false → answer.new.comparisons ≡ 0 }
+    ensures nodes { (contents : Contents) → IsOpened catalog.now contents → answer.new.steps ≤ nodes contents.rule.tree }
+{
+    let view = MoView::reopen(catalog.bytes);
+    let table = &catalog.nodes[..catalog.used as usize];
+    let found = look(
+        &view,
+        catalog.nplurals,
+        table,
+        query.context(),
+        query.id,
+        query.plural(),
+        &mut Meter::new(),
+    );
+    *answer = PokitAnswer {
+        text: found.text,
+        comparisons: found.comparisons,
+        steps: found.steps,
+        found: found.found,
+    };
+}

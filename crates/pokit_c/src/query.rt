@@ -1,0 +1,62 @@
+//! What C asks of a catalogue, and what it is answered.
+
+ghost use Rattle.std.specs.Prelude.{◌≡◌};
+ghost use Rattle.pokit_c.specs.Asked.{asked};
+ghost use Rattle.mo_lookup.specs.Query.{given};
+ghost use Rattle.std.specs.Option.{option_copied};
+
+/// A query: a msgid, and where they are given, a context, and a plural with a count. None holds the NUL that ends it.
+#[repr(C)]
+#[derive(Clone, Copy, Drop)]
+pub struct PokitQuery<'q> {
+    /// The context, which counts where `has_context` is true.
+    pub context: &'q [u8],
+    /// The msgid.
+    pub id: &'q [u8],
+    /// The plural, which counts where `has_plural` is true.
+    pub plural: &'q [u8],
+    /// The count that selects the plural form.
+    pub count: u64,
+    /// Whether a context is given.
+    pub has_context: bool,
+    /// Whether a plural and a count are given.
+    pub has_plural: bool,
+}
+
+/// An answer.
+#[repr(C)]
+#[derive(Clone, Copy, Drop)]
+pub struct PokitAnswer<'q> {
+    /// The translation's form, in the bytes of the file; or where there is no translation the query's msgid or plural.
+    pub text: &'q [u8],
+    /// How many keys were compared with the query's.
+    pub comparisons: u32,
+    /// How many nodes of the plural expression were evaluated.
+    pub steps: u32,
+    /// Whether the catalogue has a translation.
+    pub found: bool,
+}
+
+impl<'q> PokitQuery<'q> {
+    /// The context, where one is given.
+    pub(crate) fn context(&self) -> Option<&'q [u8]>
+        ensures { option_copied result ≡ (asked self.now).context }
+    {
+        if self.has_context {
+            Some(self.context)
+        } else {
+            None
+        }
+    }
+
+    /// The plural and the count, where they are given.
+    pub(crate) fn plural(&self) -> Option<(&'q [u8], u64)>
+        ensures { given result ≡ (asked self.now).plural }
+    {
+        if self.has_plural {
+            Some((self.plural, self.count))
+        } else {
+            None
+        }
+    }
+}
