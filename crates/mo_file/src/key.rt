@@ -38,7 +38,7 @@ pub fn compare_key(key: &[u8], context: Option<&[u8]>, id: &[u8]) -> Ordering
 
 /// Where what stands behind a context in a key stands against a byte 4 and `id`.
 fn compare_rest(rest: &[u8], id: &[u8]) -> Ordering
-    ensures { result ≡ key_cmp rest.now (EOT ∷ id.now) }
+    ensures { result ≡ key_cmp rest.now (4 ∷ id.now) }
 {
     match rest {
         [] => Ordering::Less,

@@ -3,7 +3,7 @@ use Rattle.std.specs.Prelude.{ℕ, List, [], Option, None, option_map, if◌then
 use Rattle.std.specs.List.{find, slice_split}
 use Rattle.std.specs.Option.{option_map_or}
 use Rattle.std.specs.Str.{bytes_eq}
-use Rattle.plural_rule.specs.PluralRule.{Meaning, IsRuleOf}
+use Rattle.plural_rule.specs.PluralRule.{Meaning, IsRuleOf, expression_limit}
 use Rattle.mo_file.specs.Key.{AreRising, is_nul, key_of, keys, query_key}
 use Rattle.mo_file.specs.Message.{Message}
 use Rattle.mo_lookup.specs.Query.{Query, is_clean_key}
@@ -25,10 +25,6 @@ forms translation = slice_split is_nul translation
 -- the header text: the first form under the empty key, or the empty text
 abbrev pub header_text : List Message → List ℕ
 header_text messages = option_map_or (λ translation. form_at (forms translation) 0) (translation_under [] messages) []
-
--- the most bytes of a plural expression that is read
-abbrev pub expression_limit : ℕ
-expression_limit = 4096
 
 -- the keys of the messages rise, and the rule is that of their header text
 pub record AreContents (messages : List Message) (rule : Meaning) : Type 0 where

@@ -3,7 +3,7 @@
 ghost use Rattle.std.specs.Prelude.{◌≡◌, ◌+◌, ◌^◌, ◌<◌, ◌≤◌, List, length, min, MatchResult, IsOk, IfOk, false};
 ghost use Rattle.std.specs.Option.{option_copied};
 ghost use Rattle.plural_rule.specs.Expression.{nodes};
-ghost use Rattle.plural_rule.specs.PluralRule.{IsRuleOf};
+ghost use Rattle.plural_rule.specs.PluralRule.{IsRuleOf, expression_limit};
 ghost use Rattle.mo_file.specs.declared.byte_order.Order.{Order};
 ghost use Rattle.mo_file.specs.Message.{Message};
 ghost use Rattle.mo_file.specs.Key.{AreRising, keys, query_key};
@@ -11,7 +11,7 @@ ghost use Rattle.mo_file.specs.Catalog.{IsCatalog};
 ghost use Rattle.mo_file.specs.Fault.{IsFirstFault, looks_before};
 ghost use Rattle.mo_lookup.specs.Bound.{search_bound};
 ghost use Rattle.mo_lookup.specs.Query.{query, given, is_clean_key};
-ghost use Rattle.mo_lookup.specs.Contents.{AreContents, expression_limit, header_text, forms, told, translation_under};
+ghost use Rattle.mo_lookup.specs.Contents.{AreContents, header_text, forms, told, translation_under};
 ghost use Rattle.mo_lookup.specs.Answer.{outcome_of, translated};
 
 use crate::answer::Answer;

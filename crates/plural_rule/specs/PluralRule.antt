@@ -16,6 +16,10 @@ pub record Meaning : Type 0 where
   pub number : ℕ
   pub tree : Tree
 
+-- the most bytes of an expression that is read, and so the most nodes that a rule has
+abbrev pub expression_limit : ℕ
+expression_limit = 4096
+
 -- `n != 1`
 abbrev pub default_tree : Tree
 default_tree = Binary NotEqual Count (Number 1)

@@ -1,7 +1,7 @@
 //! The rule of a header text.
 ghost use Rattle.std.specs.Prelude.{◌≡◌, ◌≤◌, [], length, MatchResult};
 ghost use Rattle.plural_rule.specs.Expression.{value, visited, nodes};
-ghost use Rattle.plural_rule.specs.PluralRule.{IsRuleOf, IsReason, default_tree};
+ghost use Rattle.plural_rule.specs.PluralRule.{IsRuleOf, IsReason, default_tree, expression_limit};
 ghost use Rattle.plural_rule.specs.PostOrder.{layout, tree_of};
 ghost use Rattle.plural_rule.specs.ParserState.{HoldsRule};
 
@@ -71,7 +71,7 @@ impl Rule {
     /// read, the rule is the default, and `source` says why.
     #[inline(always)]
     pub fn parse(header: &[u8]) -> Rule
-        ensures { IsRuleOf LIMIT header.now result }
+        ensures { IsRuleOf expression_limit header.now result }
     {
         let mut table = Table::new();
         let (source, number) = fill(header, &mut table);
@@ -99,7 +99,7 @@ impl Rule {
     /// How many nodes the expression has: `n`, numerals and operators.
     pub fn nodes(&self) -> u32
         ensures value { result ≡ nodes self.now.tree }
-        ensures limit { result ≤ LIMIT }
+        ensures limit { result ≤ expression_limit }
         ensures some { 1 ≤ result }
     {
         self.table.len() as u32

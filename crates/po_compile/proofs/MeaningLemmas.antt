@@ -11,8 +11,8 @@ use Rattle.mo_file.specs.Message.{Message}
 use Rattle.mo_file.specs.Key.{key_of, query_key}
 use Rattle.mo_lookup.specs.Answer.{form_at, answer}
 use Rattle.mo_lookup.specs.Query.{Query, is_clean_key, is_clean, is_separator}
-use Rattle.mo_lookup.specs.Contents.{translation_under, forms, header_text, expression_limit}
-use Rattle.plural_rule.specs.PluralRule.{IsRuleOf}
+use Rattle.mo_lookup.specs.Contents.{translation_under, forms, header_text}
+use Rattle.plural_rule.specs.PluralRule.{IsRuleOf, expression_limit}
 use Rattle.po_entry.specs.TextEntry.{TextEntry, quoted_texts, previous_texts}
 use Rattle.po_entry.specs.Bytes.{Lacks}
 use Rattle.po_entry.specs.Halves.{All-left, All-right}

@@ -2,10 +2,10 @@
 use Rattle.std.specs.Prelude.{◌≡◌, ℕ, Bool, ◌&&◌, List, [], Option, None, option_map, find, if◌then◌else◌}
 use Rattle.std.specs.Option.{option_eq, option_map_or}
 use Rattle.std.specs.Str.{bytes_eq}
-use Rattle.plural_rule.specs.PluralRule.{Meaning, IsRuleOf}
+use Rattle.plural_rule.specs.PluralRule.{Meaning, IsRuleOf, expression_limit}
 use Rattle.mo_file.specs.Message.{Message}
 use Rattle.mo_lookup.specs.Answer.{Outcome, answer}
-use Rattle.mo_lookup.specs.Contents.{AreContents, expression_limit, told}
+use Rattle.mo_lookup.specs.Contents.{AreContents, told}
 use Rattle.mo_lookup.specs.Query.{Query, is_clean_key}
 use Rattle.po_entry.specs.TextEntry.{TextEntry}
 use Rattle.po_entry.specs.Header.{first_form}

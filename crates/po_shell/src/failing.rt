@@ -1,6 +1,9 @@
 // A device over memory that fails as a test wants it to.
-ghost use Rattle.std.specs.Prelude.{◌≡◌, ◌↔◌, ◌-◌, ◌==◌, IsTrue, if◌then◌else◌};
-ghost use Rattle.po_shell.specs.Failing.{failing_inner, failing_calls_before, failing_most};
+ghost use Rattle.std.specs.Prelude.{◌≡◌, ◌≢◌, ◌↔◌, ◌-◌, ◌==◌, IsTrue, IfOk, IfErr, IsErr, Ok, Some, length, min, max, if◌then◌else◌};
+ghost use Rattle.std.specs.Io.{ReadsAtMost, WritesAtMost};
+ghost use Rattle.std.specs.Io.KnownBytes.{ReadConsumes, WriteAppends};
+ghost use Rattle.std.specs.IoError.{error_kind};
+ghost use Rattle.po_shell.specs.Failing.{calls_after, failing_inner, failing_calls_before, failing_most};
 
 use std::io::{self, ErrorKind, Read, Write};
 
@@ -40,6 +43,7 @@ impl<D> Failing<D> {
     // Counts a call, and says whether it is the one that fails.
     fn fails_now(&mut self) -> bool
         ensures now { IsTrue result ↔ (failing_calls_before self.old ≡ Some 0) }
+        ensures counts { failing_calls_before self.new ≡ calls_after (failing_calls_before self.old) }
         ensures inner { failing_inner self.new ≡ failing_inner self.old }
         ensures most { failing_most self.new ≡ failing_most self.old }
     {
@@ -57,10 +61,18 @@ impl<D> Failing<D> {
     }
 }
 
-impl<R: Read> Read for Failing<R> {
-    ghost remaining = { λ r. R.remaining (failing_inner r) };
+impl Read for Failing<&[u8]> {
+    ghost remaining = { λ r. Some (failing_inner r).now };
 
-    fn read(&mut self, buf: &mut [u8]) -> io::Result<usize> {
+    fn read(&mut self, buf: &mut [u8]) -> io::Result<usize>
+        ensures bound { ReadsAtMost result buf.new }
+        ensures bytes { ReadConsumes (Some (failing_inner self.old).now) (Some (failing_inner self.new).now) result buf.new }
+        ensures fails { failing_calls_before self.old ≡ Some 0 → IsErr result }
+        ensures moves { failing_calls_before self.old ≢ Some 0 → result
+            ≡ Ok (min (length (failing_inner self.old).now) (min (length buf.old) (max (failing_most self.old) 1))) }
+        ensures counts { failing_calls_before self.new ≡ calls_after (failing_calls_before self.old) }
+        ensures most { failing_most self.new ≡ failing_most self.old }
+    {
         if self.fails_now() {
             return Err(io::Error::from(ErrorKind::Other));
         }
@@ -69,10 +81,20 @@ impl<R: Read> Read for Failing<R> {
     }
 }
 
-impl<W: Write> Write for Failing<W> {
-    ghost contents = { λ w. W.contents (failing_inner w) };
+impl Write for Failing<Vec<u8>> {
+    ghost contents = { λ w. Some (failing_inner w).items };
 
-    fn write(&mut self, piece: &[u8]) -> io::Result<usize> {
+    fn write(&mut self, piece: &[u8]) -> io::Result<usize>
+        ensures bound { WritesAtMost result piece.now }
+        ensures bytes { WriteAppends (Some (failing_inner self.old).items) (Some (failing_inner self.new).items) result piece.now }
+        ensures fails { failing_calls_before self.old ≡ Some 0 → IsErr result }
+
+        // Any other call fails only where the allocation failed.
+        ensures memory { failing_calls_before self.old ≢ Some 0 → IfErr result (λ e. error_kind e ≡ ErrorKind.OutOfMemory) }
+        ensures moves { IfOk result (λ taken. taken ≡ min (length piece.now) (failing_most self.old)) }
+        ensures counts { failing_calls_before self.new ≡ calls_after (failing_calls_before self.old) }
+        ensures most { failing_most self.new ≡ failing_most self.old }
+    {
         if self.fails_now() {
             return Err(io::Error::from(ErrorKind::Other));
         }

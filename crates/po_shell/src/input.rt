@@ -1,5 +1,6 @@
 // Reading a whole input.
 ghost use Rattle.std.specs.Prelude.{◌≡◌, ◌≢◌, ◌+◌, ◌^◌, ◌<◌, ◌≤◌, take, IfOk, OnOk, IfSome, IsErrOf, Err};
+ghost use Rattle.std.specs.Io.KnownBytes.{Consumes};
 
 use crate::device::ByteIn;
 use crate::fault::ToolFault;
@@ -16,14 +17,17 @@ pub fn read_input<R: ByteIn>(alloc: Global, reader: &mut R) -> Result<Vec<u8>, T
     requires calls { R.calls reader.old < 2 ^ 63 }
     requires failures { R.failures reader.old < 2 ^ 63 }
     ensures input { IfOk result (λ v. IfSome (R.remaining reader.old)
-        (λ xs. v.items ≡ take INPUT_LIMIT xs)) }
+        (λ xs. v.items ≡ take (2 ^ 31) xs)) }
+
+    // Just these bytes are gone from the reader.
+    ensures left { IfOk result (λ v. Consumes (R.remaining reader.old) (R.remaining reader.new) v.items) }
     ensures no_failure { OnOk result (R.failures reader.new ≡ R.failures reader.old) }
     ensures read_fault { IsErrOf result ToolFault.ReadFault
         → R.failures reader.new ≡ R.failures reader.old + 1 }
     ensures out_of_memory { IsErrOf result ToolFault.OutOfMemory
         → R.failures reader.new ≡ R.failures reader.old }
     ensures no_write_fault { result ≢ Err ToolFault.WriteFault }
-    ensures calls { R.calls reader.new ≤ R.calls reader.old + 4294967296 }
+    ensures calls { R.calls reader.new ≤ R.calls reader.old + 2 ^ 32 }
 {
     let mut input = Vec::new(alloc);
     let mut piece = [0; PIECE];

@@ -8,9 +8,9 @@ const EQUALS: u8 = b'=';
 
 /// The name and the value of an entry of the environment, `NAME=VALUE`, where there is a `=`.
 pub fn name_and_value(entry: &[u8]) -> Option<(&[u8], &[u8])>
-    ensures parts { IfSome result (λ v. entry.now ≡ v.0.now ++ EQUALS ∷ v.1.now) }
-    ensures first { IfSome result (λ v. All (λ b. b ≢ EQUALS) v.0.now) }
-    ensures none { IsNone result → All (λ b. b ≢ EQUALS) entry.now }
+    ensures parts { IfSome result (λ v. entry.now ≡ v.0.now ++ 61 ∷ v.1.now) }
+    ensures first { IfSome result (λ v. All (λ b. b ≢ 61) v.0.now) }
+    ensures none { IsNone result → All (λ b. b ≢ 61) entry.now }
 {
     let at = entry.iter().position(|&byte| byte == EQUALS)?;
     Some((&entry[..at], &entry[at + 1..]))

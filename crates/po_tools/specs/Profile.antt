@@ -7,7 +7,7 @@ use Rattle.po_entry.specs.TextEntry.{TextEntry}
 use Rattle.po_entry.specs.Header.{is_header, first_form}
 use Rattle.po_catalog.specs.Joined.{InputEntry}
 use Rattle.plural_rule.specs.Expression.{value}
-use Rattle.plural_rule.specs.PluralRule.{Meaning, IsRuleOf}
+use Rattle.plural_rule.specs.PluralRule.{Meaning, IsRuleOf, expression_limit}
 use Rattle.plural_rule.specs.declared.rule.Source.{Source}
 use Rattle.plural_rule.specs.declared.rule.Source.TheVariants.{Header, Default}
 use Rattle.po_tools.specs.declared.profile.End.{End}
@@ -89,4 +89,4 @@ first_fault entries rule =
 abbrev pub IsChecked : List InputEntry → Option Told → Type 0
 IsChecked entries fault =
     MatchOption (find is_header_entry entries) (fault ≡ Some (0, NoHeader))
-    (λ header. (rule : Meaning) × IsRuleOf 4096 (first_form header.entry.forms) rule × (fault ≡ first_fault entries rule))
+    (λ header. (rule : Meaning) × IsRuleOf expression_limit (first_form header.entry.forms) rule × (fault ≡ first_fault entries rule))
