@@ -1,5 +1,6 @@
 pub mod KeyLemmas
 pub mod FaultLemmas
+pub mod FaultTotality
 pub mod ViewLemmas
 pub mod BuildLemmas
 pub mod LayoutLemmas

@@ -25,6 +25,8 @@ pub use byte_order::Order;
 pub use counting::Meter;
 pub use fault::MoError;
 pub use key::compare_key;
-pub use laws::{catalog_is_unique, layout_is_catalog};
+pub use laws::{
+    catalog_is_unique, catalog_or_fault, layout_is_catalog, no_fault_of_catalog, one_first_fault,
+};
 pub use pairs::Pair;
 pub use view::MoView;

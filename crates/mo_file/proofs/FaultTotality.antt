@@ -1,0 +1,236 @@
+-- Every byte string is a valid file or has a first fault, and one first fault at most.
+use Rattle.std.proofs.Common.{◌≡◌, ◌≢◌, ◌⊎◌, ℕ, zero, suc, ◌+◌, ◌-◌, ◌*◌, ◌/◌, ◌<◌, ◌==◌, Bool, true, false, List, [], ◌∷◌, Option, None, Some, length, take, slice_get, cond, refl, sym, ◌∙◌, ap, subst, arith, inl, inr, ⊎_elim}
+use Rattle.std.proofs.lemmas.Bool.{cases_lt, cases_order}
+use Rattle.std.specs.declared.cmp.Ordering.{Ordering}
+use Rattle.std.specs.declared.cmp.Ordering.TheVariants.{Less, Equal, Greater}
+use Rattle.mo_file.specs.declared.byte_order.Order.{Order}
+use Rattle.mo_file.specs.declared.byte_order.Order.TheVariants.{Little, Big}
+use Rattle.mo_file.specs.declared.fault.MoError.{MoError}
+use Rattle.mo_file.specs.declared.fault.MoError.TheVariants.{TooShort, BadMagic, BadRevision, TableOutside, StringOutside, NoTerminator, NotSorted}
+use Rattle.mo_file.specs.Header.{Shows, magic, revision, message_count, originals_table, translations_table}
+use Rattle.mo_file.specs.StringTable.{end_at, original_at, messages_of}
+use Rattle.mo_file.specs.Key.{key_of, key_cmp}
+use Rattle.mo_file.specs.Message.{Message}
+use Rattle.mo_file.specs.Catalog.{IsCatalog}
+use Rattle.mo_file.specs.Fault.{HasFault, HasFaultIn, IsBefore, IsFirstFault, IsOutside, IsUnterminated, IsUnsorted, kind, place}
+use Rattle.mo_file.proofs.FaultLemmas.{HasFaultIn-shown}
+
+-- a fact holds or it doesn't
+abbrev Settled : Type 0 → Type 0
+Settled P = P ⊎ (P → ⊥)
+
+either : {P Q : Type 0} → Settled P → Settled Q → Settled (P ⊎ Q)
+either (inl p) q = inl (inl p)
+either (inr p) (inl q) = inl (inr q)
+either (inr p) (inr q) = inr (λ both. ⊎_elim p q both)
+
+below_settled : (a b : ℕ) → Settled (a < b)
+below_settled a b = elim (cases_lt a b) [ inl less ↦ inl less | inr more ↦ inr (λ less. absurd (omega arith)) ]
+
+same_settled : (xs ys : List ℕ) → Settled (xs ≡ ys)
+same_settled [] [] = inl refl
+same_settled [] (y ∷ ys) = inr (λ e. cc)
+same_settled (x ∷ xs) [] = inr (λ e. cc)
+same_settled (x ∷ xs) (y ∷ ys) = elim (cases_lt x y) [
+  | inl less ↦ inr (λ e. let same : x ≡ y = cc in absurd (omega arith))
+  | inr more ↦ elim (cases_lt y x) [
+    | inl less ↦ inr (λ e. let same : x ≡ y = cc in absurd (omega arith))
+    | inr least ↦
+        let head : x ≡ y = omega arith in
+        elim (same_settled xs ys) [
+        | inl tail ↦ inl cc
+        | inr tail ↦ inr (λ e. let rest : xs ≡ ys = cc in tail rest)
+        ]
+  ]
+]
+
+zero_settled : (byte : Option ℕ) → Settled (byte ≢ Some 0)
+zero_settled None = inl (λ e. cc)
+zero_settled (Some b) = elim (cases_lt 0 b) [
+  | inl more ↦ inl (λ e. let zero : b ≡ 0 = cc in absurd (omega arith))
+  | inr none ↦ inr (λ other. other (ap (λ (n : ℕ). Some n) (let zero : b ≡ 0 = omega arith in zero)))
+]
+
+less_settled : (o : Ordering) → Settled (o ≢ Less)
+less_settled Less = inr (λ other. other refl)
+less_settled Equal = inl (λ e. cc)
+less_settled Greater = inl (λ e. cc)
+
+-- the first place below n at which P holds, or none
+abbrev FirstBelow : (ℕ → Type 0) → ℕ → Type 0
+FirstBelow P n = ((k : ℕ) → k < n → P k → ⊥) ⊎ ((i : ℕ) × (i < n) × P i × ((k : ℕ) → k < i → P k → ⊥))
+
+first_below : (P : ℕ → Type 0) → ((k : ℕ) → Settled (P k)) → (n : ℕ) → FirstBelow P n
+first_below P each zero = inl (λ k inside. absurd (omega arith))
+first_below P each (suc n) = elim (first_below P each n) [
+  | inr first ↦ inr (first.0, omega (arith, first.1), first.2, first.3)
+  | inl none ↦ elim (each n) [
+    | inl here ↦ inr (n, omega arith, here, none)
+    | inr not_here ↦
+        inl (λ k inside p. elim (cases_lt k n) [
+          | inl less ↦ none k less p
+          | inr last ↦ let same : k ≡ n = omega arith in not_here (subst P same p)
+        ])
+  ]
+]
+
+-- the fault of a kind at a place
+abbrev fault_of : ℕ → ℕ → MoError
+fault_of k i =
+    cond (k == 1) TooShort (cond (k == 2) BadMagic (cond (k == 3) BadRevision (cond (k == 4) TableOutside
+    (cond (k == 5) (StringOutside i) (cond (k == 6) (NoTerminator i) (NotSorted i))))))
+
+named : (f : MoError) → fault_of (kind f) (place f) ≡ f
+named TooShort = refl
+named BadMagic = refl
+named BadRevision = refl
+named TableOutside = refl
+named (StringOutside i) = refl
+named (NoTerminator i) = refl
+named (NotSorted i) = refl
+
+kind_within : (f : MoError) → (0 < kind f) × (kind f < 8)
+kind_within TooShort = (omega arith, omega arith)
+kind_within BadMagic = (omega arith, omega arith)
+kind_within BadRevision = (omega arith, omega arith)
+kind_within TableOutside = (omega arith, omega arith)
+kind_within (StringOutside i) = (omega arith, omega arith)
+kind_within (NoTerminator i) = (omega arith, omega arith)
+kind_within (NotSorted i) = (omega arith, omega arith)
+
+-- bytes have no fault of a kind below this one
+record Clear (bytes : List ℕ) (k : ℕ) : Type 0 where
+  none : (f : MoError) → kind f < k → ¬ HasFault bytes f
+
+same_kind : (bytes : List ℕ) (f : MoError) (k : ℕ) → kind f ≡ k → HasFault bytes f → HasFault bytes (fault_of k (place f))
+same_kind bytes f k e has =
+    let Has : MoError → Type 0 = λ f. HasFault bytes f in
+    subst Has (sym (named f) ∙ ap (λ j. fault_of j (place f)) e) has
+
+clear_one : (bytes : List ℕ) → Clear bytes 1
+clear_one bytes = record { none = λ f less has. absurd (omega (arith, (kind_within f).0)) }
+
+clear_more : (bytes : List ℕ) (k : ℕ) → Clear bytes k → ((i : ℕ) → ¬ HasFault bytes (fault_of k i)) → Clear bytes (k + 1)
+clear_more bytes k clear none = record {
+  none = λ f less has. elim (cases_lt (kind f) k) [
+    | inl before ↦ clear.none f before has
+    | inr other ↦ none (place f) (same_kind bytes f k (omega arith) has)
+  ];
+}
+
+is_first : (bytes : List ℕ) (e : MoError) → Clear bytes (kind e) → ((i : ℕ) → i < place e → ¬ HasFault bytes (fault_of (kind e) i)) → HasFault bytes e
+    → IsFirstFault bytes e
+is_first bytes e clear least holds = record {
+  holds = holds;
+  first = λ f before has. elim before [
+    | inl less ↦ clear.none f less has
+    | inr same ↦ least (place f) same.1 (same_kind bytes f (kind e) same.0 has)
+  ];
+}
+
+-- a valid file, or a first fault
+abbrev CatalogOrFaultOf : List ℕ → Type 0
+CatalogOrFaultOf bytes = ((order : Order) × (messages : List Message) × IsCatalog order bytes messages) ⊎ ((fault : MoError) × IsFirstFault bytes fault)
+
+module _ (bytes : List ℕ) (order : Order) (shows : Shows order bytes) where
+  shown : (f : MoError) → ((order' : Order) × Shows order' bytes × HasFaultIn order' bytes f) → HasFaultIn order bytes f
+  shown f has = HasFaultIn-shown bytes order f shows has
+
+  outside_settled : (i : ℕ) → Settled (IsOutside order bytes i)
+  outside_settled i =
+      either (below_settled (length bytes) (end_at order bytes (originals_table order bytes) i))
+      (below_settled (length bytes) (end_at order bytes (translations_table order bytes) i))
+
+  unterminated_settled : (i : ℕ) → Settled (IsUnterminated order bytes i)
+  unterminated_settled i =
+      either (zero_settled (slice_get bytes (end_at order bytes (originals_table order bytes) i)))
+      (zero_settled (slice_get bytes (end_at order bytes (translations_table order bytes) i)))
+
+  unsorted_settled : (i : ℕ) → Settled (IsUnsorted order bytes i)
+  unsorted_settled i = less_settled (key_cmp (key_of (original_at order bytes i)) (key_of (original_at order bytes (i + 1))))
+
+  catalog : Clear bytes 8 → CatalogOrFaultOf bytes
+  catalog clear = inl (
+    order,
+    messages_of order bytes,
+    record { shows = shows; faultless = λ f. clear.none f (kind_within f).1; lists = refl },
+  )
+
+  sorted : Clear bytes 7 → CatalogOrFaultOf bytes
+  sorted clear = elim (first_below (λ i. IsUnsorted order bytes i) unsorted_settled (message_count order bytes - 1)) [
+    | inl none ↦
+        catalog (clear_more bytes 7 clear (λ i has. let fault = shown (NotSorted i) has in none fault.0 (omega (arith, fault.1, fault.2)) fault.3))
+    | inr first ↦
+        inr (
+          NotSorted (first.0 + 1),
+          is_first bytes (NotSorted (first.0 + 1)) clear
+          (λ j less has. let fault = shown (NotSorted j) has in first.3 fault.0 (omega (arith, fault.1, less)) fault.3)
+          (order, shows, (first.0, refl, omega (arith, first.1), first.2)),
+        )
+  ]
+
+  terminated : Clear bytes 6 → CatalogOrFaultOf bytes
+  terminated clear = elim (first_below (λ i. IsUnterminated order bytes i) unterminated_settled (message_count order bytes)) [
+    | inl none ↦ sorted (clear_more bytes 6 clear (λ i has. let fault = shown (NoTerminator i) has in none i fault.0 fault.1))
+    | inr first ↦
+        inr (
+          NoTerminator first.0,
+          is_first bytes (NoTerminator first.0) clear (λ j less has. first.3 j less (shown (NoTerminator j) has).1) (order, shows, (first.1, first.2)),
+        )
+  ]
+
+  inside : Clear bytes 5 → CatalogOrFaultOf bytes
+  inside clear = elim (first_below (λ i. IsOutside order bytes i) outside_settled (message_count order bytes)) [
+    | inl none ↦ terminated (clear_more bytes 5 clear (λ i has. let fault = shown (StringOutside i) has in none i fault.0 fault.1))
+    | inr first ↦
+        inr (
+          StringOutside first.0,
+          is_first bytes (StringOutside first.0) clear (λ j less has. first.3 j less (shown (StringOutside j) has).1) (order, shows, (first.1, first.2)),
+        )
+  ]
+
+  tables : Clear bytes 4 → CatalogOrFaultOf bytes
+  tables clear = elim (
+    either (below_settled (length bytes) (originals_table order bytes + 8 * message_count order bytes))
+    (below_settled (length bytes) (translations_table order bytes + 8 * message_count order bytes))
+  ) [
+    | inl fault ↦ inr (TableOutside, is_first bytes TableOutside clear (λ j less has. absurd (omega arith)) (order, shows, fault))
+    | inr none ↦ inside (clear_more bytes 4 clear (λ i has. none (shown TableOutside has)))
+  ]
+
+  known : Clear bytes 3 → CatalogOrFaultOf bytes
+  known clear = elim (below_settled 1 (revision order bytes / 65536)) [
+    | inl fault ↦ inr (BadRevision, is_first bytes BadRevision clear (λ j less has. absurd (omega arith)) (order, shows, fault))
+    | inr none ↦ tables (clear_more bytes 3 clear (λ i has. none (shown BadRevision has)))
+  ]
+
+no_magic : (bytes : List ℕ) → (Shows Little bytes → ⊥) → (Shows Big bytes → ⊥) → HasFault bytes BadMagic
+no_magic bytes little big Little = little
+no_magic bytes little big Big = big
+
+magical : (bytes : List ℕ) → Clear bytes 2 → CatalogOrFaultOf bytes
+magical bytes clear = elim (same_settled (take 4 bytes) (magic Little)) [
+  | inl little ↦ known bytes Little little (clear_more bytes 2 clear (λ i has. has Little little))
+  | inr not_little ↦ elim (same_settled (take 4 bytes) (magic Big)) [
+    | inl big ↦ known bytes Big big (clear_more bytes 2 clear (λ i has. has Big big))
+    | inr not_big ↦
+        inr (BadMagic, is_first bytes BadMagic clear (λ j less has. absurd (omega arith)) (no_magic bytes not_little not_big))
+  ]
+]
+
+pub catalog_or_fault : (bytes : List ℕ) → CatalogOrFaultOf bytes
+catalog_or_fault bytes = elim (below_settled (length bytes) 28) [
+  | inl short ↦ inr (TooShort, is_first bytes TooShort (clear_one bytes) (λ j less has. absurd (omega arith)) short)
+  | inr long ↦ magical bytes (clear_more bytes 1 (clear_one bytes) (λ i has. long has))
+]
+
+pub one_first_fault : (bytes : List ℕ) (fault fault' : MoError) → IsFirstFault bytes fault → IsFirstFault bytes fault' → fault ≡ fault'
+one_first_fault bytes f f' is is' = elim (cases_order (kind f) (kind f')) [
+  | inr (inl less) ↦ absurd (is'.first f (inl less) is.holds)
+  | inr (inr more) ↦ absurd (is.first f' (inl more) is'.holds)
+  | inl kinds ↦ elim (cases_order (place f) (place f')) [
+    | inr (inl less) ↦ absurd (is'.first f (inr (kinds, less)) is.holds)
+    | inr (inr more) ↦ absurd (is.first f' (inr (sym kinds, more)) is'.holds)
+    | inl places ↦ sym (named f) ∙ ap (λ k. fault_of k (place f)) kinds ∙ ap (λ i. fault_of (kind f') i) places ∙ named f'
+  ]
+]
