@@ -11,7 +11,7 @@ use Rattle.po_compile.specs.CompiledMessages.{AreMessagesOf}
 use Rattle.po_compile.specs.Meaning.{MeansEntries}
 use Rattle.po_catalog.specs.Duplicate.{join_memory}
 use Rattle.po_catalog.specs.declared.duplicate.JoinError.{JoinError}
-use Rattle.po_compile.specs.Accepted.{AreAccepted, IsCompileFault}
+use Rattle.po_compile.specs.Accepted.{AreAccepted, AreRead, IsCompileFault}
 use Rattle.po_compile.specs.declared.options.Options.{Options}
 
 -- entries have one list of messages in rising order of keys
@@ -53,3 +53,8 @@ OneCompileFault =
     (options : Options) (texts : List (List ℕ)) (error other : JoinError)
     → IsCompileFault options texts error → IsCompileFault options texts other
     → error ≢ join_memory → other ≢ join_memory → error ≡ other
+
+-- Texts are read as one list of catalogues.
+abbrev pub CataloguesAreOne : Type 0
+CataloguesAreOne =
+    (texts : List (List ℕ)) (catalogues others : List (List TextEntry)) → AreRead texts catalogues → AreRead texts others → catalogues ≡ others

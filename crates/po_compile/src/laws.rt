@@ -1,6 +1,6 @@
 //! Laws of compiling, each of which a call makes known.
 
-ghost use Rattle.po_compile.specs.Headline.{AcceptedOrFault, LookUpMeansEntries, MessagesAreOne, MessagesMeanEntries, NoFaultWhereAccepted, OneCompileFault};
+ghost use Rattle.po_compile.specs.Headline.{AcceptedOrFault, CataloguesAreOne, LookUpMeansEntries, MessagesAreOne, MessagesMeanEntries, NoFaultWhereAccepted, OneCompileFault};
 
 use mo_file::layout_is_catalog;
 use po_catalog::laws::{no_duplicate_or_first, no_first_duplicate_where_none, one_first_duplicate};
@@ -59,4 +59,11 @@ pub fn one_compile_fault()
     no_first_duplicate_where_none();
     one_fault();
     one_first_duplicate();
+}
+
+/// Texts are read as one list of catalogues.
+pub fn catalogues_are_one()
+    ensures { CataloguesAreOne }
+{
+    one_reading();
 }

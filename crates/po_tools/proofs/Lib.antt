@@ -3,3 +3,4 @@ pub mod GettextLemmas
 pub mod MsgfmtLemmas
 pub mod MsgattribLemmas
 pub mod FirstFaults
+pub mod OneRun

@@ -13,3 +13,4 @@ pub mod Msgfmt
 pub mod Written
 pub mod Delivered
 pub mod Msgattrib
+pub mod RunLaws
