@@ -42,6 +42,10 @@ module _ (unique : CatalogIsUnique) (no_fault : NoFaultOfCatalog) (one_fault : O
   one_chain : (tool : List ℕ) (files : List NamedFile) (chain other : List Contents) (told also : List ℕ) → Opens tool files chain told
       → Opens tool files other also → (chain ≡ other) × (told ≡ also)
   one_chain tool [] [] [] [] [] none none = (refl, refl)
+  one_chain tool [] [] [] [] (_ ∷ _) _ opens = elim opens [ ]
+  one_chain tool [] [] [] (_ ∷ _) _ opens _ = elim opens [ ]
+  one_chain tool [] [] (_ ∷ _) _ _ _ opens = elim opens [ ]
+  one_chain tool [] (_ ∷ _) _ _ _ opens _ = elim opens [ ]
   one_chain tool (file ∷ files) (contents ∷ chain) (contents' ∷ chain') told told' (opened order is are opens) (opened order' is' are' opens') =
       let messages : contents.messages ≡ contents'.messages = (unique file.bytes order order' contents.messages contents'.messages is is').1 in
       let rule : contents.rule ≡ contents'.rule = same_rule contents.messages contents'.messages contents.rule contents'.rule messages are are' in
@@ -49,9 +53,9 @@ module _ (unique : CatalogIsUnique) (no_fault : NoFaultOfCatalog) (one_fault : O
       let head : contents ≡ contents' =
       ap (λ (m : List Message). record { messages = m; rule = contents.rule }) messages ∙ ap (λ (r : Meaning). record { messages = contents'.messages; rule = r }) rule in
       (ap (λ (c : Contents). c ∷ chain) head ∙ ap (λ (list : List Contents). contents' ∷ list) rest.0, rest.1)
-  one_chain tool (file ∷ files) (contents ∷ chain) chain' told told' (opened {contents = contents} order is are opens) (refused {fault = fault} first opens') =
+  one_chain tool (file ∷ files) (contents ∷ chain) chain' told _ (opened order is are opens) (refused {fault = fault} first opens') =
       absurd (no_fault file.bytes order contents.messages fault is first)
-  one_chain tool (file ∷ files) chain (contents ∷ chain') told told' (refused {fault = fault} first opens) (opened order is are opens') =
+  one_chain tool (file ∷ files) chain (contents ∷ chain') _ told' (refused {fault = fault} first opens) (opened order is are opens') =
       absurd (no_fault file.bytes order contents.messages fault is first)
   one_chain tool (file ∷ files) chain chain' _ _ (refused {fault = fault} {told = told} first opens) (refused {fault = fault'} {told = told'} first' opens') =
       let fault_is : fault ≡ fault' = one_fault file.bytes fault fault' first first' in
