@@ -1,5 +1,5 @@
 // Faults of the program itself, and the lines that tell them.
-ghost use Rattle.std.specs.Prelude.{◌≡◌, ◌+◌, ◌^◌, ◌<◌, ◌++◌, OnOk, OnErr, Err};
+ghost use Rattle.std.specs.Prelude.{◌≡◌, ◌+◌, ◌^◌, ◌<◌, ◌++◌, IfOk, OnOk, OnErr, Err};
 ghost use Rattle.std.specs.Io.KnownBytes.{Appends};
 ghost use Rattle.std.specs.Option.{option_copied};
 ghost use Rattle.po_tools.specs.ProgramFaults.{input_fault, program_line, program_text, stdin_text, tool_mark};
@@ -7,7 +7,7 @@ ghost use Rattle.po_tools.specs.declared.program_fault.ProgramFault.TheVariants.
 
 use crate::run::STDIN_NAME;
 use po_shell::{ByteOut, ToolFault, put_all};
-use std::alloc::{AllocError, AllocFailed};
+use std::alloc::{AllocError, AllocFailed, Global};
 use thiserror::Error;
 
 /// Why a tool gave no answer of its own.
@@ -74,9 +74,11 @@ impl<T: Drop> From<AllocFailed<T>> for ProgramFault<'_> {
     }
 }
 
-/// Writes the line of a fault, behind `pokit TOOL: ` or behind `pokit: ` where no tool is known.
-/// It takes no memory. A `WriteFault` comes where a call of the writer failed or took no byte.
+/// Writes the line of a fault after `pokit TOOL: `, or after `pokit: ` where no tool is known, in one
+/// piece; part by part where the allocation failed. A `WriteFault` comes where a call of the writer
+/// failed or took no byte.
 pub fn tell<E: ByteOut>(
+    alloc: Global,
     err: &mut E,
     tool: Option<&str>,
     fault: ProgramFault<'_>,
@@ -87,8 +89,78 @@ pub fn tell<E: ByteOut>(
     ensures no_failure { OnOk result (E.failures err.new ≡ E.failures err.old) }
     ensures cause { OnErr result (E.failures err.new ≡ E.failures err.old + 1) }
 {
+    match line_of(alloc, tool, fault) {
+        Ok(line) => put_all(err, &line),
+        Err(_) => put_parts(err, tool, fault),
+    }
+}
+
+/// The line of a fault.
+fn line_of(
+    alloc: Global,
+    tool: Option<&str>,
+    fault: ProgramFault<'_>,
+) -> Result<Vec<u8>, AllocError>
+    ensures { IfOk result (λ line. line.items ≡ program_line (option_copied tool.entry) fault.entry) }
+{
+    let mut line = Vec::new(alloc);
+    push_tool(&mut line, tool)?;
+    push_text(&mut line, fault)?;
+    line.extend_from_slice(b"\n")?;
+    Ok(line)
+}
+
+/// Appends which tool reports a fault.
+fn push_tool(line: &mut Vec<u8>, tool: Option<&str>) -> Result<(), AllocError>
+    ensures { OnOk result (line.new.items ≡ line.old.items ++ tool_mark (option_copied tool.entry)) }
+{
+    let Some(tool) = tool else {
+        return line.extend_from_slice(b"pokit: ");
+    };
+    line.extend_from_slice(b"pokit ")?;
+    line.extend_from_slice(tool.as_bytes())?;
+    line.extend_from_slice(b": ")
+}
+
+/// The name of a file, where a fault has one, and what is wrong.
+fn parts_of<'a>(fault: ProgramFault<'a>) -> (&'a str, &'a str)
+    ensures { result.0.now ++ result.1.now ≡ program_text fault.entry }
+{
+    match fault {
+        ProgramFault::NotText => ("", "arguments are not UTF-8"),
+        ProgramFault::WrongArguments => ("", "wrong number of arguments"),
+        ProgramFault::CannotOpen(file) => (file, ": cannot open"),
+        ProgramFault::CannotCreate(file) => (file, ": cannot create"),
+        ProgramFault::ReadFault(file) => (file, ": read fault"),
+        ProgramFault::WriteFault => ("", "write fault"),
+        ProgramFault::OutOfMemory => ("", "out of memory"),
+    }
+}
+
+/// Appends what is wrong.
+fn push_text(line: &mut Vec<u8>, fault: ProgramFault<'_>) -> Result<(), AllocError>
+    ensures { OnOk result (line.new.items ≡ line.old.items ++ program_text fault.entry) }
+{
+    let (file, text) = parts_of(fault);
+    line.extend_from_slice(file.as_bytes())?;
+    line.extend_from_slice(text.as_bytes())
+}
+
+/// Writes the line of a fault part by part, without memory.
+fn put_parts<E: ByteOut>(
+    err: &mut E,
+    tool: Option<&str>,
+    fault: ProgramFault<'_>,
+) -> Result<(), ToolFault>
+    requires { E.failures err.old < 2 ^ 63 }
+    ensures line { OnOk result (Appends (E.contents err.old) (E.contents err.new) (program_line (option_copied tool.entry) fault.entry)) }
+    ensures fault { OnErr result (result ≡ Err ToolFault.WriteFault) }
+    ensures no_failure { OnOk result (E.failures err.new ≡ E.failures err.old) }
+    ensures cause { OnErr result (E.failures err.new ≡ E.failures err.old + 1) }
+{
+    let (file, text) = parts_of(fault);
     put_tool(err, tool)?;
-    put_text(err, fault)?;
+    put_both(err, file, text)?;
     put_all(err, b"\n")
 }
 
@@ -106,25 +178,6 @@ fn put_tool<E: ByteOut>(err: &mut E, tool: Option<&str>) -> Result<(), ToolFault
             put_all(err, b"pokit ")?;
             put_both(err, tool, ": ")
         }
-    }
-}
-
-/// Writes what is wrong.
-fn put_text<E: ByteOut>(err: &mut E, fault: ProgramFault<'_>) -> Result<(), ToolFault>
-    requires { E.failures err.old < 2 ^ 63 }
-    ensures text { OnOk result (Appends (E.contents err.old) (E.contents err.new) (program_text fault.entry)) }
-    ensures fault { OnErr result (result ≡ Err ToolFault.WriteFault) }
-    ensures no_failure { OnOk result (E.failures err.new ≡ E.failures err.old) }
-    ensures cause { OnErr result (E.failures err.new ≡ E.failures err.old + 1) }
-{
-    match fault {
-        ProgramFault::NotText => put_all(err, b"arguments are not UTF-8"),
-        ProgramFault::WrongArguments => put_all(err, b"wrong number of arguments"),
-        ProgramFault::CannotOpen(file) => put_both(err, file, ": cannot open"),
-        ProgramFault::CannotCreate(file) => put_both(err, file, ": cannot create"),
-        ProgramFault::ReadFault(file) => put_both(err, file, ": read fault"),
-        ProgramFault::WriteFault => put_all(err, b"write fault"),
-        ProgramFault::OutOfMemory => put_all(err, b"out of memory"),
     }
 }
 

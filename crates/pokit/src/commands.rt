@@ -7,6 +7,13 @@ pub(crate) const DEFAULT_OUTPUT: &str = "messages.mo";
 
 static BYTE_ORDERS: [&str; 2] = ["little", "big"];
 
+static TOOLS: [&str; 4] = ["msgfmt", "gettext", "ngettext", "envsubst"];
+
+/// The tool that a word names, where it names one.
+pub(crate) fn tool_of(word: &str) -> Option<&'static str> {
+    TOOLS.iter().copied().find(|tool| *tool == word)
+}
+
 /// The whole program. Where the first word names a tool, that one alone is built.
 pub(crate) fn program<'a>(alloc: Global, first: Option<&str>) -> Result<Command<'a>, AllocError> {
     let program = Command::new(alloc, "pokit")

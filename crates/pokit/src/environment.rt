@@ -1,5 +1,7 @@
-// The environment's variables. Their values are bytes, and needn't be text.
+// The arguments, which are text, and the environment's variables, whose values are bytes and needn't
+// be text.
 use po_shell::Environment;
+use po_tools::ProgramFault;
 use std::alloc::{AllocError, Global};
 use std::env::{Env, FillError};
 
@@ -8,7 +10,10 @@ use std::env::{Env, FillError};
 enum Query<'a> {
     Variable(&'a str),
     Entry(usize),
+    Argument(usize),
 }
+
+const PROGRAM: &str = "pokit";
 
 const FIRST_CAPACITY: usize = 256;
 
@@ -66,6 +71,26 @@ pub(crate) fn entries(alloc: Global, env: &impl Env) -> Result<Vec<Vec<u8>>, All
     Ok(entries)
 }
 
+/// The name of the program, and the arguments. These are text, all or none; the path by which the
+/// program was started isn't asked for.
+pub(crate) fn arguments(
+    alloc: Global,
+    env: &impl Env,
+) -> Result<Vec<String>, ProgramFault<'static>> {
+    let mut arguments = Vec::new(alloc);
+    arguments.push(String::from_str(alloc, PROGRAM)?)?;
+    for place in 1..usize::MAX {
+        let Some(argument) = ask(alloc, env, Query::Argument(place))? else {
+            break;
+        };
+        match String::from_utf8(argument) {
+            Ok(text) => arguments.push(text)?,
+            Err(_) => return Err(ProgramFault::NotText),
+        }
+    }
+    Ok(arguments)
+}
+
 fn bytes(value: &Option<Vec<u8>>) -> Option<&[u8]> {
     match value {
         Some(value) => Some(value.as_slice()),
@@ -94,5 +119,6 @@ fn fill(env: &impl Env, query: Query<'_>, room: &mut [u8]) -> Result<usize, Fill
     match query {
         Query::Variable(name) => env.var(name, room),
         Query::Entry(place) => env.var_at(place, room),
+        Query::Argument(place) => env.arg(place, room),
     }
 }

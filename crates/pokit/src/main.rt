@@ -5,49 +5,36 @@ mod catalogues;
 mod commands;
 mod environment;
 mod files;
+mod streams;
 mod tools;
 
 use clap::ArgMatches;
 use clap::error::ErrorKind;
 use po_shell::Counted;
 use po_tools::ProgramFault;
-use std::env;
-use std::io::{self, Write};
 use std::process::ExitCode;
 
 fn main(rt: HostRuntime) -> ExitCode {
-    match arguments(&rt) {
-        Ok(words) => run(&rt, words.as_slice()),
-        Err(error) => tell(rt.stderr(), None, fault_of_words(&error)),
+    if streams::hold_closed(&rt).is_err() {
+        return tell(&rt, None, ProgramFault::CannotOpen(streams::HELD));
     }
-}
-
-// The words of the command line. They are text, all or none.
-fn arguments(rt: &HostRuntime) -> io::Result<Vec<String>> {
-    Ok(env::args(rt)?.collect(rt.alloc())?)
-}
-
-// What is told where the words can't be had.
-fn fault_of_words(error: &io::Error) -> ProgramFault<'static> {
-    match error.kind() {
-        io::ErrorKind::OutOfMemory => ProgramFault::OutOfMemory,
-        _ => ProgramFault::NotText,
+    match environment::arguments(rt.alloc(), &rt) {
+        Ok(words) => run(&rt, words.as_slice()),
+        Err(fault) => tell(&rt, None, fault),
     }
 }
 
 fn run(rt: &HostRuntime, words: &[String]) -> ExitCode {
-    let first = words.get(1).map(|word| word.as_str());
+    let first = words.get(1).and_then(|word| commands::tool_of(word.as_str()));
     let parsed = match commands::program(rt.alloc(), first) {
         Ok(command) => command.try_get_matches_from(words),
-        Err(_) => return tell(rt.stderr(), first, ProgramFault::OutOfMemory),
+        Err(_) => return tell(rt, first, ProgramFault::OutOfMemory),
     };
     match parsed {
         Ok(matches) => run_tool(rt, &matches),
-        Err(error) if error.kind() == ErrorKind::OutOfMemory => tell(
-            rt.stderr(),
-            first,
-            ProgramFault::OutOfMemory,
-        ),
+        Err(error) if error.kind() == ErrorKind::OutOfMemory => {
+            tell(rt, first, ProgramFault::OutOfMemory)
+        }
         Err(error) => {
             let is_shown = error.print(rt).is_ok();
             exit_code(is_shown && !error.use_stderr())
@@ -69,13 +56,14 @@ fn run_tool(rt: &HostRuntime, matches: &ArgMatches<'_>) -> ExitCode {
     };
     match outcome {
         Ok(status) => exit_code(status == 0),
-        Err(fault) => tell(rt.stderr(), Some(tool), fault),
+        Err(fault) => tell(rt, Some(tool), fault),
     }
 }
 
-// Tells a fault. Where that fails too, the status alone tells it.
-fn tell(errors: impl Write + Drop, tool: Option<&str>, fault: ProgramFault<'_>) -> ExitCode {
-    let _ = po_tools::tell(&mut Counted::new(errors), tool, fault);
+// Reports a fault. Where that fails too, the status alone reports it.
+fn tell(rt: &HostRuntime, tool: Option<&str>, fault: ProgramFault<'_>) -> ExitCode {
+    let mut errors = Counted::new(rt.stderr());
+    let _ = po_tools::tell(rt.alloc(), &mut errors, tool, fault);
     ExitCode::FAILURE
 }
 

@@ -1,0 +1,30 @@
+// Standard streams that are closed. The next file to be opened would get the number of one, and
+// what is meant for the stream would go into the file.
+use std::fs;
+use std::io;
+use std::os::fd::{AsFd, AsRawFd, IntoRawFd};
+
+/// What takes the place of a closed stream: a folder, which can be neither read nor written, so that
+/// each use of the stream is a fault.
+pub(crate) const HELD: &str = "/";
+
+const LAST_STREAM: i32 = 2;
+
+/// Holds the numbers of the standard streams that are closed, up to the end of the program.
+pub(crate) fn hold_closed(rt: &HostRuntime) -> io::Result<()> {
+    if is_open(&rt.stdin()) && is_open(&rt.stdout()) && is_open(&rt.stderr()) {
+        return Ok(());
+    }
+    for _ in 0..=LAST_STREAM {
+        let folder = fs::open(rt, HELD)?;
+        if folder.as_raw_fd() > LAST_STREAM {
+            break;
+        }
+        let _ = folder.into_raw_fd();
+    }
+    Ok(())
+}
+
+fn is_open(stream: &impl AsFd) -> bool {
+    stream.as_fd().try_clone_to_owned().is_ok()
+}
