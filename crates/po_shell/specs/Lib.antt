@@ -15,3 +15,4 @@ pub mod Expanding
 pub mod Locales
 pub mod LocaleSteps
 pub mod Catalogues
+pub mod Variables

@@ -1,16 +1,20 @@
 // Substitution of a whole input ("Invoking the envsubst program" of the GNU gettext manual).
-ghost use Rattle.std.specs.Prelude.{◌≡◌, ◌+◌, ◌^◌, ◌<◌, ◌≤◌, ◌⊎◌, ◌≢◌, OnOk, OnErr, IsErrOf, Err};
+ghost use Rattle.std.specs.Prelude.{◌≡◌, ◌+◌, ◌^◌, ◌<◌, ◌≤◌, ◌⊎◌, ◌≢◌, IfOk, OnOk, OnErr, IsErrOf, Err};
 ghost use Rattle.po_shell.specs.Envsubst.{Substitutes, StopsAtEnd, StopsWithin};
 ghost use Rattle.po_shell.specs.Substitution.{values_given};
 
-use crate::device::{ByteIn, ByteOut};
+use crate::device::{ByteIn, ByteOut, Counted};
 use crate::fault::ToolFault;
 use crate::substituter::Substituter;
+use std::alloc::Global;
+use std::io::{BufWriter, Write};
 
 /// How often a reader is asked at most for a piece of an input: 4,294,967,296 times.
 pub const MOST_READS: u64 = 1 << 32;
 
 const PIECE: usize = 1 << 16;
+
+const BLOCK: usize = 1 << 16;
 
 /// Writes the input with its references replaced, as [`Substituter`] replaces them. A `ReadFault`
 /// comes where a call of the reader failed, or `MOST_READS` calls gave no end of the input.
@@ -62,4 +66,46 @@ pub fn run_envsubst<R: ByteIn, W: ByteOut>(
         }
     }
     Err(ToolFault::ReadFault)
+}
+
+/// The same, with the output gathered in blocks, for a writer of which each call is dear. All of the
+/// output has gone into the writer that is answered. After a `ReadFault` what was gathered is written
+/// too, after a `WriteFault` nothing more.
+pub fn run_envsubst_in_blocks<R: ByteIn, W: Write + Drop>(
+    alloc: Global,
+    reader: &mut R,
+    writer: W,
+    vars: &[(&[u8], &[u8])],
+    only: Option<&[&[u8]]>,
+) -> Result<W, ToolFault>
+    requires calls { R.calls reader.old < 2 ^ 63 }
+    requires read_failures { R.failures reader.old < 2 ^ 63 }
+    ensures ok { IfOk result (λ written. Substitutes (values_given vars.now only.entry)
+        (R.remaining reader.old) (W.contents writer) (W.contents written)) }
+    ensures no_read_failure { OnOk result (R.failures reader.new ≡ R.failures reader.old) }
+    ensures read_cause { IsErrOf result ToolFault.ReadFault
+        → (R.failures reader.new ≡ R.failures reader.old + 1)
+        ⊎ ((R.failures reader.new ≡ R.failures reader.old)
+        × (R.calls reader.new ≡ R.calls reader.old + 2 ^ 32)) }
+    ensures write_cause_alone { IsErrOf result ToolFault.WriteFault
+        → R.failures reader.new ≡ R.failures reader.old }
+    ensures calls { R.calls reader.new ≤ R.calls reader.old + 2 ^ 32 }
+{
+    let Ok(output) = BufWriter::with_capacity(alloc, BLOCK, writer) else {
+        return Err(ToolFault::OutOfMemory);
+    };
+    let mut counted = Counted::new(output);
+    let outcome = run_envsubst(reader, &mut counted, vars, only);
+    let output = counted.into_inner();
+    match outcome {
+        Ok(()) => output.into_inner().map_err(|_| ToolFault::WriteFault),
+        Err(ToolFault::WriteFault) => {
+            let (_, _) = output.into_parts();
+            Err(ToolFault::WriteFault)
+        }
+        Err(fault) => {
+            let _ = output.into_inner();
+            Err(fault)
+        }
+    }
 }

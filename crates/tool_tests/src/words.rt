@@ -46,7 +46,7 @@ const FAULTS: &[(Option<&str>, ProgramFault<'static>, &[u8])] = &[
 /// Whether a fault is told by this line.
 fn is_told(alloc: Global, tool: Option<&str>, fault: ProgramFault<'_>, line: &[u8]) -> bool {
     let mut err = Counted::new(Vec::new(alloc));
-    let told = tell(&mut err, tool, fault);
+    let told = tell(alloc, &mut err, tool, fault);
     let gone_out = err.into_inner();
     told.is_ok() && gone_out.as_slice() == line
 }
@@ -86,8 +86,11 @@ fn tells_faults_in_lines(rt: HostRuntime) {
         assert!(rt; is_told(rt.alloc(), *tool, *fault, line), "{line:?}");
     }
     let mut full = Counted::new(Failing::new(Vec::new(rt.alloc()), 1, 1));
-    let told = tell(&mut full, None, ProgramFault::NotText);
+    let told = tell(rt.alloc(), &mut full, None, ProgramFault::NotText);
     assert!(rt; told == Err(ToolFault::WriteFault));
+    let mut once = Counted::new(Failing::new(Vec::new(rt.alloc()), 2, 100));
+    let told = tell(rt.alloc(), &mut once, Some("msgfmt"), ProgramFault::CannotOpen("a.po"));
+    assert!(rt; told.is_ok(), "in one write");
 }
 
 #[test]
