@@ -1,5 +1,7 @@
 // Substitution of a whole input ("Invoking the envsubst program" of the GNU gettext manual).
 ghost use Rattle.std.specs.Prelude.{◌≡◌, ◌+◌, ◌^◌, ◌<◌, ◌≤◌, ◌⊎◌, ◌≢◌, IfOk, OnOk, OnErr, IsErrOf, Err};
+ghost use Rattle.std.specs.Io.Buffered.{writer_contents};
+ghost use Rattle.std.specs.Io.KnownBytes.{Keeps};
 ghost use Rattle.po_shell.specs.Envsubst.{Substitutes, StopsAtEnd, StopsWithin};
 ghost use Rattle.po_shell.specs.Substitution.{values_given};
 
@@ -98,14 +100,28 @@ pub fn run_envsubst_in_blocks<R: ByteIn, W: Write + Drop>(
     let outcome = run_envsubst(reader, &mut counted, vars, only);
     let output = counted.into_inner();
     match outcome {
-        Ok(()) => output.into_inner().map_err(|_| ToolFault::WriteFault),
+        Ok(()) => written_out(output),
         Err(ToolFault::WriteFault) => {
             let (_, _) = output.into_parts();
             Err(ToolFault::WriteFault)
         }
         Err(fault) => {
-            let _ = output.into_inner();
+            let _ = written_out(output);
             Err(fault)
+        }
+    }
+}
+
+// Writes what is still gathered. Where that fails, nothing more is written.
+fn written_out<W: Write + Drop>(output: BufWriter<W>) -> Result<W, ToolFault>
+    ensures ok { IfOk result (λ written. Keeps (writer_contents W.contents output) (W.contents written)) }
+    ensures fault { OnErr result (result ≡ Err ToolFault.WriteFault) }
+{
+    match output.into_inner() {
+        Ok(written) => Ok(written),
+        Err(error) => {
+            let (_, _) = error.into_inner().into_parts();
+            Err(ToolFault::WriteFault)
         }
     }
 }

@@ -1,13 +1,13 @@
 // Puts the values of variables into a text.
 use crate::environment::entries;
 use clap::ArgMatches;
-use po_shell::{Counted, ToolFault, name_and_value, name_lines, names, put_all, run_envsubst};
+use po_shell::{
+    Counted, ToolFault, name_lines, names, put_all, run_envsubst_in_blocks, variables_in,
+};
 use po_tools::{EnvsubstWords, ProgramFault};
 use std::alloc::Global;
 use std::env::Env;
-use std::io::{self, BufWriter, Input, Print, Write};
-
-const OUTPUT_CAPACITY: usize = 1 << 16;
+use std::io::{self, Input, Print};
 
 /// Runs `pokit envsubst` and gives its status.
 pub(crate) fn run<'a, R: Env + Input + Print>(
@@ -41,34 +41,13 @@ fn substitute<R: Env + Input + Print>(
     only: Option<&[&[u8]]>,
 ) -> Result<(), ToolFault> {
     let entries = entries(alloc, rt)?;
-    let mut variables = Vec::with_capacity(alloc, entries.len())?;
-    for entry in &entries {
-        if let Some(variable) = name_and_value(entry.as_slice()) {
-            variables.push(variable)?;
-        }
-    }
-    let output = BufWriter::with_capacity(alloc, OUTPUT_CAPACITY, io::writer(rt)).map_err(
-        |_| ToolFault::OutOfMemory,
-    )?;
-    let mut writer = Counted::new(output);
-    let outcome = run_envsubst(
+    let variables = variables_in(alloc, entries.as_slice())?;
+    let _ = run_envsubst_in_blocks(
+        alloc,
         &mut Counted::new(rt.reader()),
-        &mut writer,
+        io::writer(rt),
         variables.as_slice(),
         only,
-    );
-    finish(writer.into_inner(), outcome)
-}
-
-// Writes what is still gathered, but nothing after a write that failed.
-fn finish<W: Write + Drop>(
-    mut output: BufWriter<W>,
-    outcome: Result<(), ToolFault>,
-) -> Result<(), ToolFault> {
-    if outcome == Err(ToolFault::WriteFault) {
-        let (_, _) = output.into_parts();
-        return outcome;
-    }
-    let flushed = output.flush().map_err(|_| ToolFault::WriteFault);
-    outcome.and(flushed)
+    )?;
+    Ok(())
 }
