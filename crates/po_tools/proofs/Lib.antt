@@ -4,3 +4,4 @@ pub mod MsgfmtLemmas
 pub mod MsgattribLemmas
 pub mod FirstFaults
 pub mod OneRun
+pub mod InputLemmas

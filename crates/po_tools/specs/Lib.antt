@@ -14,3 +14,4 @@ pub mod Written
 pub mod Delivered
 pub mod Msgattrib
 pub mod RunLaws
+pub mod Inputs

@@ -3,6 +3,7 @@
 
 mod fault_text;
 mod gettext;
+mod inputs;
 mod msgattrib;
 mod msgfmt;
 mod profile;
@@ -15,6 +16,7 @@ mod words;
 mod written;
 
 pub use gettext::{GettextOptions, NgettextOptions, plan_gettext, plan_ngettext};
+pub use inputs::{Input, InputSource, Inputs, Unread};
 pub use msgattrib::{plan_msgattrib, run_msgattrib};
 pub use msgfmt::{MsgfmtOptions, plan_msgfmt, profile_check, run_msgfmt};
 pub use po_catalog::JoinError;

@@ -1,0 +1,42 @@
+-- What the tools read: the inputs that the command line names, in order, up to the first that can't be read (manual, "Invoking the msgfmt
+-- Program": "If input file is `-`, standard input is read").
+use Rattle.std.specs.Prelude.{◌≡◌, ◌++◌, ◌∷◌, ◌||◌, ℕ, Bool, true, false, List, [], map, Option, Some, None, codes}
+use Rattle.po_tools.specs.declared.inputs.Input.{Input}
+use Rattle.po_tools.specs.declared.inputs.Unread.{Unread}
+use Rattle.po_tools.specs.declared.inputs.Unread.TheVariants.{CannotOpen, ReadFault, OutOfMemory}
+use Rattle.po_tools.specs.NamedFile.{NamedFile}
+use Rattle.po_tools.specs.Run.{is_standard, shown_name}
+
+-- what reading an input comes to: its bytes, or why it can't be read
+pub data Reading : Type 0 where
+  gives : List ℕ → Reading
+  refuses : Unread → Reading
+
+-- what an argument is read as: a file; standard input, where it isn't read yet; and no bytes, where it is
+abbrev pub ReadsAs : (List ℕ → Reading → Type 0) → (Reading → Type 0) → List ℕ → Bool → Bool → Reading → Type 0
+ReadsAs file standard word false seen reading = file word reading
+ReadsAs file standard word true false reading = standard reading
+ReadsAs file standard word true true reading = reading ≡ gives []
+
+-- what is wrong with an input that can't be read
+abbrev pub unread_text : List ℕ → Unread → List ℕ
+unread_text name CannotOpen = name ++ codes ": cannot open"
+unread_text name ReadFault = name ++ codes ": read fault"
+unread_text name OutOfMemory = codes "out of memory"
+
+-- The inputs that arguments name, of which `-` was seen or not: each with its bytes, up to the first that can't be read and what is wrong with it.
+pub data AreInputs (file : List ℕ → Reading → Type 0) (standard : Reading → Type 0) : Bool → List (List ℕ) → List NamedFile → Option (List ℕ) → Type 0 where
+  done : {seen : Bool} → AreInputs file standard seen [] [] None
+  read : {seen : Bool} {word : List ℕ} {words : List (List ℕ)} {bytes : List ℕ} {inputs : List NamedFile} {fault : Option (List ℕ)}
+      → ReadsAs file standard word (is_standard word) seen (gives bytes) → AreInputs file standard (seen || is_standard word) words inputs fault
+      → AreInputs file standard seen (word ∷ words) (record { name = shown_name word; bytes = bytes } ∷ inputs) fault
+  unread : {seen : Bool} {word : List ℕ} {words : List (List ℕ)} (why : Unread)
+      → ReadsAs file standard word (is_standard word) seen (refuses why)
+      → AreInputs file standard seen (word ∷ words) [] (Some (unread_text (shown_name word) why))
+
+-- what contracts see of an input
+abbrev pub named_input : Input → NamedFile
+named_input input = record { name = input.name.now; bytes = input.bytes.items }
+
+abbrev pub named_inputs : List Input → List NamedFile
+named_inputs inputs = map named_input inputs

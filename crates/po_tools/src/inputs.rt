@@ -1,0 +1,140 @@
+// The inputs of a tool, read in the order of the command line.
+ghost use Rattle.std.specs.Prelude.{◌≡◌, ◌⊎◌, ◌++◌, ℕ, List, map, option_map, false, MatchResult, IfOk};
+ghost use Rattle.po_tools.specs.Inputs.{AreInputs, ReadsAs, Reading, gives, refuses, named_inputs, unread_text};
+ghost use Rattle.po_tools.specs.NamedFile.{named_files};
+ghost use Rattle.po_tools.specs.ProgramFaults.{program_text};
+ghost use Rattle.po_tools.specs.Run.{is_standard};
+
+use crate::program_fault::ProgramFault;
+use crate::run::{STANDARD, shown_name};
+use po_shell::{ByteIn, ToolFault, read_input};
+use std::alloc::{AllocError, Global};
+
+/// Why an input isn't read.
+#[derive(Clone, Copy, Debug, PartialEq, Eq)]
+pub enum Unread {
+    /// The file can't be opened.
+    CannotOpen,
+    /// It was opened, and reading it failed.
+    ReadFault,
+    /// The allocation failed.
+    OutOfMemory,
+}
+
+/// Where inputs are read from: the files of a system, and its standard input.
+pub trait InputSource {
+    // What reading the file of a name may come to.
+    ghost file: { Self → List ℕ → Reading → Type 0 };
+
+    // What reading standard input may come to.
+    ghost standard: { Self → Reading → Type 0 };
+
+    /// The bytes of the file of this name.
+    fn read_file(&self, alloc: Global, name: &str) -> Result<Vec<u8>, Unread>
+        ensures { MatchResult result (λ bytes. file self.now name.now (gives bytes.items))
+            (λ why. (why ≡ Unread.OutOfMemory) ⊎ file self.now name.now (refuses why)) };
+
+    /// The bytes of standard input.
+    fn read_standard(&self, alloc: Global) -> Result<Vec<u8>, Unread>
+        ensures { MatchResult result (λ bytes. standard self.now (gives bytes.items))
+            (λ why. (why ≡ Unread.OutOfMemory) ⊎ standard self.now (refuses why)) };
+}
+
+/// An input with its name in fault lines.
+#[derive(Drop)]
+pub struct Input<'a> {
+    /// The name: that of a file, or `<stdin>`.
+    pub name: &'a str,
+    /// What was read.
+    pub bytes: Vec<u8>,
+}
+
+/// The inputs that a command line names, up to the first that can't be read.
+#[derive(Drop)]
+pub struct Inputs<'a> {
+    /// Each input that was read, in order.
+    pub texts: Vec<Input<'a>>,
+    /// Why the next one can't be read, where one can't.
+    pub fault: Option<ProgramFault<'a>>,
+}
+
+impl<'a> Inputs<'a> {
+    /// Reads the file of each word, or standard input for `-`, which is empty from the second time on.
+    /// The first that can't be read ends the inputs. Refused only where the allocation failed.
+    pub fn read<S: InputSource>(
+        alloc: Global,
+        source: &S,
+        words: &[&'a str],
+    ) -> Result<Inputs<'a>, AllocError>
+        ensures { IfOk result (λ inputs. AreInputs (S.file source.now) (S.standard source.now) false
+            (map (λ word. word.now) words.now) (named_inputs inputs.texts.items) (option_map program_text inputs.fault)) }
+    {
+        let mut texts = Vec::new(alloc);
+        let mut is_stdin_read = false;
+        for word in words {
+            let standard = is_standard(word);
+            match read_word(alloc, source, word, standard, is_stdin_read) {
+                Ok(bytes) => texts.push(Input {
+                    name: shown_name(word),
+                    bytes,
+                })?,
+                Err(Unread::OutOfMemory) => return Err(AllocError),
+                Err(why) => return Ok(Inputs {
+                    texts,
+                    fault: Some(fault_of(shown_name(word), why)),
+                }),
+            }
+            is_stdin_read = is_stdin_read || standard;
+        }
+        Ok(Inputs { texts, fault: None })
+    }
+
+    /// The inputs that were read, lent.
+    pub fn lent(&self, alloc: Global) -> Result<Vec<(&str, &[u8])>, AllocError>
+        ensures { IfOk result (λ lent. named_files lent.items ≡ named_inputs self.now.texts.items) }
+    {
+        let mut lent = Vec::with_capacity(alloc, self.texts.len())?;
+        for input in &self.texts {
+            lent.push((input.name, input.bytes.as_slice()))?;
+        }
+        Ok(lent)
+    }
+}
+
+/// Whether the word stands for standard input.
+fn is_standard(word: &str) -> bool
+    ensures { result ≡ is_standard word.now }
+{
+    word == STANDARD
+}
+
+/// Reads what one word stands for.
+fn read_word<S: InputSource>(
+    alloc: Global,
+    source: &S,
+    word: &str,
+    standard: bool,
+    is_stdin_read: bool,
+) -> Result<Vec<u8>, Unread>
+    ensures { MatchResult result
+        (λ bytes. ReadsAs (S.file source.now) (S.standard source.now) word.now standard is_stdin_read (gives bytes.items))
+        (λ why. (why ≡ Unread.OutOfMemory)
+        ⊎ ReadsAs (S.file source.now) (S.standard source.now) word.now standard is_stdin_read (refuses why)) }
+{
+    match (standard, is_stdin_read) {
+        (false, _) => source.read_file(alloc, word),
+        (true, false) => source.read_standard(alloc),
+        (true, true) => Ok(Vec::new(alloc)),
+    }
+}
+
+/// The fault of an input that can't be read.
+fn fault_of(name: &str, why: Unread) -> ProgramFault<'_>
+    ensures { program_text result ≡ unread_text name.now why }
+{
+    match why {
+        Unread::CannotOpen => ProgramFault::CannotOpen(name),
+        Unread::ReadFault => ProgramFault::ReadFault(name),
+        Unread::OutOfMemory => ProgramFault::OutOfMemory,
+    }
+}
