@@ -1,13 +1,20 @@
 -- The words that are left to read, and what they add to the inputs before.
-use Rattle.std.proofs.Common.{◌≡◌, ◌≤◌, ◌<◌, ◌+◌, ◌||◌, ℕ, Bool, false, List, [], ◌∷◌, ◌++◌, Option, None, Some, drop, get_or, map, length, sym, ap, subst, append_assoc, append-nil, drop-cons, drop_of_length-le, add-one, arith}
+use Rattle.std.proofs.Common.{◌≡◌, ◌≤◌, ◌<◌, ◌+◌, ◌||◌, ℕ, Bool, false, List, [], ◌∷◌, ◌++◌, Option, None, Some, refl, drop, get_or, map, length, sym, ap, subst, append_assoc, append-nil, drop-cons, drop_of_length-le, add-one, arith}
 use Rattle.std.specs.Borrow.{Bor}
+use Rattle.po_tools.specs.declared.inputs.Input.{Input}
 use Rattle.po_tools.specs.declared.inputs.Unread.{Unread}
-use Rattle.po_tools.specs.Inputs.{AreInputs, ReadsAs, Reading, gives, refuses, done, read, unread, unread_text}
+use Rattle.po_tools.specs.Inputs.{AreInputs, ReadsAs, Reading, gives, refuses, done, read, unread, unread_text, named_input, named_inputs}
 use Rattle.po_tools.specs.NamedFile.{NamedFile}
 use Rattle.po_tools.specs.Run.{is_standard, shown_name}
 
 abbrev pub words_now : List (Bor (List ℕ)) → List (List ℕ)
 words_now words = map (λ word. word.now) words
+
+-- one more input stands behind those before
+pub named-more : (texts : List Input) (input : Input) (name : List ℕ) → input.name.now ≡ name
+    → named_inputs (texts ++ input ∷ []) ≡ named_inputs texts ++ record { name = name; bytes = input.bytes.items } ∷ []
+named-more [] input name is = rw is refl
+named-more (text ∷ texts) input name is = ap (λ list. named_input text ∷ list) (named-more texts input name is)
 
 module _ (file : List ℕ → Reading → Type 0) (standard : Reading → Type 0) where
   -- whatever the words from i on add completes what the words before made

@@ -1,13 +1,12 @@
 // The inputs of a tool, read in the order of the command line.
-ghost use Rattle.std.specs.Prelude.{◌≡◌, ◌⊎◌, ◌++◌, ℕ, List, map, option_map, false, MatchResult, IfOk};
+ghost use Rattle.std.specs.Prelude.{◌≡◌, ◌≢◌, ◌⊎◌, ℕ, List, map, option_map, false, Some, MatchOption, MatchResult, IfOk};
 ghost use Rattle.po_tools.specs.Inputs.{AreInputs, ReadsAs, Reading, gives, refuses, named_inputs, unread_text};
 ghost use Rattle.po_tools.specs.NamedFile.{named_files};
 ghost use Rattle.po_tools.specs.ProgramFaults.{program_text};
-ghost use Rattle.po_tools.specs.Run.{is_standard};
+ghost use Rattle.po_tools.specs.Run.{is_standard, shown_name};
 
 use crate::program_fault::ProgramFault;
 use crate::run::{STANDARD, shown_name};
-use po_shell::{ByteIn, ToolFault, read_input};
 use std::alloc::{AllocError, Global};
 
 /// Why an input isn't read.
@@ -78,11 +77,7 @@ impl<'a> Inputs<'a> {
                     name: shown_name(word),
                     bytes,
                 })?,
-                Err(Unread::OutOfMemory) => return Err(AllocError),
-                Err(why) => return Ok(Inputs {
-                    texts,
-                    fault: Some(fault_of(shown_name(word), why)),
-                }),
+                Err(why) => return ended(texts, word, why),
             }
             is_stdin_read = is_stdin_read || standard;
         }
@@ -128,13 +123,33 @@ fn read_word<S: InputSource>(
     }
 }
 
-/// The fault of an input that can't be read.
-fn fault_of(name: &str, why: Unread) -> ProgramFault<'_>
-    ensures { program_text result ≡ unread_text name.now why }
+/// The inputs that end at one that can't be read.
+fn ended<'a>(
+    texts: Vec<Input<'a>>,
+    word: &'a str,
+    why: Unread,
+) -> Result<Inputs<'a>, AllocError>
+    ensures { IfOk result (λ inputs. (inputs.texts.items ≡ texts.entry.items)
+        × (option_map program_text inputs.fault ≡ Some (unread_text (shown_name word.now) why))
+        × (why ≢ Unread.OutOfMemory)) }
+{
+    match fault_of(shown_name(word), why) {
+        Some(fault) => Ok(Inputs {
+            texts,
+            fault: Some(fault),
+        }),
+        None => Err(AllocError),
+    }
+}
+
+/// The fault of an input that can't be read; a failed allocation is none of the input.
+fn fault_of(name: &str, why: Unread) -> Option<ProgramFault<'_>>
+    ensures { MatchOption result (why ≡ Unread.OutOfMemory)
+        (λ fault. (why ≢ Unread.OutOfMemory) × (program_text fault ≡ unread_text name.now why)) }
 {
     match why {
-        Unread::CannotOpen => ProgramFault::CannotOpen(name),
-        Unread::ReadFault => ProgramFault::ReadFault(name),
-        Unread::OutOfMemory => ProgramFault::OutOfMemory,
+        Unread::CannotOpen => Some(ProgramFault::CannotOpen(name)),
+        Unread::ReadFault => Some(ProgramFault::ReadFault(name)),
+        Unread::OutOfMemory => None,
     }
 }
