@@ -1,5 +1,5 @@
 -- What a run of msgfmt comes to, by the way in which it ends.
-use Rattle.std.proofs.Common.{◌≡◌, ◌≢◌, ◌⊎◌, ℕ, true, false, List, None, Some, length, IfOk, Result, sym, ap, subst, ◌∙◌, inl, inr, ⊎_elim, arith}
+use Rattle.std.proofs.Common.{◌≡◌, ◌≢◌, ◌⊎◌, ℕ, true, false, List, None, Some, length, IfOk, IfErr, Option, Ok, Err, Result, sym, ap, subst, ◌∙◌, inl, inr, ⊎_elim, arith}
 use Rattle.std.proofs.lemmas.List.{length-map}
 use Rattle.std.proofs.lemmas.Result.{IfOk-weaker}
 use Rattle.std.proofs.lemmas.Slice.Zip.{AllZip-long}
@@ -15,8 +15,10 @@ use Rattle.po_compile.specs.declared.options.Compiled.{Compiled}
 use Rattle.po_compile.specs.declared.options.Options.{Options}
 use Rattle.po_tools.specs.declared.msgfmt.MsgfmtOptions.{MsgfmtOptions}
 use Rattle.po_tools.specs.declared.profile.CheckFault.TheVariants.{OutOfMemory}
+use Rattle.po_tools.specs.declared.program_fault.ProgramFault.{ProgramFault}
+use Rattle.po_tools.specs.declared.program_fault.ProgramFault.TheVariants.{OutOfMemory as OutOfMemory', WrongArguments}
 use Rattle.po_tools.specs.declared.run.Run.{Run}
-use Rattle.po_tools.specs.Msgfmt.{AreChecked, AreTaken, IsMsgfmtRun, IsRefused, check_line, compile_options, compiled_run, input_texts, join_line}
+use Rattle.po_tools.specs.Msgfmt.{AreChecked, AreTaken, IsMsgfmtRun, IsOutside, IsRefused, check_line, compile_options, compiled_run, input_texts, join_line}
 use Rattle.po_tools.specs.NamedFile.{NamedFile, named_file, named_files}
 use Rattle.po_tools.specs.Profile.{Told}
 use Rattle.po_tools.specs.Run.{Report, refusal, report}
@@ -83,3 +85,12 @@ refused inputs o unchecked run none same (inl told) bad =
     record { error = told.error; fault = subst Of same told.fault; not_memory = told.not_memory; report = told.report }
 refused inputs o unchecked run none same (inr (inl unfit)) bad = let wrong : true ≡ false = sym unfit.asked ∙ none in cc
 refused inputs o unchecked run none same (inr (inr done)) bad = absurd (bad (ap (λ r. r.status) done.report))
+
+-- what is told where an input can't be read is told of the inputs before it
+pub before-told : (r : Result Run ProgramFault) (inputs others : List NamedFile) (o : MsgfmtOptions) (given : Option ProgramFault) (fault : ProgramFault) → others ≡ inputs → given ≡ Some fault
+    → IfErr r (λ told. (told ≡ OutOfMemory') ⊎ ((told ≡ fault) × AreTaken others o))
+    → IfErr r (λ told. (told ≡ OutOfMemory') ⊎ ((told ≡ WrongArguments) × IsOutside inputs) ⊎ ((given ≡ Some told) × AreTaken inputs o))
+before-told (Ok run) inputs others o given fault same is h = tt
+before-told (Err told) inputs others o given fault same is h =
+    ⊎_elim (λ memory. inl memory)
+    (λ taken. inr (inr (is ∙ ap (λ (f : ProgramFault). Some f) (sym taken.0), subst (λ (list : List NamedFile). AreTaken list o) same taken.1))) h

@@ -1,5 +1,5 @@
 -- What msgfmt writes and tells (manual, "Invoking the msgfmt Program").
-use Rattle.std.specs.Prelude.{◌≡◌, ◌≢◌, ◌⊎◌, ◌^◌, IfSome, nat_lt, ◌==◌, ℕ, Bool, true, List, [], ◌∷◌, take, map, filter, slice_get, Option, None, Some, codes, decimal, ◌++◌, if◌then◌else◌}
+use Rattle.std.specs.Prelude.{◌≡◌, ◌≢◌, ◌⊎◌, ◌^◌, ◌≤◌, IfSome, length, nat_lt, ◌==◌, ℕ, Bool, true, List, [], ◌∷◌, take, map, filter, slice_get, Option, None, Some, codes, decimal, ◌++◌, if◌then◌else◌}
 use Rattle.std.specs.Io.KnownBytes.{Appends}
 use Rattle.std.specs.Option.{option_map_or}
 use Rattle.po_syntax.specs.declared.fault.PoFault.{PoFault}
@@ -118,6 +118,10 @@ IsMsgfmtRun inputs o run = IsRefused inputs o run ⊎ IsUnfit inputs o run ⊎ I
 -- no input is refused: there is none, or they are compiled
 abbrev pub AreTaken : List NamedFile → MsgfmtOptions → Type 0
 AreTaken inputs o = (inputs ≡ []) ⊎ ((compiled : Compiled) × AreCompiled (compile_options o) (input_texts inputs) compiled)
+
+-- no command line of msgfmt names so many inputs: none, or 2^32 and more
+abbrev pub IsOutside : List NamedFile → Type 0
+IsOutside inputs = (inputs ≡ []) ⊎ (2 ^ 32 ≤ length inputs)
 
 -- the run of the one input that is read, or of its first 2,147,483,648 bytes
 pub record IsMsgfmtRunOf (remaining : Option (List ℕ)) (name : List ℕ) (o : MsgfmtOptions) (run : Report) : Type 0 where

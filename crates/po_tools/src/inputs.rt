@@ -1,5 +1,5 @@
 // The inputs of a tool, read in the order of the command line.
-ghost use Rattle.std.specs.Prelude.{◌≡◌, ◌≢◌, ◌⊎◌, ℕ, List, map, option_map, false, Some, MatchOption, MatchResult, IfOk};
+ghost use Rattle.std.specs.Prelude.{◌≡◌, ◌≢◌, ◌⊎◌, ◌^◌, ℕ, List, take, Err, IfSome, map, option_map, false, Some, MatchOption, MatchResult, IfOk};
 ghost use Rattle.po_tools.specs.Inputs.{AreInputs, ReadsAs, Reading, gives, refuses, named_inputs, unread_text};
 ghost use Rattle.po_tools.specs.NamedFile.{named_files};
 ghost use Rattle.po_tools.specs.ProgramFaults.{program_text};
@@ -7,7 +7,9 @@ ghost use Rattle.po_tools.specs.Run.{is_standard, shown_name};
 
 use crate::program_fault::ProgramFault;
 use crate::run::{STANDARD, shown_name};
+use po_shell::{Counted, ToolFault, read_input};
 use std::alloc::{AllocError, Global};
+use std::io::Read;
 
 /// Why an input isn't read.
 #[derive(Clone, Copy, Debug, PartialEq, Eq)]
@@ -93,6 +95,18 @@ impl<'a> Inputs<'a> {
             lent.push((input.name, input.bytes.as_slice()))?;
         }
         Ok(lent)
+    }
+}
+
+/// What an open file holds, or standard input, or the first 2,147,483,648 bytes of it.
+pub fn read_whole<F: Read + Drop>(alloc: Global, file: F) -> Result<Vec<u8>, Unread>
+    ensures bytes { IfOk result (λ bytes. IfSome (F.remaining file) (λ all. bytes.items ≡ take (2 ^ 31) all)) }
+    ensures opened { result ≢ Err Unread.CannotOpen }
+{
+    match read_input(alloc, &mut Counted::new(file)) {
+        Ok(bytes) => Ok(bytes),
+        Err(ToolFault::OutOfMemory) => Err(Unread::OutOfMemory),
+        Err(_) => Err(Unread::ReadFault),
     }
 }
 

@@ -16,7 +16,7 @@ mod words;
 mod written;
 
 pub use gettext::{GettextOptions, NgettextOptions, plan_gettext, plan_ngettext};
-pub use inputs::{Input, InputSource, Inputs, Unread};
+pub use inputs::{Input, InputSource, Inputs, Unread, read_whole};
 pub use msgattrib::{plan_msgattrib, run_msgattrib};
 pub use msgfmt::{MsgfmtOptions, plan_msgfmt, profile_check, run_msgfmt};
 pub use po_catalog::JoinError;
@@ -27,5 +27,5 @@ pub use profile_laws::first_profile_fault;
 pub use program_fault::{ProgramFault, tell};
 pub use run::{Run, STANDARD, STDIN_NAME, deliver, shown_name};
 pub use run_laws::{one_gettext_run, one_msgfmt_run, one_ngettext_run};
-pub use unread::plan_msgfmt_before;
+pub use unread::{plan_msgfmt_before, plan_msgfmt_of};
 pub use words::{EnvsubstWords, GettextWords, NgettextWords};

@@ -1,9 +1,11 @@
 // What msgfmt comes to where an input can't be read.
-ghost use Rattle.std.specs.Prelude.{◌≡◌, ◌⊎◌, ◌^◌, ◌<◌, length, IfOk, IfErr};
-ghost use Rattle.po_tools.specs.Msgfmt.{AreTaken, IsRefused};
+ghost use Rattle.std.specs.Prelude.{◌≡◌, ◌≢◌, ◌⊎◌, ◌^◌, ◌<◌, [], None, Some, length, IfOk, IfErr};
+ghost use Rattle.po_tools.specs.Inputs.{named_inputs};
+ghost use Rattle.po_tools.specs.Msgfmt.{AreTaken, IsMsgfmtRun, IsOutside, IsRefused};
 ghost use Rattle.po_tools.specs.NamedFile.{named_files};
 ghost use Rattle.po_tools.specs.Run.{report};
 
+use crate::inputs::Inputs;
 use crate::msgfmt::{MsgfmtOptions, plan_msgfmt};
 use crate::program_fault::ProgramFault;
 use crate::run::Run;
@@ -33,4 +35,50 @@ pub fn plan_msgfmt_before<'a>(
         return Err(ProgramFault::OutOfMemory);
     };
     if run.status == 0 { Err(fault) } else { Ok(run) }
+}
+
+/// What `msgfmt` comes to of the inputs that a command line names: the plan of all of them, or where
+/// one can't be read that of those before it. The command line names one at least, and fewer than
+/// 4,294,967,296.
+pub fn plan_msgfmt_of<'a>(
+    alloc: Global,
+    inputs: &Inputs<'a>,
+    options: &MsgfmtOptions,
+) -> Result<Run, ProgramFault<'a>>
+    ensures whole { inputs.now.fault ≡ None
+        → IfOk result (λ run. IsMsgfmtRun (named_inputs inputs.now.texts.items) options.now (report run)) }
+    ensures refused { inputs.now.fault ≢ None
+        → IfOk result (λ run. IsRefused (named_inputs inputs.now.texts.items) options.now (report run)) }
+    ensures fault { IfErr result (λ told. (told ≡ ProgramFault.OutOfMemory)
+        ⊎ ((told ≡ ProgramFault.WrongArguments) × IsOutside (named_inputs inputs.now.texts.items))
+        ⊎ ((inputs.now.fault ≡ Some told) × AreTaken (named_inputs inputs.now.texts.items) options.now)) }
+{
+    let texts = inputs.lent(alloc)?;
+    if texts.len() > u32::MAX as usize {
+        return Err(ProgramFault::WrongArguments);
+    }
+    match inputs.fault {
+        Some(fault) => plan_msgfmt_before(alloc, &texts, fault, options),
+        None => plan_all(alloc, &texts, options),
+    }
+}
+
+/// The plan of inputs that can all be read.
+fn plan_all<'a>(
+    alloc: Global,
+    inputs: &[(&str, &[u8])],
+    options: &MsgfmtOptions,
+) -> Result<Run, ProgramFault<'a>>
+    requires { length inputs.now < 2 ^ 32 }
+    ensures run { IfOk result (λ run. IsMsgfmtRun (named_files inputs.now) options.now (report run)) }
+    ensures fault { IfErr result (λ told. (told ≡ ProgramFault.OutOfMemory)
+        ⊎ ((told ≡ ProgramFault.WrongArguments) × (named_files inputs.now ≡ []))) }
+{
+    if inputs.is_empty() {
+        return Err(ProgramFault::WrongArguments);
+    }
+    match plan_msgfmt(alloc, inputs, options) {
+        Ok(run) => Ok(run),
+        Err(_) => Err(ProgramFault::OutOfMemory),
+    }
 }

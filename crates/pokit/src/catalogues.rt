@@ -1,13 +1,12 @@
 // The compiled catalogues of a text domain.
-ghost use Rattle.std.specs.Prelude.{◌≤◌, length, IfOk};
+ghost use Rattle.std.specs.Prelude.{◌^◌, ◌<◌, length, IfOk};
 
 use crate::environment::Variables;
-use crate::files::read_file;
-use po_shell::{ToolFault, catalogue_paths};
-use po_tools::ProgramFault;
+use crate::files::read_named;
+use po_shell::catalogue_paths;
+use po_tools::{ProgramFault, Unread};
 use std::alloc::Global;
 use std::env::Env;
-use std::fs;
 use std::rt::Files;
 
 // As many as a chain of catalogues can count.
@@ -48,7 +47,7 @@ pub(crate) fn lent<'a>(
     alloc: Global,
     catalogues: &[CatalogueFile],
 ) -> Result<Vec<(&str, &[u8])>, ProgramFault<'a>>
-    ensures { IfOk result (λ all. length all.items ≤ MOST_CATALOGUES) }
+    ensures { IfOk result (λ all. length all.items < 2 ^ 32) }
 {
     let mut all = Vec::with_capacity(alloc, catalogues.len())?;
     for catalogue in catalogues {
@@ -74,12 +73,9 @@ fn read<'a>(
     let Ok(path) = String::from_utf8(path) else {
         return Ok(None);
     };
-    let Ok(file) = fs::open(rt, path.as_str()) else {
-        return Ok(None);
-    };
-    match read_file(alloc, file) {
+    match read_named(alloc, rt, path.as_str()) {
         Ok(bytes) => Ok(Some(CatalogueFile { path, bytes })),
-        Err(ToolFault::OutOfMemory) => Err(ProgramFault::OutOfMemory),
+        Err(Unread::OutOfMemory) => Err(ProgramFault::OutOfMemory),
         Err(_) => Ok(None),
     }
 }

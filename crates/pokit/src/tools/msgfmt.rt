@@ -1,9 +1,9 @@
 // Compiles PO texts.
 use crate::commands::DEFAULT_OUTPUT;
-use crate::files::{Inputs, write_run};
+use crate::files::{System, write_run};
 use clap::ArgMatches;
 use mo_file::Order;
-use po_tools::{MsgfmtOptions, ProgramFault, Run, plan_msgfmt, plan_msgfmt_before};
+use po_tools::{Inputs, MsgfmtOptions, ProgramFault, plan_msgfmt_of};
 use std::alloc::Global;
 use std::io::{Input, Print, Write};
 use std::rt::Files;
@@ -17,8 +17,8 @@ pub(crate) fn run<'a, R: Files + Input + Print, E: Write + Drop>(
 ) -> Result<u8, ProgramFault<'a>> {
     let files = matches.get_strs("FILE").unwrap_or(&[]);
     let output = matches.get_str("output-file").unwrap_or(DEFAULT_OUTPUT);
-    let inputs = Inputs::read(alloc, rt, files)?;
-    let run = plan(alloc, &inputs, &options_of(matches))?;
+    let inputs = Inputs::read(alloc, &System(rt), files)?;
+    let run = plan_msgfmt_of(alloc, &inputs, &options_of(matches))?;
     write_run(rt, errors, &run, output)
 }
 
@@ -31,21 +31,5 @@ fn options_of(matches: &ArgMatches<'_>) -> MsgfmtOptions {
         },
         statistics: matches.get_flag("statistics"),
         profile_check: matches.get_flag("profile-check"),
-    }
-}
-
-fn plan<'a>(
-    alloc: Global,
-    inputs: &Inputs<'a>,
-    options: &MsgfmtOptions,
-) -> Result<Run, ProgramFault<'a>> {
-    let texts = inputs.lent(alloc)?;
-    if texts.len() > u32::MAX as usize {
-        return Err(ProgramFault::WrongArguments);
-    }
-    match inputs.fault {
-        Some(fault) => plan_msgfmt_before(alloc, texts.as_slice(), fault, options),
-        None if texts.is_empty() => Err(ProgramFault::WrongArguments),
-        None => Ok(plan_msgfmt(alloc, texts.as_slice(), options)?),
     }
 }
