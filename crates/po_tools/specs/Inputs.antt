@@ -24,6 +24,12 @@ unread_text name CannotOpen = name ++ codes ": cannot open"
 unread_text name ReadFault = name ++ codes ": read fault"
 unread_text name OutOfMemory = codes "out of memory"
 
+-- the only input can't be read, and this is what is wrong with it
+pub record IsUnread (file : List ℕ → Reading → Type 0) (standard : Reading → Type 0) (word : List ℕ) (text : List ℕ) : Type 0 where
+  pub why : Unread
+  pub reads : ReadsAs file standard word (is_standard word) false (refuses why)
+  pub text_is : text ≡ unread_text (shown_name word) why
+
 -- The inputs that arguments name, of which `-` was seen or not: each with its bytes, up to the first that can't be read and what is wrong with it.
 pub data AreInputs (file : List ℕ → Reading → Type 0) (standard : Reading → Type 0) : Bool → List (List ℕ) → List NamedFile → Option (List ℕ) → Type 0 where
   done : {seen : Bool} → AreInputs file standard seen [] [] None

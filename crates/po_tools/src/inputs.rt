@@ -1,6 +1,6 @@
 // The inputs of a tool, read in the order of the command line.
-ghost use Rattle.std.specs.Prelude.{◌≡◌, ◌≢◌, ◌⊎◌, ◌^◌, ℕ, List, take, Err, IfSome, map, option_map, false, Some, MatchOption, MatchResult, IfOk};
-ghost use Rattle.po_tools.specs.Inputs.{AreInputs, ReadsAs, Reading, gives, refuses, named_inputs, unread_text};
+ghost use Rattle.std.specs.Prelude.{◌≡◌, ◌≢◌, ◌⊎◌, ◌^◌, ℕ, List, take, Err, IfErr, IfSome, map, option_map, false, Some, MatchOption, MatchResult, IfOk};
+ghost use Rattle.po_tools.specs.Inputs.{AreInputs, IsUnread, ReadsAs, Reading, gives, refuses, named_inputs, unread_text};
 ghost use Rattle.po_tools.specs.NamedFile.{named_files};
 ghost use Rattle.po_tools.specs.ProgramFaults.{program_text};
 ghost use Rattle.po_tools.specs.Run.{is_standard, shown_name};
@@ -95,6 +95,26 @@ impl<'a> Inputs<'a> {
             lent.push((input.name, input.bytes.as_slice()))?;
         }
         Ok(lent)
+    }
+}
+
+/// The bytes of the only input, by the word for it.
+pub fn read_one<'a, S: InputSource>(
+    alloc: Global,
+    source: &S,
+    word: &'a str,
+) -> Result<Vec<u8>, ProgramFault<'a>>
+    ensures bytes { IfOk result (λ bytes.
+        ReadsAs (S.file source.now) (S.standard source.now) word.now (is_standard word.now) false (gives bytes.items)) }
+    ensures fault { IfErr result (λ told. (told ≡ ProgramFault.OutOfMemory)
+        ⊎ IsUnread (S.file source.now) (S.standard source.now) word.now (program_text told)) }
+{
+    match read_word(alloc, source, word, is_standard(word), false) {
+        Ok(bytes) => Ok(bytes),
+        Err(why) => match fault_of(shown_name(word), why) {
+            Some(fault) => Err(fault),
+            None => Err(ProgramFault::OutOfMemory),
+        },
     }
 }
 

@@ -16,7 +16,7 @@ mod words;
 mod written;
 
 pub use gettext::{GettextOptions, NgettextOptions, plan_gettext, plan_ngettext};
-pub use inputs::{Input, InputSource, Inputs, Unread, read_whole};
+pub use inputs::{Input, InputSource, Inputs, Unread, read_one, read_whole};
 pub use msgattrib::{plan_msgattrib, run_msgattrib};
 pub use msgfmt::{MsgfmtOptions, plan_msgfmt, profile_check, run_msgfmt};
 pub use po_catalog::JoinError;

@@ -7,6 +7,7 @@ use std::io::{self, Input, Print, Write};
 use std::rt::Files;
 
 /// Where the inputs of the program are read from.
+#[derive(Drop)]
 pub(crate) struct System<'r, R>(pub(crate) &'r R);
 
 // No contract can say what a file or a stream holds.
