@@ -38,8 +38,8 @@ same_settled (x ∷ xs) (y ∷ ys) = elim (cases_lt x y) [
     | inr least ↦
         let head : x ≡ y = omega arith in
         elim (same_settled xs ys) [
-        | inl tail ↦ inl cc
-        | inr tail ↦ inr (λ e. let rest : xs ≡ ys = cc in tail rest)
+          | inl tail ↦ inl cc
+          | inr tail ↦ inr (λ e. let rest : xs ≡ ys = cc in tail rest)
         ]
   ]
 ]
@@ -164,8 +164,8 @@ module _ (bytes : List ℕ) (order : Order) (shows : Shows order bytes) where
         inr (
           NotSorted (first.0 + 1),
           is_first bytes (NotSorted (first.0 + 1)) clear
-          (λ j less has. let fault = shown (NotSorted j) has in first.3 fault.0 (omega (arith, fault.1, less)) fault.3)
-          (order, shows, (first.0, refl, omega (arith, first.1), first.2)),
+              (λ j less has. let fault = shown (NotSorted j) has in first.3 fault.0 (omega (arith, fault.1, less)) fault.3)
+              (order, shows, (first.0, refl, omega (arith, first.1), first.2)),
         )
   ]
 
@@ -191,12 +191,12 @@ module _ (bytes : List ℕ) (order : Order) (shows : Shows order bytes) where
 
   tables : Clear bytes 4 → CatalogOrFaultOf bytes
   tables clear = elim (
-    either (below_settled (length bytes) (originals_table order bytes + 8 * message_count order bytes))
-    (below_settled (length bytes) (translations_table order bytes + 8 * message_count order bytes))
-  ) [
-    | inl fault ↦ inr (TableOutside, is_first bytes TableOutside clear (λ j less has. absurd (omega arith)) (order, shows, fault))
-    | inr none ↦ inside (clear_more bytes 4 clear (λ i has. none (shown TableOutside has)))
-  ]
+      either (below_settled (length bytes) (originals_table order bytes + 8 * message_count order bytes))
+      (below_settled (length bytes) (translations_table order bytes + 8 * message_count order bytes))
+      ) [
+        | inl fault ↦ inr (TableOutside, is_first bytes TableOutside clear (λ j less has. absurd (omega arith)) (order, shows, fault))
+        | inr none ↦ inside (clear_more bytes 4 clear (λ i has. none (shown TableOutside has)))
+      ]
 
   known : Clear bytes 3 → CatalogOrFaultOf bytes
   known clear = elim (below_settled 1 (revision order bytes / 65536)) [

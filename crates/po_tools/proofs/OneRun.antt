@@ -59,8 +59,7 @@ module _ (unique : CatalogIsUnique) (no_fault : NoFaultOfCatalog) (one_fault : O
       absurd (no_fault file.bytes order contents.messages fault is first)
   one_chain tool (file ∷ files) chain chain' _ _ (refused {fault = fault} {told = told} first opens) (refused {fault = fault'} {told = told'} first' opens') =
       let fault_is : fault ≡ fault' = one_fault file.bytes fault fault' first first' in
-      let rest = one_chain tool files chain chain' told told' opens opens' in
-      (
+      let rest = one_chain tool files chain chain' told told' opens opens' in (
         rest.0,
         ap (λ (f : MoError). fault_line tool file.name 0 (mo_text f) ++ told) fault_is ∙ ap (λ (t : List ℕ). fault_line tool file.name 0 (mo_text fault') ++ t) rest.1,
       )

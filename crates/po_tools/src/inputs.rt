@@ -158,11 +158,7 @@ fn read_word<S: InputSource>(
 }
 
 /// The inputs that end at one that can't be read.
-fn ended<'a>(
-    texts: Vec<Input<'a>>,
-    word: &'a str,
-    why: Unread,
-) -> Result<Inputs<'a>, AllocError>
+fn ended<'a>(texts: Vec<Input<'a>>, word: &'a str, why: Unread) -> Result<Inputs<'a>, AllocError>
     ensures { IfOk result (λ inputs. (inputs.texts.items ≡ texts.entry.items)
         × (option_map program_text inputs.fault ≡ Some (unread_text (shown_name word.now) why))
         × (why ≢ Unread.OutOfMemory)) }

@@ -25,7 +25,9 @@ fn main(rt: HostRuntime) -> ExitCode {
 }
 
 fn run(rt: &HostRuntime, words: &[String]) -> ExitCode {
-    let first = words.get(1).and_then(|word| commands::tool_of(word.as_str()));
+    let first = words
+        .get(1)
+        .and_then(|word| commands::tool_of(word.as_str()));
     let parsed = match commands::program(rt.alloc(), first) {
         Ok(command) => command.try_get_matches_from(words),
         Err(_) => return tell(rt, first, ProgramFault::OutOfMemory),

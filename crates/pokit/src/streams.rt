@@ -1,8 +1,7 @@
 // Standard streams that are closed. The next file to be opened would get the number of one, and
 // what is meant for the stream would go into the file.
-use std::fs;
-use std::io;
 use std::os::fd::{AsFd, AsRawFd, IntoRawFd};
+use std::{fs, io};
 
 /// What takes the place of a closed stream: a folder, which can be neither read nor written, so that
 /// each use of the stream is a fault.

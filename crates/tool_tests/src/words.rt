@@ -89,7 +89,12 @@ fn tells_faults_in_lines(rt: HostRuntime) {
     let told = tell(rt.alloc(), &mut full, None, ProgramFault::NotText);
     assert!(rt; told == Err(ToolFault::WriteFault));
     let mut once = Counted::new(Failing::new(Vec::new(rt.alloc()), 2, 100));
-    let told = tell(rt.alloc(), &mut once, Some("msgfmt"), ProgramFault::CannotOpen("a.po"));
+    let told = tell(
+        rt.alloc(),
+        &mut once,
+        Some("msgfmt"),
+        ProgramFault::CannotOpen("a.po"),
+    );
     assert!(rt; told.is_ok(), "in one write");
 }
 

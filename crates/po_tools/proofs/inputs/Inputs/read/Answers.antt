@@ -13,8 +13,8 @@ pub loop-word-preserved : goal.loop-word-preserved
 loop-word-preserved g c =
     let next : c.if-is_stdin_read.is_stdin_read ≡ (c.loop-word.is_stdin_read || c.is_standard-standard.result) =
     elim c.if-is_stdin_read.branch [
-    | then-is_stdin_read w ↦ rw (w.is_stdin_read-is, w.if-is_stdin_read.true) refl
-    | else-is_stdin_read w ↦ rw (w.is_stdin_read-is, w.if-is_stdin_read.false) refl
+      | then-is_stdin_read w ↦ rw (w.is_stdin_read-is, w.if-is_stdin_read.true) refl
+      | else-is_stdin_read w ↦ rw (w.is_stdin_read-is, w.if-is_stdin_read.false) refl
     ] in
     let Seen : Bool → Type 0 = λ seen. Completes (g.S.InputSource.file c.args.source.now) (g.S.InputSource.standard c.args.source.now) c.args.words.now (c.loop-word.word-index + 1) seen (named_inputs c.push.new.self.items) in
     let Done : Bool → List NamedFile → Type 0 = λ seen list. Completes (g.S.InputSource.file c.args.source.now) (g.S.InputSource.standard c.args.source.now) c.args.words.now (c.loop-word.word-index + 1) seen list in
