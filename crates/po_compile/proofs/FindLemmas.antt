@@ -48,7 +48,7 @@ rising_below ks rising i j below inside =
     let e : i + 1 + (j - (i + 1)) ≡ j = omega arith in
     subst (λ k. key_cmp (key_at ks i) (key_at ks k) ≡ Less) e (rising_apart ks rising i (j - (i + 1)) (omega arith))
 
-rising_differ : (ks : List (List ℕ)) → AreRising ks → (i j : ℕ) → i < j → j < length ks → key_at ks i ≢ key_at ks j
+pub rising_differ : (ks : List (List ℕ)) → AreRising ks → (i j : ℕ) → i < j → j < length ks → key_at ks i ≢ key_at ks j
 rising_differ ks rising i j below inside same =
     let less : key_cmp (key_at ks j) (key_at ks j) ≡ Less = subst (λ k. key_cmp k (key_at ks j) ≡ Less) same (rising_below ks rising i j below inside) in
     let equal : key_cmp (key_at ks j) (key_at ks j) ≡ Equal = tied_itself nat_list_cmp_total (key_at ks j) in

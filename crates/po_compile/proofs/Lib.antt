@@ -9,3 +9,4 @@ pub mod AcceptedLemmas
 pub mod SortedMessages
 pub mod AcceptedOrFault
 pub mod OneFaultLemmas
+pub mod PartLemmas

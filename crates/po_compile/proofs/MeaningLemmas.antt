@@ -33,6 +33,7 @@ pub record IsClean (entry : TextEntry) : Type 0 where
   pub context_nul : IfSome entry.context (Lacks 0)
   pub context_eot : IfSome entry.context (Lacks 4)
   pub id_nul : Lacks 0 entry.id
+  pub plural_nul : IfSome entry.plural (Lacks 0)
   pub id_eot : Lacks 4 entry.id
   pub forms_nul : All (Lacks 0) entry.forms
   pub some_form : 0 < length entry.forms
@@ -52,6 +53,7 @@ clean_entry entry valid =
       context_eot = valid.context;
       id_nul = All-head NoNul entry.id [] (All-right NoNul (before_context ++ context) id to_id);
       id_eot = valid.id;
+      plural_nul = optional NoNul entry.plural (All-right NoNul ((before_context ++ context) ++ id) plural to_plural);
       forms_nul = All-right NoNul (((before_context ++ context) ++ id) ++ plural) entry.forms all;
       some_form = valid.some_form;
     }
@@ -64,7 +66,7 @@ some_forms : (all : List (List ℕ)) → 0 < length all → All (Lacks 0) all �
 some_forms [] some lacks = absurd (omega arith)
 some_forms (form ∷ others) some lacks = slice_split-join form others lacks
 
-forms-translation : (entry : TextEntry) → IsClean entry → forms (translation_of entry) ≡ entry.forms
+pub forms-translation : (entry : TextEntry) → IsClean entry → forms (translation_of entry) ≡ entry.forms
 forms-translation entry clean = some_forms entry.forms clean.some_form clean.forms_nul
 
 either_false : (a b : Bool) → (a || b) ≡ false → (a ≡ false) × (b ≡ false)

@@ -4,3 +4,4 @@ pub mod Meaning
 pub mod Compiling
 pub mod Accepted
 pub mod Headline
+pub mod Parts

@@ -1,6 +1,7 @@
 //! Laws of compiling, each of which a call makes known.
 
 ghost use Rattle.po_compile.specs.Headline.{AcceptedOrFault, CataloguesAreOne, LookUpMeansEntries, MessagesAreOne, MessagesMeanEntries, NoFaultWhereAccepted, OneCompileFault};
+ghost use Rattle.po_compile.specs.Parts.{JoinedEntriesCanStand, MessagesDiffer, MessagesHaveParts, OneTextIsRead};
 
 use mo_file::layout_is_catalog;
 use po_catalog::laws::{no_duplicate_or_first, no_first_duplicate_where_none, one_first_duplicate};
@@ -67,3 +68,25 @@ pub fn catalogues_are_one()
 {
     one_reading();
 }
+
+/// The message of an entry has the entry's key, its plural and its forms.
+pub fn messages_have_parts()
+    ensures { MessagesHaveParts }
+{}
+
+/// Entries whose messages stand in rising order of keys are of different messages.
+pub fn messages_differ()
+    ensures { MessagesDiffer }
+{}
+
+/// The entries of texts that are read can stand in a catalogue.
+pub fn joined_entries_can_stand()
+    ensures { JoinedEntriesCanStand }
+{
+    entries_can_stand();
+}
+
+/// A text without duplicate is read as its entries, where it is the only one.
+pub fn one_text_is_read()
+    ensures { OneTextIsRead }
+{}

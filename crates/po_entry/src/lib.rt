@@ -13,6 +13,7 @@ mod previous;
 mod texts;
 
 pub use crate::catalogue::Catalogue;
+pub use crate::charset::has_admitted_charset;
 pub use crate::entry::Entry;
 pub use crate::fields::Fields;
 pub use crate::previous::Previous;

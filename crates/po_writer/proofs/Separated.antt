@@ -1,11 +1,11 @@
 -- The entries written one after the other are the written text.
-use Rattle.std.proofs.Common.{◌≡◌, ◌∙◌, refl, sym, ap, ℕ, ◌<◌, List, [], ◌∷◌, ◌++◌, Bool, true, false, not, filter, length, length-append, append_assoc, codes, arith}
+use Rattle.std.proofs.Common.{◌≡◌, ◌∙◌, refl, sym, ap, ℕ, ◌<◌, List, [], ◌∷◌, ◌++◌, Bool, true, false, cond, not, filter, length, length-append, append_assoc, codes, arith, All}
 use Rattle.std.specs.Prelude.{fold}
 use Rattle.std.specs.List.{flat_map, join_by}
 use Rattle.std.specs.Bool.{beq}
 use Rattle.std.proofs.lemmas.List.{append-nil}
-use Rattle.std.proofs.lemmas.List.Elements.{filter_agree}
-use Rattle.std.proofs.lemmas.List.Sums.{fold-append}
+use Rattle.std.proofs.lemmas.List.Elements.{All-head, All-tail, All-cons, All-nil, All-push, filter_agree}
+use Rattle.std.proofs.lemmas.List.Sums.{fold-append, fold_push}
 use Rattle.std.proofs.lemmas.Bool.{ne_eqb}
 use Rattle.po_entry.specs.TextEntry.{TextEntry}
 use Rattle.po_writer.specs.Separated.{with_entry, with_obsolete}
@@ -54,3 +54,45 @@ separated entries =
     let live : with_obsolete false entries ≡ filter (λ e. not e.obsolete) entries = filter_agree _ _ (λ e. not_marked e.obsolete) entries in
     let obsolete : with_obsolete true entries ≡ filter (λ e. e.obsolete) entries = filter_agree _ _ (λ e. marked e.obsolete) entries in
     rw (live, obsolete) (sym (fold-append with_entry [] (filter (λ e. not e.obsolete) entries) (filter (λ e. e.obsolete) entries)) ∙ joined (arranged entries))
+
+abbrev pub IsLive : TextEntry → Type 0
+IsLive entry = entry.obsolete ≡ false
+
+live_kept : (entries : List TextEntry) → All IsLive entries → filter (λ e. not e.obsolete) entries ≡ entries
+live_kept [] live = refl
+live_kept (entry ∷ entries) live =
+    let rest = filter (λ e. not e.obsolete) entries in
+    ap (λ mark. cond (not mark) (entry ∷ rest) rest) (All-head IsLive entry entries live) ∙ ap (λ l. entry ∷ l) (live_kept entries (All-tail IsLive entry entries live))
+
+none_obsolete : (entries : List TextEntry) → All IsLive entries → filter (λ e. e.obsolete) entries ≡ []
+none_obsolete [] live = refl
+none_obsolete (entry ∷ entries) live =
+    let rest = filter (λ e. e.obsolete) entries in
+    ap (λ mark. cond mark (entry ∷ rest) rest) (All-head IsLive entry entries live) ∙ none_obsolete entries (All-tail IsLive entry entries live)
+
+-- live entries are arranged as they stand
+pub live_stay : (entries : List TextEntry) → All IsLive entries → arranged entries ≡ entries
+live_stay entries live = rw (live_kept entries live, none_obsolete entries live) (append-nil entries)
+
+-- one live entry more
+pub one_more : (entries : List TextEntry) (entry : TextEntry) → All IsLive entries → IsLive entry → with_entry (written_text entries) entry ≡ written_text (entries ++ entry ∷ [])
+one_more entries entry live last =
+    let all = entries ++ entry ∷ [] in
+    let before : written_text entries ≡ fold with_entry [] entries = ap (join_by entry_lines (10 ∷ [])) (live_stay entries live) ∙ sym (joined entries) in
+    let after : written_text all ≡ fold with_entry [] all = ap (join_by entry_lines (10 ∷ [])) (live_stay all (All-push IsLive entries entry live last)) ∙ sym (joined all) in
+    ap (λ text. with_entry text entry) before ∙ sym (fold_push with_entry [] entries entry) ∙ sym after
+
+some_text : (entries : List TextEntry) → 0 < length entries → 0 < length (join_by entry_lines (10 ∷ []) entries)
+some_text [] some = absurd (omega arith)
+some_text (entry ∷ entries) some = some_before (entry_lines entry) (flat_map (λ e. (10 ∷ []) ++ entry_lines e) entries) (entry_some entry)
+
+some_either : (mark : Bool) (entry : TextEntry) (live obsolete : List TextEntry)
+    → 0 < length (cond (not mark) (entry ∷ live) live ++ cond mark (entry ∷ obsolete) obsolete)
+some_either false entry live obsolete = omega (arith, length-append (entry ∷ live) obsolete)
+some_either true entry live obsolete = omega (arith, length-append live (entry ∷ obsolete))
+
+-- some entry takes some bytes
+pub none_written : (entries : List TextEntry) → written_text entries ≡ [] → entries ≡ []
+none_written [] empty = refl
+none_written (entry ∷ entries) empty =
+    let some = some_text (arranged (entry ∷ entries)) (some_either entry.obsolete entry (filter (λ e. not e.obsolete) entries) (filter (λ e. e.obsolete) entries)) in absurd (omega (arith, some, ap length empty))

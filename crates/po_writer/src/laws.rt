@@ -1,6 +1,6 @@
 //! Laws of the written text, each on a function that does nothing: a crate that rests on one
 //! calls it.
-ghost use Rattle.std.specs.Prelude.{◌≡◌, List, All, map};
+ghost use Rattle.std.specs.Prelude.{◌≡◌, List, [], All, false, map};
 ghost use Rattle.po_syntax.specs.PoText.{IsSmall};
 ghost use Rattle.po_entry.specs.TextEntry.{TextEntry, with_line};
 ghost use Rattle.po_entry.specs.Validity.{IsCatalogueEntry};
@@ -23,4 +23,14 @@ pub fn written_text_reads()
 pub fn written_text_again()
     ensures { (entries read : List TextEntry) → map (with_line 0) read ≡ map (with_line 0) (arranged entries)
         → written_text read ≡ written_text entries }
+{}
+
+/// Live entries are arranged as they stand.
+pub fn live_entries_stay()
+    ensures { (entries : List TextEntry) → All (λ e. e.obsolete ≡ false) entries → arranged entries ≡ entries }
+{}
+
+/// No entry at all is written as the empty text, and some entries are not.
+pub fn some_entry_is_written()
+    ensures { (entries : List TextEntry) → written_text entries ≡ [] → entries ≡ [] }
 {}

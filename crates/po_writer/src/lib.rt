@@ -6,4 +6,4 @@ mod keyword_lines;
 pub mod laws;
 mod text;
 
-pub use crate::text::write;
+pub use crate::text::{append, write};

@@ -1,4 +1,5 @@
-ghost use Rattle.std.specs.Prelude.{◌≡◌, OnOk, IfOk, IfErr, fold};
+ghost use Rattle.std.specs.Prelude.{◌≡◌, ◌++◌, ◌∷◌, List, [], All, OnOk, IfOk, IfErr, false, fold};
+ghost use Rattle.po_entry.specs.TextEntry.{TextEntry};
 ghost use Rattle.po_entry.specs.Validity.{out_of_memory};
 ghost use Rattle.po_writer.specs.Separated.{with_entry, with_obsolete};
 ghost use Rattle.po_writer.specs.WrittenText.{written_text};
@@ -30,6 +31,17 @@ fn push_entries(out: &mut Vec<u8>, entries: &[Entry], obsolete: bool) -> Result<
         }
     }
     Ok(())
+}
+
+/// Appends a live entry to the text of live entries, after an empty line if it isn't the first. That
+/// memory ran out is the only refusal; then the text may end within the entry.
+pub fn append(out: &mut Vec<u8>, entry: &Entry) -> Result<(), PoError>
+    requires { entry.now.obsolete ≡ false }
+    ensures appended { OnOk result ((entries : List TextEntry) → All (λ e. e.obsolete ≡ false) entries
+        → out.old.items ≡ written_text entries → out.new.items ≡ written_text (entries ++ entry.now ∷ [])) }
+    ensures memory { IfErr result (λ e. e ≡ out_of_memory) }
+{
+    push_separated(out, entry)
 }
 
 /// The text of a catalogue (GNU gettext manual, "The Format of PO Files"): the live entries in

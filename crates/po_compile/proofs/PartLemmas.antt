@@ -1,0 +1,64 @@
+-- What texts are compiled to is taken apart.
+use Rattle.std.proofs.Common.{◌≡◌, ◌≢◌, ℕ, false, List, [], ◌++◌, Option, None, Some, refl, sym, ap, ◌∙◌, get_or, slice_get, arith, append-nil, All, AllPairs, IfSome}
+use Rattle.std.specs.List.{slice_split}
+use Rattle.std.specs.Str.{bytes_eq}
+use Rattle.std.proofs.Math.ListN.{get_or-map}
+use Rattle.std.proofs.lemmas.Bool.{false_from_ne_true}
+use Rattle.std.proofs.lemmas.Bool.Decides.{Decides-eqb}
+use Rattle.std.proofs.lemmas.Cmp.{nat_list_eq_equiv}
+use Rattle.std.proofs.lemmas.List.{length-map, get_or_default}
+use Rattle.std.proofs.lemmas.List.Elements.{All-weaker}
+use Rattle.std.proofs.lemmas.List.Sorted.{IsPermutation-map, IsPermutation-sym}
+use Rattle.std.proofs.lemmas.List.Splits.{slice_split_none, slice_split_at}
+use Rattle.std.proofs.lemmas.Map.Keys.{IsDistinct-IsPermutation}
+use Rattle.std.proofs.lemmas.Map.Made.{AllPairs-from_IsDistinct, IsDistinct-from_AllPairs}
+use Rattle.std.proofs.lemmas.Slice.Eq.{bytes_eq-Decides}
+use Rattle.mo_file.specs.Message.{Message}
+use Rattle.mo_file.specs.Key.{AreRising, is_nul, key_of, keys, query_key}
+use Rattle.po_entry.specs.Bytes.{Lacks}
+use Rattle.po_entry.specs.Validity.{IsEntry}
+use Rattle.po_compile.specs.CompiledMessages.{plural_part, original_of, message_of, messages_of_entries}
+use Rattle.po_compile.specs.Parts.{MessagesHaveParts, MessagesDiffer}
+use Rattle.po_compile.proofs.FindLemmas.{rising_differ}
+use Rattle.po_compile.proofs.MeaningLemmas.{IsClean, clean_entry, key_of-original, forms-translation}
+use Rattle.po_compile.proofs.TextLemmas.{query_key_lacks}
+
+lacks_nul : (text : List ℕ) → Lacks 0 text → All (λ b. is_nul b ≡ false) text
+lacks_nul text lacks = All-weaker (λ b. b ≢ 0) (λ b. is_nul b ≡ false) (λ b h. false_from_ne_true (is_nul b) (λ e. h ((Decides-eqb b 0).0 e))) text lacks
+
+second_piece : (key : List ℕ) (plural : Option (List ℕ)) → Lacks 0 key → IfSome plural (Lacks 0) → slice_get (slice_split is_nul (key ++ plural_part plural)) 1 ≡ plural
+second_piece key None lacks none = rw (append-nil key, slice_split_none is_nul key (lacks_nul key lacks)) refl
+second_piece key (Some plural) lacks some =
+    rw (slice_split_at is_nul key 0 plural (lacks_nul key lacks) refl, slice_split_none is_nul plural (lacks_nul plural some)) refl
+
+pub messages_have_parts : MessagesHaveParts
+messages_have_parts entry valid =
+    let clean = clean_entry entry valid in
+    record {
+      key = key_of-original entry clean;
+      plural = second_piece (query_key entry.context entry.id) entry.plural (query_key_lacks entry.context entry.id clean.context_nul clean.id_nul) clean.plural_nul;
+      forms_are = forms-translation entry clean;
+    }
+
+-- keys that rise are different
+rising_distinct : (ks : List (List ℕ)) → AreRising ks → AllPairs (λ x y. x ≢ y) ks
+rising_distinct ks rising i j d below inside same =
+    rising_differ ks rising i j below inside (get_or_default ks i [] d (omega arith) ∙ same ∙ get_or_default ks j d [] inside)
+
+pub messages_differ : MessagesDiffer
+messages_differ entries messages valid are =
+    let all : All IsClean entries = All-weaker IsEntry IsClean clean_entry entries valid in
+    let key : Message → List ℕ = λ m. key_of m.original in
+    let ks = keys (messages_of_entries entries) in
+    let distinct = AllPairs-from_IsDistinct bytes_eq-Decides ks
+    (IsDistinct-IsPermutation bytes_eq nat_list_eq_equiv.symm (keys messages) ks
+    (IsPermutation-sym ks (keys messages) (IsPermutation-map key (messages_of_entries entries) messages are.all))
+    (IsDistinct-from_AllPairs bytes_eq-Decides (keys messages) (rising_distinct (keys messages) are.rising))) in
+    λ i j d below inside same.
+        let long = length-map (messages_of_entries entries) key in
+        let long' = length-map entries message_of in
+        let at : (k : ℕ) → get_or ks k (key (message_of d)) ≡ key_of (original_of (get_or entries k d)) = λ k. get_or-map key (messages_of_entries entries) k (message_of d) ∙ ap key (get_or-map message_of entries k d) in
+        let first = key_of-original (get_or entries i d) (all i d (omega arith)) in
+        let later = key_of-original (get_or entries j d) (all j d inside) in
+        distinct i j (key (message_of d)) below (omega (arith, long, long'))
+        (at i ∙ first ∙ ap (λ c. query_key c (get_or entries i d).id) same.0 ∙ ap (query_key (get_or entries j d).context) same.1 ∙ sym later ∙ sym (at j))

@@ -1,0 +1,5 @@
+use Rattle.po_compile.proofs.PartLemmas.{messages_have_parts}
+use Rattle.po_compile.proofs.laws.messages_have_parts.Goals as goal
+
+pub returns : goal.returns
+returns c = messages_have_parts
