@@ -1,0 +1,146 @@
+-- What stands before the first byte of a kind, and after it.
+use Rattle.std.proofs.Common.{◌≡◌, ◌≢◌, ℕ, ◌+◌, ◌-◌, ◌<◌, ◌==◌, Bool, true, false, cond, List, [], ◌∷◌, ◌++◌, Option, None, Some, refl, sym, ap, ◌∙◌, length, get_or, take, drop, slice_get, map, arith, append_assoc, length-append, All}
+use Rattle.std.specs.List.{list_any, before_first, after_first, position_or_len, slice_split}
+use Rattle.std.specs.Borrow.{Bor}
+use Rattle.std.proofs.Math.Seq.{take-append_seam}
+use Rattle.std.proofs.lemmas.Bool.{false_from_ne_true}
+use Rattle.std.proofs.lemmas.Bool.Decides.{Decides-eqb}
+use Rattle.std.proofs.lemmas.List.{drop_at, drop_more, map_push, get_or-take, get_or_append_left, get_or_at, length-take-le, take-append-drop, take_all}
+use Rattle.std.proofs.lemmas.List.Elements.{All-from_get_or, All-weaker}
+use Rattle.std.proofs.lemmas.List.Folds.{list_any_at, list_any_none}
+use Rattle.std.proofs.lemmas.List.Splits.{slice_split_none, slice_split_at}
+use Rattle.std.proofs.lemmas.List.Sums.{position_or_len_is}
+use Rattle.memchr.specs.Find.{NoneBefore, Nowhere, Passes, is_byte}
+use Rattle.mo_file.specs.Key.{is_nul, key_of}
+use Rattle.mo_lookup.specs.Contents.{forms}
+use Rattle.po_entry.specs.Bytes.{Lacks}
+use Rattle.po_entry.specs.TextEntry.{slice_texts}
+use Rattle.po_unformat.specs.Unformatted.{context_of, id_of, is_eot, plural_of}
+
+module _ (byte : ℕ) where
+  abbrev is : ℕ → Bool
+  is b = b == byte
+
+  no_such : (text : List ℕ) → Lacks byte text → All (λ b. is b ≡ false) text
+  no_such text lacks =
+      All-weaker (λ b. b ≢ byte) (λ b. is b ≡ false) (λ b other. false_from_ne_true (is b) (λ e. other ((Decides-eqb b byte).0 e))) text lacks
+
+  module _ (before after : List ℕ) (lacks : Lacks byte before) where
+    abbrev whole : List ℕ
+    whole = before ++ byte ∷ after
+
+    inside : length before < length whole
+    inside = omega (arith, length-append before (byte ∷ after))
+
+    at_place : is (get_or whole (length before) 0) ≡ true
+    at_place = ap is (get_or_at before byte after 0 (length before) refl) ∙ (Decides-eqb byte byte).1 refl
+
+    place : position_or_len is whole ≡ length before
+    place =
+        position_or_len_is is whole (length before) 0 (omega (arith, inside))
+        (λ k below. ap is (get_or_append_left before (byte ∷ after) 0 k below) ∙ no_such before lacks k 0 below) (λ _. at_place)
+
+    pub before_is : before_first is whole ≡ before
+    before_is = ap (λ n. take n whole) place ∙ take-append_seam before (byte ∷ after)
+
+    pub after_is : after_first is whole ≡ after
+    after_is =
+        let front = before ++ byte ∷ [] in
+        ap (λ n. drop (n + 1) whole) place ∙ ap (drop (length before + 1)) (sym (append_assoc before (byte ∷ []) after))
+        ∙ drop_at front after (length before + 1) (length-append before (byte ∷ []))
+
+    pub some_such : list_any is whole ≡ true
+    some_such = list_any_at is whole (length before) 0 inside at_place
+
+    pub split_cut : slice_split is whole ≡ before ∷ slice_split is after
+    split_cut = slice_split_at is before byte after (no_such before lacks) ((Decides-eqb byte byte).1 refl)
+
+  module _ (text : List ℕ) (lacks : Lacks byte text) where
+    pub before_all : before_first is text ≡ text
+    before_all =
+        ap (λ n. take n text) (position_or_len_is is text (length text) 0 (omega arith) (λ k below. no_such text lacks k 0 below) (λ past. absurd (omega (arith, past))))
+        ∙ take_all (length text) text (omega arith)
+
+    pub none_such : list_any is text ≡ false
+    none_such = list_any_none is text (no_such text lacks)
+
+    pub split_none : slice_split is text ≡ text ∷ []
+    split_none = slice_split_none is text (no_such text lacks)
+
+  -- the first such byte, as it is searched for
+  module _ (text : List ℕ) where
+    pub cut_at : (n : ℕ) → NoneBefore (Passes (is_byte byte) text) 0 (length text) n → Passes (is_byte byte) text n
+        → (text ≡ take n text ++ byte ∷ drop (n + 1) text) × Lacks byte (take n text)
+    cut_at n none here = (
+      sym (take-append-drop n text) ∙ ap (λ l. take n text ++ l) (drop_more text n 0 none.high ∙ ap (λ b. b ∷ drop (n + 1) text) ((Decides-eqb (get_or text n 0) byte).0 here)),
+      All-from_get_or (λ b. b ≢ byte) (take n text) 0 (λ i below same.
+      let long = length-take-le n text (omega (arith, none.high)) in
+      let lt : i < n = omega (arith, below, long) in
+      none.before i (omega arith) lt ((Decides-eqb (get_or text i 0) byte).1 (sym (get_or-take n text i 0 lt) ∙ same))),
+    )
+
+    pub lacks_all : Nowhere (Passes (is_byte byte) text) 0 (length text) → Lacks byte text
+    lacks_all none = All-from_get_or (λ b. b ≢ byte) text 0 (λ i below same. none i (omega arith) below ((Decides-eqb (get_or text i 0) byte).1 same))
+
+module _ (context id : List ℕ) (lacks : Lacks 4 context) where
+  pub context_cut : context_of (context ++ 4 ∷ id) ≡ Some context
+  context_cut =
+      let key = context ++ 4 ∷ id in
+      ap (λ t. cond t (Some (before_first is_eot key)) None) (some_such 4 context id lacks) ∙ ap Some (before_is 4 context id lacks)
+
+  pub id_cut : id_of (context ++ 4 ∷ id) ≡ id
+  id_cut =
+      let key = context ++ 4 ∷ id in
+      ap (λ t. cond t (after_first is_eot key) key) (some_such 4 context id lacks) ∙ after_is 4 context id lacks
+
+module _ (id : List ℕ) (lacks : Lacks 4 id) where
+  pub context_none : context_of id ≡ None
+  context_none = ap (λ t. cond t (Some (before_first is_eot id)) None) (none_such 4 id lacks)
+
+  pub id_all : id_of id ≡ id
+  id_all = ap (λ t. cond t (after_first is_eot id) id) (none_such 4 id lacks)
+
+first_of : (pieces : List (List ℕ)) (piece : List ℕ) → take 1 pieces ≡ piece ∷ [] → slice_get pieces 0 ≡ Some piece
+first_of [] piece e = cc
+first_of (p ∷ pieces) piece e = ap (λ l. slice_get l 0) e
+
+module _ (key rest : List ℕ) (lacks : Lacks 0 key) where
+  pub key_cut : key_of (key ++ 0 ∷ rest) ≡ key
+  key_cut = before_is 0 key rest lacks
+
+  pub forms_cut : forms (key ++ 0 ∷ rest) ≡ key ∷ forms rest
+  forms_cut = split_cut 0 key rest lacks
+
+  pub plural_cut : (plural : List ℕ) → take 1 (forms rest) ≡ plural ∷ [] → plural_of (key ++ 0 ∷ rest) ≡ Some plural
+  plural_cut plural first = ap (λ l. slice_get l 1) forms_cut ∙ first_of (forms rest) plural first
+
+  pub first_cut : take 1 (forms (key ++ 0 ∷ rest)) ≡ key ∷ []
+  first_cut = ap (take 1) forms_cut
+
+module _ (text : List ℕ) (lacks : Lacks 0 text) where
+  pub key_all : key_of text ≡ text
+  key_all = before_all 0 text lacks
+
+  pub forms_one : forms text ≡ text ∷ []
+  forms_one = split_none 0 text lacks
+
+  pub plural_none : plural_of text ≡ None
+  plural_none = ap (λ l. slice_get l 1) forms_one
+
+  pub first_all : take 1 (forms text) ≡ text ∷ []
+  first_all = ap (take 1) forms_one
+
+module _ (done : List (Bor (List ℕ))) (piece : Bor (List ℕ)) (all : List (List ℕ)) where
+  pushed : slice_texts (done ++ piece ∷ []) ≡ slice_texts done ++ piece.now ∷ []
+  pushed = map_push (λ (s : Bor (List ℕ)). s.now) done piece
+
+  -- a piece that is taken from the rest
+  pub more_pieces : (rest next : List ℕ) → rest ≡ piece.now ++ 0 ∷ next → Lacks 0 piece.now → slice_texts done ++ forms rest ≡ all
+      → slice_texts (done ++ piece ∷ []) ++ forms next ≡ all
+  more_pieces rest next is lacks so_far =
+      ap (λ l. l ++ forms next) pushed ∙ append_assoc (slice_texts done) (piece.now ∷ []) (forms next)
+      ∙ ap (λ l. slice_texts done ++ l) (sym (ap forms is ∙ forms_cut piece.now next lacks)) ∙ so_far
+
+  -- the rest is the last piece
+  pub last_piece : Lacks 0 piece.now → slice_texts done ++ forms piece.now ≡ all → slice_texts (done ++ piece ∷ []) ≡ all
+  last_piece lacks so_far = pushed ∙ ap (λ l. slice_texts done ++ l) (sym (forms_one piece.now lacks)) ∙ so_far

@@ -1,0 +1,4 @@
+pub mod Unformatted
+pub mod Unformatting
+pub mod RoundTrip
+pub mod Refused

@@ -1,0 +1,38 @@
+-- Laws of the PO text of an MO file: a compiled file comes back as the same bytes.
+use Rattle.std.specs.Prelude.{◌≡◌, ◌≢◌, ◌⊎◌, ℕ, Bool, List, [], ◌∷◌}
+use Rattle.po_syntax.specs.PoText.{IsSmall}
+use Rattle.po_entry.specs.TextEntry.{TextEntry}
+use Rattle.po_compile.specs.Accepted.{AreAccepted, AreCompiled}
+use Rattle.po_compile.specs.declared.options.Compiled.{Compiled}
+use Rattle.po_compile.specs.declared.options.Options.{Options}
+use Rattle.po_unformat.specs.Unformatting.{IsUnformatted, IsUnformatFault}
+use Rattle.po_unformat.specs.declared.fault.UnformatError.{UnformatError}
+use Rattle.po_unformat.specs.declared.fault.UnformatError.TheVariants.{OutOfMemory}
+
+-- under these options the text is accepted, and whatever it is compiled to has these bytes
+pub record CompilesTo (options : Options) (text bytes : List ℕ) : Type 0 where
+  pub catalogues : List (List TextEntry)
+  pub accepted : AreAccepted options (text ∷ []) catalogues
+  pub same_bytes : (compiled : Compiled) → AreCompiled options (text ∷ []) compiled → compiled.bytes.items ≡ bytes
+
+-- What texts are compiled to has a PO text, which compiles to the same bytes in the same byte order where it isn't too
+-- large for a PO text, whether fuzzy entries are compiled or not.
+abbrev pub UnformatThenCompile : Type 0
+UnformatThenCompile =
+    (options : Options) (texts : List (List ℕ)) (compiled : Compiled) → AreCompiled options texts compiled
+    → (text : List ℕ) × IsUnformatted compiled.bytes.items text
+    × (IsSmall text → (use_fuzzy : Bool) → CompilesTo (record { use_fuzzy = use_fuzzy; order = options.order }) text compiled.bytes.items)
+
+-- bytes that have a PO text have no fault; what may be reported in place of the text is that memory ran out
+abbrev pub NoFaultWhereUnformatted : Type 0
+NoFaultWhereUnformatted =
+    (bytes text : List ℕ) (error : UnformatError) → IsUnformatted bytes text → IsUnformatFault bytes error → error ≡ OutOfMemory
+
+-- bytes have one PO text at most
+abbrev pub OneText : Type 0
+OneText = (bytes text other : List ℕ) → IsUnformatted bytes text → IsUnformatted bytes other → text ≡ other
+
+-- all bytes have a PO text or a fault other than that memory ran out
+abbrev pub TextOrFault : Type 0
+TextOrFault =
+    (bytes : List ℕ) → ((text : List ℕ) × IsUnformatted bytes text) ⊎ ((error : UnformatError) × IsUnformatFault bytes error × (error ≢ OutOfMemory))

@@ -1,0 +1,1 @@
+//! Laws of the definitions, each of which a call makes known.

@@ -1,0 +1,72 @@
+//! The parts of originals and translations ("The Format of GNU MO Files").
+
+ghost use Rattle.std.specs.Prelude.{◌≡◌, ◌++◌, [], ◌∷◌, IfOk, MatchOption, take};
+ghost use Rattle.std.specs.Option.{option_copied};
+ghost use Rattle.mo_file.specs.Key.{key_of};
+ghost use Rattle.mo_lookup.specs.Contents.{forms};
+ghost use Rattle.po_entry.specs.Bytes.{Lacks};
+ghost use Rattle.po_entry.specs.TextEntry.{slice_texts};
+ghost use Rattle.po_unformat.specs.Unformatted.{context_of, id_of, plural_of};
+
+use memchr::memchr;
+use std::alloc::{AllocError, Global};
+
+/// The byte between a context and a msgid.
+const EOT: u8 = 4;
+
+/// The byte between a key and a plural, and between the pieces of a translation.
+const NUL: u8 = 0;
+
+/// What stands before the first such byte and after it, where there is one.
+fn cut(byte: u8, text: &[u8]) -> Option<(&[u8], &[u8])>
+    ensures { MatchOption result (Lacks byte text.now) (λ parts. (text.now ≡ parts.0.now ++ byte ∷ parts.1.now) × Lacks byte parts.0.now) }
+{
+    let place = memchr(byte, text)?;
+    Some((&text[..place], &text[place + 1..]))
+}
+
+/// The context of a key, where it has one, and its msgid.
+pub(crate) fn key_parts(key: &[u8]) -> (Option<&[u8]>, &[u8])
+    ensures context { option_copied result.0 ≡ context_of key.now }
+    ensures id { result.1.now ≡ id_of key.now }
+{
+    match cut(EOT, key) {
+        Some((context, id)) => (Some(context), id),
+        None => (None, key),
+    }
+}
+
+/// The key of an original and the plural, where it has one.
+pub(crate) fn original_parts(original: &[u8]) -> (&[u8], Option<&[u8]>)
+    ensures key { result.0.now ≡ key_of original.now }
+    ensures plural { option_copied result.1 ≡ plural_of original.now }
+{
+    match cut(NUL, original) {
+        Some((key, rest)) => (key, Some(first_piece(rest))),
+        None => (original, None),
+    }
+}
+
+/// What stands before the first NUL, or all.
+pub(crate) fn first_piece(text: &[u8]) -> &[u8]
+    ensures { take 1 (forms text.now) ≡ result.now ∷ [] }
+{
+    match cut(NUL, text) {
+        Some((piece, _)) => piece,
+        None => text,
+    }
+}
+
+/// The pieces between the NULs of a translation.
+pub(crate) fn pieces(alloc: Global, translation: &[u8]) -> Result<Vec<&[u8]>, AllocError>
+    ensures { IfOk result (λ pieces. slice_texts pieces.items ≡ forms translation.now) }
+{
+    let mut pieces = Vec::new(alloc);
+    let mut rest = translation;
+    while let Some((piece, next)) = cut(NUL, rest) {
+        pieces.push(piece)?;
+        rest = next;
+    }
+    pieces.push(rest)?;
+    Ok(pieces)
+}
