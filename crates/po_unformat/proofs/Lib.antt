@@ -1,2 +1,4 @@
 pub mod CutLemmas
 pub mod MessageLemmas
+pub mod FaultLemmas
+pub mod ReturnLemmas

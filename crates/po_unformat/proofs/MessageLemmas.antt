@@ -1,12 +1,12 @@
 -- The entries of messages, one after another, and what is wrong with one.
-use Rattle.std.proofs.Common.{◌≡◌, ◌⊎◌, ℕ, ◌+◌, ◌<◌, Bool, true, false, List, [], ◌∷◌, ◌++◌, ◌&&◌, ◌↔◌, zero, suc, Option, None, Some, refl, sym, ap, ◌∙◌, subst, length, get_or, map, take, slice_get, arith, All, inl, inr}
+use Rattle.std.proofs.Common.{◌≡◌, ◌⊎◌, ℕ, ◌+◌, ◌<◌, Bool, true, false, List, [], ◌∷◌, ◌++◌, ◌&&◌, ◌↔◌, zero, suc, Some, refl, sym, ap, ◌∙◌, subst, length, get_or, take, slice_get, arith, All, inl, inr}
 use Rattle.std.proofs.lemmas.List.{length-map, take_more, take_all}
 use Rattle.std.proofs.lemmas.List.Elements.{All-more, All-map, All-take, All-weaker}
 use Rattle.std.proofs.lemmas.Option.{get_or_from_slice_get, slice_get_within}
 use Rattle.std.specs.Prelude.{IsUtf8}
 use Rattle.mo_file.specs.Message.{Message, originals, translations}
 use Rattle.po_syntax.specs.declared.fault.PoFault.{PoFault}
-use Rattle.po_syntax.specs.declared.fault.PoFault.TheVariants.{NotUtf8 as BadText, ForbiddenByte as BadByte, OutOfMemory as NoMemory}
+use Rattle.po_syntax.specs.declared.fault.PoFault.TheVariants.{OutOfMemory as NoMemory}
 use Rattle.po_entry.specs.TextEntry.{TextEntry, quoted_texts}
 use Rattle.po_entry.specs.Bytes.{Lacks}
 use Rattle.po_entry.specs.Header.{HasAdmittedCharset}

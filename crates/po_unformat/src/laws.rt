@@ -1,1 +1,40 @@
 //! Laws of the definitions, each of which a call makes known.
+
+ghost use Rattle.po_unformat.specs.RoundTrip.{NoFaultWhereUnformatted, OneText, UnformatThenCompile};
+
+use mo_file::catalog_is_unique;
+use po_compile::laws::{
+    joined_entries_can_stand, messages_are_one, messages_differ, messages_have_parts,
+    one_text_is_read,
+};
+use po_reader::laws::{entries_can_stand, one_reading};
+use po_writer::laws::{live_entries_stay, written_text_reads};
+
+/// A compiled file has a PO text, which compiles to the same bytes in the same byte order.
+pub fn unformat_then_compile()
+    ensures { UnformatThenCompile }
+{
+    messages_have_parts();
+    messages_differ();
+    joined_entries_can_stand();
+    one_text_is_read();
+    messages_are_one();
+    one_reading();
+    entries_can_stand();
+    written_text_reads();
+    live_entries_stay();
+}
+
+/// Bytes that have a PO text have no fault, so that `unformat` answers the text, or that memory ran out.
+pub fn no_fault_where_unformatted()
+    ensures { NoFaultWhereUnformatted }
+{
+    catalog_is_unique();
+}
+
+/// Bytes have one PO text at most.
+pub fn one_text()
+    ensures { OneText }
+{
+    catalog_is_unique();
+}

@@ -1,4 +1,4 @@
-use Rattle.std.proofs.Common.{◌≡◌, ap, sym, subst, ◌∙◌, take, arith, length, false, true}
+use Rattle.std.proofs.Common.{◌≡◌, ap, sym, ◌∙◌, take, arith, length}
 use Rattle.std.proofs.lemmas.Result.{err_from_is_err_and}
 use Rattle.po_entry.specs.Validity.{IsEntry}
 use Rattle.po_writer.specs.WrittenText.{written_text}

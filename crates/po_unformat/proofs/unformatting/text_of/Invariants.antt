@@ -1,4 +1,4 @@
-use Rattle.std.proofs.Common.{◌≡◌, Bool, true, false, take, All}
+use Rattle.std.proofs.Common.{◌≡◌, true, false, take, All}
 use Rattle.po_entry.specs.Header.{HasAdmittedCharset}
 use Rattle.po_entry.specs.Validity.{IsEntry}
 use Rattle.po_writer.specs.WrittenText.{written_text}

@@ -1,0 +1,5 @@
+use Rattle.po_unformat.proofs.FaultLemmas.{one_text}
+use Rattle.po_unformat.proofs.laws.one_text.Goals as goal
+
+pub returns : goal.returns
+returns c = one_text c.catalog_is_unique.ensures
