@@ -5,3 +5,4 @@ pub mod MsgattribLemmas
 pub mod FirstFaults
 pub mod OneRun
 pub mod InputLemmas
+pub mod MsgunfmtLemmas

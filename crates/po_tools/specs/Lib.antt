@@ -15,3 +15,4 @@ pub mod Delivered
 pub mod Msgattrib
 pub mod RunLaws
 pub mod Inputs
+pub mod Msgunfmt

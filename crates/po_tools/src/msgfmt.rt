@@ -10,7 +10,7 @@ ghost use Rattle.po_tools.specs.Run.{refusal, report};
 
 use crate::fault_text::{push_numbered, push_place, push_po_text};
 use crate::profile::{CheckFault, check_entries};
-use crate::run::{Run, deliver};
+use crate::run::{Run, deliver, refused};
 use mo_file::Order;
 use po_catalog::{Catalogue, JoinError, JoinedEntry, joined};
 use po_compile::{Compiled, Options, compile_catalogues, is_compiled, read_all};
@@ -214,12 +214,7 @@ fn refused_run(alloc: Global, inputs: &[(&str, &[u8])], error: JoinError) -> Res
     )?;
     push_join_text(&mut messages, inputs, error)?;
     messages.extend_from_slice(b"\n")?;
-    Ok(Run {
-        output: Vec::new(alloc),
-        create: false,
-        messages,
-        status: 1,
-    })
+    Ok(refused(alloc, messages))
 }
 
 /// The run of inputs that the check refuses.
@@ -244,12 +239,7 @@ fn unfit_run(
     )?;
     push_check_text(&mut messages, fault)?;
     messages.extend_from_slice(b"\n")?;
-    Ok(Run {
-        output: Vec::new(alloc),
-        create: false,
-        messages,
-        status: 1,
-    })
+    Ok(refused(alloc, messages))
 }
 
 /// The run of inputs that are compiled.

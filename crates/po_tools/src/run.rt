@@ -1,9 +1,10 @@
 ghost use Rattle.std.specs.Prelude.{◌≡◌, ◌+◌, ◌^◌, ◌<◌, Err, OnOk, OnErr};
 ghost use Rattle.std.specs.Io.KnownBytes.{Appends};
 ghost use Rattle.std.specs.Option.{option_copied};
-ghost use Rattle.po_tools.specs.Run.{report, output_file, shown_name, DeliversPrefix};
+ghost use Rattle.po_tools.specs.Run.{report, output_file, refusal, shown_name, DeliversPrefix};
 
 use po_shell::{ByteOut, ToolFault, put_all};
+use std::alloc::Global;
 
 /// The word for standard input among the inputs, and for standard output.
 pub const STANDARD: &str = "-";
@@ -43,6 +44,19 @@ impl Run {
         } else {
             None
         }
+    }
+}
+
+/// The run of inputs that are refused: nothing is written, and these messages report why. It takes no
+/// memory.
+pub(crate) fn refused(alloc: Global, messages: Vec<u8>) -> Run
+    ensures { report result ≡ refusal messages.items }
+{
+    Run {
+        output: Vec::new(alloc),
+        create: false,
+        messages,
+        status: 1,
     }
 }
 

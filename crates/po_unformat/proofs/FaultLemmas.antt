@@ -1,5 +1,5 @@
 -- A file has one text at most, and then no fault.
-use Rattle.std.proofs.Common.{◌≡◌, ℕ, List, refl, sym, ◌∙◌, subst, get_or}
+use Rattle.std.proofs.Common.{◌≡◌, ℕ, List, [], ◌∷◌, ap, refl, sym, ◌∙◌, subst, get_or}
 use Rattle.std.proofs.lemmas.List.Elements.{All-weaker}
 use Rattle.std.proofs.lemmas.Option.{get_or_from_slice_get, slice_get_within}
 use Rattle.mo_file.specs.Laws.{CatalogIsUnique}
@@ -10,8 +10,9 @@ use Rattle.po_entry.specs.TextEntry.{TextEntry}
 use Rattle.po_entry.specs.Header.{HasAdmittedCharset}
 use Rattle.po_entry.specs.Validity.{HasTexts, IsCatalogueEntry, TextsFault}
 use Rattle.po_entry.specs.Validity.TextsFault.{not_utf8, forbidden}
+use Rattle.po_writer.specs.WrittenText.{written_text}
 use Rattle.po_unformat.specs.declared.fault.UnformatError.TheVariants.{Mo, NotUtf8, ForbiddenByte, ForeignCharset, OutOfMemory}
-use Rattle.po_unformat.specs.RoundTrip.{NoFaultWhereUnformatted, OneText}
+use Rattle.po_unformat.specs.RoundTrip.{EmptyText, NoFaultWhereUnformatted, OneText}
 use Rattle.po_unformat.specs.Unformatted.{unformatted}
 use Rattle.po_unformat.specs.Unformatting.{AreWrittenAs, HasFirstTextsFault, HasForeignCharset, IsFileOf}
 use Rattle.po_unformat.proofs.MessageLemmas.{texts_of}
@@ -50,3 +51,16 @@ no_fault unique bytes text OutOfMemory file fault = refl
 pub one_text : CatalogIsUnique → OneText
 one_text unique bytes text other file file' =
     let again = moved unique bytes (AreWrittenAs text) (AreWrittenAs other) file file' in file.holds.written ∙ sym again.written
+
+abbrev pub SomeEntryIsWritten : Type 0
+SomeEntryIsWritten = (entries : List TextEntry) → written_text entries ≡ [] → entries ≡ []
+
+no_messages : (messages : List Message) → unformatted messages ≡ [] → messages ≡ []
+no_messages [] none = refl
+no_messages (m ∷ messages) none = cc
+
+pub empty_text : SomeEntryIsWritten → EmptyText
+empty_text some bytes text file = (
+  λ empty. no_messages file.messages (some (unformatted file.messages) (sym file.holds.written ∙ empty)),
+  λ none. file.holds.written ∙ ap (λ messages. written_text (unformatted messages)) none,
+)

@@ -1,5 +1,5 @@
 -- Laws of the PO text of an MO file: a compiled file comes back as the same bytes.
-use Rattle.std.specs.Prelude.{◌≡◌, ◌≢◌, ◌⊎◌, ℕ, Bool, List, [], ◌∷◌}
+use Rattle.std.specs.Prelude.{◌≡◌, ◌≢◌, ◌⊎◌, ◌↔◌, ℕ, Bool, List, [], ◌∷◌}
 use Rattle.po_syntax.specs.PoText.{IsSmall}
 use Rattle.po_entry.specs.TextEntry.{TextEntry}
 use Rattle.po_compile.specs.Accepted.{AreAccepted, AreCompiled}
@@ -31,6 +31,10 @@ NoFaultWhereUnformatted =
 -- bytes have one PO text at most
 abbrev pub OneText : Type 0
 OneText = (bytes text other : List ℕ) → IsUnformatted bytes text → IsUnformatted bytes other → text ≡ other
+
+-- only a file without messages has the empty text
+abbrev pub EmptyText : Type 0
+EmptyText = (bytes text : List ℕ) (file : IsUnformatted bytes text) → (text ≡ []) ↔ (file.messages ≡ [])
 
 -- all bytes have a PO text or a fault other than that memory ran out
 abbrev pub TextOrFault : Type 0

@@ -1,6 +1,6 @@
 //! Laws of the definitions, each of which a call makes known.
 
-ghost use Rattle.po_unformat.specs.RoundTrip.{NoFaultWhereUnformatted, OneText, UnformatThenCompile};
+ghost use Rattle.po_unformat.specs.RoundTrip.{EmptyText, NoFaultWhereUnformatted, OneText, UnformatThenCompile};
 
 use mo_file::catalog_is_unique;
 use po_compile::laws::{
@@ -8,7 +8,7 @@ use po_compile::laws::{
     one_text_is_read,
 };
 use po_reader::laws::{entries_can_stand, one_reading};
-use po_writer::laws::{live_entries_stay, written_text_reads};
+use po_writer::laws::{live_entries_stay, some_entry_is_written, written_text_reads};
 
 /// A compiled file has a PO text, which compiles to the same bytes in the same byte order.
 pub fn unformat_then_compile()
@@ -37,4 +37,11 @@ pub fn one_text()
     ensures { OneText }
 {
     catalog_is_unique();
+}
+
+/// Only a file without messages has the empty text.
+pub fn empty_text()
+    ensures { EmptyText }
+{
+    some_entry_is_written();
 }

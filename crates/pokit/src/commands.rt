@@ -7,7 +7,7 @@ pub(crate) const DEFAULT_OUTPUT: &str = "messages.mo";
 
 static BYTE_ORDERS: [&str; 2] = ["little", "big"];
 
-static TOOLS: [&str; 4] = ["msgfmt", "gettext", "ngettext", "envsubst"];
+static TOOLS: [&str; 6] = ["msgfmt", "msgunfmt", "msgattrib", "gettext", "ngettext", "envsubst"];
 
 /// The tool that a word names, where it names one.
 pub(crate) fn tool_of(word: &str) -> Option<&'static str> {
@@ -23,12 +23,14 @@ pub(crate) fn program<'a>(alloc: Global, first: Option<&str>) -> Result<Command<
         .subcommand_required(true);
     match first {
         Some("msgfmt") => program.subcommand(msgfmt(alloc)?),
+        Some("msgunfmt") => program.subcommand(msgunfmt(alloc)?),
         Some("msgattrib") => program.subcommand(msgattrib(alloc)?),
         Some("gettext") => program.subcommand(gettext(alloc)?),
         Some("ngettext") => program.subcommand(ngettext(alloc)?),
         Some("envsubst") => program.subcommand(envsubst(alloc)?),
         _ => program
             .subcommand(msgfmt(alloc)?)?
+            .subcommand(msgunfmt(alloc)?)?
             .subcommand(msgattrib(alloc)?)?
             .subcommand(gettext(alloc)?)?
             .subcommand(ngettext(alloc)?)?
@@ -67,6 +69,20 @@ fn msgfmt<'a>(alloc: Global) -> Result<Command<'a>, AllocError> {
             "profile-check",
             "Refuse plural forms and newlines that don't fit",
         ))
+}
+
+fn msgunfmt<'a>(alloc: Global) -> Result<Command<'a>, AllocError> {
+    Command::new(alloc, "msgunfmt")
+        .about("Writes the PO text of an MO file")
+        .arg(Arg::new(alloc, "FILE").help("MO file to read; - or none is standard input"))?
+        .arg(value(
+            alloc,
+            "output-file",
+            "FILE",
+            "PO text to write; - or none is standard output",
+        )
+        .short('o'))?
+        .arg(flag(alloc, "no-wrap", "Wrap no line, as always"))
 }
 
 fn msgattrib<'a>(alloc: Global) -> Result<Command<'a>, AllocError> {

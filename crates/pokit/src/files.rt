@@ -25,6 +25,15 @@ impl<'r, R: Files + Input> InputSource for System<'r, R> {
     }
 }
 
+/// The bytes of the only input.
+pub(crate) fn read_one<'a, R: Files + Input>(
+    alloc: Global,
+    rt: &R,
+    file: &'a str,
+) -> Result<Vec<u8>, ProgramFault<'a>> {
+    po_tools::read_one(alloc, &System(rt), file)
+}
+
 /// The bytes of the file of this name.
 pub(crate) fn read_named(alloc: Global, rt: &impl Files, name: &str) -> Result<Vec<u8>, Unread> {
     match fs::open(rt, name) {

@@ -51,6 +51,7 @@ fn run_tool(rt: &HostRuntime, matches: &ArgMatches<'_>) -> ExitCode {
     let outcome = match tool {
         "msgfmt" => tools::msgfmt::run(rt.alloc(), rt, rt.stderr(), matches),
         "msgattrib" => tools::msgattrib::run(rt.alloc(), rt, rt.stderr(), matches),
+        "msgunfmt" => tools::msgunfmt::run(rt.alloc(), rt, rt.stderr(), matches),
         "gettext" => tools::gettext::run(rt.alloc(), rt, rt.stderr(), matches),
         "ngettext" => tools::ngettext::run(rt.alloc(), rt, rt.stderr(), matches),
         "envsubst" => tools::envsubst::run(rt.alloc(), rt, matches),

@@ -3,4 +3,5 @@ pub(crate) mod envsubst;
 pub(crate) mod gettext;
 pub(crate) mod msgattrib;
 pub(crate) mod msgfmt;
+pub(crate) mod msgunfmt;
 pub(crate) mod ngettext;

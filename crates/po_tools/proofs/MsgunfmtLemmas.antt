@@ -1,0 +1,12 @@
+-- The run of a file that has a text.
+use Rattle.std.proofs.Common.{◌≡◌, ◌↔◌, ◌<◌, ℕ, List, [], ◌∷◌, true, refl, sym, ◌∙◌, length, arith}
+use Rattle.std.specs.Prelude.{nat_lt}
+use Rattle.std.proofs.lemmas.Bool.{lt-ltb}
+use Rattle.mo_file.specs.Message.{Message}
+
+-- a text is written where there is a message
+pub create_is : (text : List ℕ) (messages : List Message) → (text ≡ []) ↔ (messages ≡ []) → nat_lt 0 (length text) ≡ nat_lt 0 (length messages)
+create_is [] [] same = refl
+create_is [] (m ∷ messages) same = let none : m ∷ messages ≡ [] = same.0 refl in cc
+create_is (b ∷ text) [] same = let none : b ∷ text ≡ [] = same.1 refl in cc
+create_is (b ∷ text) (m ∷ messages) same = lt-ltb 0 (length (b ∷ text)) (omega arith) ∙ sym (lt-ltb 0 (length (m ∷ messages)) (omega arith))

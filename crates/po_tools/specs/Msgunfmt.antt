@@ -1,0 +1,63 @@
+-- What msgunfmt writes and reports (manual, "Invoking the msgunfmt Program").
+use Rattle.std.specs.Prelude.{◌≡◌, ◌≢◌, ◌⊎◌, ◌^◌, IfSome, nat_lt, ℕ, List, [], length, take, Option, codes, decimal, ◌++◌}
+use Rattle.std.specs.Io.KnownBytes.{Appends}
+use Rattle.mo_file.specs.Message.{Message}
+use Rattle.po_unformat.specs.Unformatting.{IsUnformatted, IsUnformatFault}
+use Rattle.po_unformat.specs.declared.fault.UnformatError.{UnformatError}
+use Rattle.po_unformat.specs.declared.fault.UnformatError.TheVariants.{Mo, NotUtf8, ForbiddenByte, ForeignCharset, OutOfMemory}
+use Rattle.po_tools.specs.FaultText.{fault_line, mo_text}
+use Rattle.po_tools.specs.NamedFile.{NamedFile}
+use Rattle.po_tools.specs.Run.{Report, refusal, DeliversPrefix}
+
+-- why a file has no PO text
+abbrev pub unformat_text : UnformatError → List ℕ
+unformat_text (Mo fault) = mo_text fault
+unformat_text (NotUtf8 i) = codes "string " ++ decimal i ++ codes " is not UTF-8"
+unformat_text (ForbiddenByte i) = codes "string " ++ decimal i ++ codes " has a forbidden byte"
+unformat_text ForeignCharset = codes "charset is not UTF-8"
+unformat_text OutOfMemory = codes "out of memory"
+
+-- the line that reports it
+abbrev pub unformat_line : List ℕ → UnformatError → List ℕ
+unformat_line name error = fault_line (codes "msgunfmt") name 0 (unformat_text error)
+
+-- the text, which is written where there is a message
+abbrev pub unformatted_run : List Message → List ℕ → Report
+unformatted_run messages text = record { output = text; create = nat_lt 0 (length messages); messages = []; status = 0 }
+
+-- the file has no text
+pub record HasNoText (file : NamedFile) (run : Report) : Type 0 where
+  pub error : UnformatError
+  pub fault : IsUnformatFault file.bytes error
+  pub not_memory : error ≢ OutOfMemory
+  pub report : run ≡ refusal (unformat_line file.name error)
+
+-- the file has a text
+pub record HasText (file : NamedFile) (run : Report) : Type 0 where
+  pub text : List ℕ
+  pub unformatted : IsUnformatted file.bytes text
+  pub report : run ≡ unformatted_run unformatted.messages text
+
+-- what a run of msgunfmt comes to
+abbrev pub IsMsgunfmtRun : NamedFile → Report → Type 0
+IsMsgunfmtRun file run = HasNoText file run ⊎ HasText file run
+
+-- the run of the file that is read, or of its first 2,147,483,648 bytes
+pub record IsMsgunfmtRunOf (remaining : Option (List ℕ)) (name : List ℕ) (run : Report) : Type 0 where
+  pub bytes : List ℕ
+  pub input : IfSome remaining (λ all. bytes ≡ take (2 ^ 31) all)
+  pub is_run : IsMsgunfmtRun (record { name = name; bytes = bytes }) run
+
+-- all of the run has gone out, and this is its status
+pub record IsMsgunfmtDelivered (remaining : Option (List ℕ)) (name : List ℕ) (out out' err err' : Option (List ℕ)) (status : ℕ) : Type 0 where
+  pub run : Report
+  pub is_run : IsMsgunfmtRunOf remaining name run
+  pub output : Appends out out' run.output
+  pub messages : Appends err err' run.messages
+  pub status_is : status ≡ run.status
+
+-- a prefix of the run has gone out
+pub record IsMsgunfmtCut (remaining : Option (List ℕ)) (name : List ℕ) (out out' err err' : Option (List ℕ)) : Type 0 where
+  pub run : Report
+  pub is_run : IsMsgunfmtRunOf remaining name run
+  pub prefix : DeliversPrefix out out' err err' run

@@ -1,0 +1,99 @@
+ghost use Rattle.std.specs.Prelude.{◌≡◌, ◌≢◌, ◌⊎◌, ◌+◌, ◌^◌, ◌<◌, ◌≤◌, ◌++◌, ℕ, List, IfOk, OnOk, OnErr, IsErrOf, Err};
+ghost use Rattle.std.specs.Io.KnownBytes.{Keeps};
+ghost use Rattle.po_unformat.specs.Unformatting.{IsUnformatted};
+ghost use Rattle.po_tools.specs.Msgunfmt.{IsMsgunfmtCut, IsMsgunfmtDelivered, IsMsgunfmtRun, unformat_line, unformat_text, unformatted_run};
+ghost use Rattle.po_tools.specs.Run.{refusal, report};
+
+use crate::fault_text::{push_mo_text, push_numbered, push_place};
+use crate::run::{Run, deliver, refused};
+use po_shell::{ByteIn, ByteOut, ToolFault, read_input};
+use po_unformat::laws::empty_text;
+use po_unformat::{UnformatError, unformat};
+use std::alloc::{AllocError, Global};
+
+/// Appends why a file has no PO text.
+fn push_unformat_text(out: &mut Vec<u8>, error: UnformatError) -> Result<(), AllocError>
+    ensures { OnOk result (out.new.items ≡ out.old.items ++ unformat_text error) }
+{
+    let text = match error {
+        UnformatError::Mo(fault) => return push_mo_text(out, fault),
+        UnformatError::NotUtf8(i) => {
+            return push_numbered(out, "string ", i.into(), " is not UTF-8");
+        }
+        UnformatError::ForbiddenByte(i) => {
+            return push_numbered(out, "string ", i.into(), " has a forbidden byte");
+        }
+        UnformatError::ForeignCharset => "charset is not UTF-8",
+        UnformatError::OutOfMemory => "out of memory",
+    };
+    out.extend_from_slice(text.as_bytes())
+}
+
+/// The run of a file that has no text.
+fn refused_run(alloc: Global, name: &str, error: UnformatError) -> Result<Run, ToolFault>
+    ensures run { IfOk result (λ run. (error ≢ UnformatError.OutOfMemory) × (report run ≡ refusal (unformat_line name.now error))) }
+    ensures memory { OnErr result (result ≡ Err ToolFault.OutOfMemory) }
+{
+    if error == UnformatError::OutOfMemory {
+        return Err(ToolFault::OutOfMemory);
+    }
+    let mut messages = Vec::new(alloc);
+    push_place(&mut messages, "msgunfmt", name, 0)?;
+    push_unformat_text(&mut messages, error)?;
+    messages.extend_from_slice(b"\n")?;
+    Ok(refused(alloc, messages))
+}
+
+/// The run of a file that has a text.
+fn unformatted_run(alloc: Global, text: Vec<u8>) -> Run
+    ensures { (bytes : List ℕ) (file : IsUnformatted bytes text.items) → report result ≡ unformatted_run file.messages text.items }
+{
+    empty_text();
+    let create = text.len() > 0;
+    Run {
+        output: text,
+        create,
+        messages: Vec::new(alloc),
+        status: 0,
+    }
+}
+
+/// What `msgunfmt` writes and reports of a file with this name: its PO text, where it has a message. A file that has no
+/// text is reported by one line, with status 1. Refused only where memory ran out.
+pub fn plan_msgunfmt(alloc: Global, bytes: &[u8], name: &str) -> Result<Run, ToolFault>
+    ensures run { IfOk result (λ run. IsMsgunfmtRun (record { name = name.now; bytes = bytes.now }) (report run)) }
+    ensures memory { OnErr result (result ≡ Err ToolFault.OutOfMemory) }
+{
+    match unformat(alloc, bytes) {
+        Ok(text) => Ok(unformatted_run(alloc, text)),
+        Err(error) => refused_run(alloc, name, error),
+    }
+}
+
+/// Reads a file, plans as `plan_msgunfmt` does under this name, and writes what the run comes to: its output and then
+/// its messages. The answer is the run's status. After a `ReadFault`, or where memory ran out, nothing is written;
+/// after a `WriteFault` a prefix is, as `deliver` says.
+pub fn run_msgunfmt<R: ByteIn, O: ByteOut, E: ByteOut>(
+    alloc: Global,
+    reader: &mut R,
+    out: &mut O,
+    err: &mut E,
+    name: &str,
+) -> Result<u8, ToolFault>
+    requires calls { R.calls reader.old < 2 ^ 63 }
+    requires read_failures { R.failures reader.old < 2 ^ 63 }
+    requires out_failures { O.failures out.old < 2 ^ 63 }
+    requires err_failures { E.failures err.old < 2 ^ 63 }
+    ensures calls { R.calls reader.new ≤ R.calls reader.old + 4294967296 }
+    ensures delivered { IfOk result (λ status. IsMsgunfmtDelivered (R.remaining reader.old) name.now (O.contents out.old) (O.contents out.new) (E.contents err.old) (E.contents err.new) status) }
+    ensures prefix { IsErrOf result ToolFault.WriteFault → IsMsgunfmtCut (R.remaining reader.old) name.now (O.contents out.old) (O.contents out.new) (E.contents err.old) (E.contents err.new) }
+    ensures no_output { (result ≡ Err ToolFault.ReadFault) ⊎ (result ≡ Err ToolFault.OutOfMemory) → Keeps (O.contents out.old) (O.contents out.new) }
+    ensures no_messages { (result ≡ Err ToolFault.ReadFault) ⊎ (result ≡ Err ToolFault.OutOfMemory) → Keeps (E.contents err.old) (E.contents err.new) }
+    ensures read_fault { IsErrOf result ToolFault.ReadFault → R.failures reader.new ≡ R.failures reader.old + 1 }
+    ensures write_fault { IsErrOf result ToolFault.WriteFault → O.failures out.new + E.failures err.new ≡ O.failures out.old + E.failures err.old + 1 }
+{
+    let bytes = read_input(alloc, reader)?;
+    let run = plan_msgunfmt(alloc, &bytes, name)?;
+    deliver(&run, out, err)?;
+    Ok(run.status)
+}

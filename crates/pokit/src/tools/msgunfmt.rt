@@ -1,0 +1,21 @@
+// Gives the PO text of an MO file.
+use crate::files::{read_one, write_run};
+use clap::ArgMatches;
+use po_tools::{ProgramFault, STANDARD, plan_msgunfmt, shown_name};
+use std::alloc::Global;
+use std::io::{Input, Print, Write};
+use std::rt::Files;
+
+/// Runs `pokit msgunfmt` and gives its status.
+pub(crate) fn run<'a, R: Files + Input + Print, E: Write + Drop>(
+    alloc: Global,
+    rt: &R,
+    errors: E,
+    matches: &ArgMatches<'a>,
+) -> Result<u8, ProgramFault<'a>> {
+    let file = matches.get_str("FILE").unwrap_or(STANDARD);
+    let output = matches.get_str("output-file").unwrap_or(STANDARD);
+    let bytes = read_one(alloc, rt, file)?;
+    let run = plan_msgunfmt(alloc, &bytes, shown_name(file))?;
+    write_run(rt, errors, &run, output)
+}
