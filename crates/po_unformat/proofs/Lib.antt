@@ -2,3 +2,4 @@ pub mod CutLemmas
 pub mod MessageLemmas
 pub mod FaultLemmas
 pub mod ReturnLemmas
+pub mod SettledMessages

@@ -1,8 +1,8 @@
 //! Laws of the definitions, each of which a call makes known.
 
-ghost use Rattle.po_unformat.specs.RoundTrip.{EmptyText, NoFaultWhereUnformatted, OneText, UnformatThenCompile};
+ghost use Rattle.po_unformat.specs.RoundTrip.{EmptyText, NoFaultWhereUnformatted, OneText, TextOrFault, UnformatThenCompile};
 
-use mo_file::catalog_is_unique;
+use mo_file::{catalog_is_unique, catalog_or_fault};
 use po_compile::laws::{
     joined_entries_can_stand, messages_are_one, messages_differ, messages_have_parts,
     one_text_is_read,
@@ -44,4 +44,11 @@ pub fn empty_text()
     ensures { EmptyText }
 {
     some_entry_is_written();
+}
+
+/// All bytes have a PO text or a fault other than that memory ran out.
+pub fn text_or_fault()
+    ensures { TextOrFault }
+{
+    catalog_or_fault();
 }
