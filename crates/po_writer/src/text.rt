@@ -35,13 +35,13 @@ fn push_entries(out: &mut Vec<u8>, entries: &[Entry], obsolete: bool) -> Result<
 
 /// Appends a live entry to the text of live entries, after an empty line if it isn't the first. That
 /// memory ran out is the only refusal; then the text may end within the entry.
-pub fn append(out: &mut Vec<u8>, entry: &Entry) -> Result<(), PoError>
+pub fn append(text: &mut Vec<u8>, entry: &Entry) -> Result<(), PoError>
     requires { entry.now.obsolete ≡ false }
     ensures appended { OnOk result ((entries : List TextEntry) → All (λ e. e.obsolete ≡ false) entries
-        → out.old.items ≡ written_text entries → out.new.items ≡ written_text (entries ++ entry.now ∷ [])) }
+        → text.old.items ≡ written_text entries → text.new.items ≡ written_text (entries ++ entry.now ∷ [])) }
     ensures memory { IfErr result (λ e. e ≡ out_of_memory) }
 {
-    push_separated(out, entry)
+    push_separated(text, entry)
 }
 
 /// The text of a catalogue (GNU gettext manual, "The Format of PO Files"): the live entries in
