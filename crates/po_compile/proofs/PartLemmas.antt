@@ -55,10 +55,10 @@ messages_differ entries messages valid are =
     (IsPermutation-sym ks (keys messages) (IsPermutation-map key (messages_of_entries entries) messages are.all))
     (IsDistinct-from_AllPairs bytes_eq-Decides (keys messages) (rising_distinct (keys messages) are.rising))) in
     λ i j d below inside same.
-        let long = length-map (messages_of_entries entries) key in
-        let long' = length-map entries message_of in
-        let at : (k : ℕ) → get_or ks k (key (message_of d)) ≡ key_of (original_of (get_or entries k d)) = λ k. get_or-map key (messages_of_entries entries) k (message_of d) ∙ ap key (get_or-map message_of entries k d) in
-        let first = key_of-original (get_or entries i d) (all i d (omega arith)) in
-        let later = key_of-original (get_or entries j d) (all j d inside) in
-        distinct i j (key (message_of d)) below (omega (arith, long, long'))
-        (at i ∙ first ∙ ap (λ c. query_key c (get_or entries i d).id) same.0 ∙ ap (query_key (get_or entries j d).context) same.1 ∙ sym later ∙ sym (at j))
+    let long = length-map (messages_of_entries entries) key in
+    let long' = length-map entries message_of in
+    let at : (k : ℕ) → get_or ks k (key (message_of d)) ≡ key_of (original_of (get_or entries k d)) = λ k. get_or-map key (messages_of_entries entries) k (message_of d) ∙ ap key (get_or-map message_of entries k d) in
+    let first = key_of-original (get_or entries i d) (all i d (omega arith)) in
+    let later = key_of-original (get_or entries j d) (all j d inside) in
+    distinct i j (key (message_of d)) below (omega (arith, long, long'))
+    (at i ∙ first ∙ ap (λ c. query_key c (get_or entries i d).id) same.0 ∙ ap (query_key (get_or entries j d).context) same.1 ∙ sym later ∙ sym (at j))

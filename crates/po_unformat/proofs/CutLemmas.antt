@@ -74,9 +74,9 @@ module _ (byte : ℕ) where
     cut_at n none here = (
       sym (take-append-drop n text) ∙ ap (λ l. take n text ++ l) (drop_more text n 0 none.high ∙ ap (λ b. b ∷ drop (n + 1) text) ((Decides-eqb (get_or text n 0) byte).0 here)),
       All-from_get_or (λ b. b ≢ byte) (take n text) 0 (λ i below same.
-      let long = length-take-le n text (omega (arith, none.high)) in
-      let lt : i < n = omega (arith, below, long) in
-      none.before i (omega arith) lt ((Decides-eqb (get_or text i 0) byte).1 (sym (get_or-take n text i 0 lt) ∙ same))),
+          let long = length-take-le n text (omega (arith, none.high)) in
+          let lt : i < n = omega (arith, below, long) in
+          none.before i (omega arith) lt ((Decides-eqb (get_or text i 0) byte).1 (sym (get_or-take n text i 0 lt) ∙ same))),
     )
 
     pub lacks_all : Nowhere (Passes (is_byte byte) text) 0 (length text) → Lacks byte text

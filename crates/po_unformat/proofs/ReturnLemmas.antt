@@ -118,8 +118,8 @@ all_returned parts use_fuzzy entries messages valid are =
     let passes = filter_passes (is_compiled use_fuzzy) entries in
     let each : All (λ e. IsReturned (message_of e)) list =
     λ i d inside. let e = get_or list i d in
-        let wanted = right (is_live e) (has_translation e && (use_fuzzy || not e.fuzzy || is_header e)) (passes i d inside) in
-        returned parts e (can_stand i d inside) (left (has_translation e) (use_fuzzy || not e.fuzzy || is_header e) wanted) in
+    let wanted = right (is_live e) (has_translation e && (use_fuzzy || not e.fuzzy || is_header e)) (passes i d inside) in
+    returned parts e (can_stand i d inside) (left (has_translation e) (use_fuzzy || not e.fuzzy || is_header e) wanted) in
     All-permutation IsReturned (messages_of_entries list) messages are.all (All-map IsReturned message_of list each)
 
 -- a test that each entry passes leaves none out
@@ -198,7 +198,7 @@ one_catalogue one text read (c ∷ []) reads each = ap (λ (e : List TextEntry).
 one_catalogue one text read (c ∷ d ∷ catalogues) reads each = absurd each.1
 
 module _ (parts : MessagesHaveParts) (differ : MessagesDiffer) (joined_stand : JoinedEntriesCanStand) (one_text : OneTextIsRead) (one_list : MessagesAreOne)
-  (one_reading : OneReading) (stand : EntriesCanStand) (reads : WrittenTextReads) (stay : LiveEntriesStay) where
+    (one_reading : OneReading) (stand : EntriesCanStand) (reads : WrittenTextReads) (stay : LiveEntriesStay) where
   module _ (options : Options) (list : List TextEntry) (compiled' : Compiled) (is : IsCompiled options list compiled') (all : All IsReturned is.messages) where
     abbrev text : List ℕ
     text = written_text (unformatted is.messages)

@@ -1,26 +1,24 @@
 -- All bytes have a text or a fault.
-use Rattle.std.proofs.Common.{◌≡◌, ◌≢◌, ◌⊎◌, ◌↔◌, ℕ, ◌+◌, ◌<◌, ◌==◌, zero, suc, Bool, true, false, not, ◌&&◌, List, [], ◌∷◌, ◌++◌, Option, None, Some, refl, sym, ap, ◌∙◌, subst, length, map, take, slice_get, arith, All, Contains, IfSome, option_to_list, inl, inr}
+use Rattle.std.proofs.Common.{◌≡◌, ◌≢◌, ◌⊎◌, ℕ, ◌<◌, ◌==◌, zero, suc, Bool, true, false, List, [], ◌∷◌, Option, None, Some, refl, length, map, take, slice_get, arith, All, Contains, IfSome, inl, inr}
 use Rattle.std.specs.Prelude.{IsUtf8}
-use Rattle.std.specs.List.{list_any}
 use Rattle.std.specs.Str.{bytes_eq, is_utf8}
 use Rattle.std.specs.Char.{to_ascii_lowercase}
 use Rattle.std.proofs.lemmas.Bool.Decides.{Decides-eqb}
-use Rattle.std.proofs.lemmas.List.Elements.{All-cons, All-head, All-nil, All-tail, Contains-append_left}
+use Rattle.std.proofs.lemmas.List.Elements.{All-cons, All-head, All-nil, All-tail}
 use Rattle.std.proofs.lemmas.List.Splits.{length-slice_split}
 use Rattle.std.proofs.lemmas.Slice.Eq.{bytes_eq-Decides}
 use Rattle.std.proofs.lemmas.Str.{IsUtf8-from_is_utf8, is_utf8-from_IsUtf8}
-use Rattle.mo_file.specs.Key.{is_nul, key_of}
+use Rattle.mo_file.specs.Key.{is_nul}
 use Rattle.mo_file.specs.declared.byte_order.Order.{Order}
 use Rattle.mo_file.specs.Catalog.{IsCatalog}
 use Rattle.mo_file.specs.Laws.{CatalogOrFault}
 use Rattle.mo_file.specs.Message.{Message}
 use Rattle.mo_lookup.specs.Contents.{forms}
-use Rattle.po_syntax.specs.declared.fault.PoFault.{PoFault}
 use Rattle.po_syntax.specs.declared.fault.PoFault.TheVariants.{NotUtf8 as BadText, ForbiddenByte as BadByte}
 use Rattle.po_entry.specs.TextEntry.{TextEntry, quoted_texts}
 use Rattle.po_entry.specs.Bytes.{Lacks}
 use Rattle.po_entry.specs.Header.{HasAdmittedCharset, IsAdmittedName, admitted_names, charset_of, first_form, is_header}
-use Rattle.po_entry.specs.Validity.{HasTexts, IsCatalogueEntry, IsClean, IsComment, IsEntry, IsFlag, IsReference, IsText, IsTranslatorComment, TextsFault}
+use Rattle.po_entry.specs.Validity.{HasTexts, IsClean, IsComment, IsEntry, IsFlag, IsReference, IsText, IsTranslatorComment, TextsFault}
 use Rattle.po_entry.specs.Validity.TextsFault.{not_utf8, forbidden}
 use Rattle.po_writer.specs.WrittenText.{written_text}
 use Rattle.po_unformat.specs.declared.fault.UnformatError.{UnformatError}
@@ -28,7 +26,7 @@ use Rattle.po_unformat.specs.declared.fault.UnformatError.TheVariants.{Mo, NotUt
 use Rattle.po_unformat.specs.RoundTrip.{TextOrFault}
 use Rattle.po_unformat.specs.Refused.{RefusesMessages}
 use Rattle.po_unformat.specs.Unformatted.{entry_of_message, plural_of, taken_forms, unformatted}
-use Rattle.po_unformat.specs.Unformatting.{AreWrittenAs, HasFirstTextsFault, HasForeignCharset, IsUnformatted, IsUnformatFault}
+use Rattle.po_unformat.specs.Unformatting.{AreWrittenAs, IsUnformatFault}
 use Rattle.po_unformat.proofs.MessageLemmas.{catalogue_entries}
 
 -- it is known whether this holds

@@ -14,11 +14,7 @@ use po_syntax::{PoError, PoFault};
 use std::alloc::Global;
 
 /// The entry of a message.
-fn entry_of_message(
-    alloc: Global,
-    original: &[u8],
-    translation: &[u8],
-) -> Result<Entry, PoError>
+fn entry_of_message(alloc: Global, original: &[u8], translation: &[u8]) -> Result<Entry, PoError>
     ensures entry { IfOk result (λ entry. entry ≡ entry_of_message (record { original = original.now; translation = translation.now })) }
     ensures valid { IfOk result IsEntry }
     ensures fault { IfErr result (λ error. RefusesMessage (entry_of_message (record { original = original.now; translation = translation.now })) error) }

@@ -4,7 +4,7 @@ use Rattle.std.specs.Prelude.{fold}
 use Rattle.std.specs.List.{flat_map, join_by}
 use Rattle.std.specs.Bool.{beq}
 use Rattle.std.proofs.lemmas.List.{append-nil}
-use Rattle.std.proofs.lemmas.List.Elements.{All-head, All-tail, All-cons, All-nil, All-push, filter_agree}
+use Rattle.std.proofs.lemmas.List.Elements.{All-head, All-tail, All-push, filter_agree}
 use Rattle.std.proofs.lemmas.List.Sums.{fold-append, fold_push}
 use Rattle.std.proofs.lemmas.Bool.{ne_eqb}
 use Rattle.po_entry.specs.TextEntry.{TextEntry}

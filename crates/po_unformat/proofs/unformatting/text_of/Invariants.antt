@@ -11,5 +11,5 @@ invariant-loop-i l = record {
   written : l.text.items ≡ written_text (take l.i (unformatted l.view));
   valid : All IsEntry (take l.i (unformatted l.view));
   admitted : l.is_admitted ≡ true → All HasAdmittedCharset (take l.i (unformatted l.view));
-  foreign : l.is_admitted ≡ false → All HasAdmittedCharset (unformatted l.view) → ⊥
+  foreign : l.is_admitted ≡ false → All HasAdmittedCharset (unformatted l.view) → ⊥;
 }
