@@ -22,7 +22,6 @@ emptied_texts (form ∷ forms) = All-cons IsText [] (map (λ _. []) forms) IsTex
 
 pub IsEntry-emptied : (entry : TextEntry) → IsEntry entry → IsEntry (record entry { forms = map (λ _. []) entry.forms })
 IsEntry-emptied entry h = record {
-  comment_texts = h.comment_texts;
   quoted_texts = All-append IsText (unformed_texts entry) (map (λ _. []) entry.forms) (All-left IsText (unformed_texts entry) entry.forms h.quoted_texts) (emptied_texts entry.forms);
   comments = h.comments;
   extracted = h.extracted;
@@ -37,7 +36,6 @@ IsEntry-emptied entry h = record {
 
 pub IsEntry-without_previous : (entry : TextEntry) → IsEntry entry → IsEntry (record entry { previous = no_previous })
 IsEntry-without_previous entry h = record {
-  comment_texts = h.comment_texts;
   quoted_texts = All-right IsText (previous_texts entry.previous) (option_to_list entry.context ++ (entry.id ∷ []) ++ option_to_list entry.plural ++ entry.forms)
       (rw joined h.quoted_texts);
   comments = h.comments;

@@ -73,7 +73,3 @@ previous_texts previous =
 abbrev pub quoted_texts : TextEntry → List (List ℕ)
 quoted_texts entry =
     previous_texts entry.previous ++ option_to_list entry.context ++ (entry.id ∷ []) ++ option_to_list entry.plural ++ entry.forms
-
--- the texts that an entry's comments hold
-abbrev pub comment_texts : TextEntry → List (List ℕ)
-comment_texts entry = entry.comments ++ entry.extracted ++ entry.references ++ entry.flags

@@ -1,6 +1,6 @@
 -- What holds of every entry, and of every entry of a catalogue (manual, "The Format of PO Files").
 use Rattle.std.specs.Prelude.{◌≡◌, ◌≢◌, ◌⊎◌, ℕ, ◌<◌, false, List, [], ◌∷◌, None, All, Contains, IfSome, IsUtf8, length, codes}
-use Rattle.po_entry.specs.TextEntry.{TextEntry, quoted_texts, comment_texts}
+use Rattle.po_entry.specs.TextEntry.{TextEntry, quoted_texts}
 use Rattle.po_entry.specs.Bytes.{Lacks, trimmed, AreDistinct}
 use Rattle.po_syntax.specs.Token.{is_blank}
 use Rattle.po_syntax.specs.Line.{trim_returns}
@@ -9,8 +9,14 @@ use Rattle.po_syntax.specs.declared.fault.PoError.{PoError}
 use Rattle.po_syntax.specs.declared.fault.PoFault.TheVariants.{NotUtf8, ForbiddenByte, ForeignCharset, OutOfMemory}
 use Rattle.po_entry.specs.Header.{HasAdmittedCharset}
 
+-- a text that an entry may hold
+pub record IsText (text : List ℕ) : Type 0 where
+  pub utf8 : IsUtf8 text
+  pub no_nul : Lacks 0 text
+
 -- the text of a comment is the rest of a line without CRs at its end
 pub record IsComment (text : List ℕ) : Type 0 where
+  pub valid : IsText text
   pub one_line : Lacks 10 text
   pub no_final_return : trim_returns text ≡ text
 
@@ -21,26 +27,22 @@ pub record IsTranslatorComment (text : List ℕ) : Type 0 where
 
 -- a reference is a word between blanks, on one line
 pub record IsReference (text : List ℕ) : Type 0 where
+  pub valid : IsText text
   pub some_byte : text ≢ []
   pub no_blank : All (λ b. is_blank b ≡ false) text
   pub one_line : Lacks 10 text
 
 -- a flag is a trimmed word between commas, other than `fuzzy`
 pub record IsFlag (text : List ℕ) : Type 0 where
+  pub valid : IsText text
   pub some_byte : text ≢ []
   pub no_blank_ends : trimmed text ≡ text
   pub no_comma : Lacks 44 text
   pub one_line : Lacks 10 text
   pub not_fuzzy : text ≢ codes "fuzzy"
 
--- a text that an entry may hold
-pub record IsText (text : List ℕ) : Type 0 where
-  pub utf8 : IsUtf8 text
-  pub no_nul : Lacks 0 text
-
 -- an entry, but for the charset of a header
 pub record IsEntry (entry : TextEntry) : Type 0 where
-  pub comment_texts : All IsText (comment_texts entry)
   pub quoted_texts : All IsText (quoted_texts entry)
   pub comments : All IsTranslatorComment entry.comments
   pub extracted : All IsComment entry.extracted

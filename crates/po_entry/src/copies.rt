@@ -3,7 +3,8 @@ ghost use Rattle.po_entry.specs.TextEntry.{texts, optional_text, slice_texts};
 
 use std::alloc::{AllocError, Global};
 
-pub(crate) fn copy_optional(
+/// A copy of a text, where there is one; refused only where an allocation failed.
+pub fn copy_optional(
     alloc: Global,
     text: Option<&[u8]>,
 ) -> Result<Option<Vec<u8>>, AllocError>
@@ -15,7 +16,8 @@ pub(crate) fn copy_optional(
     }
 }
 
-pub(crate) fn copy_texts(alloc: Global, list: &[Vec<u8>]) -> Result<Vec<Vec<u8>>, AllocError>
+/// Copies of the texts, in order; refused only where an allocation failed.
+pub fn copy_texts(alloc: Global, list: &[Vec<u8>]) -> Result<Vec<Vec<u8>>, AllocError>
     ensures { IfOk result (λ copy. texts copy.items ≡ texts list.now) }
 {
     let mut copy = Vec::with_capacity(alloc, list.len())?;

@@ -14,6 +14,7 @@ mod texts;
 
 pub use crate::catalogue::Catalogue;
 pub use crate::charset::has_admitted_charset;
+pub use crate::copies::{copy_optional, copy_texts};
 pub use crate::entry::Entry;
 pub use crate::fields::Fields;
 pub use crate::previous::Previous;

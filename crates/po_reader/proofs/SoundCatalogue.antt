@@ -8,7 +8,7 @@ use Rattle.po_syntax.specs.declared.fault.PoFault.TheVariants.{OutOfMemory}
 use Rattle.po_entry.specs.declared.fields.Fields.{Fields}
 use Rattle.po_entry.specs.EntryText.{entry_of}
 use Rattle.po_syntax.specs.TextItem.{TextItem}
-use Rattle.po_entry.specs.TextEntry.{TextEntry, quoted_texts, comment_texts, previous_texts}
+use Rattle.po_entry.specs.TextEntry.{TextEntry, quoted_texts, previous_texts}
 use Rattle.po_entry.specs.Bytes.{Lacks, AreDistinct}
 use Rattle.po_entry.specs.Body.{Body}
 use Rattle.po_entry.specs.Head.{Note, PreviousText}
@@ -24,11 +24,10 @@ use Rattle.po_reader.specs.Faults.{TextsStop, UnreadableTexts}
 use Rattle.po_reader.specs.Faults as faults
 use Rattle.po_reader.proofs.SoundItems.{SoundItem, SoundComment}
 use Rattle.po_reader.proofs.SoundEntries.{SoundNote, SoundPrevious, SoundBody, body_sound, head_sound}
-use Rattle.po_reader.proofs.SoundFields.{SoundReference, SoundFlagWord, SoundFlag, SoundFlags, kind_sound, references_sound, all_flag_words_sound, flags_sound, previous_lacks}
+use Rattle.po_reader.proofs.SoundFields.{SoundFlagWord, SoundFlags, kind_sound, references_sound, all_flag_words_sound, flags_sound, previous_lacks}
 
 -- an entry that sound items spell, but for what its texts must be
 pub record SoundEntry (spelt : TextEntry) : Type 0 where
-  pub comments_valid : All IsText (comment_texts spelt)
   pub comments : All IsTranslatorComment spelt.comments
   pub extracted : All IsComment spelt.extracted
   pub references : All IsReference spelt.references
@@ -39,28 +38,20 @@ pub record SoundEntry (spelt : TextEntry) : Type 0 where
   pub one_form : spelt.plural ≡ None → length spelt.forms ≡ 1
 
 translator_sound : (text : List ℕ) → SoundComment Translator text → IsTranslatorComment text
-translator_sound text h = record { comment = h.one_line; plain = h.plain refl }
+translator_sound text h = record { comment = h.comment; plain = h.plain refl }
 
 entry_sound : (notes : List Note) (previous : List PreviousText) (own : Body) (rest : List TextItem) → All SoundNote notes → All SoundPrevious previous → SoundBody own rest → SoundEntry (entry_from notes previous own)
 entry_sound notes previous own rest n p b =
     let translator : All (SoundComment Translator) (comments_of notes) = kind_sound Translator notes n in
     let extracted : All (SoundComment Extracted) (extracted_of notes) = kind_sound Extracted notes n in
-    let references : All SoundReference (references_of notes) = references_sound (texts_of Reference notes) (kind_sound Reference notes n) in
+    let references : All IsReference (references_of notes) = references_sound (texts_of Reference notes) (kind_sound Reference notes n) in
     let words : All SoundFlagWord (flag_words_of notes) = all_flag_words_sound (texts_of Flags notes) (kind_sound Flags notes n) in
-    let flags : SoundFlags (flags_of notes) = flags_sound (flag_words_of notes) [] (record { all = All-nil SoundFlag; distinct = tt }) words in
+    let flags : SoundFlags (flags_of notes) = flags_sound (flag_words_of notes) [] (record { all = All-nil IsFlag; distinct = tt }) words in
     record {
-      comments_valid =
-          All-append IsText (comments_of notes ++ extracted_of notes ++ references_of notes) (flags_of notes)
-          (All-append IsText (comments_of notes ++ extracted_of notes) (references_of notes)
-          (All-append IsText (comments_of notes) (extracted_of notes)
-          (All-weaker (SoundComment Translator) IsText (λ text h. h.valid) (comments_of notes) translator)
-          (All-weaker (SoundComment Extracted) IsText (λ text h. h.valid) (extracted_of notes) extracted))
-          (All-weaker SoundReference IsText (λ text h. h.valid) (references_of notes) references))
-          (All-weaker SoundFlag IsText (λ text h. h.valid) (flags_of notes) flags.all);
       comments = All-weaker (SoundComment Translator) IsTranslatorComment translator_sound (comments_of notes) translator;
-      extracted = All-weaker (SoundComment Extracted) IsComment (λ text h. h.one_line) (extracted_of notes) extracted;
-      references = All-weaker SoundReference IsReference (λ text h. h.reference) (references_of notes) references;
-      flags = All-weaker SoundFlag IsFlag (λ text h. h.flag) (flags_of notes) flags.all;
+      extracted = All-weaker (SoundComment Extracted) IsComment (λ text h. h.comment) (extracted_of notes) extracted;
+      references = references;
+      flags = flags.all;
       distinct_flags = flags.distinct;
       quoted_lack =
           All-append (Lacks 0) (previous_texts (previous_of previous) ++ option_to_list own.context ++ (own.id ∷ []) ++ option_to_list own.plural) own.forms
@@ -90,7 +81,6 @@ both_texts (text ∷ texts) a b =
 -- with texts that it can have, it is an entry
 pub entry_valid : (spelt : TextEntry) → SoundEntry spelt → HasTexts spelt → IsEntry spelt
 entry_valid spelt h t = record {
-  comment_texts = h.comments_valid;
   quoted_texts = both_texts (quoted_texts spelt) t.utf8 h.quoted_lack;
   comments = h.comments;
   extracted = h.extracted;

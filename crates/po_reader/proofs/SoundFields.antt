@@ -46,7 +46,7 @@ kind_sound kind (note ∷ notes) h = found (same_kind kind note.kind) refl (kind
   found false t more = more
 
 line_text : (kind : CommentKind) (text : List ℕ) → SoundComment kind text → IsLineText text
-line_text kind text h = record { utf8 = h.valid.utf8; no_nul = h.valid.no_nul; one_line = h.one_line.one_line }
+line_text kind text h = record { utf8 = h.comment.valid.utf8; no_nul = h.comment.valid.no_nul; one_line = h.comment.one_line }
 
 -- the parts of a line's text that is cut at ASCII bytes
 line_parts : (p : ℕ → Bool) → ((b : ℕ) → p b ≡ true → b < 128) → (text : List ℕ) → IsLineText text → All IsLineText (slice_split p text)
@@ -59,33 +59,30 @@ line_parts p ascii text h =
         let here : IsLineText part = record { utf8 = All-head IsUtf8 part parts a; no_nul = All-head (Lacks 0) part parts b; one_line = All-head (Lacks 10) part parts c } in
         All-cons IsLineText part parts here (zipped parts (All-tail IsUtf8 part parts a) (All-tail (Lacks 0) part parts b) (All-tail (Lacks 10) part parts c))
 
--- a word of a reference line
-pub record SoundReference (word : List ℕ) : Type 0 where
-  pub valid : IsText word
-  pub reference : IsReference word
-
 some_byte : (text : List ℕ) → is_not_empty text ≡ true → text ≢ []
 some_byte text e none = let length_zero : length text ≡ 0 = ap length none in eqb-false _ _ (not-true _ e) length_zero
 
-words_sound : (text : List ℕ) → IsLineText text → All SoundReference (words_of text)
+words_sound : (text : List ℕ) → IsLineText text → All IsReference (words_of text)
 words_sound text h = kept (slice_split is_blank text) (line_parts is_blank blank_is_ascii text h) (parts_fail is_blank text) where
-  kept : (parts : List (List ℕ)) → All IsLineText parts → All (All (λ b. is_blank b ≡ false)) parts → All SoundReference (filter is_not_empty parts)
-  kept [] a b = All-nil SoundReference
+  kept : (parts : List (List ℕ)) → All IsLineText parts → All (All (λ b. is_blank b ≡ false)) parts → All IsReference (filter is_not_empty parts)
+  kept [] a b = All-nil IsReference
   kept (part ∷ parts) a b = found (is_not_empty part) refl (kept parts (All-tail IsLineText part parts a) (All-tail (All (λ c. is_blank c ≡ false)) part parts b)) where
-    found : (t : Bool) → is_not_empty part ≡ t → All SoundReference (filter is_not_empty parts) → All SoundReference (cond t (part ∷ filter is_not_empty parts) (filter is_not_empty parts))
+    found : (t : Bool) → is_not_empty part ≡ t → All IsReference (filter is_not_empty parts) → All IsReference (cond t (part ∷ filter is_not_empty parts) (filter is_not_empty parts))
     found true t more =
         let line = All-head IsLineText part parts a in
-        let here : SoundReference part = record {
+        let here : IsReference part = record {
           valid = record { utf8 = line.utf8; no_nul = line.no_nul };
-          reference = record { some_byte = some_byte part t; no_blank = All-head (All (λ c. is_blank c ≡ false)) part parts b; one_line = line.one_line };
+          some_byte = some_byte part t;
+          no_blank = All-head (All (λ c. is_blank c ≡ false)) part parts b;
+          one_line = line.one_line;
         } in
-        All-cons SoundReference part (filter is_not_empty parts) here more
+        All-cons IsReference part (filter is_not_empty parts) here more
     found false t more = more
 
-pub references_sound : (texts : List (List ℕ)) → All (SoundComment Reference) texts → All SoundReference (flat_map words_of texts)
-references_sound [] h = All-nil SoundReference
+pub references_sound : (texts : List (List ℕ)) → All (SoundComment Reference) texts → All IsReference (flat_map words_of texts)
+references_sound [] h = All-nil IsReference
 references_sound (text ∷ texts) h =
-    All-append SoundReference (words_of text) (flat_map words_of texts) (words_sound text (line_text Reference text (All-head (SoundComment Reference) text texts h)))
+    All-append IsReference (words_of text) (flat_map words_of texts) (words_sound text (line_text Reference text (All-head (SoundComment Reference) text texts h)))
     (references_sound texts (All-tail (SoundComment Reference) text texts h))
 
 -- a word of a flag line
@@ -149,14 +146,9 @@ all_flag_words_sound (text ∷ texts) h =
     All-append SoundFlagWord (flag_words text) (flat_map flag_words texts) (flag_words_sound text (line_text Flags text (All-head (SoundComment Flags) text texts h)))
     (all_flag_words_sound texts (All-tail (SoundComment Flags) text texts h))
 
--- a flag other than `fuzzy`
-pub record SoundFlag (word : List ℕ) : Type 0 where
-  pub valid : IsText word
-  pub flag : IsFlag word
-
 -- flags that can stand in an entry
 pub record SoundFlags (flags : List (List ℕ)) : Type 0 where
-  pub all : All SoundFlag flags
+  pub all : All IsFlag flags
   pub distinct : AreDistinct flags
 
 distinct_push : (flags : List (List ℕ)) (word : List ℕ) → AreDistinct flags → (Contains flags word → ⊥) → AreDistinct (flags ++ word ∷ [])
@@ -175,11 +167,15 @@ flag_added flags word h w = found (is_fuzzy_word word) (list_any (bytes_eq word)
   found true a e d = h
   found false true e d = h
   found false false e d =
-      let here : SoundFlag word = record {
+      let here : IsFlag word = record {
         valid = w.valid;
-        flag = record { some_byte = w.some; no_blank_ends = w.no_blank_ends; no_comma = w.no_comma; one_line = w.one_line; not_fuzzy = λ same. false≢true (sym e ∙ (bytes_eq-Decides word (codes "fuzzy")).1 same) };
+        some_byte = w.some;
+        no_blank_ends = w.no_blank_ends;
+        no_comma = w.no_comma;
+        one_line = w.one_line;
+        not_fuzzy = λ same. false≢true (sym e ∙ (bytes_eq-Decides word (codes "fuzzy")).1 same);
       } in
-      record { all = All-push SoundFlag flags word h.all here; distinct = distinct_push flags word h.distinct (not_among flags word d) }
+      record { all = All-push IsFlag flags word h.all here; distinct = distinct_push flags word h.distinct (not_among flags word d) }
 
 pub flags_sound : (words : List (List ℕ)) (flags : List (List ℕ)) → SoundFlags flags → All SoundFlagWord words → SoundFlags (fold with_flag flags words)
 flags_sound [] flags h w = h

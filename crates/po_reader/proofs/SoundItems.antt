@@ -7,12 +7,11 @@ use Rattle.po_syntax.specs.declared.item.CommentKind.TheVariants.{Translator}
 use Rattle.po_syntax.specs.TextItem.{TextItem, Comment, Word, Str}
 use Rattle.po_syntax.specs.ItemText.{HoldsText}
 use Rattle.po_entry.specs.Bytes.{Lacks}
-use Rattle.po_entry.specs.Validity.{IsText, IsComment}
+use Rattle.po_entry.specs.Validity.{IsComment}
 
 -- a comment's text can stand in an entry
 pub record SoundComment (kind : CommentKind) (text : List ℕ) : Type 0 where
-  pub valid : IsText text
-  pub one_line : IsComment text
+  pub comment : IsComment text
   pub plain : kind ≡ Translator → (rest : List ℕ) (b : ℕ) → text ≡ b ∷ rest → Contains (codes ".:,|~") b → ⊥
 
 abbrev pub SoundItem : TextItem → Type 0
@@ -28,8 +27,7 @@ pub record IsLineText (line : List ℕ) : Type 0 where
 
 item_sound : (item : TextItem) → HoldsText item → SoundItem item
 item_sound (Comment kind text line) h = record {
-  valid = record { utf8 = h.utf8; no_nul = h.no_nul };
-  one_line = record { one_line = h.one_line; no_final_return = h.no_final_return };
+  comment = record { valid = record { utf8 = h.utf8; no_nul = h.no_nul }; one_line = h.one_line; no_final_return = h.no_final_return };
   plain = λ same rest b. h.plain same b rest;
 }
 item_sound (Word keyword marks line) h = tt

@@ -96,11 +96,11 @@ text_line text h g = record { utf8 = h.utf8; plain = All-both (λ b. b ≢ 0) (�
 text_quotable : (text : List ℕ) → IsText text → IsQuotable text
 text_quotable text h = record { utf8 = h.utf8; no_nul = h.no_nul }
 
-translator_marked : (text : List ℕ) → IsText text → IsTranslatorComment text → IsMarked Translator (codes "#") text
-translator_marked text h g = record { line = line-append (codes "#") text (plain_line (codes "#") refl) (text_line text h g.comment.one_line); low = omega arith; shape = translator_shape text g; trimmed = g.comment.no_final_return }
+translator_marked : (text : List ℕ) → IsTranslatorComment text → IsMarked Translator (codes "#") text
+translator_marked text g = record { line = line-append (codes "#") text (plain_line (codes "#") refl) (text_line text g.comment.valid g.comment.one_line); low = omega arith; shape = translator_shape text g; trimmed = g.comment.no_final_return }
 
-extracted_marked : (text : List ℕ) → IsText text → IsComment text → IsMarked Extracted (codes "#.") text
-extracted_marked text h g = record { line = line-append (codes "#.") text (plain_line (codes "#.") refl) (text_line text h g.one_line); low = omega arith; shape = extracted_shape text; trimmed = g.no_final_return }
+extracted_marked : (text : List ℕ) → IsComment text → IsMarked Extracted (codes "#.") text
+extracted_marked text g = record { line = line-append (codes "#.") text (plain_line (codes "#.") refl) (text_line text g.valid g.one_line); low = omega arith; shape = extracted_shape text; trimmed = g.no_final_return }
 
 some_text : (text : List ℕ) → text ≢ [] → 0 < length text
 some_text [] h = absurd (h refl)
@@ -172,14 +172,9 @@ entry_block words e h short =
     let E = remarks Extracted es in
     let R = remarks Reference (words_text (32 ∷ []) rs) in
     let F = remarks Flags (words_text (44 ∷ 32 ∷ []) fs) in
-    let of_flags = All-right IsText ((cs ++ es) ++ rs) e.flags h.comment_texts in
-    let front = All-left IsText ((cs ++ es) ++ rs) e.flags h.comment_texts in
-    let of_references = All-right IsText (cs ++ es) rs front in
-    let of_extracted = All-right IsText cs es (All-left IsText (cs ++ es) rs front) in
-    let of_comments = All-left IsText cs es (All-left IsText (cs ++ es) rs front) in
     let has_words = words_of_entry e h in
-    let clean_flags = all_with IsLine e.fuzzy e.flags (plain_line (codes "fuzzy") refl) (All-both IsText IsFlag IsLine e.flags (λ t a b. text_line t a b.one_line) of_flags h.flags) in
-    let clean_references = All-both IsText IsReference IsLine rs (λ t a b. text_line t a b.one_line) of_references h.references in
+    let clean_flags = all_with IsLine e.fuzzy e.flags (plain_line (codes "fuzzy") refl) (All-weaker IsFlag IsLine (λ t g. text_line t g.valid g.one_line) e.flags h.flags) in
+    let clean_references = All-weaker IsReference IsLine (λ t g. text_line t g.valid g.one_line) rs h.references in
     let previous = e.previous in
     let P = previous_texts previous in
     let C = option_to_list e.context in
@@ -193,8 +188,8 @@ entry_block words e h short =
     let before = All-left IsText P C (All-left IsText (P ++ C) (e.id ∷ []) no_plural) in
     let before_plural = All-right IsText (option_to_list previous.context ++ option_to_list previous.id) (option_to_list previous.plural) before in
     let before_two = All-left IsText (option_to_list previous.context ++ option_to_list previous.id) (option_to_list previous.plural) before in
-    let comments = comments_block 0 Translator (codes "#") cs (All-both IsText IsTranslatorComment (IsMarked Translator (codes "#")) cs translator_marked of_comments h.comments) in
-    let extracted = comments_block 0 Extracted (codes "#.") es (All-both IsText IsComment (IsMarked Extracted (codes "#.")) es extracted_marked of_extracted h.extracted) in
+    let comments = comments_block 0 Translator (codes "#") cs (All-weaker IsTranslatorComment (IsMarked Translator (codes "#")) translator_marked cs h.comments) in
+    let extracted = comments_block 0 Extracted (codes "#.") es (All-weaker IsComment (IsMarked Extracted (codes "#.")) extracted_marked es h.extracted) in
     let references = words_block Reference (codes "#: ") (codes " ") rs (λ t. reference_shape (32 ∷ t)) (plain_line (codes "#: ") refl) (λ t. omega arith) (plain_line (codes " ") refl) clean_references (All-weaker IsWord IsEnded word_ended rs has_words.references) in
     let flags = words_block Flags (codes "#, ") (codes ", ") fs (λ t. flags_shape (32 ∷ t)) (plain_line (codes "#, ") refl) (λ t. omega arith) (plain_line (codes ", ") refl) clean_flags (All-weaker IsFlagWord IsEnded flag_ended fs has_words.flags) in
     let head = previous_lines_block words (previous_prefix e.obsolete) e.obsolete previous (previous_prefix_line e.obsolete) (optional_quotable previous.context (All-left IsText (option_to_list previous.context) (option_to_list previous.id) before_two)) (optional_quotable previous.id (All-right IsText (option_to_list previous.context) (option_to_list previous.id) before_two)) (optional_quotable previous.plural before_plural) in
