@@ -4,10 +4,7 @@ ghost use Rattle.po_entry.specs.TextEntry.{texts, optional_text, slice_texts};
 use std::alloc::{AllocError, Global};
 
 /// A copy of a text, where there is one; refused only where an allocation failed.
-pub fn copy_optional(
-    alloc: Global,
-    text: Option<&[u8]>,
-) -> Result<Option<Vec<u8>>, AllocError>
+pub fn copy_optional(alloc: Global, text: Option<&[u8]>) -> Result<Option<Vec<u8>>, AllocError>
     ensures { IfOk result (λ copy. optional_text copy ≡ option_copied text.entry) }
 {
     match text {

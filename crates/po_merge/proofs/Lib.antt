@@ -1,0 +1,6 @@
+pub mod FirstOnes
+pub mod Messages
+pub mod Sets
+pub mod Grouped
+pub mod Inputs
+pub mod Views

@@ -1,0 +1,21 @@
+-- The entries of several inputs (manual, "Invoking the msgcat Program").
+use Rattle.std.specs.Prelude.{ℕ, List, map}
+use Rattle.std.specs.List.{flat_map}
+use Rattle.po_entry.specs.TextEntry.{TextEntry}
+
+-- an input: its name, and the entries of its catalogue
+pub record Input : Type 0 where
+  pub name : List ℕ
+  pub entries : List TextEntry
+
+-- an entry of one of several inputs, with that input's name
+pub record NamedEntry : Type 0 where
+  pub name : List ℕ
+  pub entry : TextEntry
+
+abbrev pub named : List ℕ → TextEntry → NamedEntry
+named name entry = record { name = name; entry = entry }
+
+-- the entries of all inputs, in order
+abbrev pub all_entries : List Input → List NamedEntry
+all_entries inputs = flat_map (λ input. map (named input.name) input.entries) inputs

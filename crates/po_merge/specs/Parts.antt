@@ -1,0 +1,12 @@
+-- Internal: the parts of a merged entry that are those of the first definition that has some.
+use Rattle.std.specs.Prelude.{Bool}
+use Rattle.po_entry.specs.TextEntry.{TextEntry}
+use Rattle.po_catalog.specs.Statistics.{has_translation}
+use Rattle.po_merge.specs.declared.definition.Part.{Part}
+use Rattle.po_merge.specs.declared.definition.Part.TheVariants.{Translation, Previous, Plural}
+use Rattle.po_merge.specs.MergedEntry.{has_previous, has_plural}
+
+abbrev pub has_part : Part → TextEntry → Bool
+has_part Translation e = has_translation e
+has_part Previous e = has_previous e
+has_part Plural e = has_plural e

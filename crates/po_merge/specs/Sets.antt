@@ -1,0 +1,25 @@
+-- Internal: sets of texts and of form lists, which say what was met so far.
+use Rattle.std.specs.Prelude.{◌≡◌, ℕ, List, bytes_eq, filter, length, nat_lt}
+use Rattle.std.specs.List.{list_any}
+use Rattle.std.specs.Ordering.{nat_cmp}
+use Rattle.std.specs.Cmp.Lexicographic.{slice_cmp}
+use Rattle.std.specs.Borrow.{Bor}
+use Rattle.std.specs.Global.{Vec}
+use Rattle.std.specs.BTreeSet.{BTreeSet, contains}
+use Rattle.po_entry.specs.TextEntry.{texts}
+use Rattle.po_entry.specs.Equality.{texts_eq}
+use Rattle.po_merge.specs.Inputs.{NamedEntry}
+
+-- the set has just these texts
+abbrev pub HasTexts : BTreeSet (Bor (List ℕ)) → List (List ℕ) → Type 0
+HasTexts seen done =
+    (q : Bor (List ℕ)) → contains (λ x y. slice_cmp nat_cmp x.now y.now) seen q ≡ list_any (bytes_eq q.now) done
+
+-- the set has just the form lists of these definitions
+abbrev pub HasForms : BTreeSet (Bor (List (Vec ℕ))) → List NamedEntry → Type 0
+HasForms seen found =
+    (q : Bor (List (Vec ℕ))) → contains (λ x y. slice_cmp (λ v w. slice_cmp nat_cmp v.items w.items) x.now y.now) seen q ≡ list_any (λ d. texts_eq (texts q.now) d.entry.forms) found
+
+-- the translations that have a form of this index
+abbrev pub longer : ℕ → List NamedEntry → List NamedEntry
+longer index ts = filter (λ t. nat_lt index (length t.entry.forms)) ts

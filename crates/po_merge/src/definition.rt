@@ -1,0 +1,112 @@
+ghost use Rattle.std.specs.Prelude.{◌≡◌, ◌<◌, ◌||◌, length, is_some};
+ghost use Rattle.std.specs.List.{list_any};
+ghost use Rattle.po_catalog.specs.Joined.{is_live};
+ghost use Rattle.po_entry.specs.Header.{is_header};
+ghost use Rattle.po_merge.specs.Groups.{definitions};
+ghost use Rattle.po_merge.specs.InputsView.{named_entries};
+ghost use Rattle.po_merge.specs.Merged.{is_kept, is_wanted};
+ghost use Rattle.po_merge.specs.MergedEntry.{first_with};
+ghost use Rattle.po_merge.specs.Parts.{has_part};
+
+use crate::input::MergeOptions;
+use po_catalog::{Entry, Previous, has_translation};
+
+/// An entry of one of several inputs, with that input's name.
+#[derive(Clone, Copy)]
+pub(crate) struct Definition<'a> {
+    /// The name of the input.
+    pub(crate) name: &'a str,
+    /// The entry.
+    pub(crate) entry: &'a Entry,
+}
+
+/// Whether the entry isn't obsolete.
+fn is_live(entry: &Entry) -> bool
+    ensures { result ≡ is_live entry.now }
+{
+    !entry.obsolete()
+}
+
+/// Whether one of the entries is live.
+fn has_live(group: &[Definition<'_>]) -> bool
+    ensures { result ≡ list_any (λ d. is_live d.entry.now) group.now }
+{
+    group.iter().any(|definition| is_live(definition.entry))
+}
+
+/// What defines the message of a group: its live entries, or all where none is live.
+pub(crate) fn definitions<'a>(mut group: Vec<Definition<'a>>) -> Vec<Definition<'a>>
+    ensures { named_entries result.items ≡ definitions (named_entries group.entry.items) }
+{
+    if has_live(&group) {
+        group.retain(|definition| is_live(definition.entry));
+    }
+    group
+}
+
+/// Whether one of the definitions is a header.
+fn has_header(definitions: &[Definition<'_>]) -> bool
+    ensures { result ≡ list_any (λ d. is_header d.entry.now) definitions.now }
+{
+    definitions.iter().any(|definition| definition.entry.is_header())
+}
+
+/// Whether messages with this many definitions are asked for.
+fn is_wanted(options: &MergeOptions, count: usize) -> bool
+    ensures { result ≡ is_wanted options.now count }
+{
+    let is_below = match options.less_than {
+        Some(limit) => count < limit as usize,
+        None => true,
+    };
+    (options.more_than as usize) < count && is_below && (!options.unique || count < 2)
+}
+
+/// Whether the message of these definitions is kept.
+pub(crate) fn is_kept(definitions: &[Definition<'_>], options: &MergeOptions) -> bool
+    ensures { result ≡ is_kept options.now (named_entries definitions.now) }
+{
+    has_header(definitions) || is_wanted(options, definitions.len())
+}
+
+/// A part that some definitions have.
+#[derive(Clone, Copy)]
+pub(crate) enum Part {
+    /// A translation: a first form that isn't empty.
+    Translation,
+    /// Previous texts.
+    Previous,
+    /// A plural of the msgid.
+    Plural,
+}
+
+/// Whether the entry has the part.
+fn has_part(entry: &Entry, part: Part) -> bool
+    ensures { result ≡ has_part part entry.now }
+{
+    match part {
+        Part::Translation => has_translation(entry),
+        Part::Previous => has_previous(entry.previous()),
+        Part::Plural => entry.plural().is_some(),
+    }
+}
+
+/// Whether there is a previous text.
+fn has_previous(previous: &Previous) -> bool
+    ensures { result ≡ (is_some previous.now.context || is_some previous.now.id || is_some previous.now.plural) }
+{
+    previous.context.is_some() || previous.id.is_some() || previous.plural.is_some()
+}
+
+/// The first definition that has the part, or else the first.
+pub(crate) fn first_with<'a>(definitions: &[Definition<'a>], part: Part) -> &'a Entry
+    requires { 0 < length definitions.now }
+    ensures { result.now ≡ first_with (has_part part) (named_entries definitions.now) }
+{
+    for definition in definitions {
+        if has_part(definition.entry, part) {
+            return definition.entry;
+        }
+    }
+    definitions[0].entry
+}

@@ -1,0 +1,86 @@
+ghost use Rattle.std.specs.Prelude.{◌≡◌, ◌++◌, ◌∷◌, ℕ, List, [], All, IfOk, IsUtf8, OnOk, map};
+ghost use Rattle.po_entry.specs.Bytes.{Lacks};
+ghost use Rattle.po_merge.specs.Grouping.{IsGrouped, IsDefinition, group_entries};
+ghost use Rattle.po_merge.specs.Groups.{groups};
+ghost use Rattle.po_merge.specs.Inputs.{NamedEntry, named, all_entries};
+ghost use Rattle.po_merge.specs.InputsView.{inputs_of, named_entry};
+
+use crate::definition::Definition;
+use crate::input::Named;
+use po_catalog::Entry;
+use std::alloc::{AllocError, Global};
+use std::collections::BTreeMap;
+
+/// The context and the msgid of a message.
+type Message<'a> = (Option<&'a [u8]>, &'a [u8]);
+
+/// Entries, grouped by their messages. The places are found by comparing, so that no choice of msgids makes them slow.
+#[derive(Drop)]
+pub(crate) struct Groups<'a> {
+    /// The place of each message among the groups.
+    places: BTreeMap<Message<'a>, usize>,
+    /// The entries of each message, in the order in which the messages first appear.
+    groups: Vec<Vec<Definition<'a>>>,
+}
+
+impl<'a> Groups<'a> {
+    /// No groups.
+    fn new(alloc: Global) -> Groups<'a>
+        ensures { IsGrouped result [] }
+    {
+        Groups {
+            places: BTreeMap::new(alloc),
+            groups: Vec::new(alloc),
+        }
+    }
+
+    /// Adds an entry to the group of its message.
+    fn add(&mut self, alloc: Global, definition: Definition<'a>) -> Result<(), AllocError>
+        requires { (entries : List NamedEntry) × IsGrouped self.old entries }
+        ensures { (entries : List NamedEntry) → IsGrouped self.old entries → OnOk result (IsGrouped self.new (entries ++ named_entry definition.entry ∷ [])) }
+    {
+        let message = (definition.entry.context(), definition.entry.id());
+        if let Some(place) = self.places.get(&message).copied() {
+            self.groups[place].push(definition)?;
+            return Ok(());
+        }
+        let mut group = Vec::new(alloc);
+        group.push(definition)?;
+        self.places.insert(message, self.groups.len())?;
+        self.groups.push(group)?;
+        Ok(())
+    }
+
+    /// Adds the entries of an input of this name.
+    fn add_all(
+        &mut self,
+        alloc: Global,
+        name: &'a str,
+        entries: &'a [Entry],
+    ) -> Result<(), AllocError>
+        requires { (before : List NamedEntry) × IsGrouped self.old before }
+        ensures utf8 { IsUtf8 name.now }
+        ensures grouped { (before : List NamedEntry) → IsGrouped self.old before → OnOk result (IsGrouped self.new (before ++ map (named name.now) entries.now)) }
+    {
+        for entry in entries {
+            self.add(alloc, Definition { name, entry })?;
+        }
+        Ok(())
+    }
+}
+
+/// The entries of the inputs, grouped by their messages.
+pub(crate) fn grouped<'a>(
+    alloc: Global,
+    inputs: &'a [Named<'a>],
+) -> Result<Vec<Vec<Definition<'a>>>, AllocError>
+    requires { All (λ input. Lacks 0 input.name.now) inputs.now }
+    ensures groups { IfOk result (λ all. group_entries all.items ≡ groups (all_entries (inputs_of inputs.now))) }
+    ensures valid { OnOk result (All IsDefinition (all_entries (inputs_of inputs.now))) }
+{
+    let mut groups = Groups::new(alloc);
+    for input in inputs {
+        groups.add_all(alloc, input.name, input.catalogue.entries())?;
+    }
+    Ok(groups.groups)
+}

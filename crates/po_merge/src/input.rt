@@ -1,0 +1,24 @@
+use po_catalog::Catalogue;
+
+/// A catalogue that is merged with others.
+#[derive(Debug, Drop)]
+pub struct Named<'a> {
+    /// The name of the input, which stands where a different translation of it is marked.
+    pub name: &'a str,
+    /// The catalogue.
+    pub catalogue: Catalogue,
+}
+
+/// Which messages are kept, and how their definitions are merged. A definition of a message is a live entry, or, where
+/// no live entry has the message, an obsolete one.
+#[derive(Clone, Copy, Debug)]
+pub struct MergeOptions {
+    /// `--more-than`: messages with more definitions than this.
+    pub more_than: u32,
+    /// `--less-than`: messages with fewer definitions than this, where it is given.
+    pub less_than: Option<u32>,
+    /// `--unique`: messages with one definition.
+    pub unique: bool,
+    /// `--use-first`: the first translation is taken, and different ones aren't joined.
+    pub use_first: bool,
+}

@@ -1,0 +1,106 @@
+ghost use Rattle.std.specs.Prelude.{◌≡◌, ◌<◌, ◌++◌, length, IfOk, OnOk};
+ghost use Rattle.po_entry.specs.TextEntry.{texts};
+ghost use Rattle.po_merge.specs.InputsView.{named_entries};
+ghost use Rattle.po_merge.specs.Sets.{longer};
+ghost use Rattle.po_merge.specs.MergedEntry.{form_count, joined_form, joined_forms, marked, translations};
+
+use crate::definition::Definition;
+use po_catalog::has_translation;
+use std::alloc::{AllocError, Global};
+use std::collections::BTreeSet;
+
+/// The distinct translations, each in the definition that has it first.
+pub(crate) fn translations<'a>(
+    alloc: Global,
+    definitions: &[Definition<'a>],
+) -> Result<Vec<Definition<'a>>, AllocError>
+    ensures { IfOk result (λ found. named_entries found.items ≡ translations (named_entries definitions.now)) }
+{
+    let mut seen = BTreeSet::new(alloc);
+    let mut found = Vec::new(alloc);
+    for definition in definitions {
+        if !has_translation(definition.entry) {
+            continue;
+        }
+        if seen.insert(definition.entry.forms())? {
+            found.push(*definition)?;
+        }
+    }
+    Ok(found)
+}
+
+/// The largest count of forms of a translation.
+fn form_count(translations: &[Definition<'_>]) -> usize
+    ensures { result ≡ form_count (named_entries translations.now) }
+{
+    let mut count = 0;
+    for translation in translations {
+        count = count.max(translation.entry.forms().len());
+    }
+    count
+}
+
+/// Appends a form, with a LF at its end, behind a line that names its input.
+fn push_marked(joined: &mut Vec<u8>, name: &str, form: &[u8]) -> Result<(), AllocError>
+    ensures { OnOk result (joined.new.items ≡ joined.old.items ++ marked name.now form.now) }
+{
+    joined.extend_from_slice(b"#-#-#-#-#  ")?;
+    joined.extend_from_slice(name.as_bytes())?;
+    joined.extend_from_slice(b"  #-#-#-#-#\n")?;
+    joined.extend_from_slice(form)?;
+    if !form.ends_with(b"\n") {
+        joined.extend_from_slice(b"\n")?;
+    }
+    Ok(())
+}
+
+/// The forms of one index of the translations that have such a form.
+fn joined_form(
+    alloc: Global,
+    translations: &[Definition<'_>],
+    index: usize,
+) -> Result<Vec<u8>, AllocError>
+    ensures { IfOk result (λ form. form.items ≡ joined_form (named_entries translations.now) index) }
+{
+    let mut joined = Vec::new(alloc);
+    for translation in translations {
+        if let Some(form) = translation.entry.forms().get(index) {
+            push_marked(&mut joined, translation.name, form)?;
+        }
+    }
+    Ok(joined)
+}
+
+/// The translations that have a form of this index.
+fn longer<'a>(
+    alloc: Global,
+    translations: &[Definition<'a>],
+    index: usize,
+) -> Result<Vec<Definition<'a>>, AllocError>
+    ensures { IfOk result (λ found. named_entries found.items ≡ longer index (named_entries translations.now)) }
+{
+    let mut found = Vec::new(alloc);
+    for translation in translations {
+        if index < translation.entry.forms().len() {
+            found.push(*translation)?;
+        }
+    }
+    Ok(found)
+}
+
+/// The forms of the translations, joined index by index. Those that have no more forms are dropped on the way.
+pub(crate) fn joined_forms(
+    alloc: Global,
+    translations: Vec<Definition<'_>>,
+) -> Result<Vec<Vec<u8>>, AllocError>
+    ensures { IfOk result (λ forms. texts forms.items ≡ joined_forms (named_entries translations.entry.items)) }
+{
+    let count = form_count(&translations);
+    let mut translations = translations;
+    let mut forms = Vec::with_capacity(alloc, count)?;
+    for index in 0..count {
+        forms.push(joined_form(alloc, &translations, index)?)?;
+        translations = longer(alloc, &translations, index + 1)?;
+    }
+    Ok(forms)
+}

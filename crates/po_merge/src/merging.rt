@@ -1,0 +1,115 @@
+ghost use Rattle.std.specs.Prelude.{◌≡◌, ◌<◌, ◌++◌, ◌∷◌, [], length, All, IfOk, IfErr, OnOk, IsOkUnless};
+ghost use Rattle.po_entry.specs.Bytes.{Lacks};
+ghost use Rattle.po_entry.specs.Validity.{out_of_memory};
+ghost use Rattle.po_merge.specs.Grouping.{IsDefinition};
+ghost use Rattle.po_merge.specs.InputsView.{inputs_of, named_entries};
+ghost use Rattle.po_merge.specs.MergedEntry.{merged_entry};
+ghost use Rattle.po_merge.specs.Merged.{IsMergeFault, merged};
+
+use crate::collecting::comment_of;
+use crate::definition::{Definition, Part, definitions, first_with, is_kept};
+use crate::grouping::grouped;
+use crate::input::{MergeOptions, Named};
+use crate::joining::{joined_forms, translations};
+use po_catalog::{Catalogue, Entry};
+use po_entry::{copy_optional, copy_texts};
+use po_syntax::{CommentKind, PoError, PoFault};
+use std::alloc::{AllocError, Global};
+
+/// What the definitions of one message are merged to, where there are several.
+fn joined_entry(
+    alloc: Global,
+    options: &MergeOptions,
+    definitions: &[Definition<'_>],
+) -> Result<Entry, AllocError>
+    requires some { 0 < length definitions.now }
+    requires valid { All IsDefinition (named_entries definitions.now) }
+    ensures { IfOk result (λ entry. entry ≡ merged_entry options.now (named_entries definitions.now)) }
+{
+    let first = definitions[0].entry;
+    let taken = first_with(definitions, Part::Translation);
+    let translations = if options.use_first {
+        Vec::new(alloc)
+    } else {
+        translations(alloc, definitions)?
+    };
+    let is_joined = translations.len() > 1;
+    let forms = if is_joined {
+        joined_forms(alloc, translations)?
+    } else {
+        copy_texts(alloc, taken.forms())?
+    };
+    Ok(Entry::of_fields(
+        comment_of(alloc, options, CommentKind::Translator, definitions)?,
+        comment_of(alloc, options, CommentKind::Extracted, definitions)?,
+        comment_of(alloc, options, CommentKind::Reference, definitions)?,
+        is_joined || taken.fuzzy(),
+        comment_of(alloc, options, CommentKind::Flags, definitions)?,
+        first_with(definitions, Part::Previous)
+            .previous()
+            .copy(alloc)?,
+        copy_optional(alloc, first.context())?,
+        first.id().to_vec(alloc)?,
+        copy_optional(alloc, first_with(definitions, Part::Plural).plural())?,
+        forms,
+        first.obsolete(),
+        first.line(),
+    ))
+}
+
+/// What the definitions of one message are merged to.
+fn merged_entry(
+    alloc: Global,
+    options: &MergeOptions,
+    definitions: &[Definition<'_>],
+) -> Result<Entry, PoError>
+    requires some { 0 < length definitions.now }
+    requires valid { All IsDefinition (named_entries definitions.now) }
+    ensures entry { IfOk result (λ entry. entry ≡ merged_entry options.now (named_entries definitions.now)) }
+    ensures memory { IsOkUnless result out_of_memory }
+{
+    if definitions.len() == 1 {
+        definitions[0].entry.copy(alloc)
+    } else {
+        Ok(joined_entry(alloc, options, definitions)?)
+    }
+}
+
+/// Adds an entry to those that are merged. A header's charset that isn't admitted has no line.
+fn push_entry(catalogue: &mut Catalogue, entry: Entry) -> Result<(), PoError>
+    ensures pushed { OnOk result (catalogue.new ≡ catalogue.old ++ entry ∷ []) }
+    ensures fault { IfErr result (IsMergeFault (entry ∷ [])) }
+{
+    match catalogue.push(entry) {
+        Ok(()) => Ok(()),
+        Err((_entry, error)) => Err(PoError {
+            kind: error.kind,
+            line: 0,
+        }),
+    }
+}
+
+/// Merges catalogues, message by message: the entries of each message become one, which keeps what each of its
+/// definitions says, and marks what they say differently with the names of their inputs. The messages stand in the
+/// order in which they first appear. Refused with `ForeignCharset`, without a line, where a merged header names a
+/// charset that isn't admitted; and with `OutOfMemory`. (GNU gettext manual, "Invoking the msgcat Program".)
+pub fn merge<'a>(
+    alloc: Global,
+    inputs: &'a [Named<'a>],
+    options: &MergeOptions,
+) -> Result<Catalogue, PoError>
+    requires { All (λ input. Lacks 0 input.name.now) inputs.now }
+    ensures merged { IfOk result (λ catalogue. catalogue ≡ merged options.now (inputs_of inputs.now)) }
+    ensures fault { IfErr result (IsMergeFault (merged options.now (inputs_of inputs.now))) }
+{
+    let mut merged = Catalogue::new(alloc);
+    for group in grouped(alloc, inputs)? {
+        let definitions = definitions(group);
+        if !is_kept(&definitions, options) {
+            continue;
+        }
+        let entry = merged_entry(alloc, options, &definitions)?;
+        push_entry(&mut merged, entry)?;
+    }
+    Ok(merged)
+}
