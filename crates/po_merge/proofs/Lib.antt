@@ -4,3 +4,4 @@ pub mod Sets
 pub mod Grouped
 pub mod Inputs
 pub mod Views
+pub mod Steps

@@ -31,7 +31,8 @@ fn push_others<'a>(
     seen: &BTreeSet<&'a [u8]>,
     others: &'a [Vec<u8>],
 ) -> Result<(), AllocError>
-    ensures { HasTexts seen.now (texts done.old.items) → OnOk result (texts done.new.items ≡ with_others (texts done.old.items) (texts others.now)) }
+    requires { HasTexts seen.now (texts done.old.items) }
+    ensures { OnOk result (texts done.new.items ≡ with_others (texts done.old.items) (texts others.now)) }
 {
     for text in others {
         if !seen.contains(&text.as_slice()) {

@@ -12,4 +12,4 @@ pub returns : goal.returns
 returns c =
     let past = c.loop-definition-test.false in
     let none = rw take_all at c.loop-definition.invariant in
-    first_without (has_part c.args.part) c.args.definitions.now ? c.requires ? none
+    first_without (has_part c.args.part) c.args.definitions.now c.index-definitions-0.result c.requires c.index-definitions-0.is none

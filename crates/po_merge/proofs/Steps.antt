@@ -1,0 +1,100 @@
+-- What one more text or definition adds.
+use Rattle.std.proofs.Common.{◌≡◌, ℕ, ◌+◌, ◌<◌, Bool, true, false, cond, not, ◌||◌, List, [], ◌∷◌, ◌++◌, Option, Some, None, refl, sym, ap, ap₂, ◌∙◌, subst, map, filter, fold, take, get_or, length, append_assoc, append-nil, nat_lt, max, ◌≤◌, zero, suc, arith}
+use Rattle.std.specs.Prelude.{slice_get, if◌then◌else◌}
+use Rattle.std.specs.List.{list_any, flat_map}
+use Rattle.std.specs.Option.{option_map_or}
+use Rattle.std.specs.Str.{bytes_eq}
+use Rattle.std.specs.Global.{Vec}
+use Rattle.std.proofs.lemmas.List.{take_more, map-append}
+use Rattle.std.proofs.lemmas.List.Elements.{filter-append}
+use Rattle.std.proofs.lemmas.Bool.{ltb-false}
+use Rattle.po_entry.specs.TextEntry.{TextEntry, texts}
+use Rattle.po_catalog.specs.Statistics.{has_translation}
+use Rattle.po_merge.specs.declared.definition.Definition.{Definition}
+use Rattle.po_merge.specs.Inputs.{NamedEntry}
+use Rattle.po_merge.specs.InputsView.{named_entry, named_entries}
+use Rattle.po_merge.specs.Groups.{with_new, first_ones}
+use Rattle.po_merge.specs.MergedEntry.{with_others, collected, same_forms, translations, form_count, joined_form, marked}
+use Rattle.po_merge.specs.Sets.{longer}
+use Rattle.po_merge.proofs.FirstOnes.{fold_push}
+
+pub others_more : (done now : List (List ℕ)) (others : List (Vec ℕ)) (i : ℕ) (x : Vec ℕ) (b : Bool) → i < length others → x ≡ get_or others i x → list_any (bytes_eq x.items) done ≡ b
+    → now ≡ done ++ filter (λ t. not (list_any (bytes_eq t) done)) (texts (take i others))
+    → cond b now (now ++ x.items ∷ []) ≡ done ++ filter (λ t. not (list_any (bytes_eq t) done)) (texts (take (i + 1) others))
+others_more done now others i x b below at met is =
+    found b met ∙ sym (ap (λ (l : List (List ℕ)). done ++ filter P l) whole ∙ ap (λ (l : List (List ℕ)). done ++ l) (filter-append P (texts (take i others)) (x.items ∷ []))) where
+  P : List ℕ → Bool
+  P t = not (list_any (bytes_eq t) done)
+  whole : texts (take (i + 1) others) ≡ texts (take i others) ++ x.items ∷ []
+  whole = ap texts (take_more others i x below ∙ ap (λ (v : Vec ℕ). take i others ++ v ∷ []) (sym at)) ∙ map-append (λ (v : Vec ℕ). v.items) (take i others) (x ∷ [])
+  found : (c : Bool) → list_any (bytes_eq x.items) done ≡ c → cond c now (now ++ x.items ∷ []) ≡ done ++ (filter (λ t. not (list_any (bytes_eq t) done)) (texts (take i others)) ++ filter (λ t. not (list_any (bytes_eq t) done)) (x.items ∷ []))
+  found true e = is ∙ ap (λ (l : List (List ℕ)). done ++ l) (sym (ap (λ (c : Bool). filter (λ t. not (list_any (bytes_eq t) done)) (texts (take i others)) ++ cond (not c) (x.items ∷ []) []) e ∙ append-nil _))
+  found false e =
+      ap (λ (l : List (List ℕ)). l ++ x.items ∷ []) is ∙ append_assoc done (filter (λ t. not (list_any (bytes_eq t) done)) (texts (take i others))) (x.items ∷ [])
+      ∙ ap (λ (l : List (List ℕ)). done ++ l) (sym (ap (λ (c : Bool). filter (λ t. not (list_any (bytes_eq t) done)) (texts (take i others)) ++ cond (not c) (x.items ∷ []) []) e))
+
+pub texts_more : (others : List (Vec ℕ)) (i : ℕ) (x : Vec ℕ) → i < length others → x ≡ get_or others i x → texts (take (i + 1) others) ≡ texts (take i others) ++ x.items ∷ []
+texts_more others i x below at = ap texts (take_more others i x below ∙ ap (λ (v : Vec ℕ). take i others ++ v ∷ []) (sym at)) ∙ map-append (λ (v : Vec ℕ). v.items) (take i others) (x ∷ [])
+
+pub named_more : (ds : List Definition) (i : ℕ) (d : Definition) → i < length ds → d ≡ get_or ds i d → named_entries (take (i + 1) ds) ≡ named_entries (take i ds) ++ named_entry d ∷ []
+named_more ds i d below at = ap named_entries (take_more ds i d below ∙ ap (λ (x : Definition). take i ds ++ x ∷ []) (sym at)) ∙ map-append named_entry (take i ds) (d ∷ [])
+
+pub collected_more : (texts_of : TextEntry → List (List ℕ)) (ds : List Definition) (i : ℕ) (d : Definition) → i < length ds → d ≡ get_or ds i d
+    → collected texts_of (named_entries (take (i + 1) ds)) ≡ with_others (collected texts_of (named_entries (take i ds))) (texts_of d.entry.now)
+collected_more texts_of ds i d below at =
+    ap (collected texts_of) (named_more ds i d below at) ∙ fold_push (λ (done : List (List ℕ)) (x : NamedEntry). with_others done (texts_of x.entry)) [] (named_entries (take i ds)) (named_entry d)
+
+pub translations_more : (ds : List Definition) (i : ℕ) (d : Definition) (b c : Bool) → i < length ds → d ≡ get_or ds i d → has_translation d.entry.now ≡ b
+    → list_any (same_forms (named_entry d)) (translations (named_entries (take i ds))) ≡ c
+    → translations (named_entries (take (i + 1) ds)) ≡ cond b (cond c (translations (named_entries (take i ds))) (translations (named_entries (take i ds)) ++ named_entry d ∷ [])) (translations (named_entries (take i ds)))
+translations_more ds i d b c below at translated met =
+    ap translations (named_more ds i d below at) ∙ ap (first_ones same_forms) (filter-append (λ (x : NamedEntry). has_translation x.entry) (named_entries (take i ds)) (named_entry d ∷ [])) ∙ found b translated where
+  found : (t : Bool) → has_translation d.entry.now ≡ t
+      → first_ones same_forms (filter (λ x. has_translation x.entry) (named_entries (take i ds)) ++ filter (λ x. has_translation x.entry) (named_entry d ∷ []))
+      ≡ cond t (cond c (translations (named_entries (take i ds))) (translations (named_entries (take i ds)) ++ named_entry d ∷ [])) (translations (named_entries (take i ds)))
+  found true e =
+      ap (λ (t : Bool). first_ones same_forms (filter (λ x. has_translation x.entry) (named_entries (take i ds)) ++ cond t (named_entry d ∷ []) [])) e
+      ∙ fold_push (with_new same_forms) [] (filter (λ x. has_translation x.entry) (named_entries (take i ds))) (named_entry d)
+      ∙ ap (λ (t : Bool). if t then translations (named_entries (take i ds)) else translations (named_entries (take i ds)) ++ named_entry d ∷ []) met
+  found false e =
+      ap (λ (t : Bool). first_ones same_forms (filter (λ x. has_translation x.entry) (named_entries (take i ds)) ++ cond t (named_entry d ∷ []) [])) e
+      ∙ ap (first_ones same_forms) (append-nil (filter (λ x. has_translation x.entry) (named_entries (take i ds))))
+
+pub form_count_more : (ds : List Definition) (i : ℕ) (d : Definition) → i < length ds → d ≡ get_or ds i d → form_count (named_entries (take (i + 1) ds)) ≡ max (form_count (named_entries (take i ds))) (length d.entry.now.forms)
+form_count_more ds i d below at = ap form_count (named_more ds i d below at) ∙ fold_push (λ (count : ℕ) (t : NamedEntry). max count (length t.entry.forms)) 0 (named_entries (take i ds)) (named_entry d)
+
+flat_map_push : {X A : Type 0} (f : X → List A) (xs : List X) (x : X) → flat_map f (xs ++ x ∷ []) ≡ flat_map f xs ++ f x
+flat_map_push f [] x = append-nil (f x)
+flat_map_push f (y ∷ xs) x = ap (λ (l : List _). f y ++ l) (flat_map_push f xs x) ∙ sym (append_assoc (f y) (flat_map f xs) (f x))
+
+pub joined_form_more : (ds : List Definition) (i index : ℕ) (d : Definition) (form : Option (List ℕ)) → i < length ds → d ≡ get_or ds i d → slice_get d.entry.now.forms index ≡ form
+    → joined_form (named_entries (take (i + 1) ds)) index ≡ joined_form (named_entries (take i ds)) index ++ option_map_or (marked d.name.now) form []
+joined_form_more ds i index d form below at is =
+    ap (λ (l : List NamedEntry). joined_form l index) (named_more ds i d below at)
+    ∙ flat_map_push (λ (t : NamedEntry). option_map_or (marked t.name) (slice_get t.entry.forms index) []) (named_entries (take i ds)) (named_entry d)
+    ∙ ap (λ (o : Option (List ℕ)). joined_form (named_entries (take i ds)) index ++ option_map_or (marked d.name.now) o []) is
+
+pub longer_more : (ds : List Definition) (i index : ℕ) (d : Definition) (b : Bool) → i < length ds → d ≡ get_or ds i d → nat_lt index (length d.entry.now.forms) ≡ b
+    → longer index (named_entries (take (i + 1) ds)) ≡ cond b (longer index (named_entries (take i ds)) ++ named_entry d ∷ []) (longer index (named_entries (take i ds)))
+longer_more ds i index d b below at is =
+    ap (longer index) (named_more ds i d below at) ∙ filter-append (λ (t : NamedEntry). nat_lt index (length t.entry.forms)) (named_entries (take i ds)) (named_entry d ∷ [])
+    ∙ ap (λ (t : Bool). longer index (named_entries (take i ds)) ++ cond t (named_entry d ∷ []) []) is ∙ found b where
+  found : (t : Bool) → longer index (named_entries (take i ds)) ++ cond t (named_entry d ∷ []) [] ≡ cond t (longer index (named_entries (take i ds)) ++ named_entry d ∷ []) (longer index (named_entries (take i ds)))
+  found true = refl
+  found false = append-nil (longer index (named_entries (take i ds)))
+
+-- dropping what has no form of this index, nor of a later one, changes no such form
+pub longer_keeps : (index j : ℕ) (ts : List NamedEntry) → index ≤ j → joined_form (longer index ts) j ≡ joined_form ts j
+longer_keeps index j [] h = refl
+longer_keeps index j (t ∷ ts) h = found (nat_lt index (length t.entry.forms)) refl (longer_keeps index j ts h) where
+  nothing : (forms : List (List ℕ)) (k : ℕ) → length forms ≤ k → slice_get forms k ≡ None
+  nothing [] k l = refl
+  nothing (f ∷ forms) zero l = absurd (omega (arith, l))
+  nothing (f ∷ forms) (suc k) l = let less : length forms ≤ k = omega (arith, l) in nothing forms k less
+  found : (b : Bool) → nat_lt index (length t.entry.forms) ≡ b → joined_form (longer index ts) j ≡ joined_form ts j
+      → joined_form (cond b (t ∷ longer index ts) (longer index ts)) j ≡ option_map_or (marked t.name) (slice_get t.entry.forms j) [] ++ joined_form ts j
+  found true e more = ap (λ (l : List ℕ). option_map_or (marked t.name) (slice_get t.entry.forms j) [] ++ l) more
+  found false e more =
+      let short : length t.entry.forms ≤ index = ltb-false index (length t.entry.forms) e in
+      let none : length t.entry.forms ≤ j = omega (arith, short, h) in
+      more ∙ ap (λ (o : Option (List ℕ)). option_map_or (marked t.name) o [] ++ joined_form ts j) (sym (nothing t.entry.forms j none))

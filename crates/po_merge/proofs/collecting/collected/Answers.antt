@@ -1,0 +1,23 @@
+use Rattle.std.proofs.Common.{◌≡◌, sym, ap, ap₂, ◌∙◌, refl, ◌++◌, ◌∷◌, [], subst, take, List, ℕ}
+use Rattle.std.specs.List.{list_any}
+use Rattle.std.proofs.lemmas.List.{take_all}
+use Rattle.po_entry.specs.TextEntry.{texts}
+use Rattle.po_merge.specs.InputsView.{named_entries}
+use Rattle.po_merge.specs.MergedEntry.{collected, texts_of, with_others}
+use Rattle.po_merge.specs.Sets.{HasTexts}
+use Rattle.po_merge.proofs.Sets.{same_texts_met}
+use Rattle.po_merge.proofs.Steps.{collected_more}
+use Rattle.po_merge.proofs.collecting.collected.Goals as goal
+
+pub loop-definition-init : goal.loop-definition-init
+loop-definition-init c = record { are_collected = ap texts c.new-all.ensures.items; met = λ q. ? }
+
+pub loop-definition-preserved : goal.loop-definition-preserved
+loop-definition-preserved c =
+    let of_kind = texts_of c.args.kind in
+    let i = c.loop-definition.definition-index in
+    let more : texts c.push_others.new.done.items ≡ with_others (texts c.loop-definition.all.items) (texts c.texts_of-others.result.now) = c.in_ok-push_others.ensures in
+    record {
+      are_collected = more ∙ ap₂ with_others c.loop-definition.invariant.are_collected c.texts_of-others.ensures ∙ sym (collected_more of_kind c.args.definitions.now i c.definition-item.result c.loop-definition-test.true c.definition-item.is);
+      met = subst (HasTexts c.note_texts.new.seen) (sym more) (same_texts_met c.note_texts.new.seen (texts c.loop-definition.all.items) (texts c.texts_of-others.result.now) (c.in_ok-note_texts.ensures (texts c.loop-definition.all.items) c.loop-definition.invariant.met));
+    }
