@@ -5,3 +5,4 @@ pub mod Grouped
 pub mod Inputs
 pub mod Views
 pub mod Steps
+pub mod Valid

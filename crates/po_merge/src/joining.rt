@@ -2,7 +2,7 @@ ghost use Rattle.std.specs.Prelude.{◌≡◌, ◌<◌, ◌++◌, length, IfOk, 
 ghost use Rattle.po_entry.specs.TextEntry.{texts};
 ghost use Rattle.po_merge.specs.InputsView.{named_entries};
 ghost use Rattle.po_merge.specs.Sets.{longer};
-ghost use Rattle.po_merge.specs.MergedEntry.{form_count, joined_form, joined_forms, marked, translations};
+ghost use Rattle.po_merge.specs.MergedEntry.{ended, form_count, joined_form, joined_forms, marked, translations};
 
 use crate::definition::Definition;
 use po_catalog::has_translation;
@@ -22,9 +22,10 @@ pub(crate) fn translations<'a>(
         if !has_translation(definition.entry) {
             continue;
         }
-        if seen.insert(definition.entry.forms())? {
-            found.push(*definition)?;
+        if !seen.insert(definition.entry.forms())? {
+            continue;
         }
+        found.push(*definition)?;
     }
     Ok(found)
 }
@@ -40,18 +41,25 @@ fn form_count(translations: &[Definition<'_>]) -> usize
     count
 }
 
-/// Appends a form, with a LF at its end, behind a line that names its input.
+/// Appends a form, with a LF at its end.
+fn push_ended(joined: &mut Vec<u8>, form: &[u8]) -> Result<(), AllocError>
+    ensures { OnOk result (joined.new.items ≡ joined.old.items ++ ended form.now) }
+{
+    joined.extend_from_slice(form)?;
+    if form.ends_with(b"\n") {
+        return Ok(());
+    }
+    joined.extend_from_slice(b"\n")
+}
+
+/// Appends a form, with a LF at its end, after a line that names its input.
 fn push_marked(joined: &mut Vec<u8>, name: &str, form: &[u8]) -> Result<(), AllocError>
     ensures { OnOk result (joined.new.items ≡ joined.old.items ++ marked name.now form.now) }
 {
     joined.extend_from_slice(b"#-#-#-#-#  ")?;
     joined.extend_from_slice(name.as_bytes())?;
     joined.extend_from_slice(b"  #-#-#-#-#\n")?;
-    joined.extend_from_slice(form)?;
-    if !form.ends_with(b"\n") {
-        joined.extend_from_slice(b"\n")?;
-    }
-    Ok(())
+    push_ended(joined, form)
 }
 
 /// The forms of one index of the translations that have such a form.
@@ -64,9 +72,10 @@ fn joined_form(
 {
     let mut joined = Vec::new(alloc);
     for translation in translations {
-        if let Some(form) = translation.entry.forms().get(index) {
-            push_marked(&mut joined, translation.name, form)?;
-        }
+        let Some(form) = translation.entry.forms().get(index) else {
+            continue;
+        };
+        push_marked(&mut joined, translation.name, form)?;
     }
     Ok(joined)
 }

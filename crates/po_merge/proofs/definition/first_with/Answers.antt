@@ -1,4 +1,4 @@
-use Rattle.std.proofs.Common.{◌∙◌, sym, arith, refl}
+use Rattle.std.proofs.Common.{◌∙◌, sym, ap, arith, refl}
 use Rattle.std.proofs.lemmas.List.{take_all}
 use Rattle.po_merge.specs.Parts.{has_part}
 use Rattle.po_merge.proofs.Views.{first_at, first_without}
@@ -12,4 +12,4 @@ pub returns : goal.returns
 returns c =
     let past = c.loop-definition-test.false in
     let none = rw take_all at c.loop-definition.invariant in
-    first_without (has_part c.args.part) c.args.definitions.now c.index-definitions-0.result c.requires c.index-definitions-0.is none
+    ap (λ d. d.entry.now) (sym c.index-definitions-0.is) ∙ first_without (has_part c.args.part) c.args.definitions.now c.index-definitions-0.result c.requires c.index-definitions-0.is none

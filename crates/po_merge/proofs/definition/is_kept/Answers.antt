@@ -10,7 +10,7 @@ use Rattle.po_merge.proofs.definition.is_kept.Goals as goal
 pub returns-then-has_header : goal.returns-then-has_header
 returns-then-has_header c =
     let some : list_any (λ d. is_header d.entry) (named_entries c.args.definitions.now) ≡ true = sym (any_named is_header c.args.definitions.now) ∙ sym c.has_header.ensures ∙ c.if-has_header.true in
-    rw some refl
+    rw some c.if-has_header.true
 
 pub returns-else-has_header : goal.returns-else-has_header
 returns-else-has_header c =

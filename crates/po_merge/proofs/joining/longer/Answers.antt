@@ -1,0 +1,1 @@
+use Rattle.po_merge.proofs.joining.longer.Goals as goal
