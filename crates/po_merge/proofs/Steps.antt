@@ -1,6 +1,6 @@
 -- What one more text or definition adds.
 use Rattle.std.proofs.Common.{◌≡◌, ℕ, ◌+◌, ◌<◌, Bool, true, false, cond, not, ◌||◌, List, [], ◌∷◌, ◌++◌, Option, Some, None, refl, sym, ap, ap₂, ◌∙◌, subst, map, filter, fold, take, get_or, length, append_assoc, append-nil, nat_lt, max, ◌≤◌, zero, suc, arith}
-use Rattle.std.specs.Prelude.{slice_get, option_map, if◌then◌else◌}
+use Rattle.std.specs.Prelude.{slice_get, if◌then◌else◌}
 use Rattle.std.specs.List.{list_any, flat_map}
 use Rattle.std.specs.Option.{option_map_or}
 use Rattle.std.specs.Str.{bytes_eq}
@@ -99,7 +99,12 @@ longer_keeps index j (t ∷ ts) h = found (nat_lt index (length t.entry.forms)) 
       let none : length t.entry.forms ≤ j = omega (arith, short, h) in
       more ∙ ap (λ (o : Option (List ℕ)). option_map_or (marked t.name) o [] ++ joined_form ts j) (sym (nothing t.entry.forms j none))
 
-pub slice_get-texts : (forms : List (Vec ℕ)) (i : ℕ) → slice_get (texts forms) i ≡ option_map (λ (v : Vec ℕ). v.items) (slice_get forms i)
-slice_get-texts [] i = refl
-slice_get-texts (f ∷ forms) zero = refl
-slice_get-texts (f ∷ forms) (suc i) = slice_get-texts forms i
+pub form_at : (forms : List (Vec ℕ)) (i : ℕ) (v : Vec ℕ) → i < length forms → v ≡ get_or forms i v → slice_get (texts forms) i ≡ Some v.items
+form_at [] i v l e = absurd (omega (arith, l))
+form_at (f ∷ forms) zero v l e = ap (λ (x : Vec ℕ). Some x.items) (sym e)
+form_at (f ∷ forms) (suc i) v l e = let less : i < length forms = omega (arith, l) in form_at forms i v less e
+
+pub no_form : (forms : List (Vec ℕ)) (i : ℕ) → length forms ≤ i → slice_get (texts forms) i ≡ None
+no_form [] i l = refl
+no_form (f ∷ forms) zero l = absurd (omega (arith, l))
+no_form (f ∷ forms) (suc i) l = let less : length forms ≤ i = omega (arith, l) in no_form forms i less

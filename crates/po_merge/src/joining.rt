@@ -34,7 +34,7 @@ pub(crate) fn translations<'a>(
 fn form_count(translations: &[Definition<'_>]) -> usize
     ensures { result ≡ form_count (named_entries translations.now) }
 {
-    let mut count = 0;
+    let mut count = 0_usize;
     for translation in translations {
         count = count.max(translation.entry.forms().len());
     }
@@ -59,7 +59,8 @@ fn push_marked(joined: &mut Vec<u8>, name: &str, form: &[u8]) -> Result<(), Allo
     joined.extend_from_slice(b"#-#-#-#-#  ")?;
     joined.extend_from_slice(name.as_bytes())?;
     joined.extend_from_slice(b"  #-#-#-#-#\n")?;
-    push_ended(joined, form)
+    push_ended(joined, form)?;
+    Ok(())
 }
 
 /// The forms of one index of the translations that have such a form.
@@ -72,10 +73,11 @@ fn joined_form(
 {
     let mut joined = Vec::new(alloc);
     for translation in translations {
-        let Some(form) = translation.entry.forms().get(index) else {
+        let forms = translation.entry.forms();
+        if index >= forms.len() {
             continue;
-        };
-        push_marked(&mut joined, translation.name, form)?;
+        }
+        push_marked(&mut joined, translation.name, &forms[index])?;
     }
     Ok(joined)
 }

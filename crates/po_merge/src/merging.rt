@@ -1,9 +1,10 @@
 ghost use Rattle.std.specs.Prelude.{◌≡◌, ◌<◌, ◌++◌, ◌∷◌, [], length, All, IfOk, IfErr, OnOk, IsOkUnless};
 ghost use Rattle.po_entry.specs.Bytes.{Lacks};
+ghost use Rattle.po_entry.specs.TextEntry.{texts};
 ghost use Rattle.po_entry.specs.Validity.{out_of_memory};
 ghost use Rattle.po_merge.specs.Grouping.{IsDefinition};
 ghost use Rattle.po_merge.specs.InputsView.{inputs_of, named_entries};
-ghost use Rattle.po_merge.specs.MergedEntry.{merged_entry};
+ghost use Rattle.po_merge.specs.MergedEntry.{merged_entry, taken};
 ghost use Rattle.po_merge.specs.Merged.{IsMergeFault, merged};
 
 use crate::collecting::comment_of;
@@ -16,6 +17,39 @@ use po_entry::{copy_optional, copy_texts};
 use po_syntax::{CommentKind, PoError, PoFault};
 use std::alloc::{AllocError, Global};
 
+/// The forms of the first translation, or else of the first definition, and whether that definition is fuzzy.
+fn taken_forms(
+    alloc: Global,
+    definitions: &[Definition<'_>],
+) -> Result<(Vec<Vec<u8>>, bool), AllocError>
+    requires { 0 < length definitions.now }
+    ensures forms { IfOk result (λ r. texts r.0.items ≡ (taken (named_entries definitions.now)).forms) }
+    ensures fuzzy { IfOk result (λ r. r.1 ≡ (taken (named_entries definitions.now)).fuzzy) }
+{
+    let taken = first_with(definitions, Part::Translation);
+    Ok((copy_texts(alloc, taken.forms())?, taken.fuzzy()))
+}
+
+/// The forms that the definitions are merged to, and whether these are fuzzy.
+fn merged_forms(
+    alloc: Global,
+    options: &MergeOptions,
+    definitions: &[Definition<'_>],
+) -> Result<(Vec<Vec<u8>>, bool), AllocError>
+    requires { 0 < length definitions.now }
+    ensures forms { IfOk result (λ r. texts r.0.items ≡ (merged_entry options.now (named_entries definitions.now)).forms) }
+    ensures fuzzy { IfOk result (λ r. r.1 ≡ (merged_entry options.now (named_entries definitions.now)).fuzzy) }
+{
+    if options.use_first {
+        return taken_forms(alloc, definitions);
+    }
+    let found = translations(alloc, definitions)?;
+    if found.len() < 2 {
+        return taken_forms(alloc, definitions);
+    }
+    Ok((joined_forms(alloc, found)?, true))
+}
+
 /// What the definitions of one message are merged to, where there are several.
 fn joined_entry(
     alloc: Global,
@@ -27,23 +61,12 @@ fn joined_entry(
     ensures { IfOk result (λ entry. entry ≡ merged_entry options.now (named_entries definitions.now)) }
 {
     let first = definitions[0].entry;
-    let taken = first_with(definitions, Part::Translation);
-    let translations = if options.use_first {
-        Vec::new(alloc)
-    } else {
-        translations(alloc, definitions)?
-    };
-    let is_joined = translations.len() > 1;
-    let forms = if is_joined {
-        joined_forms(alloc, translations)?
-    } else {
-        copy_texts(alloc, taken.forms())?
-    };
+    let (forms, fuzzy) = merged_forms(alloc, options, definitions)?;
     Ok(Entry::of_fields(
         comment_of(alloc, options, CommentKind::Translator, definitions)?,
         comment_of(alloc, options, CommentKind::Extracted, definitions)?,
         comment_of(alloc, options, CommentKind::Reference, definitions)?,
-        is_joined || taken.fuzzy(),
+        fuzzy,
         comment_of(alloc, options, CommentKind::Flags, definitions)?,
         first_with(definitions, Part::Previous)
             .previous()
