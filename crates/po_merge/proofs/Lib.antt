@@ -6,3 +6,5 @@ pub mod Inputs
 pub mod Views
 pub mod Steps
 pub mod Valid
+pub mod OneDefinition
+pub mod GroupsMerged

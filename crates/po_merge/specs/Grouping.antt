@@ -1,5 +1,5 @@
 -- Internal: entries that are grouped by their messages.
-use Rattle.std.specs.Prelude.{◌≡◌, ℕ, Bool, ◌&&◌, cond, suc, List, [], ◌∷◌, map, Option, Some, None, option_map, bytes_eq, IsUtf8}
+use Rattle.std.specs.Prelude.{◌≡◌, ℕ, ◌<◌, All, length, Bool, ◌&&◌, cond, suc, List, [], ◌∷◌, map, Option, Some, None, option_map, bytes_eq, IsUtf8}
 use Rattle.std.specs.Option.{option_eq, option_copied, option_cmp}
 use Rattle.std.specs.Ordering.{ordering_then, nat_cmp}
 use Rattle.std.specs.declared.cmp.Ordering.{Ordering}
@@ -20,6 +20,11 @@ pub record IsDefinition (definition : NamedEntry) : Type 0 where
   pub valid : IsEntry definition.entry
   pub utf8 : IsUtf8 definition.name
   pub no_nul : Lacks 0 definition.name
+
+-- a group has an entry, and its entries are valid
+pub record IsGroup (group : List NamedEntry) : Type 0 where
+  pub some : 0 < length group
+  pub valid : All IsDefinition group
 
 -- the context and the msgid of a message, as the code holds them
 abbrev pub Message : Type 0

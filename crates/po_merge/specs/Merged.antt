@@ -28,9 +28,13 @@ is_kept o ds = list_any (λ d. is_header d.entry) ds || is_wanted o (length ds)
 abbrev pub messages : List Input → List (List NamedEntry)
 messages inputs = map definitions (groups (all_entries inputs))
 
--- one entry for each message that is kept
+-- one entry for each message that is kept, by its definitions
+abbrev pub merged_messages : MergeOptions → List (List NamedEntry) → List TextEntry
+merged_messages o messages = map (merged_entry o) (filter (is_kept o) messages)
+
+-- what the inputs are merged to
 abbrev pub merged : MergeOptions → List Input → List TextEntry
-merged o inputs = map (merged_entry o) (filter (is_kept o) (messages inputs))
+merged o inputs = merged_messages o (messages inputs)
 
 -- why entries can't stand in a catalogue: a header's charset isn't admitted, or an allocation failed
 abbrev pub IsMergeFault : List TextEntry → PoError → Type 0

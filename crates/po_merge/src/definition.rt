@@ -1,8 +1,7 @@
-ghost use Rattle.std.specs.Prelude.{◌≡◌, ◌<◌, ◌||◌, length, is_some};
+ghost use Rattle.std.specs.Prelude.{◌≡◌, ◌<◌, ◌||◌, length, is_some, filter, IfOk};
 ghost use Rattle.std.specs.List.{list_any};
 ghost use Rattle.po_catalog.specs.Joined.{is_live};
 ghost use Rattle.po_entry.specs.Header.{is_header};
-ghost use Rattle.po_merge.specs.Groups.{definitions};
 ghost use Rattle.po_merge.specs.InputsView.{named_entries};
 ghost use Rattle.po_merge.specs.Merged.{is_kept, is_wanted};
 ghost use Rattle.po_merge.specs.MergedEntry.{first_with};
@@ -10,6 +9,7 @@ ghost use Rattle.po_merge.specs.Parts.{has_part};
 
 use crate::input::MergeOptions;
 use po_catalog::{Entry, Previous, has_translation};
+use std::alloc::{AllocError, Global};
 
 /// An entry of one of several inputs, with that input's name.
 #[derive(Clone, Copy)]
@@ -28,20 +28,26 @@ fn is_live(entry: &Entry) -> bool
 }
 
 /// Whether one of the entries is live.
-fn has_live(group: &[Definition<'_>]) -> bool
+pub(crate) fn has_live(group: &[Definition<'_>]) -> bool
     ensures { result ≡ list_any (λ d. is_live d.entry.now) group.now }
 {
     group.iter().any(|definition| is_live(definition.entry))
 }
 
-/// What defines the message of a group: its live entries, or all where none is live.
-pub(crate) fn definitions<'a>(mut group: Vec<Definition<'a>>) -> Vec<Definition<'a>>
-    ensures { named_entries result.items ≡ definitions (named_entries group.entry.items) }
+/// The live ones of some entries.
+pub(crate) fn live<'a>(
+    alloc: Global,
+    group: &[Definition<'a>],
+) -> Result<Vec<Definition<'a>>, AllocError>
+    ensures { IfOk result (λ found. named_entries found.items ≡ filter (λ d. is_live d.entry) (named_entries group.now)) }
 {
-    if has_live(&group) {
-        group.retain(|definition| is_live(definition.entry));
+    let mut found = Vec::with_capacity(alloc, group.len())?;
+    for definition in group {
+        if is_live(definition.entry) {
+            found.push(*definition)?;
+        }
     }
-    group
+    Ok(found)
 }
 
 /// Whether one of the definitions is a header.

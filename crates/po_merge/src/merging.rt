@@ -1,14 +1,15 @@
-ghost use Rattle.std.specs.Prelude.{◌≡◌, ◌<◌, ◌++◌, ◌∷◌, [], length, All, IfOk, IfErr, OnOk, IsOkUnless};
+ghost use Rattle.std.specs.Prelude.{◌≡◌, ◌<◌, ◌++◌, ◌∷◌, [], length, All, IfOk, IfErr, OnOk, IsOkUnless, map};
 ghost use Rattle.po_entry.specs.Bytes.{Lacks};
 ghost use Rattle.po_entry.specs.TextEntry.{texts};
 ghost use Rattle.po_entry.specs.Validity.{out_of_memory};
-ghost use Rattle.po_merge.specs.Grouping.{IsDefinition};
+ghost use Rattle.po_merge.specs.Grouping.{IsDefinition, IsGroup, group_entries};
 ghost use Rattle.po_merge.specs.InputsView.{inputs_of, named_entries};
 ghost use Rattle.po_merge.specs.MergedEntry.{merged_entry, taken};
-ghost use Rattle.po_merge.specs.Merged.{IsMergeFault, merged};
+ghost use Rattle.po_merge.specs.Groups.{definitions};
+ghost use Rattle.po_merge.specs.Merged.{IsMergeFault, merged, merged_messages};
 
 use crate::collecting::comment_of;
-use crate::definition::{Definition, Part, definitions, first_with, is_kept};
+use crate::definition::{Definition, Part, first_with, has_live, is_kept, live};
 use crate::grouping::grouped;
 use crate::input::{MergeOptions, Named};
 use crate::joining::{joined_forms, translations};
@@ -105,11 +106,69 @@ fn push_entry(catalogue: &mut Catalogue, entry: Entry) -> Result<(), PoError>
 {
     match catalogue.push(entry) {
         Ok(()) => Ok(()),
-        Err((_entry, error)) => Err(PoError {
-            kind: error.kind,
+        Err(refused) => Err(PoError {
+            kind: refused.1.kind,
             line: 0,
         }),
     }
+}
+
+/// Adds what the definitions of one message are merged to, where the message is kept.
+fn push_message(
+    alloc: Global,
+    merged: &mut Catalogue,
+    options: &MergeOptions,
+    definitions: &[Definition<'_>],
+) -> Result<(), PoError>
+    requires some { 0 < length definitions.now }
+    requires valid { All IsDefinition (named_entries definitions.now) }
+    ensures pushed { OnOk result (merged.new ≡ merged.old ++ merged_messages options.now (named_entries definitions.now ∷ [])) }
+    ensures fault { IfErr result (IsMergeFault (merged_messages options.now (named_entries definitions.now ∷ []))) }
+{
+    if !is_kept(definitions, options) {
+        return Ok(());
+    }
+    let entry = merged_entry(alloc, options, definitions)?;
+    push_entry(merged, entry)
+}
+
+/// Adds what the entries of one message are merged to, where the message is kept.
+fn push_group(
+    alloc: Global,
+    merged: &mut Catalogue,
+    options: &MergeOptions,
+    group: &[Definition<'_>],
+) -> Result<(), PoError>
+    requires some { 0 < length group.now }
+    requires valid { All IsDefinition (named_entries group.now) }
+    ensures pushed { OnOk result (merged.new ≡ merged.old ++ merged_messages options.now (definitions (named_entries group.now) ∷ [])) }
+    ensures fault { IfErr result (IsMergeFault (merged_messages options.now (definitions (named_entries group.now) ∷ []))) }
+{
+    if has_live(group) {
+        let live = live(alloc, group)?;
+        return push_message(alloc, merged, options, &live);
+    }
+    push_message(alloc, merged, options, group)
+}
+
+/// What the entries of all messages are merged to.
+fn merge_groups(
+    alloc: Global,
+    groups: &[Vec<Definition<'_>>],
+    options: &MergeOptions,
+) -> Result<Catalogue, PoError>
+    requires { All IsGroup (group_entries groups.now) }
+    ensures merged { IfOk result (λ catalogue. catalogue ≡ merged_messages options.now (map definitions (group_entries groups.now))) }
+    ensures fault { IfErr result (IsMergeFault (merged_messages options.now (map definitions (group_entries groups.now)))) }
+{
+    let mut merged = Catalogue::new(alloc);
+    for group in groups {
+        match push_group(alloc, &mut merged, options, group) {
+            Ok(()) => {}
+            Err(error) => return Err(error),
+        }
+    }
+    Ok(merged)
 }
 
 /// Merges catalogues, message by message: the entries of each message become one, which keeps what each of its
@@ -125,14 +184,6 @@ pub fn merge<'a>(
     ensures merged { IfOk result (λ catalogue. catalogue ≡ merged options.now (inputs_of inputs.now)) }
     ensures fault { IfErr result (IsMergeFault (merged options.now (inputs_of inputs.now))) }
 {
-    let mut merged = Catalogue::new(alloc);
-    for group in grouped(alloc, inputs)? {
-        let definitions = definitions(group);
-        if !is_kept(&definitions, options) {
-            continue;
-        }
-        let entry = merged_entry(alloc, options, &definitions)?;
-        push_entry(&mut merged, entry)?;
-    }
-    Ok(merged)
+    let groups = grouped(alloc, inputs)?;
+    merge_groups(alloc, &groups, options)
 }

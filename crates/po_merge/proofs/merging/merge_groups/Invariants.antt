@@ -1,0 +1,7 @@
+use Rattle.std.proofs.Common.{◌≡◌, take}
+use Rattle.po_merge.proofs.GroupsMerged.{of_groups}
+use Rattle.po_merge.proofs.merging.merge_groups.Given as goal
+
+-- the groups so far are merged
+abbrev pub invariant-loop-group : goal.invariant-loop-group
+invariant-loop-group l = l.merged ≡ of_groups l.options (take l.group-index l.groups)
