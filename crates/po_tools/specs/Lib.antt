@@ -16,3 +16,4 @@ pub mod Msgattrib
 pub mod RunLaws
 pub mod Inputs
 pub mod Msgunfmt
+pub mod Msgcat

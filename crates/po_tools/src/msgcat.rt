@@ -1,0 +1,148 @@
+ghost use Rattle.std.specs.Prelude.{◌≡◌, ◌≢◌, ◌⊎◌, All, Err, IfErr, IfOk, List, MatchResult, OnErr};
+ghost use Rattle.po_entry.specs.Bytes.{Lacks};
+ghost use Rattle.po_merge.specs.Inputs.{Input};
+ghost use Rattle.po_merge.specs.InputsView.{inputs_of};
+ghost use Rattle.po_merge.specs.Merged.{merged};
+ghost use Rattle.po_catalog.specs.Duplicate.{entry_memory};
+ghost use Rattle.po_tools.specs.Msgcat.{AreReadAs, IsFileFault, IsMsgcatRun, IsUnread, first_name, msgcat_line, written_run};
+ghost use Rattle.po_tools.specs.NamedFile.{named_files};
+ghost use Rattle.po_tools.specs.Run.{refusal, report};
+
+use crate::fault_text::{push_place, push_po_text};
+use crate::program_fault::ProgramFault;
+use crate::run::Run;
+use po_catalog::{Catalogue, write};
+use po_compile::read_distinct;
+use po_merge::{MergeOptions, Named, merge};
+use po_shell::ToolFault;
+use po_syntax::{PoError, PoFault};
+use std::alloc::Global;
+
+/// Why a file isn't read.
+#[derive(Clone, Copy)]
+struct FileFault<'a> {
+    /// The file's name.
+    name: &'a str,
+    /// The first fault of its text; without a line where an allocation failed.
+    error: PoError,
+}
+
+/// Reads the files, up to the first that isn't read.
+fn read_files<'a>(
+    alloc: Global,
+    files: &[(&'a str, &[u8])],
+) -> Result<Vec<Named<'a>>, FileFault<'a>>
+    requires { All (λ file. Lacks 0 file.name) (named_files files.now) }
+    ensures read { IfOk result (λ inputs. AreReadAs (named_files files.now) (inputs_of inputs.items)) }
+    ensures names { IfOk result (λ inputs. All (λ input. Lacks 0 input.name.now) inputs.items) }
+    ensures fault { IfErr result (λ fault. (fault.error ≡ entry_memory) ⊎ IsFileFault (named_files files.now) fault.name.now fault.error) }
+{
+    let mut inputs = Vec::new(alloc);
+    for (name, text) in files {
+        let catalogue = match read_distinct(alloc, text) {
+            Ok(catalogue) => catalogue,
+            Err(error) => return Err(FileFault { name, error }),
+        };
+        let pushed = inputs.push(Named { name, catalogue });
+        match pushed {
+            Ok(()) => {}
+            Err(_) => return Err(FileFault {
+                name,
+                error: PoError {
+                    kind: PoFault::OutOfMemory,
+                    line: 0,
+                },
+            }),
+        }
+    }
+    Ok(inputs)
+}
+
+/// The run of files that aren't merged.
+fn refused_run(alloc: Global, name: &str, error: PoError) -> Result<Run, ToolFault>
+    ensures run { IfOk result (λ run. (error.kind ≢ PoFault.OutOfMemory) × (report run ≡ refusal (msgcat_line name.now error))) }
+    ensures memory { OnErr result (result ≡ Err ToolFault.OutOfMemory) }
+{
+    if error.kind == PoFault::OutOfMemory {
+        return Err(ToolFault::OutOfMemory);
+    }
+    let mut messages = Vec::new(alloc);
+    push_place(&mut messages, "msgcat", name, error.line)?;
+    push_po_text(&mut messages, error.kind)?;
+    messages.extend_from_slice(b"\n")?;
+    Ok(Run {
+        output: Vec::new(alloc),
+        create: false,
+        messages,
+        status: 1,
+    })
+}
+
+/// The run of a catalogue that is written.
+fn written_run(alloc: Global, catalogue: &Catalogue) -> Result<Run, ToolFault>
+    ensures run { IfOk result (λ run. report run ≡ written_run catalogue.now) }
+    ensures memory { OnErr result (result ≡ Err ToolFault.OutOfMemory) }
+{
+    let create = catalogue.entries().len() > 0;
+    match write(alloc, catalogue) {
+        Ok(output) => Ok(Run {
+            output,
+            create,
+            messages: Vec::new(alloc),
+            status: 0,
+        }),
+        Err(_) => Err(ToolFault::OutOfMemory),
+    }
+}
+
+/// The name of the first file.
+fn first_name<'a>(files: &[(&'a str, &[u8])]) -> &'a str
+    ensures { result.now ≡ first_name (named_files files.now) }
+{
+    match files {
+        [(name, _), ..] => name,
+        [] => "",
+    }
+}
+
+/// What `msgcat` writes and reports of its inputs, each with its name: the text of the catalogue that they are merged
+/// to, where it has an entry. An input that isn't read, the first of them, is told by one line, with status 1, and else
+/// a charset that isn't admitted, with the first input's name. Refused only where an allocation failed.
+pub fn plan_msgcat(
+    alloc: Global,
+    inputs: &[(&str, &[u8])],
+    options: &MergeOptions,
+) -> Result<Run, ToolFault>
+    requires { All (λ file. Lacks 0 file.name) (named_files inputs.now) }
+    ensures run { IfOk result (λ run. IsMsgcatRun (named_files inputs.now) options.now (report run)) }
+    ensures memory { OnErr result (result ≡ Err ToolFault.OutOfMemory) }
+{
+    let catalogues = match read_files(alloc, inputs) {
+        Ok(catalogues) => catalogues,
+        Err(fault) => return refused_run(alloc, fault.name, fault.error),
+    };
+    match merge(alloc, &catalogues, options) {
+        Ok(merged) => written_run(alloc, &merged),
+        Err(error) => refused_run(alloc, first_name(inputs), error),
+    }
+}
+
+/// What `msgcat` comes to where the input after these can't be read: the refusal of these, or where they are read that
+/// input's fault. `OutOfMemory` may come in place of any answer.
+pub fn plan_msgcat_before<'a>(
+    alloc: Global,
+    inputs: &[(&str, &[u8])],
+    fault: ProgramFault<'a>,
+) -> Result<Run, ProgramFault<'a>>
+    requires { All (λ file. Lacks 0 file.name) (named_files inputs.now) }
+    ensures refused { IfOk result (λ run. IsUnread (named_files inputs.now) (report run)) }
+    ensures fault { IfErr result (λ told. (told ≡ ProgramFault.OutOfMemory) ⊎ ((told ≡ fault.entry) × ((read : List Input) × AreReadAs (named_files inputs.now) read))) }
+{
+    match read_files(alloc, inputs) {
+        Ok(_) => Err(fault),
+        Err(unread) => match refused_run(alloc, unread.name, unread.error) {
+            Ok(run) => Ok(run),
+            Err(_) => Err(ProgramFault::OutOfMemory),
+        },
+    }
+}
