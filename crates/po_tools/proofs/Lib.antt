@@ -6,3 +6,4 @@ pub mod FirstFaults
 pub mod OneRun
 pub mod InputLemmas
 pub mod MsgunfmtLemmas
+pub mod MsgcatLemmas

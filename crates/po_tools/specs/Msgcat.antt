@@ -68,4 +68,4 @@ pub record IsMerged (files : List NamedFile) (o : MergeOptions) (run : Report) :
 
 -- what a run of msgcat comes to
 abbrev pub IsMsgcatRun : List NamedFile → MergeOptions → Report → Type 0
-IsMsgcatRun files o run = IsUnread files run ⊎ IsForeign files o run ⊎ IsMerged files o run
+IsMsgcatRun files o run = IsUnread files run ⊎ (IsForeign files o run ⊎ IsMerged files o run)

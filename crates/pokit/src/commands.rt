@@ -1,5 +1,6 @@
 // The words that each tool takes, as `clap` commands.
-use clap::{Arg, ArgAction, Command};
+use clap::{Arg, ArgAction, Command, value_parser};
+use po_tools::STANDARD;
 use std::alloc::{AllocError, Global};
 
 /// The MO file that msgfmt writes where the words name none.
@@ -7,7 +8,15 @@ pub(crate) const DEFAULT_OUTPUT: &str = "messages.mo";
 
 static BYTE_ORDERS: [&str; 2] = ["little", "big"];
 
-static TOOLS: [&str; 6] = ["msgfmt", "msgunfmt", "msgattrib", "gettext", "ngettext", "envsubst"];
+static TOOLS: [&str; 7] = [
+    "msgfmt",
+    "msgunfmt",
+    "msgattrib",
+    "msgcat",
+    "gettext",
+    "ngettext",
+    "envsubst",
+];
 
 /// The tool that a word names, where it names one.
 pub(crate) fn tool_of(word: &str) -> Option<&'static str> {
@@ -25,6 +34,7 @@ pub(crate) fn program<'a>(alloc: Global, first: Option<&str>) -> Result<Command<
         Some("msgfmt") => program.subcommand(msgfmt(alloc)?),
         Some("msgunfmt") => program.subcommand(msgunfmt(alloc)?),
         Some("msgattrib") => program.subcommand(msgattrib(alloc)?),
+        Some("msgcat") => program.subcommand(msgcat(alloc)?),
         Some("gettext") => program.subcommand(gettext(alloc)?),
         Some("ngettext") => program.subcommand(ngettext(alloc)?),
         Some("envsubst") => program.subcommand(envsubst(alloc)?),
@@ -32,6 +42,7 @@ pub(crate) fn program<'a>(alloc: Global, first: Option<&str>) -> Result<Command<
             .subcommand(msgfmt(alloc)?)?
             .subcommand(msgunfmt(alloc)?)?
             .subcommand(msgattrib(alloc)?)?
+            .subcommand(msgcat(alloc)?)?
             .subcommand(gettext(alloc)?)?
             .subcommand(ngettext(alloc)?)?
             .subcommand(envsubst(alloc)?),
@@ -130,6 +141,47 @@ fn changes<'a>(alloc: Global, command: Command<'a>) -> Result<Command<'a>, Alloc
             "obsolete",
             "Stand for --only-obsolete --clear-obsolete",
         ))
+}
+
+fn msgcat<'a>(alloc: Global) -> Result<Command<'a>, AllocError> {
+    Command::new(alloc, "msgcat")
+        .about("Merges PO texts, message by message")
+        .arg(
+            words(alloc, "FILE", "PO texts to merge; - is standard input")
+                .num_args(1..)
+                .required(true),
+        )?
+        .arg(
+            value(
+                alloc,
+                "output-file",
+                "FILE",
+                "PO file to write; - is standard output",
+            )
+            .short('o')
+            .default_value(STANDARD),
+        )?
+        .arg(flag(alloc, "no-wrap", "Wrap no lines, as always"))?
+        .arg(
+            value(
+                alloc,
+                "more-than",
+                "N",
+                "Keep messages with more definitions than N",
+            )
+            .value_parser(value_parser!(u32)),
+        )?
+        .arg(
+            value(
+                alloc,
+                "less-than",
+                "N",
+                "Keep messages with fewer definitions than N",
+            )
+            .value_parser(value_parser!(u32)),
+        )?
+        .arg(flag(alloc, "unique", "Keep messages with one definition").short('u'))?
+        .arg(flag(alloc, "use-first", "Take the first translation"))
 }
 
 fn gettext<'a>(alloc: Global) -> Result<Command<'a>, AllocError> {

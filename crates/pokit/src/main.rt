@@ -49,6 +49,7 @@ fn run_tool(rt: &HostRuntime, matches: &ArgMatches<'_>) -> ExitCode {
         return ExitCode::FAILURE;
     };
     let outcome = match tool {
+        "msgcat" => tools::msgcat::run(rt.alloc(), rt, rt.stderr(), matches),
         "msgfmt" => tools::msgfmt::run(rt.alloc(), rt, rt.stderr(), matches),
         "msgattrib" => tools::msgattrib::run(rt.alloc(), rt, rt.stderr(), matches),
         "msgunfmt" => tools::msgunfmt::run(rt.alloc(), rt, rt.stderr(), matches),

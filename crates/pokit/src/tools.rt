@@ -2,6 +2,7 @@
 pub(crate) mod envsubst;
 pub(crate) mod gettext;
 pub(crate) mod msgattrib;
+pub(crate) mod msgcat;
 pub(crate) mod msgfmt;
 pub(crate) mod msgunfmt;
 pub(crate) mod ngettext;
