@@ -9,17 +9,8 @@ use Rattle.std.proofs.lemmas.List.Sums.{prefix_len_passes, prefix_len_stops}
 use Rattle.std.proofs.lemmas.Slice.Eq.{bytes_eq-Decides}
 use Rattle.std.proofs.lemmas.Str.{IsUtf8-take, IsUtf8-drop, IsUtf8-past_char, IsCharBoundary-after_ascii}
 use lib.Utf8.{encode}
+use Rattle.po_syntax.specs.CleanLine.{IsCleanLine, AreCleanLines}
 use Rattle.po_syntax.specs.PoText.{HasNoNul, lines_of, without_mark}
-
--- UTF-8 on one line, without NUL
-pub record IsCleanLine (line : List ℕ) : Type 0 where
-  pub utf8 : IsUtf8 line
-  pub no_nul : All (λ b. b ≢ 0) line
-  pub one_line : All (λ b. b ≢ 10) line
-
-abbrev pub AreCleanLines : List (List ℕ) → Type 0
-AreCleanLines [] = Unit {0}
-AreCleanLines (line ∷ lines) = IsCleanLine line × AreCleanLines lines
 
 abbrev is_feed : ℕ → Bool
 is_feed b = b == 10

@@ -16,7 +16,8 @@ use Rattle.po_syntax.specs.PoText.{SpellsLines, SpellsText}
 use Rattle.po_syntax.specs.QuotedString.{Step, End, Byte, Stop, digit_count, number_step, letter_value, letter_step, escape_at, step_at, IsQuoted, ended, spelt}
 use Rattle.po_syntax.specs.TextItem.{TextItem}
 use Rattle.po_syntax.specs.Token.{skip_blanks}
-use Rattle.po_syntax.proofs.CleanLines.{IsCleanLine, AreCleanLines, clean_lines}
+use Rattle.po_syntax.specs.CleanLine.{IsCleanLine, AreCleanLines}
+use Rattle.po_syntax.proofs.CleanLines.{clean_lines}
 use Rattle.po_syntax.proofs.QuotedStrings.{byte-rest, end-rest}
 use Rattle.po_syntax.proofs.Lines.{tokens-rest}
 use Rattle.po_syntax.proofs.Tokens.{skip_blanks-rest, key-rest, open-rest}
@@ -187,7 +188,7 @@ tokens_texts (string {text = text} e quoted more) h =
     let read = quoted_nonzero quoted (All-rest (λ b. b ≢ 0) text h (open-rest text e)) in
     All-cons HoldsText _ _ read.0 (tokens_texts more read.1)
 
-line_texts : {number : ℕ} {line : List ℕ} {items : List TextItem} → SpellsLine number line items → IsCleanLine line → All HoldsText items
+pub line_texts : {number : ℕ} {line : List ℕ} {items : List TextItem} → SpellsLine number line items → IsCleanLine line → All HoldsText items
 line_texts (comment {text = line} {rest = rest} {kind = kind} e) clean = All-cons HoldsText _ [] (comment_text line kind rest clean (note-sound line e)) no_items
 line_texts (tokens {text = line} e h) clean = tokens_texts h (All-rest (λ b. b ≢ 0) line clean.no_nul (tokens-rest line e))
 

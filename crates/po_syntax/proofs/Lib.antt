@@ -18,3 +18,4 @@ pub mod SpeltEscapes
 pub mod SpeltKeywords
 pub mod SpeltLines
 pub mod FaultyLines
+pub mod PieceLemmas

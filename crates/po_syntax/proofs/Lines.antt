@@ -73,7 +73,7 @@ tokens-few (none e) = omega arith
 tokens-few (word {text = text} e h) = omega (arith, key-shorter text e, tokens-few h)
 tokens-few (string {text = text} e q h) = omega (arith, open-shorter text e, quoted-shorter q, tokens-few h)
 
-line-few : {line : ℕ} {text : List ℕ} {items : List TextItem} → SpellsLine line text items → length items ≤ length text
+pub line-few : {line : ℕ} {text : List ℕ} {items : List TextItem} → SpellsLine line text items → length items ≤ length text
 line-few (comment {text = text} e) = omega (arith, comment-some text e)
 line-few (tokens {text = text} e h) = omega (arith, rest-le text (tokens-rest text e), tokens-few h)
 

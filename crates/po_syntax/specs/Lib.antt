@@ -9,4 +9,6 @@ pub mod LineFaults
 pub mod CodeView
 pub mod ItemText
 pub mod PoText
+pub mod CleanLine
+pub mod LinesLeft
 pub mod QuotedForm

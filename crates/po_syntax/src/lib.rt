@@ -7,6 +7,7 @@ mod fault;
 mod item;
 pub mod laws;
 mod line;
+mod pieces;
 mod quoted_string;
 mod quoting;
 mod text;
@@ -14,5 +15,6 @@ mod token;
 
 pub use crate::fault::{PoError, PoFault};
 pub use crate::item::{CommentKind, Item, Keyword, Marks};
+pub use crate::pieces::Pieces;
 pub use crate::quoting::quote;
 pub use crate::text::items;

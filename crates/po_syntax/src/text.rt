@@ -1,5 +1,5 @@
-ghost use Rattle.std.specs.Prelude.{◌≡◌, ◌≢◌, ◌+◌, ◌<◌, ◌≤◌, ◌^◌, ◌∷◌, [], length, vec_len, IfOk, IfErr, IfSome, OnOk, MatchOption};
-ghost use Rattle.po_syntax.specs.PoText.{SpellsText, TextFault, SpellsLines, LinesStop, line_number, without_mark, lines_of};
+ghost use Rattle.std.specs.Prelude.{◌≡◌, ◌≢◌, ◌+◌, ◌<◌, ◌≤◌, ◌^◌, ◌∷◌, [], length, vec_len, IfOk, IfErr, IfSome, OnOk, IsUtf8, MatchOption};
+ghost use Rattle.po_syntax.specs.PoText.{SpellsText, TextFault, IsSmall, HasNoNul, SpellsLines, LinesStop, line_number, without_mark, lines_of};
 ghost use Rattle.po_syntax.specs.Line.{SpellsLine, LineStops};
 ghost use Rattle.po_syntax.specs.CodeView.{AddsItems};
 ghost use Rattle.po_syntax.specs.TextItem.{views};
@@ -37,10 +37,11 @@ fn line_number(text: &[u8], place: usize) -> u32
 }
 
 /// Cuts off the first line: its text, and what stands behind its LF, if it has one.
-fn first_line(text: &[u8]) -> (&[u8], Option<&[u8]>)
+pub(crate) fn first_line(text: &[u8]) -> (&[u8], Option<&[u8]>)
     ensures cut { MatchOption result.1 (lines_of text.now ≡ result.0.now ∷ [])
         (λ rest. lines_of text.now ≡ result.0.now ∷ lines_of rest.now) }
-    ensures less { IfSome result.1 (λ rest. length rest.now < length text.now) }
+    ensures within { length result.0.now ≤ length text.now }
+    ensures less { IfSome result.1 (λ rest. length result.0.now + length rest.now < length text.now) }
 {
     let Some(end) = memchr(b'\n', text) else {
         return (text, None);
@@ -50,7 +51,7 @@ fn first_line(text: &[u8]) -> (&[u8], Option<&[u8]>)
 }
 
 /// Appends the items of the line with this number, and tells its fault with the number.
-fn add_numbered_line<'a>(
+pub(crate) fn add_numbered_line<'a>(
     alloc: Global,
     items: &mut Vec<Item<'a>>,
     text: &'a [u8],
@@ -94,18 +95,14 @@ fn read_lines(alloc: Global, text: &[u8]) -> Result<Vec<Item<'_>>, PoError>
     }
 }
 
-/// Reads the items of a PO text (manual, "The Format of PO Files").
-///
-/// Refusals, the first that holds: `TooLarge`, without a line, above 2,147,483,647 bytes; `NotUtf8`
-/// at the first byte that is not; `ForbiddenByte` at the first NUL; then the leftmost fault of a
-/// line, `BadToken`, `BadEscape`, `ForbiddenByte` for an escape of value 0, `BadPluralIndex`, or
-/// `UnterminatedString` on the line of its opening quote. `OutOfMemory`, without a line, may come
-/// in place of any answer.
-pub fn items(alloc: Global, text: &[u8]) -> Result<Vec<Item<'_>>, PoError>
-    ensures found { IfOk result (λ items. SpellsText text.now (views items.items)) }
-    ensures fault { IfErr result (λ e. e.kind ≢ PoFault.OutOfMemory → TextFault text.now e.kind e.line) }
-    ensures memory { IfErr result (λ e. e.kind ≡ PoFault.OutOfMemory → e.line ≡ 0) }
-    ensures few { IfOk result (λ items. vec_len items ≤ length text.now) }
+/// The text after a byte order mark at its start, where the whole is within its limit, UTF-8 and without NUL.
+pub(crate) fn checked(text: &[u8]) -> Result<&[u8], PoError>
+    ensures found { IfOk result (λ rest. rest.now ≡ without_mark text.now) }
+    ensures small { OnOk result (IsSmall text.now) }
+    ensures utf8 { OnOk result (IsUtf8 text.now) }
+    ensures no_nul { OnOk result (HasNoNul text.now) }
+    ensures fault { IfErr result (λ e. TextFault text.now e.kind e.line) }
+    ensures memory { IfErr result (λ e. e.kind ≢ PoFault.OutOfMemory) }
 {
     if text.len() > MAX_LEN {
         return Err(PoError {
@@ -127,5 +124,22 @@ pub fn items(alloc: Global, text: &[u8]) -> Result<Vec<Item<'_>>, PoError>
             line,
         });
     }
-    read_lines(alloc, without_mark(text))
+    Ok(without_mark(text))
+}
+
+/// Reads the items of a PO text (manual, "The Format of PO Files").
+///
+/// Refusals, the first that holds: `TooLarge`, without a line, above 2,147,483,647 bytes; `NotUtf8`
+/// at the first byte that is not; `ForbiddenByte` at the first NUL; then the leftmost fault of a
+/// line, `BadToken`, `BadEscape`, `ForbiddenByte` for an escape of value 0, `BadPluralIndex`, or
+/// `UnterminatedString` on the line of its opening quote. `OutOfMemory`, without a line, may come
+/// in place of any answer.
+pub fn items(alloc: Global, text: &[u8]) -> Result<Vec<Item<'_>>, PoError>
+    ensures found { IfOk result (λ items. SpellsText text.now (views items.items)) }
+    ensures fault { IfErr result (λ e. e.kind ≢ PoFault.OutOfMemory → TextFault text.now e.kind e.line) }
+    ensures memory { IfErr result (λ e. e.kind ≡ PoFault.OutOfMemory → e.line ≡ 0) }
+    ensures few { IfOk result (λ items. vec_len items ≤ length text.now) }
+{
+    let text = checked(text)?;
+    read_lines(alloc, text)
 }
