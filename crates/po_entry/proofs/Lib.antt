@@ -9,3 +9,4 @@ pub mod Spelt
 pub mod SpeltReads
 pub mod CharsetNames
 pub mod ListedWords
+pub mod JoinedPieces

@@ -2,6 +2,7 @@
 use Rattle.std.specs.Prelude.{ℕ, List, All, IfSome, IsUtf8}
 use Rattle.po_syntax.specs.TextItem.{TextItem}
 use Rattle.po_syntax.specs.PoText.{SpellsText}
+use Rattle.po_syntax.specs.LinesLeft.{LinesLeft, SpellsLeft}
 use Rattle.po_entry.specs.TextEntry.{TextEntry, quoted_texts}
 use Rattle.po_entry.specs.Bytes.{Lacks}
 use Rattle.po_entry.specs.Header.{HasAdmittedCharset}
@@ -21,6 +22,14 @@ pub record HasReadableTexts (entry : TextEntry) : Type 0 where
 pub record ReadsText (text : List ℕ) (entries : List TextEntry) : Type 0 where
   pub items : List TextItem
   pub spelt : SpellsText text items
+  pub reads : SpellsEntries items entries
+  pub texts : All HasReadableTexts entries
+  pub charsets : All HasAdmittedCharset entries
+
+-- the lines of a text that are left read as these entries
+pub record ReadsLeft (left : LinesLeft) (entries : List TextEntry) : Type 0 where
+  pub items : List TextItem
+  pub spelt : SpellsLeft left items
   pub reads : SpellsEntries items entries
   pub texts : All HasReadableTexts entries
   pub charsets : All HasAdmittedCharset entries

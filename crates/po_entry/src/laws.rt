@@ -1,5 +1,6 @@
 //! Laws of the definitions, each on an empty function: a crate that rests on one calls it.
-ghost use Rattle.std.specs.Prelude.{◌≡◌, ◌↔◌, ℕ, List, Decides};
+ghost use Rattle.std.specs.Prelude.{◌≡◌, ◌↔◌, ◌++◌, ℕ, List, Decides};
+ghost use Rattle.po_syntax.specs.LinesLeft.{EndsInString};
 ghost use Rattle.po_syntax.specs.TextItem.{TextItem};
 ghost use Rattle.po_entry.specs.TextEntry.{TextEntry, SameButLine};
 ghost use Rattle.po_entry.specs.Charset.{NamesCharset};
@@ -47,4 +48,12 @@ pub fn flags_are_listed()
 pub fn flags_are_kept_once()
     ensures { (notes : List Note) (flags : List (List ℕ))
         → (flags ≡ flags_of notes) ↔ KeepsFlags (flag_words_of notes) flags }
+{}
+
+/// The items of two pieces of a text, joined, spell the entries of both, joined, where those of the
+/// first end in a string: no comments are left for the entry after them.
+pub fn joined_pieces()
+    ensures { (prefix rest : List TextItem) (first others : List TextEntry)
+        → SpellsEntries prefix first → EndsInString prefix → SpellsEntries rest others
+        → SpellsEntries (prefix ++ rest) (first ++ others) }
 {}

@@ -1,0 +1,26 @@
+-- The items of two pieces of a text, joined, where those of the first end in a string.
+use Rattle.std.proofs.Common.{◌≡◌, refl, sym, List, [], ◌∷◌, ◌++◌, append_assoc}
+use Rattle.po_syntax.specs.LinesLeft.{EndsInString}
+use Rattle.po_syntax.specs.TextItem.{TextItem, Comment, Word, Str}
+use Rattle.po_entry.specs.TextEntry.{TextEntry}
+use Rattle.po_entry.specs.Spelling.{AreComments, SpellsEntries, comments, entries}
+
+-- what is left of items that end in a string ends in it
+ends_rest : (own items : List TextItem) → EndsInString (own ++ items) → EndsInString items
+ends_rest [] items h = h
+ends_rest (item ∷ own) [] h = tt
+ends_rest (item ∷ []) (next ∷ items) h = h
+ends_rest (item ∷ second ∷ own) (next ∷ items) h = ends_rest (second ∷ own) (next ∷ items) h
+
+no_comment_last : (items : List TextItem) → AreComments items → EndsInString items → items ≡ []
+no_comment_last [] c h = refl
+no_comment_last (Comment kind text line ∷ []) c h = absurd h
+no_comment_last (Comment kind text line ∷ next ∷ items) c h =
+    let none : next ∷ items ≡ [] = no_comment_last (next ∷ items) c.1 h in absurd (cc)
+no_comment_last (Word keyword marks line ∷ items) c h = absurd c.0
+no_comment_last (Str bytes marks line ∷ items) c h = absurd c.0
+
+pub entries_joined : {prefix rest : List TextItem} {first others : List TextEntry} → SpellsEntries prefix first → EndsInString prefix → SpellsEntries rest others → SpellsEntries (prefix ++ rest) (first ++ others)
+entries_joined (comments {items = items} c) ends g = rw (no_comment_last items c ends) g
+entries_joined (entries {own = own} {items = items} entry more) ends g =
+    rw append_assoc (entries entry (entries_joined more (ends_rest own items ends) g))
