@@ -5,7 +5,7 @@ ghost use Rattle.po_entry.specs.Validity.{IsCatalogueEntry, IsRefusedEntry};
 use crate::charset::has_admitted_charset;
 use crate::entry::Entry;
 use po_syntax::{PoError, PoFault};
-use std::alloc::Global;
+use std::alloc::{AllocError, Global};
 use std::marker::Model;
 
 /// A catalogue: a list of entries, in which the charset of each header, live or obsolete, is
@@ -84,6 +84,15 @@ impl Catalogue {
                 },
             )),
         }
+    }
+
+    /// Moves the entries of another catalogue after its own. Where memory is out, it stays as it was.
+    pub fn append(&mut self, mut other: Catalogue) -> Result<(), AllocError>
+        ensures ok { OnOk result (self.new ≡ self.old ++ other) }
+        ensures unchanged { OnErr result (self.new ≡ self.old) }
+    {
+        let entries = &mut self.entries;
+        entries.append(&mut other.entries)
     }
 
     /// The entries, in order, without their catalogue.

@@ -28,3 +28,4 @@ pub mod Totality
 pub mod Readable
 pub mod TextEnds
 pub mod NoMemory
+pub mod PieceReading

@@ -4,3 +4,5 @@ pub mod Seen
 pub mod Heads
 pub mod Faults
 pub mod Drafts
+pub mod ItemsRead
+pub mod Refusals

@@ -5,11 +5,14 @@
 mod body;
 mod drafts;
 mod head;
+mod items;
 pub mod laws;
 mod notes;
+mod piecewise;
 mod place;
 mod reading;
 mod strings;
 mod words;
 
-pub use crate::reading::read;
+pub use crate::piecewise::{Refusal, next_catalogue};
+pub use crate::reading::{PIECE, read, read_in_pieces, read_whole};

@@ -3,7 +3,7 @@ use Rattle.po_entry.specs.Validity.{HasTexts}
 use Rattle.std.proofs.Common.{refl}
 use Rattle.po_reader.specs.Drafts.DraftsStop.{here, later}
 use Rattle.po_reader.proofs.Loops.{drop_here, asked_more, asked_all}
-use Rattle.po_reader.proofs.reading.check_drafts.Goals as goal
+use Rattle.po_reader.proofs.items.check_drafts.Goals as goal
 
 pub returns-in-Err-clause-fault : goal.returns-in-Err-clause-fault
 returns-in-Err-clause-fault c =

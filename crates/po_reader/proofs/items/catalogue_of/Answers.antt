@@ -8,7 +8,7 @@ use Rattle.po_entry.specs.EntryText.{entry_of}
 use Rattle.po_entry.specs.Header.{HasAdmittedCharset}
 use Rattle.po_reader.specs.Faults.CharsetStops.{here, later}
 use Rattle.po_reader.proofs.Loops.{drop_here, take_here, asked_more, asked_all}
-use Rattle.po_reader.proofs.reading.catalogue_of.Goals as goal
+use Rattle.po_reader.proofs.items.catalogue_of.Goals as goal
 
 pub loop-draft-preserved : goal.loop-draft-preserved
 loop-draft-preserved c =

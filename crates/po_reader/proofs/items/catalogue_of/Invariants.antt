@@ -3,7 +3,7 @@ use Rattle.std.specs.Prelude.{All}
 use Rattle.po_entry.specs.EntryText.{entry_of}
 use Rattle.po_entry.specs.Header.{HasAdmittedCharset}
 use Rattle.po_reader.specs.Faults.{CharsetStops}
-use Rattle.po_reader.proofs.reading.catalogue_of.Given as goal
+use Rattle.po_reader.proofs.items.catalogue_of.Given as goal
 
 abbrev pub invariant-loop-draft : goal.invariant-loop-draft
 invariant-loop-draft l = record {

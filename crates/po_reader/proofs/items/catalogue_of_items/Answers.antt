@@ -1,34 +1,27 @@
-use Rattle.std.proofs.Common.{map}
+use Rattle.std.proofs.Common.{map, arith}
 use Rattle.std.proofs.lemmas.Result.{err_from_is_err_and}
 use Rattle.po_syntax.specs.TextItem.{views}
 use Rattle.po_entry.specs.EntryText.{entry_of}
-use Rattle.po_entry.specs.Reads.{ReadsText}
 use Rattle.po_entry.proofs.Spelt.{reads_spelt}
-use Rattle.po_reader.specs.Faults.IsReadFault.{in_text, in_items, in_texts, in_charset}
-use Rattle.po_reader.proofs.StopFaults.{items_fault}
+use Rattle.po_reader.specs.ItemsRead.{ReadsItems, in_items, in_texts, in_charset}
 use Rattle.po_reader.proofs.SoundItems.{items_sound}
 use Rattle.po_reader.proofs.SoundCatalogue.{entries_sound, drafts_valid, all_readable, stops_readable, draft_kind}
 use Rattle.po_reader.proofs.Results.{ok_step, ok_same, err_step}
-use Rattle.po_reader.proofs.reading.read.Goals as goal
-
-pub returns-in_err-items-clause-fault : goal.returns-in_err-items-clause-fault
-returns-in_err-items-clause-fault c =
-    let p = err_from_is_err_and c.from_residual.result c.from_residual.ensures.1 in
-    rw (p.1, p.2) (λ other. in_text (c.in_err-items.ensures.fault other))
+use Rattle.po_reader.proofs.items.catalogue_of_items.Goals as goal
 
 pub returns-in_err-drafts-clause-fault : goal.returns-in_err-drafts-clause-fault
 returns-in_err-drafts-clause-fault c =
-    let p = err_from_is_err_and c.from_residual-in_err-drafts.result c.from_residual-in_err-drafts.ensures.1 in
+    let p = err_from_is_err_and c.from_residual.result c.from_residual.ensures.1 in
     let stops = rw (c.last_line.ensures, c.deref.ensures.value, c.deref-2.ensures.value) at c.in_err-drafts.ensures.fault in
-    rw (p.1, p.2) (λ other. in_items c.in_ok-items.ensures.found (items_fault (stops other)))
+    rw (p.1, p.2) (λ other. in_items (stops other))
 
 pub returns-in_err-check_drafts-clause-fault : goal.returns-in_err-check_drafts-clause-fault
 returns-in_err-check_drafts-clause-fault c =
     let p = err_from_is_err_and c.from_residual-in_err-check_drafts.result c.from_residual-in_err-check_drafts.ensures.1 in
     let reads = rw c.deref.ensures.value at c.in_ok-drafts.ensures.found in
-    let sound = entries_sound reads (items_sound _ (c.items_hold_text.ensures _ _ c.in_ok-items.ensures.found)) in
+    let sound = entries_sound reads (items_sound _ c.requires.hold) in
     let stops = rw c.deref-3.ensures.value at c.in_err-check_drafts.ensures.fault in
-    rw (p.1, p.2) (λ other. in_texts c.in_ok-items.ensures.found (reads_spelt reads) (stops_readable stops sound))
+    rw (p.1, p.2) (λ other. in_texts (reads_spelt reads) (stops_readable stops sound))
 
 pub returns-in_err-check_drafts-clause-memory : goal.returns-in_err-check_drafts-clause-memory
 returns-in_err-check_drafts-clause-memory c =
@@ -38,7 +31,7 @@ returns-in_err-check_drafts-clause-memory c =
 pub catalogue_of-requires : goal.catalogue_of-requires
 catalogue_of-requires c =
     let reads = rw c.deref.ensures.value at c.in_ok-drafts.ensures.found in
-    let sound = entries_sound reads (items_sound _ (c.items_hold_text.ensures _ _ c.in_ok-items.ensures.found)) in
+    let sound = entries_sound reads (items_sound _ c.requires.hold) in
     let asked = rw c.deref-3.ensures.value at c.in_ok-check_drafts.ensures.ok in
     drafts_valid _ sound asked
 
@@ -47,12 +40,12 @@ returns-clause-found c =
     let reads = rw c.deref.ensures.value at c.in_ok-drafts.ensures.found in
     let asked = rw c.deref-3.ensures.value at c.in_ok-check_drafts.ensures.ok in
     let readable = all_readable c.in_ok-drafts.drafts.items asked in
-    ok_same (ReadsText c.args.text.now) (map entry_of c.in_ok-drafts.drafts.items) c.catalogue_of.result c.catalogue_of.ensures.entries
-    (ok_step c.catalogue_of.result (λ _ charsets. record { items = views c.in_ok-items.items.items; spelt = c.in_ok-items.ensures.found; reads = reads_spelt reads; texts = readable; charsets = charsets }) c.catalogue_of.ensures.charsets)
+    ok_same (ReadsItems (views c.args.items.items)) (map entry_of c.in_ok-drafts.drafts.items) c.catalogue_of.result c.catalogue_of.ensures.entries
+    (ok_step c.catalogue_of.result (λ _ charsets. record { reads = reads_spelt reads; texts = readable; charsets = charsets }) c.catalogue_of.ensures.charsets)
 
 pub returns-clause-fault : goal.returns-clause-fault
 returns-clause-fault c =
     let reads = rw c.deref.ensures.value at c.in_ok-drafts.ensures.found in
     let asked = rw c.deref-3.ensures.value at c.in_ok-check_drafts.ensures.ok in
     let readable = all_readable c.in_ok-drafts.drafts.items asked in
-    err_step c.catalogue_of.result (λ e h other. let foreign = h other in rw foreign.0 (in_charset c.in_ok-items.ensures.found (reads_spelt reads) readable foreign.1)) c.catalogue_of.ensures.fault
+    err_step c.catalogue_of.result (λ e h other. let foreign = h other in rw foreign.0 (in_charset (reads_spelt reads) readable foreign.1)) c.catalogue_of.ensures.fault

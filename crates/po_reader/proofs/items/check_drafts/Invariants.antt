@@ -4,7 +4,7 @@ use Rattle.po_syntax.specs.declared.fault.PoFault.{PoFault}
 use Rattle.po_entry.specs.EntryText.{entry_of}
 use Rattle.po_entry.specs.Validity.{HasTexts}
 use Rattle.po_reader.specs.Drafts.{DraftsStop}
-use Rattle.po_reader.proofs.reading.check_drafts.Given as goal
+use Rattle.po_reader.proofs.items.check_drafts.Given as goal
 
 abbrev pub invariant-loop-draft : goal.invariant-loop-draft
 invariant-loop-draft l = record {

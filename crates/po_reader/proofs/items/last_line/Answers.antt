@@ -1,6 +1,6 @@
 use Rattle.std.proofs.Common.{length, ◌-◌, ◌∙◌}
 use Rattle.po_reader.proofs.Loops.{last_at, some_length}
-use Rattle.po_reader.proofs.reading.last_line.Goals as goal
+use Rattle.po_reader.proofs.items.last_line.Goals as goal
 
 pub returns-in-Some : goal.returns-in-Some
 returns-in-Some c =

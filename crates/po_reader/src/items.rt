@@ -1,0 +1,72 @@
+ghost use Rattle.std.specs.Prelude.{◌≡◌, ◌≢◌, ◌<◌, ◌≤◌, ◌^◌, ◌∷◌, [], ◌++◌, ℕ, List, All, map, length, vec_len, IfOk, IfErr, OnOk, IsErr};
+ghost use Rattle.po_syntax.specs.ItemText.{HoldsText};
+ghost use Rattle.po_syntax.specs.TextItem.{views};
+ghost use Rattle.po_entry.specs.EntryText.{entry_of};
+ghost use Rattle.po_entry.specs.Header.{HasAdmittedCharset};
+ghost use Rattle.po_entry.specs.Validity.{IsEntry, HasTexts};
+ghost use Rattle.po_reader.specs.Drafts.{DraftsStop};
+ghost use Rattle.po_reader.specs.Faults.{CharsetStops};
+ghost use Rattle.po_reader.specs.ItemsRead.{ReadsItems, ItemsStop};
+ghost use Rattle.po_reader.specs.Viable.{last_line};
+
+use crate::drafts::drafts_of;
+use crate::place::line_of;
+use po_entry::{Catalogue, Entry, Fields, check_texts};
+use po_syntax::{Item, PoError, PoFault};
+use std::alloc::Global;
+
+/// The catalogue of the entries that items spell.
+pub(crate) fn catalogue_of_items(alloc: Global, items: Vec<Item<'_>>) -> Result<Catalogue, PoError>
+    requires hold { All HoldsText (views items.items) }
+    requires few { vec_len items ≤ 2 ^ 31 }
+    ensures found { IfOk result (λ entries. ReadsItems (views items.entry.items) entries) }
+    ensures fault { IfErr result (λ e. e.kind ≢ PoFault.OutOfMemory → ItemsStop (views items.entry.items) e.kind e.line) }
+    ensures memory { IfErr result (λ e. e.kind ≡ PoFault.OutOfMemory → e.line ≡ 0) }
+{
+    let drafts = drafts_of(alloc, &items, last_line(&items))?;
+    drop(items);
+    check_drafts(&drafts)?;
+    catalogue_of(alloc, drafts)
+}
+
+fn last_line(items: &[Item<'_>]) -> u32
+    ensures { result ≡ last_line (views items.now) }
+{
+    match items.last() {
+        Some(item) => line_of(item),
+        None => 0,
+    }
+}
+
+/// Whether entries can have the texts that were read for them, asked in their order.
+fn check_drafts(drafts: &[Fields]) -> Result<(), PoError>
+    ensures ok { OnOk result (All (λ draft. HasTexts (entry_of draft)) drafts.now) }
+    ensures fault { IfErr result (λ e. DraftsStop (map entry_of drafts.now) e.kind e.line) }
+{
+    for draft in drafts {
+        if let Err(kind) = check_texts(draft) {
+            return Err(PoError {
+                kind,
+                line: draft.line,
+            });
+        }
+    }
+    Ok(())
+}
+
+/// The catalogue of the entries that were read, whose headers' charsets are asked in their order.
+fn catalogue_of(alloc: Global, drafts: Vec<Fields>) -> Result<Catalogue, PoError>
+    requires { All (λ draft. IsEntry (entry_of draft)) drafts.items }
+    ensures entries { IfOk result (λ c. c ≡ map entry_of drafts.items) }
+    ensures charsets { OnOk result (All HasAdmittedCharset (map entry_of drafts.items)) }
+    ensures fault { IfErr result (λ e. e.kind ≢ PoFault.OutOfMemory → (e.kind ≡ PoFault.ForeignCharset) × CharsetStops (map entry_of drafts.items) e.line) }
+    ensures memory { IfErr result (λ e. e.kind ≡ PoFault.OutOfMemory → e.line ≡ 0) }
+{
+    let mut catalogue = Catalogue::new(alloc);
+    for draft in drafts {
+        if let Err((_, error)) = catalogue.push(Entry::of(draft)) {
+            return Err(error);
+        }
+    }
+    Ok(catalogue)
+}
