@@ -13,11 +13,18 @@ use Rattle.mo_file.specs.Message.{Message, originals, translations}
 use Rattle.mo_file.specs.Layout.{layout, header, table, terminated}
 use Rattle.mo_file.specs.declared.pairs.Part.TheVariants.{Original, Translation}
 use Rattle.mo_file.specs.Key.{key_of, keys, key_at}
-use Rattle.mo_file.specs.Pairs.{message, messages_of_pairs, strings_of}
+use Rattle.mo_file.specs.declared.pairs.LentPair.{LentPair}
+use Rattle.mo_file.specs.Pairs.{message, messages_of_pairs, lent_message, messages_of_lent, strings_of}
 
 -- what a pair adds to the length of a file
 abbrev pub pair_len : Pair → ℕ
 pair_len pair = 18 + length pair.original.items + length pair.translation.items
+
+abbrev pub lent_pair_len : LentPair → ℕ
+lent_pair_len pair = 18 + length pair.original.now + length pair.translation.now
+
+abbrev message_len : Message → ℕ
+message_len m = 18 + length m.original + length m.translation
 
 pub length-word_bytes : (order : Order) (number : ℕ) → length (word_bytes order number) ≡ 4
 unfolding word_bytes
@@ -41,14 +48,14 @@ pub length-layout : (order : Order) (messages : List Message) →
     length (layout order messages) ≡ 28 + 16 * length messages + length (terminated (originals messages)) + length (terminated (translations messages))
 length-layout order messages = simp (length-append, length-magic, length-word_bytes, length-table, length-map) (omega arith)
 
-pub originals-pairs : (pairs : List Pair) → originals (messages_of_pairs pairs) ≡ strings_of Original pairs
-originals-pairs [] = refl
-originals-pairs (p ∷ ps) = ap (λ ss. p.original.items ∷ ss) (originals-pairs ps)
+originals-lent : (pairs : List LentPair) → originals (messages_of_lent pairs) ≡ strings_of Original pairs
+originals-lent [] = refl
+originals-lent (p ∷ ps) = ap (λ ss. p.original.now ∷ ss) (originals-lent ps)
 
-pub translations-pairs : (pairs : List Pair) →
-    translations (messages_of_pairs pairs) ≡ strings_of Translation pairs
-translations-pairs [] = refl
-translations-pairs (p ∷ ps) = ap (λ ss. p.translation.items ∷ ss) (translations-pairs ps)
+translations-lent : (pairs : List LentPair) →
+    translations (messages_of_lent pairs) ≡ strings_of Translation pairs
+translations-lent [] = refl
+translations-lent (p ∷ ps) = ap (λ ss. p.translation.now ∷ ss) (translations-lent ps)
 
 pub keys-pairs : (pairs : List Pair) →
     keys (messages_of_pairs pairs) ≡ map (λ pair. key_of pair.original.items) pairs
@@ -56,34 +63,46 @@ keys-pairs [] = refl
 keys-pairs (p ∷ ps) = ap (λ ks. key_of p.original.items ∷ ks) (keys-pairs ps)
 
 -- how long the layout of pairs is, by its parts
-pub length-layout-strings : (order : Order) (pairs : List Pair) →
-    length (layout order (messages_of_pairs pairs))
+pub length-layout-strings : (order : Order) (pairs : List LentPair) →
+    length (layout order (messages_of_lent pairs))
     ≡ 28 + 16 * length pairs + length (terminated (strings_of Original pairs))
     + length (terminated (strings_of Translation pairs))
 length-layout-strings order pairs =
-    length-layout order (messages_of_pairs pairs) ∙ rw (originals-pairs pairs, translations-pairs pairs, length-map pairs message)
+    length-layout order (messages_of_lent pairs) ∙ rw (originals-lent pairs, translations-lent pairs, length-map pairs lent_message)
 
-sum_by-pair_len : (pairs : List Pair) →
-    sum_by pair_len pairs
-    ≡ 16 * length pairs + length (terminated (strings_of Original pairs))
-    + length (terminated (strings_of Translation pairs))
-sum_by-pair_len [] = refl
-sum_by-pair_len (p ∷ ps) =
-    sum_by-cons pair_len p ps
-    ∙ simp length-append (omega (arith, sum_by-pair_len ps))
+sum_by-message_len : (messages : List Message) →
+    sum_by message_len messages
+    ≡ 16 * length messages + length (terminated (originals messages))
+    + length (terminated (translations messages))
+sum_by-message_len [] = refl
+sum_by-message_len (m ∷ ms) =
+    sum_by-cons message_len m ms
+    ∙ simp length-append (omega (arith, sum_by-message_len ms))
+
+sum_by-pairs : (pairs : List Pair) → sum_by message_len (messages_of_pairs pairs) ≡ sum_by pair_len pairs
+sum_by-pairs [] = refl
+sum_by-pairs (p ∷ ps) = sum_by-cons message_len (message p) (messages_of_pairs ps) ∙ ap (λ n. pair_len p + n) (sum_by-pairs ps) ∙ sym (sum_by-cons pair_len p ps)
+
+sum_by-lent : (pairs : List LentPair) → sum_by message_len (messages_of_lent pairs) ≡ sum_by lent_pair_len pairs
+sum_by-lent [] = refl
+sum_by-lent (p ∷ ps) = sum_by-cons message_len (lent_message p) (messages_of_lent ps) ∙ ap (λ n. lent_pair_len p + n) (sum_by-lent ps) ∙ sym (sum_by-cons lent_pair_len p ps)
 
 -- the same, pair by pair
 pub length-layout-pairs : (order : Order) (pairs : List Pair) →
     length (layout order (messages_of_pairs pairs)) ≡ 28 + sum_by pair_len pairs
-length-layout-pairs order pairs = omega (arith, length-layout-strings order pairs, sum_by-pair_len pairs)
+length-layout-pairs order pairs = omega (arith, length-layout order (messages_of_pairs pairs), sum_by-message_len (messages_of_pairs pairs), sum_by-pairs pairs)
+
+pub length-layout-lent : (order : Order) (pairs : List LentPair) →
+    length (layout order (messages_of_lent pairs)) ≡ 28 + sum_by lent_pair_len pairs
+length-layout-lent order pairs = omega (arith, length-layout order (messages_of_lent pairs), sum_by-message_len (messages_of_lent pairs), sum_by-lent pairs)
 
 -- the layout of pairs, by its parts
-pub layout-pairs : (order : Order) (pairs : List Pair) →
-    layout order (messages_of_pairs pairs)
+pub layout-pairs : (order : Order) (pairs : List LentPair) →
+    layout order (messages_of_lent pairs)
     ≡ header order (length pairs) ++ table order (28 + 16 * length pairs) (strings_of Original pairs)
     ++ table order (28 + 16 * length pairs + length (terminated (strings_of Original pairs))) (strings_of Translation pairs)
     ++ terminated (strings_of Original pairs) ++ terminated (strings_of Translation pairs)
-layout-pairs order pairs = rw (originals-pairs pairs, translations-pairs pairs, length-map pairs message)
+layout-pairs order pairs = rw (originals-lent pairs, translations-lent pairs, length-map pairs lent_message)
 
 -- the key of a pair
 pub keys-pair : (pairs : List Pair) (i : ℕ) (pair : Pair) → i < length pairs → pair ≡ get_or pairs i pair →

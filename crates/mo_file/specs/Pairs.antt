@@ -1,6 +1,7 @@
 -- The pairs that a file is built from, as messages.
 use Rattle.std.specs.Prelude.{ℕ, List, map}
 use Rattle.mo_file.specs.declared.pairs.Pair.{Pair}
+use Rattle.mo_file.specs.declared.pairs.LentPair.{LentPair}
 use Rattle.mo_file.specs.declared.pairs.Part.{Part}
 use Rattle.mo_file.specs.declared.pairs.Part.TheVariants.{Original, Translation}
 use Rattle.mo_file.specs.Message.{Message}
@@ -11,11 +12,18 @@ message pair = record { original = pair.original.items; translation = pair.trans
 abbrev pub messages_of_pairs : List Pair → List Message
 messages_of_pairs pairs = map message pairs
 
+-- the same of pairs whose strings are lent
+abbrev pub lent_message : LentPair → Message
+lent_message pair = record { original = pair.original.now; translation = pair.translation.now }
+
+abbrev pub messages_of_lent : List LentPair → List Message
+messages_of_lent pairs = map lent_message pairs
+
 -- one string of a pair
-abbrev pub string_of : Part → Pair → List ℕ
-string_of Original pair = pair.original.items
-string_of Translation pair = pair.translation.items
+abbrev pub string_of : Part → LentPair → List ℕ
+string_of Original pair = pair.original.now
+string_of Translation pair = pair.translation.now
 
 -- that string of each pair
-abbrev pub strings_of : Part → List Pair → List (List ℕ)
+abbrev pub strings_of : Part → List LentPair → List (List ℕ)
 strings_of part pairs = map (string_of part) pairs

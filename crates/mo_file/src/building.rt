@@ -1,12 +1,12 @@
-ghost use Rattle.std.specs.Prelude.{◌≡◌, ◌-◌, ◌^◌, ◌<◌, length, min, IfErr, IfOk, OnOk};
+ghost use Rattle.std.specs.Prelude.{◌≡◌, ◌+◌, ◌-◌, ◌^◌, ◌<◌, length, min, IfErr, IfOk, OnOk};
 ghost use Rattle.mo_file.specs.Building.{IsBuildFault};
 ghost use Rattle.mo_file.specs.Key.{AreRising, keys};
 ghost use Rattle.mo_file.specs.Layout.{LayoutFits, layout};
-ghost use Rattle.mo_file.specs.Pairs.{messages_of_pairs};
+ghost use Rattle.mo_file.specs.Pairs.{messages_of_lent, messages_of_pairs};
 
 use crate::byte_order::Order;
 use crate::header::HEADER_LEN;
-use crate::pairs::{Pair, Part, are_rising};
+use crate::pairs::{LentPair, Pair, Part, are_rising, lend};
 use crate::writing::{originals_place, push_header, push_strings, push_table};
 use std::alloc::{AllocError, Global};
 use thiserror::Error;
@@ -55,7 +55,36 @@ pub fn build(alloc: Global, order: Order, pairs: &[Pair]) -> Result<Vec<u8>, Bui
     if !are_rising(pairs) {
         return Err(BuildError::NotSorted);
     }
+    let lent = lend(alloc, pairs)?;
+    Ok(laid_out(alloc, order, &lent, len as u32)?)
+}
+
+/// The MO file of pairs whose keys rise, as [`build`] lays it out. It asks nothing of the keys again,
+/// and reads each string once.
+pub fn build_sorted(
+    alloc: Global,
+    order: Order,
+    pairs: &[LentPair<'_>],
+) -> Result<Vec<u8>, BuildError>
+    requires { AreRising (keys (messages_of_lent pairs.now)) }
+    ensures layout { IfOk result (λ bytes. bytes.items ≡ layout order (messages_of_lent pairs.now)) }
+    ensures fits { OnOk result (LayoutFits order (messages_of_lent pairs.now)) }
+    ensures fault { IfErr result (IsBuildFault order (messages_of_lent pairs.now)) }
+{
+    let len = lent_len(pairs);
+    if len > u64::from(u32::MAX) {
+        return Err(BuildError::TooLarge);
+    }
     Ok(laid_out(alloc, order, pairs, len as u32)?)
+}
+
+/// The length of a file with one more pair, or 2^64 - 1 where it is longer.
+fn with_pair(len: u64, original: &[u8], translation: &[u8]) -> u64
+    ensures { result ≡ min (len + 18 + length original.now + length translation.now) (2 ^ 64 - 1) }
+{
+    len.saturating_add(PAIR_OVERHEAD)
+        .saturating_add(original.len() as u64)
+        .saturating_add(translation.len() as u64)
 }
 
 /// The length of the file in either byte order, or 2^64 - 1 where it is longer.
@@ -65,18 +94,32 @@ fn layout_len(pairs: &[Pair]) -> u64
 {
     let mut len = u64::from(HEADER_LEN);
     for pair in pairs {
-        len = len
-            .saturating_add(PAIR_OVERHEAD)
-            .saturating_add(pair.original.len() as u64)
-            .saturating_add(pair.translation.len() as u64);
+        len = with_pair(len, &pair.original, &pair.translation);
+    }
+    len
+}
+
+/// The same of pairs that are lent.
+fn lent_len(pairs: &[LentPair<'_>]) -> u64
+    ensures { (order : Order)
+        → result ≡ min (length (layout order (messages_of_lent pairs.now))) (2 ^ 64 - 1) }
+{
+    let mut len = u64::from(HEADER_LEN);
+    for pair in pairs {
+        len = with_pair(len, pair.original, pair.translation);
     }
     len
 }
 
 /// The file of pairs whose layout has this length.
-fn laid_out(alloc: Global, order: Order, pairs: &[Pair], len: u32) -> Result<Vec<u8>, AllocError>
-    requires { len ≡ length (layout order (messages_of_pairs pairs.now)) }
-    ensures { IfOk result (λ bytes. bytes.items ≡ layout order (messages_of_pairs pairs.now)) }
+fn laid_out(
+    alloc: Global,
+    order: Order,
+    pairs: &[LentPair<'_>],
+    len: u32,
+) -> Result<Vec<u8>, AllocError>
+    requires { len ≡ length (layout order (messages_of_lent pairs.now)) }
+    ensures { IfOk result (λ bytes. bytes.items ≡ layout order (messages_of_lent pairs.now)) }
 {
     let count = pairs.len() as u32;
     let mut out = Vec::with_capacity(alloc, len as usize)?;

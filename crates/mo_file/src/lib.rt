@@ -2,7 +2,7 @@
 //! unknown origin is checked and then read in place ("The Format of GNU MO Files" in the GNU gettext
 //! manual).
 //!
-//! [`build`] lays out a file. [`MoView::open`] checks one, and the view then reads its messages, which
+//! [`build`] lays out a file, and [`build_sorted`] one of strings that stand elsewhere. [`MoView::open`] checks one, and the view then reads its messages, which
 //! stand in rising order of their keys. A [`Meter`] counts the looks at originals, so that a search
 //! can promise how few it needs.
 #![tactic(auto)]
@@ -20,7 +20,7 @@ mod strings;
 mod view;
 mod writing;
 
-pub use building::{BuildError, build};
+pub use building::{BuildError, build, build_sorted};
 pub use byte_order::Order;
 pub use counting::Meter;
 pub use fault::MoError;
@@ -28,5 +28,5 @@ pub use key::compare_key;
 pub use laws::{
     catalog_is_unique, catalog_or_fault, layout_is_catalog, no_fault_of_catalog, one_first_fault,
 };
-pub use pairs::Pair;
+pub use pairs::{LentPair, Pair};
 pub use view::MoView;

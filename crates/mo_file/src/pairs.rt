@@ -1,8 +1,9 @@
-ghost use Rattle.std.specs.Prelude.{◌≡◌, ◌↔◌, IsTrue};
+ghost use Rattle.std.specs.Prelude.{◌≡◌, ◌↔◌, IfOk, IsTrue};
 ghost use Rattle.mo_file.specs.Key.{AreRising, keys};
-ghost use Rattle.mo_file.specs.Pairs.{messages_of_pairs};
+ghost use Rattle.mo_file.specs.Pairs.{messages_of_lent, messages_of_pairs};
 
 use crate::key::key_of;
+use std::alloc::{AllocError, Global};
 use std::cmp::Ordering;
 
 /// An original and its translation, as they stand in a file, without the NUL that ends each. The
@@ -24,17 +25,40 @@ pub(crate) enum Part {
     Translation,
 }
 
-impl Pair {
+/// A pair whose strings stand elsewhere.
+#[derive(Clone, Copy, Debug)]
+pub struct LentPair<'a> {
+    /// What is looked up, and after it the plural.
+    pub original: &'a [u8],
+    /// What stands in its place.
+    pub translation: &'a [u8],
+}
+
+impl<'a> LentPair<'a> {
     ghost use Rattle.mo_file.specs.Pairs.{string_of};
 
-    pub(crate) fn string(&self, part: Part) -> &[u8]
+    pub(crate) fn string(&self, part: Part) -> &'a [u8]
         ensures { result.now ≡ string_of part self.now }
     {
         match part {
-            Part::Original => &self.original,
-            Part::Translation => &self.translation,
+            Part::Original => self.original,
+            Part::Translation => self.translation,
         }
     }
+}
+
+/// The pairs, whose strings stay where they are.
+pub(crate) fn lend(alloc: Global, pairs: &[Pair]) -> Result<Vec<LentPair<'_>>, AllocError>
+    ensures { IfOk result (λ lent. messages_of_lent lent.items ≡ messages_of_pairs pairs.now) }
+{
+    let mut lent = Vec::with_capacity(alloc, pairs.len())?;
+    for pair in pairs {
+        lent.push(LentPair {
+            original: &pair.original,
+            translation: &pair.translation,
+        })?;
+    }
+    Ok(lent)
 }
 
 /// Whether each key is above the one before it.

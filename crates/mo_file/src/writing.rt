@@ -4,7 +4,7 @@ ghost use Rattle.mo_file.specs.Pairs.{strings_of};
 
 use crate::byte_order::{BIG_MAGIC, LITTLE_MAGIC, Order, push_word};
 use crate::header::{ENTRY_LEN, HEADER_LEN};
-use crate::pairs::{Pair, Part};
+use crate::pairs::{LentPair, Part};
 use std::alloc::AllocError;
 
 /// Where the originals begin in a file of so many messages: behind the header and both tables.
@@ -38,7 +38,7 @@ pub(crate) fn push_header(out: &mut Vec<u8>, order: Order, count: u32) -> Result
 pub(crate) fn push_table(
     out: &mut Vec<u8>,
     order: Order,
-    pairs: &[Pair],
+    pairs: &[LentPair<'_>],
     part: Part,
     place: u32,
 ) -> Result<u32, AllocError>
@@ -59,7 +59,7 @@ pub(crate) fn push_table(
 }
 
 /// Appends the strings, each with its NUL.
-pub(crate) fn push_strings(out: &mut Vec<u8>, pairs: &[Pair], part: Part) -> Result<(), AllocError>
+pub(crate) fn push_strings(out: &mut Vec<u8>, pairs: &[LentPair<'_>], part: Part) -> Result<(), AllocError>
     ensures { OnOk result (out.new.items ≡ out.old.items ++ terminated (strings_of part pairs.now)) }
 {
     for pair in pairs {
