@@ -1,5 +1,7 @@
 pub mod TextLemmas
 pub mod FindLemmas
+pub mod FilteredMoves
+pub mod RowLemmas
 pub mod MeaningLemmas
 pub mod SortLemmas
 pub mod ReadingLemmas
@@ -10,3 +12,4 @@ pub mod SortedMessages
 pub mod AcceptedOrFault
 pub mod OneFaultLemmas
 pub mod PartLemmas
+pub mod RowsMean

@@ -5,3 +5,4 @@ pub mod Compiling
 pub mod Accepted
 pub mod Headline
 pub mod Parts
+pub mod Collected

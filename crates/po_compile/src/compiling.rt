@@ -1,17 +1,22 @@
-ghost use Rattle.std.specs.Prelude.{◌≡◌, ◌≢◌, ◌<◌, ◌^◌, [], ◌∷◌, length, MatchResult};
-ghost use Rattle.po_entry.specs.TextEntry.{slice_texts};
+ghost use Rattle.std.specs.Prelude.{◌≡◌, ◌≢◌, ◌⊎◌, ◌<◌, ◌^◌, [], ◌∷◌, List, length, IfOk, IfErr, IfSome, MatchResult};
+ghost use Rattle.po_entry.specs.TextEntry.{TextEntry, slice_texts};
 ghost use Rattle.po_catalog.specs.Joined.{joined_entries};
-ghost use Rattle.po_catalog.specs.Duplicate.{HasNoDuplicate};
+ghost use Rattle.po_catalog.specs.Duplicate.{HasNoDuplicate, entry_memory};
+ghost use Rattle.po_compile.specs.Collected.{HoldsEntries, IsLargeText, ReadsLive};
 ghost use Rattle.po_compile.specs.Accepted.{AreCompiled, IsCompileFault, fault_of_only_input};
 ghost use Rattle.po_compile.specs.Compiling.{IsCompiled, IsLayoutFault, IsLayoutError};
 
+use crate::collecting::{Collected, collect};
 use crate::laws::messages_mean_entries;
 use crate::messages::{messages_of, sort_messages};
 use crate::options::{Compiled, Options};
-use crate::reading::{read_all, read_distinct};
-use mo_file::{BuildError, build, layout_is_catalog};
+use crate::reading::{read_all, read_whole_distinct};
+use crate::sorting::{sorted_pairs, statistics_of};
+use mo_file::{BuildError, build, build_sorted, layout_is_catalog};
 use po_catalog::{JoinError, entry_statistics, into_joined};
 use po_entry::Catalogue;
+use po_reader::Refusal;
+use po_reader::laws::entries_can_stand;
 use po_syntax::{PoError, PoFault};
 use std::alloc::Global;
 
@@ -24,8 +29,27 @@ pub fn compile_all(alloc: Global, texts: &[&[u8]], options: Options) -> Result<C
     requires { length texts.now < 2 ^ 32 }
     ensures { MatchResult result (AreCompiled options (slice_texts texts.now)) (IsCompileFault options (slice_texts texts.now)) }
 {
-    let catalogues = read_all(alloc, texts)?;
-    compile_catalogues(alloc, catalogues, options)
+    match texts {
+        [text] => match compile(alloc, text, options) {
+            Ok(compiled) => Ok(compiled),
+            Err(error) => Err(fault_of_only_input(error)),
+        },
+        _ => {
+            let catalogues = read_all(alloc, texts)?;
+            compile_catalogues(alloc, catalogues, options)
+        }
+    }
+}
+
+/// The fault of a text that is the only input.
+fn fault_of_only_input(error: PoError) -> JoinError
+    ensures { result ≡ fault_of_only_input error }
+{
+    JoinError {
+        input: 0,
+        first_input: 0,
+        error,
+    }
 }
 
 /// Compiles a PO text to an MO file, as `compile_all` does where it is the only one. Refused with the fault of `read`,
@@ -34,7 +58,62 @@ pub fn compile_all(alloc: Global, texts: &[&[u8]], options: Options) -> Result<C
 pub fn compile(alloc: Global, text: &[u8], options: Options) -> Result<Compiled, PoError>
     ensures { MatchResult result (AreCompiled options (text.now ∷ [])) (λ e. IsCompileFault options (text.now ∷ []) (fault_of_only_input e)) }
 {
-    let catalogue = read_distinct(alloc, text)?;
+    match collect(alloc, text, options.use_fuzzy) {
+        Ok(collected) => compile_live(alloc, text, &collected, options),
+        Err(Refusal::Fault(error)) => Err(error),
+        Err(Refusal::Whole) => compile_whole(alloc, text, options),
+    }
+}
+
+/// Compiles a text whose live entries are collected. Where one repeats another, the whole text is read for the fault.
+fn compile_live(
+    alloc: Global,
+    text: &[u8],
+    collected: &Collected,
+    options: Options,
+) -> Result<Compiled, PoError>
+    requires { ReadsLive options.use_fuzzy text.now collected.now }
+    ensures { MatchResult result (AreCompiled options (text.now ∷ [])) (λ e. IsCompileFault options (text.now ∷ []) (fault_of_only_input e)) }
+{
+    entries_can_stand();
+    match compile_collected(alloc, collected, options) {
+        Ok(Some(compiled)) => Ok(compiled),
+        Ok(None) => compile_whole(alloc, text, options),
+        Err(error) => Err(error),
+    }
+}
+
+/// Compiles the live entries that are collected; none where one repeats another.
+fn compile_collected(
+    alloc: Global,
+    collected: &Collected,
+    options: Options,
+) -> Result<Option<Compiled>, PoError>
+    requires { (entries : List TextEntry) × HoldsEntries options.use_fuzzy entries collected.now }
+    ensures found { IfOk result (λ found. IfSome found (λ compiled. (entries : List TextEntry) → HoldsEntries options.use_fuzzy entries collected.now → HasNoDuplicate entries × IsCompiled options entries compiled)) }
+    ensures fault { IfErr result (λ e. (e ≡ entry_memory) ⊎ ((entries : List TextEntry) → HoldsEntries options.use_fuzzy entries collected.now → IsLargeText options entries e)) }
+{
+    let Some(pairs) = sorted_pairs(alloc, collected)? else {
+        return Ok(None);
+    };
+    let count = pairs.len();
+    layout_is_catalog();
+    messages_mean_entries();
+    match build_sorted(alloc, options.order, &pairs) {
+        Ok(bytes) => Ok(Some(Compiled {
+            bytes,
+            n: count as u32,
+            stats: statistics_of(&collected.lengths),
+        })),
+        Err(error) => Err(layout_error(error).error),
+    }
+}
+
+/// Compiles a text that is read in one piece.
+fn compile_whole(alloc: Global, text: &[u8], options: Options) -> Result<Compiled, PoError>
+    ensures { MatchResult result (AreCompiled options (text.now ∷ [])) (λ e. IsCompileFault options (text.now ∷ []) (fault_of_only_input e)) }
+{
+    let catalogue = read_whole_distinct(alloc, text)?;
     let mut catalogues = Vec::with_capacity(alloc, 1)?;
     catalogues.push(catalogue)?;
     match compile_catalogues(alloc, catalogues, options) {

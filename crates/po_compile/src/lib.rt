@@ -1,11 +1,14 @@
 //! Compiling PO catalogues to MO files (GNU gettext manual, "Invoking the msgfmt Program").
 #![tactic(auto)]
 
+mod collecting;
 mod compiling;
 pub mod laws;
 mod messages;
 mod options;
 mod reading;
+mod row;
+mod sorting;
 
 pub use crate::compiling::{compile, compile_all, compile_catalogues};
 pub use crate::messages::is_compiled;

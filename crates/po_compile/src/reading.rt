@@ -5,7 +5,7 @@ ghost use Rattle.po_compile.specs.Accepted.{AreRead, fault_of_input, IsReadingFa
 
 use po_catalog::{JoinError, duplicates, joined_duplicates};
 use po_entry::Catalogue;
-use po_reader::read;
+use po_reader::{read, read_whole};
 use po_syntax::{PoError, PoFault};
 use std::alloc::Global;
 
@@ -38,6 +38,15 @@ pub fn read_distinct(alloc: Global, text: &[u8]) -> Result<Catalogue, PoError>
     let catalogue = read(alloc, text)?;
     duplicates(alloc, &catalogue)?;
     Ok(catalogue)
+}
+
+/// The same of a text that is read in one piece.
+pub(crate) fn read_whole_distinct(alloc: Global, text: &[u8]) -> Result<Catalogue, PoError>
+    ensures { MatchResult result (ReadsDistinct text.now) (λ e. (e ≡ entry_memory) ⊎ ((e.kind ≢ PoFault.OutOfMemory) × IsTextFault text.now e)) }
+{
+    let whole = read_whole(alloc, text)?;
+    duplicates(alloc, &whole)?;
+    Ok(whole)
 }
 
 /// The fault of an input. Want of memory is of no input.

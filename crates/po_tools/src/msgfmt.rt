@@ -1,4 +1,4 @@
-ghost use Rattle.std.specs.Prelude.{◌≡◌, ◌≢◌, ◌⊎◌, ◌+◌, ◌^◌, ◌<◌, ◌≤◌, ◌++◌, ◌∷◌, decimal, true, None, Some, length, MatchResult, IfOk, IfErr, OnOk, OnErr, IsErrOf, Err};
+ghost use Rattle.std.specs.Prelude.{◌≡◌, ◌≢◌, ◌⊎◌, ◌+◌, ◌^◌, ◌<◌, ◌≤◌, ◌++◌, ◌∷◌, decimal, true, false, None, Some, length, MatchResult, IfOk, IfErr, OnOk, OnErr, IsErrOf, Err};
 ghost use Rattle.std.specs.Io.KnownBytes.{Keeps};
 ghost use Rattle.po_entry.specs.TextEntry.{slice_texts};
 ghost use Rattle.po_catalog.specs.JoinedView.{input_entries};
@@ -13,7 +13,7 @@ use crate::profile::{CheckFault, check_entries};
 use crate::run::{Run, deliver, refused};
 use mo_file::Order;
 use po_catalog::{Catalogue, JoinError, JoinedEntry, joined};
-use po_compile::{Compiled, Options, compile_catalogues, is_compiled, read_all};
+use po_compile::{Compiled, Options, compile_all, compile_catalogues, is_compiled, read_all};
 use po_shell::{ByteIn, ByteOut, ToolFault, read_input};
 use po_syntax::PoFault;
 use std::alloc::{AllocError, Global};
@@ -299,6 +299,29 @@ fn plan_catalogues(
     }
 }
 
+/// The run of inputs with these texts, where the check is not asked for, so that no catalogue is wanted.
+fn plan_compiled(
+    alloc: Global,
+    inputs: &[(&str, &[u8])],
+    texts: &[&[u8]],
+    options: &MsgfmtOptions,
+) -> Result<Run, ToolFault>
+    requires few { length texts.now < 2 ^ 32 }
+    requires texts { slice_texts texts.now ≡ input_texts (named_files inputs.now) }
+    requires unchecked { options.now.profile_check ≡ false }
+    ensures run { IfOk result (λ run. IsMsgfmtRun (named_files inputs.now) options.now (report run)) }
+    ensures memory { OnErr result (result ≡ Err ToolFault.OutOfMemory) }
+{
+    let compile_options = Options {
+        use_fuzzy: options.use_fuzzy,
+        order: options.order,
+    };
+    match compile_all(alloc, texts, compile_options) {
+        Ok(compiled) => compiled_run(alloc, options, compiled),
+        Err(error) => refused_run(alloc, inputs, error),
+    }
+}
+
 /// What `msgfmt` writes and tells of its inputs, each with its name: the compiled file, where it has a message, and
 /// the statistics, where they are asked for. Inputs that aren't compiled are told by one line, with status 1, and
 /// else a fault of the check, where it is asked for. Refused only by want of memory.
@@ -313,6 +336,9 @@ pub fn plan_msgfmt(
     ensures memory { OnErr result (result ≡ Err ToolFault.OutOfMemory) }
 {
     let texts = texts_of(alloc, inputs)?;
+    if !options.profile_check {
+        return plan_compiled(alloc, inputs, &texts, options);
+    }
     match read_all(alloc, &texts) {
         Ok(catalogues) => plan_catalogues(alloc, inputs, catalogues, options),
         Err(error) => refused_run(alloc, inputs, error),

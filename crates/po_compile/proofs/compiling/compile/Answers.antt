@@ -1,29 +1,25 @@
-use Rattle.std.proofs.Common.{[], ◌∷◌, ◌++◌, subst, sym, ap, ◌∙◌}
-use Rattle.std.proofs.lemmas.Result.{err_from_is_err_and}
-use Rattle.po_compile.specs.Accepted.{AreRead}
-use Rattle.po_compile.proofs.ReadingLemmas.{only_read, only_refused, only_too_large}
+use Rattle.std.proofs.Common.{◌≡◌, ◌≢◌, ◌⊎◌, ℕ, List, refl, ap₂, sym, ◌∙◌, inl, inr}
+use Rattle.po_syntax.specs.declared.fault.PoError.{PoError}
+use Rattle.po_syntax.specs.declared.fault.PoFault.{PoFault}
+use Rattle.po_syntax.specs.declared.fault.PoFault.TheVariants.{OutOfMemory}
+use Rattle.po_syntax.specs.PoText.{TextFault}
+use Rattle.po_reader.specs.Faults.{in_text}
+use Rattle.po_reader.specs.Refusals.{IsFaultOf}
+use Rattle.po_catalog.specs.Duplicate.{entry_memory}
+use Rattle.po_compile.specs.Accepted.{IsTextFault}
+use Rattle.po_compile.proofs.ReadingLemmas.{only_refused}
 use Rattle.po_compile.proofs.compiling.compile.Goals as goal
-use Rattle.po_compile.proofs.compiling.compile.Goals.{In_ok-push}
 
--- the text reads as the one catalogue of the list
-read : (c : In_ok-push) → AreRead (c.args.text.now ∷ []) c.push.new.self.items
-read c =
-    let one = c.in_ok-push.ensures.items ∙ ap (λ cs. cs ++ c.in_ok-catalogue.catalogue ∷ []) c.in_ok-catalogues.ensures.items in
-    subst (AreRead (c.args.text.now ∷ [])) (sym one) (only_read c.args.text.now c.in_ok-catalogue.catalogue c.in_ok-catalogue.ensures)
+-- a fault that is reported is out of memory, or one of the text
+fault_by_kind : (text : List ℕ) (error : PoError) (kind : PoFault) → error.kind ≡ kind → IsFaultOf (TextFault text) error → (error ≡ entry_memory) ⊎ ((error.kind ≢ OutOfMemory) × IsTextFault text error)
+fault_by_kind text error OutOfMemory is h =
+    let with : PoFault → ℕ → PoError = λ k l. record { kind = k; line = l } in
+    inl (ap₂ with is (h.memory is))
+fault_by_kind text error kind is h =
+    let other : error.kind ≢ OutOfMemory = λ memory. absurd (cc (is, memory)) in
+    inr (other, inl (in_text (h.fault other)))
 
-pub returns-in_err-catalogue : goal.returns-in_err-catalogue
-returns-in_err-catalogue c =
-    let p = err_from_is_err_and c.from_residual.result c.from_residual.ensures.1 in
-    rw (p.1, p.2) (only_refused c.args.text.now c.args.options c.in_err-catalogue.field-0.0 c.in_err-catalogue.ensures)
-
-pub compile_catalogues-requires : goal.compile_catalogues-requires
-compile_catalogues-requires c =
-    let reads = read (goal.at.compile_catalogues-requires c).In_ok-push in reads.distinct
-
-pub returns-in-Ok : goal.returns-in-Ok
-returns-in-Ok c =
-    record { catalogues = c.push.new.self.items; read = read (goal.at.returns-in-Ok c).In_ok-push; is_compiled = c.in-Ok.ensures }
-
-pub returns-in-Err : goal.returns-in-Err
-returns-in-Err c =
-    only_too_large c.args.text.now c.args.options c.push.new.self.items c.in-Err.error (read (goal.at.returns-in-Err c).In_ok-push) c.in-Err.ensures
+pub returns-in-Err-Fault : goal.returns-in-Err-Fault
+returns-in-Err-Fault c =
+    let refusal = rw c.in-Err-Fault.field-0-is at c.in-Err-Fault.ensures.fault in
+    only_refused c.args.text.now c.args.options c.in-Err-Fault.error (fault_by_kind c.args.text.now c.in-Err-Fault.error c.in-Err-Fault.error.kind refl refusal)

@@ -1,0 +1,30 @@
+use Rattle.std.proofs.Common.{[], ◌++◌, refl, append-nil, append_assoc}
+use Rattle.po_reader.proofs.PieceReading.{left_over, whole_left}
+use Rattle.po_compile.proofs.collecting.collect.Goals as goal
+
+pub loop-pieces-init : goal.loop-pieces-init
+loop-pieces-init c = record {
+  reads = ([], whole_left c.args.text.now c.in-Ok.pieces c.in-Ok.ensures.found, record { bytes = c.new.ensures.items; lengths = c.new-2.ensures.items });
+  stops = c.in-Ok.ensures.stops;
+}
+
+pub loop-pieces-preserved : goal.loop-pieces-preserved
+loop-pieces-preserved c =
+    let so_far = c.loop-pieces.invariant.reads in
+    record {
+      reads = (
+        so_far.0 ++ c.in_ok-piece.piece,
+        λ more h. rw append_assoc (so_far.1 (c.in_ok-piece.piece ++ more) (c.in_ok-piece.ensures.found more h)),
+        rw c.entries.ensures.entries at (c.in_ok-add_messages.ensures so_far.0 so_far.2),
+      );
+      stops = λ fault line h. c.loop-pieces.invariant.stops fault line (c.in_ok-piece.ensures.stops fault line h);
+    }
+
+pub returns-clause-found : goal.returns-clause-found
+returns-clause-found c =
+    let so_far = c.loop-pieces.invariant.reads in
+    record {
+      entries = so_far.0;
+      reads = rw append-nil at (so_far.1 [] (left_over c.loop-pieces.pieces (c.are_over.ensures.over c.loop-pieces-test.false)));
+      holds = so_far.2;
+    }

@@ -1,0 +1,26 @@
+use Rattle.std.proofs.Common.{◌≡◌, ap, ap₂, sym, ◌∙◌, false, ◌++◌, ◌∷◌, [], take, drop, map, get_or, arith, length}
+use Rattle.std.proofs.lemmas.List.{map_push}
+use Rattle.mo_file.specs.Key.{query_key}
+use Rattle.po_compile.specs.Collected.{live_message, row_seen}
+use Rattle.po_compile.specs.CompiledMessages.{original_of, translation_of}
+use Rattle.po_compile.specs.declared.collecting.Lengths.{Lengths}
+use Rattle.po_compile.proofs.RowsMean.{row_at, row_seen_is}
+use Rattle.po_compile.proofs.row.rows_of.Goals as goal
+
+pub loop-parts-preserved : goal.loop-parts-preserved
+loop-parts-preserved c = λ use_fuzzy live bytes lengths.
+    let so_far = c.loop-parts.invariant use_fuzzy live bytes lengths in
+    let none : Lengths = record { key = 0; original = 0; translation = 0; compiled = false; translated = false; fuzzy = false; untranslated = false } in
+    let i = c.loop-parts.parts-index in
+    let parts = get_or c.args.lengths.now i none in
+    let row = row_at use_fuzzy live c.args.lengths.now i none c.loop-parts.rest.now lengths c.loop-parts-test.true so_far.1 in
+    let made = row.2 in
+    let original : c.cut.result.0.now ≡ original_of row.0 = c.cut.ensures.first ∙ made.original in
+    let after : c.cut.result.1.now ≡ drop parts.original c.loop-parts.rest.now = c.cut.ensures.rest in
+    let translation : c.cut-in-loop-parts.result.0.now ≡ translation_of row.0 = c.cut-in-loop-parts.ensures.first ∙ ap (take parts.translation) after ∙ made.translation in
+    let key : c.cut-in-loop-parts-2.result.0.now ≡ query_key row.0.context row.0.id = c.cut-in-loop-parts-2.ensures.first ∙ ap (take parts.key) original ∙ made.key in
+    let seen = row_seen_is use_fuzzy row.0 (record { key = c.cut-in-loop-parts-2.result.0; original = c.cut.result.0; translation = c.cut-in-loop-parts.result.0; compiled = parts.compiled }) key original translation made.compiled in (
+      ap (map row_seen) c.in_ok-push.ensures.items ∙ map_push row_seen c.loop-parts.rows.items _ ∙ ap₂ (λ a b. a ++ b ∷ []) so_far.0 seen
+          ∙ sym (ap (map (live_message use_fuzzy)) row.1 ∙ map_push (live_message use_fuzzy) (take i live) row.0),
+      c.cut-in-loop-parts.ensures.rest ∙ ap (drop parts.translation) after ∙ made.rest,
+    )

@@ -1,0 +1,142 @@
+ghost use Rattle.std.specs.Prelude.{◌≡◌, ◌++◌, ◌∷◌, ℕ, List, IfOk, IfErr, OnOk};
+ghost use Rattle.std.specs.List.{join_with_byte};
+ghost use Rattle.mo_file.specs.Key.{query_key};
+ghost use Rattle.po_entry.specs.TextEntry.{TextEntry, texts};
+ghost use Rattle.po_reader.specs.Refusals.{IsTextRefusal};
+ghost use Rattle.po_compile.specs.CompiledMessages.{plural_part, translation_of};
+ghost use Rattle.po_compile.specs.Collected.{message_bytes, lengths_of, HoldsLive, ReadsLive};
+
+use crate::messages::is_compiled;
+use po_catalog::has_translation;
+use po_entry::Entry;
+use po_reader::{PIECE, Refusal, next_catalogue};
+use po_syntax::Pieces;
+use std::alloc::{AllocError, Global};
+
+/// How long the parts of a live entry's message are, in bytes, and how the entry counts.
+#[derive(Clone, Copy)]
+pub(crate) struct Lengths {
+    pub(crate) key: usize,
+    /// The key, and after it a NUL and the plural, where there is one.
+    pub(crate) original: usize,
+    pub(crate) translation: usize,
+    pub(crate) compiled: bool,
+    pub(crate) translated: bool,
+    pub(crate) fuzzy: bool,
+    pub(crate) untranslated: bool,
+}
+
+/// The messages of the live entries of a text, in their order.
+#[derive(Drop)]
+pub(crate) struct Collected {
+    /// The original and the translation of each, one after another.
+    pub(crate) bytes: Vec<u8>,
+    pub(crate) lengths: Vec<Lengths>,
+}
+
+/// Appends the key of an entry.
+fn add_key(bytes: &mut Vec<u8>, entry: &Entry) -> Result<(), AllocError>
+    ensures { OnOk result (bytes.new.items ≡ bytes.old.items ++ query_key entry.now.context entry.now.id) }
+{
+    if let Some(context) = entry.context() {
+        bytes.extend_from_slice(context)?;
+        bytes.push(4)?;
+    }
+    bytes.extend_from_slice(entry.id())
+}
+
+/// Appends a NUL and the plural of an entry, where it has one.
+fn add_plural(bytes: &mut Vec<u8>, entry: &Entry) -> Result<(), AllocError>
+    ensures { OnOk result (bytes.new.items ≡ bytes.old.items ++ plural_part entry.now.plural) }
+{
+    if let Some(plural) = entry.plural() {
+        bytes.push(0)?;
+        bytes.extend_from_slice(plural)?;
+    }
+    Ok(())
+}
+
+/// Appends the forms of an entry with a NUL between them.
+fn add_forms(bytes: &mut Vec<u8>, entry: &Entry) -> Result<(), AllocError>
+    ensures { OnOk result (bytes.new.items ≡ bytes.old.items ++ translation_of entry.now) }
+{
+    let Some((first, rest)) = entry.forms().split_first() else {
+        return Ok(());
+    };
+    bytes.extend_from_slice(first)?;
+    add_further(bytes, rest)
+}
+
+/// Appends further forms after the first, each with a NUL before it.
+fn add_further(bytes: &mut Vec<u8>, forms: &[Vec<u8>]) -> Result<(), AllocError>
+    ensures { OnOk result ((before first : List ℕ) → bytes.old.items ≡ before ++ first → bytes.new.items ≡ before ++ join_with_byte 0 (first ∷ texts forms.now)) }
+{
+    for form in forms {
+        bytes.push(0)?;
+        bytes.extend_from_slice(form)?;
+    }
+    Ok(())
+}
+
+/// Appends the message of an entry.
+fn add_message(bytes: &mut Vec<u8>, entry: &Entry, use_fuzzy: bool) -> Result<Lengths, AllocError>
+    ensures bytes { OnOk result (bytes.new.items ≡ bytes.old.items ++ message_bytes entry.now) }
+    ensures lengths { IfOk result (λ lengths. lengths ≡ lengths_of use_fuzzy entry.now) }
+{
+    let start = bytes.len();
+    add_key(bytes, entry)?;
+    let key = bytes.len() - start;
+    add_plural(bytes, entry)?;
+    let original = bytes.len() - start;
+    add_forms(bytes, entry)?;
+    let translation = bytes.len() - start - original;
+    let is_counted = !entry.obsolete() && !entry.is_header();
+    let has_translation = has_translation(entry);
+    Ok(Lengths {
+        key,
+        original,
+        translation,
+        compiled: is_compiled(entry, use_fuzzy),
+        translated: is_counted && has_translation && !entry.fuzzy(),
+        fuzzy: is_counted && has_translation && entry.fuzzy(),
+        untranslated: is_counted && !has_translation,
+    })
+}
+
+/// Adds the live ones of further entries.
+fn add_messages(
+    collected: &mut Collected,
+    entries: &[Entry],
+    use_fuzzy: bool,
+) -> Result<(), AllocError>
+    ensures { OnOk result ((before : List TextEntry) → HoldsLive use_fuzzy before collected.old → HoldsLive use_fuzzy (before ++ entries.now) collected.new) }
+{
+    for entry in entries {
+        if !entry.obsolete() {
+            let lengths = add_message(&mut collected.bytes, entry, use_fuzzy)?;
+            collected.lengths.push(lengths)?;
+        }
+    }
+    Ok(())
+}
+
+/// Collects the messages of the live entries of a text, piece by piece: what else an entry holds is let go before the
+/// next piece is read.
+pub(crate) fn collect(alloc: Global, text: &[u8], use_fuzzy: bool) -> Result<Collected, Refusal>
+    ensures found { IfOk result (ReadsLive use_fuzzy text.now) }
+    ensures fault { IfErr result (IsTextRefusal text.now) }
+{
+    let mut pieces = match Pieces::of(text) {
+        Ok(pieces) => pieces,
+        Err(error) => return Err(Refusal::Fault(error)),
+    };
+    let mut collected = Collected {
+        bytes: Vec::new(alloc),
+        lengths: Vec::new(alloc),
+    };
+    while !pieces.are_over() {
+        let piece = next_catalogue(alloc, &mut pieces, PIECE)?;
+        add_messages(&mut collected, piece.entries(), use_fuzzy)?;
+    }
+    Ok(collected)
+}
