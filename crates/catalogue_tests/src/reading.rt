@@ -1,6 +1,7 @@
 //! Texts that are read, each with what its entries hold.
 
 mod order;
+mod pieces;
 mod refused;
 
 use crate::summary::push_summary;

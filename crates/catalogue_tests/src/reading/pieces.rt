@@ -1,0 +1,88 @@
+//! Texts that are read in pieces of every size: each reads as the whole.
+
+use super::refused::Refused;
+use crate::summary::push_summary;
+use po_reader::read_in_pieces;
+use po_syntax::{PoError, PoFault};
+use std::alloc::Global;
+use std::test::Fail;
+
+/// Texts with the summaries of their entries. An empty line stands inside an entry, before and after comments, and
+/// between the strings of a text; lines end with CR LF after a byte order mark.
+const TEXTS: &[(&[u8], &[u8])] = &[
+    (
+        b"# one\n\nmsgid \"a\"\n\nmsgstr \"A\"\n\n# two\n\n#. e\nmsgid \"b\"\nmsgstr \"B\"\n\"C\"\n\n\n#~ msgid \"d\"\n#~ msgstr \"D\"\n\n# end\n",
+        b" one;||||-;-;-;|-|a|-|A;.\n two;| e;|||-;-;-;|-|b|-|BC;.\n||||-;-;-;|-|d|-|D;~\n",
+    ),
+    (
+        b"\xef\xbb\xbfmsgid \"a\"\r\n\r\nmsgstr \"A\"\r\n\r\n#, fuzzy\r\n\r\nmsgid \"b\"\r\nmsgid_plural \"p\"\r\nmsgstr[0] \"B\"\r\n\r\nmsgstr[1] \"C\"\r\n\r\nmsgctxt \"c\"\r\n\r\nmsgid \"d\"\r\nmsgstr \"D\"\r\n",
+        b"||||-;-;-;|-|a|-|A;.\n|||fuzzy!|-;-;-;|-|b|p|B;C;.\n||||-;-;-;|c|d|-|D;.\n",
+    ),
+    (
+        b"#| msgid \"o\"\n\nmsgid \"a\"\nmsgstr \"\"\n\n\"A\"\n\n\"B\"\n#: a.c:1\n\n#: b.c:2\nmsgid \"b\"\nmsgstr \"C\"",
+        b"||||-;o;-;|-|a|-|AB;.\n||a.c:1;b.c:2;||-;-;-;|-|b|-|C;.\n",
+    ),
+    (
+        b"msgid \"a\"\nmsgstr \"A\"\nmsgid \"b\"\nmsgstr \"B\"\n",
+        b"||||-;-;-;|-|a|-|A;.\n||||-;-;-;|-|b|-|B;.\n",
+    ),
+];
+
+/// Texts with a fault in a later piece, or where a piece ends, and its line in the text.
+const REFUSED: &[Refused] = &[
+    (
+        b"msgid \"a\"\nmsgstr \"A\"\n\nmsgid \"b\"\nmsgstr \"B\"\n\nmsgid \"c\" x\nmsgstr \"C\"\n",
+        PoFault::BadToken,
+        7,
+    ),
+    (
+        b"msgid \"a\"\nmsgstr \"A\"\n\nmsgstr \"B\"\n\nmsgid \"c\"\nmsgstr \"C\"\n",
+        PoFault::BadOrder,
+        4,
+    ),
+    (
+        b"msgid \"a\"\nmsgstr \"A\"\n\nmsgid \"b\"\nmsgstr \"\\xff\"\n\nmsgid \"c\"\n\nmsgid \"d\"\n",
+        PoFault::BadOrder,
+        9,
+    ),
+    (
+        b"msgid \"a\"\nmsgstr \"A\"\n\nmsgid \"b\"\nmsgstr \"\\xff\"\n\nmsgid \"c\"\nmsgstr \"C\\q\"\n",
+        PoFault::BadEscape,
+        8,
+    ),
+];
+
+/// The summaries of the entries of a text that is read in pieces of this size.
+fn summaries(alloc: Global, text: &[u8], size: usize) -> Result<Vec<u8>, Fail> {
+    let catalogue = read_in_pieces(alloc, text, size)?;
+    let mut all = Vec::new(alloc);
+    for entry in catalogue.entries() {
+        push_summary(&mut all, entry)?;
+    }
+    Ok(all)
+}
+
+#[test]
+fn cut_at_every_line(rt: HostRuntime) -> Result<(), Fail> {
+    for (text, wanted) in TEXTS {
+        for size in 0..text.len() {
+            let all = summaries(rt.alloc(), text, size)?;
+            assert!(rt; all.as_slice() == *wanted, "{size} at {}", text.escape_ascii());
+        }
+    }
+    Ok(())
+}
+
+#[test]
+fn refused_at_every_cut(rt: HostRuntime) {
+    for (text, kind, line) in REFUSED {
+        let wanted = PoError {
+            kind: *kind,
+            line: *line,
+        };
+        for size in 0..text.len() {
+            let reported = read_in_pieces(rt.alloc(), text, size).err();
+            assert!(rt; reported == Some(wanted), "{size} at {}", text.escape_ascii());
+        }
+    }
+}
