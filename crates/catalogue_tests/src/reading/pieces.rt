@@ -67,7 +67,11 @@ fn cut_at_every_line(rt: HostRuntime) -> Result<(), Fail> {
     for (text, wanted) in TEXTS {
         for size in 0..text.len() {
             let all = summaries(rt.alloc(), text, size)?;
-            assert!(rt; all.as_slice() == *wanted, "{size} at {}", text.escape_ascii());
+            assert!(rt;
+                all.as_slice() == *wanted,
+                "{size} at {}",
+                text.escape_ascii()
+            );
         }
     }
     Ok(())
@@ -82,7 +86,11 @@ fn refused_at_every_cut(rt: HostRuntime) {
         };
         for size in 0..text.len() {
             let reported = read_in_pieces(rt.alloc(), text, size).err();
-            assert!(rt; reported == Some(wanted), "{size} at {}", text.escape_ascii());
+            assert!(rt;
+                reported == Some(wanted),
+                "{size} at {}",
+                text.escape_ascii()
+            );
         }
     }
 }
