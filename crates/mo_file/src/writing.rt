@@ -59,7 +59,11 @@ pub(crate) fn push_table(
 }
 
 /// Appends the strings, each with its NUL.
-pub(crate) fn push_strings(out: &mut Vec<u8>, pairs: &[LentPair<'_>], part: Part) -> Result<(), AllocError>
+pub(crate) fn push_strings(
+    out: &mut Vec<u8>,
+    pairs: &[LentPair<'_>],
+    part: Part,
+) -> Result<(), AllocError>
     ensures { OnOk result (out.new.items ≡ out.old.items ++ terminated (strings_of part pairs.now)) }
 {
     for pair in pairs {
