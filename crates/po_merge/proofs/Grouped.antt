@@ -34,8 +34,8 @@ grown_grouped grouped new es m d i v old is_message h looked same_places items p
     let met = (place_some (same_message e) F i found).0 in
     let firsts : first_ones same_message (es ++ e ∷ []) ≡ F = firsts_same same_message same_message_laws es e met in
     let group : named_entries v.items ≡ get_or (groups es) i (named_entries old.items) ++ e ∷ [] =
-        ap named_entries pushed ∙ map-append named_entry old.items (d ∷ [])
-        ∙ ap (λ (l : List NamedEntry). l ++ e ∷ []) (ap (λ (g : Vec Definition). named_entries g.items) (sym at) ∙ sym (get_or-map (λ (g : Vec Definition). named_entries g.items) grouped.groups.items i old) ∙ ap (λ (gs : List (List NamedEntry)). get_or gs i (named_entries old.items)) h.are_groups) in
+    ap named_entries pushed ∙ map-append named_entry old.items (d ∷ [])
+    ∙ ap (λ (l : List NamedEntry). l ++ e ∷ []) (ap (λ (g : Vec Definition). named_entries g.items) (sym at) ∙ sym (get_or-map (λ (g : Vec Definition). named_entries g.items) grouped.groups.items i old) ∙ ap (λ (gs : List (List NamedEntry)). get_or gs i (named_entries old.items)) h.are_groups) in
     record {
       are_groups =
           ap group_entries items ∙ map-set (λ (g : Vec Definition). named_entries g.items) grouped.groups.items i v
@@ -65,6 +65,6 @@ new_grouped grouped new es m d v n is_message h absent count updated items pushe
           ∙ ap (λ (fs : List NamedEntry). map (group_of same_message (es ++ e ∷ [])) fs) (sym firsts);
       are_places = λ q.
           places_more (get message_cmp grouped.places) (get message_cmp new.places) m e F is_message h.are_places absent
-              (λ r. updated r ∙ ap (λ (k : ℕ). cond (is_at (message_cmp m) r) (Some k) (get message_cmp grouped.places r)) long) q
+          (λ r. updated r ∙ ap (λ (k : ℕ). cond (is_at (message_cmp m) r) (Some k) (get message_cmp grouped.places r)) long) q
           ∙ ap (place (is_message_of q)) (sym firsts);
     }

@@ -41,6 +41,7 @@ pub groups_valid : (es : List NamedEntry) → All IsDefinition es → All IsGrou
 groups_valid es h = All-map IsGroup (group_of same_message es) F (λ k d below. valid_group (get_or F k d) (list_any_at (same_message (get_or F k d)) F k d below (same_message_laws.refl (get_or F k d)))) where
   F : List NamedEntry
   F = first_ones same_message es
+
   valid_group : (f : NamedEntry) → list_any (same_message f) (first_ones same_message es) ≡ true → IsGroup (group_of same_message es f)
   valid_group f met = record {
     some = some_passes (λ (e : NamedEntry). same_message e f) es (any_same (λ (e : NamedEntry). same_message e f) (same_message f) (λ e. same_message_laws.symm e f) es ∙ sym (any_first_ones same_message same_message_laws f es) ∙ met);

@@ -59,7 +59,7 @@ one_definition o d =
     let e = d.entry in
     let fuzzy : (is_joined o (d ∷ []) || (taken (d ∷ [])).fuzzy) ≡ e.fuzzy = ap₂ (λ (a b : Bool). a || b) (not_joined o d) (ap (λ (x : TextEntry). x.fuzzy) (only_one has_translation d)) in
     let forms : (if is_joined o (d ∷ []) then joined_forms (translations (d ∷ [])) else (taken (d ∷ [])).forms) ≡ e.forms =
-        ap₂ (λ (b : Bool) (fs : List (List ℕ)). if b then joined_forms (translations (d ∷ [])) else fs) (not_joined o d) (ap (λ (x : TextEntry). x.forms) (only_one has_translation d)) in
+    ap₂ (λ (b : Bool) (fs : List (List ℕ)). if b then joined_forms (translations (d ∷ [])) else fs) (not_joined o d) (ap (λ (x : TextEntry). x.forms) (only_one has_translation d)) in
     λ i. rebuilt (comment_one o Translator d i) (comment_one o Extracted d i) (comment_one o Reference d i) (fuzzy i) (comment_one o Flags d i) (only_one has_previous d i).previous (only_one has_plural d i).plural (forms i) e
 
 pub one_of : (o : MergeOptions) (ds : List Definition) (d : Definition) → length ds ≡ 1 → d ≡ get_or ds 0 d → d.entry.now ≡ merged_entry o (named_entries ds)

@@ -45,12 +45,12 @@ texts_eq_symm (x ∷ xs) (y ∷ ys) = ap₂ (λ (s t : Bool). s && t) (nat_list_
 
 pub one_definition_more : (old new : BTreeSet (Bor (List (Vec ℕ)))) (k : Bor (List (Vec ℕ))) (d : NamedEntry) (found : List NamedEntry) → HasForms old found → texts k.now ≡ d.entry.forms
     → ((q : Bor (List (Vec ℕ))) → contains (λ x y. slice_cmp (λ v w. slice_cmp nat_cmp v.items w.items) x.now y.now) new q
-        ≡ cond (is_at (λ y. slice_cmp (λ v w. slice_cmp nat_cmp v.items w.items) k.now y.now) q) true (contains (λ x y. slice_cmp (λ v w. slice_cmp nat_cmp v.items w.items) x.now y.now) old q))
+    ≡ cond (is_at (λ y. slice_cmp (λ v w. slice_cmp nat_cmp v.items w.items) k.now y.now) q) true (contains (λ x y. slice_cmp (λ v w. slice_cmp nat_cmp v.items w.items) x.now y.now) old q))
     → HasForms new (found ++ d ∷ [])
 one_definition_more old new k d found h forms updated q =
     let tests : Bool = texts_eq (texts q.now) d.entry.forms in
     updated q ∙ cond_or (is_at (λ y. slice_cmp (λ v w. slice_cmp nat_cmp v.items w.items) k.now y.now) q) tests (contains (λ x y. slice_cmp (λ v w. slice_cmp nat_cmp v.items w.items) x.now y.now) old q)
-        (sym (forms_tie k.now q.now) ∙ texts_eq_symm (texts k.now) (texts q.now) ∙ ap (texts_eq (texts q.now)) forms)
+    (sym (forms_tie k.now q.now) ∙ texts_eq_symm (texts k.now) (texts q.now) ∙ ap (texts_eq (texts q.now)) forms)
     ∙ ap₂ (λ (s t : Bool). s || t) (h q) (sym (or_false tests)) ∙ sym (list_any-append (λ e. texts_eq (texts q.now) e.entry.forms) found (d ∷ []))
 
 -- what both have, the one has whatever is left out of the other

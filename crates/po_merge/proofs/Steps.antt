@@ -23,15 +23,17 @@ pub others_more : (done now : List (List ℕ)) (others : List (Vec ℕ)) (i : �
     → cond b now (now ++ x.items ∷ []) ≡ done ++ filter (λ t. not (list_any (bytes_eq t) done)) (texts (take (i + 1) others))
 others_more done now others i x b below at met is =
     found b met ∙ sym (ap (λ (l : List (List ℕ)). done ++ filter P l) whole ∙ ap (λ (l : List (List ℕ)). done ++ l) (filter-append P (texts (take i others)) (x.items ∷ []))) where
-  P : List ℕ → Bool
-  P t = not (list_any (bytes_eq t) done)
-  whole : texts (take (i + 1) others) ≡ texts (take i others) ++ x.items ∷ []
-  whole = ap texts (take_more others i x below ∙ ap (λ (v : Vec ℕ). take i others ++ v ∷ []) (sym at)) ∙ map-append (λ (v : Vec ℕ). v.items) (take i others) (x ∷ [])
-  found : (c : Bool) → list_any (bytes_eq x.items) done ≡ c → cond c now (now ++ x.items ∷ []) ≡ done ++ (filter (λ t. not (list_any (bytes_eq t) done)) (texts (take i others)) ++ filter (λ t. not (list_any (bytes_eq t) done)) (x.items ∷ []))
-  found true e = is ∙ ap (λ (l : List (List ℕ)). done ++ l) (sym (ap (λ (c : Bool). filter (λ t. not (list_any (bytes_eq t) done)) (texts (take i others)) ++ cond (not c) (x.items ∷ []) []) e ∙ append-nil _))
-  found false e =
-      ap (λ (l : List (List ℕ)). l ++ x.items ∷ []) is ∙ append_assoc done (filter (λ t. not (list_any (bytes_eq t) done)) (texts (take i others))) (x.items ∷ [])
-      ∙ ap (λ (l : List (List ℕ)). done ++ l) (sym (ap (λ (c : Bool). filter (λ t. not (list_any (bytes_eq t) done)) (texts (take i others)) ++ cond (not c) (x.items ∷ []) []) e))
+      P : List ℕ → Bool
+      P t = not (list_any (bytes_eq t) done)
+
+      whole : texts (take (i + 1) others) ≡ texts (take i others) ++ x.items ∷ []
+      whole = ap texts (take_more others i x below ∙ ap (λ (v : Vec ℕ). take i others ++ v ∷ []) (sym at)) ∙ map-append (λ (v : Vec ℕ). v.items) (take i others) (x ∷ [])
+
+      found : (c : Bool) → list_any (bytes_eq x.items) done ≡ c → cond c now (now ++ x.items ∷ []) ≡ done ++ (filter (λ t. not (list_any (bytes_eq t) done)) (texts (take i others)) ++ filter (λ t. not (list_any (bytes_eq t) done)) (x.items ∷ []))
+      found true e = is ∙ ap (λ (l : List (List ℕ)). done ++ l) (sym (ap (λ (c : Bool). filter (λ t. not (list_any (bytes_eq t) done)) (texts (take i others)) ++ cond (not c) (x.items ∷ []) []) e ∙ append-nil _))
+      found false e =
+          ap (λ (l : List (List ℕ)). l ++ x.items ∷ []) is ∙ append_assoc done (filter (λ t. not (list_any (bytes_eq t) done)) (texts (take i others))) (x.items ∷ [])
+          ∙ ap (λ (l : List (List ℕ)). done ++ l) (sym (ap (λ (c : Bool). filter (λ t. not (list_any (bytes_eq t) done)) (texts (take i others)) ++ cond (not c) (x.items ∷ []) []) e))
 
 pub texts_more : (others : List (Vec ℕ)) (i : ℕ) (x : Vec ℕ) → i < length others → x ≡ get_or others i x → texts (take (i + 1) others) ≡ texts (take i others) ++ x.items ∷ []
 texts_more others i x below at = ap texts (take_more others i x below ∙ ap (λ (v : Vec ℕ). take i others ++ v ∷ []) (sym at)) ∙ map-append (λ (v : Vec ℕ). v.items) (take i others) (x ∷ [])
@@ -49,16 +51,16 @@ pub translations_more : (ds : List Definition) (i : ℕ) (d : Definition) (b c :
     → translations (named_entries (take (i + 1) ds)) ≡ cond b (cond c (translations (named_entries (take i ds))) (translations (named_entries (take i ds)) ++ named_entry d ∷ [])) (translations (named_entries (take i ds)))
 translations_more ds i d b c below at translated met =
     ap translations (named_more ds i d below at) ∙ ap (first_ones same_forms) (filter-append (λ (x : NamedEntry). has_translation x.entry) (named_entries (take i ds)) (named_entry d ∷ [])) ∙ found b translated where
-  found : (t : Bool) → has_translation d.entry.now ≡ t
-      → first_ones same_forms (filter (λ x. has_translation x.entry) (named_entries (take i ds)) ++ filter (λ x. has_translation x.entry) (named_entry d ∷ []))
-      ≡ cond t (cond c (translations (named_entries (take i ds))) (translations (named_entries (take i ds)) ++ named_entry d ∷ [])) (translations (named_entries (take i ds)))
-  found true e =
-      ap (λ (t : Bool). first_ones same_forms (filter (λ x. has_translation x.entry) (named_entries (take i ds)) ++ cond t (named_entry d ∷ []) [])) e
-      ∙ fold_push (with_new same_forms) [] (filter (λ x. has_translation x.entry) (named_entries (take i ds))) (named_entry d)
-      ∙ ap (λ (t : Bool). if t then translations (named_entries (take i ds)) else translations (named_entries (take i ds)) ++ named_entry d ∷ []) met
-  found false e =
-      ap (λ (t : Bool). first_ones same_forms (filter (λ x. has_translation x.entry) (named_entries (take i ds)) ++ cond t (named_entry d ∷ []) [])) e
-      ∙ ap (first_ones same_forms) (append-nil (filter (λ x. has_translation x.entry) (named_entries (take i ds))))
+      found : (t : Bool) → has_translation d.entry.now ≡ t
+          → first_ones same_forms (filter (λ x. has_translation x.entry) (named_entries (take i ds)) ++ filter (λ x. has_translation x.entry) (named_entry d ∷ []))
+          ≡ cond t (cond c (translations (named_entries (take i ds))) (translations (named_entries (take i ds)) ++ named_entry d ∷ [])) (translations (named_entries (take i ds)))
+      found true e =
+          ap (λ (t : Bool). first_ones same_forms (filter (λ x. has_translation x.entry) (named_entries (take i ds)) ++ cond t (named_entry d ∷ []) [])) e
+          ∙ fold_push (with_new same_forms) [] (filter (λ x. has_translation x.entry) (named_entries (take i ds))) (named_entry d)
+          ∙ ap (λ (t : Bool). if t then translations (named_entries (take i ds)) else translations (named_entries (take i ds)) ++ named_entry d ∷ []) met
+      found false e =
+          ap (λ (t : Bool). first_ones same_forms (filter (λ x. has_translation x.entry) (named_entries (take i ds)) ++ cond t (named_entry d ∷ []) [])) e
+          ∙ ap (first_ones same_forms) (append-nil (filter (λ x. has_translation x.entry) (named_entries (take i ds))))
 
 pub form_count_more : (ds : List Definition) (i : ℕ) (d : Definition) → i < length ds → d ≡ get_or ds i d → form_count (named_entries (take (i + 1) ds)) ≡ max (form_count (named_entries (take i ds))) (length d.entry.now.forms)
 form_count_more ds i d below at = ap form_count (named_more ds i d below at) ∙ fold_push (λ (count : ℕ) (t : NamedEntry). max count (length t.entry.forms)) 0 (named_entries (take i ds)) (named_entry d)
@@ -79,9 +81,9 @@ pub longer_more : (ds : List Definition) (i index : ℕ) (d : Definition) (b : B
 longer_more ds i index d b below at is =
     ap (longer index) (named_more ds i d below at) ∙ filter-append (λ (t : NamedEntry). nat_lt index (length t.entry.forms)) (named_entries (take i ds)) (named_entry d ∷ [])
     ∙ ap (λ (t : Bool). longer index (named_entries (take i ds)) ++ cond t (named_entry d ∷ []) []) is ∙ found b where
-  found : (t : Bool) → longer index (named_entries (take i ds)) ++ cond t (named_entry d ∷ []) [] ≡ cond t (longer index (named_entries (take i ds)) ++ named_entry d ∷ []) (longer index (named_entries (take i ds)))
-  found true = refl
-  found false = append-nil (longer index (named_entries (take i ds)))
+      found : (t : Bool) → longer index (named_entries (take i ds)) ++ cond t (named_entry d ∷ []) [] ≡ cond t (longer index (named_entries (take i ds)) ++ named_entry d ∷ []) (longer index (named_entries (take i ds)))
+      found true = refl
+      found false = append-nil (longer index (named_entries (take i ds)))
 
 -- dropping what has no form of this index, nor of a later one, changes no such form
 pub longer_keeps : (index j : ℕ) (ts : List NamedEntry) → index ≤ j → joined_form (longer index ts) j ≡ joined_form ts j
@@ -91,6 +93,7 @@ longer_keeps index j (t ∷ ts) h = found (nat_lt index (length t.entry.forms)) 
   nothing [] k l = refl
   nothing (f ∷ forms) zero l = absurd (omega (arith, l))
   nothing (f ∷ forms) (suc k) l = let less : length forms ≤ k = omega (arith, l) in nothing forms k less
+
   found : (b : Bool) → nat_lt index (length t.entry.forms) ≡ b → joined_form (longer index ts) j ≡ joined_form ts j
       → joined_form (cond b (t ∷ longer index ts) (longer index ts)) j ≡ option_map_or (marked t.name) (slice_get t.entry.forms j) [] ++ joined_form ts j
   found true e more = ap (λ (l : List ℕ). option_map_or (marked t.name) (slice_get t.entry.forms j) [] ++ l) more

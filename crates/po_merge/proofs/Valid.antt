@@ -77,7 +77,7 @@ with_others_distinct : (done ts : List (List ℕ)) → AreDistinct done → AreD
 with_others_distinct done ts h g =
     let p : List ℕ → Bool = λ t. not (list_any (bytes_eq t) done) in
     distinct_append done (filter p ts) h (distinct_filter p ts g)
-        (λ t a b. false≢true (sym (not-true (list_any (bytes_eq t) done) (contains_filter p ts t b).1) ∙ list_any_at (bytes_eq t) done a.0 t a.1 ((bytes_eq-Decides t _).1 (sym a.2))))
+    (λ t a b. false≢true (sym (not-true (list_any (bytes_eq t) done) (contains_filter p ts t b).1) ∙ list_any_at (bytes_eq t) done a.0 t a.1 ((bytes_eq-Decides t _).1 (sym a.2))))
 
 distinct_from : (of : TextEntry → List (List ℕ)) (done : List (List ℕ)) (ds : List NamedEntry) → AreDistinct done → All (λ d. AreDistinct (of d.entry)) ds → AreDistinct (fold (λ l d. with_others l (of d.entry)) done ds)
 distinct_from of done [] h g = h
@@ -129,9 +129,9 @@ ascii_text (b ∷ text) h =
       utf8 = IsUtf8-append (b ∷ []) text (IsUtf8-from_ascii (b ∷ []) (one b low)) more.utf8;
       no_nul = All-cons (λ c. c ≡ 0 → ⊥) b text (eqb-false b 0 (not-true (b == 0) here.1)) more.no_nul;
     } where
-  one : (c : ℕ) → c < 128 → IsAscii (c ∷ [])
-  one c l zero = l
-  one c l (suc i) = omega arith
+      one : (c : ℕ) → c < 128 → IsAscii (c ∷ [])
+      one c l zero = l
+      one c l (suc i) = omega arith
 
 IsText-append : (a b : List ℕ) → IsText a → IsText b → IsText (a ++ b)
 IsText-append a b h g = record { utf8 = IsUtf8-append a b h.utf8 g.utf8; no_nul = All-append (λ c. c ≡ 0 → ⊥) a b h.no_nul g.no_nul }
@@ -145,8 +145,8 @@ ended_text form h = found (ends_with nat_eq form (10 ∷ [])) where
 marked_text : (name form : List ℕ) → IsText name → IsText form → IsText (marked name form)
 marked_text name form h g =
     IsText-append (codes "#-#-#-#-#  " ++ name ++ codes "  #-#-#-#-#\n") (ended form)
-        (IsText-append (codes "#-#-#-#-#  " ++ name) (codes "  #-#-#-#-#\n") (IsText-append (codes "#-#-#-#-#  ") name (ascii_text (codes "#-#-#-#-#  ") refl) h) (ascii_text (codes "  #-#-#-#-#\n") refl))
-        (ended_text form g)
+    (IsText-append (codes "#-#-#-#-#  " ++ name) (codes "  #-#-#-#-#\n") (IsText-append (codes "#-#-#-#-#  ") name (ascii_text (codes "#-#-#-#-#  ") refl) h) (ascii_text (codes "  #-#-#-#-#\n") refl))
+    (ended_text form g)
 
 piece_text : (name : List ℕ) (forms : List (List ℕ)) (i : ℕ) → IsText name → All IsText forms → IsText (option_map_or (marked name) (slice_get forms i) [])
 piece_text name [] i h g = ascii_text [] refl
@@ -158,7 +158,7 @@ joined_text [] i h = ascii_text [] refl
 joined_text (t ∷ ts) i h =
     let d = All-head IsDefinition t ts h in
     IsText-append (option_map_or (marked t.name) (slice_get t.entry.forms i) []) (joined_form ts i)
-        (piece_text t.name t.entry.forms i (record { utf8 = d.utf8; no_nul = d.no_nul }) (quoted_parts t.entry d.valid).forms) (joined_text ts i (All-tail IsDefinition t ts h))
+    (piece_text t.name t.entry.forms i (record { utf8 = d.utf8; no_nul = d.no_nul }) (quoted_parts t.entry d.valid).forms) (joined_text ts i (All-tail IsDefinition t ts h))
 
 joined_texts : (ts : List NamedEntry) → All IsDefinition ts → All IsText (joined_forms ts)
 joined_texts ts h = All-map IsText (joined_form ts) (range_with_len 0 (form_count ts)) (λ k d below. joined_text ts _ h)
@@ -201,12 +201,15 @@ no_plural ds e = none ds (found (find (λ d. has_plural d.entry) ds) refl e) whe
     at : (b : Bool) → has_plural y.entry ≡ b → cond b (Some y) (find (λ d. has_plural d.entry) ys) ≡ Some x → (find (λ d. has_plural d.entry) ys ≡ Some x → has_plural x.entry ≡ true) → has_plural x.entry ≡ true
     at true h g more = let same : y ≡ x = cc in subst (λ (z : NamedEntry). has_plural z.entry ≡ true) same h
     at false h g more = more g
+
   found : (r : Option NamedEntry) → find (λ d. has_plural d.entry) ds ≡ r → (option_map_or (λ (d : NamedEntry). d.entry) r (first_of ds)).plural ≡ None → find (λ d. has_plural d.entry) ds ≡ None
   found None f g = f
   found (Some d) f g = absurd (false≢true (sym (ap (λ (p : Option (List ℕ)). is_some p) g) ∙ passes ds d f))
+
   nothing : (p : Option (List ℕ)) → is_some p ≡ false → p ≡ None
   nothing None h = refl
   nothing (Some t) h = cc
+
   none : (xs : List NamedEntry) → find (λ d. has_plural d.entry) xs ≡ None → All (λ d. d.entry.plural ≡ None) xs
   none [] f = All-nil (λ d. d.entry.plural ≡ None)
   none (x ∷ xs) f = at (has_plural x.entry) refl f (none xs) where
@@ -253,13 +256,16 @@ merged_is_entry o ds some h = record {
 } where
   each : (Q : TextEntry → Type 0) → ((e : TextEntry) → IsEntry e → Q e) → All (λ d. Q d.entry) ds
   each Q f = All-weaker IsDefinition (λ d. Q d.entry) (λ d v. f d.entry v.valid) ds h
+
   some_joined : 0 < length (translations ds) → 0 < length (joined_forms (translations ds))
   some_joined more =
       let count = count_joined (translations ds) in
       let least = some_forms (translations ds) more (translations_all (λ t. 0 < length t.entry.forms) ds (each (λ e. 0 < length e.forms) (λ e v. v.some_form))) in
       omega (arith, count, least)
+
   singles : (first_with has_plural ds).plural ≡ None → All (λ d. length d.entry.forms ≡ 1) ds
   singles none = λ k d below. (h k d below).valid.one_form (no_plural ds none k d below)
+
   one_joined : 0 < length (translations ds) → All (λ d. length d.entry.forms ≡ 1) ds → length (joined_forms (translations ds)) ≡ 1
   one_joined more single =
       let count = count_joined (translations ds) in

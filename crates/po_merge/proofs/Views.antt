@@ -42,8 +42,8 @@ pub first_without : (p : TextEntry → Bool) (ds : List Definition) (d : Definit
 first_without p [] d l e n = absurd (omega (arith, l))
 first_without p (x ∷ xs) d l e n =
     ap (λ (y : Definition). y.entry.now) e ∙ sym (ap (λ (r : Option NamedEntry). option_map_or (λ (y : NamedEntry). y.entry) r x.entry.now) (nothing (x ∷ xs) n)) where
-  nothing : (ys : List Definition) → list_any (λ y. p y.entry.now) ys ≡ false → find (λ y. p y.entry) (named_entries ys) ≡ None
-  nothing [] h = refl
-  nothing (y ∷ ys) h =
-      let parts = or_cases (p y.entry.now) (list_any (λ z. p z.entry.now) ys) h in
-      ap (λ (b : Bool). cond b (Some (named_entry y)) (find (λ z. p z.entry) (named_entries ys))) parts.0 ∙ nothing ys parts.1
+      nothing : (ys : List Definition) → list_any (λ y. p y.entry.now) ys ≡ false → find (λ y. p y.entry) (named_entries ys) ≡ None
+      nothing [] h = refl
+      nothing (y ∷ ys) h =
+          let parts = or_cases (p y.entry.now) (list_any (λ z. p z.entry.now) ys) h in
+          ap (λ (b : Bool). cond b (Some (named_entry y)) (find (λ z. p z.entry) (named_entries ys))) parts.0 ∙ nothing ys parts.1

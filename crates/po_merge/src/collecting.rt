@@ -81,7 +81,10 @@ pub(crate) fn comment_of(
     ensures { IfOk result (λ all. texts all.items ≡ comment_of options.now kind (named_entries definitions.now)) }
 {
     if options.use_first {
-        copy_texts(alloc, texts_of(first_with(definitions, Part::Translation), kind))
+        copy_texts(
+            alloc,
+            texts_of(first_with(definitions, Part::Translation), kind),
+        )
     } else {
         collected(alloc, definitions, kind)
     }

@@ -54,7 +54,9 @@ pub(crate) fn live<'a>(
 fn has_header(definitions: &[Definition<'_>]) -> bool
     ensures { result ≡ list_any (λ d. is_header d.entry.now) definitions.now }
 {
-    definitions.iter().any(|definition| definition.entry.is_header())
+    definitions
+        .iter()
+        .any(|definition| definition.entry.is_header())
 }
 
 /// Whether messages with this many definitions are asked for.

@@ -162,24 +162,20 @@ fn msgcat<'a>(alloc: Global) -> Result<Command<'a>, AllocError> {
             .default_value(STANDARD),
         )?
         .arg(flag(alloc, "no-wrap", "Wrap no lines, as always"))?
-        .arg(
-            value(
-                alloc,
-                "more-than",
-                "N",
-                "Keep messages with more definitions than N",
-            )
-            .value_parser(value_parser!(u32)),
-        )?
-        .arg(
-            value(
-                alloc,
-                "less-than",
-                "N",
-                "Keep messages with fewer definitions than N",
-            )
-            .value_parser(value_parser!(u32)),
-        )?
+        .arg(value(
+            alloc,
+            "more-than",
+            "N",
+            "Keep messages with more definitions than N",
+        )
+        .value_parser(value_parser!(u32)))?
+        .arg(value(
+            alloc,
+            "less-than",
+            "N",
+            "Keep messages with fewer definitions than N",
+        )
+        .value_parser(value_parser!(u32)))?
         .arg(flag(alloc, "unique", "Keep messages with one definition").short('u'))?
         .arg(flag(alloc, "use-first", "Take the first translation"))
 }

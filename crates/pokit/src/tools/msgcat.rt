@@ -6,7 +6,9 @@ ghost use Rattle.po_tools.specs.NamedFile.{named_files};
 
 use crate::files::{System, write_run};
 use clap::ArgMatches;
-use po_tools::{Inputs, MergeOptions, ProgramFault, Run, STANDARD, plan_msgcat, plan_msgcat_before};
+use po_tools::{
+    Inputs, MergeOptions, ProgramFault, Run, STANDARD, plan_msgcat, plan_msgcat_before,
+};
 use std::alloc::Global;
 use std::io::{Input, Print, Write};
 use std::rt::Files;

@@ -16,7 +16,7 @@ loop-text-preserved c = λ done h.
     let x = c.text-item.result in
     let more = one_text_more c.loop-text.seen c.insert.new.self c.as_slice.result (done ++ texts (take i others)) (c.loop-text.invariant done h) c.in_ok-insert.ensures.updates.0 in
     subst (HasTexts c.insert.new.self)
-        (append_assoc done (texts (take i others)) (c.as_slice.result.now ∷ []) ∙ ap (λ l. done ++ l) (ap (λ t. texts (take i others) ++ t ∷ []) c.as_slice.ensures.value ∙ sym (texts_more others i x c.loop-text-test.true c.text-item.is))) more
+    (append_assoc done (texts (take i others)) (c.as_slice.result.now ∷ []) ∙ ap (λ l. done ++ l) (ap (λ t. texts (take i others) ++ t ∷ []) c.as_slice.ensures.value ∙ sym (texts_more others i x c.loop-text-test.true c.text-item.is))) more
 
 pub returns : goal.returns
 returns c = λ done h.

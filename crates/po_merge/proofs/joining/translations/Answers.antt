@@ -35,7 +35,7 @@ loop-definition-preserved-then-not-branch c =
     let inv = c.loop-definition.invariant in
     let T = translations (named_entries (take c.loop-definition.definition-index c.args.definitions.now)) in
     let known : contains (λ x y. slice_cmp (λ v w. slice_cmp nat_cmp v.items w.items) x.now y.now) c.loop-definition.seen c.forms.result ≡ list_any (same_forms d) T =
-        inv.met c.forms.result ∙ ap₂ (λ (forms : List (List ℕ)) (l : List NamedEntry). list_any (λ e. texts_eq forms e.entry.forms) l) c.forms.ensures inv.are_found in
+    inv.met c.forms.result ∙ ap₂ (λ (forms : List (List ℕ)) (l : List NamedEntry). list_any (λ e. texts_eq forms e.entry.forms) l) c.forms.ensures inv.are_found in
     let met : list_any (same_forms d) T ≡ true = sym known ∙ not-false _ (sym c.in_ok-insert.ensures.added ∙ c.if-not-branch.true) in
     let unchanged = (rw c.if-not-branch.true at c.in_ok-insert.ensures.unchanged) in
     record {
@@ -49,7 +49,7 @@ loop-definition-preserved c =
     let inv = c.loop-definition.invariant in
     let T = translations (named_entries (take c.loop-definition.definition-index c.args.definitions.now)) in
     let known : contains (λ x y. slice_cmp (λ v w. slice_cmp nat_cmp v.items w.items) x.now y.now) c.loop-definition.seen c.forms.result ≡ list_any (same_forms d) T =
-        inv.met c.forms.result ∙ ap₂ (λ (forms : List (List ℕ)) (l : List NamedEntry). list_any (λ e. texts_eq forms e.entry.forms) l) c.forms.ensures inv.are_found in
+    inv.met c.forms.result ∙ ap₂ (λ (forms : List (List ℕ)) (l : List NamedEntry). list_any (λ e. texts_eq forms e.entry.forms) l) c.forms.ensures inv.are_found in
     let unmet : list_any (same_forms d) T ≡ false = sym known ∙ not-true _ (sym c.in_ok-insert.ensures.added ∙ c.if-not-branch.false) in
     let pushed = ap named_entries c.in_ok-push.ensures.items ∙ map-append named_entry c.loop-definition.found.items (c.definition-item.result ∷ []) in
     record {

@@ -29,4 +29,4 @@ loop-group-preserved c =
 pub returns-in-Err-clause-fault : goal.returns-in-Err-clause-fault
 returns-in-Err-clause-fault c =
     fault_within c.args.options.now c.args.groups.now c.loop-group.group-index c.group-item.result c.in-Err.error c.loop-group-test.true c.group-item.is
-        (subst (λ (ds : List NamedEntry). IsMergeFault (merged_messages c.args.options.now (definitions ds ∷ [])) c.in-Err.error) (ap named_entries c.deref.ensures.value) c.in-Err.ensures.fault)
+    (subst (λ (ds : List NamedEntry). IsMergeFault (merged_messages c.args.options.now (definitions ds ∷ [])) c.in-Err.error) (ap named_entries c.deref.ensures.value) c.in-Err.ensures.fault)

@@ -11,7 +11,7 @@ use Rattle.po_tools.proofs.msgcat.read_files.Goals as goal
 pub returns-in-Err-clause-fault : goal.returns-in-Err-clause-fault
 returns-in-Err-clause-fault c =
     elim c.in-Err.ensures [
-      inl memory ↦ inl memory
+      | inl memory ↦ inl memory
       | inr fault ↦ inr (file_fault c.args.files.now c.loop-name.name-index (record { ref_ptr = (0, 0); now = [] }, record { ref_ptr = (0, 0); now = [] }) (inputs_of c.loop-name.inputs.items) c.in-Err.error c.loop-name-test.true c.loop-name.invariant.read fault.1)
     ]
 

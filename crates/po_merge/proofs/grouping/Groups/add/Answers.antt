@@ -13,7 +13,7 @@ pub returns-in-Some : goal.returns-in-Some
 returns-in-Some c = λ entries h.
     let is_message : IsMessage (c.context.result, c.id.result) (named_entry c.args.definition) = record { context = c.context.ensures; id = c.id.ensures } in
     grown_grouped c.args.self.now _ entries (c.context.result, c.id.result) c.args.definition c.in-Some.place c.push.new.self c.index_mut.result.now is_message h (c.in-Some.ensures ∙ c.get.ensures.value) refl refl c.in_ok-push.ensures.items
-        (sym c.index_mut.ensures.value)
+    (sym c.index_mut.ensures.value)
 
 pub returns : goal.returns
 returns c = λ entries h.
