@@ -3,6 +3,7 @@
 use Rattle.std.specs.Prelude.{ℕ, List, [], ◌∷◌, ◌++◌, codes, decimal, ◌==◌, if◌then◌else◌}
 use Rattle.mo_file.specs.declared.fault.MoError.{MoError}
 use Rattle.mo_file.specs.declared.fault.MoError.TheVariants.{TooShort, BadMagic, BadRevision, TableOutside, StringOutside, NoTerminator, NotSorted}
+use Rattle.po_syntax.specs.declared.fault.PoError.{PoError}
 use Rattle.po_syntax.specs.declared.fault.PoFault.{PoFault}
 use Rattle.po_syntax.specs.declared.fault.PoFault.TheVariants.{NotUtf8, BadToken, UnterminatedString, BadEscape, ForbiddenByte, BadOrder, BadPluralIndex, MixedObsolete, Duplicate, ForeignCharset, TooLarge, OutOfMemory}
 
@@ -46,3 +47,7 @@ place tool file line = codes "pokit " ++ tool ++ codes ": " ++ file ++ line_mark
 -- the line of a fault on standard error
 abbrev pub fault_line : List ℕ → List ℕ → ℕ → List ℕ → List ℕ
 fault_line tool file line text = place tool file line ++ text ++ 10 ∷ []
+
+-- the line of a fault of a PO text
+abbrev pub text_line : List ℕ → List ℕ → PoError → List ℕ
+text_line tool file error = fault_line tool file error.line (po_text error.kind)

@@ -8,13 +8,13 @@ use Rattle.po_catalog.specs.Duplicate.{HasNoDuplicate, IsFirstDuplicate}
 use Rattle.po_compile.specs.Accepted.{IsTextFault, ReadsDistinct}
 use Rattle.po_select.specs.declared.selection.Selection.{Selection}
 use Rattle.po_select.specs.Selected.{selected}
-use Rattle.po_tools.specs.FaultText.{fault_line, po_text}
+use Rattle.po_tools.specs.FaultText.{text_line}
 use Rattle.po_tools.specs.Run.{Report, refusal}
 use Rattle.po_tools.specs.Written.{written_run}
 
 -- the line that reports a fault of a file
 abbrev pub error_line : List ℕ → PoError → List ℕ
-error_line name error = fault_line (codes "msgattrib") name error.line (po_text error.kind)
+error_line name error = text_line (codes "msgattrib") name error
 
 -- the text is refused for its first fault
 pub record IsRefused (name text : List ℕ) (run : Report) : Type 0 where

@@ -1,18 +1,17 @@
 -- What msgcat writes and reports (manual, "Invoking the msgcat Program").
-use Rattle.std.specs.Prelude.{◌≡◌, ◌≢◌, ◌⊎◌, ℕ, nat_lt, All, List, [], ◌∷◌, ◌++◌, length, codes}
+use Rattle.std.specs.Prelude.{◌≡◌, ◌≢◌, ◌⊎◌, ℕ, All, List, [], ◌∷◌, ◌++◌, codes}
 use Rattle.std.specs.List.{AllZip}
 use Rattle.po_syntax.specs.declared.fault.PoError.{PoError}
 use Rattle.po_syntax.specs.declared.fault.PoFault.TheVariants.{ForeignCharset, OutOfMemory as NoMemory}
-use Rattle.po_entry.specs.TextEntry.{TextEntry}
 use Rattle.po_entry.specs.Header.{HasAdmittedCharset}
-use Rattle.po_writer.specs.WrittenText.{written_text}
 use Rattle.po_compile.specs.Accepted.{ReadsDistinct, IsTextFault}
 use Rattle.po_merge.specs.Inputs.{Input}
 use Rattle.po_merge.specs.Merged.{merged}
 use Rattle.po_merge.specs.declared.input.MergeOptions.{MergeOptions}
-use Rattle.po_tools.specs.FaultText.{po_text, fault_line}
+use Rattle.po_tools.specs.FaultText.{text_line}
 use Rattle.po_tools.specs.NamedFile.{NamedFile}
 use Rattle.po_tools.specs.Run.{Report, refusal}
+use Rattle.po_tools.specs.Written.{written_run}
 
 -- a file is read as the catalogue of an input, in which no live entry repeats an earlier one
 pub record IsReadAs (file : NamedFile) (input : Input) : Type 0 where
@@ -33,11 +32,11 @@ pub record IsFileFault (files : List NamedFile) (name : List ℕ) (error : PoErr
   pub name_is : name ≡ file.name
   pub fault : IsTextFault file.bytes error
 
--- the line that tells a fault of a file
+-- the line that reports a fault of a file
 abbrev pub msgcat_line : List ℕ → PoError → List ℕ
-msgcat_line name error = fault_line (codes "msgcat") name error.line (po_text error.kind)
+msgcat_line name error = text_line (codes "msgcat") name error
 
--- a file isn't read, which is told of the first such file
+-- a file isn't read, which is reported of the first such file
 pub record IsUnread (files : List NamedFile) (run : Report) : Type 0 where
   pub name : List ℕ
   pub error : PoError
@@ -49,16 +48,12 @@ abbrev pub first_name : List NamedFile → List ℕ
 first_name [] = []
 first_name (file ∷ files) = file.name
 
--- the files are read, and a merged header names a charset that isn't admitted, which is told with the first file's name
+-- the files are read, and a merged header names a charset that isn't admitted, which is reported with the first file's name
 pub record IsForeign (files : List NamedFile) (o : MergeOptions) (run : Report) : Type 0 where
   pub inputs : List Input
   pub read : AreReadAs files inputs
   pub foreign : All HasAdmittedCharset (merged o inputs) → ⊥
   pub report : run ≡ refusal (msgcat_line (first_name files) (record { kind = ForeignCharset; line = 0 }))
-
--- the text of entries; an output file is made where there is an entry
-abbrev pub written_run : List TextEntry → Report
-written_run entries = record { output = written_text entries; create = nat_lt 0 (length entries); messages = []; status = 0 }
 
 -- the files are read, and what they are merged to is written
 pub record IsMerged (files : List NamedFile) (o : MergeOptions) (run : Report) : Type 0 where

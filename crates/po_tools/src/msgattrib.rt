@@ -4,36 +4,14 @@ ghost use Rattle.po_tools.specs.Delivered.{IsCut, IsDelivered};
 ghost use Rattle.po_tools.specs.Msgattrib.{IsMsgattribRun, error_line};
 ghost use Rattle.po_tools.specs.Run.{refusal, report};
 
-use crate::fault_text::{push_place, push_po_text};
 use crate::run::{Run, deliver};
-use crate::written::written_run;
+use crate::written::{refused_text, written_run};
 use po_catalog::duplicates;
 use po_compile::read_distinct;
 use po_select::{Selection, select};
 use po_shell::{ByteIn, ByteOut, ToolFault, read_input};
-use po_syntax::{PoError, PoFault};
+use po_syntax::PoError;
 use std::alloc::Global;
-
-/// The run of a text that is refused.
-fn refused(alloc: Global, name: &str, error: PoError) -> Result<Run, ToolFault>
-    ensures run { IfOk result (λ run. (error.kind ≢ PoFault.OutOfMemory)
-        × (report run ≡ refusal (error_line name.now error))) }
-    ensures memory { OnErr result (result ≡ Err ToolFault.OutOfMemory) }
-{
-    if error.kind == PoFault::OutOfMemory {
-        return Err(ToolFault::OutOfMemory);
-    }
-    let mut messages = Vec::new(alloc);
-    push_place(&mut messages, "msgattrib", name, error.line)?;
-    push_po_text(&mut messages, error.kind)?;
-    messages.extend_from_slice(b"\n")?;
-    Ok(Run {
-        output: Vec::new(alloc),
-        create: false,
-        messages,
-        status: 1,
-    })
-}
 
 /// What `msgattrib` writes and reports of a text with its name: the selected entries, changed as the
 /// selection says, and a file where there is one. A text that is refused is reported by one line,
@@ -50,14 +28,14 @@ pub fn plan_msgattrib(
 {
     let catalogue = match read_distinct(alloc, text) {
         Ok(catalogue) => catalogue,
-        Err(error) => return refused(alloc, name, error),
+        Err(error) => return refused_text(alloc, "msgattrib", name, error),
     };
     let Ok(selected) = select(catalogue, selection) else {
         return Err(ToolFault::OutOfMemory);
     };
     match duplicates(alloc, &selected) {
         Ok(()) => written_run(alloc, &selected),
-        Err(error) => refused(alloc, name, PoError { line: 0, ..error }),
+        Err(error) => refused_text(alloc, "msgattrib", name, PoError { line: 0, ..error }),
     }
 }
 

@@ -4,14 +4,13 @@ ghost use Rattle.po_merge.specs.Inputs.{Input};
 ghost use Rattle.po_merge.specs.InputsView.{inputs_of};
 ghost use Rattle.po_merge.specs.Merged.{merged};
 ghost use Rattle.po_catalog.specs.Duplicate.{entry_memory};
-ghost use Rattle.po_tools.specs.Msgcat.{AreReadAs, IsFileFault, IsMsgcatRun, IsUnread, first_name, msgcat_line, written_run};
+ghost use Rattle.po_tools.specs.Msgcat.{AreReadAs, IsFileFault, IsMsgcatRun, IsUnread, first_name, msgcat_line};
 ghost use Rattle.po_tools.specs.NamedFile.{named_files};
 ghost use Rattle.po_tools.specs.Run.{refusal, report};
 
-use crate::fault_text::{push_place, push_po_text};
 use crate::program_fault::ProgramFault;
 use crate::run::Run;
-use po_catalog::{Catalogue, write};
+use crate::written::{refused_text, written_run};
 use po_compile::read_distinct;
 use po_merge::{MergeOptions, Named, merge};
 use po_shell::ToolFault;
@@ -58,43 +57,6 @@ fn read_files<'a>(
     Ok(inputs)
 }
 
-/// The run of files that aren't merged.
-fn refused_run(alloc: Global, name: &str, error: PoError) -> Result<Run, ToolFault>
-    ensures run { IfOk result (λ run. (error.kind ≢ PoFault.OutOfMemory) × (report run ≡ refusal (msgcat_line name.now error))) }
-    ensures memory { OnErr result (result ≡ Err ToolFault.OutOfMemory) }
-{
-    if error.kind == PoFault::OutOfMemory {
-        return Err(ToolFault::OutOfMemory);
-    }
-    let mut messages = Vec::new(alloc);
-    push_place(&mut messages, "msgcat", name, error.line)?;
-    push_po_text(&mut messages, error.kind)?;
-    messages.extend_from_slice(b"\n")?;
-    Ok(Run {
-        output: Vec::new(alloc),
-        create: false,
-        messages,
-        status: 1,
-    })
-}
-
-/// The run of a catalogue that is written.
-fn written_run(alloc: Global, catalogue: &Catalogue) -> Result<Run, ToolFault>
-    ensures run { IfOk result (λ run. report run ≡ written_run catalogue.now) }
-    ensures memory { OnErr result (result ≡ Err ToolFault.OutOfMemory) }
-{
-    let create = catalogue.entries().len() > 0;
-    match write(alloc, catalogue) {
-        Ok(output) => Ok(Run {
-            output,
-            create,
-            messages: Vec::new(alloc),
-            status: 0,
-        }),
-        Err(_) => Err(ToolFault::OutOfMemory),
-    }
-}
-
 /// The name of the first file.
 fn first_name<'a>(files: &[(&'a str, &[u8])]) -> &'a str
     ensures { result.now ≡ first_name (named_files files.now) }
@@ -106,7 +68,7 @@ fn first_name<'a>(files: &[(&'a str, &[u8])]) -> &'a str
 }
 
 /// What `msgcat` writes and reports of its inputs, each with its name: the text of the catalogue that they are merged
-/// to, where it has an entry. An input that isn't read, the first of them, is told by one line, with status 1, and else
+/// to, where it has an entry. An input that isn't read, the first of them, is reported by one line, with status 1, and else
 /// a charset that isn't admitted, with the first input's name. Refused only where an allocation failed.
 pub fn plan_msgcat(
     alloc: Global,
@@ -119,11 +81,11 @@ pub fn plan_msgcat(
 {
     let catalogues = match read_files(alloc, inputs) {
         Ok(catalogues) => catalogues,
-        Err(fault) => return refused_run(alloc, fault.name, fault.error),
+        Err(fault) => return refused_text(alloc, "msgcat", fault.name, fault.error),
     };
     match merge(alloc, &catalogues, options) {
         Ok(merged) => written_run(alloc, &merged),
-        Err(error) => refused_run(alloc, first_name(inputs), error),
+        Err(error) => refused_text(alloc, "msgcat", first_name(inputs), error),
     }
 }
 
@@ -140,7 +102,7 @@ pub fn plan_msgcat_before<'a>(
 {
     match read_files(alloc, inputs) {
         Ok(_) => Err(fault),
-        Err(unread) => match refused_run(alloc, unread.name, unread.error) {
+        Err(unread) => match refused_text(alloc, "msgcat", unread.name, unread.error) {
             Ok(run) => Ok(run),
             Err(_) => Err(ProgramFault::OutOfMemory),
         },

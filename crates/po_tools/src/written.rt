@@ -1,11 +1,35 @@
-ghost use Rattle.std.specs.Prelude.{◌≡◌, Err, IfOk, OnErr};
-ghost use Rattle.po_tools.specs.Run.{report};
+// What a tool comes to that reads PO texts and writes one.
+ghost use Rattle.std.specs.Prelude.{◌≡◌, ◌≢◌, Err, IfOk, OnErr};
+ghost use Rattle.po_tools.specs.FaultText.{text_line};
+ghost use Rattle.po_tools.specs.Run.{refusal, report};
 ghost use Rattle.po_tools.specs.Written.{written_run};
 
-use crate::run::Run;
+use crate::fault_text::{push_place, push_po_text};
+use crate::run::{Run, refused};
 use po_catalog::{Catalogue, write};
 use po_shell::ToolFault;
+use po_syntax::{PoError, PoFault};
 use std::alloc::Global;
+
+/// The run of a tool that refuses a text: one line that reports the fault.
+pub(crate) fn refused_text(
+    alloc: Global,
+    tool: &str,
+    name: &str,
+    error: PoError,
+) -> Result<Run, ToolFault>
+    ensures run { IfOk result (λ run. (error.kind ≢ PoFault.OutOfMemory) × (report run ≡ refusal (text_line tool.now name.now error))) }
+    ensures memory { OnErr result (result ≡ Err ToolFault.OutOfMemory) }
+{
+    if error.kind == PoFault::OutOfMemory {
+        return Err(ToolFault::OutOfMemory);
+    }
+    let mut messages = Vec::new(alloc);
+    push_place(&mut messages, tool, name, error.line)?;
+    push_po_text(&mut messages, error.kind)?;
+    messages.extend_from_slice(b"\n")?;
+    Ok(refused(alloc, messages))
+}
 
 /// The run of a tool that writes this catalogue: its text, and a file where it has an entry.
 pub(crate) fn written_run(alloc: Global, catalogue: &Catalogue) -> Result<Run, ToolFault>

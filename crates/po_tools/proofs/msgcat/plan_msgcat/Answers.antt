@@ -7,5 +7,5 @@ use Rattle.po_tools.proofs.msgcat.plan_msgcat.Goals as goal
 
 pub returns-clause-run : goal.returns-clause-run
 returns-clause-run c =
-    foreign_run (named_files c.args.inputs.now) c.args.options.now (inputs_of c.deref.result.now) c.first_name.result.now c.in-Err-merge.error c.refused_run-in-Err-merge.result
-    (subst (λ l. AreReadAs (named_files c.args.inputs.now) (inputs_of l)) (sym c.deref.ensures.value) c.in-Ok.ensures.read) c.in-Err-merge.ensures.fault c.first_name.ensures c.refused_run-in-Err-merge.ensures.run
+    foreign_run (named_files c.args.inputs.now) c.args.options.now (inputs_of c.deref.result.now) c.first_name.result.now c.in-Err-merge.error c.refused_text-in-Err-merge.result
+    (subst (λ l. AreReadAs (named_files c.args.inputs.now) (inputs_of l)) (sym c.deref.ensures.value) c.in-Ok.ensures.read) c.in-Err-merge.ensures.fault c.first_name.ensures c.refused_text-in-Err-merge.ensures.run
