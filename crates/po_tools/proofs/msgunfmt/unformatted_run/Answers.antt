@@ -1,6 +1,5 @@
 use Rattle.std.proofs.Common.{◌≡◌, ap, ◌∙◌, refl, length, rules}
 use Rattle.std.specs.Prelude.{nat_lt}
-use Rattle.po_tools.specs.Run.{Report}
 use Rattle.po_tools.proofs.MsgunfmtLemmas.{create_is}
 use Rattle.po_tools.proofs.msgunfmt.unformatted_run.Goals as goal
 
