@@ -66,6 +66,9 @@ pub fn run_msgattrib<R: ByteIn, O: ByteOut, E: ByteOut>(
     ensures read_fault { IsErrOf result ToolFault.ReadFault → R.failures reader.new ≡ R.failures reader.old + 1 }
     ensures write_fault { IsErrOf result ToolFault.WriteFault
         → O.failures out.new + E.failures err.new ≡ O.failures out.old + E.failures err.old + 1 }
+    ensures read_failures { (result ≢ Err ToolFault.ReadFault) → R.failures reader.new ≡ R.failures reader.old }
+    ensures out_failures { (result ≢ Err ToolFault.WriteFault) → O.failures out.new ≡ O.failures out.old }
+    ensures err_failures { (result ≢ Err ToolFault.WriteFault) → E.failures err.new ≡ E.failures err.old }
 {
     let text = read_input(alloc, reader)?;
     let run = plan_msgattrib(alloc, &text, name, selection)?;
