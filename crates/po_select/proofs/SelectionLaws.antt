@@ -58,7 +58,6 @@ selected_once s entries h =
 
 IsEntry-marked : (e : TextEntry) (fuzzy obsolete : Bool) → IsEntry e → IsEntry (record e { fuzzy = fuzzy; obsolete = obsolete })
 IsEntry-marked e fuzzy obsolete h = record {
-  comment_texts = h.comment_texts;
   quoted_texts = h.quoted_texts;
   comments = h.comments;
   extracted = h.extracted;

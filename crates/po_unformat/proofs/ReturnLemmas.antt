@@ -75,7 +75,6 @@ bare_valid entry valid =
     let ids = All-append IsText context id contexts (All-right IsText (previous ++ context) id to_id) in
     let plurals = All-append IsText (context ++ id) plural ids (All-right IsText ((previous ++ context) ++ id) plural to_plural) in
     record {
-      comment_texts = All-nil IsText;
       quoted_texts = All-append IsText ((context ++ id) ++ plural) entry.forms plurals (All-right IsText (((previous ++ context) ++ id) ++ plural) entry.forms valid.quoted_texts);
       comments = All-nil IsTranslatorComment;
       extracted = All-nil IsComment;

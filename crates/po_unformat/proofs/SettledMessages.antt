@@ -141,7 +141,6 @@ message_entry : (m : Message) → HasTexts (entry_of_message m) → IsEntry (ent
 message_entry m texts =
     let taken = some_taken (plural_of m.original) (forms m.translation) (omega (arith, length-slice_split is_nul m.translation)) in
     record {
-      comment_texts = All-nil IsText;
       quoted_texts = λ i d inside. record { utf8 = texts.utf8 i d inside; no_nul = texts.clean.no_nul i d inside };
       comments = All-nil IsTranslatorComment;
       extracted = All-nil IsComment;
