@@ -16,7 +16,7 @@ lacks : (name : List ℕ) → list_any (λ b. b == 0) name ≡ false → Lacks 0
 lacks [] h = All-nil (λ b. b ≡ 0 → ⊥)
 lacks (b ∷ name) h = let both = parts (b == 0) (list_any (λ c. c == 0) name) h in All-cons (λ c. c ≡ 0 → ⊥) b name (eqb-false b 0 both.0) (lacks name both.1)
 
-pub loop-name-preserved : goal.loop-name-preserved
-loop-name-preserved c =
-    subst (All (λ file. Lacks 0 file.name)) (sym (ap named_files c.in_ok-push.ensures.items ∙ map-append named_file c.loop-name.texts.items (_ ∷ [])))
-    (All-push (λ file. Lacks 0 file.name) (named_files c.loop-name.texts.items) _ c.loop-name.invariant (lacks _ (sym c.has_nul.ensures ∙ c.if-has_nul.false)))
+pub loop-input-preserved : goal.loop-input-preserved
+loop-input-preserved c =
+    subst (All (λ file. Lacks 0 file.name)) (sym (ap named_files c.in_ok-push.ensures.items ∙ map-append named_file c.loop-input.texts.items (_ ∷ [])))
+    (All-push (λ file. Lacks 0 file.name) (named_files c.loop-input.texts.items) _ c.loop-input.invariant (lacks _ (sym c.has_nul.ensures ∙ c.if-has_nul.false)))

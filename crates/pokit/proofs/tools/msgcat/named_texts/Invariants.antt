@@ -4,5 +4,5 @@ use Rattle.po_tools.specs.NamedFile.{named_files}
 use Rattle.pokit.proofs.tools.msgcat.named_texts.Given as goal
 
 -- no name so far holds NUL
-abbrev pub invariant-loop-name : goal.invariant-loop-name
-invariant-loop-name l = All (λ file. Lacks 0 file.name) (named_files l.texts.items)
+abbrev pub invariant-loop-input : goal.invariant-loop-input
+invariant-loop-input l = All (λ file. Lacks 0 file.name) (named_files l.texts.items)
