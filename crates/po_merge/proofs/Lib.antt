@@ -8,3 +8,4 @@ pub mod Steps
 pub mod Valid
 pub mod OneDefinition
 pub mod GroupsMerged
+pub mod MergedMessages

@@ -6,3 +6,4 @@ pub mod Merged
 pub mod Grouping
 pub mod Sets
 pub mod Parts
+pub mod MergeLaws

@@ -6,6 +6,7 @@ mod definition;
 mod grouping;
 mod input;
 mod joining;
+pub mod laws;
 mod merging;
 
 pub use crate::input::{MergeOptions, Named};

@@ -1,0 +1,58 @@
+-- What is merged of each message of valid inputs.
+use Rattle.std.proofs.Common.{◌≡◌, ℕ, ◌<◌, Bool, true, false, List, [], ◌∷◌, ◌++◌, refl, sym, ap, ◌∙◌, subst, map, filter, length, arith, suc}
+use Rattle.std.specs.Prelude.{All, Contains, if◌then◌else◌}
+use Rattle.std.specs.List.{list_any}
+use Rattle.std.proofs.lemmas.List.Elements.{All-nil, All-cons, All-head, All-tail, All-append, All-filter, All-map, All-weaker, All-contains_itself}
+use Rattle.po_entry.specs.TextEntry.{TextEntry}
+use Rattle.po_entry.specs.Header.{HasAdmittedCharset}
+use Rattle.po_entry.specs.Validity.{IsEntry, IsCatalogueEntry}
+use Rattle.po_catalog.specs.Joined.{is_live}
+use Rattle.po_catalog.specs.Statistics.{has_translation}
+use Rattle.po_merge.specs.declared.input.MergeOptions.{MergeOptions}
+use Rattle.po_merge.specs.Inputs.{Input, NamedEntry, named, all_entries}
+use Rattle.po_merge.specs.Groups.{groups, definitions}
+use Rattle.po_merge.specs.Grouping.{IsDefinition, IsGroup}
+use Rattle.po_merge.specs.MergedEntry.{merged_entry, is_joined, joined_forms, translations, taken}
+use Rattle.po_merge.specs.Merged.{is_kept, messages, merged, merged_messages}
+use Rattle.po_merge.specs.MergeLaws.{IsInput, OneDefinitionStays, MergedAreEntries, MergedCanStand, FormsAreOfOne}
+use Rattle.po_merge.proofs.Valid.{merged_is_entry, first_with_keeps}
+use Rattle.po_merge.proofs.GroupsMerged.{groups_valid, live_valid}
+use Rattle.po_merge.proofs.OneDefinition.{one_definition}
+
+inputs_valid : (inputs : List Input) → All IsInput inputs → All IsDefinition (all_entries inputs)
+inputs_valid [] h = All-nil IsDefinition
+inputs_valid (input ∷ inputs) h =
+    let here = All-head IsInput input inputs h in
+    All-append IsDefinition (map (named input.name) input.entries) (all_entries inputs)
+    (All-map IsDefinition (named input.name) input.entries (All-weaker IsCatalogueEntry (λ e. IsDefinition (named input.name e)) (λ e v. record { valid = v.valid; utf8 = here.name.utf8; no_nul = here.name.no_nul }) input.entries here.entries))
+    (inputs_valid inputs (All-tail IsInput input inputs h))
+
+definitions_valid : (group : List NamedEntry) → IsGroup group → IsGroup (definitions group)
+definitions_valid group h = found (list_any (λ d. is_live d.entry) group) refl where
+  found : (b : Bool) → list_any (λ d. is_live d.entry) group ≡ b → IsGroup (if b then filter (λ d. is_live d.entry) group else group)
+  found true e = live_valid group h e
+  found false e = h
+
+pub merged_entries : (o : MergeOptions) (inputs : List Input) → MergedAreEntries o inputs
+merged_entries o inputs h =
+    let all = groups_valid (all_entries inputs) (inputs_valid inputs h) in
+    let valid : All IsGroup (messages inputs) = All-map IsGroup definitions (groups (all_entries inputs)) (All-weaker IsGroup (λ g. IsGroup (definitions g)) definitions_valid (groups (all_entries inputs)) all) in
+    let kept = filter (is_kept o) (messages inputs) in
+    All-map IsEntry (merged_entry o) kept (All-weaker IsGroup (λ ds. IsEntry (merged_entry o ds)) (λ ds g. merged_is_entry o ds g.some g.valid) kept (All-filter (is_kept o) IsGroup (messages inputs) valid))
+
+pub merged_can_stand : (o : MergeOptions) (inputs : List Input) → MergedCanStand o inputs
+merged_can_stand o inputs h charsets = λ k d below. record { valid = merged_entries o inputs h k d below; charset = charsets k d below }
+
+pub one_stays : (o : MergeOptions) (definition : NamedEntry) → OneDefinitionStays o definition
+one_stays o definition = one_definition o definition
+
+pub forms_of_one : (o : MergeOptions) (ds : List NamedEntry) → FormsAreOfOne o ds
+forms_of_one o ds some apart =
+    let forms_of : NamedEntry → List (List ℕ) = λ d. d.entry.forms in
+    let among : All (λ d. Contains (map forms_of ds) d.entry.forms) ds = each ds in
+    subst (λ (b : Bool). Contains (map forms_of ds) (if b then joined_forms (translations ds) else (taken ds).forms)) (sym apart)
+    (first_with_keeps (λ e. Contains (map forms_of ds) e.forms) has_translation ds some among) where
+      each : (xs : List NamedEntry) → All (λ d. Contains (map (λ (x : NamedEntry). x.entry.forms) xs) d.entry.forms) xs
+      each [] = All-nil (λ d. Contains [] d.entry.forms)
+      each (x ∷ xs) = All-cons (λ d. Contains (map (λ (y : NamedEntry). y.entry.forms) (x ∷ xs)) d.entry.forms) x xs (0, omega arith, refl)
+          (All-weaker (λ d. Contains (map (λ (y : NamedEntry). y.entry.forms) xs) d.entry.forms) (λ d. Contains (map (λ (y : NamedEntry). y.entry.forms) (x ∷ xs)) d.entry.forms) (λ d c. let l = c.1 in (suc c.0, omega (arith, l), c.2)) xs (each xs))

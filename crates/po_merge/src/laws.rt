@@ -1,0 +1,22 @@
+//! Laws of merging, each on a function that does nothing: a crate that rests on one calls it.
+ghost use Rattle.std.specs.Prelude.{List};
+ghost use Rattle.po_merge.specs.declared.input.MergeOptions.{MergeOptions};
+ghost use Rattle.po_merge.specs.Inputs.{Input, NamedEntry};
+ghost use Rattle.po_merge.specs.MergeLaws.{FormsAreOfOne, MergedAreEntries, MergedCanStand, OneDefinitionStays};
+
+/// What one definition of a message is merged to is its entry.
+pub fn one_definition_stays()
+    ensures { (options : MergeOptions) (definition : NamedEntry) → OneDefinitionStays options definition }
+{}
+
+/// What valid inputs are merged to are entries, and they can stand in a catalogue if the charset of each header among
+/// them is admitted.
+pub fn merged_entries_can_stand()
+    ensures entries { (options : MergeOptions) (inputs : List Input) → MergedAreEntries options inputs }
+    ensures can_stand { (options : MergeOptions) (inputs : List Input) → MergedCanStand options inputs }
+{}
+
+/// Where different translations of a message aren't joined, its forms are those of one of its definitions.
+pub fn forms_are_of_an_input()
+    ensures { (options : MergeOptions) (definitions : List NamedEntry) → FormsAreOfOne options definitions }
+{}
