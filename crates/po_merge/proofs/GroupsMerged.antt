@@ -26,14 +26,14 @@ use Rattle.po_merge.specs.Merged.{is_kept, merged_messages, IsMergeFault}
 use Rattle.po_merge.proofs.FirstOnes.{group_of, any_first_ones}
 use Rattle.po_merge.proofs.Messages.{same_message_laws}
 
-some_passes : {X : Type 0} (p : X → Bool) (xs : List X) → list_any p xs ≡ true → 0 < length (filter p xs)
+pub some_passes : {X : Type 0} (p : X → Bool) (xs : List X) → list_any p xs ≡ true → 0 < length (filter p xs)
 some_passes p [] h = absurd (false≢true h)
 some_passes p (x ∷ xs) h = found (p x) h (some_passes p xs) where
   found : (b : Bool) → (b || list_any p xs) ≡ true → (list_any p xs ≡ true → 0 < length (filter p xs)) → 0 < length (cond b (x ∷ filter p xs) (filter p xs))
   found true g more = omega arith
   found false g more = more g
 
-any_same : {X : Type 0} (p q : X → Bool) → ((x : X) → p x ≡ q x) → (xs : List X) → list_any p xs ≡ list_any q xs
+pub any_same : {X : Type 0} (p q : X → Bool) → ((x : X) → p x ≡ q x) → (xs : List X) → list_any p xs ≡ list_any q xs
 any_same p q h [] = refl
 any_same p q h (x ∷ xs) = ap₂ (λ (a b : Bool). a || b) (h x) (any_same p q h xs)
 

@@ -9,3 +9,4 @@ pub mod Valid
 pub mod OneDefinition
 pub mod GroupsMerged
 pub mod MergedMessages
+pub mod MessagesOnce

@@ -33,7 +33,7 @@ found_keeps Q p (d ∷ ds) e h g = found (p d) (found_keeps Q p ds e (All-tail (
   found true more = All-head (λ x. Q x.entry) d ds h
   found false more = more
 
-first_keeps : (Q : TextEntry → Type 0) (ds : List NamedEntry) → 0 < length ds → All (λ d. Q d.entry) ds → Q (first_of ds)
+pub first_keeps : (Q : TextEntry → Type 0) (ds : List NamedEntry) → 0 < length ds → All (λ d. Q d.entry) ds → Q (first_of ds)
 first_keeps Q [] some h = absurd (omega (arith, some))
 first_keeps Q (d ∷ ds) some h = All-head (λ x. Q x.entry) d ds h
 

@@ -1,11 +1,16 @@
 -- What is promised of merging beyond its definition (manual, "Invoking the msgcat Program").
-use Rattle.std.specs.Prelude.{◌≡◌, ◌<◌, false, List, [], ◌∷◌, map, length, All, Contains}
+use Rattle.std.specs.Prelude.{◌≡◌, ℕ, ◌<◌, Bool, false, ◌&&◌, List, [], ◌∷◌, map, filter, length, All, Contains, Option, bytes_eq}
+use Rattle.std.specs.List.{list_any}
+use Rattle.std.specs.Option.{option_eq}
+use Rattle.po_entry.specs.TextEntry.{TextEntry}
 use Rattle.po_entry.specs.Header.{HasAdmittedCharset}
 use Rattle.po_entry.specs.Validity.{IsText, IsEntry, IsCatalogueEntry}
+use Rattle.po_catalog.specs.Duplicate.{AllDiffer}
 use Rattle.po_merge.specs.declared.input.MergeOptions.{MergeOptions}
-use Rattle.po_merge.specs.Inputs.{Input, NamedEntry}
+use Rattle.po_merge.specs.Inputs.{Input, NamedEntry, all_entries}
+use Rattle.po_merge.specs.Groups.{definitions}
 use Rattle.po_merge.specs.MergedEntry.{merged_entry, is_joined}
-use Rattle.po_merge.specs.Merged.{merged}
+use Rattle.po_merge.specs.Merged.{is_kept, merged}
 
 -- what one definition is merged to is its entry
 abbrev pub OneDefinitionStays : MergeOptions → NamedEntry → Type 0
@@ -24,6 +29,28 @@ MergedAreEntries o inputs = All IsInput inputs → All IsEntry (merged o inputs)
 abbrev pub MergedCanStand : MergeOptions → List Input → Type 0
 MergedCanStand o inputs =
     All IsInput inputs → All HasAdmittedCharset (merged o inputs) → All IsCatalogueEntry (merged o inputs)
+
+-- the entry is of the message with this context and msgid
+abbrev pub is_of : Option (List ℕ) → List ℕ → TextEntry → Bool
+is_of context id entry = option_eq bytes_eq entry.context context && bytes_eq entry.id id
+
+-- one of the entries is of this message
+abbrev pub has_message : Option (List ℕ) → List ℕ → List TextEntry → Bool
+has_message context id entries = list_any (is_of context id) entries
+
+-- the entries of this message in all inputs
+abbrev pub entries_of : Option (List ℕ) → List ℕ → List Input → List NamedEntry
+entries_of context id inputs = filter (λ e. is_of context id e.entry) (all_entries inputs)
+
+-- no two merged entries are of one message
+abbrev pub MessagesStandOnce : MergeOptions → List Input → Type 0
+MessagesStandOnce o inputs = AllDiffer (merged o inputs)
+
+-- a message is among the merged entries exactly where an input has it, and what defines it is kept
+abbrev pub KeptMessagesStand : MergeOptions → List Input → Option (List ℕ) → List ℕ → Type 0
+KeptMessagesStand o inputs context id =
+    has_message context id (merged o inputs)
+    ≡ (has_message context id (map (λ e. e.entry) (all_entries inputs)) && is_kept o (definitions (entries_of context id inputs)))
 
 -- where different translations aren't joined, the forms are those of one of the definitions
 abbrev pub FormsAreOfOne : MergeOptions → List NamedEntry → Type 0

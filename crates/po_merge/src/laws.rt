@@ -1,8 +1,8 @@
 //! Laws of merging, each on a function that does nothing: a crate that rests on one calls it.
-ghost use Rattle.std.specs.Prelude.{List};
+ghost use Rattle.std.specs.Prelude.{ℕ, List, Option};
 ghost use Rattle.po_merge.specs.declared.input.MergeOptions.{MergeOptions};
 ghost use Rattle.po_merge.specs.Inputs.{Input, NamedEntry};
-ghost use Rattle.po_merge.specs.MergeLaws.{FormsAreOfOne, MergedAreEntries, MergedCanStand, OneDefinitionStays};
+ghost use Rattle.po_merge.specs.MergeLaws.{FormsAreOfOne, KeptMessagesStand, MergedAreEntries, MergedCanStand, MessagesStandOnce, OneDefinitionStays};
 
 /// What one definition of a message is merged to is its entry.
 pub fn one_definition_stays()
@@ -14,6 +14,14 @@ pub fn one_definition_stays()
 pub fn merged_entries_can_stand()
     ensures entries { (options : MergeOptions) (inputs : List Input) → MergedAreEntries options inputs }
     ensures can_stand { (options : MergeOptions) (inputs : List Input) → MergedCanStand options inputs }
+{}
+
+/// No two merged entries have one context and msgid; and a message is among the merged entries exactly where an input
+/// has it, and what defines it is kept.
+pub fn messages_stand_once()
+    ensures once { (options : MergeOptions) (inputs : List Input) → MessagesStandOnce options inputs }
+    ensures kept { (options : MergeOptions) (inputs : List Input) (context : Option (List ℕ)) (id : List ℕ)
+        → KeptMessagesStand options inputs context id }
 {}
 
 /// Where different translations of a message aren't joined, its forms are those of one of its definitions.
