@@ -10,3 +10,4 @@ pub mod OneDefinition
 pub mod GroupsMerged
 pub mod MergedMessages
 pub mod MessagesOnce
+pub mod SameInput

@@ -20,7 +20,7 @@ only_one has d = found (has d.entry) where
   found true = refl
   found false = refl
 
-all_kept : (ts : List (List ℕ)) → filter (λ t. not (list_any (bytes_eq t) [])) ts ≡ ts
+pub all_kept : (ts : List (List ℕ)) → filter (λ t. not (list_any (bytes_eq t) [])) ts ≡ ts
 all_kept [] = refl
 all_kept (t ∷ ts) = ap (λ (l : List (List ℕ)). t ∷ l) (all_kept ts)
 
@@ -38,7 +38,7 @@ not_joined o d = found (has_translation d.entry) (not o.use_first) where
   found false true = refl
   found false false = refl
 
-abbrev rebuilt : List (List ℕ) → List (List ℕ) → List (List ℕ) → Bool → List (List ℕ) → TextPrevious → Option (List ℕ) → List (List ℕ) → TextEntry → TextEntry
+abbrev pub rebuilt : List (List ℕ) → List (List ℕ) → List (List ℕ) → Bool → List (List ℕ) → TextPrevious → Option (List ℕ) → List (List ℕ) → TextEntry → TextEntry
 rebuilt comments extracted references fuzzy flags previous plural forms e = record {
   comments = comments;
   extracted = extracted;

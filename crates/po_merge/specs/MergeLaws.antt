@@ -1,5 +1,5 @@
 -- What is promised of merging beyond its definition (manual, "Invoking the msgcat Program").
-use Rattle.std.specs.Prelude.{◌≡◌, ℕ, ◌<◌, Bool, false, ◌&&◌, List, [], ◌∷◌, map, filter, length, All, Contains, Option, bytes_eq}
+use Rattle.std.specs.Prelude.{◌≡◌, ℕ, ◌<◌, Bool, false, ◌&&◌, List, [], ◌∷◌, map, filter, length, All, Contains, Option, None, bytes_eq}
 use Rattle.std.specs.List.{list_any}
 use Rattle.std.specs.Option.{option_eq}
 use Rattle.po_entry.specs.TextEntry.{TextEntry}
@@ -51,6 +51,23 @@ abbrev pub KeptMessagesStand : MergeOptions → List Input → Option (List ℕ)
 KeptMessagesStand o inputs context id =
     has_message context id (merged o inputs)
     ≡ (has_message context id (map (λ e. e.entry) (all_entries inputs)) && is_kept o (definitions (entries_of context id inputs)))
+
+-- all messages are kept, and `--use-first` is given or not
+abbrev pub keep_all : Bool → MergeOptions
+keep_all use_first = record { more_than = 0; less_than = None; unique = false; use_first = use_first }
+
+-- an input in which no message stands twice is merged to its entries
+abbrev pub OneInputStays : Bool → Input → Type 0
+OneInputStays use_first input = AllDiffer input.entries → merged (keep_all use_first) (input ∷ []) ≡ input.entries
+
+-- the same entries under another name
+abbrev pub renamed : List ℕ → Input → Input
+renamed name input = record { name = name; entries = input.entries }
+
+-- and so it is together with itself, under whatever name
+abbrev pub WithItself : Bool → Input → List ℕ → Type 0
+WithItself use_first input name =
+    AllDiffer input.entries → merged (keep_all use_first) (input ∷ renamed name input ∷ []) ≡ input.entries
 
 -- where different translations aren't joined, the forms are those of one of the definitions
 abbrev pub FormsAreOfOne : MergeOptions → List NamedEntry → Type 0

@@ -1,8 +1,8 @@
 //! Laws of merging, each on a function that does nothing: a crate that rests on one calls it.
-ghost use Rattle.std.specs.Prelude.{ℕ, List, Option};
+ghost use Rattle.std.specs.Prelude.{ℕ, Bool, List, Option};
 ghost use Rattle.po_merge.specs.declared.input.MergeOptions.{MergeOptions};
 ghost use Rattle.po_merge.specs.Inputs.{Input, NamedEntry};
-ghost use Rattle.po_merge.specs.MergeLaws.{FormsAreOfOne, KeptMessagesStand, MergedAreEntries, MergedCanStand, MessagesStandOnce, OneDefinitionStays};
+ghost use Rattle.po_merge.specs.MergeLaws.{FormsAreOfOne, KeptMessagesStand, MergedAreEntries, MergedCanStand, MessagesStandOnce, OneDefinitionStays, OneInputStays, WithItself};
 
 /// What one definition of a message is merged to is its entry.
 pub fn one_definition_stays()
@@ -22,6 +22,17 @@ pub fn messages_stand_once()
     ensures once { (options : MergeOptions) (inputs : List Input) → MessagesStandOnce options inputs }
     ensures kept { (options : MergeOptions) (inputs : List Input) (context : Option (List ℕ)) (id : List ℕ)
         → KeptMessagesStand options inputs context id }
+{}
+
+/// An input in which no message stands twice, not even among obsolete entries, is merged to its entries, where all
+/// messages are kept.
+pub fn one_input_stays()
+    ensures { (use_first : Bool) (input : Input) → OneInputStays use_first input }
+{}
+
+/// So is that input together with the same entries, under whatever name.
+pub fn with_itself()
+    ensures { (use_first : Bool) (input : Input) (name : List ℕ) → WithItself use_first input name }
 {}
 
 /// Where different translations of a message aren't joined, its forms are those of one of its definitions.
