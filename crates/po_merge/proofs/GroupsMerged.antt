@@ -1,14 +1,13 @@
 -- The groups of valid entries, and what is merged of them.
-use Rattle.std.proofs.Common.{◌≡◌, ℕ, ◌+◌, ◌<◌, Bool, true, false, cond, not, ◌||◌, List, [], ◌∷◌, ◌++◌, Option, Some, None, refl, sym, ap, ap₂, ◌∙◌, subst, map, filter, take, get_or, length, arith, zero, suc, inl, inr, append-nil}
+use Rattle.std.proofs.Common.{◌≡◌, ℕ, ◌+◌, ◌<◌, Bool, true, false, cond, ◌||◌, List, [], ◌∷◌, ◌++◌, refl, sym, ap, ap₂, ◌∙◌, subst, map, filter, take, get_or, length, arith, zero, suc, inl, inr}
 use Rattle.std.specs.Prelude.{All, if◌then◌else◌}
 use Rattle.std.specs.List.{list_any}
 use Rattle.std.specs.Global.{Vec}
-use Rattle.std.specs.Cmp.{IsEquivalence}
 use Rattle.std.proofs.lemmas.Bool.{false≢true}
 use Rattle.std.proofs.Math.ListN.{get_or-map}
 use Rattle.std.proofs.lemmas.List.{take_more, map-append, length-map}
 use Rattle.std.proofs.lemmas.List.Folds.{list_any_at}
-use Rattle.std.proofs.lemmas.List.Elements.{All-nil, All-cons, All-head, All-tail, All-filter, All-map, filter-append}
+use Rattle.std.proofs.lemmas.List.Elements.{All-head, All-filter, All-map, filter-append}
 use Rattle.po_syntax.specs.declared.fault.PoError.{PoError}
 use Rattle.po_entry.specs.Halves.{All-left, All-right}
 use Rattle.po_entry.specs.Header.{HasAdmittedCharset}
@@ -18,7 +17,7 @@ use Rattle.po_catalog.specs.Joined.{is_live}
 use Rattle.po_merge.specs.declared.definition.Definition.{Definition}
 use Rattle.po_merge.specs.declared.input.MergeOptions.{MergeOptions}
 use Rattle.po_merge.specs.Inputs.{NamedEntry}
-use Rattle.po_merge.specs.InputsView.{named_entry, named_entries}
+use Rattle.po_merge.specs.InputsView.{named_entries}
 use Rattle.po_merge.specs.Groups.{same_message, first_ones, groups, definitions}
 use Rattle.po_merge.specs.Grouping.{IsDefinition, IsGroup, group_entries}
 use Rattle.po_merge.specs.MergedEntry.{merged_entry}

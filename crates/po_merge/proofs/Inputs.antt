@@ -1,7 +1,6 @@
 -- The entries of the inputs so far, and of one more.
-use Rattle.std.proofs.Common.{◌≡◌, ℕ, ◌+◌, ◌<◌, List, [], ◌∷◌, ◌++◌, sym, ap, ap₂, ◌∙◌, refl, subst, map, take, get_or, length, append-nil, append_assoc}
+use Rattle.std.proofs.Common.{◌≡◌, ℕ, ◌+◌, ◌<◌, List, [], ◌∷◌, ◌++◌, sym, ap, ◌∙◌, map, take, get_or, length, append-nil, append_assoc}
 use Rattle.std.specs.Prelude.{All, IsUtf8}
-use Rattle.std.specs.List.{flat_map}
 use Rattle.std.proofs.lemmas.List.{take_more, map-append}
 use Rattle.std.proofs.lemmas.List.Elements.{All-map, All-append, All-weaker}
 use Rattle.po_entry.specs.Bytes.{Lacks}

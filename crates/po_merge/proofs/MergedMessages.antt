@@ -1,10 +1,8 @@
 -- What is merged of each message of valid inputs.
-use Rattle.std.proofs.Common.{◌≡◌, ℕ, ◌<◌, Bool, true, false, List, [], ◌∷◌, ◌++◌, refl, sym, ap, ◌∙◌, subst, map, filter, length, arith, suc}
+use Rattle.std.proofs.Common.{◌≡◌, ℕ, Bool, true, false, List, [], ◌∷◌, refl, sym, subst, map, filter, arith, suc}
 use Rattle.std.specs.Prelude.{All, Contains, if◌then◌else◌}
 use Rattle.std.specs.List.{list_any}
-use Rattle.std.proofs.lemmas.List.Elements.{All-nil, All-cons, All-head, All-tail, All-append, All-filter, All-map, All-weaker, All-contains_itself}
-use Rattle.po_entry.specs.TextEntry.{TextEntry}
-use Rattle.po_entry.specs.Header.{HasAdmittedCharset}
+use Rattle.std.proofs.lemmas.List.Elements.{All-nil, All-cons, All-head, All-tail, All-append, All-filter, All-map, All-weaker}
 use Rattle.po_entry.specs.Validity.{IsEntry, IsCatalogueEntry}
 use Rattle.po_catalog.specs.Joined.{is_live}
 use Rattle.po_catalog.specs.Statistics.{has_translation}
@@ -12,8 +10,8 @@ use Rattle.po_merge.specs.declared.input.MergeOptions.{MergeOptions}
 use Rattle.po_merge.specs.Inputs.{Input, NamedEntry, named, all_entries}
 use Rattle.po_merge.specs.Groups.{groups, definitions}
 use Rattle.po_merge.specs.Grouping.{IsDefinition, IsGroup}
-use Rattle.po_merge.specs.MergedEntry.{merged_entry, is_joined, joined_forms, translations, taken}
-use Rattle.po_merge.specs.Merged.{is_kept, messages, merged, merged_messages}
+use Rattle.po_merge.specs.MergedEntry.{merged_entry, joined_forms, translations, taken}
+use Rattle.po_merge.specs.Merged.{is_kept, messages}
 use Rattle.po_merge.specs.MergeLaws.{IsInput, OneDefinitionStays, MergedAreEntries, MergedCanStand, FormsAreOfOne}
 use Rattle.po_merge.proofs.Valid.{merged_is_entry, first_with_keeps}
 use Rattle.po_merge.proofs.GroupsMerged.{groups_valid, live_valid}

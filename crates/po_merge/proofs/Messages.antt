@@ -1,14 +1,14 @@
 -- Messages as keys of a map, and the groups of entries that one more entry makes.
-use Rattle.std.proofs.Common.{◌≡◌, ℕ, ◌<◌, Bool, true, false, cond, ◌&&◌, List, [], ◌∷◌, ◌++◌, Option, Some, None, refl, sym, ap, ap₂, ◌∙◌, subst, length, map, get_or, set}
+use Rattle.std.proofs.Common.{◌≡◌, ℕ, Bool, true, false, cond, ◌&&◌, List, [], ◌∷◌, ◌++◌, Option, Some, None, refl, sym, ap, ap₂, ◌∙◌, length}
 use Rattle.std.specs.Option.{option_eq, option_copied, option_cmp, option_or}
-use Rattle.std.specs.Ordering.{ordering_then, nat_cmp, is_eq}
+use Rattle.std.specs.Ordering.{nat_cmp, is_eq}
 use Rattle.std.specs.Cmp.{IsEquivalence, and_equiv, on_equiv, both_tied}
 use Rattle.std.specs.Cmp.Lexicographic.{slice_cmp, options_equiv, nat_list_eq_equiv, texts_ties}
 use Rattle.std.specs.Str.{bytes_eq}
 use Rattle.std.specs.Borrow.{Bor}
 use Rattle.std.specs.BTreeMap.{is_at}
 use Rattle.po_merge.specs.Inputs.{NamedEntry}
-use Rattle.po_merge.specs.Groups.{same_message, first_ones, groups}
+use Rattle.po_merge.specs.Groups.{same_message}
 use Rattle.po_merge.specs.Grouping.{Message, is_message_of, message_cmp, place}
 use Rattle.po_merge.proofs.FirstOnes.{place_same, place_push}
 

@@ -1,6 +1,6 @@
 -- Each message that is kept stands once among the merged entries.
 use Rattle.std.proofs.Common.{◌≡◌, ℕ, ◌<◌, Bool, true, false, cond, ◌&&◌, ◌||◌, List, [], ◌∷◌, Option, Some, None, refl, sym, ap, ap₂, ◌∙◌, map, filter, length, get_or, arith}
-use Rattle.std.specs.Prelude.{All, AllPairs, bytes_eq, if◌then◌else◌}
+use Rattle.std.specs.Prelude.{All, bytes_eq, if◌then◌else◌}
 use Rattle.std.specs.List.{list_any}
 use Rattle.std.specs.Option.{option_eq}
 use Rattle.std.proofs.lemmas.Bool.{and_parts, false≢true}

@@ -1,9 +1,8 @@
 -- An input in which no message stands twice, alone and together with itself.
-use Rattle.std.proofs.Common.{◌≡◌, ℕ, ◌<◌, Bool, true, false, cond, not, ◌&&◌, ◌||◌, List, [], ◌∷◌, ◌++◌, Option, Some, None, refl, sym, ap, ap₂, ◌∙◌, map, filter, fold, length, nat_lt, get_or, arith, append-nil, append_assoc, zero, suc}
+use Rattle.std.proofs.Common.{◌≡◌, ℕ, Bool, true, false, cond, not, ◌&&◌, ◌||◌, List, [], ◌∷◌, ◌++◌, Some, None, refl, sym, ap, ap₂, ◌∙◌, map, filter, fold, length, nat_lt, get_or, arith, append-nil, append_assoc, zero, suc}
 use Rattle.std.specs.Prelude.{All, bytes_eq, if◌then◌else◌}
 use Rattle.std.specs.List.{list_any}
 use Rattle.std.specs.Option.{option_map_or}
-use Rattle.std.proofs.lemmas.Bool.{false≢true}
 use Rattle.std.proofs.lemmas.Slice.Eq.{bytes_eq-Decides, slice_eq-Decides}
 use Rattle.std.proofs.lemmas.List.Folds.{list_any-append, list_any_at, list_any_none}
 use Rattle.std.proofs.lemmas.List.Elements.{All-nil, All-cons, All-head, All-tail, All-map, All-weaker, filter-append}
@@ -16,7 +15,7 @@ use Rattle.po_catalog.specs.Joined.{is_live}
 use Rattle.po_catalog.specs.Duplicate.{IsSameMessage, AllDiffer}
 use Rattle.po_catalog.specs.Statistics.{has_translation}
 use Rattle.po_merge.specs.declared.input.MergeOptions.{MergeOptions}
-use Rattle.po_merge.specs.Inputs.{Input, NamedEntry, named, all_entries}
+use Rattle.po_merge.specs.Inputs.{Input, NamedEntry, named}
 use Rattle.po_merge.specs.Groups.{with_new, first_ones, same_message, definitions}
 use Rattle.po_merge.specs.MergedEntry.{first_with, has_previous, has_plural, taken, texts_of, with_others, collected, comment_of, same_forms, translations, is_joined, joined_forms, merged_entry}
 use Rattle.po_merge.specs.Merged.{is_kept, merged_messages}

@@ -1,5 +1,5 @@
 -- What sets of texts and of form lists hold.
-use Rattle.std.proofs.Common.{◌≡◌, ℕ, Bool, true, false, cond, not, ◌&&◌, ◌||◌, List, [], ◌∷◌, ◌++◌, refl, sym, ap, ap₂, ◌∙◌, map, filter}
+use Rattle.std.proofs.Common.{◌≡◌, ℕ, Bool, true, false, cond, not, ◌&&◌, ◌||◌, List, [], ◌∷◌, ◌++◌, refl, sym, ap, ap₂, ◌∙◌, filter}
 use Rattle.std.specs.List.{list_any}
 use Rattle.std.specs.Ordering.{nat_cmp, is_eq}
 use Rattle.std.specs.Cmp.{both_tied}
@@ -16,7 +16,7 @@ use Rattle.po_entry.specs.Equality.{texts_eq}
 use Rattle.po_merge.specs.Inputs.{NamedEntry}
 use Rattle.po_merge.specs.MergedEntry.{with_others}
 use Rattle.po_merge.specs.Sets.{HasTexts, HasForms}
-use Rattle.po_merge.proofs.FirstOnes.{or_false, or_true, or_assoc}
+use Rattle.po_merge.proofs.FirstOnes.{or_false, or_true}
 
 cond_or : (a b c : Bool) → a ≡ b → cond a true c ≡ (c || b)
 cond_or true true c e = sym (or_true c)

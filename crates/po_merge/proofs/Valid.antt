@@ -1,10 +1,10 @@
 -- What valid definitions are merged to is valid.
-use Rattle.std.proofs.Common.{◌≡◌, ℕ, ◌+◌, ◌<◌, ◌≤◌, Bool, true, false, cond, not, ◌&&◌, ◌||◌, ◌==◌, List, [], ◌∷◌, ◌++◌, Option, Some, None, refl, sym, ap, ap₂, ◌∙◌, subst, map, filter, fold, find, length, arith, codes, inl, inr, zero, suc, nat_lt, nat_eq, max}
-use Rattle.std.specs.Prelude.{All, Contains, IsUtf8, IfSome, option_to_list, slice_get, is_some, bytes_eq, if◌then◌else◌}
-use Rattle.std.specs.List.{list_any, list_all, flat_map, range_with_len, ends_with}
+use Rattle.std.proofs.Common.{◌≡◌, ℕ, ◌<◌, ◌≤◌, Bool, true, false, cond, not, ◌&&◌, ◌==◌, List, [], ◌∷◌, ◌++◌, Option, Some, None, refl, sym, ap, ◌∙◌, subst, filter, fold, find, length, arith, codes, inl, inr, zero, suc, nat_lt, nat_eq, max}
+use Rattle.std.specs.Prelude.{All, Contains, IfSome, option_to_list, slice_get, is_some, bytes_eq, if◌then◌else◌}
+use Rattle.std.specs.List.{list_any, list_all, range_with_len, ends_with}
 use Rattle.std.specs.Option.{option_map_or}
 use Rattle.std.specs.Str.{IsAscii}
-use Rattle.std.proofs.lemmas.Bool.{and_parts, ltb-true, ltb-false, false≢true, eqb-false, not-true}
+use Rattle.std.proofs.lemmas.Bool.{and_parts, ltb-true, false≢true, eqb-false, not-true}
 use Rattle.std.proofs.lemmas.Str.{IsUtf8-nil, IsUtf8-append, IsUtf8-from_ascii}
 use Rattle.std.proofs.lemmas.Slice.Eq.{bytes_eq-Decides}
 use Rattle.std.proofs.lemmas.List.{length-map}
@@ -20,7 +20,7 @@ use Rattle.po_entry.specs.Validity.{IsText, IsEntry, IsComment, IsTranslatorComm
 use Rattle.po_catalog.specs.Statistics.{has_translation}
 use Rattle.po_merge.specs.declared.input.MergeOptions.{MergeOptions}
 use Rattle.po_merge.specs.Inputs.{NamedEntry}
-use Rattle.po_merge.specs.Groups.{with_new, first_ones}
+use Rattle.po_merge.specs.Groups.{with_new}
 use Rattle.po_merge.specs.Grouping.{IsDefinition}
 use Rattle.po_merge.specs.MergedEntry.{first_of, first_with, has_previous, has_plural, taken, texts_of, with_others, collected, comment_of, same_forms, translations, is_joined, ended, marked, joined_form, form_count, joined_forms, merged_entry}
 

@@ -1,12 +1,11 @@
-use Rattle.std.proofs.Common.{◌≡◌, sym, ap, ap₂, ◌∙◌, refl, ◌++◌, ◌∷◌, [], subst, take, List, ℕ}
+use Rattle.std.proofs.Common.{◌≡◌, sym, ap, ap₂, ◌∙◌, subst}
 use Rattle.std.specs.List.{list_any}
 use Rattle.std.specs.Ordering.{nat_cmp}
 use Rattle.std.specs.Cmp.Lexicographic.{slice_cmp}
 use Rattle.std.specs.Str.{bytes_eq}
 use Rattle.std.specs.BTreeMap.{is_at}
 use Rattle.po_entry.specs.TextEntry.{texts}
-use Rattle.po_merge.specs.InputsView.{named_entries}
-use Rattle.po_merge.specs.MergedEntry.{collected, texts_of, with_others}
+use Rattle.po_merge.specs.MergedEntry.{texts_of, with_others}
 use Rattle.po_merge.specs.Sets.{HasTexts}
 use Rattle.po_merge.proofs.Sets.{same_texts_met}
 use Rattle.po_merge.proofs.Steps.{collected_more}

@@ -1,4 +1,4 @@
-use Rattle.std.proofs.Common.{◌≡◌, sym, ap, ◌∙◌, refl, ◌++◌, ◌∷◌, [], append_assoc, append-nil, subst, take}
+use Rattle.std.proofs.Common.{sym, ap, ◌∙◌, ◌++◌, ◌∷◌, [], append_assoc, append-nil, subst, take}
 use Rattle.std.proofs.lemmas.List.{take_all}
 use Rattle.po_entry.specs.TextEntry.{texts}
 use Rattle.po_merge.specs.Sets.{HasTexts}

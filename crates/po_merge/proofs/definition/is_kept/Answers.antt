@@ -1,9 +1,8 @@
-use Rattle.std.proofs.Common.{◌≡◌, ◌∙◌, sym, ap, length, refl, true, false}
+use Rattle.std.proofs.Common.{◌≡◌, ◌∙◌, sym, true, false}
 use Rattle.std.specs.List.{list_any}
 use Rattle.std.proofs.lemmas.List.{length-map}
 use Rattle.po_entry.specs.Header.{is_header}
 use Rattle.po_merge.specs.InputsView.{named_entry, named_entries}
-use Rattle.po_merge.specs.Merged.{is_wanted}
 use Rattle.po_merge.proofs.Views.{any_named}
 use Rattle.po_merge.proofs.definition.is_kept.Goals as goal
 

@@ -1,8 +1,8 @@
-use Rattle.std.proofs.Common.{◌≡◌, ◌++◌, ◌∷◌, [], map, take, sym, ap, ◌∙◌, refl, List, subst, arith, ◌<◌, length}
+use Rattle.std.proofs.Common.{take, sym, subst}
 use Rattle.std.specs.Prelude.{All}
 use Rattle.std.proofs.lemmas.List.Elements.{All-nil}
 use Rattle.po_entry.specs.Bytes.{Lacks}
-use Rattle.po_merge.specs.Inputs.{NamedEntry, named, all_entries}
+use Rattle.po_merge.specs.Inputs.{all_entries}
 use Rattle.po_merge.specs.InputsView.{inputs_of}
 use Rattle.po_merge.specs.Grouping.{IsGrouped, IsDefinition}
 use Rattle.po_merge.proofs.Inputs.{entries_more, definitions_more}

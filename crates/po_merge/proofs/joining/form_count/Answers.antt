@@ -1,4 +1,4 @@
-use Rattle.std.proofs.Common.{◌≡◌, sym, ap, ap₂, ◌∙◌, refl, max, length, ℕ}
+use Rattle.std.proofs.Common.{sym, ap, ap₂, ◌∙◌, max, length, ℕ}
 use Rattle.std.proofs.lemmas.List.{length-map}
 use Rattle.po_merge.proofs.Steps.{form_count_more}
 use Rattle.po_merge.proofs.joining.form_count.Goals as goal

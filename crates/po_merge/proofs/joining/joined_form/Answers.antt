@@ -1,4 +1,4 @@
-use Rattle.std.proofs.Common.{◌≡◌, ◌≤◌, ℕ, List, sym, ap, ap₂, ◌∙◌, refl, arith, append-nil, ◌++◌, Some, None, Option}
+use Rattle.std.proofs.Common.{ℕ, List, sym, ap, ap₂, ◌∙◌, append-nil, ◌++◌, Some, None}
 use Rattle.std.specs.Prelude.{slice_get}
 use Rattle.po_merge.specs.MergedEntry.{marked}
 use Rattle.po_merge.proofs.Steps.{joined_form_more, form_at, no_form}

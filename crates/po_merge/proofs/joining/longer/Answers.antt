@@ -1,1 +1,0 @@
-use Rattle.po_merge.proofs.joining.longer.Goals as goal

@@ -1,10 +1,10 @@
-use Rattle.std.proofs.Common.{◌≡◌, ◌<◌, ◌++◌, ◌∷◌, [], ap, ap₂, sym, ◌∙◌, subst, arith, length, List}
+use Rattle.std.proofs.Common.{◌++◌, ◌∷◌, [], ap, ap₂, sym, ◌∙◌, subst, arith, length, List}
 use Rattle.std.specs.Prelude.{All}
 use Rattle.std.proofs.lemmas.List.{length-map}
 use Rattle.po_entry.specs.TextEntry.{TextEntry}
 use Rattle.po_merge.specs.Inputs.{NamedEntry}
 use Rattle.po_merge.specs.InputsView.{named_entry, named_entries}
-use Rattle.po_merge.specs.Grouping.{IsGroup, IsDefinition}
+use Rattle.po_merge.specs.Grouping.{IsDefinition}
 use Rattle.po_merge.specs.Groups.{definitions}
 use Rattle.po_merge.specs.Merged.{merged_messages, IsMergeFault}
 use Rattle.po_merge.proofs.GroupsMerged.{group_at, of_groups_more, fault_within}

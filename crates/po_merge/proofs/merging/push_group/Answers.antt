@@ -1,12 +1,11 @@
-use Rattle.std.proofs.Common.{◌≡◌, ◌<◌, ◌++◌, ◌∷◌, [], ap, sym, ◌∙◌, subst, arith, length, filter, true, false, List}
+use Rattle.std.proofs.Common.{◌≡◌, ◌<◌, ◌++◌, ◌∷◌, [], ap, sym, ◌∙◌, subst, arith, length, true, false, List}
 use Rattle.std.specs.Prelude.{All, OnOk, IfErr}
 use Rattle.std.specs.List.{list_any}
 use Rattle.std.proofs.lemmas.List.{length-map}
 use Rattle.po_catalog.specs.Joined.{is_live}
 use Rattle.po_merge.specs.Inputs.{NamedEntry}
 use Rattle.po_merge.specs.InputsView.{named_entry, named_entries}
-use Rattle.po_merge.specs.Grouping.{IsGroup, IsDefinition}
-use Rattle.po_merge.specs.Groups.{definitions}
+use Rattle.po_merge.specs.Grouping.{IsDefinition}
 use Rattle.po_merge.specs.Merged.{merged_messages, IsMergeFault}
 use Rattle.po_merge.proofs.Views.{any_named}
 use Rattle.po_merge.proofs.GroupsMerged.{live_valid, all_live, none_live}

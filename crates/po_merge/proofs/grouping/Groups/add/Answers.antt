@@ -1,4 +1,4 @@
-use Rattle.std.proofs.Common.{◌≡◌, ◌<◌, sym, ap, ◌∙◌, refl, Some, None, ◌++◌, ◌∷◌, [], arith}
+use Rattle.std.proofs.Common.{sym, ap, ◌∙◌, refl, ◌++◌, ◌∷◌, [], arith}
 use Rattle.po_merge.specs.InputsView.{named_entry}
 use Rattle.po_merge.proofs.Messages.{IsMessage}
 use Rattle.po_merge.proofs.Grouped.{place_within, grown_grouped, new_grouped}

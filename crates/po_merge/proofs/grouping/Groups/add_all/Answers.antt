@@ -1,6 +1,6 @@
-use Rattle.std.proofs.Common.{◌≡◌, ◌++◌, ◌∷◌, [], map, take, sym, ap, ◌∙◌, refl, append_assoc, append-nil, List, subst, arith, ◌<◌, length}
+use Rattle.std.proofs.Common.{◌++◌, ◌∷◌, [], map, take, sym, ap, ◌∙◌, append_assoc, append-nil, subst}
 use Rattle.std.proofs.lemmas.List.{take_more, map-append, take_all}
-use Rattle.po_merge.specs.Inputs.{NamedEntry, named}
+use Rattle.po_merge.specs.Inputs.{named}
 use Rattle.po_merge.specs.Grouping.{IsGrouped}
 use Rattle.po_merge.proofs.grouping.Groups.add_all.Goals as goal
 
