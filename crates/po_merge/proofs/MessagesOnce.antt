@@ -5,7 +5,7 @@ use Rattle.std.specs.List.{list_any}
 use Rattle.std.specs.Option.{option_eq}
 use Rattle.std.proofs.lemmas.Bool.{and_parts, false≢true}
 use Rattle.std.proofs.lemmas.Slice.Eq.{bytes_eq-Decides}
-use Rattle.std.proofs.lemmas.List.Folds.{list_any_at}
+use Rattle.std.proofs.lemmas.List.Folds.{list_any-append, list_any_at}
 use Rattle.std.proofs.lemmas.List.Kept.{AllPairs-cons}
 use Rattle.std.proofs.lemmas.List.Elements.{All-head, All-tail, All-filter, All-map, All-weaker, filter_agree, filter_passes}
 use Rattle.po_entry.specs.TextEntry.{TextEntry, message_of}
@@ -139,9 +139,15 @@ module _ (o : MergeOptions) (es : List NamedEntry) where
         ∙ any_first_ones same_message same_message_laws wanted es
         ∙ any_same (same_message wanted) (λ (e : NamedEntry). is_of context id e.entry) (λ e. same_message_laws.symm wanted e) es
 
-any_map : (p : TextEntry → Bool) (es : List NamedEntry) → list_any (λ e. p e.entry) es ≡ list_any p (map (λ e. e.entry) es)
-any_map p [] = refl
-any_map p (e ∷ es) = ap (λ (b : Bool). p e.entry || b) (any_map p es)
+any_named : (p : TextEntry → Bool) (name : List ℕ) (entries : List TextEntry) → list_any (λ e. p e.entry) (map (named name) entries) ≡ list_any p entries
+any_named p name [] = refl
+any_named p name (e ∷ entries) = ap (λ (b : Bool). p e || b) (any_named p name entries)
+
+any_input : (p : TextEntry → Bool) (inputs : List Input) → list_any (λ e. p e.entry) (all_entries inputs) ≡ list_any (λ input. list_any p input.entries) inputs
+any_input p [] = refl
+any_input p (input ∷ inputs) =
+    list_any-append (λ e. p e.entry) (map (named input.name) input.entries) (all_entries inputs)
+    ∙ ap₂ (λ (a b : Bool). a || b) (any_named p input.name input.entries) (any_input p inputs)
 
 pub stand_once : (o : MergeOptions) (inputs : List Input) → MessagesStandOnce o inputs
 stand_once o inputs = let es = all_entries inputs in all_differ o es (first_ones same_message es) (apart_first_ones same_message same_message_laws es) (all_stay o es)
@@ -150,4 +156,4 @@ pub kept_stand : (o : MergeOptions) (inputs : List Input) (context : Option (Lis
 kept_stand o inputs context id =
     let es = all_entries inputs in
     any_kept o es context id (first_ones same_message es) (all_stay o es)
-    ∙ ap (λ (b : Bool). b && kept o es context id) (any_first o es context id ∙ any_map (is_of context id) es)
+    ∙ ap (λ (b : Bool). b && kept o es context id) (any_first o es context id ∙ any_input (is_of context id) inputs)

@@ -38,9 +38,9 @@ is_of context id entry = option_eq bytes_eq entry.context context && bytes_eq en
 abbrev pub has_message : Option (List ℕ) → List ℕ → List TextEntry → Bool
 has_message context id entries = list_any (is_of context id) entries
 
--- the entries of this message in all inputs
-abbrev pub entries_of : Option (List ℕ) → List ℕ → List Input → List NamedEntry
-entries_of context id inputs = filter (λ e. is_of context id e.entry) (all_entries inputs)
+-- what defines this message in all inputs
+abbrev pub definitions_of : Option (List ℕ) → List ℕ → List Input → List NamedEntry
+definitions_of context id inputs = definitions (filter (λ e. is_of context id e.entry) (all_entries inputs))
 
 -- no two merged entries are of one message
 abbrev pub MessagesStandOnce : MergeOptions → List Input → Type 0
@@ -50,7 +50,7 @@ MessagesStandOnce o inputs = AllDiffer (merged o inputs)
 abbrev pub KeptMessagesStand : MergeOptions → List Input → Option (List ℕ) → List ℕ → Type 0
 KeptMessagesStand o inputs context id =
     has_message context id (merged o inputs)
-    ≡ (has_message context id (map (λ e. e.entry) (all_entries inputs)) && is_kept o (definitions (entries_of context id inputs)))
+    ≡ (list_any (λ input. has_message context id input.entries) inputs && is_kept o (definitions_of context id inputs))
 
 -- all messages are kept, and `--use-first` is given or not
 abbrev pub keep_all : Bool → MergeOptions
