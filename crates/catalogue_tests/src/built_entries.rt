@@ -48,7 +48,7 @@ fn kept_entry(rt: HostRuntime) -> Result<(), Fail> {
     Ok(())
 }
 
-/// A context, a msgid and a form that no entry can have, with the fault that is told first.
+/// A context, a msgid and a form that no entry can have, with the fault that is reported first.
 const REFUSED: &[(Option<&[u8]>, &[u8], &[u8], PoFault)] = &[
     (None, b"\xff", b"\x00", PoFault::NotUtf8),
     (Some(b"\xc3"), b"a", b"b", PoFault::NotUtf8),

@@ -52,7 +52,7 @@ module _ (header : Header) (bytes : List ℕ) (read : IsHeader header bytes) (st
       let inside : fault.0 + 1 < header.count = omega (arith, fault.1, fault.2, read.count) in
       (fault.0, ap NotSorted fault.1, inside, fault.3)
 
-  -- the first key that isn't above the one before it is told
+  -- the first key that isn't above the one before it is reported
   pub first_unsorted : (i : ℕ) → IsSortedBelow header.order bytes (i + 1) → i + 1 < header.count →
       IsUnsorted header.order bytes i → IsFirstFault bytes (NotSorted (i + 1))
   first_unsorted i sorted inside unsorted = record {

@@ -50,7 +50,7 @@ HasFault bytes (StringOutside i) = (order : Order) × Shows order bytes × HasFa
 HasFault bytes (NoTerminator i) = (order : Order) × Shows order bytes × HasFaultIn order bytes (NoTerminator i)
 HasFault bytes (NotSorted i) = (order : Order) × Shows order bytes × HasFaultIn order bytes (NotSorted i)
 
--- the order in which kinds of faults are told
+-- the order in which kinds of faults are reported
 abbrev pub kind : MoError → ℕ
 kind TooShort = 1
 kind BadMagic = 2
@@ -70,11 +70,11 @@ place (StringOutside i) = i
 place (NoTerminator i) = i
 place (NotSorted i) = i
 
--- a fault is told before another by its kind, then by its message
+-- a fault is reported before another by its kind, then by its message
 abbrev pub IsBefore : MoError → MoError → Type 0
 IsBefore f e = (kind f < kind e) ⊎ ((kind f ≡ kind e) × (place f < place e))
 
--- the fault that is told of these bytes
+-- the fault that is reported of these bytes
 pub record IsFirstFault (bytes : List ℕ) (e : MoError) : Type 0 where
   pub holds : HasFault bytes e
   pub first : (f : MoError) → IsBefore f e → ¬ HasFault bytes f

@@ -14,7 +14,7 @@ use thiserror::Error;
 /// What a file has for each pair beside the bytes of its strings: two entries and two NULs.
 const PAIR_OVERHEAD: u64 = 18;
 
-/// Why no file is built. Of two reasons that hold the first in this order is told.
+/// Why no file is built. Of two reasons that hold the first in this order is reported.
 #[derive(Clone, Copy, Debug, PartialEq, Eq, Error)]
 pub enum BuildError {
     /// The file would have more than 4,294,967,295 bytes, so that 32 bits don't reach its end.

@@ -1,7 +1,7 @@
 use thiserror::Error;
 
 /// Why bytes aren't an MO file ("The Format of GNU MO Files"). Of the faults that a file has, the
-/// first kind in this order is told, at its smallest message, counted from 0. Places and lengths are
+/// first kind in this order is reported, at its smallest message, counted from 0. Places and lengths are
 /// added up without wrapping.
 #[derive(Clone, Copy, Debug, PartialEq, Eq, Error)]
 pub enum MoError {

@@ -24,7 +24,7 @@ pub enum Source {
 }
 
 /// Why a header text gives the default rule. Where several hold, the first of `NoNumber`, `NoExpression`,
-/// `TooLong`, `Unreadable` is told.
+/// `TooLong`, `Unreadable` is reported.
 #[derive(Clone, Copy, Debug, PartialEq, Eq, Drop)]
 pub enum Reason {
     /// There is no `nplurals=` with a number behind it.

@@ -192,7 +192,7 @@ pub IsSeen-all : (kept : List (MessageKey × (ℕ × ℕ))) (xs : List InputEntr
 IsSeen-all kept xs i past seen =
     subst AllDiffer (sym (live_of_entries xs)) (subst (λ l. AllDiffer (entries_of (live_entries l))) (take_all i xs past) seen.differ)
 
--- what is told of a duplicate, from what the map has and the later entry
+-- what is reported of a duplicate, from what the map has and the later entry
 pub duplicate_error_is : (first later : InputEntry) (place : ℕ × ℕ) (at : ℕ) → place ≡ (first.input, first.entry.line) → at ≡ later.entry.line
     → error_at later.input place.0 place.1 at ≡ duplicate_error first later
 duplicate_error_is first later place at e e' =
@@ -225,7 +225,7 @@ pub distinct_has_no_first : (xs : List InputEntry) (first later : InputEntry) �
 distinct_has_no_first xs first later none dup =
     apart_entries dup.before dup.between dup.after first later (subst (λ l. AllDiffer (entries_of l)) dup.order (subst AllDiffer (live_of_entries xs) none)) dup.same
 
--- so what refuses it is want of memory
+-- so what refuses it is an allocation that failed
 pub distinct_wants_memory : (xs : List InputEntry) (error : JoinError) → HasNoDuplicate (entries_of xs) → IsDuplicateFault xs error → error ≡ join_memory
 distinct_wants_memory xs error none fault =
     ⊎_elim (λ e. e) (λ found. absurd (distinct_has_no_first xs found.0 found.1 none found.2)) fault

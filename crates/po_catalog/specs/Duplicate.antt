@@ -29,18 +29,18 @@ pub record IsFirstDuplicate (entries : List InputEntry) (first later : InputEntr
   pub same : IsSameMessage first.entry later.entry
   pub differ : AllDiffer (entries_of (before ++ first ∷ between))
 
--- what is told of a duplicate: where the later entry stands, and where the first
+-- what is reported of a duplicate: where the later entry stands, and where the first
 abbrev pub duplicate_error : InputEntry → InputEntry → JoinError
 duplicate_error first later = record { input = later.input; first_input = first.input; error = record { kind = Duplicate first.entry.line; line = later.entry.line } }
 
--- want of memory, which has no line and no input
+-- out of memory, which has no line and no input
 abbrev pub entry_memory : PoError
 entry_memory = record { kind = OutOfMemory; line = 0 }
 
 abbrev pub join_memory : JoinError
 join_memory = record { input = 0; first_input = 0; error = entry_memory }
 
--- why a joined list is refused: its first duplicate, or want of memory
+-- why a joined list is refused: its first duplicate, or out of memory
 abbrev pub IsDuplicateFault : List InputEntry → JoinError → Type 0
 IsDuplicateFault entries error =
     (error ≡ join_memory) ⊎ ((first later : InputEntry) × IsFirstDuplicate entries first later × (error ≡ duplicate_error first later))

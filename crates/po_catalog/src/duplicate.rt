@@ -49,7 +49,7 @@ impl<T: Drop> From<AllocFailed<T>> for JoinError {
 
 /// Whether no live entry of a catalogue repeats an earlier live one, by context and msgid. Refused
 /// with `Duplicate`, which names the line of the earlier entry, at the line of the earliest entry
-/// that repeats one; and for want of memory.
+/// that repeats one; and where an allocation failed.
 pub fn duplicates(alloc: Global, catalogue: &Catalogue) -> Result<(), PoError>
     ensures exact { MatchResult result (λ _. HasNoDuplicate catalogue.now) (IsDuplicateErrorOf catalogue.now) }
     ensures only { HasNoDuplicate catalogue.now → IsOkUnless result entry_memory }
@@ -64,7 +64,7 @@ pub fn duplicates(alloc: Global, catalogue: &Catalogue) -> Result<(), PoError>
 
 /// Whether no live entry of the joined list repeats an earlier live one, by context and msgid. Refused
 /// with `Duplicate`, which names the input and the line of the earlier entry, at the input and the
-/// line of the earliest entry that repeats one; and for want of memory.
+/// line of the earliest entry that repeats one; and where an allocation failed.
 pub fn joined_duplicates(alloc: Global, catalogues: &[Catalogue]) -> Result<(), JoinError>
     requires { length catalogues.now < 2 ^ 32 }
     ensures exact { MatchResult result (λ _. HasNoDuplicate (joined_entries catalogues.now)) (IsDuplicateFault (joined catalogues.now)) }

@@ -22,7 +22,7 @@ pub struct Stats {
 impl Stats {
     ghost use Rattle.po_catalog.specs.Statistics.{stats_line, added_stats};
 
-    /// The line that `--statistics` prints, with its LF. Refused only by want of memory.
+    /// The line that `--statistics` prints, with its LF. Refused only where an allocation failed.
     pub fn line(&self, alloc: Global) -> Result<Vec<u8>, PoError>
         ensures line { IfOk result (λ line. line.items ≡ stats_line self.now) }
         ensures memory { IfErr result (λ e. e ≡ entry_memory) }

@@ -1,4 +1,4 @@
--- Texts have at most one fault but want of memory.
+-- Texts have at most one fault but out of memory.
 use Rattle.std.proofs.Common.{◌≡◌, ℕ, suc, List, [], ◌∷◌, ◌++◌, refl, sym, ap, ◌∙◌, subst, length, map, inl, inr}
 use Rattle.std.specs.List.{AllZip}
 use Rattle.po_syntax.specs.declared.fault.PoError.{PoError}

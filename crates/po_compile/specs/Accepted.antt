@@ -1,4 +1,4 @@
--- Which texts are accepted, and which fault is told of those that aren't (manual, "The Format of PO Files" and
+-- Which texts are accepted, and which fault is reported of those that aren't (manual, "The Format of PO Files" and
 -- "Invoking the msgfmt Program").
 use Rattle.std.specs.Prelude.{◌≡◌, ◌⊎◌, ◌^◌, ◌<◌, ℕ, List, ◌∷◌, ◌++◌, map, length}
 use Rattle.std.specs.List.{AllZip}
@@ -59,7 +59,7 @@ pub record HasDuplicate (text : List ℕ) (error : PoError) : Type 0 where
 abbrev pub IsTextFault : List ℕ → PoError → Type 0
 IsTextFault text error = IsReadFault text error.kind error.line ⊎ HasDuplicate text error
 
--- the input of a fault: want of memory is of no input
+-- the input of a fault: out of memory is of no input
 abbrev pub fault_input : ℕ → PoFault → ℕ
 fault_input input OutOfMemory = 0
 fault_input input _ = input
@@ -92,7 +92,7 @@ pub record HasJoinedDuplicate (texts : List (List ℕ)) (error : JoinError) : Ty
   pub duplicate : IsFirstDuplicate (joined catalogues) first later
   pub error_is : error ≡ duplicate_error first later
 
--- why texts aren't read: a fault of an input, a duplicate across inputs, or want of memory
+-- why texts aren't read: a fault of an input, a duplicate across inputs, or out of memory
 abbrev pub IsReadingFault : List (List ℕ) → JoinError → Type 0
 IsReadingFault texts error = (error ≡ join_memory) ⊎ IsFaultOfInput texts error ⊎ HasJoinedDuplicate texts error
 

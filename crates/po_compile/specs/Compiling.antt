@@ -38,12 +38,12 @@ pub record HasLargeLayout (options : Options) (entries : List TextEntry) : Type 
 abbrev pub layout_fault : JoinError
 layout_fault = record { input = 0; first_input = 0; error = record { kind = TooLarge; line = 0 } }
 
--- what is told of a file that isn't built of messages; those that are sorted are never out of order
+-- what is reported of a file that isn't built of messages; those that are sorted are never out of order
 abbrev pub IsLayoutError : BuildError → JoinError → Type 0
 IsLayoutError Large error = error ≡ layout_fault
 IsLayoutError NotSorted error = ⊥
 IsLayoutError NoMemory error = error ≡ join_memory
 
--- why entries of which no two live ones are of one message aren't compiled: their layout, or want of memory
+-- why entries of which no two live ones are of one message aren't compiled: their layout, or out of memory
 abbrev pub IsLayoutFault : Options → List TextEntry → JoinError → Type 0
 IsLayoutFault options entries error = (error ≡ join_memory) ⊎ ((error ≡ layout_fault) × HasLargeLayout options entries)

@@ -34,20 +34,20 @@ LookUpMeansEntries =
     → IsCatalog options.order (layout options.order messages) messages
     × MeansEntries (compiled_list options.use_fuzzy (joined_entries catalogues)) messages
 
--- Texts that are accepted have no fault; what may be told in place of their file is want of memory alone.
+-- Texts that are accepted have no fault; what may be reported in place of their file is out of memory alone.
 abbrev pub NoFaultWhereAccepted : Type 0
 NoFaultWhereAccepted =
     (options : Options) (texts : List (List ℕ)) (catalogues : List (List TextEntry)) (error : JoinError)
     → AreAccepted options texts catalogues → IsCompileFault options texts error → error ≡ join_memory
 
--- Texts are accepted or have a fault, which is not want of memory.
+-- Texts are accepted or have a fault, which is not out of memory.
 abbrev pub AcceptedOrFault : Type 0
 AcceptedOrFault =
     (options : Options) (texts : List (List ℕ))
     → ((catalogues : List (List TextEntry)) × AreAccepted options texts catalogues)
     ⊎ ((error : JoinError) × IsCompileFault options texts error × (error ≢ join_memory))
 
--- Texts have at most one fault, of one input on one line, beside want of memory.
+-- Texts have at most one fault, of one input on one line, beside out of memory.
 abbrev pub OneCompileFault : Type 0
 OneCompileFault =
     (options : Options) (texts : List (List ℕ)) (error other : JoinError)

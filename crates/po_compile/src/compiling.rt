@@ -124,7 +124,7 @@ fn compile_whole(alloc: Global, text: &[u8], options: Options) -> Result<Compile
 
 /// Compiles the joined list of catalogues, in which `joined_duplicates` finds none. It gives the catalogues up: their
 /// texts are moved into the messages, and what else they hold is free before the file is laid out. Refused with
-/// `TooLarge`, at line 0 of input 0, where the file would have more than 4,294,967,295 bytes, and for want of memory.
+/// `TooLarge`, at line 0 of input 0, where the file would have more than 4,294,967,295 bytes, and where an allocation failed.
 pub fn compile_catalogues(
     alloc: Global,
     catalogues: Vec<Catalogue>,
@@ -149,7 +149,7 @@ pub fn compile_catalogues(
     }
 }
 
-/// What is told where no file is built of sorted messages.
+/// What is reported where no file is built of sorted messages.
 fn layout_error(error: BuildError) -> JoinError
     requires { error ≢ BuildError.NotSorted }
     ensures { IsLayoutError error result }

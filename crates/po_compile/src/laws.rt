@@ -31,7 +31,7 @@ pub fn look_up_means_entries()
     messages_are_one();
 }
 
-/// Texts that are accepted have no fault, so that compiling them answers the file, or want of memory.
+/// Texts that are accepted have no fault, so that compiling them answers the file, or out of memory.
 pub fn no_fault_where_accepted()
     ensures { NoFaultWhereAccepted }
 {

@@ -10,7 +10,7 @@ use po_syntax::{PoError, PoFault};
 use std::alloc::Global;
 
 /// The catalogues of several texts. Refused, input by input, with the fault of `read`, then of `duplicates`; then
-/// with that of `joined_duplicates`; and for want of memory.
+/// with that of `joined_duplicates`; and where an allocation failed.
 pub fn read_all(alloc: Global, texts: &[&[u8]]) -> Result<Vec<Catalogue>, JoinError>
     requires { length texts.now < 2 ^ 32 }
     ensures { MatchResult result (λ catalogues. AreRead (slice_texts texts.now) catalogues.items) (IsReadingFault (slice_texts texts.now)) }
@@ -49,7 +49,7 @@ pub(crate) fn read_whole_distinct(alloc: Global, text: &[u8]) -> Result<Catalogu
     Ok(whole)
 }
 
-/// The fault of an input. Want of memory is of no input.
+/// The fault of an input. Out of memory is of no input.
 fn fault_of_input(input: u32, error: PoError) -> JoinError
     ensures { result ≡ fault_of_input input error }
 {

@@ -1,4 +1,4 @@
--- Texts, as the parts of an entry are told apart (manual, "The Format of PO Files").
+-- Texts, as the parts of an entry are distinguished (manual, "The Format of PO Files").
 use Rattle.std.specs.Prelude.{◌≢◌, ℕ, ◌-◌, List, [], ◌∷◌, All, Contains, length, take}
 use Rattle.std.specs.List.{suffix_len}
 use Rattle.po_syntax.specs.Token.{is_blank, skip_blanks}

@@ -78,11 +78,11 @@ pub record HasTexts (entry : TextEntry) : Type 0 where
 abbrev pub out_of_memory : PoError
 out_of_memory = record { kind = OutOfMemory; line = 0 }
 
--- An entry comes back from a catalogue with its line, as a header whose charset is not admitted, or for want of memory.
+-- An entry comes back from a catalogue with its line, as a header whose charset is not admitted, or where an allocation failed.
 abbrev pub IsRefusedEntry : TextEntry → PoError → Type 0
 IsRefusedEntry entry error =
     ((HasAdmittedCharset entry → ⊥) × (error ≡ record { kind = ForeignCharset; line = entry.line })) ⊎ (error ≡ out_of_memory)
 
--- A built entry is refused without a line: for its texts, or for want of memory.
+-- A built entry is refused without a line: for its texts, or where an allocation failed.
 abbrev pub RefusesMessage : TextEntry → PoError → Type 0
 RefusesMessage entry error = (error.line ≡ 0) × ((error.kind ≡ OutOfMemory) ⊎ TextsFault entry error.kind)

@@ -46,7 +46,7 @@ pub data WordStep : Type 0 where
   Take : Keyword → ℕ → List TextItem → WordStep
   Refuse : PoFault → WordStep
 
--- A word of an entry whose own lines bear this obsolete mark: the wanted one, under that mark. A form of another index is told first, then a word out of order, then mixed lines.
+-- A word of an entry whose own lines bear this obsolete mark: the wanted one, under that mark. A form of another index is reported first, then a word out of order, then mixed lines.
 abbrev pub word_step : Wanted → Bool → Keyword → Marks → ℕ → List TextItem → WordStep
 word_step wanted obsolete keyword marks line rest =
     if marks.previous then Refuse BadOrder

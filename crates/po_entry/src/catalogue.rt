@@ -55,7 +55,7 @@ impl Catalogue {
     }
 
     /// Adds an entry at the end. It comes back where it is refused: with `ForeignCharset` and its
-    /// line where it is a header whose charset is not admitted, or for want of memory.
+    /// line where it is a header whose charset is not admitted, or where an allocation failed.
     pub fn push(&mut self, entry: Entry) -> Result<(), (Entry, PoError)>
         ensures ok { OnOk result (self.new ≡ self.old ++ entry ∷ []) }
         ensures admitted { OnOk result (HasAdmittedCharset entry) }

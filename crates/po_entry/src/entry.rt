@@ -121,7 +121,7 @@ impl Entry {
         fields
     }
 
-    /// A copy of the entry, with its line; refused only by want of memory.
+    /// A copy of the entry, with its line; refused only where an allocation failed.
     pub fn copy(&self, alloc: Global) -> Result<Entry, PoError>
         ensures copy { IfOk result (λ e. e ≡ self.now) }
         ensures memory { IsOkUnless result out_of_memory }

@@ -46,7 +46,7 @@ impl Previous {
         self.plural = None;
     }
 
-    /// A copy of the texts; refused only by want of memory.
+    /// A copy of the texts; refused only where an allocation failed.
     pub fn copy(&self, alloc: Global) -> Result<Previous, AllocError>
         ensures { IfOk result (λ p. p ≡ self.now) }
     {

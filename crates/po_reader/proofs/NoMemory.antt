@@ -1,4 +1,4 @@
--- No fault of a text is want of memory.
+-- No fault of a text is out of memory.
 use Rattle.std.proofs.Common.{◌≢◌, ℕ, List}
 use Rattle.po_syntax.specs.declared.fault.PoFault.{PoFault}
 use Rattle.po_syntax.specs.declared.fault.PoFault.TheVariants.{OutOfMemory}

@@ -123,7 +123,7 @@ fault_kind : (spelt : TextEntry) (fault : PoFault) → TextsFault spelt fault �
 fault_kind spelt fault (validity.not_utf8 some) e = cc
 fault_kind spelt fault (validity.forbidden utf8 unclean) e = cc
 
--- want of memory is no fault of texts
+-- out of memory is no fault of texts
 pub draft_kind : {entries : List TextEntry} {fault : PoFault} {line : ℕ} → DraftsStop entries fault line → fault ≡ OutOfMemory → ⊥
 draft_kind (drafts.here {entry = spelt} {fault = fault} f at) e = fault_kind spelt fault f e
 draft_kind (drafts.later t more) e = draft_kind more e

@@ -1,4 +1,4 @@
--- Why a text does not read as entries: the first fault, with its line, in the order in which faults are told (manual, "The Format of PO Files").
+-- Why a text does not read as entries: the first fault, with its line, in the order in which faults are reported (manual, "The Format of PO Files").
 use Rattle.std.specs.Prelude.{◌≡◌, ℕ, List, ◌∷◌, All, IsUtf8}
 use Rattle.po_syntax.specs.declared.fault.PoFault.{PoFault}
 use Rattle.po_syntax.specs.declared.fault.PoFault.TheVariants.{NotUtf8, ForbiddenByte, ForeignCharset}

@@ -52,7 +52,7 @@ pub fn entries_or_fault()
     syntax::items_or_fault();
 }
 
-/// No fault of a text is want of memory.
+/// No fault of a text is out of memory.
 pub fn no_fault_is_memory()
     ensures { (text : List ℕ) (fault : PoFault) (line : ℕ)
         → IsReadFault text fault line → fault ≢ PoFault.OutOfMemory }

@@ -17,9 +17,9 @@ pub const PIECE: usize = 16_384;
 ///
 /// Told is the first of these that holds: `TooLarge`, without a line, above 2,147,483,647 bytes;
 /// `NotUtf8` at the first byte that is not; `ForbiddenByte` at the first NUL; the leftmost fault of
-/// an item's spelling; at the item behind the longest front of items that some continuation would
+/// an item's spelling; at the item behind the longest prefix of items that some continuation would
 /// complete, `BadPluralIndex` where another index could stand there, `MixedObsolete` where the item
-/// could under another obsolete mark, else `BadOrder`, which also is told, on the line of the last
+/// could under another obsolete mark, else `BadOrder`, which also is reported, on the line of the last
 /// item, where the text only ends too early; entry by entry, on the line of its `msgid`, `NotUtf8`
 /// for a text of its strings, then `ForbiddenByte` for an EOT in its context or msgid;
 /// `ForeignCharset` on the line of the `msgid` of the first header, live or obsolete, whose charset

@@ -1,4 +1,4 @@
--- No fault of a text is want of memory.
+-- No fault of a text is out of memory.
 use Rattle.std.proofs.Common.{◌≢◌, inl, inr, ◌==◌, ◌^◌, ◌+◌, ℕ, Bool, true, false, if◌then◌else◌, nat_lt, List, [], ◌∷◌, Option, Some, None, take, drop, codes, bytes_eq, subst}
 use Rattle.std.specs.List.{prefix_len}
 use Rattle.std.specs.Char.{is_digit}

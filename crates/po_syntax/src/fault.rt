@@ -51,7 +51,7 @@ pub enum PoFault {
 pub struct PoError {
     /// What is wrong.
     pub kind: PoFault,
-    /// The line of the fault, counted from 1; 0 where the fault has no line, as want of memory.
+    /// The line of the fault, counted from 1; 0 where the fault has no line, as out of memory.
     pub line: u32,
 }
 

@@ -38,7 +38,7 @@ pub fn items_or_fault()
         ⊎ ((fault : PoFault) × (line : ℕ) × TextFault text fault line) }
 {}
 
-/// No fault of a text is want of memory.
+/// No fault of a text is out of memory.
 pub fn no_fault_is_memory()
     ensures { (text : List ℕ) (fault : PoFault) (line : ℕ)
         → TextFault text fault line → fault ≢ PoFault.OutOfMemory }

@@ -74,7 +74,7 @@ fn write_quoted(bytes: &[u8], out: &mut Vec<u8>) -> Result<(), AllocError>
 }
 
 /// Appends the quoted form of a text, as PO files are written (manual, "The Format of PO Files").
-/// Want of memory is the only refusal, and it leaves `out` as it was.
+/// An allocation that failed is the only refusal, and it leaves `out` as it was.
 pub fn quote(bytes: &[u8], out: &mut Vec<u8>) -> Result<(), PoError>
     ensures ok { OnOk result (out.new.items ≡ out.old.items ++ quoted bytes.now) }
     ensures err { OnErr result (out.new.items ≡ out.old.items) }

@@ -86,7 +86,7 @@ refused inputs o unchecked run none same (inl told) bad =
 refused inputs o unchecked run none same (inr (inl unfit)) bad = let wrong : true ≡ false = sym unfit.asked ∙ none in cc
 refused inputs o unchecked run none same (inr (inr done)) bad = absurd (bad (ap (λ r. r.status) done.report))
 
--- what is told where an input can't be read is told of the inputs before it
+-- what is reported where an input can't be read is reported of the inputs before it
 pub before-told : (r : Result Run ProgramFault) (inputs others : List NamedFile) (o : MsgfmtOptions) (given : Option ProgramFault) (fault : ProgramFault) → others ≡ inputs → given ≡ Some fault
     → IfErr r (λ told. (told ≡ OutOfMemory') ⊎ ((told ≡ fault) × AreTaken others o))
     → IfErr r (λ told. (told ≡ OutOfMemory') ⊎ ((told ≡ WrongArguments) × IsOutside inputs) ⊎ ((given ≡ Some told) × AreTaken inputs o))

@@ -13,7 +13,7 @@ use Rattle.po_tools.specs.FaultText.{fault_line, mo_text}
 use Rattle.po_tools.specs.NamedFile.{NamedFile}
 use Rattle.po_tools.specs.Run.{Report}
 
--- The files that are catalogues make the chain, in order; each other one is told by a line, in order.
+-- The files that are catalogues make the chain, in order; each other one is reported by a line, in order.
 pub data Opens (tool : List ℕ) : List NamedFile → List Contents → List ℕ → Type 0 where
   none : Opens tool [] [] []
   opened : {file : NamedFile} {files : List NamedFile} {contents : Contents} {chain : List Contents} {told : List ℕ} (order : Order)

@@ -44,7 +44,7 @@ join_text inputs error =
 abbrev pub join_line : List NamedFile → JoinError → List ℕ
 join_line inputs error = fault_line (codes "msgfmt") (input_name inputs error.input) error.error.line (join_text inputs error)
 
--- the line at which a fault of the check is told; 0 is none
+-- the line at which a fault of the check is reported; 0 is none
 abbrev pub check_place : CheckFault → ℕ
 check_place (NoRule line reason) = line
 check_place (FormCount line) = line
@@ -84,7 +84,7 @@ compiled_run o compiled = record {
   status = 0;
 }
 
--- the inputs aren't compiled, which is told before any fault of the check
+-- the inputs aren't compiled, which is reported before any fault of the check
 pub record IsRefused (inputs : List NamedFile) (o : MsgfmtOptions) (run : Report) : Type 0 where
   pub error : JoinError
   pub fault : IsCompileFault (compile_options o) (input_texts inputs) error

@@ -15,7 +15,7 @@ use Rattle.po_tools.specs.declared.profile.End.TheVariants.{Beginning, Ending}
 use Rattle.po_tools.specs.declared.profile.CheckFault.{CheckFault}
 use Rattle.po_tools.specs.declared.profile.CheckFault.TheVariants.{NoHeader, NoRule, FormCount, LeadingNewline, TrailingNewline, Undefined, IndexOutside}
 
--- a fault, with the input that it is told of
+-- a fault, with the input that it is reported of
 abbrev pub Told : Type 0
 Told = ℕ × CheckFault
 
@@ -35,7 +35,7 @@ abbrev pub source_fault : Source → InputEntry → Option Told
 source_fault Header e = None
 source_fault (Default reason) e = Some (e.input, NoRule e.entry.line reason)
 
--- told of the first entry with a plural
+-- reported of the first entry with a plural
 abbrev pub rule_fault : Source → Option InputEntry → Option Told
 rule_fault source None = None
 rule_fault source (Some e) = source_fault source e

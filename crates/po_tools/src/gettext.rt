@@ -70,7 +70,7 @@ fn push_refusal(
     messages.extend_from_slice(b"\n")
 }
 
-/// Opens one more file: a catalogue joins the chain, and any other file is told by a line.
+/// Opens one more file: a catalogue joins the chain, and any other file is reported by a line.
 fn open_file<'a>(
     opened: &mut Opened<'a>,
     tool: &str,
@@ -191,7 +191,7 @@ fn push_answers(
 
 /// What `gettext` writes over the catalogues that could be read, in the order in which they are asked: the
 /// answers, each a translation or the MSGID itself; on standard error a line for each catalogue that is refused
-/// and so left out. Refused only by want of memory.
+/// and so left out. Refused only where an allocation failed.
 pub fn plan_gettext(
     alloc: Global,
     catalogues: &[(&str, &[u8])],
@@ -260,7 +260,7 @@ fn push_plural_answer(
 
 /// What `ngettext` writes over the catalogues that could be read, in the order in which they are asked: the form
 /// of the translation for the count, or MSGID for a count of 1 and MSGID-PLURAL for any other; on standard error
-/// a line for each catalogue that is refused and so left out. Refused only by want of memory.
+/// a line for each catalogue that is refused and so left out. Refused only where an allocation failed.
 pub fn plan_ngettext(
     alloc: Global,
     catalogues: &[(&str, &[u8])],

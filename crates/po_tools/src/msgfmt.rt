@@ -25,7 +25,7 @@ pub struct MsgfmtOptions {
     pub use_fuzzy: bool,
     /// `--endianness`: the byte order of the words of the file.
     pub order: Order,
-    /// `--statistics`: the statistics are told on standard error.
+    /// `--statistics`: the statistics are reported on standard error.
     pub statistics: bool,
     /// `--profile-check`: the messages that are compiled are checked.
     pub profile_check: bool,
@@ -65,7 +65,7 @@ fn first_fault(
 /// Checks the messages that catalogues are compiled to, in the order of their joined list: that there is a header;
 /// that it has a readable plural rule where an entry has a plural; that each entry but the header has as many forms
 /// as the rule, and newlines at its ends where its msgid has them; and that the rule's values at the counts from 0
-/// to 1,000 are indices of forms, where an entry has a plural. The first fault is told with the input of its line,
+/// to 1,000 are indices of forms, where an entry has a plural. The first fault is reported with the input of its line,
 /// or input 0 where it has none. `OutOfMemory`, with input 0, may come in place of any answer.
 pub fn profile_check(
     alloc: Global,
@@ -163,7 +163,7 @@ fn push_join_text(
     }
 }
 
-/// The line at which a fault of the check is told; 0 is none.
+/// The line at which a fault of the check is reported; 0 is none.
 fn check_place(fault: CheckFault) -> u32
     ensures { result ≡ check_place fault }
 {
@@ -323,8 +323,8 @@ fn plan_compiled(
 }
 
 /// What `msgfmt` writes and tells of its inputs, each with its name: the compiled file, where it has a message, and
-/// the statistics, where they are asked for. Inputs that aren't compiled are told by one line, with status 1, and
-/// else a fault of the check, where it is asked for. Refused only by want of memory.
+/// the statistics, where they are asked for. Inputs that aren't compiled are reported by one line, with status 1, and
+/// else a fault of the check, where it is asked for. Refused only where an allocation failed.
 pub fn plan_msgfmt(
     alloc: Global,
     inputs: &[(&str, &[u8])],
@@ -346,7 +346,7 @@ pub fn plan_msgfmt(
 }
 
 /// Reads one input, compiles it as `plan_msgfmt` does under this name, and writes what the run comes to: its output
-/// and then its messages. The answer is the run's status. After a `ReadFault`, or want of memory, nothing is
+/// and then its messages. The answer is the run's status. After a `ReadFault`, or out of memory, nothing is
 /// written; after a `WriteFault` a prefix is, as `deliver` says.
 pub fn run_msgfmt<R: ByteIn, O: ByteOut, E: ByteOut>(
     alloc: Global,

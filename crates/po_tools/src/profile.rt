@@ -224,7 +224,7 @@ fn first_fault(rule: &Rule, entries: &[JoinedEntry<'_>]) -> Option<(u32, CheckFa
 /// Asks of the messages that are compiled, in text order: that there is a header; that it has a readable plural
 /// rule where an entry has a plural; that each entry but the header has as many forms as the rule, and newlines
 /// at its ends where its msgid has them; and that the rule's values at the counts from 0 to 1,000 are indices of
-/// forms, where an entry has a plural. The first fault is told, with the input of its line, or input 0.
+/// forms, where an entry has a plural. The first fault is reported, with the input of its line, or input 0.
 pub(crate) fn check_entries(entries: &[JoinedEntry<'_>]) -> Option<(u32, CheckFault)>
     ensures { IsChecked (input_entries entries.now) result }
 {

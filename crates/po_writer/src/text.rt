@@ -45,7 +45,7 @@ pub fn append(text: &mut Vec<u8>, entry: &Entry) -> Result<(), PoError>
 }
 
 /// The text of a catalogue (GNU gettext manual, "The Format of PO Files"): the live entries in
-/// order, then the obsolete ones in order, with an empty line between two. Want of memory is the
+/// order, then the obsolete ones in order, with an empty line between two. An allocation that failed is the
 /// only refusal.
 pub fn write(alloc: Global, catalogue: &Catalogue) -> Result<Vec<u8>, PoError>
     ensures text { IfOk result (λ text. text.items ≡ written_text catalogue.now) }

@@ -1,4 +1,4 @@
-//! Readers and writers that fail or move few bytes a call: what is told, and what has gone out.
+//! Readers and writers that fail or move few bytes a call: what is reported, and what has gone out.
 
 use mo_file::Order;
 use po_shell::{Counted, Failing, Substituter, ToolFault, put_all, read_input, run_envsubst};
@@ -22,7 +22,7 @@ const THREE_BYTES: &[u8] = b"ab$";
 
 const WRITE_FAULT: Result<(), ToolFault> = Err(ToolFault::WriteFault);
 
-/// The call of the reader that fails, how many bytes a call gives, the text, what `$A` stands for, what is told, and
+/// The call of the reader that fails, how many bytes a call gives, the text, what `$A` stands for, what is reported, and
 /// what has gone out.
 const READS: &[(
     u64,
@@ -41,7 +41,7 @@ const READS: &[(
     (4, 1, THREE_BYTES, &[], Err(ToolFault::ReadFault), b"ab"),
 ];
 
-/// The call of the writer that fails, how many bytes a call takes, what is told, and what has gone out.
+/// The call of the writer that fails, how many bytes a call takes, what is reported, and what has gone out.
 const WRITES: &[(u64, usize, Result<(), ToolFault>, &[u8])] = &[
     (0, 1, Ok(()), b"ab"),
     (2, 1, WRITE_FAULT, b"a"),
@@ -49,7 +49,7 @@ const WRITES: &[(u64, usize, Result<(), ToolFault>, &[u8])] = &[
     (0, 0, WRITE_FAULT, b""),
 ];
 
-/// The same of the writers of the output and of the messages: calls, bytes a call, what is told, and what has gone
+/// The same of the writers of the output and of the messages: calls, bytes a call, what is reported, and what has gone
 /// out.
 const DELIVERIES: &[(u64, u64, usize, Result<(), ToolFault>, &[u8], &[u8])] = &[
     (0, 0, 1, Ok(()), b"ab", b"c"),

@@ -43,7 +43,7 @@ const FAULTS: &[(Option<&str>, ProgramFault<'static>, &[u8])] = &[
     ),
 ];
 
-/// Whether a fault is told by this line.
+/// Whether a fault is reported by this line.
 fn is_told(alloc: Global, tool: Option<&str>, fault: ProgramFault<'_>, line: &[u8]) -> bool {
     let mut err = Counted::new(Vec::new(alloc));
     let told = tell(alloc, &mut err, tool, fault);

@@ -60,7 +60,7 @@ const PREVIOUS: &[Refused] = &[
     (b"msgid\n#| \"a\"\nmsgstr \"c\"\n", PoFault::BadOrder, 2),
 ];
 
-/// The end of the text is told on the line of the last item, a comment too.
+/// The end of the text is reported on the line of the last item, a comment too.
 const ENDS: &[Refused] = &[
     (b"#| msgid \"a\"\n#| \"b\"\n\n\n", PoFault::BadOrder, 2),
     (

@@ -6,7 +6,7 @@ use std::alloc::Global;
 use std::process::Abort;
 use std::test::Fail;
 
-/// A text with the fault that is told first, and its line.
+/// A text with the fault that is reported first, and its line.
 pub(super) type Refused = (&'static [u8], PoFault, u32);
 
 pub(super) fn check(rt: &impl Abort, alloc: Global, rows: &[Refused]) {
@@ -79,7 +79,7 @@ const TOKENS: &[Refused] = &[
     ),
 ];
 
-/// Of two faults of items the leftmost is told, before an item that is out of order.
+/// Of two faults of items the leftmost is reported, before an item that is out of order.
 const LEFTMOST: &[Refused] = &[
     (b"msgid \"\\q\" x\n", PoFault::BadEscape, 1),
     (b"msgid x \"\\q\"\n", PoFault::BadToken, 1),
