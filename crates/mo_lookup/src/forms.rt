@@ -3,12 +3,13 @@
 ghost use Rattle.std.specs.Prelude.{◌≡◌, ◌≤◌, [], ◌∷◌, length, slice_get, MatchOption};
 ghost use Rattle.std.specs.Option.{option_copied};
 ghost use Rattle.plural_rule.specs.Expression.{nodes, value, visited};
+ghost use Rattle.plural_rule.specs.PluralRule.{expression_limit};
 ghost use Rattle.plural_rule.specs.PostOrder.{layout, tree_of};
 ghost use Rattle.mo_lookup.specs.Answer.{form_at, selected_form};
 ghost use Rattle.mo_lookup.specs.Contents.{forms};
 
 use memchr::memchr;
-use plural_rule::{LIMIT, Node, evaluate};
+use plural_rule::{Node, evaluate};
 
 /// Form 0 of a translation, which each translation has.
 pub(crate) fn first_form(translation: &[u8]) -> &[u8]
@@ -48,7 +49,7 @@ pub(crate) fn selected_form<'t>(
     count: u64,
 ) -> (&'t [u8], u32)
     requires laid { table.now ≡ layout 0 (tree_of table.now) }
-    requires limit { length table.now ≤ LIMIT }
+    requires limit { length table.now ≤ expression_limit }
     ensures text { result.0.now ≡ selected_form (forms translation.now) nplurals (value (tree_of table.now) count) }
     ensures steps { result.1 ≡ visited (tree_of table.now) count }
     ensures nodes { result.1 ≤ nodes (tree_of table.now) }

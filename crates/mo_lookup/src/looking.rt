@@ -4,6 +4,7 @@ ghost use Rattle.std.specs.Prelude.{◌≡◌, ◌+◌, ◌^◌, ◌<◌, ◌≤
 ghost use Rattle.std.specs.Option.{option_copied};
 ghost use Rattle.plural_rule.specs.declared.rule.Source.{Source};
 ghost use Rattle.plural_rule.specs.Expression.{nodes};
+ghost use Rattle.plural_rule.specs.PluralRule.{expression_limit};
 ghost use Rattle.plural_rule.specs.PostOrder.{layout, tree_of};
 ghost use Rattle.mo_file.specs.Key.{query_key};
 ghost use Rattle.mo_lookup.specs.Bound.{search_bound};
@@ -17,10 +18,10 @@ use crate::query::{is_clean_key, untranslated_text};
 use crate::search::find;
 use crate::view_keys::ViewKeys;
 use mo_file::{Meter, MoView};
-use plural_rule::{LIMIT, Node};
+use plural_rule::Node;
 
 /// Looks up a message as [`Catalog::look`](crate::Catalog::look) does, in the messages of a view, with a rule of
-/// `nplurals` forms whose expression stands in `table`. The table is that of a rule of at most `LIMIT` nodes.
+/// `nplurals` forms whose expression stands in `table`. The table is that of a rule of at most 4,096 nodes.
 pub fn look<'a, 'q>(
     view: &MoView<'a>,
     nplurals: u64,
@@ -34,7 +35,7 @@ where
     'a: 'q,
     requires room { meter.old < 2 ^ 63 }
     requires laid { table.now ≡ layout 0 (tree_of table.now) }
-    requires limit { length table.now ≤ LIMIT }
+    requires limit { length table.now ≤ expression_limit }
     ensures told { (source : Source) → outcome_of result
         ≡ told (record { messages = view.now; rule = record { source = source; number = nplurals; tree = tree_of table.now } })
         (query context.entry id.now plural.entry) }
@@ -89,7 +90,7 @@ pub(crate) fn form<'a>(
     plural: Option<(&[u8], u64)>,
 ) -> (&'a [u8], u32)
     requires laid { table.now ≡ layout 0 (tree_of table.now) }
-    requires limit { length table.now ≤ LIMIT }
+    requires limit { length table.now ≤ expression_limit }
     ensures text { (source : Source) → result.0.now
         ≡ (translated (forms translation.now) (record { source = source; number = nplurals; tree = tree_of table.now })
         (given plural.entry)).text }

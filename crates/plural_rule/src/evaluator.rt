@@ -5,6 +5,7 @@
 ghost use Rattle.std.specs.Prelude.{◌≡◌, ℕ, ◌+◌, ◌<◌, ◌≤◌, Some, length};
 ghost use Rattle.arrayvec.specs.ArrayVec.{array_vec_len};
 ghost use Rattle.plural_rule.specs.Expression.{Tree, nodes, value, visited};
+ghost use Rattle.plural_rule.specs.PluralRule.{expression_limit};
 ghost use Rattle.plural_rule.specs.PostOrder.{layout, tree_of};
 ghost use Rattle.plural_rule.specs.Evaluation.{second_frame, subtree, IsNodeOf, Outcome, outcome_of, finished, finished_step, remaining, remaining_step, AreFramesOf, IsStepOf};
 
@@ -63,7 +64,7 @@ pub(crate) enum Step {
 /// The table is that of a rule: each node stands after its operands, and the whole expression's last.
 pub fn evaluate(table: &[Node], count: u64) -> (Option<u64>, u32)
     requires laid { table.now ≡ layout 0 (tree_of table.now) }
-    requires limit { length table.now ≤ LIMIT }
+    requires limit { length table.now ≤ expression_limit }
     ensures value { result.0 ≡ value (tree_of table.now) count }
     ensures steps { result.1 ≡ visited (tree_of table.now) count }
     ensures bound { result.1 ≤ nodes (tree_of table.now) }

@@ -119,7 +119,7 @@ impl Rule {
     pub fn table(&self) -> &[Node]
         ensures laid { result.now ≡ layout 0 self.now.tree }
         ensures tree { tree_of result.now ≡ self.now.tree }
-        ensures limit { length result.now ≤ LIMIT }
+        ensures limit { length result.now ≤ expression_limit }
     {
         self.table.as_slice()
     }
