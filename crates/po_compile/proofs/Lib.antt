@@ -13,3 +13,4 @@ pub mod AcceptedOrFault
 pub mod OneFaultLemmas
 pub mod PartLemmas
 pub mod RowsMean
+pub mod PrefixLemmas

@@ -6,3 +6,4 @@ pub mod Accepted
 pub mod Headline
 pub mod Parts
 pub mod Collected
+pub mod Prefix

@@ -6,8 +6,10 @@ mod compiling;
 pub mod laws;
 mod messages;
 mod options;
+mod prefix;
 mod reading;
 mod row;
+mod rows;
 mod sorting;
 
 pub use crate::compiling::{compile, compile_all, compile_catalogues};

@@ -1,95 +1,28 @@
-ghost use Rattle.std.specs.Prelude.{◌≡◌, Bool, List, IfOk, map, filter, take, drop, length, true, IsPermutation};
-ghost use Rattle.std.specs.List.{flat_map};
-ghost use Rattle.std.specs.List.Sorted.{IsSortedBy};
-ghost use Rattle.std.specs.Ordering.{is_lt};
-ghost use Rattle.mo_file.specs.Key.{key_cmp, AreRising};
-ghost use Rattle.mo_file.specs.Pairs.{messages_of_lent};
-ghost use Rattle.po_entry.specs.TextEntry.{TextEntry};
-ghost use Rattle.po_compile.specs.Collected.{message_bytes, lengths_of, live_message, row_seen, LiveMessage};
+ghost use Rattle.std.specs.Prelude.{◌≡◌, ◌<◌, All};
+ghost use Rattle.mo_file.specs.Key.{key_cmp};
+ghost use Rattle.po_compile.specs.Prefix.{prefix_of};
 
-use crate::collecting::Lengths;
-use mo_file::LentPair;
-use std::alloc::{AllocError, Global};
 use std::cmp::Ordering;
 
-/// A live entry's message, whose parts stand in what was collected.
+/// A live entry's message, whose parts stand in what was collected. By the prefix most rows are compared without a
+/// look at their keys, which lie anywhere in memory.
 #[derive(Clone, Copy)]
 pub(crate) struct Row<'b> {
+    pub(crate) prefix: u128,
     pub(crate) key: &'b [u8],
     pub(crate) original: &'b [u8],
     pub(crate) translation: &'b [u8],
     pub(crate) compiled: bool,
+    ghost bytes: { All (λ byte. byte < 256) key.now },
+    ghost first: { prefix ≡ prefix_of key.now },
 }
 
-/// Cuts off so many bytes, or all where there are fewer.
-fn cut(bytes: &[u8], len: usize) -> (&[u8], &[u8])
-    ensures first { result.0.now ≡ take len bytes.now }
-    ensures rest { result.1.now ≡ drop len bytes.now }
+/// How the keys of two rows stand to each other.
+pub(crate) fn compare(a: &Row<'_>, b: &Row<'_>) -> Ordering
+    ensures { result ≡ key_cmp a.now.key.now b.now.key.now }
 {
-    bytes.split_at(len.min(bytes.len()))
-}
-
-/// The rows of the messages that were collected.
-pub(crate) fn rows_of<'b>(
-    alloc: Global,
-    bytes: &'b [u8],
-    lengths: &[Lengths],
-) -> Result<Vec<Row<'b>>, AllocError>
-    ensures { IfOk result (λ rows. (use_fuzzy : Bool) (live : List TextEntry) → bytes.now ≡ flat_map message_bytes live → lengths.now ≡ map (lengths_of use_fuzzy) live → map row_seen rows.items ≡ map (live_message use_fuzzy) live) }
-{
-    let mut rows = Vec::with_capacity(alloc, lengths.len())?;
-    let mut rest = bytes;
-    for parts in lengths {
-        let (original, after) = cut(rest, parts.original);
-        let (translation, next) = cut(after, parts.translation);
-        let (key, _) = cut(original, parts.key);
-        rows.push(Row {
-            key,
-            original,
-            translation,
-            compiled: parts.compiled,
-        })?;
-        rest = next;
+    match a.prefix.cmp(&b.prefix) {
+        Ordering::Equal => a.key.cmp(b.key),
+        other => other,
     }
-    Ok(rows)
-}
-
-/// Sorts rows by their keys.
-pub(crate) fn sort_rows(rows: &mut Vec<Row<'_>>)
-    ensures permutation { IsPermutation rows.old.items rows.new.items }
-    ensures sorted { IsSortedBy (λ a b. is_lt (key_cmp a.key.now b.key.now)) rows.new.items }
-{
-    rows.sort_unstable_by(|a, b| a.key.cmp(b.key));
-}
-
-/// Whether each key is above the one before it.
-pub(crate) fn are_rising(rows: &[Row<'_>]) -> bool
-    ensures { result ≡ true → AreRising (map (λ r. r.key.now) rows.now) }
-{
-    for i in 1..rows.len() {
-        match rows[i - 1].key.cmp(rows[i].key) {
-            Ordering::Less => {}
-            _ => return false,
-        }
-    }
-    true
-}
-
-/// The messages that are compiled, in the order of the rows.
-pub(crate) fn compiled_pairs<'b>(
-    alloc: Global,
-    rows: &[Row<'b>],
-) -> Result<Vec<LentPair<'b>>, AllocError>
-    ensures { IfOk result (λ pairs. messages_of_lent pairs.items ≡ map (λ (m : LiveMessage). m.message) (filter (λ (m : LiveMessage). m.compiled) (map row_seen rows.now))) }
-{
-    let mut pairs = Vec::with_capacity(alloc, rows.len())?;
-    for row in rows {
-        if row.compiled {
-            pairs.push(LentPair {
-                original: row.original,
-                translation: row.translation,
-            })?;
-        }
-    }
-    Ok(pairs)
 }

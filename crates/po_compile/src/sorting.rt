@@ -5,7 +5,7 @@ ghost use Rattle.po_compile.specs.declared.collecting.Lengths.{Lengths as Length
 ghost use Rattle.po_compile.specs.Collected.{HoldsEntries, IsSortedOf, counts_of};
 
 use crate::collecting::{Collected, Lengths};
-use crate::row::{are_rising, compiled_pairs, rows_of, sort_rows};
+use crate::rows::{are_rising, compiled_pairs, rows_of, sort_rows};
 use mo_file::LentPair;
 use po_catalog::Stats;
 use std::alloc::{AllocError, Global};

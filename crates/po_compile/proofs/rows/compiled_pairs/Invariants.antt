@@ -1,7 +1,7 @@
 use Rattle.std.proofs.Common.{◌≡◌, take, map, filter}
 use Rattle.mo_file.specs.Pairs.{messages_of_lent}
 use Rattle.po_compile.specs.Collected.{row_seen, LiveMessage}
-use Rattle.po_compile.proofs.row.compiled_pairs.Given as goal
+use Rattle.po_compile.proofs.rows.compiled_pairs.Given as goal
 
 abbrev pub invariant-loop-row : goal.invariant-loop-row
 invariant-loop-row l =

@@ -4,23 +4,23 @@ use Rattle.std.proofs.lemmas.List.{get_or-map}
 use Rattle.std.specs.declared.cmp.Ordering.TheVariants.{Less}
 use Rattle.mo_file.specs.Key.{key_at, key_cmp}
 use Rattle.po_compile.specs.declared.row.Row.{Row}
-use Rattle.po_compile.proofs.row.are_rising.Goals as goal
+use Rattle.po_compile.proofs.rows.are_rising.Goals as goal
 
 abbrev key : Row → List ℕ
 key row = row.key.now
 
 -- one more pair of neighbours
-rising_more : (rows : List Row) (i : ℕ) (a b : Row) → 1 ≤ i → i < length rows → Less ≡ key_cmp (key (get_or rows (i - 1) a)) (key (get_or rows i b))
+rising_more : (rows : List Row) (i : ℕ) (a b : Row) → 1 ≤ i → i < length rows → a ≡ get_or rows (i - 1) a → b ≡ get_or rows i b → Less ≡ key_cmp (key a) (key b)
     → ((k : ℕ) → k + 1 < i → key_cmp (key_at (map key rows) k) (key_at (map key rows) (k + 1)) ≡ Less)
     → (k : ℕ) → k + 1 < i + 1 → key_cmp (key_at (map key rows) k) (key_at (map key rows) (k + 1)) ≡ Less
-rising_more rows i a b some inside less so_far k within =
+rising_more rows i a b some inside first second less so_far k within =
     elim (cases_lt (k + 1) i) [
       | inl below ↦ so_far k below
       | inr here ↦
           let before : k ≡ i - 1 = omega arith in
           let at : k + 1 ≡ i = omega arith in
-          ap₂ key_cmp (get_or-map key rows k a [] (omega arith) ∙ ap (λ n. key (get_or rows n a)) before) (get_or-map key rows (k + 1) b [] (omega arith) ∙ ap (λ n. key (get_or rows n b)) at) ∙ sym less
+          ap₂ key_cmp (get_or-map key rows k a [] (omega arith) ∙ ap (λ n. key (get_or rows n a)) before ∙ ap key (sym first)) (get_or-map key rows (k + 1) b [] (omega arith) ∙ ap (λ n. key (get_or rows n b)) at ∙ ap key (sym second)) ∙ sym less
     ]
 
 pub loop-i-preserved : goal.loop-i-preserved
-loop-i-preserved c = rising_more c.args.rows.now c.loop-i.i _ _ c.loop-i.auto.i c.loop-i-test.true c.in-Less.ensures c.loop-i.invariant
+loop-i-preserved c = rising_more c.args.rows.now c.loop-i.i c.index-rows-i.result c.index-rows-i-in-loop-i.result c.loop-i.auto.i c.loop-i-test.true c.index-rows-i.is c.index-rows-i-in-loop-i.is c.in-Less.ensures c.loop-i.invariant

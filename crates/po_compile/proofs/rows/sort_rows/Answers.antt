@@ -4,7 +4,7 @@ use Rattle.std.proofs.lemmas.Cmp.{nat_list_cmp_total}
 use Rattle.std.proofs.lemmas.List.Sorted.{answers_always, ranks_by}
 use Rattle.mo_file.specs.Key.{key_cmp}
 use Rattle.po_compile.specs.declared.row.Row.{Row}
-use Rattle.po_compile.proofs.row.sort_rows.Goals as goal
+use Rattle.po_compile.proofs.rows.sort_rows.Goals as goal
 
 pub returns-clause-sorted : goal.returns-clause-sorted
 returns-clause-sorted c =

@@ -2,7 +2,7 @@ use Rattle.std.proofs.Common.{◌≡◌, Bool, List, take, drop, map}
 use Rattle.std.specs.List.{flat_map}
 use Rattle.po_entry.specs.TextEntry.{TextEntry}
 use Rattle.po_compile.specs.Collected.{message_bytes, lengths_of, live_message, row_seen}
-use Rattle.po_compile.proofs.row.rows_of.Given as goal
+use Rattle.po_compile.proofs.rows.rows_of.Given as goal
 
 abbrev pub invariant-loop-parts : goal.invariant-loop-parts
 invariant-loop-parts l =

@@ -1,0 +1,118 @@
+-- Keys are ordered by their prefixes, where these differ.
+use Rattle.std.proofs.Common.{◌≡◌, ◌≢◌, refl, sym, ap, ap₂, ◌∙◌, ℕ, zero, suc, ◌+◌, ◌*◌, ◌-◌, ◌^◌, ◌<◌, ◌≤◌, List, [], ◌∷◌, drop, get_or, arith, add-one, All}
+use Rattle.std.proofs.Math.Nat.{mul-le-mul_right, one-le-pow, pow-le-pow_right, pow-suc}
+use Rattle.std.proofs.Math.Seq.{drop-nil}
+use Rattle.std.specs.Ordering.{nat_cmp, ordering_then, ordering_reverse, MatchOrdering}
+use Rattle.std.specs.declared.cmp.Ordering.{Ordering}
+use Rattle.std.specs.declared.cmp.Ordering.TheVariants.{Less, Equal, Greater}
+use Rattle.std.proofs.lemmas.Cmp.{ranked, nat_list_cmp_total}
+use Rattle.std.proofs.lemmas.List.Elements.{All-head, All-tail}
+use Rattle.mo_file.specs.Key.{key_cmp}
+use Rattle.mo_lookup.proofs.RisingLemmas.{equal_is_same}
+use Rattle.po_compile.specs.Prefix.{digits, prefix_of}
+
+abbrev pub Bytes : List ℕ → Type 0
+Bytes text = All (λ byte. byte < 256) text
+
+pub digits_below : (n : ℕ) (text : List ℕ) → Bytes text → digits n text < 256 ^ n
+digits_below zero text bytes = omega arith
+digits_below (suc n) [] bytes = one-le-pow (suc n) 256 (omega arith)
+digits_below (suc n) (byte ∷ text) bytes =
+    let head : byte < 256 = All-head (λ b. b < 256) byte text bytes in
+    let rest = digits_below n text (All-tail (λ b. b < 256) byte text bytes) in
+    let most : byte ≤ 255 = omega (arith, head) in
+    let product : byte * 256 ^ n ≤ 255 * 256 ^ n = mul-le-mul_right (256 ^ n) most in
+    omega (arith, rest, product)
+
+rising_heads : (n : ℕ) (x y : ℕ) (d e : ℕ) → x < y → d < 256 ^ n → x * 256 ^ n + d ≤ y * 256 ^ n + e
+rising_heads n x y d e less below =
+    let product : suc x * 256 ^ n ≤ y * 256 ^ n = mul-le-mul_right (256 ^ n) less in
+    omega (arith, product, below)
+
+by_heads : (n x y : ℕ) (a b : List ℕ) (o : Ordering) → MatchOrdering o (x < y) (x ≡ y) (y < x) → ordering_then o (key_cmp a b) ≡ Less → digits n a < 256 ^ n → (key_cmp a b ≡ Less → digits n a ≤ digits n b)
+    → x * 256 ^ n + digits n a ≤ y * 256 ^ n + digits n b
+by_heads n x y a b Less below h small rest = rising_heads n x y (digits n a) (digits n b) below small
+by_heads n x y a b Equal same h small rest =
+    let tails = rest h in
+    let heads : x * 256 ^ n ≡ y * 256 ^ n = ap (λ z. z * 256 ^ n) same in omega (arith, tails, heads)
+by_heads n x y a b Greater above h small rest = absurd (cc)
+
+-- the order of keys gives that of their first digits
+pub digits_rise : (n : ℕ) (a b : List ℕ) → Bytes a → Bytes b → key_cmp a b ≡ Less → digits n a ≤ digits n b
+digits_rise zero a b in_a in_b less = omega arith
+digits_rise (suc n) [] b in_a in_b less = omega arith
+digits_rise (suc n) (x ∷ a) [] in_a in_b less = absurd (cc)
+digits_rise (suc n) (x ∷ a) (y ∷ b) in_a in_b less =
+    let rest_a = All-tail (λ byte. byte < 256) x a in_a in
+    let rest_b = All-tail (λ byte. byte < 256) y b in_b in
+    by_heads n x y a b (nat_cmp x y) (ranked x y (nat_cmp x y) refl) less (digits_below n a rest_a) (λ h. digits_rise n a b rest_a rest_b h)
+
+by_order : (m n : ℕ) (o : Ordering) → (o ≡ Less → m ≤ n) → (o ≡ Equal → m ≡ n) → (o ≡ Greater → n ≤ m) → ordering_then (nat_cmp m n) o ≡ o
+by_order m n o less equal greater = by_prefix (nat_cmp m n) o (ranked m n (nat_cmp m n) refl) less equal greater where
+  by_prefix : (p o : Ordering) → MatchOrdering p (m < n) (m ≡ n) (n < m) → (o ≡ Less → m ≤ n) → (o ≡ Equal → m ≡ n) → (o ≡ Greater → n ≤ m) → ordering_then p o ≡ o
+  by_prefix Less Less h less equal greater = refl
+  by_prefix Less Equal h less equal greater = absurd (omega (arith, h, equal refl))
+  by_prefix Less Greater h less equal greater = absurd (omega (arith, h, greater refl))
+  by_prefix Equal o h less equal greater = refl
+  by_prefix Greater Less h less equal greater = absurd (omega (arith, h, less refl))
+  by_prefix Greater Equal h less equal greater = absurd (omega (arith, h, equal refl))
+  by_prefix Greater Greater h less equal greater = refl
+
+-- prefixes that differ decide as the keys do
+pub prefix_first : (a b : List ℕ) → Bytes a → Bytes b → ordering_then (nat_cmp (prefix_of a) (prefix_of b)) (key_cmp a b) ≡ key_cmp a b
+prefix_first a b in_a in_b =
+    by_order (prefix_of a) (prefix_of b) (key_cmp a b)
+    (λ h. digits_rise 16 a b in_a in_b h)
+    (λ h. ap prefix_of (equal_is_same a b h))
+    (λ h. digits_rise 16 b a in_b in_a (nat_list_cmp_total.antisymm b a ∙ ap ordering_reverse h))
+
+below_next : (n p byte : ℕ) → p < 256 ^ n → byte < 256 → p * 256 + byte < 256 ^ suc n
+below_next n p byte below small = omega (arith, below, small)
+
+-- the next digit
+next_digit : (k place : ℕ) (text : List ℕ) → digits (suc k) (drop place text) ≡ get_or text place 0 * 256 ^ k + digits k (drop (suc place) text)
+next_digit zero place [] = rw (drop-nil place) refl
+next_digit (suc k) place [] = rw (drop-nil place) (omega arith)
+next_digit k zero (byte ∷ text) = refl
+next_digit k (suc place) (byte ∷ text) = next_digit k place text
+
+spread : (p b x d : ℕ) → (p * 256 + b) * x + d ≡ p * (x * 256) + (b * x + d)
+spread p b x d = omega arith
+
+-- so many digits are read, and those that are left
+abbrev pub IsRead : ℕ → ℕ → List ℕ → ℕ → Type 0
+IsRead n place text prefix = (prefix < 256 ^ place) × (prefix * 256 ^ (n - place) + digits (n - place) (drop place text) ≡ digits n text)
+
+digit_more : (k n place : ℕ) (text : List ℕ) (prefix byte : ℕ) → byte ≡ get_or text place 0 → prefix * 256 ^ suc k + digits (suc k) (drop place text) ≡ digits n text
+    → (prefix * 256 + byte) * 256 ^ k + digits k (drop (suc place) text) ≡ digits n text
+digit_more k n place text prefix byte is spelt =
+    let left = digits k (drop (suc place) text) in
+    let digit : digits (suc k) (drop place text) ≡ byte * 256 ^ k + left = next_digit k place text ∙ ap (λ b. b * 256 ^ k + left) (sym is) in
+    let power : 256 ^ suc k ≡ 256 ^ k * 256 = pow-suc 256 k in
+    spread prefix byte (256 ^ k) left ∙ ap₂ (λ x d. prefix * x + d) (sym power) (sym digit) ∙ spelt
+
+read_next : (k n place : ℕ) (text : List ℕ) (prefix byte : ℕ) → n - place ≡ suc k → n - (place + 1) ≡ k → byte ≡ get_or text place 0 → byte < 256 → IsRead n place text prefix
+    → IsRead n (place + 1) text (prefix * 256 + byte)
+read_next k n place text prefix byte here next is small so_far = (
+  rw add-one (below_next place prefix byte so_far.0 small),
+  rw next (rw add-one (digit_more k n place text prefix byte is (rw here at so_far.1))),
+)
+
+pub digit_read : (n place : ℕ) (text : List ℕ) (prefix byte : ℕ) → place < n → byte ≡ get_or text place 0 → byte < 256 → IsRead n place text prefix → IsRead n (place + 1) text (prefix * 256 + byte)
+digit_read n place text prefix byte inside is small so_far =
+    read_next (n - (place + 1)) n place text prefix byte (omega (arith, inside)) refl is small so_far
+
+pub fits : (place prefix : ℕ) → place < 16 → prefix < 256 ^ place → prefix * 256 + 255 < 2 ^ 128
+fits place prefix inside below =
+    let most : 256 ^ suc place ≤ 256 ^ 16 = pow-le-pow_right {n = 256} (omega arith) {i = suc place} {j = 16} (omega (arith, inside)) in
+    omega (arith, below, most)
+
+then_decided : (p o : Ordering) → p ≢ Equal → ordering_then p o ≡ o → p ≡ o
+then_decided Less o other is = is
+then_decided Equal o other is = absurd (other refl)
+then_decided Greater o other is = is
+
+pub prefix_decides : (m n : ℕ) (a b : List ℕ) → m ≡ prefix_of a → n ≡ prefix_of b → Bytes a → Bytes b → (order : Ordering) → order ≡ nat_cmp m n → order ≢ Equal → order ≡ key_cmp a b
+prefix_decides m n a b first second in_a in_b order is other =
+    let by_prefix : order ≡ nat_cmp (prefix_of a) (prefix_of b) = is ∙ ap₂ nat_cmp first second in
+    then_decided order (key_cmp a b) other (ap (λ o. ordering_then o (key_cmp a b)) by_prefix ∙ prefix_first a b in_a in_b)

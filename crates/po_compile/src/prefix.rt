@@ -1,0 +1,25 @@
+ghost use Rattle.std.specs.Prelude.{◌≡◌, slice_index_or};
+ghost use Rattle.po_compile.specs.Prefix.{prefix_of};
+
+const PREFIX_LEN: usize = 16;
+
+/// The byte at a place, and 0 after the last.
+fn byte_at(text: &[u8], place: usize) -> u8
+    ensures { result ≡ slice_index_or text.now place 0 }
+{
+    match text.get(place) {
+        Some(byte) => *byte,
+        None => 0,
+    }
+}
+
+/// The first sixteen bytes of a key as a number, the first byte its highest digit. A shorter key goes on with zeros.
+pub(crate) fn prefix_of(key: &[u8]) -> u128
+    ensures { result ≡ prefix_of key.now }
+{
+    let mut prefix = 0;
+    for place in 0..PREFIX_LEN {
+        prefix = prefix * 256 + byte_at(key, place) as u128;
+    }
+    prefix
+}
