@@ -1,15 +1,19 @@
--- The search for a first duplicate: the map has one entry for each live entry so far.
-use Rattle.std.proofs.Common.{◌≡◌, ℕ, ◌+◌, ◌<◌, ◌≤◌, Bool, true, false, ◌&&◌, cond, List, [], ◌∷◌, ◌++◌, Option, Some, None, refl, sym, ap, ◌∙◌, subst, length, take, drop, map, filter, get_or, arith, append-nil, All, suc, ⊎_elim, length-append, Result, Ok, Err, MatchResult, IsOkUnless}
+-- The search for a first duplicate: the map has the messages of the live entries so far.
+use Rattle.std.proofs.Common.{◌≡◌, ℕ, ◌+◌, ◌<◌, ◌≤◌, Bool, true, false, ◌&&◌, cond, List, [], ◌∷◌, ◌++◌, Option, Some, None, refl, sym, ap, ◌∙◌, subst, length, take, drop, map, filter, get_or, arith, append-nil, append_assoc, All, suc, ⊎_elim, length-append, Result, Ok, Err, MatchResult, IsOkUnless}
 use Rattle.std.proofs.Math.Seq.{drop-cons, get_or-append_seam}
 use Rattle.std.proofs.Math.ListN.{get_or-append}
 use Rattle.std.proofs.lemmas.List.{take_all, take-append-drop, map-append}
-use Rattle.std.proofs.lemmas.List.Elements.{All-nil, All-cons, All-map, filter-append, filter_more}
+use Rattle.std.proofs.lemmas.List.Elements.{All-nil, All-cons, All-map, All-append, filter-append, filter_more}
 use Rattle.std.proofs.lemmas.List.Quantifiers.{all_pairs_push}
 use Rattle.std.specs.Borrow.{Bor}
-use Rattle.std.specs.Option.{option_copied, option_eq}
+use Rattle.std.specs.Option.{option_copied, option_eq, option_cmp}
 use Rattle.std.specs.Str.{bytes_eq}
-use Rattle.std.specs.List.{AllZip}
 use Rattle.std.specs.Map.{lookup}
+use Rattle.std.specs.BTreeMap.{BTreeMap, get, is_at}
+use Rattle.std.specs.Ordering.{nat_cmp, ordering_then, is_eq}
+use Rattle.std.specs.declared.cmp.Ordering.{Ordering}
+use Rattle.std.specs.Cmp.{both_tied}
+use Rattle.std.specs.Cmp.Lexicographic.{slice_cmp, texts_ties}
 use Rattle.std.proofs.lemmas.Slice.Eq.{bytes_eq-Decides}
 use Rattle.po_entry.specs.TextEntry.{TextEntry}
 use Rattle.po_catalog.specs.Joined.{InputEntry, is_live, in_input, entries_of}
@@ -25,19 +29,22 @@ error_at input first_input line at = record { input = input; first_input = first
 abbrev pub MessageKey : Type 0
 MessageKey = Option (Bor (List ℕ)) × Bor (List ℕ)
 
--- how the map compares two keys
-abbrev pub same_key : MessageKey → MessageKey → Bool
+-- whether two keys are equal
+abbrev same_key : MessageKey → MessageKey → Bool
 same_key a b = option_eq (λ x y. bytes_eq x.now y.now) a.0 b.0 && bytes_eq a.1.now b.1.now
+
+-- how the map compares two keys
+abbrev pub message_cmp : MessageKey → MessageKey → Ordering
+message_cmp a b = ordering_then (option_cmp (λ x y. slice_cmp nat_cmp x.now y.now) a.0 b.0) (slice_cmp nat_cmp a.1.now b.1.now)
+
+-- the input and the line of each message that was seen
+abbrev Seen : Type 0
+Seen = BTreeMap MessageKey (ℕ × ℕ)
 
 -- the key is that of the entry
 pub record IsKeyOf (key : MessageKey) (entry : TextEntry) : Type 0 where
   pub context : option_copied key.0 ≡ entry.context
   pub id : key.1.now ≡ entry.id
-
--- an entry of the map stands for an entry of the catalogue: its key, its input and its line
-pub record StandsFor (kept : MessageKey × (ℕ × ℕ)) (entry : InputEntry) : Type 0 where
-  pub key : IsKeyOf kept.0 entry.entry
-  pub place : kept.1 ≡ (entry.input, entry.entry.line)
 
 both : (a b : Bool) → (a && b) ≡ true → (a ≡ true) × (b ≡ true)
 both true b h = (refl, h)
@@ -78,90 +85,97 @@ pub record IsFoundAt (entries : List InputEntry) (entry : TextEntry) (place : �
   pub same : IsSameMessage first.entry entry
   pub place_is : place ≡ (first.input, first.entry.line)
 
-found_step : (kept : MessageKey × (ℕ × ℕ)) (x : InputEntry) (xs : List InputEntry) (rest : Option (ℕ × ℕ)) (key : MessageKey) (entry : TextEntry) (place : ℕ × ℕ)
-    → StandsFor kept x → IsKeyOf key entry → (b : Bool) → same_key key kept.0 ≡ b → cond b (Some kept.1) rest ≡ Some place
-    → (rest ≡ Some place → IsFoundAt xs entry place) → IsFoundAt (x ∷ xs) entry place
-found_step kept x xs rest key entry place s k true e h later =
-    let same = same_message key kept.0 entry x.entry k s.key e in
-    let is : kept.1 ≡ place = cc in
-    record { before = []; first = x; after = xs; split = refl; same = (sym same.0, sym same.1); place_is = sym is ∙ s.place }
-found_step kept x xs rest key entry place s k false e h later =
-    let found = later h in
-    record { before = x ∷ found.before; first = found.first; after = found.after; split = ap (λ l. x ∷ l) found.split; same = found.same; place_is = found.place_is }
+contexts_tie : (a b : Option (Bor (List ℕ))) → option_eq (λ x y. bytes_eq x.now y.now) a b ≡ is_eq (option_cmp (λ x y. slice_cmp nat_cmp x.now y.now) a b)
+contexts_tie None None = refl
+contexts_tie None (Some y) = refl
+contexts_tie (Some x) None = refl
+contexts_tie (Some x) (Some y) = texts_ties x.now y.now
 
-found_here : (kept : List (MessageKey × (ℕ × ℕ))) (entries : List InputEntry) (key : MessageKey) (entry : TextEntry) (place : ℕ × ℕ)
-    → AllZip StandsFor kept entries → IsKeyOf key entry → lookup (same_key key) kept ≡ Some place → IsFoundAt entries entry place
-found_here [] [] key entry place z k h = cc
-found_here [] (x ∷ xs) key entry place z k h = absurd z
-found_here (p ∷ ps) [] key entry place z k h = absurd z
-found_here (p ∷ ps) (x ∷ xs) key entry place z k h =
-    found_step p x xs (lookup (same_key key) ps) key entry place z.0 k (same_key key p.0) refl h (found_here ps xs key entry place z.1 k)
+keys_tie : (a b : MessageKey) → same_key a b ≡ is_at (message_cmp a) b
+keys_tie a b =
+    both_tied _ _ (option_cmp (λ x y. slice_cmp nat_cmp x.now y.now) a.0 b.0) (slice_cmp nat_cmp a.1.now b.1.now) (contexts_tie a.0 b.0) (texts_ties a.1.now b.1.now)
 
-absent_step : (b : Bool) (place : ℕ × ℕ) (rest : Option (ℕ × ℕ)) → cond b (Some place) rest ≡ None → (b ≡ false) × (rest ≡ None)
-absent_step true place rest h = cc
-absent_step false place rest h = (refl, h)
-
-absent : (kept : List (MessageKey × (ℕ × ℕ))) (entries : List InputEntry) (key : MessageKey) (entry : TextEntry)
-    → AllZip StandsFor kept entries → IsKeyOf key entry → lookup (same_key key) kept ≡ None → All (λ e. ¬ IsSameMessage e.entry entry) entries
-absent [] [] key entry z k h = All-nil (λ e. ¬ IsSameMessage e.entry entry)
-absent [] (x ∷ xs) key entry z k h = absurd z
-absent (p ∷ ps) [] key entry z k h = absurd z
-absent (p ∷ ps) (x ∷ xs) key entry z k h =
-    let step = absent_step (same_key key p.0) p.1 (lookup (same_key key) ps) h in
-    All-cons (λ e. ¬ IsSameMessage e.entry entry) x xs
-    (λ same. let e : same_key key p.0 ≡ true = same_keys key p.0 entry x.entry k z.0.key (sym same.0, sym same.1) in cc (step.0))
-    (absent ps xs key entry z.1 k step.1)
-
-stand_push : (kept : List (MessageKey × (ℕ × ℕ))) (entries : List InputEntry) (p : MessageKey × (ℕ × ℕ)) (x : InputEntry)
-    → AllZip StandsFor kept entries → StandsFor p x → AllZip StandsFor (kept ++ p ∷ []) (entries ++ x ∷ [])
-stand_push [] [] p x z s = (s, tt)
-stand_push [] (y ∷ ys) p x z s = absurd z
-stand_push (q ∷ qs) [] p x z s = absurd z
-stand_push (q ∷ qs) (y ∷ ys) p x z s = (z.0, stand_push qs ys p x z.1 s)
-
--- the map has seen the live entries of these, no two of which are of one message
-pub record IsSeen (kept : List (MessageKey × (ℕ × ℕ))) (entries : List InputEntry) : Type 0 where
-  pub stand : AllZip StandsFor kept (live_entries entries)
+-- the map tells the live ones of these entries, no two of which are of one message
+pub record IsSeen (seen : Seen) (entries : List InputEntry) : Type 0 where
+  pub found : (key : MessageKey) (entry : TextEntry) (place : ℕ × ℕ) → IsKeyOf key entry → get message_cmp seen key ≡ Some place → IsFoundAt (live_entries entries) entry place
+  pub absent : (key : MessageKey) (entry : TextEntry) → IsKeyOf key entry → get message_cmp seen key ≡ None → All (λ e. ¬ IsSameMessage e.entry entry) (live_entries entries)
   pub differ : AllDiffer (entries_of (live_entries entries))
 
-pub IsSeen-none : IsSeen [] []
-IsSeen-none = record { stand = tt; differ = λ i j d below inside. absurd (omega arith) }
+pub IsSeen-none : (seen : Seen) → seen.entries ≡ [] → IsSeen seen []
+IsSeen-none seen empty =
+    let none : (key : MessageKey) → get message_cmp seen key ≡ None = λ key. ap (λ entries. lookup (is_at (message_cmp key)) entries) empty in
+    record {
+      found = λ key entry place is_key is. absurd (let no = none key in cc (is, no));
+      absent = λ key entry is_key is. All-nil (λ e. ¬ IsSameMessage e.entry entry);
+      differ = λ i j d below inside. absurd (omega arith);
+    }
 
-module _ (kept : List (MessageKey × (ℕ × ℕ))) (xs : List InputEntry) (i : ℕ) (x : InputEntry) (inside : i < length xs) (here : x ≡ get_or xs i x) (seen : IsSeen kept (take i xs)) where
+found_more : (front : List InputEntry) (x : InputEntry) (key other : MessageKey) (entry : TextEntry) (place : ℕ × ℕ) (rest : Option (ℕ × ℕ)) → IsKeyOf key x.entry → IsKeyOf other entry
+    → (b : Bool) → is_at (message_cmp key) other ≡ b → cond b (Some (x.input, x.entry.line)) rest ≡ Some place → (rest ≡ Some place → IsFoundAt front entry place) → IsFoundAt (front ++ x ∷ []) entry place
+found_more front x key other entry place rest is_key is_other true tie h later =
+    let is : (x.input, x.entry.line) ≡ place = cc in
+    record { before = front; first = x; after = []; split = refl; same = same_message key other x.entry entry is_key is_other (keys_tie key other ∙ tie); place_is = sym is }
+found_more front x key other entry place rest is_key is_other false tie h later =
+    let found = later h in
+    record {
+      before = found.before;
+      first = found.first;
+      after = found.after ++ x ∷ [];
+      split = ap (λ l. l ++ x ∷ []) found.split ∙ append_assoc found.before (found.first ∷ found.after) (x ∷ []);
+      same = found.same;
+      place_is = found.place_is;
+    }
+
+absent_more : (front : List InputEntry) (x : InputEntry) (key other : MessageKey) (entry : TextEntry) (rest : Option (ℕ × ℕ)) → IsKeyOf key x.entry → IsKeyOf other entry
+    → (b : Bool) → is_at (message_cmp key) other ≡ b → cond b (Some (x.input, x.entry.line)) rest ≡ None → (rest ≡ None → All (λ e. ¬ IsSameMessage e.entry entry) front)
+    → All (λ e. ¬ IsSameMessage e.entry entry) (front ++ x ∷ [])
+absent_more front x key other entry rest is_key is_other true tie h later = absurd (cc)
+absent_more front x key other entry rest is_key is_other false tie h later =
+    All-append (λ e. ¬ IsSameMessage e.entry entry) front (x ∷ []) (later h)
+    (All-cons (λ e. ¬ IsSameMessage e.entry entry) x []
+    (λ same. let e : true ≡ false = sym (same_keys key other x.entry entry is_key is_other same) ∙ keys_tie key other ∙ tie in cc (e))
+    (All-nil (λ e. ¬ IsSameMessage e.entry entry)))
+
+module _ (places : Seen) (xs : List InputEntry) (i : ℕ) (x : InputEntry) (inside : i < length xs) (here : x ≡ get_or xs i x) (seen : IsSeen places (take i xs)) where
   one_more : (b : Bool) → is_live x.entry ≡ b → live_entries (take (i + 1) xs) ≡ live_entries (take i xs) ++ cond b (x ∷ []) []
   one_more b e =
       filter_more (λ y. is_live y.entry) xs i x inside
       ∙ ap (λ y. live_entries (take i xs) ++ cond (is_live y.entry) (y ∷ []) []) (sym here)
       ∙ ap (λ b. live_entries (take i xs) ++ cond b (x ∷ []) []) e
 
-  pub IsSeen-skip : is_live x.entry ≡ false → IsSeen kept (take (i + 1) xs)
+  pub IsSeen-skip : is_live x.entry ≡ false → IsSeen places (take (i + 1) xs)
   IsSeen-skip obsolete =
       let same = one_more false obsolete ∙ append-nil (live_entries (take i xs)) in
       record {
-        stand = subst (λ l. AllZip StandsFor kept l) (sym same) seen.stand;
+        found = λ key entry place is_key is. subst (λ l. IsFoundAt l entry place) (sym same) (seen.found key entry place is_key is);
+        absent = λ key entry is_key is. subst (All (λ e. ¬ IsSameMessage e.entry entry)) (sym same) (seen.absent key entry is_key is);
         differ = subst (λ l. AllDiffer (entries_of l)) (sym same) seen.differ;
       }
 
-  pub IsSeen-more : is_live x.entry ≡ true → (key : MessageKey) → IsKeyOf key x.entry → lookup (same_key key) kept ≡ None
-      → IsSeen (kept ++ (key, (x.input, x.entry.line)) ∷ []) (take (i + 1) xs)
-  IsSeen-more live key is_key none =
+  pub IsSeen-more : is_live x.entry ≡ true → (key : MessageKey) → IsKeyOf key x.entry → get message_cmp places key ≡ None → (new : Seen)
+      → ((q : MessageKey) → get message_cmp new q ≡ cond (is_at (message_cmp key) q) (Some (x.input, x.entry.line)) (get message_cmp places q)) → IsSeen new (take (i + 1) xs)
+  IsSeen-more live key is_key none new updated =
       let front = live_entries (take i xs) in
       let one = one_more true live in
-      let others = absent kept front key x.entry seen.stand is_key none in
+      let others = seen.absent key x.entry is_key none in
       let apart : All (λ e. ¬ IsSameMessage e x.entry) (entries_of front) = All-map (λ e. ¬ IsSameMessage e x.entry) (λ (e : InputEntry). e.entry) front others in
       let pushed = all_pairs_push (λ a b. ¬ IsSameMessage a b) (entries_of front) x.entry seen.differ apart in
       record {
-        stand = subst (λ l. AllZip StandsFor (kept ++ (key, (x.input, x.entry.line)) ∷ []) l) (sym one)
-            (stand_push kept front (key, (x.input, x.entry.line)) x seen.stand (record { key = is_key; place = refl }));
+        found = λ q entry place is_q is.
+            subst (λ l. IsFoundAt l entry place) (sym one)
+            (found_more front x key q entry place (get message_cmp places q) is_key is_q (is_at (message_cmp key) q) refl (sym (updated q) ∙ is) (seen.found q entry place is_q));
+        absent = λ q entry is_q is.
+            subst (All (λ e. ¬ IsSameMessage e.entry entry)) (sym one)
+            (absent_more front x key q entry (get message_cmp places q) is_key is_q (is_at (message_cmp key) q) refl (sym (updated q) ∙ is) (seen.absent q entry is_q));
         differ = subst (λ l. AllDiffer (entries_of l)) (sym one) (subst AllDiffer (sym (map-append (λ (e : InputEntry). e.entry) front (x ∷ []))) pushed);
       }
 
-  pub IsSeen-repeats : is_live x.entry ≡ true → (key : MessageKey) → IsKeyOf key x.entry → (place : ℕ × ℕ) → lookup (same_key key) kept ≡ Some place
+  pub IsSeen-repeats : is_live x.entry ≡ true → (key : MessageKey) → IsKeyOf key x.entry → (place : ℕ × ℕ) → get message_cmp places key ≡ Some place
       → (first : InputEntry) × IsFirstDuplicate xs first x × (place ≡ (first.input, first.entry.line))
   IsSeen-repeats live key is_key place found =
       let front = live_entries (take i xs) in
       let behind = live_entries (drop (suc i) xs) in
-      let f = found_here kept front key x.entry place seen.stand is_key found in
+      let f = seen.found key x.entry place is_key found in
       let rest : drop i xs ≡ x ∷ drop (suc i) xs = drop-cons xs i x inside ∙ ap (λ y. y ∷ drop (suc i) xs) (sym here) in
       let whole : live_entries xs ≡ front ++ live_entries (drop i xs) =
       ap live_entries (sym (take-append-drop i xs)) ∙ filter-append (λ y. is_live y.entry) (take i xs) (drop i xs) in
@@ -188,8 +202,8 @@ live_of_entries [] = refl
 live_of_entries (x ∷ xs) =
     ap (λ l. cond (is_live x.entry) (x.entry ∷ l) l) (live_of_entries xs) ∙ entry_of_kept (is_live x.entry) x (live_entries xs)
 
-pub IsSeen-all : (kept : List (MessageKey × (ℕ × ℕ))) (xs : List InputEntry) (i : ℕ) → length xs ≤ i → IsSeen kept (take i xs) → HasNoDuplicate (entries_of xs)
-IsSeen-all kept xs i past seen =
+pub IsSeen-all : (places : Seen) (xs : List InputEntry) (i : ℕ) → length xs ≤ i → IsSeen places (take i xs) → HasNoDuplicate (entries_of xs)
+IsSeen-all places xs i past seen =
     subst AllDiffer (sym (live_of_entries xs)) (subst (λ l. AllDiffer (entries_of (live_entries l))) (take_all i xs past) seen.differ)
 
 -- what is reported of a duplicate, from what the map has and the later entry

@@ -5,10 +5,10 @@ ghost use Rattle.po_catalog.specs.Joined.{joined, joined_entries, entries_of};
 ghost use Rattle.po_catalog.specs.Duplicate.{HasNoDuplicate, IsDuplicateFault, IsDuplicateErrorOf, join_memory, entry_memory};
 
 use crate::joining::{JoinedEntry, add_entries, is_live, joined};
-use indexmap::IndexMap;
 use po_entry::Catalogue;
 use po_syntax::{PoError, PoFault};
 use std::alloc::{AllocError, AllocFailed, Global};
+use std::collections::BTreeMap;
 use thiserror::Error;
 
 /// A fault of one of several inputs.
@@ -78,7 +78,8 @@ pub fn joined_duplicates(alloc: Global, catalogues: &[Catalogue]) -> Result<(), 
 fn first_duplicate(alloc: Global, entries: &[JoinedEntry<'_>]) -> Result<(), JoinError>
     ensures exact { MatchResult result (λ _. HasNoDuplicate (entries_of (input_entries entries.now))) (IsDuplicateFault (input_entries entries.now)) }
 {
-    let mut seen = IndexMap::with_capacity(alloc, entries.len())?;
+    // A map that compares its keys, so that no choice of msgids makes it slow.
+    let mut seen = BTreeMap::new(alloc);
     for joined in entries {
         let entry = joined.entry;
         if !is_live(entry) {

@@ -1,13 +1,13 @@
-use Rattle.std.proofs.Common.{sym, ap, ◌∙◌, inr, arith, ◌<◌, length, subst, ◌++◌, ◌∷◌, [], ◌+◌, take}
+use Rattle.std.proofs.Common.{◌≡◌, ℕ, cond, Some, sym, ap, ◌∙◌, inr, arith, ◌<◌, length}
+use Rattle.std.specs.BTreeMap.{get, is_at}
 use Rattle.std.proofs.lemmas.List.{length-map}
 use Rattle.std.proofs.Math.ListN.{get_or-map}
 use Rattle.po_catalog.specs.JoinedView.{input_entry, input_entries}
-use Rattle.po_catalog.proofs.DuplicateLemmas.{IsSeen-none, IsSeen-skip, IsSeen-more, IsSeen-repeats, IsSeen-all, IsKeyOf, IsSeen, same_key, duplicate_error_is}
-use Rattle.indexmap.proofs.CallerLemmas.{insert_entry-new}
+use Rattle.po_catalog.proofs.DuplicateLemmas.{IsSeen-none, IsSeen-skip, IsSeen-more, IsSeen-repeats, IsSeen-all, IsKeyOf, message_cmp, duplicate_error_is}
 use Rattle.po_catalog.proofs.duplicate.first_duplicate.Goals as goal
 
 pub loop-joined-init : goal.loop-joined-init
-loop-joined-init c = rw c.in_ok-seen.ensures.empty IsSeen-none
+loop-joined-init c = IsSeen-none c.new-seen.result c.new-seen.ensures.empty
 
 pub loop-joined-preserved-then-not-is_live : goal.loop-joined-preserved-then-not-is_live
 loop-joined-preserved-then-not-is_live c =
@@ -31,10 +31,9 @@ loop-joined-preserved c =
     let inside : c.loop-joined.joined-index < length (input_entries c.args.entries.now) = omega (arith, length-map c.args.entries.now input_entry) in
     let key : IsKeyOf (c.context.result, c.id.result) c.joined-item.result.entry.now = record { context = c.context.ensures; id = c.id.ensures } in
     let looked = sym c.in_ok-first_input.ensures.old ∙ c.in_default.is in
-    let more = IsSeen-more _ _ _ (input_entry c.joined-item.result) inside here c.loop-joined.invariant (sym c.if-not-is_live.ensures) _ key looked in
-    let inserted = c.in_ok-first_input.ensures.entries ∙ insert_entry-new same_key c.loop-joined.seen (c.context.result, c.id.result) (c.joined-item.result.input, c.line.result) looked
-    ∙ ap (λ line. c.loop-joined.seen.entries ++ ((c.context.result, c.id.result), (c.joined-item.result.input, line)) ∷ []) c.line.ensures in
-    subst (λ kept. IsSeen kept (take (c.loop-joined.joined-index + 1) (input_entries c.args.entries.now))) (sym inserted) more
+    let line : (c.joined-item.result.input, c.line.result) ≡ (c.joined-item.result.input, c.joined-item.result.entry.now.line) = ap (λ (n : ℕ). (c.joined-item.result.input, n)) c.line.ensures in
+    IsSeen-more _ _ _ (input_entry c.joined-item.result) inside here c.loop-joined.invariant (sym c.if-not-is_live.ensures) _ key looked _
+    (λ q. c.in_ok-first_input.ensures.updates.0 q ∙ ap (λ place. cond (is_at (message_cmp (c.context.result, c.id.result)) q) (Some place) (get message_cmp c.loop-joined.seen q)) line)
 
 pub returns : goal.returns
 returns c = record { exact = IsSeen-all _ _ c.loop-joined.joined-index (omega (arith, length-map c.args.entries.now input_entry)) c.loop-joined.invariant }
