@@ -14,3 +14,4 @@ pub mod OneFaultLemmas
 pub mod PartLemmas
 pub mod RowsMean
 pub mod PrefixLemmas
+pub mod RowsRise

@@ -28,7 +28,7 @@ use Rattle.po_compile.specs.CompiledMessages.{AreMessagesOf, message_of, message
 use Rattle.po_compile.proofs.FilteredMoves.{IsPermutation-filter}
 use Rattle.po_compile.proofs.MeaningLemmas.{IsClean, clean_entry, key_of-original}
 
-abbrev key_seen : LiveMessage → List ℕ
+abbrev pub key_seen : LiveMessage → List ℕ
 key_seen m = m.key
 
 abbrev message_seen : LiveMessage → Message
@@ -37,7 +37,7 @@ message_seen m = m.message
 abbrev compiled_seen : LiveMessage → Bool
 compiled_seen m = m.compiled
 
-abbrev key_of_entry : TextEntry → List ℕ
+abbrev pub key_of_entry : TextEntry → List ℕ
 key_of_entry entry = query_key entry.context entry.id
 
 -- each key is below those after it
@@ -137,7 +137,7 @@ distinct_keys (m ∷ ms) h =
 same_key : (a b : TextEntry) → IsSameMessage a b → key_of_entry a ≡ key_of_entry b
 same_key a b same = ap₂ query_key same.0 same.1
 
-key_of_live : (use_fuzzy : Bool) (live : List TextEntry) → map key_seen (map (live_message use_fuzzy) live) ≡ map key_of_entry live
+pub key_of_live : (use_fuzzy : Bool) (live : List TextEntry) → map key_seen (map (live_message use_fuzzy) live) ≡ map key_of_entry live
 key_of_live use_fuzzy [] = refl
 key_of_live use_fuzzy (entry ∷ live) = ap (λ ks. key_of_entry entry ∷ ks) (key_of_live use_fuzzy live)
 
@@ -157,7 +157,7 @@ rows_distinct use_fuzzy entries sorted permuted rising =
     apart i j (key_of_entry d) below (omega (arith, inside, length-map live key_of_entry))
     (get_or-map key_of_entry live i d ∙ same_key (get_or live i d) (get_or live j d) same ∙ sym (get_or-map key_of_entry live j d))
 
-keys_of_rows : (rows : List Row) → map key_seen (map row_seen rows) ≡ map (λ (r : Row). r.key.now) rows
+pub keys_of_rows : (rows : List Row) → map key_seen (map row_seen rows) ≡ map (λ (r : Row). r.key.now) rows
 keys_of_rows [] = refl
 keys_of_rows (row ∷ rows) = ap (λ ks. row.key.now ∷ ks) (keys_of_rows rows)
 

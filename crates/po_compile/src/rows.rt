@@ -1,4 +1,4 @@
-ghost use Rattle.std.specs.Prelude.{◌≡◌, Bool, List, IfOk, map, filter, take, drop, true, IsPermutation};
+ghost use Rattle.std.specs.Prelude.{◌≡◌, Bool, List, IfOk, map, filter, take, drop, true, false, IsPermutation};
 ghost use Rattle.std.specs.List.{flat_map};
 ghost use Rattle.std.specs.List.Sorted.{IsSortedBy};
 ghost use Rattle.std.specs.Ordering.{is_lt};
@@ -68,7 +68,8 @@ pub(crate) fn sort_rows(rows: &mut Vec<Row<'_>>)
 
 /// Whether each key is above the one before it.
 pub(crate) fn are_rising(rows: &[Row<'_>]) -> bool
-    ensures { result ≡ true → AreRising (map (λ r. r.key.now) rows.now) }
+    ensures rising { result ≡ true → AreRising (map (λ r. r.key.now) rows.now) }
+    ensures not_rising { result ≡ false → ¬ AreRising (map (λ r. r.key.now) rows.now) }
 {
     for i in 1..rows.len() {
         match compare(&rows[i - 1], &rows[i]) {

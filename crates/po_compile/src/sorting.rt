@@ -1,6 +1,7 @@
-ghost use Rattle.std.specs.Prelude.{◌≡◌, Bool, List, count_by, IfOk, IfSome};
+ghost use Rattle.std.specs.Prelude.{◌≡◌, Bool, List, count_by, None, IfOk, IfSome};
 ghost use Rattle.mo_file.specs.Pairs.{messages_of_lent};
 ghost use Rattle.po_entry.specs.TextEntry.{TextEntry};
+ghost use Rattle.po_catalog.specs.Duplicate.{HasNoDuplicate};
 ghost use Rattle.po_compile.specs.declared.collecting.Lengths.{Lengths as LengthsSeen};
 ghost use Rattle.po_compile.specs.Collected.{HoldsEntries, IsSortedOf, counts_of};
 
@@ -10,13 +11,14 @@ use mo_file::LentPair;
 use po_catalog::Stats;
 use std::alloc::{AllocError, Global};
 
-/// The messages that are compiled, in the order of their keys; none where a live entry repeats another. The keys of
-/// all live entries are sorted once, and then only neighbours can be equal.
+/// The messages that are compiled, in the order of their keys; none just where a live entry repeats another. The keys
+/// of all live entries are sorted once, and then only neighbours can be equal.
 pub(crate) fn sorted_pairs(
     alloc: Global,
     collected: &Collected,
 ) -> Result<Option<Vec<LentPair<'_>>>, AllocError>
-    ensures { IfOk result (λ found. IfSome found (λ pairs. (use_fuzzy : Bool) (entries : List TextEntry) → HoldsEntries use_fuzzy entries collected.now → IsSortedOf use_fuzzy entries (messages_of_lent pairs.items))) }
+    ensures messages { IfOk result (λ found. IfSome found (λ pairs. (use_fuzzy : Bool) (entries : List TextEntry) → HoldsEntries use_fuzzy entries collected.now → IsSortedOf use_fuzzy entries (messages_of_lent pairs.items))) }
+    ensures repeats { IfOk result (λ found. found ≡ None → (use_fuzzy : Bool) (entries : List TextEntry) → HoldsEntries use_fuzzy entries collected.now → ¬ HasNoDuplicate entries) }
 {
     let mut rows = rows_of(alloc, &collected.bytes, &collected.lengths)?;
     sort_rows(&mut rows);
