@@ -33,7 +33,7 @@ mutants:
 
 # Measures the program against GNU's tools, where they are on the machine.
 bench: build/pokit
-	bench/run
+	bench/run --svg build/bench.svg
 
 # Measures look-ups from C against glibc's and a plain C search.
 bench-lookup: build/libpokit.a

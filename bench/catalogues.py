@@ -8,6 +8,10 @@ PARTS = 5
 KNOWN = "a known message"
 KNOWN_TRANSLATION = "eine bekannte Meldung"
 
+# Another, which has a plural.
+COUNTED = ("%d known file", "%d known files")
+COUNTED_TRANSLATIONS = ("%d bekannte Datei", "%d bekannte Dateien", "%d der bekannten Dateien")
+
 HEADER = (
     'msgid ""\n'
     'msgstr ""\n'
@@ -91,11 +95,19 @@ def message(chance, number):
     return "".join(out)
 
 
+def known_messages():
+    """The messages of every catalogue."""
+    out = [f'\nmsgid "{KNOWN}"\nmsgstr "{KNOWN_TRANSLATION}"\n']
+    out.append(f'\nmsgid "{COUNTED[0]}"\nmsgid_plural "{COUNTED[1]}"\n')
+    out += [f'msgstr[{i}] "{form}"\n' for i, form in enumerate(COUNTED_TRANSLATIONS)]
+    return "".join(out)
+
+
 def write_catalogue(path, count, seed):
-    """A catalogue of so many messages besides its header and KNOWN."""
+    """A catalogue of so many messages besides its header and the known ones."""
     chance = random.Random(seed)
     with open(path, "w", encoding="utf-8") as out:
-        out.write(HEADER + f'\nmsgid "{KNOWN}"\nmsgstr "{KNOWN_TRANSLATION}"\n')
+        out.write(HEADER + known_messages())
         for number in range(count):
             out.write("\n" + message(chance, number))
 
