@@ -12,3 +12,4 @@ pub mod Fields
 pub mod Entries
 pub mod Texts
 pub mod Rewritten
+pub mod Parted

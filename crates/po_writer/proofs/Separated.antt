@@ -28,7 +28,7 @@ own_some prefix entry =
 pub entry_some : (entry : TextEntry) → 0 < length (entry_lines entry)
 entry_some entry = some_behind _ (own_lines (own_prefix entry.obsolete) entry) (own_some (own_prefix entry.obsolete) entry)
 
-further : (text : List ℕ) (entries : List TextEntry) → 0 < length text → fold with_entry text entries ≡ text ++ flat_map (λ e. (10 ∷ []) ++ entry_lines e) entries
+pub further : (text : List ℕ) (entries : List TextEntry) → 0 < length text → fold with_entry text entries ≡ text ++ flat_map (λ e. (10 ∷ []) ++ entry_lines e) entries
 further text [] some = sym (append-nil text)
 further text (entry ∷ entries) some =
     let first : with_entry text entry ≡ (text ++ 10 ∷ []) ++ entry_lines entry = rw (ne_eqb (length text) 0 (λ e. omega (arith, e))) refl in
@@ -36,15 +36,15 @@ further text (entry ∷ entries) some =
     further ((text ++ 10 ∷ []) ++ entry_lines entry) entries (some_behind (text ++ 10 ∷ []) (entry_lines entry) (entry_some entry)) in
     ap (λ t. fold with_entry t entries) first ∙ more ∙ append_assoc (text ++ 10 ∷ []) (entry_lines entry) _ ∙ append_assoc text (10 ∷ []) _
 
-joined : (entries : List TextEntry) → fold with_entry [] entries ≡ join_by entry_lines (10 ∷ []) entries
+pub joined : (entries : List TextEntry) → fold with_entry [] entries ≡ join_by entry_lines (10 ∷ []) entries
 joined [] = refl
 joined (entry ∷ entries) = further (entry_lines entry) entries (entry_some entry)
 
-not_marked : (obsolete : Bool) → beq obsolete false ≡ not obsolete
+pub not_marked : (obsolete : Bool) → beq obsolete false ≡ not obsolete
 not_marked true = refl
 not_marked false = refl
 
-marked : (obsolete : Bool) → beq obsolete true ≡ obsolete
+pub marked : (obsolete : Bool) → beq obsolete true ≡ obsolete
 marked true = refl
 marked false = refl
 
@@ -82,7 +82,7 @@ one_more entries entry live last =
     let after : written_text all ≡ fold with_entry [] all = ap (join_by entry_lines (10 ∷ [])) (live_stay all (All-push IsLive entries entry live last)) ∙ sym (joined all) in
     ap (λ text. with_entry text entry) before ∙ sym (fold_push with_entry [] entries entry) ∙ sym after
 
-some_text : (entries : List TextEntry) → 0 < length entries → 0 < length (join_by entry_lines (10 ∷ []) entries)
+pub some_text : (entries : List TextEntry) → 0 < length entries → 0 < length (join_by entry_lines (10 ∷ []) entries)
 some_text [] some = absurd (omega arith)
 some_text (entry ∷ entries) some = some_before (entry_lines entry) (flat_map (λ e. (10 ∷ []) ++ entry_lines e) entries) (entry_some entry)
 

@@ -81,6 +81,10 @@ entry_lines entry =
 abbrev pub arranged : List TextEntry → List TextEntry
 arranged entries = filter (λ e. not e.obsolete) entries ++ filter (λ e. e.obsolete) entries
 
+-- the entries, with an empty line between two
+abbrev pub in_order : List TextEntry → List ℕ
+in_order entries = join_by entry_lines (10 ∷ []) entries
+
 -- the entries, arranged, with an empty line between two
 abbrev pub written_text : List TextEntry → List ℕ
-written_text entries = join_by entry_lines (10 ∷ []) (arranged entries)
+written_text entries = in_order (arranged entries)

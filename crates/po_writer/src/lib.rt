@@ -4,6 +4,8 @@
 mod entry_lines;
 mod keyword_lines;
 pub mod laws;
+mod parts;
 mod text;
 
+pub use crate::parts::TextParts;
 pub use crate::text::{append, write};

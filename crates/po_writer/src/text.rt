@@ -21,7 +21,11 @@ fn push_separated(out: &mut Vec<u8>, entry: &Entry) -> Result<(), PoError>
 }
 
 /// Appends the entries that bear this obsolete mark.
-fn push_entries(out: &mut Vec<u8>, entries: &[Entry], obsolete: bool) -> Result<(), PoError>
+pub(crate) fn push_entries(
+    out: &mut Vec<u8>,
+    entries: &[Entry],
+    obsolete: bool,
+) -> Result<(), PoError>
     ensures appended { OnOk result (out.new.items ≡ fold with_entry out.old.items (with_obsolete obsolete entries.now)) }
     ensures memory { IfErr result (λ e. e ≡ out_of_memory) }
 {

@@ -1,0 +1,63 @@
+-- A written text in two parts.
+use Rattle.std.proofs.Common.{◌≡◌, ◌∙◌, refl, sym, ap, ℕ, ◌<◌, ◌==◌, List, [], ◌∷◌, ◌++◌, Bool, true, false, not, filter, length, append-nil, append_assoc, arith, vec_len}
+use Rattle.std.specs.Prelude.{fold}
+use Rattle.std.specs.List.{flat_map}
+use Rattle.std.proofs.lemmas.List.Elements.{filter-append, filter_agree}
+use Rattle.std.proofs.lemmas.List.Sums.{fold-append}
+use Rattle.std.proofs.lemmas.Bool.{eqb-true, eqb-false}
+use Rattle.po_entry.specs.TextEntry.{TextEntry}
+use Rattle.po_writer.specs.Separated.{with_entry, with_obsolete}
+use Rattle.po_writer.specs.TextParts.{AreParts}
+use Rattle.po_writer.specs.WrittenText.{entry_lines, in_order, written_text}
+use Rattle.po_writer.specs.declared.parts.TextParts.{TextParts}
+use Rattle.po_writer.proofs.Separated.{further, joined, marked, not_marked, some_text}
+
+-- further entries after those of a part
+grown : (before entries : List TextEntry) → fold with_entry (in_order before) entries ≡ in_order (before ++ entries)
+grown before entries =
+    ap (λ text. fold with_entry text entries) (sym (joined before)) ∙ sym (fold-append with_entry [] before entries) ∙ joined (before ++ entries)
+
+pub live_grown : (before entries : List TextEntry)
+    → fold with_entry (in_order (filter (λ e. not e.obsolete) before)) (with_obsolete false entries) ≡ in_order (filter (λ e. not e.obsolete) (before ++ entries))
+live_grown before entries =
+    rw (filter_agree _ _ (λ (e : TextEntry). not_marked e.obsolete) entries, filter-append (λ (e : TextEntry). not e.obsolete) before entries)
+    (grown (filter (λ e. not e.obsolete) before) (filter (λ e. not e.obsolete) entries))
+
+pub obsolete_grown : (before entries : List TextEntry)
+    → fold with_entry (in_order (filter (λ e. e.obsolete) before)) (with_obsolete true entries) ≡ in_order (filter (λ e. e.obsolete) (before ++ entries))
+obsolete_grown before entries =
+    rw (filter_agree _ _ (λ (e : TextEntry). marked e.obsolete) entries, filter-append (λ (e : TextEntry). e.obsolete) before entries)
+    (grown (filter (λ e. e.obsolete) before) (filter (λ e. e.obsolete) entries))
+
+none_behind : (front behind : List TextEntry) → length (in_order behind) ≡ 0 → in_order front ≡ in_order (front ++ behind)
+none_behind front [] none = ap in_order (sym (append-nil front))
+none_behind front (entry ∷ entries) none = absurd (omega (arith, none, some_text (entry ∷ entries) (omega arith)))
+
+none_before : (front behind : List TextEntry) → length (in_order front) ≡ 0 → in_order behind ≡ in_order (front ++ behind)
+none_before [] behind none = refl
+none_before (entry ∷ entries) behind none = absurd (omega (arith, none, some_text (entry ∷ entries) (omega arith)))
+
+some_both : (front behind : List TextEntry) → 0 < length (in_order front) → 0 < length (in_order behind) → (in_order front ++ 10 ∷ []) ++ in_order behind ≡ in_order (front ++ behind)
+some_both front [] some more = absurd (omega (arith, more))
+some_both front (entry ∷ entries) some more =
+    append_assoc (in_order front) (10 ∷ []) (in_order (entry ∷ entries)) ∙ sym (further (in_order front) (entry ∷ entries) some) ∙ grown front (entry ∷ entries)
+
+abbrev pub live_of : List TextEntry → List TextEntry
+live_of entries = filter (λ e. not e.obsolete) entries
+
+abbrev pub obsolete_of : List TextEntry → List TextEntry
+obsolete_of entries = filter (λ e. e.obsolete) entries
+
+-- the text is the live part, where the other is empty
+pub live_alone : (parts : TextParts) (entries : List TextEntry) → AreParts entries parts → (vec_len parts.obsolete == 0) ≡ true → parts.live.items ≡ written_text entries
+live_alone parts entries are none = are.live ∙ none_behind (live_of entries) (obsolete_of entries) (sym (ap length are.obsolete) ∙ sym parts.obsolete.ok.0 ∙ eqb-true _ _ none)
+
+-- the text is the obsolete part, where the other is empty
+pub obsolete_alone : (parts : TextParts) (entries : List TextEntry) → AreParts entries parts → (vec_len parts.live == 0) ≡ true → parts.obsolete.items ≡ written_text entries
+obsolete_alone parts entries are none = are.obsolete ∙ none_before (live_of entries) (obsolete_of entries) (sym (ap length are.live) ∙ sym parts.live.ok.0 ∙ eqb-true _ _ none)
+
+-- an empty line stands between the parts
+pub both_parts : (parts : TextParts) (entries : List TextEntry) → AreParts entries parts → (vec_len parts.live == 0) ≡ false → (vec_len parts.obsolete == 0) ≡ false
+    → (parts.live.items ++ 10 ∷ []) ++ parts.obsolete.items ≡ written_text entries
+both_parts parts entries are some more =
+    rw (are.live, are.obsolete) (some_both (live_of entries) (obsolete_of entries) (omega (arith, eqb-false _ _ some, parts.live.ok.0, ap length are.live)) (omega (arith, eqb-false _ _ more, parts.obsolete.ok.0, ap length are.obsolete)))
