@@ -7,3 +7,6 @@ pub mod OneRun
 pub mod InputLemmas
 pub mod MsgunfmtLemmas
 pub mod MsgcatLemmas
+pub mod DigestLemmas
+pub mod SelectedLemmas
+pub mod OneText

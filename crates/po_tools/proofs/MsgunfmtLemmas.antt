@@ -2,10 +2,9 @@
 use Rattle.std.proofs.Common.{◌≡◌, ◌↔◌, ℕ, List, [], ◌∷◌, refl, sym, ◌∙◌, length, arith}
 use Rattle.std.specs.Prelude.{nat_lt}
 use Rattle.std.proofs.lemmas.Bool.{lt-ltb}
-use Rattle.mo_file.specs.Message.{Message}
 
--- a text is written where there is a message
-pub create_is : (text : List ℕ) (messages : List Message) → (text ≡ []) ↔ (messages ≡ []) → nat_lt 0 (length text) ≡ nat_lt 0 (length messages)
+-- a text is written where there is a message, or an entry
+pub create_is : {X : Type 0} (text : List ℕ) (messages : List X) → (text ≡ []) ↔ (messages ≡ []) → nat_lt 0 (length text) ≡ nat_lt 0 (length messages)
 create_is [] [] same = refl
 create_is [] (m ∷ messages) same = let none : m ∷ messages ≡ [] = same.0 refl in cc
 create_is (b ∷ text) [] same = let none : b ∷ text ≡ [] = same.1 refl in cc

@@ -17,3 +17,5 @@ pub mod RunLaws
 pub mod Inputs
 pub mod Msgunfmt
 pub mod Msgcat
+pub mod Digests
+pub mod SelectedText

@@ -1,5 +1,5 @@
 -- What msgcat writes and reports (manual, "Invoking the msgcat Program").
-use Rattle.std.specs.Prelude.{◌≡◌, ◌≢◌, ◌⊎◌, ℕ, All, List, [], ◌∷◌, ◌++◌, codes}
+use Rattle.std.specs.Prelude.{◌≡◌, ◌≢◌, ◌⊎◌, ◌==◌, ◌&&◌, ℕ, All, Bool, not, List, [], ◌∷◌, ◌++◌, codes, is_some}
 use Rattle.std.specs.List.{AllZip}
 use Rattle.po_syntax.specs.declared.fault.PoError.{PoError}
 use Rattle.po_syntax.specs.declared.fault.PoFault.TheVariants.{ForeignCharset, OutOfMemory as NoMemory}
@@ -8,6 +8,7 @@ use Rattle.po_compile.specs.Accepted.{ReadsDistinct, IsTextFault}
 use Rattle.po_merge.specs.Inputs.{Input}
 use Rattle.po_merge.specs.Merged.{merged}
 use Rattle.po_merge.specs.declared.input.MergeOptions.{MergeOptions}
+use Rattle.po_writer.specs.WrittenText.{written_text}
 use Rattle.po_tools.specs.FaultText.{text_line}
 use Rattle.po_tools.specs.NamedFile.{NamedFile}
 use Rattle.po_tools.specs.Run.{Report, refusal}
@@ -64,3 +65,13 @@ pub record IsMerged (files : List NamedFile) (o : MergeOptions) (run : Report) :
 -- what a run of msgcat comes to
 abbrev pub IsMsgcatRun : List NamedFile → MergeOptions → Report → Type 0
 IsMsgcatRun files o run = IsUnread files run ⊎ (IsForeign files o run ⊎ IsMerged files o run)
+
+-- every message is kept
+abbrev pub keeps_all : MergeOptions → Bool
+keeps_all o = (not o.unique && not (is_some o.less_than)) && (o.more_than == 0)
+
+-- the files are read, and this is the text of what they are merged to
+pub record IsMergedText (files : List NamedFile) (o : MergeOptions) (written : List ℕ) : Type 0 where
+  pub inputs : List Input
+  pub read : AreReadAs files inputs
+  pub text_is : written ≡ written_text (merged o inputs)

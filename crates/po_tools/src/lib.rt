@@ -1,6 +1,7 @@
 //! The tools of pokit as functions of their inputs: what each writes, tells and answers.
 #![tactic(auto)]
 
+mod digests;
 mod fault_text;
 mod gettext;
 mod inputs;
@@ -13,6 +14,7 @@ mod profile_laws;
 mod program_fault;
 mod run;
 mod run_laws;
+mod selected_text;
 mod unread;
 mod words;
 mod written;

@@ -5,7 +5,8 @@ ghost use Rattle.po_tools.specs.Msgattrib.{IsMsgattribRun, error_line};
 ghost use Rattle.po_tools.specs.Run.{refusal, report};
 
 use crate::run::{Run, deliver};
-use crate::written::{refused_text, written_run};
+use crate::selected_text::selected_text;
+use crate::written::{refused_text, text_run, written_run};
 use po_catalog::duplicates;
 use po_compile::read_distinct;
 use po_select::{Selection, select};
@@ -18,6 +19,22 @@ use std::alloc::Global;
 /// with status 1. So is a duplicate among the selected entries, without a line number. `OutOfMemory`
 /// is the only refusal.
 pub fn plan_msgattrib(
+    alloc: Global,
+    text: &[u8],
+    name: &str,
+    selection: &Selection,
+) -> Result<Run, ToolFault>
+    ensures run { IfOk result (λ run. IsMsgattribRun name.now selection.now text.now (report run)) }
+    ensures memory { OnErr result (result ≡ Err ToolFault.OutOfMemory) }
+{
+    match selected_text(alloc, text, selection)? {
+        Some(output) => Ok(text_run(alloc, output)),
+        None => plan_whole(alloc, text, name, selection),
+    }
+}
+
+/// The same, of a text that is read as one catalogue.
+fn plan_whole(
     alloc: Global,
     text: &[u8],
     name: &str,

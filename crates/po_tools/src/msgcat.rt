@@ -1,21 +1,41 @@
-ghost use Rattle.std.specs.Prelude.{◌≡◌, ◌≢◌, ◌⊎◌, All, Err, IfErr, IfOk, List, MatchResult, OnErr};
+ghost use Rattle.std.specs.Prelude.{◌≡◌, ◌≢◌, ◌⊎◌, All, Err, IfErr, IfOk, IfSome, List, MatchResult, OnErr};
 ghost use Rattle.po_entry.specs.Bytes.{Lacks};
 ghost use Rattle.po_merge.specs.Inputs.{Input};
 ghost use Rattle.po_merge.specs.InputsView.{inputs_of};
 ghost use Rattle.po_merge.specs.Merged.{merged};
 ghost use Rattle.po_catalog.specs.Duplicate.{entry_memory};
-ghost use Rattle.po_tools.specs.Msgcat.{AreReadAs, IsFileFault, IsMsgcatRun, IsUnread, first_name, msgcat_line};
+ghost use Rattle.po_tools.specs.Msgcat.{AreReadAs, IsFileFault, IsMergedText, IsMsgcatRun, IsUnread, first_name, keeps_all, msgcat_line};
 ghost use Rattle.po_tools.specs.NamedFile.{named_files};
 ghost use Rattle.po_tools.specs.Run.{refusal, report};
 
 use crate::program_fault::ProgramFault;
 use crate::run::Run;
-use crate::written::{refused_text, written_run};
+use crate::selected_text::selected_text;
+use crate::written::{refused_text, text_run, written_run};
 use po_compile::read_distinct;
+use po_merge::laws::one_input_stays;
 use po_merge::{MergeOptions, Named, merge};
+use po_select::Selection;
+use po_select::laws::nothing_given_selects_all;
 use po_shell::ToolFault;
 use po_syntax::{PoError, PoFault};
 use std::alloc::Global;
+
+/// The selection of every entry, unchanged.
+const EVERY_ENTRY: Selection = Selection {
+    translated: false,
+    untranslated: false,
+    no_fuzzy: false,
+    only_fuzzy: false,
+    no_obsolete: false,
+    only_obsolete: false,
+    set_fuzzy: false,
+    clear_fuzzy: false,
+    set_obsolete: false,
+    clear_obsolete: false,
+    clear_previous: false,
+    empty: false,
+};
 
 /// Why a file isn't read.
 #[derive(Clone, Copy)]
@@ -79,6 +99,22 @@ pub fn plan_msgcat(
     ensures run { IfOk result (λ run. IsMsgcatRun (named_files inputs.now) options.now (report run)) }
     ensures memory { OnErr result (result ≡ Err ToolFault.OutOfMemory) }
 {
+    match one_text(alloc, inputs, options)? {
+        Some(output) => Ok(text_run(alloc, output)),
+        None => plan_merged(alloc, inputs, options),
+    }
+}
+
+/// The same, of inputs that are read as catalogues.
+fn plan_merged(
+    alloc: Global,
+    inputs: &[(&str, &[u8])],
+    options: &MergeOptions,
+) -> Result<Run, ToolFault>
+    requires { All (λ file. Lacks 0 file.name) (named_files inputs.now) }
+    ensures run { IfOk result (λ run. IsMsgcatRun (named_files inputs.now) options.now (report run)) }
+    ensures memory { OnErr result (result ≡ Err ToolFault.OutOfMemory) }
+{
     let catalogues = match read_files(alloc, inputs) {
         Ok(catalogues) => catalogues,
         Err(fault) => return refused_text(alloc, "msgcat", fault.name, fault.error),
@@ -87,6 +123,30 @@ pub fn plan_msgcat(
         Ok(merged) => written_run(alloc, &merged),
         Err(error) => refused_text(alloc, "msgcat", first_name(inputs), error),
     }
+}
+
+/// What is written of one input in which no message stands twice, where all messages are kept. None of several inputs.
+fn one_text(
+    alloc: Global,
+    inputs: &[(&str, &[u8])],
+    options: &MergeOptions,
+) -> Result<Option<Vec<u8>>, ToolFault>
+    ensures written { IfOk result (λ found. IfSome found (λ written. IsMergedText (named_files inputs.now) options.now written.items)) }
+    ensures memory { OnErr result (result ≡ Err ToolFault.OutOfMemory) }
+{
+    nothing_given_selects_all();
+    one_input_stays();
+    match inputs {
+        [(_, text)] if keeps_all(options) => selected_text(alloc, text, &EVERY_ENTRY),
+        _ => Ok(None),
+    }
+}
+
+/// Whether every message is kept.
+fn keeps_all(options: &MergeOptions) -> bool
+    ensures { result ≡ keeps_all options.now }
+{
+    !options.unique && options.less_than.is_none() && options.more_than == 0
 }
 
 /// What `msgcat` comes to where the input after these can't be read: the refusal of these, or where they are read that

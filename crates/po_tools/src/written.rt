@@ -1,14 +1,17 @@
 // What a tool comes to that reads PO texts and writes one.
-ghost use Rattle.std.specs.Prelude.{◌≡◌, ◌≢◌, Err, IfOk, OnErr};
+ghost use Rattle.std.specs.Prelude.{◌≡◌, ◌≢◌, Err, IfOk, List, OnErr};
+ghost use Rattle.po_entry.specs.TextEntry.{TextEntry};
 ghost use Rattle.po_tools.specs.FaultText.{text_line};
 ghost use Rattle.po_tools.specs.Run.{refusal, report};
 ghost use Rattle.po_tools.specs.Written.{written_run};
+ghost use Rattle.po_writer.specs.WrittenText.{written_text};
 
 use crate::fault_text::{push_place, push_po_text};
 use crate::run::{Run, refused};
 use po_catalog::{Catalogue, write};
 use po_shell::ToolFault;
 use po_syntax::{PoError, PoFault};
+use po_writer::laws::some_entry_is_written;
 use std::alloc::Global;
 
 /// The run of a tool that refuses a text: one line that reports the fault.
@@ -45,4 +48,18 @@ pub(crate) fn written_run(alloc: Global, catalogue: &Catalogue) -> Result<Run, T
         messages: Vec::new(alloc),
         status: 0,
     })
+}
+
+/// The run of a tool that writes this text of a catalogue.
+pub(crate) fn text_run(alloc: Global, output: Vec<u8>) -> Run
+    ensures { (entries : List TextEntry) → output.items ≡ written_text entries → report result ≡ written_run entries }
+{
+    some_entry_is_written();
+    let create = output.len() > 0;
+    Run {
+        output,
+        create,
+        messages: Vec::new(alloc),
+        status: 0,
+    }
 }

@@ -1,0 +1,29 @@
+-- A text whose entries are selected piece by piece. Internal to this crate.
+use Rattle.std.specs.Prelude.{◌≡◌, ℕ, List, map}
+use Rattle.po_entry.specs.Reads.{ReadsText}
+use Rattle.po_entry.specs.TextEntry.{TextEntry}
+use Rattle.po_catalog.specs.Duplicate.{AllDiffer}
+use Rattle.po_select.specs.declared.selection.Selection.{Selection}
+use Rattle.po_select.specs.Selected.{selected}
+use Rattle.po_writer.specs.TextParts.{AreParts}
+use Rattle.po_writer.specs.WrittenText.{written_text}
+use Rattle.po_tools.specs.Digests.{digest}
+use Rattle.po_tools.specs.declared.selected_text.Passed.{Passed}
+
+-- of these entries those that are selected are written, and the digests are those of all
+pub record HavePassed (s : Selection) (entries : List TextEntry) (passed : Passed) : Type 0 where
+  pub parts : AreParts (selected s entries) passed.parts
+  pub digests : passed.digests.items ≡ map digest entries
+
+-- the entries of the text have passed
+pub record TextPassed (s : Selection) (text : List ℕ) (passed : Passed) : Type 0 where
+  pub entries : List TextEntry
+  pub reads : ReadsText text entries
+  pub have : HavePassed s entries passed
+
+-- the text reads as entries of different messages, and those that are selected are written
+pub record IsSelectedText (s : Selection) (text written : List ℕ) : Type 0 where
+  pub entries : List TextEntry
+  pub reads : ReadsText text entries
+  pub differ : AllDiffer entries
+  pub text_is : written ≡ written_text (selected s entries)
