@@ -80,9 +80,9 @@ pub fn evaluate(table: &[Node], count: u64) -> (Option<u64>, u32)
 #[inline(never)]
 fn evaluate_within<const DEPTH: usize>(table: &[Node], count: u64) -> (Option<u64>, u32)
     requires laid { table.now ≡ layout 0 (tree_of table.now) }
-    requires limit { nodes (tree_of table.now) ≤ LIMIT }
+    requires limit { nodes (tree_of table.now) ≤ expression_limit }
     requires depth { nodes (tree_of table.now) ≤ DEPTH }
-    requires size { DEPTH ≤ LIMIT }
+    requires size { DEPTH ≤ expression_limit }
     ensures value { result.0 ≡ value (tree_of table.now) count }
     ensures steps { result.1 ≡ visited (tree_of table.now) count }
     ensures bound { result.1 ≤ nodes (tree_of table.now) }
@@ -102,7 +102,7 @@ fn evaluate_within<const DEPTH: usize>(table: &[Node], count: u64) -> (Option<u6
 /// What the node at an index is.
 fn node_at(table: &[Node], place: usize) -> Shape
     requires laid { table.now ≡ layout 0 (tree_of table.now) }
-    requires limit { nodes (tree_of table.now) ≤ LIMIT }
+    requires limit { nodes (tree_of table.now) ≤ expression_limit }
     requires place { place < nodes (tree_of table.now) }
     ensures { IsNodeOf (tree_of table.now) (subtree (tree_of table.now) place) result }
 {
@@ -118,10 +118,10 @@ fn visit<const DEPTH: usize>(
     frames: &mut Frames<DEPTH>,
 ) -> Step
     requires laid { table.now ≡ layout 0 (tree_of table.now) }
-    requires limit { nodes (tree_of table.now) ≤ LIMIT }
+    requires limit { nodes (tree_of table.now) ≤ expression_limit }
     requires place { place < nodes (tree_of table.now) }
     requires room { array_vec_len frames.old < DEPTH }
-    requires size { DEPTH ≤ LIMIT }
+    requires size { DEPTH ≤ expression_limit }
     requires frames { AreFramesOf (tree_of table.now) frames.old.items }
     ensures outcome { (steps : ℕ) →
         finished_step (tree_of table.now) count frames.new.items (steps + 1) result
@@ -156,7 +156,7 @@ fn visit<const DEPTH: usize>(
 #[tactic(auto, using(crate::proofs::Frames::finished_more, crate::proofs::Frames::remaining_more, crate::proofs::Frames::frames_more, crate::proofs::Frames::frames_split, crate::proofs::Frames::finished_undefined, crate::proofs::Frames::resumed_second))]
 fn resume<const DEPTH: usize>(frames: &mut Frames<DEPTH>, operand: u64) -> Step
     requires room { array_vec_len frames.old ≤ DEPTH }
-    requires size { DEPTH ≤ LIMIT }
+    requires size { DEPTH ≤ expression_limit }
     ensures outcome { (whole : Tree) (n steps : ℕ) →
         finished_step whole n frames.new.items steps result
         ≡ finished whole n frames.old.items (record { value = Some operand; steps = steps }) }

@@ -8,6 +8,7 @@ ghost use Rattle.plural_rule.specs.Expression.{Tree};
 ghost use Rattle.plural_rule.specs.ShiftReduce.{Waiting, State, reduce, want_step, have_step, step, finish};
 ghost use Rattle.plural_rule.specs.ParserState.{IsWaiting, IsOperand, Represents, Answers, HoldsTree, HoldsExpression, completed_node};
 ghost use Rattle.plural_rule.specs.Grammar.{Spelt};
+ghost use Rattle.plural_rule.specs.PluralRule.{expression_limit};
 
 use crate::lexer;
 use crate::node::{Node, Table};
@@ -73,7 +74,7 @@ fn last_index(table: &Table) -> u16
 fn reduce<const DEPTH: usize>(table: &mut Table, stack: &mut Stack<DEPTH>, loosest: u8)
     requires some { 0 < array_vec_len table.old }
     requires room { array_vec_len table.old + array_vec_len stack.old ≤ DEPTH }
-    requires depth { DEPTH ≤ LIMIT }
+    requires depth { DEPTH ≤ expression_limit }
     ensures reduced { (waiting : List Waiting) (tree : Tree) →
         IsOperand table.old.items stack.old.items waiting tree →
         IsOperand table.new.items stack.new.items (reduce loosest waiting tree).stack (reduce loosest waiting tree).tree }
@@ -99,7 +100,7 @@ fn take_operand<const DEPTH: usize>(
     token: Token,
 ) -> Option<bool>
     requires room { array_vec_len table.old + array_vec_len stack.old < DEPTH }
-    requires depth { DEPTH ≤ LIMIT }
+    requires depth { DEPTH ≤ expression_limit }
     ensures step { (waiting : List Waiting) →
         IsWaiting table.old.items stack.old.items waiting →
         Answers (want_step waiting token) result table.new.items stack.new.items }
@@ -135,7 +136,7 @@ fn take_operator<const DEPTH: usize>(
 ) -> Option<bool>
     requires some { 0 < array_vec_len table.old }
     requires room { array_vec_len table.old + array_vec_len stack.old < DEPTH }
-    requires depth { DEPTH ≤ LIMIT }
+    requires depth { DEPTH ≤ expression_limit }
     ensures step { (waiting : List Waiting) (tree : Tree) →
         IsOperand table.old.items stack.old.items waiting tree →
         Answers (have_step waiting tree token) result table.new.items stack.new.items }
@@ -182,7 +183,7 @@ fn take<const DEPTH: usize>(
 ) -> Option<bool>
     requires some { complete ≡ true → 0 < array_vec_len table.old }
     requires room { array_vec_len table.old + array_vec_len stack.old < DEPTH }
-    requires depth { DEPTH ≤ LIMIT }
+    requires depth { DEPTH ≤ expression_limit }
     ensures step { (state : State) →
         Represents table.old.items stack.old.items complete state →
         Answers (step state token) result table.new.items stack.new.items }
@@ -200,7 +201,7 @@ fn take<const DEPTH: usize>(
 fn finish<const DEPTH: usize>(table: &mut Table, stack: &mut Stack<DEPTH>, complete: bool) -> bool
     requires some { complete ≡ true → 0 < array_vec_len table.old }
     requires room { array_vec_len table.old + array_vec_len stack.old ≤ DEPTH }
-    requires depth { DEPTH ≤ LIMIT }
+    requires depth { DEPTH ≤ expression_limit }
     ensures { (state : State) →
         Represents table.old.items stack.old.items complete state →
         MatchBool result (HoldsTree (finish state) table.new.items) (finish state ≡ None) }
@@ -215,7 +216,7 @@ fn finish<const DEPTH: usize>(table: &mut Table, stack: &mut Stack<DEPTH>, compl
 /// Writes the expression that a text spells into the empty `table`, and tells whether it spells one.
 pub(crate) fn parse(text: &[u8], table: &mut Table) -> bool
     requires empty { table.old.items ≡ [] }
-    requires limit { length text.now ≤ LIMIT }
+    requires limit { length text.now ≤ expression_limit }
     ensures { MatchBool result (HoldsExpression text.now table.new.items) ((tree : Tree) → Spelt tree text.now → ⊥) }
 {
     if text.len() <= SHORT {
@@ -230,7 +231,7 @@ pub(crate) fn parse(text: &[u8], table: &mut Table) -> bool
 fn parse_within<const DEPTH: usize>(text: &[u8], table: &mut Table) -> bool
     requires empty { table.old.items ≡ [] }
     requires limit { length text.now ≤ DEPTH }
-    requires depth { DEPTH ≤ LIMIT }
+    requires depth { DEPTH ≤ expression_limit }
     ensures { MatchBool result (HoldsExpression text.now table.new.items) ((tree : Tree) → Spelt tree text.now → ⊥) }
 {
     let mut stack = Stack::<DEPTH>::new();

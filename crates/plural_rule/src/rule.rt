@@ -130,7 +130,7 @@ impl Rule {
 #[inline(never)]
 fn fill(header: &[u8], table: &mut Table) -> (Source, u64)
     requires { table.old.items ≡ [] }
-    ensures rule { IsRuleOf LIMIT header.now (record { source = result.0; number = result.1; tree = tree_of table.new.items }) }
+    ensures rule { IsRuleOf expression_limit header.now (record { source = result.0; number = result.1; tree = tree_of table.new.items }) }
     ensures laid { table.new.items ≡ layout 0 (tree_of table.new.items) }
 {
     match read(header, table) {
@@ -145,8 +145,8 @@ fn fill(header: &[u8], table: &mut Table) -> (Source, u64)
 /// Reads a header's number, and its expression into the empty `table`.
 fn read(header: &[u8], table: &mut Table) -> Result<u64, Reason>
     requires { table.old.items ≡ [] }
-    ensures { MatchResult result (λ number. HoldsRule LIMIT header.now number table.new.items)
-        (λ reason. IsReason LIMIT header.now reason) }
+    ensures { MatchResult result (λ number. HoldsRule expression_limit header.now number table.new.items)
+        (λ reason. IsReason expression_limit header.now reason) }
 {
     let Some(digits) = header::number_digits(header) else {
         return Err(Reason::NoNumber);
