@@ -1,5 +1,5 @@
 -- Lemmas on the names that are gathered for a locale.
-use Rattle.std.proofs.Common.{◌≡◌, ℕ, ◌+◌, ◌<◌, ◌≤◌, Bool, true, false, not, ◌||◌, eqb, ◌⊎◌, inl, inr, List, [], ◌∷◌, ◌++◌, append-nil, length-drop, length, take, drop, map, filter, fold, Option, Some, None, refl, sym, ap, ◌∙◌, arith}
+use Rattle.std.proofs.Common.{◌≡◌, ℕ, ◌+◌, ◌<◌, ◌≤◌, Bool, true, false, not, ◌||◌, eqb, ◌⊎◌, inl, inr, List, [], ◌∷◌, ◌++◌, append-nil, append_assoc, length-drop, length, take, drop, map, filter, fold, Option, Some, None, refl, sym, ap, ◌∙◌, arith}
 use Rattle.std.specs.Prelude.{take_while}
 use Rattle.std.specs.List.{list_any, flat_map, slice_split, position_or_len, onto_first}
 use Rattle.std.specs.Str.{bytes_eq}
@@ -15,33 +15,23 @@ use Rattle.po_shell.specs.LocaleSteps.{variants_in}
 use Rattle.po_shell.proofs.SearchLemmas.{byte-here, byte-later}
 use Rattle.po_shell.proofs.VariableLemmas.{list_any-map}
 
--- a name that is among those before changes nothing
-pub name-known : {V : Type 0} (f : V → List ℕ) (seen items : List V) (name whole : List ℕ) → seen ≡ items → name ≡ whole → list_any (λ k. bytes_eq (f k) name) seen ≡ true → map f items ≡ with_name (map f items) whole
-unfolding with_name
-name-known f seen items name whole same e known =
-    sym (cond-true (list_any (λ k. bytes_eq k whole) (map f items)) (map f items) (map f items ++ whole ∷ [])
-    (list_any-map f (λ k. bytes_eq k whole) items ∙ ap (λ l. list_any (λ k. bytes_eq (f k) whole) l) (sym same) ∙ ap (λ n. list_any (λ k. bytes_eq (f k) n) seen) (sym e) ∙ known))
-
-map-append : {V : Type 0} (f : V → List ℕ) (items : List V) (v : V) → map f (items ++ v ∷ []) ≡ map f items ++ f v ∷ []
+pub map-append : {V : Type 0} (f : V → List ℕ) (items : List V) (v : V) → map f (items ++ v ∷ []) ≡ map f items ++ f v ∷ []
 map-append f [] v = refl
 map-append f (i ∷ is) v = ap (λ l. f i ∷ l) (map-append f is v)
 
--- another one comes behind them
-pub name-fresh : {V : Type 0} (f : V → List ℕ) (seen items new : List V) (v : V) (name whole : List ℕ) → seen ≡ items → name ≡ whole → list_any (λ k. bytes_eq (f k) name) seen ≡ false → new ≡ items ++ v ∷ [] → f v ≡ whole → map f new ≡ with_name (map f items) whole
-unfolding with_name
-name-fresh f seen items new v name whole same e fresh more is =
-    ap (map f) more ∙ map-append f items v ∙ ap (λ n. map f items ++ n ∷ []) is
-    ∙ sym (cond-false (list_any (λ k. bytes_eq k whole) (map f items)) (map f items) (map f items ++ whole ∷ [])
-    (list_any-map f (λ k. bytes_eq k whole) items ∙ ap (λ l. list_any (λ k. bytes_eq (f k) whole) l) (sym same) ∙ ap (λ n. list_any (λ k. bytes_eq (f k) n) seen) (sym e) ∙ fresh))
+five-more : (ns : List (List ℕ)) (a b c d e : List ℕ) → ((((ns ++ a ∷ []) ++ b ∷ []) ++ c ∷ []) ++ d ∷ []) ++ e ∷ [] ≡ ns ++ a ∷ b ∷ c ∷ d ∷ e ∷ []
+five-more [] a b c d e = refl
+five-more (n ∷ ns) a b c d e = ap (λ l. n ∷ l) (five-more ns a b c d e)
 
 -- the five names of a locale, one after another
 pub five-names : (name modifier unmodified base language : List ℕ) (n0 n1 n2 n3 n4 n5 : List (List ℕ)) → modifier ≡ from_first 64 name → unmodified ≡ before 64 name → base ≡ before 46 unmodified → language ≡ before 95 base
-    → n1 ≡ with_name n0 (name ++ []) → n2 ≡ with_name n1 (base ++ modifier) → n3 ≡ with_name n2 (language ++ modifier) → n4 ≡ with_name n3 (base ++ []) → n5 ≡ with_name n4 (language ++ []) → n5 ≡ fold with_name n0 (variants name)
+    → n1 ≡ n0 ++ (name ++ []) ∷ [] → n2 ≡ n1 ++ (base ++ modifier) ∷ [] → n3 ≡ n2 ++ (language ++ modifier) ∷ [] → n4 ≡ n3 ++ (base ++ []) ∷ [] → n5 ≡ n4 ++ (language ++ []) ∷ [] → n5 ≡ n0 ++ variants name
 unfolding variants
 five-names name modifier unmodified base language n0 n1 n2 n3 n4 n5 m u b l e1 e2 e3 e4 e5 =
     let a1 = append-nil name in
     let a2 = append-nil base in
     let a3 = append-nil language in
+    let joined = five-more n0 name (base ++ modifier) (language ++ modifier) base language in
     cc
 
 -- the parts of a text, up to the first separator and behind it
@@ -96,9 +86,9 @@ parts-stop bs n place l stops = elim (cases_lt n (length bs)) [
 ]
 
 -- the candidates of a part, before those of the parts behind it
-pub names-next : (names more all : List (List ℕ)) (part later whole : List (List ℕ)) → fold with_name names whole ≡ all → whole ≡ part ++ later → more ≡ fold with_name names part → fold with_name more later ≡ all
+pub names-next : (names more all : List (List ℕ)) (part later whole : List (List ℕ)) → names ++ whole ≡ all → whole ≡ part ++ later → more ≡ names ++ part → more ++ later ≡ all
 names-next names more all part later whole inv e step =
-    ap (λ m. fold with_name m later) step ∙ sym (fold-append with_name names part later) ∙ ap (fold with_name names) (sym e) ∙ inv
+    ap (λ m. m ++ later) step ∙ append_assoc names part later ∙ ap (λ l. names ++ l) (sym e) ∙ inv
 
 -- the candidates of an environment, by its locale
 pub candidates-none : (env : Environment) → locale_of env ≡ None → candidates_of env ≡ []
@@ -120,11 +110,11 @@ candidates-some env locale language some fine plain is =
     ∙ ap (λ l. fold with_name [] (flat_map variants (languages l locale))) is
 
 -- and where it is the last part
-pub names-last : (names more all : List (List ℕ)) (part whole : List (List ℕ)) → fold with_name names whole ≡ all → whole ≡ part → more ≡ fold with_name names part → more ≡ all
-names-last names more all part whole inv e step = step ∙ ap (fold with_name names) (sym e) ∙ inv
+pub names-last : (names more all : List (List ℕ)) (part whole : List (List ℕ)) → names ++ whole ≡ all → whole ≡ part → more ≡ names ++ part → more ≡ all
+names-last names more all part whole inv e step = step ∙ ap (λ l. names ++ l) (sym e) ∙ inv
 
-pub names-stop : (names all : List (List ℕ)) (whole : List (List ℕ)) → fold with_name names whole ≡ all → whole ≡ [] → names ≡ all
-names-stop names all whole inv e = ap (fold with_name names) (sym e) ∙ inv
+pub names-stop : (names all : List (List ℕ)) (whole : List (List ℕ)) → names ++ whole ≡ all → whole ≡ [] → names ≡ all
+names-stop names all whole inv e = sym (append-nil names) ∙ ap (λ l. names ++ l) (sym e) ∙ inv
 
 -- the same, by what stands before the separator and from it on
 pub split-stop : (rest part behind : List ℕ) (n : ℕ) → part ≡ take n rest → n ≡ position_or_len (is_byte 58) rest → n ≤ length rest → is_untranslated part ≡ true → flat_map variants (language_parts rest) ≡ []

@@ -1,6 +1,17 @@
--- Internal: the candidates of one part of LANGUAGE.
-use Rattle.std.specs.Prelude.{ℕ, if◌then◌else◌, List, []}
+-- Internal: the candidates of one part of LANGUAGE, and the names that were met.
+use Rattle.std.specs.Prelude.{◌≡◌, ℕ, if◌then◌else◌, List, []}
+use Rattle.std.specs.List.{list_any}
+use Rattle.std.specs.Ordering.{nat_cmp}
+use Rattle.std.specs.Cmp.Lexicographic.{slice_cmp}
+use Rattle.std.specs.Borrow.{Bor}
+use Rattle.std.specs.BTreeSet.{BTreeSet, contains}
+use Rattle.std.specs.Str.{bytes_eq}
 use Rattle.po_shell.specs.Locales.{variants, is_path_part}
 
 abbrev pub variants_in : List ℕ → List (List ℕ)
 variants_in part = if is_path_part part then variants part else []
+
+-- the tree has just these names
+abbrev pub HasNames : BTreeSet (Bor (List ℕ)) → List (List ℕ) → Type 0
+HasNames met names =
+    (q : Bor (List ℕ)) → contains (λ x y. slice_cmp nat_cmp x.now y.now) met q ≡ list_any (λ known. bytes_eq known q.now) names

@@ -1,15 +1,15 @@
 // The locales whose catalogues are looked for ("Locale Environment Variables" and "Specifying a
 // Priority List of Languages" of the GNU gettext manual).
-ghost use Rattle.std.specs.Prelude.{◌≡◌, ◌++◌, map, fold, IfOk, OnOk, OnErr, Err};
-ghost use Rattle.std.specs.List.{flat_map, list_any};
+ghost use Rattle.std.specs.Prelude.{◌≡◌, ◌++◌, ◌∷◌, [], map, fold, IfOk, OnOk, OnErr, Err};
+ghost use Rattle.std.specs.List.{flat_map};
 ghost use Rattle.std.specs.Option.{option_map};
-ghost use Rattle.std.specs.Str.{bytes_eq};
-ghost use Rattle.po_shell.specs.Locales.{given, locale_of, is_untranslated, has_slash, is_path_part, before, from_first, variants, language_parts, with_name, candidates_of};
+ghost use Rattle.po_shell.specs.Locales.{given, locale_of, is_untranslated, has_slash, is_path_part, before, from_first, variants, language_parts, languages, distinct, candidates_of};
 ghost use Rattle.po_shell.specs.LocaleSteps.{variants_in};
 
 use crate::fault::ToolFault;
 use crate::search::len_before;
 use std::alloc::Global;
+use std::collections::BTreeSet;
 
 /// The environment variables that choose a catalogue, as bytes; an unset one is `None`.
 #[derive(Clone, Copy)]
@@ -38,26 +38,53 @@ pub fn locale_candidates(
         ≡ candidates_of environment.now) }
     ensures fault { OnErr result (result ≡ Err ToolFault.OutOfMemory) }
 {
-    let mut candidates = Vec::new(alloc);
     let Some(locale) = locale_of(environment) else {
-        return Ok(candidates);
+        return Ok(Vec::new(alloc));
     };
     if is_untranslated(locale) {
-        return Ok(candidates);
+        return Ok(Vec::new(alloc));
     }
     if has_slash(locale) {
-        return Ok(candidates);
+        return Ok(Vec::new(alloc));
     }
-    match given(environment.language) {
-        None => {
-            add_variants(alloc, &mut candidates, locale)?;
-            Ok(candidates)
-        }
-        Some(languages) => {
-            add_languages(alloc, &mut candidates, languages)?;
-            Ok(candidates)
-        }
+    let names = names_of(alloc, locale, environment.language)?;
+    Ok(distinct(alloc, &names)?)
+}
+
+// The names of the languages that are asked for, with repeats: those of LANGUAGE, or the locale.
+fn names_of(
+    alloc: Global,
+    locale: &[u8],
+    language: Option<&[u8]>,
+) -> Result<Vec<Vec<u8>>, ToolFault>
+    ensures names { IfOk result (λ v. map (λ name. name.items) v.items
+        ≡ flat_map variants (languages (given language.entry) locale.now)) }
+    ensures fault { OnErr result (result ≡ Err ToolFault.OutOfMemory) }
+{
+    let mut names = Vec::new(alloc);
+    match given(language) {
+        None => add_variants(alloc, &mut names, locale)?,
+        Some(languages) => add_languages(alloc, &mut names, languages)?,
     }
+    Ok(names)
+}
+
+// Each name where it first stands. A tree finds the names that were met, so that no choice of names
+// makes this slow.
+fn distinct(alloc: Global, names: &[Vec<u8>]) -> Result<Vec<Vec<u8>>, ToolFault>
+    ensures names { IfOk result (λ v. map (λ name. name.items) v.items
+        ≡ distinct (map (λ name. name.items) names.now)) }
+    ensures fault { OnErr result (result ≡ Err ToolFault.OutOfMemory) }
+{
+    let mut met = BTreeSet::new(alloc);
+    let mut kept = Vec::new(alloc);
+    for name in names {
+        if !met.insert(name.as_slice())? {
+            continue;
+        }
+        kept.push(name.as_slice().to_vec(alloc)?)?;
+    }
+    Ok(kept)
 }
 
 /// A variable that is set and not empty.
@@ -104,14 +131,9 @@ pub(crate) fn is_path_part(name: &[u8]) -> bool
 }
 
 // Adds the candidates of the parts of LANGUAGE.
-fn add_languages(
-    alloc: Global,
-    candidates: &mut Vec<Vec<u8>>,
-    languages: &[u8],
-) -> Result<(), ToolFault>
-    ensures added { OnOk result (map (λ name. name.items) candidates.new.items
-        ≡ fold with_name (map (λ name. name.items) candidates.old.items)
-        (flat_map variants (language_parts languages.now))) }
+fn add_languages(alloc: Global, names: &mut Vec<Vec<u8>>, languages: &[u8]) -> Result<(), ToolFault>
+    ensures added { OnOk result (map (λ name. name.items) names.new.items
+        ≡ map (λ name. name.items) names.old.items ++ flat_map variants (language_parts languages.now)) }
     ensures fault { OnErr result (result ≡ Err ToolFault.OutOfMemory) }
 {
     let mut rest = languages;
@@ -120,7 +142,7 @@ fn add_languages(
         if is_untranslated(part) {
             return Ok(());
         }
-        add_language(alloc, candidates, part)?;
+        add_language(alloc, names, part)?;
         if behind.is_empty() {
             return Ok(());
         }
@@ -129,32 +151,32 @@ fn add_languages(
 }
 
 // Adds the candidates of one part of LANGUAGE, if it counts.
-fn add_language(alloc: Global, candidates: &mut Vec<Vec<u8>>, part: &[u8]) -> Result<(), ToolFault>
-    ensures added { OnOk result (map (λ name. name.items) candidates.new.items
-        ≡ fold with_name (map (λ name. name.items) candidates.old.items) (variants_in part.now)) }
+fn add_language(alloc: Global, names: &mut Vec<Vec<u8>>, part: &[u8]) -> Result<(), ToolFault>
+    ensures added { OnOk result (map (λ name. name.items) names.new.items
+        ≡ map (λ name. name.items) names.old.items ++ variants_in part.now) }
     ensures fault { OnErr result (result ≡ Err ToolFault.OutOfMemory) }
 {
     if is_path_part(part) {
-        add_variants(alloc, candidates, part)
+        add_variants(alloc, names, part)
     } else {
         Ok(())
     }
 }
 
 // Adds the candidates of a name L[_T][.C][@M].
-fn add_variants(alloc: Global, candidates: &mut Vec<Vec<u8>>, name: &[u8]) -> Result<(), ToolFault>
-    ensures added { OnOk result (map (λ name. name.items) candidates.new.items
-        ≡ fold with_name (map (λ name. name.items) candidates.old.items) (variants name.now)) }
+fn add_variants(alloc: Global, names: &mut Vec<Vec<u8>>, name: &[u8]) -> Result<(), ToolFault>
+    ensures added { OnOk result (map (λ name. name.items) names.new.items
+        ≡ map (λ name. name.items) names.old.items ++ variants name.now) }
     ensures fault { OnErr result (result ≡ Err ToolFault.OutOfMemory) }
 {
     let modifier = from_first(b'@', name);
     let base = before(b'.', before(b'@', name));
     let language = before(b'_', base);
-    add_name(alloc, candidates, name, &[])?;
-    add_name(alloc, candidates, base, modifier)?;
-    add_name(alloc, candidates, language, modifier)?;
-    add_name(alloc, candidates, base, &[])?;
-    add_name(alloc, candidates, language, &[])?;
+    add_name(alloc, names, name, &[])?;
+    add_name(alloc, names, base, modifier)?;
+    add_name(alloc, names, language, modifier)?;
+    add_name(alloc, names, base, &[])?;
+    add_name(alloc, names, language, &[])?;
     Ok(())
 }
 
@@ -174,29 +196,19 @@ fn from_first(byte: u8, name: &[u8]) -> &[u8]
     &name[len_before(byte, name)..]
 }
 
-// Adds a name in two parts, if it isn't there.
-#[tactic(auto, unfolding(crate::specs::Locales::with_name))]
+// Adds a name in two parts.
 fn add_name(
     alloc: Global,
-    candidates: &mut Vec<Vec<u8>>,
+    names: &mut Vec<Vec<u8>>,
     front: &[u8],
     back: &[u8],
 ) -> Result<(), ToolFault>
-    ensures added { OnOk result (map (λ name. name.items) candidates.new.items
-        ≡ with_name (map (λ name. name.items) candidates.old.items) (front.now ++ back.now)) }
+    ensures added { OnOk result (map (λ name. name.items) names.new.items
+        ≡ map (λ name. name.items) names.old.items ++ (front.now ++ back.now) ∷ []) }
     ensures fault { OnErr result (result ≡ Err ToolFault.OutOfMemory) }
 {
     let mut name = Vec::from_slice(alloc, front)?;
     name.extend_from_slice(back)?;
-    if is_among(candidates, &name) {
-        return Ok(());
-    }
-    candidates.push(name)?;
+    names.push(name)?;
     Ok(())
-}
-
-fn is_among(names: &[Vec<u8>], name: &[u8]) -> bool
-    ensures { result ≡ list_any (λ known. bytes_eq known.items name.now) names.now }
-{
-    names.iter().any(|known| known.as_slice() == name)
 }
