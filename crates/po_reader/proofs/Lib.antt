@@ -29,3 +29,4 @@ pub mod Readable
 pub mod TextEnds
 pub mod NoMemory
 pub mod PieceReading
+pub mod MetFlags

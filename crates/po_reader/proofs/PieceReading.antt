@@ -1,6 +1,5 @@
 -- A text that is read in pieces.
-use Rattle.std.proofs.Common.{◌≡◌, ◌≢◌, ◌⊎◌, inl, inr, refl, sym, subst, ap, ◌∙◌, ℕ, List, [], ◌∷◌, ◌++◌, append-nil, append_assoc, length}
-use Rattle.std.specs.Prelude.{All}
+use Rattle.std.proofs.Common.{◌≡◌, ◌⊎◌, inl, inr, refl, sym, subst, ℕ, List, [], ◌++◌, append-nil}
 use Rattle.std.proofs.lemmas.List.Elements.{All-nil, All-append}
 use Rattle.po_syntax.specs.declared.fault.PoFault.{PoFault}
 use Rattle.po_syntax.specs.LinesLeft.{LinesLeft, SpellsLeft, LeftStops, EndsInString}
@@ -18,7 +17,7 @@ use Rattle.po_reader.specs.Faults.{IsReadFault}
 use Rattle.po_reader.specs.Faults as faults
 use Rattle.po_reader.specs.ItemsRead.{ReadsItems, ItemsStop}
 use Rattle.po_reader.specs.ItemsRead as stops
-use Rattle.po_reader.specs.Refusals.{IsFaultOf, IsLeftRefusal, IsTextRefusal}
+use Rattle.po_reader.specs.Refusals.{IsLeftRefusal, IsTextRefusal}
 use Rattle.po_reader.specs.declared.piecewise.Refusal.{Refusal}
 use Rattle.po_reader.specs.declared.piecewise.Refusal.TheVariants.{Fault, Whole}
 

@@ -1,14 +1,10 @@
 -- The first part of a text that is cut where a byte passes a test.
-use Rattle.std.proofs.Common.{◌≡◌, ℕ, ◌<◌, ◌≤◌, Bool, true, false, not, cond, List, [], ◌∷◌, length, take, drop, get_or, Some, None, position, nat_lt, refl, sym, arith}
-use Rattle.std.specs.Prelude.{bytes_eq}
-use Rattle.std.specs.Global.{Vec}
-use Rattle.std.specs.List.{position_or_len, slice_split, list_any}
-use Rattle.std.proofs.lemmas.List.Folds.{list_any_at}
-use Rattle.po_entry.specs.TextEntry.{texts}
+use Rattle.std.proofs.Common.{◌≡◌, ℕ, ◌<◌, ◌≤◌, Bool, true, false, not, cond, List, [], ◌∷◌, length, take, drop, Some, None, position, nat_lt, refl, arith}
+use Rattle.std.specs.List.{position_or_len, slice_split}
 use Rattle.std.proofs.lemmas.List.Sums.{prefix_len_passes}
 use Rattle.std.proofs.lemmas.List.Splits.{slice_split_none, slice_split_first}
 use Rattle.std.proofs.lemmas.Bool.{ltb-false, ltb-true}
-use Rattle.std.proofs.lemmas.List.{drop-drop, length-map, get_or-map}
+use Rattle.std.proofs.lemmas.List.{drop-drop}
 
 not_passed : (b : Bool) → not b ≡ true → b ≡ false
 not_passed true e = cc
@@ -30,9 +26,3 @@ cut_found p xs i e = found (nat_lt (position_or_len p xs) (length xs)) refl e wh
       let inside : position_or_len p xs < length xs = ltb-true _ _ t in
       rw (drop-drop, same) (slice_split_first p xs 0 inside)
   found false t q = cc
-
--- a word that is found at a place of a list of vectors is among their texts
-pub among_at : (word : List ℕ) (flags : List (Vec ℕ)) (i : ℕ) (v : Vec ℕ) → i < length flags → v ≡ get_or flags i v → true ≡ bytes_eq word v.items → true ≡ list_any (bytes_eq word) (texts flags)
-among_at word flags i v below is e =
-    let inside : i < length (texts flags) = rw length-map below in
-    sym (list_any_at (bytes_eq word) (texts flags) i v.items inside (rw (get_or-map (λ w. w.items) flags i v v.items) (rw (← is) (sym e))))

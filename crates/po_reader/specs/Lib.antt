@@ -6,3 +6,4 @@ pub mod Faults
 pub mod Drafts
 pub mod ItemsRead
 pub mod Refusals
+pub mod MetFlags

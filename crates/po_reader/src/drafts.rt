@@ -9,22 +9,23 @@ ghost use Rattle.po_reader.specs.Seen.{body_seen};
 ghost use Rattle.po_reader.specs.Stops.{EntriesStop};
 
 use crate::body::{Body, Original, Translation, body_of};
+use crate::flags::flags_of;
 use crate::head::{Head, head_of};
 use po_entry::Fields;
 use po_syntax::{Item, PoError, PoFault};
-use std::alloc::Global;
+use std::alloc::{AllocError, Global};
 
-fn fields_of(head: Head, body: Body) -> Fields
-    ensures { (notes : List Note) (previous : List PreviousText) → HoldsHead head notes previous → entry_of result ≡ entry_from notes previous (body_seen body) }
+fn fields_of(alloc: Global, head: Head, body: Body) -> Result<Fields, AllocError>
+    ensures { IfOk result (λ fields. (notes : List Note) (previous : List PreviousText) → HoldsHead head notes previous → entry_of fields ≡ entry_from notes previous (body_seen body)) }
 {
     let Head {
         comments,
         extracted,
         references,
-        fuzzy,
         flags,
         previous,
     } = head;
+    let flags = flags_of(alloc, flags)?;
     let Body {
         original,
         translation,
@@ -36,12 +37,12 @@ fn fields_of(head: Head, body: Body) -> Fields
         line,
     } = original;
     let Translation { plural, forms, .. } = translation;
-    Fields {
+    Ok(Fields {
         comments,
         extracted,
         references,
-        fuzzy,
-        flags,
+        fuzzy: flags.fuzzy,
+        flags: flags.others,
         previous,
         context,
         id,
@@ -49,7 +50,7 @@ fn fields_of(head: Head, body: Body) -> Fields
         forms,
         obsolete,
         line,
-    }
+    })
 }
 
 /// The fields of the entries that the items spell, in order; `end` is the line of the last item.
@@ -68,6 +69,6 @@ pub(crate) fn drafts_of(alloc: Global, items: &[Item<'_>], end: u32) -> Result<V
         }
         let body = body_of(alloc, items, own, end)?;
         at = body.translation.behind;
-        drafts.push(fields_of(head, body))?;
+        drafts.push(fields_of(alloc, head, body)?)?;
     }
 }

@@ -20,7 +20,7 @@ pub(crate) struct Head {
     pub(crate) comments: Vec<Vec<u8>>,
     pub(crate) extracted: Vec<Vec<u8>>,
     pub(crate) references: Vec<Vec<u8>>,
-    pub(crate) fuzzy: bool,
+    /// The flags with their repeats, `fuzzy` among them.
     pub(crate) flags: Vec<Vec<u8>>,
     pub(crate) previous: Previous,
 }
@@ -96,10 +96,7 @@ fn add_note(
         CommentKind::Translator => head.comments.push(text.to_vec(alloc)?)?,
         CommentKind::Extracted => head.extracted.push(text.to_vec(alloc)?)?,
         CommentKind::Reference => add_words(alloc, &mut head.references, text)?,
-        CommentKind::Flags => {
-            let fuzzy = add_flags(alloc, &mut head.flags, text)?;
-            head.fuzzy = head.fuzzy || fuzzy;
-        }
+        CommentKind::Flags => add_flags(alloc, &mut head.flags, text)?,
     }
     Ok(())
 }
@@ -135,7 +132,6 @@ pub(crate) fn head_of(
         comments: Vec::new(alloc),
         extracted: Vec::new(alloc),
         references: Vec::new(alloc),
-        fuzzy: false,
         flags: Vec::new(alloc),
         previous: Previous::none(),
     };

@@ -4,6 +4,7 @@
 
 mod body;
 mod drafts;
+mod flags;
 mod head;
 mod items;
 pub mod laws;

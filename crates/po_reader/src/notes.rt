@@ -1,9 +1,9 @@
-ghost use Rattle.std.specs.Prelude.{◌≡◌, ◌<◌, ◌≤◌, ◌++◌, ◌∷◌, ◌||◌, [], length, fold, position, IfSome, IfOk, MatchOption, OnOk, codes, bytes_eq};
-ghost use Rattle.std.specs.List.{slice_split, list_any, suffix_len, prefix_len};
+ghost use Rattle.std.specs.Prelude.{◌≡◌, ◌<◌, ◌≤◌, ◌++◌, ◌∷◌, [], length, position, IfSome, MatchOption, OnOk};
+ghost use Rattle.std.specs.List.{slice_split, suffix_len, prefix_len};
 ghost use Rattle.po_syntax.specs.Token.{is_blank, skip_blanks};
 ghost use Rattle.po_entry.specs.Bytes.{trimmed, without_end_blanks};
 ghost use Rattle.po_entry.specs.TextEntry.{texts};
-ghost use Rattle.po_entry.specs.Notes.{is_comma, words_of, flag_words, is_fuzzy_word, with_flag};
+ghost use Rattle.po_entry.specs.Notes.{is_comma, words_of, flag_words};
 
 use std::alloc::{AllocError, Global};
 
@@ -109,54 +109,24 @@ pub(crate) fn add_words(
     }
 }
 
-fn is_fuzzy_word(word: &[u8]) -> bool
-    ensures { result ≡ is_fuzzy_word word.now }
-{
-    word == b"fuzzy".as_slice()
-}
-
-fn is_among(flags: &[Vec<u8>], word: &[u8]) -> bool
-    ensures { result ≡ list_any (bytes_eq word.now) (texts flags.now) }
-{
-    for flag in flags {
-        if word == flag.as_slice() {
-            return true;
-        }
-    }
-    false
-}
-
-fn add_flag(alloc: Global, flags: &mut Vec<Vec<u8>>, word: &[u8]) -> Result<(), AllocError>
-    ensures { OnOk result (texts flags.new.items ≡ with_flag (texts flags.old.items) word.now) }
-{
-    if is_fuzzy_word(word) || is_among(flags, word) {
-        return Ok(());
-    }
-    flags.push(word.to_vec(alloc)?)?;
-    Ok(())
-}
-
-/// Adds the flags of a text, which stand between commas, and tells whether `fuzzy` is among them.
+/// Adds the flags of a text, `fuzzy` among them, which stand between commas.
 pub(crate) fn add_flags(
     alloc: Global,
     flags: &mut Vec<Vec<u8>>,
     text: &[u8],
-) -> Result<bool, AllocError>
-    ensures flags { OnOk result (texts flags.new.items ≡ fold with_flag (texts flags.old.items) (flag_words text.now)) }
-    ensures fuzzy { IfOk result (λ fuzzy. fuzzy ≡ list_any is_fuzzy_word (flag_words text.now)) }
+) -> Result<(), AllocError>
+    ensures { OnOk result (texts flags.new.items ≡ texts flags.old.items ++ flag_words text.now) }
 {
-    let mut fuzzy = false;
     let mut rest = text;
     loop {
-        let (piece, behind) = cut_at_comma(rest);
+        let (piece, after) = cut_at_comma(rest);
         let word = trimmed(piece);
         if !word.is_empty() {
-            fuzzy = fuzzy || is_fuzzy_word(word);
-            add_flag(alloc, flags, word)?;
+            add_word(flags, word.to_vec(alloc)?)?;
         }
-        let Some(behind) = behind else {
-            return Ok(fuzzy);
+        let Some(after) = after else {
+            return Ok(());
         };
-        rest = behind;
+        rest = after;
     }
 }

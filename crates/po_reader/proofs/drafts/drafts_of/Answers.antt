@@ -32,7 +32,7 @@ returns-in_err-body-clause-fault c =
 pub loop-drafts-preserved : goal.loop-drafts-preserved
 loop-drafts-preserved c =
     let head = c.in_ok-head.ensures.found in
-    let made = c.fields_of.ensures head.0 head.1 head.3 in
+    let made = c.in_ok-fields_of.ensures head.0 head.1 head.3 in
     record {
       spelt = λ more h. rw (c.in_ok-push.ensures.items, map_push, made, append_assoc) (c.loop-drafts.invariant.spelt _ (entry head.2 c.in_ok-body.ensures.found h));
       stops = λ fault line h. c.loop-drafts.invariant.stops _ _ (later head.2 c.in_ok-body.ensures.found h);

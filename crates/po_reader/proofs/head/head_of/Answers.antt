@@ -1,4 +1,4 @@
-use Rattle.std.proofs.Common.{◌++◌, ◌∷◌, [], ◌∙◌, refl, append_assoc, arith}
+use Rattle.std.proofs.Common.{◌++◌, ◌∷◌, [], ◌∙◌, append_assoc, arith}
 use Rattle.std.proofs.lemmas.Result.{err_from_is_err_and}
 use Rattle.std.proofs.lemmas.List.{append-nil}
 use Rattle.po_entry.specs.Head.{Note, PreviousText}
@@ -9,7 +9,7 @@ use Rattle.po_reader.proofs.head.head_of.Goals as goal
 
 pub loop-kind-init : goal.loop-kind-init
 loop-kind-init c = record {
-  spelt = ([], [], holds_nothing _ c.new.ensures.items c.new-2.ensures.items c.new-3.ensures.items refl c.new-4.ensures.items c.none.ensures, λ more others rest h. h);
+  spelt = ([], [], holds_nothing _ c.new.ensures.items c.new-2.ensures.items c.new-3.ensures.items c.new-4.ensures.items c.none.ensures, λ more others rest h. h);
   stops = λ fault line h. h;
   within = c.requires;
   behind = omega arith;

@@ -1,4 +1,4 @@
-use Rattle.std.proofs.Common.{map, arith}
+use Rattle.std.proofs.Common.{map}
 use Rattle.std.proofs.lemmas.Result.{err_from_is_err_and}
 use Rattle.po_syntax.specs.TextItem.{views}
 use Rattle.po_entry.specs.EntryText.{entry_of}

@@ -1,5 +1,4 @@
 use Rattle.std.proofs.Common.{[], ◌++◌, append-nil, append_assoc}
-use Rattle.po_syntax.specs.LinesLeft.{LinesLeft}
 use Rattle.po_reader.proofs.PieceReading.{left_over}
 use Rattle.po_reader.proofs.piecewise.read_pieces.Goals as goal
 

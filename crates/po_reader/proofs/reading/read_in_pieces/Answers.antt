@@ -1,7 +1,4 @@
 use Rattle.po_reader.specs.Faults.IsReadFault.{in_text}
-use Rattle.po_reader.specs.Refusals.{IsFaultOf, IsTextRefusal}
-use Rattle.po_reader.specs.declared.piecewise.Refusal.{Refusal}
-use Rattle.std.proofs.Common.{subst}
 use Rattle.po_reader.proofs.reading.read_in_pieces.Goals as goal
 
 pub returns-in-Err-Fault-clause-fault : goal.returns-in-Err-Fault-clause-fault
