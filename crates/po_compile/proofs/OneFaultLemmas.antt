@@ -32,7 +32,7 @@ same_join_error a b input first_input error =
     ∙ ap (λ (e : PoError). record b { error = e }) error
 
 module _ (one : OneReading) (no_fault : NoReadFault) (no_first : NoFirstDuplicate) (one_fault : OneReadFault) (one_first : OneFirstDuplicate) where
-  text_fault_once : (text : List ℕ) (a b : PoError) → IsTextFault text a → IsTextFault text b → a ≡ b
+  pub text_fault_once : (text : List ℕ) (a b : PoError) → IsTextFault text a → IsTextFault text b → a ≡ b
   text_fault_once text a b (inl f) (inl g) = let same = one_fault text a.kind b.kind a.line b.line f g in same_error a b same.0 same.1
   text_fault_once text a b (inl f) (inr g) = absurd (no_fault text g.entries a.kind a.line g.reads f)
   text_fault_once text a b (inr f) (inl g) = absurd (no_fault text f.entries b.kind b.line f.reads g)

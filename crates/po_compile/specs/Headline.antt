@@ -11,7 +11,8 @@ use Rattle.po_compile.specs.CompiledMessages.{AreMessagesOf}
 use Rattle.po_compile.specs.Meaning.{MeansEntries}
 use Rattle.po_catalog.specs.Duplicate.{join_memory}
 use Rattle.po_catalog.specs.declared.duplicate.JoinError.{JoinError}
-use Rattle.po_compile.specs.Accepted.{AreAccepted, AreRead, IsCompileFault}
+use Rattle.po_syntax.specs.declared.fault.PoError.{PoError}
+use Rattle.po_compile.specs.Accepted.{AreAccepted, AreRead, IsCompileFault, IsTextFault, ReadsDistinct}
 use Rattle.po_compile.specs.declared.options.Options.{Options}
 
 -- entries have one list of messages in rising order of keys
@@ -58,3 +59,11 @@ OneCompileFault =
 abbrev pub CataloguesAreOne : Type 0
 CataloguesAreOne =
     (texts : List (List ℕ)) (catalogues others : List (List TextEntry)) → AreRead texts catalogues → AreRead texts others → catalogues ≡ others
+
+-- a text has at most one fault
+abbrev pub OneTextFault : Type 0
+OneTextFault = (text : List ℕ) (error other : PoError) → IsTextFault text error → IsTextFault text other → error ≡ other
+
+-- a text that reads as entries without a duplicate has no fault
+abbrev pub NoFaultWhereDistinct : Type 0
+NoFaultWhereDistinct = (text : List ℕ) (entries : List TextEntry) (error : PoError) → ReadsDistinct text entries → IsTextFault text error → ⊥

@@ -1,6 +1,6 @@
 //! Laws of compiling, each of which a call makes known.
 
-ghost use Rattle.po_compile.specs.Headline.{AcceptedOrFault, CataloguesAreOne, LookUpMeansEntries, MessagesAreOne, MessagesMeanEntries, NoFaultWhereAccepted, OneCompileFault};
+ghost use Rattle.po_compile.specs.Headline.{AcceptedOrFault, CataloguesAreOne, LookUpMeansEntries, MessagesAreOne, MessagesMeanEntries, NoFaultWhereAccepted, NoFaultWhereDistinct, OneCompileFault, OneTextFault};
 ghost use Rattle.po_compile.specs.Parts.{JoinedEntriesCanStand, MessagesDiffer, MessagesHaveParts, OneTextIsRead};
 
 use mo_file::layout_is_catalog;
@@ -60,6 +60,26 @@ pub fn one_compile_fault()
     no_first_duplicate_where_none();
     one_fault();
     one_first_duplicate();
+}
+
+/// A text has at most one fault: one kind, on one line.
+pub fn one_text_fault()
+    ensures { OneTextFault }
+{
+    one_reading();
+    no_fault_where_entries();
+    no_first_duplicate_where_none();
+    one_fault();
+    one_first_duplicate();
+}
+
+/// A text that reads as entries without a duplicate has no fault.
+pub fn no_fault_where_distinct()
+    ensures { NoFaultWhereDistinct }
+{
+    one_reading();
+    no_fault_where_entries();
+    no_first_duplicate_where_none();
 }
 
 /// Texts are read as one list of catalogues.

@@ -17,7 +17,7 @@ use Rattle.po_unformat.specs.Unformatted.{unformatted}
 use Rattle.po_unformat.specs.Unformatting.{AreWrittenAs, HasFirstTextsFault, HasForeignCharset, IsFileOf}
 use Rattle.po_unformat.proofs.MessageLemmas.{texts_of}
 
-no_texts_fault : (entry : TextEntry) (kind : PoFault) → HasTexts entry → TextsFault entry kind → ⊥
+pub no_texts_fault : (entry : TextEntry) (kind : PoFault) → HasTexts entry → TextsFault entry kind → ⊥
 no_texts_fault entry _ texts (not_utf8 h) = h texts.utf8
 no_texts_fault entry _ texts (forbidden u h) = h texts.clean
 
@@ -34,7 +34,7 @@ no_foreign text messages written fault =
     fault.foreign (All-weaker IsCatalogueEntry HasAdmittedCharset (λ e v. v.charset) (unformatted messages) written.valid)
 
 -- what holds of the messages of a file holds of the same messages
-moved : CatalogIsUnique → (bytes : List ℕ) (P Q : List Message → Type 0) (file : IsFileOf bytes P) → IsFileOf bytes Q → Q file.messages
+pub moved : CatalogIsUnique → (bytes : List ℕ) (P Q : List Message → Type 0) (file : IsFileOf bytes P) → IsFileOf bytes Q → Q file.messages
 moved unique bytes P Q file other =
     subst Q (unique bytes other.order file.order other.messages file.messages other.catalog file.catalog).1 other.holds
 

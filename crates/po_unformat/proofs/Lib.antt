@@ -3,3 +3,4 @@ pub mod MessageLemmas
 pub mod FaultLemmas
 pub mod ReturnLemmas
 pub mod SettledMessages
+pub mod OneFault

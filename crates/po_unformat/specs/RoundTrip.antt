@@ -40,3 +40,9 @@ EmptyText = (bytes text : List ℕ) (file : IsUnformatted bytes text) → (text 
 abbrev pub TextOrFault : Type 0
 TextOrFault =
     (bytes : List ℕ) → ((text : List ℕ) × IsUnformatted bytes text) ⊎ ((error : UnformatError) × IsUnformatFault bytes error × (error ≢ OutOfMemory))
+
+-- bytes have at most one fault, beside that memory ran out
+abbrev pub OneUnformatFault : Type 0
+OneUnformatFault =
+    (bytes : List ℕ) (error other : UnformatError) → IsUnformatFault bytes error → IsUnformatFault bytes other
+    → error ≢ OutOfMemory → other ≢ OutOfMemory → error ≡ other

@@ -1,8 +1,8 @@
 //! Laws of the definitions, each of which a call makes known.
 
-ghost use Rattle.po_unformat.specs.RoundTrip.{EmptyText, NoFaultWhereUnformatted, OneText, TextOrFault, UnformatThenCompile};
+ghost use Rattle.po_unformat.specs.RoundTrip.{EmptyText, NoFaultWhereUnformatted, OneText, OneUnformatFault, TextOrFault, UnformatThenCompile};
 
-use mo_file::{catalog_is_unique, catalog_or_fault};
+use mo_file::{catalog_is_unique, catalog_or_fault, one_first_fault};
 use po_compile::laws::{
     joined_entries_can_stand, messages_are_one, messages_differ, messages_have_parts,
     one_text_is_read,
@@ -37,6 +37,14 @@ pub fn one_text()
     ensures { OneText }
 {
     catalog_is_unique();
+}
+
+/// Bytes have at most one fault, beside that memory ran out.
+pub fn one_unformat_fault()
+    ensures { OneUnformatFault }
+{
+    catalog_is_unique();
+    one_first_fault();
 }
 
 /// Only a file without messages has the empty text.
