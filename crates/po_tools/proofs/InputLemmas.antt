@@ -1,5 +1,5 @@
 -- The words that are left to read, and what they add to the inputs before.
-use Rattle.std.proofs.Common.{◌≡◌, ◌≤◌, ◌<◌, ◌+◌, ◌||◌, ℕ, Bool, false, List, [], ◌∷◌, ◌++◌, Option, None, Some, refl, drop, get_or, map, length, sym, ap, subst, append_assoc, append-nil, drop-cons, drop_of_length-le, add-one, arith}
+use Rattle.std.proofs.Common.{◌≡◌, ◌≤◌, ◌<◌, ◌+◌, ◌||◌, ℕ, Bool, false, List, [], ◌∷◌, ◌++◌, Option, None, Some, refl, drop, get_or, map, length, ap, subst, append_assoc, append-nil, drop-cons, drop_of_length-le, add-one}
 use Rattle.std.specs.Borrow.{Bor}
 use Rattle.po_tools.specs.declared.inputs.Input.{Input}
 use Rattle.po_tools.specs.declared.inputs.Unread.{Unread}

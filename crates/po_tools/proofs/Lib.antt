@@ -10,3 +10,6 @@ pub mod MsgcatLemmas
 pub mod DigestLemmas
 pub mod SelectedLemmas
 pub mod OneText
+pub mod OneOtherRun
+pub mod CatalogueLemmas
+pub mod NulNames

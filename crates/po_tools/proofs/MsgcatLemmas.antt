@@ -1,10 +1,14 @@
 -- Files that are read as the catalogues of inputs, and the run of a header that can't stand in a catalogue.
-use Rattle.std.proofs.Common.{◌≡◌, ◌≢◌, ◌⊎◌, ℕ, ◌+◌, ◌<◌, List, [], ◌∷◌, ◌++◌, refl, sym, ap, ap₂, ◌∙◌, subst, map, take, get_or, length, arith, zero, suc, inl, inr, Result, Ok, Err}
-use Rattle.std.specs.Prelude.{All, IfOk}
+use Rattle.std.proofs.Common.{◌≡◌, ◌≢◌, ℕ, ◌+◌, ◌<◌, List, [], ◌∷◌, ◌++◌, refl, sym, ap, ap₂, ◌∙◌, subst, take, get_or, length, arith, zero, suc, inl, inr, Result, Ok, Err}
+use Rattle.std.specs.Prelude.{All, IfOk, OnOk}
 use Rattle.po_entry.specs.Bytes.{Lacks}
+use Rattle.po_entry.specs.TextEntry.{TextEntry}
+use Rattle.po_entry.specs.Header.{HasAdmittedCharset}
+use Rattle.po_entry.specs.Validity.{IsCatalogueEntry}
 use Rattle.std.specs.Borrow.{Bor}
 use Rattle.std.proofs.Math.ListN.{get_or-map}
 use Rattle.std.proofs.lemmas.List.{map-append, length-map, take_more}
+use Rattle.std.proofs.lemmas.List.Elements.{All-weaker}
 use Rattle.po_syntax.specs.declared.fault.PoError.{PoError}
 use Rattle.po_syntax.specs.declared.fault.PoFault.TheVariants.{OutOfMemory}
 use Rattle.po_compile.specs.Accepted.{ReadsDistinct, IsTextFault}
@@ -18,6 +22,7 @@ use Rattle.po_tools.specs.declared.run.Run.{Run}
 use Rattle.po_tools.specs.Msgcat.{IsReadAs, AreReadAs, IsFileFault, IsMsgcatRun, first_name, msgcat_line}
 use Rattle.po_tools.specs.NamedFile.{NamedFile, named_file, named_files}
 use Rattle.po_tools.specs.Run.{refusal, report}
+use Rattle.po_tools.specs.Written.{written_run}
 
 abbrev Files : Type 0
 Files = List (Bor (List ℕ) × Bor (List ℕ))
@@ -77,3 +82,10 @@ pub name_lacks : (files : Files) (i : ℕ) (e : Bor (List ℕ) × Bor (List ℕ)
 name_lacks files i e l h =
     let inside : i < length (named_files files) = omega (arith, l, length-map files named_file) in
     subst (λ (f : NamedFile). Lacks 0 f.name) (sym (file_at files i e l)) (h i (named_file (get_or files i e)) inside)
+
+pub merged_run : (files : List NamedFile) (o : MergeOptions) (inputs : List Input) (catalogue : List TextEntry) (r : Result Run ToolFault) → AreReadAs files inputs → catalogue ≡ merged o inputs
+    → OnOk r (All IsCatalogueEntry catalogue) → IfOk r (λ run. report run ≡ written_run catalogue) → IfOk r (λ run. IsMsgcatRun files o (report run))
+merged_run files o inputs catalogue (Err e) read is valid run = tt
+merged_run files o inputs catalogue (Ok made) read is valid run =
+    let admitted = All-weaker IsCatalogueEntry HasAdmittedCharset (λ e v. v.charset) catalogue valid in
+    inr (inr (record { inputs = inputs; read = read; admitted = subst (All HasAdmittedCharset) is admitted; report = run ∙ ap written_run is }))

@@ -1,5 +1,5 @@
 -- A tool has one run of its inputs.
-use Rattle.std.proofs.Common.{◌≡◌, ◌≢◌, ℕ, true, List, [], ◌∷◌, ◌++◌, Option, None, Some, MatchOption, codes, find, refl, sym, ap, subst, ◌∙◌, inl, inr}
+use Rattle.std.proofs.Common.{◌≡◌, ℕ, List, [], ◌∷◌, ◌++◌, Option, None, Some, MatchOption, codes, find, refl, sym, ap, subst, ◌∙◌, inl, inr}
 use Rattle.mo_file.specs.Laws.{CatalogIsUnique, NoFaultOfCatalog, OneFirstFault}
 use Rattle.mo_file.specs.Message.{Message}
 use Rattle.mo_file.specs.Layout.{layout}
@@ -9,21 +9,18 @@ use Rattle.mo_lookup.specs.Contents.{AreContents, Contents, header_text}
 use Rattle.po_entry.specs.TextEntry.{TextEntry}
 use Rattle.po_entry.specs.Header.{first_form}
 use Rattle.po_catalog.specs.Joined.{InputEntry, joined, joined_entries}
-use Rattle.po_catalog.specs.Duplicate.{join_memory}
 use Rattle.po_catalog.specs.declared.duplicate.JoinError.{JoinError}
 use Rattle.po_compile.specs.Accepted.{AreAccepted, AreRead}
 use Rattle.po_compile.specs.CompiledList.{compiled_list}
 use Rattle.po_compile.specs.Compiling.{IsCompiled}
-use Rattle.po_compile.specs.CompiledMessages.{AreMessagesOf}
 use Rattle.po_compile.specs.Headline.{CataloguesAreOne, MessagesAreOne, NoFaultWhereAccepted, OneCompileFault}
 use Rattle.po_compile.specs.declared.options.Compiled.{Compiled}
-use Rattle.po_compile.specs.declared.options.Options.{Options}
 use Rattle.po_tools.specs.declared.msgfmt.MsgfmtOptions.{MsgfmtOptions}
 use Rattle.po_tools.specs.declared.profile.CheckFault.TheVariants.{NoHeader}
 use Rattle.po_tools.specs.FaultText.{fault_line, mo_text}
 use Rattle.po_tools.specs.Gettext.{Asked, AskedPlural, IsGettextRun, IsNgettextRun, Opens, answered, gettext_output, ngettext_output}
 use Rattle.po_tools.specs.Gettext.Opens.{none, opened, refused}
-use Rattle.po_tools.specs.Msgfmt.{AreChecked, IsMsgfmtRun, IsRefused, check_line, compile_options, compiled_inputs, compiled_run, input_texts, join_line}
+use Rattle.po_tools.specs.Msgfmt.{AreChecked, IsRefused, check_line, compile_options, compiled_inputs, compiled_run, input_texts, join_line}
 use Rattle.po_tools.specs.NamedFile.{NamedFile}
 use Rattle.po_tools.specs.Profile.{Told, first_fault, is_header_entry}
 use Rattle.po_tools.specs.RunLaws.{OneMsgfmtRun}

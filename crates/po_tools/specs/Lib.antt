@@ -19,3 +19,5 @@ pub mod Msgunfmt
 pub mod Msgcat
 pub mod Digests
 pub mod SelectedText
+pub mod Catalogues
+pub mod Arguments

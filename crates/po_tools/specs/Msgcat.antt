@@ -1,15 +1,18 @@
 -- What msgcat writes and reports (manual, "Invoking the msgcat Program").
-use Rattle.std.specs.Prelude.{◌≡◌, ◌≢◌, ◌⊎◌, ◌==◌, ◌&&◌, ℕ, All, Bool, not, List, [], ◌∷◌, ◌++◌, codes, is_some}
+use Rattle.std.specs.Prelude.{◌≡◌, ◌≢◌, ◌⊎◌, ◌==◌, ◌&&◌, ℕ, All, Bool, Contains, not, List, [], ◌∷◌, ◌++◌, codes, is_some}
 use Rattle.std.specs.List.{AllZip}
 use Rattle.po_syntax.specs.declared.fault.PoError.{PoError}
 use Rattle.po_syntax.specs.declared.fault.PoFault.TheVariants.{ForeignCharset, OutOfMemory as NoMemory}
+use Rattle.po_entry.specs.Bytes.{Lacks}
 use Rattle.po_entry.specs.Header.{HasAdmittedCharset}
 use Rattle.po_compile.specs.Accepted.{ReadsDistinct, IsTextFault}
 use Rattle.po_merge.specs.Inputs.{Input}
 use Rattle.po_merge.specs.Merged.{merged}
 use Rattle.po_merge.specs.declared.input.MergeOptions.{MergeOptions}
 use Rattle.po_writer.specs.WrittenText.{written_text}
+use Rattle.po_tools.specs.declared.inputs.Unread.TheVariants.{CannotOpen}
 use Rattle.po_tools.specs.FaultText.{text_line}
+use Rattle.po_tools.specs.Inputs.{unread_text}
 use Rattle.po_tools.specs.NamedFile.{NamedFile}
 use Rattle.po_tools.specs.Run.{Report, refusal}
 use Rattle.po_tools.specs.Written.{written_run}
@@ -56,10 +59,11 @@ pub record IsForeign (files : List NamedFile) (o : MergeOptions) (run : Report) 
   pub foreign : All HasAdmittedCharset (merged o inputs) → ⊥
   pub report : run ≡ refusal (msgcat_line (first_name files) (record { kind = ForeignCharset; line = 0 }))
 
--- the files are read, and what they are merged to is written
+-- the files are read, each merged header's charset is admitted, and what they are merged to is written
 pub record IsMerged (files : List NamedFile) (o : MergeOptions) (run : Report) : Type 0 where
   pub inputs : List Input
   pub read : AreReadAs files inputs
+  pub admitted : All HasAdmittedCharset (merged o inputs)
   pub report : run ≡ written_run (merged o inputs)
 
 -- what a run of msgcat comes to
@@ -74,4 +78,12 @@ keeps_all o = (not o.unique && not (is_some o.less_than)) && (o.more_than == 0)
 pub record IsMergedText (files : List NamedFile) (o : MergeOptions) (written : List ℕ) : Type 0 where
   pub inputs : List Input
   pub read : AreReadAs files inputs
+  pub admitted : All HasAdmittedCharset (merged o inputs)
   pub text_is : written ≡ written_text (merged o inputs)
+
+-- a file whose name holds NUL, which no file can be opened by
+pub record HasNulName (files : List NamedFile) (text : List ℕ) : Type 0 where
+  pub file : NamedFile
+  pub among : Contains files file
+  pub nul : Lacks 0 file.name → ⊥
+  pub text_is : text ≡ unread_text file.name CannotOpen

@@ -1,8 +1,13 @@
 -- What a tool writes, tells and answers is a function of its inputs: it has one run.
-use Rattle.std.specs.Prelude.{◌≡◌, List}
+use Rattle.std.specs.Prelude.{◌≡◌, ℕ, List}
 use Rattle.po_tools.specs.declared.msgfmt.MsgfmtOptions.{MsgfmtOptions}
 use Rattle.po_tools.specs.Gettext.{Asked, AskedPlural, IsGettextRun, IsNgettextRun}
+use Rattle.po_merge.specs.declared.input.MergeOptions.{MergeOptions}
+use Rattle.po_select.specs.declared.selection.Selection.{Selection}
+use Rattle.po_tools.specs.Msgattrib.{IsMsgattribRun}
+use Rattle.po_tools.specs.Msgcat.{IsMsgcatRun}
 use Rattle.po_tools.specs.Msgfmt.{IsMsgfmtRun}
+use Rattle.po_tools.specs.Msgunfmt.{IsMsgunfmtRun}
 use Rattle.po_tools.specs.NamedFile.{NamedFile}
 use Rattle.po_tools.specs.Run.{Report}
 
@@ -18,3 +23,16 @@ OneGettextRun = (files : List NamedFile) (o : Asked) (run other : Report) → Is
 -- ngettext has one run over its catalogues
 abbrev pub OneNgettextRun : Type 0
 OneNgettextRun = (files : List NamedFile) (o : AskedPlural) (run other : Report) → IsNgettextRun files o run → IsNgettextRun files o other → run ≡ other
+
+-- msgunfmt has one run of its file
+abbrev pub OneMsgunfmtRun : Type 0
+OneMsgunfmtRun = (file : NamedFile) (run other : Report) → IsMsgunfmtRun file run → IsMsgunfmtRun file other → run ≡ other
+
+-- msgattrib has one run of its text under its selection
+abbrev pub OneMsgattribRun : Type 0
+OneMsgattribRun =
+    (name text : List ℕ) (s : Selection) (run other : Report) → IsMsgattribRun name s text run → IsMsgattribRun name s text other → run ≡ other
+
+-- msgcat has one run of its inputs under its options
+abbrev pub OneMsgcatRun : Type 0
+OneMsgcatRun = (files : List NamedFile) (o : MergeOptions) (run other : Report) → IsMsgcatRun files o run → IsMsgcatRun files o other → run ≡ other

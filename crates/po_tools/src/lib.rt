@@ -1,6 +1,8 @@
 //! The tools of pokit as functions of their inputs: what each writes, tells and answers.
 #![tactic(auto)]
 
+mod arguments;
+mod catalogues;
 mod digests;
 mod fault_text;
 mod gettext;
@@ -19,6 +21,8 @@ mod unread;
 mod words;
 mod written;
 
+pub use arguments::{Arguments, merge_options_of, msgfmt_options_of, selection_of};
+pub use catalogues::{CatalogueFile, lent_catalogues, read_catalogues};
 pub use gettext::{GettextOptions, NgettextOptions, plan_gettext, plan_ngettext};
 pub use inputs::{Input, InputSource, Inputs, Unread, read_one, read_whole};
 pub use msgattrib::{plan_msgattrib, run_msgattrib};
@@ -34,6 +38,9 @@ pub use profile::CheckFault;
 pub use profile_laws::first_profile_fault;
 pub use program_fault::{ProgramFault, tell};
 pub use run::{Run, STANDARD, STDIN_NAME, deliver, shown_name};
-pub use run_laws::{one_gettext_run, one_msgfmt_run, one_ngettext_run};
-pub use unread::{plan_msgfmt_before, plan_msgfmt_of};
+pub use run_laws::{
+    one_gettext_run, one_msgattrib_run, one_msgcat_run, one_msgfmt_run, one_msgunfmt_run,
+    one_ngettext_run,
+};
+pub use unread::{plan_msgcat_of, plan_msgfmt_before, plan_msgfmt_of};
 pub use words::{EnvsubstWords, GettextWords, NgettextWords};

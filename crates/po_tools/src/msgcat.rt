@@ -15,6 +15,7 @@ use crate::written::{refused_text, text_run, written_run};
 use po_compile::read_distinct;
 use po_merge::laws::one_input_stays;
 use po_merge::{MergeOptions, Named, merge};
+use po_reader::laws::entries_can_stand;
 use po_select::Selection;
 use po_select::laws::nothing_given_selects_all;
 use po_shell::ToolFault;
@@ -134,6 +135,7 @@ fn one_text(
     ensures written { IfOk result (λ found. IfSome found (λ written. IsMergedText (named_files inputs.now) options.now written.items)) }
     ensures memory { OnErr result (result ≡ Err ToolFault.OutOfMemory) }
 {
+    entries_can_stand();
     nothing_given_selects_all();
     one_input_stays();
     match inputs {

@@ -1,11 +1,14 @@
 // Laws of what a run of a tool comes to, each of which a call makes known.
-ghost use Rattle.po_tools.specs.RunLaws.{OneGettextRun, OneMsgfmtRun, OneNgettextRun};
+ghost use Rattle.po_tools.specs.RunLaws.{OneGettextRun, OneMsgattribRun, OneMsgcatRun, OneMsgfmtRun, OneMsgunfmtRun, OneNgettextRun};
 
 use mo_file::{catalog_is_unique, no_fault_of_catalog, one_first_fault};
 use mo_lookup::one_rule;
+use po_catalog::laws::{no_first_duplicate_where_none, one_first_duplicate, one_reading};
 use po_compile::laws::{
-    catalogues_are_one, messages_are_one, no_fault_where_accepted, one_compile_fault,
+    catalogues_are_one, messages_are_one, no_fault_where_accepted, no_fault_where_distinct,
+    one_compile_fault, one_text_fault,
 };
+use po_unformat::laws::{no_fault_where_unformatted, one_text, one_unformat_fault};
 
 /// Inputs and options of `msgfmt` have one run: its output, messages and status are functions of them.
 pub fn one_msgfmt_run()
@@ -36,4 +39,34 @@ pub fn one_ngettext_run()
     no_fault_of_catalog();
     one_first_fault();
     one_rule();
+}
+
+/// A file has one run of `msgunfmt`.
+pub fn one_msgunfmt_run()
+    ensures { OneMsgunfmtRun }
+{
+    catalog_is_unique();
+    no_fault_where_unformatted();
+    one_text();
+    one_unformat_fault();
+}
+
+/// A text and a selection have one run of `msgattrib`.
+pub fn one_msgattrib_run()
+    ensures { OneMsgattribRun }
+{
+    one_reading();
+    one_text_fault();
+    no_fault_where_distinct();
+    no_first_duplicate_where_none();
+    one_first_duplicate();
+}
+
+/// Inputs and options have one run of `msgcat`.
+pub fn one_msgcat_run()
+    ensures { OneMsgcatRun }
+{
+    one_reading();
+    one_text_fault();
+    no_fault_where_distinct();
 }

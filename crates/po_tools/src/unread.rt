@@ -1,14 +1,21 @@
-// What msgfmt comes to where an input can't be read.
-ghost use Rattle.std.specs.Prelude.{◌≡◌, ◌≢◌, ◌⊎◌, ◌^◌, ◌<◌, [], None, Some, length, IfOk, IfErr};
+// What msgfmt and msgcat come to of the inputs of a command line, of which one can't be read.
+ghost use Rattle.std.specs.Prelude.{◌≡◌, ◌≢◌, ◌⊎◌, ◌^◌, ◌<◌, ◌==◌, List, [], All, MatchOption, None, Some, length, IfOk, IfErr};
+ghost use Rattle.std.specs.List.{list_any};
+ghost use Rattle.po_entry.specs.Bytes.{Lacks};
+ghost use Rattle.po_merge.specs.Inputs as merge;
 ghost use Rattle.po_tools.specs.Inputs.{named_inputs};
+ghost use Rattle.po_tools.specs.Msgcat.{AreReadAs, HasNulName, IsMsgcatRun, IsUnread};
 ghost use Rattle.po_tools.specs.Msgfmt.{AreTaken, IsMsgfmtRun, IsOutside, IsRefused};
 ghost use Rattle.po_tools.specs.NamedFile.{named_files};
+ghost use Rattle.po_tools.specs.ProgramFaults.{program_text};
 ghost use Rattle.po_tools.specs.Run.{report};
 
-use crate::inputs::Inputs;
+use crate::inputs::{Input, Inputs};
+use crate::msgcat::{plan_msgcat, plan_msgcat_before};
 use crate::msgfmt::{MsgfmtOptions, plan_msgfmt};
 use crate::program_fault::ProgramFault;
 use crate::run::Run;
+use po_merge::MergeOptions;
 use std::alloc::Global;
 
 /// What `msgfmt` comes to where the input behind these can't be read: the refusal of these, or where
@@ -81,4 +88,51 @@ fn plan_all<'a>(
         Ok(run) => Ok(run),
         Err(_) => Err(ProgramFault::OutOfMemory),
     }
+}
+
+/// What `msgcat` comes to of the inputs that a command line names: the plan of all of them, or where
+/// one can't be read that of those before it. A file whose name holds NUL can't be opened.
+pub fn plan_msgcat_of<'a>(
+    alloc: Global,
+    inputs: &Inputs<'a>,
+    options: &MergeOptions,
+) -> Result<Run, ProgramFault<'a>>
+    ensures whole { inputs.now.fault ≡ None
+        → IfOk result (λ run. IsMsgcatRun (named_inputs inputs.now.texts.items) options.now (report run)) }
+    ensures refused { inputs.now.fault ≢ None
+        → IfOk result (λ run. IsUnread (named_inputs inputs.now.texts.items) (report run)) }
+    ensures fault { IfErr result (λ told. (told ≡ ProgramFault.OutOfMemory)
+        ⊎ (HasNulName (named_inputs inputs.now.texts.items) (program_text told))
+        ⊎ ((inputs.now.fault ≡ Some told) × ((read : List merge.Input) × AreReadAs (named_inputs inputs.now.texts.items) read))) }
+{
+    if let Some(name) = name_with_nul(&inputs.texts) {
+        return Err(ProgramFault::CannotOpen(name));
+    }
+    let texts = inputs.lent(alloc)?;
+    match inputs.fault {
+        Some(fault) => plan_msgcat_before(alloc, &texts, fault),
+        None => match plan_msgcat(alloc, &texts, options) {
+            Ok(run) => Ok(run),
+            Err(_) => Err(ProgramFault::OutOfMemory),
+        },
+    }
+}
+
+/// The first name that holds NUL.
+fn name_with_nul<'a>(inputs: &[Input<'a>]) -> Option<&'a str>
+    ensures { MatchOption result (All (λ file. Lacks 0 file.name) (named_inputs inputs.now))
+        (λ name. HasNulName (named_inputs inputs.now) (program_text (ProgramFault.CannotOpen name))) }
+{
+    for input in inputs {
+        if has_nul(input.name) {
+            return Some(input.name);
+        }
+    }
+    None
+}
+
+fn has_nul(name: &str) -> bool
+    ensures { result ≡ list_any (λ b. b == 0) name.now }
+{
+    name.as_bytes().iter().any(|byte| *byte == 0)
 }

@@ -1,6 +1,7 @@
 // What a tool comes to that reads PO texts and writes one.
-ghost use Rattle.std.specs.Prelude.{◌≡◌, ◌≢◌, Err, IfOk, List, OnErr};
+ghost use Rattle.std.specs.Prelude.{◌≡◌, ◌≢◌, All, Err, IfOk, List, OnErr, OnOk};
 ghost use Rattle.po_entry.specs.TextEntry.{TextEntry};
+ghost use Rattle.po_entry.specs.Validity.{IsCatalogueEntry};
 ghost use Rattle.po_tools.specs.FaultText.{text_line};
 ghost use Rattle.po_tools.specs.Run.{refusal, report};
 ghost use Rattle.po_tools.specs.Written.{written_run};
@@ -37,6 +38,7 @@ pub(crate) fn refused_text(
 /// The run of a tool that writes this catalogue: its text, and a file where it has an entry.
 pub(crate) fn written_run(alloc: Global, catalogue: &Catalogue) -> Result<Run, ToolFault>
     ensures run { IfOk result (λ run. report run ≡ written_run catalogue.now) }
+    ensures valid { OnOk result (All IsCatalogueEntry catalogue.now) }
     ensures memory { OnErr result (result ≡ Err ToolFault.OutOfMemory) }
 {
     let Ok(output) = write(alloc, catalogue) else {

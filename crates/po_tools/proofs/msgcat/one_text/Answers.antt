@@ -6,5 +6,5 @@ use Rattle.po_tools.proofs.msgcat.one_text.Goals as goal
 pub returns-in-len1-clause-written : goal.returns-in-len1-clause-written
 returns-in-len1-clause-written c =
     IfOk-weaker c.selected_text.result _ _
-    (λ found. one_input c.args.inputs.now (record { ref_ptr = (0, 0); now = [] }, record { ref_ptr = (0, 0); now = [] }) c.args.options.now found c.in-len1.len_at_least c.in-len1.len_below (sym c.if-keeps_all.ensures) c.nothing_given_selects_all.ensures c.one_input_stays.ensures)
+    (λ found. one_input c.args.inputs.now (record { ref_ptr = (0, 0); now = [] }, record { ref_ptr = (0, 0); now = [] }) c.args.options.now found c.in-len1.len_at_least c.in-len1.len_below (sym c.if-keeps_all.ensures) c.entries_can_stand.ensures c.nothing_given_selects_all.ensures c.one_input_stays.ensures)
     c.selected_text.ensures.written

@@ -1,11 +1,9 @@
-use Rattle.std.proofs.Common.{◌≡◌, ◌∷◌, [], refl, sym, ap, ◌∙◌, subst, inl, inr}
+use Rattle.std.proofs.Common.{[], refl, sym, subst, inl, inr}
 use Rattle.std.specs.Prelude.{All}
-use Rattle.std.proofs.lemmas.List.{length-map}
 use Rattle.std.proofs.lemmas.List.Elements.{All-push}
 use Rattle.po_entry.specs.Bytes.{Lacks}
 use Rattle.po_merge.specs.InputsView.{inputs_of}
-use Rattle.po_tools.specs.NamedFile.{named_file, named_files}
-use Rattle.po_tools.proofs.MsgcatLemmas.{read_more, file_fault, file_at, name_lacks}
+use Rattle.po_tools.proofs.MsgcatLemmas.{read_more, file_fault, name_lacks}
 use Rattle.po_tools.proofs.msgcat.read_files.Goals as goal
 
 pub returns-in-Err-clause-fault : goal.returns-in-Err-clause-fault

@@ -1,8 +1,8 @@
-use Rattle.std.proofs.Common.{◌≡◌, ◌||◌, ◌+◌, Bool, true, false, List, refl, sym, subst, ◌∙◌, ap, ⊎_elim}
+use Rattle.std.proofs.Common.{◌≡◌, ◌||◌, ◌+◌, Bool, List, refl, sym, subst, ◌∙◌, ap, ⊎_elim}
 use Rattle.std.proofs.lemmas.Result.{IfOk-weaker}
 use Rattle.po_tools.specs.Inputs.{named_inputs}
 use Rattle.po_tools.specs.NamedFile.{NamedFile}
-use Rattle.po_tools.proofs.InputLemmas.{Completes, Completes-none, Completes-read, Completes-unread, Completes-all, named-more}
+use Rattle.po_tools.proofs.InputLemmas.{Completes, Completes-read, Completes-unread, Completes-all, named-more}
 use Rattle.po_tools.proofs.inputs.Inputs.read.Goals as goal
 use Rattle.po_tools.proofs.inputs.Inputs.read.Goals.{then-is_stdin_read, else-is_stdin_read}
 

@@ -1,0 +1,75 @@
+// The compiled catalogues of a text domain.
+ghost use Rattle.std.specs.Prelude.{◌≡◌, ◌-◌, ◌^◌, ◌<◌, IfOk, length, map, option_map, take};
+ghost use Rattle.po_tools.specs.Catalogues.{AreCatalogues, IsCatalogueAt, catalogue_file, catalogue_files};
+ghost use Rattle.po_tools.specs.NamedFile.{named_files};
+
+use crate::inputs::{InputSource, Unread};
+use std::alloc::{AllocError, Global};
+use std::str;
+
+/// A compiled catalogue's bytes, with the path that names it in fault lines.
+#[derive(Drop)]
+pub struct CatalogueFile {
+    /// The path of the file.
+    pub path: String,
+    /// What was read.
+    pub bytes: Vec<u8>,
+}
+
+/// Reads the catalogues of these paths, in order. One that can't be read is skipped and not
+/// reported, and so is a path that isn't UTF-8, which is that of no file. Refused only where an
+/// allocation failed.
+pub fn read_catalogues<S: InputSource>(
+    alloc: Global,
+    source: &S,
+    paths: &[Vec<u8>],
+) -> Result<Vec<CatalogueFile>, AllocError>
+    ensures { IfOk result (λ found. AreCatalogues (S.file source.now) (map (λ path. path.items) paths.now) (catalogue_files found.items)) }
+{
+    let mut found = Vec::new(alloc);
+    for path in paths {
+        let Some(catalogue) = read_catalogue(alloc, source, path)? else {
+            continue;
+        };
+        found.push(catalogue)?;
+    }
+    Ok(found)
+}
+
+/// The catalogue at a path, where it can be read.
+fn read_catalogue<S: InputSource>(
+    alloc: Global,
+    source: &S,
+    path: &[u8],
+) -> Result<Option<CatalogueFile>, AllocError>
+    ensures { IfOk result (λ found. IsCatalogueAt (S.file source.now) path.now (option_map catalogue_file found)) }
+{
+    let Ok(name) = str::from_utf8(path) else {
+        return Ok(None);
+    };
+    match source.read_file(alloc, name) {
+        Ok(bytes) => Ok(Some(CatalogueFile {
+            path: String::from_str(alloc, name)?,
+            bytes,
+        })),
+        Err(Unread::OutOfMemory) => Err(AllocError),
+        Err(Unread::CannotOpen | Unread::ReadFault) => Ok(None),
+    }
+}
+
+/// The catalogues, lent, with their paths for names: at most 4,294,967,295, as many as a chain can
+/// count.
+pub fn lent_catalogues(
+    alloc: Global,
+    catalogues: &[CatalogueFile],
+) -> Result<Vec<(&str, &[u8])>, AllocError>
+    ensures lent { IfOk result (λ lent. named_files lent.items ≡ take (2 ^ 32 - 1) (catalogue_files catalogues.now)) }
+    ensures bound { IfOk result (λ lent. length lent.items < 2 ^ 32) }
+{
+    let mut lent = Vec::with_capacity(alloc, catalogues.len())?;
+    for catalogue in catalogues {
+        lent.push((catalogue.path.as_str(), catalogue.bytes.as_slice()))?;
+    }
+    lent.truncate(u32::MAX as usize);
+    Ok(lent)
+}
