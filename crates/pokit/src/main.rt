@@ -5,6 +5,7 @@ mod catalogues;
 mod commands;
 mod environment;
 mod files;
+mod options;
 mod streams;
 mod tools;
 

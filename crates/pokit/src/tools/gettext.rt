@@ -2,14 +2,16 @@
 use crate::catalogues;
 use crate::files::write_run;
 use clap::ArgMatches;
-use po_tools::{GettextOptions, GettextWords, ProgramFault, STANDARD, plan_gettext};
+use po_tools::{
+    GettextOptions, GettextWords, ProgramFault, STANDARD, lent_catalogues, plan_gettext,
+};
 use std::alloc::Global;
 use std::env::Env;
-use std::io::{Print, Write};
+use std::io::{Input, Print, Write};
 use std::rt::Files;
 
 /// Runs `pokit gettext` and gives its status.
-pub(crate) fn run<'a, R: Files + Env + Print, E: Write + Drop>(
+pub(crate) fn run<'a, R: Files + Env + Input + Print, E: Write + Drop>(
     alloc: Global,
     rt: &R,
     errors: E,
@@ -26,7 +28,7 @@ pub(crate) fn run<'a, R: Files + Env + Print, E: Write + Drop>(
         no_newline: matches.get_flag("no-newline"),
         shell,
     };
-    let lent = catalogues::lent(alloc, found.as_slice())?;
+    let lent = lent_catalogues(alloc, found.as_slice())?;
     let run = plan_gettext(alloc, lent.as_slice(), &options)?;
     write_run(rt, errors, &run, STANDARD)
 }

@@ -1,7 +1,8 @@
 // Selects entries of a PO text and changes them.
 use crate::files::{read_one, write_run};
+use crate::options::Options;
 use clap::ArgMatches;
-use po_tools::{ProgramFault, STANDARD, Selection, plan_msgattrib, shown_name};
+use po_tools::{ProgramFault, STANDARD, plan_msgattrib, selection_of, shown_name};
 use std::alloc::Global;
 use std::io::{Input, Print, Write};
 use std::rt::Files;
@@ -16,25 +17,7 @@ pub(crate) fn run<'a, R: Files + Input + Print, E: Write + Drop>(
     let file = matches.get_str("FILE").unwrap_or(STANDARD);
     let output = matches.get_str("output-file").unwrap_or(STANDARD);
     let text = read_one(alloc, rt, file)?;
-    let run = plan_msgattrib(alloc, &text, shown_name(file), &selection_of(matches))?;
+    let selection = selection_of(&Options(matches));
+    let run = plan_msgattrib(alloc, &text, shown_name(file), &selection)?;
     write_run(rt, errors, &run, output)
-}
-
-fn selection_of(matches: &ArgMatches<'_>) -> Selection {
-    let is_fuzzy = matches.get_flag("fuzzy");
-    let is_obsolete = matches.get_flag("obsolete");
-    Selection {
-        translated: matches.get_flag("translated"),
-        untranslated: matches.get_flag("untranslated"),
-        no_fuzzy: matches.get_flag("no-fuzzy"),
-        only_fuzzy: matches.get_flag("only-fuzzy") || is_fuzzy,
-        no_obsolete: matches.get_flag("no-obsolete"),
-        only_obsolete: matches.get_flag("only-obsolete") || is_obsolete,
-        set_fuzzy: matches.get_flag("set-fuzzy"),
-        clear_fuzzy: matches.get_flag("clear-fuzzy") || is_fuzzy,
-        set_obsolete: matches.get_flag("set-obsolete"),
-        clear_obsolete: matches.get_flag("clear-obsolete") || is_obsolete,
-        clear_previous: matches.get_flag("clear-previous"),
-        empty: matches.get_flag("empty"),
-    }
 }

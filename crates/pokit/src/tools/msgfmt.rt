@@ -1,9 +1,9 @@
 // Compiles PO texts.
 use crate::commands::DEFAULT_OUTPUT;
 use crate::files::{System, write_run};
+use crate::options::Options;
 use clap::ArgMatches;
-use mo_file::Order;
-use po_tools::{Inputs, MsgfmtOptions, ProgramFault, plan_msgfmt_of};
+use po_tools::{Inputs, ProgramFault, msgfmt_options_of, plan_msgfmt_of};
 use std::alloc::Global;
 use std::io::{Input, Print, Write};
 use std::rt::Files;
@@ -18,18 +18,7 @@ pub(crate) fn run<'a, R: Files + Input + Print, E: Write + Drop>(
     let files = matches.get_strs("FILE").unwrap_or(&[]);
     let output = matches.get_str("output-file").unwrap_or(DEFAULT_OUTPUT);
     let inputs = Inputs::read(alloc, &System(rt), files)?;
-    let run = plan_msgfmt_of(alloc, &inputs, &options_of(matches))?;
+    let options = msgfmt_options_of(&Options(matches));
+    let run = plan_msgfmt_of(alloc, &inputs, &options)?;
     write_run(rt, errors, &run, output)
-}
-
-fn options_of(matches: &ArgMatches<'_>) -> MsgfmtOptions {
-    MsgfmtOptions {
-        use_fuzzy: matches.get_flag("use-fuzzy"),
-        order: match matches.get_str("endianness") {
-            Some("big") => Order::Big,
-            _ => Order::Little,
-        },
-        statistics: matches.get_flag("statistics"),
-        profile_check: matches.get_flag("profile-check"),
-    }
 }

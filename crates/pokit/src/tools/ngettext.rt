@@ -2,14 +2,16 @@
 use crate::catalogues;
 use crate::files::write_run;
 use clap::ArgMatches;
-use po_tools::{NgettextOptions, NgettextWords, ProgramFault, STANDARD, plan_ngettext};
+use po_tools::{
+    NgettextOptions, NgettextWords, ProgramFault, STANDARD, lent_catalogues, plan_ngettext,
+};
 use std::alloc::Global;
 use std::env::Env;
-use std::io::{Print, Write};
+use std::io::{Input, Print, Write};
 use std::rt::Files;
 
 /// Runs `pokit ngettext` and gives its status.
-pub(crate) fn run<'a, R: Files + Env + Print, E: Write + Drop>(
+pub(crate) fn run<'a, R: Files + Env + Input + Print, E: Write + Drop>(
     alloc: Global,
     rt: &R,
     errors: E,
@@ -25,7 +27,7 @@ pub(crate) fn run<'a, R: Files + Env + Print, E: Write + Drop>(
         plural: words.plural,
         count: words.count,
     };
-    let lent = catalogues::lent(alloc, found.as_slice())?;
+    let lent = lent_catalogues(alloc, found.as_slice())?;
     let run = plan_ngettext(alloc, lent.as_slice(), &options)?;
     write_run(rt, errors, &run, STANDARD)
 }

@@ -1,0 +1,32 @@
+// The options of a command line, as `clap` has parsed them.
+use clap::ArgMatches;
+use po_tools::Arguments;
+
+/// The options that a tool was given.
+#[derive(Clone, Copy)]
+pub(crate) struct Options<'r, 'a>(pub(crate) &'r ArgMatches<'a>);
+
+impl<'r, 'a> Arguments for Options<'r, 'a> {
+    ghost use Rattle.std.specs.Prelude.{◌≡◌, None};
+    ghost use Rattle.clap.specs.Matches.{found_of, first_value, one_text};
+    ghost use Rattle.pokit.specs.Given.{IsFlag};
+
+    ghost flag = { λ options name value. IsFlag (one_text (found_of options.0.now) name) value };
+
+    ghost text = { λ options name value. value ≡ first_value (found_of options.0.now) name };
+
+    ghost number = { λ options name value.
+        (one_text (found_of options.0.now) name ≡ None) → (value ≡ None) };
+
+    fn is_given(&self, name: &str) -> bool {
+        self.0.get_flag(name)
+    }
+
+    fn text_of(&self, name: &str) -> Option<&str> {
+        self.0.get_str(name)
+    }
+
+    fn number_of(&self, name: &str) -> Option<u32> {
+        self.0.get_one(name)
+    }
+}
