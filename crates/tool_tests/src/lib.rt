@@ -9,11 +9,7 @@ mod answers;
 #[cfg(test)]
 mod devices;
 #[cfg(test)]
-mod escapes;
-#[cfg(test)]
 mod locales;
-#[cfg(test)]
-mod messages_of_msgfmt;
 #[cfg(test)]
 mod substitution;
 #[cfg(test)]
