@@ -3,7 +3,7 @@ _pokit() {
     local word=${COMP_WORDS[COMP_CWORD]} before=${COMP_WORDS[COMP_CWORD - 1]} options=
     COMPREPLY=()
     if [ "$COMP_CWORD" -eq 1 ]; then
-        COMPREPLY=($(compgen -W "msgfmt msgunfmt msgattrib msgcat gettext ngettext envsubst -h --help" -- "$word"))
+        COMPREPLY=($(compgen -W "msgfmt msgunfmt msgattrib msgcat gettext ngettext envsubst help -h --help" -- "$word"))
         return
     fi
     case $before in
@@ -24,6 +24,9 @@ _pokit() {
         gettext) options="-d --domain -c --context -e -E -n -s -h --help" ;;
         ngettext) options="-d --domain -c --context -e -E -h --help" ;;
         envsubst) options="-v --variables -h --help" ;;
+        help)
+            COMPREPLY=($(compgen -W "msgfmt msgunfmt msgattrib msgcat gettext ngettext envsubst" -- "$word"))
+            return ;;
     esac
     case $word in
         -*) COMPREPLY=($(compgen -W "$options" -- "$word")) ;;

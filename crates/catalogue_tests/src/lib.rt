@@ -13,6 +13,8 @@ mod compiling;
 #[cfg(test)]
 mod damaged;
 #[cfg(test)]
+mod documented;
+#[cfg(test)]
 mod items;
 #[cfg(test)]
 mod reading;

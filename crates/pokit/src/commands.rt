@@ -1,4 +1,5 @@
-// The words that each tool takes, as `clap` commands.
+// The arguments that each tool takes, as `clap` commands.
+use crate::help;
 use clap::{Arg, ArgAction, Command, value_parser};
 use po_tools::STANDARD;
 use std::alloc::{AllocError, Global};
@@ -27,6 +28,7 @@ pub(crate) fn tool_of(word: &str) -> Option<&'static str> {
 pub(crate) fn program<'a>(alloc: Global, first: Option<&str>) -> Result<Command<'a>, AllocError> {
     let program = Command::new(alloc, "pokit")
         .about("Compiles message catalogues and looks messages up in them")
+        .after_help(help::PROGRAM)
         .disable_version_flag(true)
         .disable_help_subcommand(true)
         .subcommand_required(true);
@@ -52,11 +54,11 @@ pub(crate) fn program<'a>(alloc: Global, first: Option<&str>) -> Result<Command<
 fn msgfmt<'a>(alloc: Global) -> Result<Command<'a>, AllocError> {
     Command::new(alloc, "msgfmt")
         .about("Compiles PO texts to one MO file")
-        .arg(
-            words(alloc, "FILE", "PO texts to join; - is standard input")
-                .num_args(1..)
-                .required(true),
-        )?
+        .after_help(help::MSGFMT)
+        .arg(files(
+            alloc,
+            "PO texts to join, in their order; - is standard input",
+        ))?
         .arg(
             value(
                 alloc,
@@ -74,7 +76,11 @@ fn msgfmt<'a>(alloc: Global) -> Result<Command<'a>, AllocError> {
                 .value_parser(BYTE_ORDERS.as_slice())
                 .default_value("little"),
         )?
-        .arg(flag(alloc, "no-hash", "Write no hash table, as always"))?
+        .arg(flag(
+            alloc,
+            "no-hash",
+            "Accepted for compatibility: no hash table is ever written",
+        ))?
         .arg(flag(
             alloc,
             "profile-check",
@@ -85,6 +91,7 @@ fn msgfmt<'a>(alloc: Global) -> Result<Command<'a>, AllocError> {
 fn msgunfmt<'a>(alloc: Global) -> Result<Command<'a>, AllocError> {
     Command::new(alloc, "msgunfmt")
         .about("Writes the PO text of an MO file")
+        .after_help(help::MSGUNFMT)
         .arg(Arg::new(alloc, "FILE").help("MO file to read; - or none is standard input"))?
         .arg(value(
             alloc,
@@ -93,12 +100,17 @@ fn msgunfmt<'a>(alloc: Global) -> Result<Command<'a>, AllocError> {
             "PO text to write; - or none is standard output",
         )
         .short('o'))?
-        .arg(flag(alloc, "no-wrap", "Wrap no line, as always"))
+        .arg(flag(
+            alloc,
+            "no-wrap",
+            "Accepted for compatibility: no line is ever wrapped",
+        ))
 }
 
 fn msgattrib<'a>(alloc: Global) -> Result<Command<'a>, AllocError> {
     let command = Command::new(alloc, "msgattrib")
         .about("Selects entries of a PO text and changes them")
+        .after_help(help::MSGATTRIB)
         .arg(Arg::new(alloc, "FILE").help("PO text to read; - or none is standard input"))?
         .arg(value(
             alloc,
@@ -107,7 +119,11 @@ fn msgattrib<'a>(alloc: Global) -> Result<Command<'a>, AllocError> {
             "PO text to write; - or none is standard output",
         )
         .short('o'))?
-        .arg(flag(alloc, "no-wrap", "Wrap no line, as always"))?;
+        .arg(flag(
+            alloc,
+            "no-wrap",
+            "Accepted for compatibility: no line is ever wrapped",
+        ))?;
     changes(alloc, conditions(alloc, command)?)
 }
 
@@ -146,11 +162,8 @@ fn changes<'a>(alloc: Global, command: Command<'a>) -> Result<Command<'a>, Alloc
 fn msgcat<'a>(alloc: Global) -> Result<Command<'a>, AllocError> {
     Command::new(alloc, "msgcat")
         .about("Merges PO texts, message by message")
-        .arg(
-            words(alloc, "FILE", "PO texts to merge; - is standard input")
-                .num_args(1..)
-                .required(true),
-        )?
+        .after_help(help::MSGCAT)
+        .arg(files(alloc, "PO texts to merge; - is standard input"))?
         .arg(
             value(
                 alloc,
@@ -161,7 +174,11 @@ fn msgcat<'a>(alloc: Global) -> Result<Command<'a>, AllocError> {
             .short('o')
             .default_value(STANDARD),
         )?
-        .arg(flag(alloc, "no-wrap", "Wrap no lines, as always"))?
+        .arg(flag(
+            alloc,
+            "no-wrap",
+            "Accepted for compatibility: no line is ever wrapped",
+        ))?
         .arg(value(
             alloc,
             "more-than",
@@ -182,21 +199,17 @@ fn msgcat<'a>(alloc: Global) -> Result<Command<'a>, AllocError> {
 
 fn gettext<'a>(alloc: Global) -> Result<Command<'a>, AllocError> {
     look_up(alloc, "gettext", "Prints the translation of a message")?
+        .after_help(help::GETTEXT)
         .override_usage(
             "pokit gettext [OPTIONS] [TEXTDOMAIN] MSGID\n       pokit gettext [OPTIONS] -s [MSGID]...",
         )
-        .arg(words(
-            alloc,
-            "MSGID",
-            "The message, behind its text domain if given",
-        )
-        .num_args(0..))?
+        .arg(forms(alloc, "MSGID"))?
         .arg(switch(alloc, "no-newline", 'n', "With -s, end without a newline"))?
         .arg(switch(
             alloc,
             "shell",
             's',
-            "Translate all words, and end with a newline",
+            "Translate all MSGIDs, and end with a newline",
         ))
 }
 
@@ -206,16 +219,23 @@ fn ngettext<'a>(alloc: Global) -> Result<Command<'a>, AllocError> {
         "ngettext",
         "Prints the translation of a message with a count",
     )?
+    .after_help(help::NGETTEXT)
     .override_usage("pokit ngettext [OPTIONS] [TEXTDOMAIN] MSGID MSGID-PLURAL COUNT")
-    .arg(words(alloc, "MSGID", "The message, its plural, and the count").num_args(0..))
+    .arg(forms(alloc, "MSGID"))
 }
 
 fn envsubst<'a>(alloc: Global) -> Result<Command<'a>, AllocError> {
     Command::new(alloc, "envsubst")
         .about("Puts the values of variables into standard input")
+        .after_help(help::ENVSUBST)
         .override_usage("pokit envsubst [OPTIONS] [SHELL-FORMAT]")
-        .arg(words(alloc, "SHELL-FORMAT", "Replace only the variables in it").num_args(0..))?
-        .arg(flag(alloc, "variables", "Print the names of the variables in it").short('v'))
+        .arg(forms(alloc, "SHELL-FORMAT"))?
+        .arg(flag(
+            alloc,
+            "variables",
+            "Print the names of the variables in SHELL-FORMAT, and read nothing",
+        )
+        .short('v'))
 }
 
 // What gettext and ngettext share.
@@ -224,13 +244,35 @@ fn look_up<'a>(alloc: Global, name: &'a str, about: &'a str) -> Result<Command<'
         .about(about)
         .arg(value(alloc, "domain", "TEXTDOMAIN", "The text domain").short('d'))?
         .arg(value(alloc, "context", "CONTEXT", "The context of the message").short('c'))?
-        .arg(switch(alloc, "expand", 'e', "Expand escapes in the message"))?
-        .arg(switch(alloc, "no-expand", 'E', "No effect"))
+        .arg(switch(
+            alloc,
+            "expand",
+            'e',
+            "Expand escapes such as \\n in the message",
+        ))?
+        .arg(switch(
+            alloc,
+            "no-expand",
+            'E',
+            "Accepted for compatibility, without effect",
+        ))
 }
 
-// Words that are no options.
-fn words<'a>(alloc: Global, id: &'a str, help: &'a str) -> Arg<'a> {
-    Arg::new(alloc, id).help(help).action(ArgAction::Append)
+// The files of a tool that takes one or more.
+fn files<'a>(alloc: Global, help: &'a str) -> Arg<'a> {
+    Arg::new(alloc, "FILE")
+        .help(help)
+        .action(ArgAction::Append)
+        .num_args(1..)
+        .required(true)
+}
+
+// The arguments of a tool that takes them in several forms, which the end of its help lists.
+fn forms<'a>(alloc: Global, id: &'a str) -> Arg<'a> {
+    Arg::new(alloc, id)
+        .action(ArgAction::Append)
+        .num_args(0..)
+        .hide(true)
 }
 
 // An option `--id NAME`.

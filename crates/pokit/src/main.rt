@@ -5,9 +5,11 @@ mod catalogues;
 mod commands;
 mod environment;
 mod files;
+mod help;
 mod options;
 mod streams;
 mod tools;
+mod usage;
 
 use clap::ArgMatches;
 use clap::error::ErrorKind;
@@ -20,15 +22,16 @@ fn main(rt: HostRuntime) -> ExitCode {
         return tell(&rt, None, ProgramFault::CannotOpen(streams::HELD));
     }
     match environment::arguments(rt.alloc(), &rt) {
-        Ok(words) => run(&rt, words.as_slice()),
+        Ok(words) => match usage::spelled_out(rt.alloc(), words.as_slice()) {
+            Ok(words) => run(&rt, words.as_slice()),
+            Err(_) => tell(&rt, None, ProgramFault::OutOfMemory),
+        },
         Err(fault) => tell(&rt, None, fault),
     }
 }
 
-fn run(rt: &HostRuntime, words: &[String]) -> ExitCode {
-    let first = words
-        .get(1)
-        .and_then(|word| commands::tool_of(word.as_str()));
+fn run(rt: &HostRuntime, words: &[&str]) -> ExitCode {
+    let first = words.get(1).and_then(|word| commands::tool_of(*word));
     let parsed = match commands::program(rt.alloc(), first) {
         Ok(command) => command.try_get_matches_from(words),
         Err(_) => return tell(rt, first, ProgramFault::OutOfMemory),
@@ -38,10 +41,14 @@ fn run(rt: &HostRuntime, words: &[String]) -> ExitCode {
         Err(error) if error.kind() == ErrorKind::OutOfMemory => {
             tell(rt, first, ProgramFault::OutOfMemory)
         }
-        Err(error) => {
-            let is_shown = error.print(rt).is_ok();
-            exit_code(is_shown && !error.use_stderr())
+        Err(error) if error.use_stderr() => {
+            let Ok(text) = usage::text_of(rt.alloc(), first, &error) else {
+                return tell(rt, first, ProgramFault::OutOfMemory);
+            };
+            let _ = rt.eprint(&text);
+            ExitCode::FAILURE
         }
+        Err(error) => exit_code(error.print(rt).is_ok()),
     }
 }
 

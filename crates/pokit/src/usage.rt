@@ -1,0 +1,75 @@
+// Faults of the command line, in clap's words, with the advice that fits the tool.
+use clap::Error;
+use std::alloc::{AllocError, Global};
+
+const UNKNOWN: &str = "error: unexpected argument '";
+
+const AS_A_VALUE: &str = "  tip: to pass '";
+
+// Options of GNU's msgfmt that check a text, or show its version.
+static CHECKS: [&str; 8] = [
+    "-c'",
+    "-C'",
+    "-V'",
+    "--check'",
+    "--check-format'",
+    "--check-header'",
+    "--check-domain'",
+    "--version'",
+];
+
+const CHECK_TIP: &str =
+    "  tip: '--profile-check' checks headers, plural forms and newlines; the msgfmt that
+       'make install' puts into libexec/pokit takes GNU's '-c', '--check' and '--version'
+";
+
+/// The command line, where `help TOOL` is spelled out as `TOOL --help`, and `help` as `--help`.
+pub(crate) fn spelled_out(alloc: Global, words: &[String]) -> Result<Vec<&str>, AllocError> {
+    let mut spelled = Vec::with_capacity(alloc, words.len())?;
+    let is_help = words.len() <= 3 && words.get(1).is_some_and(|word| word.as_str() == "help");
+    for word in words {
+        spelled.push(word.as_str())?;
+    }
+    if is_help {
+        spelled.remove(1);
+        spelled.push("--help")?;
+    }
+    Ok(spelled)
+}
+
+/// The text of a fault of the command line. A tool whose arguments are files isn't told to take an
+/// unknown option for one.
+pub(crate) fn text_of(
+    alloc: Global,
+    tool: Option<&str>,
+    error: &Error,
+) -> Result<String, AllocError> {
+    let whole = format!(in alloc; "{error}")?;
+    if !tool.is_some_and(takes_files) {
+        return Ok(whole);
+    }
+    let is_check = tool == Some("msgfmt") && asks_for_check(whole.as_str());
+    let mut text = String::with_capacity(alloc, whole.len())?;
+    let mut is_blank = false;
+    for line in whole.as_str().split_inclusive('\n') {
+        let is_tip = line.starts_with(AS_A_VALUE);
+        if is_tip && is_check {
+            text.push_str(CHECK_TIP)?;
+        } else if !is_tip && !(is_blank && line == "\n") {
+            text.push_str(line)?;
+            is_blank = line == "\n";
+        }
+    }
+    Ok(text)
+}
+
+fn takes_files(tool: &str) -> bool {
+    matches!(tool, "msgfmt" | "msgunfmt" | "msgattrib" | "msgcat")
+}
+
+fn asks_for_check(text: &str) -> bool {
+    match text.strip_prefix(UNKNOWN) {
+        Some(option) => CHECKS.iter().any(|check| option.starts_with(*check)),
+        None => false,
+    }
+}
