@@ -1,6 +1,7 @@
 -- Keys are ordered by their prefixes, where these differ.
 use Rattle.std.proofs.Common.{◌≡◌, ◌≢◌, refl, sym, ap, ap₂, ◌∙◌, ℕ, zero, suc, ◌+◌, ◌*◌, ◌-◌, ◌^◌, ◌<◌, ◌≤◌, List, [], ◌∷◌, drop, get_or, arith, add-one, All}
 use Rattle.std.proofs.Math.Nat.{mul-le-mul_right, one-le-pow, pow-le-pow_right, pow-suc}
+use Rattle.std.proofs.lemmas.Nat.{pow-add}
 use Rattle.std.proofs.Math.Seq.{drop-nil}
 use Rattle.std.specs.Ordering.{nat_cmp, ordering_then, ordering_reverse, MatchOrdering}
 use Rattle.std.specs.declared.cmp.Ordering.{Ordering}
@@ -9,7 +10,7 @@ use Rattle.std.proofs.lemmas.Cmp.{ranked, nat_list_cmp_total}
 use Rattle.std.proofs.lemmas.List.Elements.{All-head, All-tail}
 use Rattle.mo_file.specs.Key.{key_cmp}
 use Rattle.mo_lookup.proofs.RisingLemmas.{equal_is_same}
-use Rattle.po_compile.specs.Prefix.{digits, prefix_of}
+use Rattle.po_compile.specs.Prefix.{digits, prefix_of, second_of}
 
 abbrev pub Bytes : List ℕ → Type 0
 Bytes text = All (λ byte. byte < 256) text
@@ -57,6 +58,26 @@ by_order m n o less equal greater = by_prefix (nat_cmp m n) o (ranked m n (nat_c
   by_prefix Greater Less h less equal greater = absurd (omega (arith, h, less refl))
   by_prefix Greater Equal h less equal greater = absurd (omega (arith, h, equal refl))
   by_prefix Greater Greater h less equal greater = refl
+
+digits_none : (n : ℕ) → digits n [] ≡ 0
+digits_none zero = refl
+digits_none (suc n) = refl
+
+share : (b x y d e : ℕ) → b * (x * y) + (d * y + e) ≡ (b * x + d) * y + e
+share b x y d e = omega arith
+
+-- the first digits and those that follow
+digits_split : (m k n : ℕ) (text : List ℕ) → k ≡ m + n → digits k text ≡ digits m text * 256 ^ n + digits n (drop m text)
+digits_split zero k n text is =
+    let same : k ≡ n = omega (arith, is) in
+    ap (λ j. digits j text) same ∙ omega arith
+digits_split (suc m) zero n text is = absurd (omega (arith, is))
+digits_split (suc m) (suc k) n [] is = rw (drop-nil (suc m)) (rw (digits_none n) (omega arith))
+digits_split (suc m) (suc k) n (byte ∷ text) is =
+    let left : k ≡ m + n = omega (arith, is) in
+    let rest = digits_split m k n text left in
+    let power : 256 ^ k ≡ 256 ^ m * 256 ^ n = ap (λ j. 256 ^ j) left ∙ pow-add 256 m n in
+    ap₂ (λ x d. byte * x + d) power rest ∙ share byte (256 ^ m) (256 ^ n) (digits m text) (digits n (drop m text))
 
 -- prefixes that differ decide as the keys do
 pub prefix_first : (a b : List ℕ) → Bytes a → Bytes b → ordering_then (nat_cmp (prefix_of a) (prefix_of b)) (key_cmp a b) ≡ key_cmp a b
@@ -116,3 +137,39 @@ pub prefix_decides : (m n : ℕ) (a b : List ℕ) → m ≡ prefix_of a → n �
 prefix_decides m n a b first second in_a in_b order is other =
     let by_prefix : order ≡ nat_cmp (prefix_of a) (prefix_of b) = is ∙ ap₂ nat_cmp first second in
     then_decided order (key_cmp a b) other (ap (λ o. ordering_then o (key_cmp a b)) by_prefix ∙ prefix_first a b in_a in_b)
+
+-- thirty-two digits decide as the keys do
+digits_first : (a b : List ℕ) → Bytes a → Bytes b → ordering_then (nat_cmp (digits 32 a) (digits 32 b)) (key_cmp a b) ≡ key_cmp a b
+digits_first a b in_a in_b =
+    by_order (digits 32 a) (digits 32 b) (key_cmp a b)
+    (λ h. digits_rise 32 a b in_a in_b h)
+    (λ h. ap (digits 32) (equal_is_same a b h))
+    (λ h. digits_rise 32 b a in_b in_a (nat_list_cmp_total.antisymm b a ∙ ap ordering_reverse h))
+
+-- numbers with the same first part stand as their second parts do
+same_front : (f m n : ℕ) → nat_cmp (f + m) (f + n) ≡ nat_cmp m n
+same_front f m n = by_parts (nat_cmp m n) (ranked m n (nat_cmp m n) refl) where
+  by_parts : (o : Ordering) → MatchOrdering o (m < n) (m ≡ n) (n < m) → nat_cmp (f + m) (f + n) ≡ o
+  by_parts Less h = by_whole (nat_cmp (f + m) (f + n)) (ranked (f + m) (f + n) (nat_cmp (f + m) (f + n)) refl) h where
+    by_whole : (p : Ordering) → MatchOrdering p (f + m < f + n) (f + m ≡ f + n) (f + n < f + m) → m < n → p ≡ Less
+    by_whole Less g h = refl
+    by_whole Equal g h = absurd (omega (arith, g, h))
+    by_whole Greater g h = absurd (omega (arith, g, h))
+  by_parts Equal h = by_whole (nat_cmp (f + m) (f + n)) (ranked (f + m) (f + n) (nat_cmp (f + m) (f + n)) refl) h where
+    by_whole : (p : Ordering) → MatchOrdering p (f + m < f + n) (f + m ≡ f + n) (f + n < f + m) → m ≡ n → p ≡ Equal
+    by_whole Less g h = absurd (omega (arith, g, h))
+    by_whole Equal g h = refl
+    by_whole Greater g h = absurd (omega (arith, g, h))
+  by_parts Greater h = by_whole (nat_cmp (f + m) (f + n)) (ranked (f + m) (f + n) (nat_cmp (f + m) (f + n)) refl) h where
+    by_whole : (p : Ordering) → MatchOrdering p (f + m < f + n) (f + m ≡ f + n) (f + n < f + m) → n < m → p ≡ Greater
+    by_whole Less g h = absurd (omega (arith, g, h))
+    by_whole Equal g h = absurd (omega (arith, g, h))
+    by_whole Greater g h = refl
+
+pub second_decides : (m n : ℕ) (a b : List ℕ) → m ≡ second_of a → n ≡ second_of b → prefix_of a ≡ prefix_of b → Bytes a → Bytes b → (order : Ordering) → order ≡ nat_cmp m n → order ≢ Equal → order ≡ key_cmp a b
+second_decides m n a b first second same in_a in_b order is other =
+    let whole_a : digits 32 a ≡ prefix_of a * 256 ^ 16 + second_of a = digits_split 16 32 16 a refl in
+    let whole_b : digits 32 b ≡ prefix_of a * 256 ^ 16 + second_of b = digits_split 16 32 16 b refl ∙ ap (λ p. p * 256 ^ 16 + second_of b) (sym same) in
+    let by_digits : order ≡ nat_cmp (digits 32 a) (digits 32 b) =
+    is ∙ ap₂ nat_cmp first second ∙ sym (same_front (prefix_of a * 256 ^ 16) (second_of a) (second_of b)) ∙ sym (ap₂ nat_cmp whole_a whole_b) in
+    then_decided order (key_cmp a b) other (ap (λ o. ordering_then o (key_cmp a b)) by_digits ∙ digits_first a b in_a in_b)

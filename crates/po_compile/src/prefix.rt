@@ -1,5 +1,5 @@
 ghost use Rattle.std.specs.Prelude.{◌≡◌, slice_index_or};
-ghost use Rattle.po_compile.specs.Prefix.{prefix_of};
+ghost use Rattle.po_compile.specs.Prefix.{prefix_of, second_of};
 
 const PREFIX_LEN: usize = 16;
 
@@ -22,4 +22,12 @@ pub(crate) fn prefix_of(key: &[u8]) -> u128
         prefix = prefix * 256 + byte_at(key, place) as u128;
     }
     prefix
+}
+
+/// The sixteen bytes after them, likewise.
+pub(crate) fn second_of(key: &[u8]) -> u128
+    ensures { result ≡ second_of key.now }
+{
+    let (_, rest) = key.split_at(PREFIX_LEN.min(key.len()));
+    prefix_of(rest)
 }

@@ -8,7 +8,7 @@ ghost use Rattle.po_entry.specs.TextEntry.{TextEntry};
 ghost use Rattle.po_compile.specs.Collected.{message_bytes, lengths_of, live_message, row_seen, LiveMessage};
 
 use crate::collecting::Lengths;
-use crate::prefix::prefix_of;
+use crate::prefix::{prefix_of, second_of};
 use crate::row::{Row, compare};
 use mo_file::LentPair;
 use std::alloc::{AllocError, Global};
@@ -31,6 +31,7 @@ fn row_of<'b>(key: &'b [u8], original: &'b [u8], translation: &'b [u8], compiled
 {
     Row {
         prefix: prefix_of(key),
+        second: second_of(key),
         key,
         original,
         translation,
