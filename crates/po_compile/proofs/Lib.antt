@@ -15,3 +15,4 @@ pub mod PartLemmas
 pub mod RowsMean
 pub mod PrefixLemmas
 pub mod RowsRise
+pub mod CollectedLemmas

@@ -9,7 +9,7 @@ ghost use Rattle.po_compile.specs.Collected.{message_bytes, lengths_of, HoldsLiv
 use crate::messages::is_compiled;
 use po_catalog::has_translation;
 use po_entry::Entry;
-use po_reader::{PIECE, Refusal, next_catalogue};
+use po_reader::{PIECE, Refusal, next_messages};
 use po_syntax::Pieces;
 use std::alloc::{AllocError, Global};
 
@@ -120,8 +120,8 @@ fn add_messages(
     Ok(())
 }
 
-/// Collects the messages of the live entries of a text, piece by piece: what else an entry holds is let go before the
-/// next piece is read.
+/// Collects the messages of the live entries of a text, piece by piece. Comments and references aren't read, and what
+/// else an entry holds is let go before the next piece is read.
 pub(crate) fn collect(alloc: Global, text: &[u8], use_fuzzy: bool) -> Result<Collected, Refusal>
     ensures found { IfOk result (ReadsLive use_fuzzy text.now) }
     ensures fault { IfErr result (IsTextRefusal text.now) }
@@ -135,7 +135,7 @@ pub(crate) fn collect(alloc: Global, text: &[u8], use_fuzzy: bool) -> Result<Col
         lengths: Vec::new(alloc),
     };
     while !pieces.are_over() {
-        let piece = next_catalogue(alloc, &mut pieces, PIECE)?;
+        let piece = next_messages(alloc, &mut pieces, PIECE)?;
         add_messages(&mut collected, piece.entries(), use_fuzzy)?;
     }
     Ok(collected)

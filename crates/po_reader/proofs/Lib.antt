@@ -30,3 +30,4 @@ pub mod TextEnds
 pub mod NoMemory
 pub mod PieceReading
 pub mod MetFlags
+pub mod Kept

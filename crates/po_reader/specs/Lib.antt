@@ -3,6 +3,7 @@ pub mod Viable
 pub mod Seen
 pub mod Heads
 pub mod Faults
+pub mod Bare
 pub mod Drafts
 pub mod ItemsRead
 pub mod Refusals

@@ -4,6 +4,8 @@ ghost use Rattle.po_entry.specs.EntryText.{entry_of};
 ghost use Rattle.po_entry.specs.Head.{Note, PreviousText};
 ghost use Rattle.po_entry.specs.Descent.{Reads};
 ghost use Rattle.po_entry.specs.Spelling.{entry_from};
+ghost use Rattle.po_entry.specs.TextEntry.{TextEntry};
+ghost use Rattle.po_reader.specs.Bare.{kept_entry};
 ghost use Rattle.po_reader.specs.Heads.{HoldsHead};
 ghost use Rattle.po_reader.specs.Seen.{body_seen};
 ghost use Rattle.po_reader.specs.Stops.{EntriesStop};
@@ -53,17 +55,23 @@ fn fields_of(alloc: Global, head: Head, body: Body) -> Result<Fields, AllocError
     })
 }
 
-/// The fields of the entries that the items spell, in order; `end` is the line of the last item.
-pub(crate) fn drafts_of(alloc: Global, items: &[Item<'_>], end: u32) -> Result<Vec<Fields>, PoError>
+/// The fields of the entries that the items spell, in order, with their comments and references or
+/// without; `end` is the line of the last item.
+pub(crate) fn drafts_of(
+    alloc: Global,
+    items: &[Item<'_>],
+    end: u32,
+    all: bool,
+) -> Result<Vec<Fields>, PoError>
     requires { length items.now < 2 ^ 32 }
-    ensures found { IfOk result (λ drafts. Reads (views items.now) (map entry_of drafts.items)) }
+    ensures found { IfOk result (λ drafts. (entries : List TextEntry) × Reads (views items.now) entries × (map entry_of drafts.items ≡ map (kept_entry all) entries)) }
     ensures fault { IfErr result (λ e. e.kind ≢ PoFault.OutOfMemory → EntriesStop end (views items.now) e.kind e.line) }
     ensures memory { IfErr result (λ e. e.kind ≡ PoFault.OutOfMemory → e.line ≡ 0) }
 {
     let mut drafts = Vec::new(alloc);
     let mut at = 0;
     loop {
-        let (head, own) = head_of(alloc, items, at, end)?;
+        let (head, own) = head_of(alloc, items, at, end, all)?;
         if own == items.len() {
             return Ok(drafts);
         }

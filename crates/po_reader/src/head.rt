@@ -1,8 +1,10 @@
-ghost use Rattle.std.specs.Prelude.{◌≡◌, ◌≢◌, ◌+◌, ◌<◌, ◌≤◌, ◌++◌, ◌∷◌, [], Some, ℕ, List, drop, length, IfOk, IfErr, OnOk, OnErr, IfSome, MatchResult};
+ghost use Rattle.std.specs.Prelude.{◌≡◌, ◌≢◌, ◌+◌, ◌<◌, ◌≤◌, ◌++◌, ◌∷◌, [], Some, ℕ, List, drop, length, IfOk, IfErr, OnOk, OnErr, IfSome, MatchResult, ◌||◌};
 ghost use Rattle.po_syntax.specs.TextItem.{view, views};
 ghost use Rattle.po_entry.specs.Head.{Note, PreviousText, IsHead, head_step, rank, begins_body};
 ghost use Rattle.po_entry.specs.Head as spec;
-ghost use Rattle.po_entry.specs.Notes.{with_previous};
+ghost use Rattle.po_entry.specs.Notes.{same_kind, with_previous};
+ghost use Rattle.po_syntax.specs.declared.item.CommentKind.TheVariants.{Flags};
+ghost use Rattle.po_reader.specs.Bare.{kept_notes};
 ghost use Rattle.po_reader.specs.Stops.{HeadStops};
 ghost use Rattle.po_reader.specs.Seen.{head_seen};
 ghost use Rattle.po_reader.specs.Heads.{HoldsHead, HoldsNotes};
@@ -82,8 +84,32 @@ fn step_at<'i>(items: &'i [Item<'_>], at: usize, above: u32) -> Result<Step<'i>,
     }
 }
 
-/// Adds a comment to the fields of its kind.
+/// Whether comments of a kind are wanted: all are, or only flags.
+fn is_kept(all: bool, kind: CommentKind) -> bool
+    ensures { result ≡ (all || same_kind Flags kind) }
+{
+    all || matches!(kind, CommentKind::Flags)
+}
+
+/// Adds a comment to the fields of its kind, where it is wanted.
 fn add_note(
+    alloc: Global,
+    head: &mut Head,
+    all: bool,
+    kind: CommentKind,
+    text: &[u8],
+) -> Result<(), AllocError>
+    ensures notes { OnOk result ((notes : List Note) → HoldsNotes head.old (kept_notes all notes) → HoldsNotes head.new (kept_notes all (notes ++ (record { kind = kind; text = text.now }) ∷ []))) }
+    ensures previous { OnOk result (head.new.previous ≡ head.old.previous) }
+{
+    if is_kept(all, kind) {
+        add_kept_note(alloc, head, kind, text)?;
+    }
+    Ok(())
+}
+
+/// Adds a comment to the fields of its kind.
+fn add_kept_note(
     alloc: Global,
     head: &mut Head,
     kind: CommentKind,
@@ -113,16 +139,17 @@ fn set_previous(previous: &mut Previous, keyword: Keyword, text: Vec<u8>)
     }
 }
 
-/// What stands before an entry's own lines from a place on, and the place of those lines, or of
-/// the end of the items.
+/// What stands before an entry's own lines from a place on, all of it or without comments other than
+/// flags; and the place of those lines, or of the end of the items.
 pub(crate) fn head_of(
     alloc: Global,
     items: &[Item<'_>],
     from: usize,
     end: u32,
+    all: bool,
 ) -> Result<(Head, usize), PoError>
     requires { from ≤ length items.now }
-    ensures found { IfOk result (λ p. (notes : List Note) × (previous : List PreviousText) × IsHead 0 (views (drop from items.now)) notes previous (views (drop p.1 items.now)) × HoldsHead p.0 notes previous) }
+    ensures found { IfOk result (λ p. (notes : List Note) × (previous : List PreviousText) × IsHead 0 (views (drop from items.now)) notes previous (views (drop p.1 items.now)) × HoldsHead p.0 (kept_notes all notes) previous) }
     ensures within { IfOk result (λ p. p.1 ≤ length items.now) }
     ensures behind { IfOk result (λ p. from ≤ p.1) }
     ensures fault { IfErr result (λ e. e.kind ≢ PoFault.OutOfMemory → HeadStops end 0 (views (drop from items.now)) e.kind e.line) }
@@ -142,7 +169,7 @@ pub(crate) fn head_of(
             Err(kind) => return Err(refusal(items, at, end, kind)),
             Ok(Step::Over) => return Ok((head, at)),
             Ok(Step::Remark(kind, text)) => {
-                add_note(alloc, &mut head, kind, text)?;
+                add_note(alloc, &mut head, all, kind, text)?;
                 at += 1;
             }
             Ok(Step::Previous(keyword, marks)) => {

@@ -4,6 +4,8 @@ ghost use Rattle.po_syntax.specs.TextItem.{views};
 ghost use Rattle.po_entry.specs.EntryText.{entry_of};
 ghost use Rattle.po_entry.specs.Header.{HasAdmittedCharset};
 ghost use Rattle.po_entry.specs.Validity.{IsEntry, HasTexts};
+ghost use Rattle.po_entry.specs.TextEntry.{TextEntry};
+ghost use Rattle.po_reader.specs.Bare.{without_comments};
 ghost use Rattle.po_reader.specs.Drafts.{DraftsStop};
 ghost use Rattle.po_reader.specs.Faults.{CharsetStops};
 ghost use Rattle.po_reader.specs.ItemsRead.{ReadsItems, ItemsStop};
@@ -23,7 +25,20 @@ pub(crate) fn catalogue_of_items(alloc: Global, items: Vec<Item<'_>>) -> Result<
     ensures fault { IfErr result (λ e. e.kind ≢ PoFault.OutOfMemory → ItemsStop (views items.entry.items) e.kind e.line) }
     ensures memory { IfErr result (λ e. e.kind ≡ PoFault.OutOfMemory → e.line ≡ 0) }
 {
-    let drafts = drafts_of(alloc, &items, last_line(&items))?;
+    let drafts = drafts_of(alloc, &items, last_line(&items), true)?;
+    drop(items);
+    check_drafts(&drafts)?;
+    catalogue_of(alloc, drafts)
+}
+
+/// The catalogue of the entries that items spell, without their comments and references.
+pub(crate) fn messages_of_items(alloc: Global, items: Vec<Item<'_>>) -> Result<Catalogue, PoError>
+    requires hold { All HoldsText (views items.items) }
+    requires few { vec_len items ≤ 2 ^ 31 }
+    ensures found { IfOk result (λ messages. (entries : List TextEntry) × ReadsItems (views items.entry.items) entries × (messages ≡ map without_comments entries)) }
+    ensures memory { IfErr result (λ e. e.kind ≡ PoFault.OutOfMemory → e.line ≡ 0) }
+{
+    let drafts = drafts_of(alloc, &items, 0, false)?;
     drop(items);
     check_drafts(&drafts)?;
     catalogue_of(alloc, drafts)

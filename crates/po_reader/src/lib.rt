@@ -15,5 +15,5 @@ mod reading;
 mod strings;
 mod words;
 
-pub use crate::piecewise::{Refusal, next_catalogue};
+pub use crate::piecewise::{Refusal, next_catalogue, next_messages};
 pub use crate::reading::{PIECE, read, read_in_pieces, read_whole};

@@ -1,11 +1,12 @@
-ghost use Rattle.std.specs.Prelude.{◌≡◌, ◌≢◌, ◌<◌, ◌++◌, [], List, ℕ, IfOk, IfErr, OnOk, length};
+ghost use Rattle.std.specs.Prelude.{◌≡◌, ◌≢◌, ◌<◌, ◌++◌, [], List, ℕ, IfOk, IfErr, OnOk, map, length};
 ghost use Rattle.po_syntax.specs.declared.fault.PoFault.{PoFault};
 ghost use Rattle.po_syntax.specs.LinesLeft.{LinesLeft, LeftStops};
 ghost use Rattle.po_entry.specs.TextEntry.{TextEntry};
 ghost use Rattle.po_entry.specs.Reads.{ReadsLeft, ReadsText};
+ghost use Rattle.po_reader.specs.Bare.{without_comments};
 ghost use Rattle.po_reader.specs.Refusals.{IsLeftRefusal, IsTextRefusal};
 
-use crate::items::catalogue_of_items;
+use crate::items::{catalogue_of_items, messages_of_items};
 use po_entry::Catalogue;
 use po_syntax::{Pieces, PoError, PoFault};
 use std::alloc::{AllocError, Global};
@@ -52,6 +53,28 @@ pub fn next_catalogue(
     };
     match catalogue_of_items(alloc, items) {
         Ok(catalogue) => Ok(catalogue),
+        Err(error) => Err(refusal_of(error)),
+    }
+}
+
+/// The entries of the next piece without their comments and references, where only their messages are wanted. They are
+/// those that `next_catalogue` reads.
+pub fn next_messages(
+    alloc: Global,
+    pieces: &mut Pieces<'_>,
+    size: usize,
+) -> Result<Catalogue, Refusal>
+    ensures found { IfOk result (λ messages. (entries : List TextEntry) × (messages ≡ map without_comments entries) × ((more : List TextEntry) → ReadsLeft pieces.new more → ReadsLeft pieces.old (entries ++ more))) }
+    ensures stops { OnOk result ((fault : PoFault) (line : ℕ) → LeftStops pieces.new fault line → LeftStops pieces.old fault line) }
+    ensures fewer { OnOk result (pieces.old.lines ≢ [] → length pieces.new.lines < length pieces.old.lines) }
+    ensures fault { IfErr result (IsLeftRefusal pieces.old) }
+{
+    let items = match pieces.next(alloc, size) {
+        Ok(items) => items,
+        Err(error) => return Err(Refusal::Fault(error)),
+    };
+    match messages_of_items(alloc, items) {
+        Ok(messages) => Ok(messages),
         Err(error) => Err(refusal_of(error)),
     }
 }

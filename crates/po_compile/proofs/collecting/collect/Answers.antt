@@ -1,5 +1,6 @@
-use Rattle.std.proofs.Common.{[], ◌++◌, refl, append-nil, append_assoc}
+use Rattle.std.proofs.Common.{[], ◌++◌, append-nil, append_assoc}
 use Rattle.po_reader.proofs.PieceReading.{left_over, whole_left}
+use Rattle.po_compile.proofs.CollectedLemmas.{holds_whole}
 use Rattle.po_compile.proofs.collecting.collect.Goals as goal
 
 pub loop-pieces-init : goal.loop-pieces-init
@@ -11,11 +12,13 @@ loop-pieces-init c = record {
 pub loop-pieces-preserved : goal.loop-pieces-preserved
 loop-pieces-preserved c =
     let so_far = c.loop-pieces.invariant.reads in
+    let piece = c.in_ok-piece.ensures.found in
+    let added = rw (c.entries.ensures.entries, piece.1) at (c.in_ok-add_messages.ensures so_far.0 so_far.2) in
     record {
       reads = (
-        so_far.0 ++ c.in_ok-piece.piece,
-        λ more h. rw append_assoc (so_far.1 (c.in_ok-piece.piece ++ more) (c.in_ok-piece.ensures.found more h)),
-        rw c.entries.ensures.entries at (c.in_ok-add_messages.ensures so_far.0 so_far.2),
+        so_far.0 ++ piece.0,
+        λ more h. rw append_assoc (so_far.1 (piece.0 ++ more) (piece.2 more h)),
+        holds_whole c.args.use_fuzzy so_far.0 piece.0 _ added,
       );
       stops = λ fault line h. c.loop-pieces.invariant.stops fault line (c.in_ok-piece.ensures.stops fault line h);
     }

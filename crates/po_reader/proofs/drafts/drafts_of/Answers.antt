@@ -1,7 +1,12 @@
-use Rattle.std.proofs.Common.{◌<◌, [], length, append_assoc, arith, inl, inr}
+use Rattle.std.proofs.Common.{◌<◌, [], ◌∷◌, ◌++◌, ◌∙◌, ap, length, append_assoc, arith, inl, inr}
 use Rattle.std.proofs.lemmas.Result.{err_from_is_err_and}
 use Rattle.std.proofs.lemmas.List.{append-nil, map_push}
 use Rattle.po_entry.specs.Descent.Reads.{comments, entry}
+use Rattle.po_entry.specs.TextEntry.{TextEntry}
+use Rattle.po_entry.specs.Spelling.{entry_from}
+use Rattle.po_reader.specs.Bare.{kept_notes, kept_entry}
+use Rattle.po_reader.specs.Seen.{body_seen}
+use Rattle.po_reader.proofs.Kept.{kept_from}
 use Rattle.po_reader.specs.Stops.EntriesStop.{in_head, in_body, later}
 use Rattle.po_reader.proofs.HeadEnds.{head_over, over_cases, head_at_end}
 use Rattle.po_reader.proofs.Places.{none_at_end, some_before_end}
@@ -15,8 +20,9 @@ returns-in_err-head-clause-fault c =
 pub returns-then-own-items-clause-found : goal.returns-then-own-items-clause-found
 returns-then-own-items-clause-found c =
     let ends = head_at_end c.in_ok-head.ensures.found.2 (none_at_end _ _ c.if-own-items.true) in
-    let whole = c.loop-drafts.invariant.spelt [] (comments ends.1) in
-    rw append-nil at whole
+    let spelt = c.loop-drafts.invariant.spelt in
+    let whole = spelt.1 [] (comments ends.1) in
+    (spelt.0, rw append-nil at whole, spelt.2)
 
 pub body_of-requires-clause-begins : goal.body_of-requires-clause-begins
 body_of-requires-clause-begins c =
@@ -32,9 +38,16 @@ returns-in_err-body-clause-fault c =
 pub loop-drafts-preserved : goal.loop-drafts-preserved
 loop-drafts-preserved c =
     let head = c.in_ok-head.ensures.found in
-    let made = c.in_ok-fields_of.ensures head.0 head.1 head.3 in
+    let body = body_seen c.in_ok-body.body in
+    let made = c.in_ok-fields_of.ensures (kept_notes c.args.all head.0) head.1 head.3 ∙ kept_from c.args.all head.0 head.1 body in
+    let spelt = c.loop-drafts.invariant.spelt in
+    let first : TextEntry = entry_from head.0 head.1 body in
     record {
-      spelt = λ more h. rw (c.in_ok-push.ensures.items, map_push, made, append_assoc) (c.loop-drafts.invariant.spelt _ (entry head.2 c.in_ok-body.ensures.found h));
+      spelt = (
+        spelt.0 ++ first ∷ [],
+        λ more h. rw append_assoc (spelt.1 (first ∷ more) (entry head.2 c.in_ok-body.ensures.found h)),
+        rw (c.in_ok-push.ensures.items, map_push, map_push, made) (ap (λ es. es ++ kept_entry c.args.all first ∷ []) spelt.2),
+      );
       stops = λ fault line h. c.loop-drafts.invariant.stops _ _ (later head.2 c.in_ok-body.ensures.found h);
       within = c.in_ok-body.ensures.within;
     }

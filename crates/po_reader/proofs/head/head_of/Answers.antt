@@ -4,12 +4,14 @@ use Rattle.std.proofs.lemmas.List.{append-nil}
 use Rattle.po_entry.specs.Head.{Note, PreviousText}
 use Rattle.po_entry.specs.Head.IsHead.{over, remark, previous}
 use Rattle.po_reader.specs.Stops.HeadStops.{refused, in_previous, behind_remark, behind_previous}
+use Rattle.po_reader.specs.Bare.{kept_notes}
 use Rattle.po_reader.proofs.Heads.{holds_nothing, holds_previous}
+use Rattle.po_reader.proofs.Kept.{kept_nothing}
 use Rattle.po_reader.proofs.head.head_of.Goals as goal
 
 pub loop-kind-init : goal.loop-kind-init
 loop-kind-init c = record {
-  spelt = ([], [], holds_nothing _ c.new.ensures.items c.new-2.ensures.items c.new-3.ensures.items c.new-4.ensures.items c.none.ensures, λ more others rest h. h);
+  spelt = ([], [], rw (kept_nothing c.args.all) (holds_nothing _ c.new.ensures.items c.new-2.ensures.items c.new-3.ensures.items c.new-4.ensures.items c.none.ensures), λ more others rest h. h);
   stops = λ fault line h. h;
   within = c.requires;
   behind = omega arith;
@@ -60,7 +62,7 @@ loop-kind-preserved c =
       spelt = (
         spelt.0,
         spelt.1 ++ text ∷ [],
-        holds_previous c.loop-kind.head c.set_previous.new.previous spelt.0 spelt.1 text spelt.2 c.set_previous.ensures,
+        holds_previous c.loop-kind.head c.set_previous.new.previous (kept_notes c.args.all spelt.0) spelt.1 text spelt.2 c.set_previous.ensures,
         λ more others rest h. rw append_assoc (spelt.3 more (text ∷ others) rest (previous step strings (rw c.rank-above.ensures at h))),
       );
       stops = λ fault line h. c.loop-kind.invariant.stops _ _ (behind_previous step strings (rw c.rank-above.ensures at h));

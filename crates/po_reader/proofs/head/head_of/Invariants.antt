@@ -4,11 +4,12 @@ use Rattle.po_syntax.specs.TextItem.{TextItem, views}
 use Rattle.po_entry.specs.Head.{Note, PreviousText, IsHead}
 use Rattle.po_reader.specs.Stops.{HeadStops}
 use Rattle.po_reader.specs.Heads.{HoldsHead}
+use Rattle.po_reader.specs.Bare.{kept_notes}
 use Rattle.po_reader.proofs.head.head_of.Given as goal
 
 abbrev pub invariant-loop-kind : goal.invariant-loop-kind
 invariant-loop-kind l = record {
-  spelt : (notes : List Note) × (previous : List PreviousText) × HoldsHead l.head notes previous
+  spelt : (notes : List Note) × (previous : List PreviousText) × HoldsHead l.head (kept_notes l.all notes) previous
       × ((more : List Note) (others : List PreviousText) (rest : List TextItem) → IsHead l.above (views (drop l.at l.items)) more others rest → IsHead 0 (views (drop l.from l.items)) (notes ++ more) (previous ++ others) rest);
   stops : (fault : PoFault) (line : ℕ) → HeadStops l.end l.above (views (drop l.at l.items)) fault line → HeadStops l.end 0 (views (drop l.from l.items)) fault line;
   within : l.at ≤ length l.items;

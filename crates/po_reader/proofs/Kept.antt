@@ -1,0 +1,115 @@
+-- What is kept of the notes of entries, and of the entries.
+use Rattle.std.proofs.Common.{◌≡◌, ℕ, Bool, true, false, cond, List, [], ◌∷◌, filter, map, refl, sym, subst, ap, ◌∙◌}
+use Rattle.std.specs.Prelude.{All, flat_map, fold}
+use Rattle.std.specs.List.{list_any}
+use Rattle.std.proofs.lemmas.List.Elements.{All-nil, All-cons, All-head, All-tail}
+use Rattle.po_syntax.specs.declared.item.CommentKind.{CommentKind}
+use Rattle.po_syntax.specs.declared.item.CommentKind.TheVariants.{Translator, Extracted, Reference, Flags}
+use Rattle.po_syntax.specs.TextItem.{TextItem}
+use Rattle.po_entry.specs.TextEntry.{TextEntry}
+use Rattle.po_entry.specs.Body.{Body}
+use Rattle.po_entry.specs.Descent.{Reads}
+use Rattle.po_entry.specs.Head.{Note, PreviousText}
+use Rattle.po_entry.specs.Header.{HasAdmittedCharset}
+use Rattle.po_entry.specs.Notes.{same_kind, texts_of, words_of, flag_words, is_fuzzy_word, with_flag, previous_of}
+use Rattle.po_entry.specs.Reads.{HasReadableTexts}
+use Rattle.po_entry.specs.Spelling.{entry_from}
+use Rattle.po_entry.specs.Validity.{IsComment, IsTranslatorComment, IsReference}
+use Rattle.po_reader.specs.Bare.{kept_notes, kept_entry, without_comments}
+use Rattle.po_reader.proofs.SoundCatalogue.{SoundEntry}
+
+abbrev is_flags : Note → Bool
+is_flags note = same_kind Flags note.kind
+
+pub kept_nothing : (all : Bool) → kept_notes all [] ≡ []
+kept_nothing true = refl
+kept_nothing false = refl
+
+flags_kind : (kind : CommentKind) → same_kind Flags kind ≡ true → Flags ≡ kind
+flags_kind Translator e = cc
+flags_kind Extracted e = cc
+flags_kind Reference e = cc
+flags_kind Flags e = refl
+
+none_of : (kind : CommentKind) → same_kind kind Flags ≡ false → (notes : List Note) → texts_of kind (filter is_flags notes) ≡ []
+none_of kind other [] = refl
+none_of kind other (note ∷ notes) = found (same_kind Flags note.kind) refl (none_of kind other notes) where
+  found : (t : Bool) → same_kind Flags note.kind ≡ t → texts_of kind (filter is_flags notes) ≡ [] → texts_of kind (cond t (note ∷ filter is_flags notes) (filter is_flags notes)) ≡ []
+  found true t more =
+      let differs : same_kind kind note.kind ≡ false = subst (λ k. same_kind kind k ≡ false) (flags_kind note.kind t) other in
+      ap (λ b. map (λ (n : Note). n.text) (cond b (note ∷ filter (λ (n : Note). same_kind kind n.kind) (filter is_flags notes)) (filter (λ (n : Note). same_kind kind n.kind) (filter is_flags notes)))) differs ∙ more
+  found false t more = more
+
+flags_kept : (notes : List Note) → texts_of Flags (filter is_flags notes) ≡ texts_of Flags notes
+flags_kept [] = refl
+flags_kept (note ∷ notes) = found (same_kind Flags note.kind) refl (flags_kept notes) where
+  found : (t : Bool) → same_kind Flags note.kind ≡ t → texts_of Flags (filter is_flags notes) ≡ texts_of Flags notes
+      → texts_of Flags (cond t (note ∷ filter is_flags notes) (filter is_flags notes)) ≡ map (λ (n : Note). n.text) (cond t (note ∷ filter is_flags notes) (filter is_flags notes))
+  found true t more =
+      ap (λ b. map (λ (n : Note). n.text) (cond b (note ∷ filter is_flags (filter is_flags notes)) (filter is_flags (filter is_flags notes)))) t ∙ ap (λ ts. note.text ∷ ts) more
+  found false t more = more
+
+abbrev entry_with : List PreviousText → Body → (comments extracted references flags : List (List ℕ)) → TextEntry
+entry_with previous body comments extracted references flags = record {
+  comments = comments;
+  extracted = extracted;
+  references = flat_map words_of references;
+  fuzzy = list_any is_fuzzy_word (flat_map flag_words flags);
+  flags = fold with_flag [] (flat_map flag_words flags);
+  previous = previous_of previous;
+  context = body.context;
+  id = body.id;
+  plural = body.plural;
+  forms = body.forms;
+  obsolete = body.obsolete;
+  line = body.line;
+}
+
+-- the entry that is made of the notes that are kept
+pub kept_from : (all : Bool) (notes : List Note) (previous : List PreviousText) (body : Body) → entry_from (kept_notes all notes) previous body ≡ kept_entry all (entry_from notes previous body)
+kept_from true notes previous body = refl
+kept_from false notes previous body =
+    let kept : List Note = filter is_flags notes in
+    ap (λ ts. entry_with previous body ts (texts_of Extracted kept) (texts_of Reference kept) (texts_of Flags kept)) (none_of Translator refl notes)
+    ∙ ap (λ ts. entry_with previous body [] ts (texts_of Reference kept) (texts_of Flags kept)) (none_of Extracted refl notes)
+    ∙ ap (λ ts. entry_with previous body [] [] ts (texts_of Flags kept)) (none_of Reference refl notes)
+    ∙ ap (λ ts. entry_with previous body [] [] [] ts) (flags_kept notes)
+
+all_kept : (entries : List TextEntry) → map (kept_entry true) entries ≡ entries
+all_kept [] = refl
+all_kept (entry ∷ entries) = ap (λ es. entry ∷ es) (all_kept entries)
+
+-- where all is kept, the items spell what was made
+pub whole_reads : (items : List TextItem) (entries made : List TextEntry) → Reads items entries → made ≡ map (kept_entry true) entries → Reads items made
+whole_reads items entries made reads is = subst (Reads items) (sym (is ∙ all_kept entries)) reads
+
+-- without their comments, sound entries are sound
+pub bare_sound : (entries : List TextEntry) → All SoundEntry entries → All SoundEntry (map without_comments entries)
+bare_sound [] h = All-nil SoundEntry
+bare_sound (entry ∷ entries) h =
+    let first : SoundEntry entry = All-head SoundEntry entry entries h in
+    All-cons SoundEntry (without_comments entry) (map without_comments entries) (record {
+      comments = All-nil IsTranslatorComment;
+      extracted = All-nil IsComment;
+      references = All-nil IsReference;
+      flags = first.flags;
+      distinct_flags = first.distinct_flags;
+      quoted_lack = first.quoted_lack;
+      some_form = first.some_form;
+      one_form = first.one_form;
+    }) (bare_sound entries (All-tail SoundEntry entry entries h))
+
+-- entries whose texts can be read without their comments
+pub bare_readable : (entries : List TextEntry) → All HasReadableTexts (map without_comments entries) → All HasReadableTexts entries
+bare_readable [] h = All-nil HasReadableTexts
+bare_readable (entry ∷ entries) h =
+    let first : HasReadableTexts (without_comments entry) = All-head HasReadableTexts (without_comments entry) (map without_comments entries) h in
+    All-cons HasReadableTexts entry entries (record { utf8 = first.utf8; no_eot = record { context = first.no_eot.context; id = first.no_eot.id } })
+    (bare_readable entries (All-tail HasReadableTexts (without_comments entry) (map without_comments entries) h))
+
+-- headers whose charsets are admitted without their comments
+pub bare_admitted : (entries : List TextEntry) → All HasAdmittedCharset (map without_comments entries) → All HasAdmittedCharset entries
+bare_admitted [] h = All-nil HasAdmittedCharset
+bare_admitted (entry ∷ entries) h =
+    All-cons HasAdmittedCharset entry entries (All-head HasAdmittedCharset (without_comments entry) (map without_comments entries) h)
+    (bare_admitted entries (All-tail HasAdmittedCharset (without_comments entry) (map without_comments entries) h))

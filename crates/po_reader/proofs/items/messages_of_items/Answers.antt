@@ -1,0 +1,35 @@
+use Rattle.std.proofs.Common.{◌∙◌, subst, sym}
+use Rattle.std.specs.Prelude.{All}
+use Rattle.std.proofs.lemmas.Result.{err_from_is_err_and}
+use Rattle.po_entry.specs.Header.{HasAdmittedCharset}
+use Rattle.po_entry.specs.Reads.{HasReadableTexts}
+use Rattle.po_entry.proofs.Spelt.{reads_spelt}
+use Rattle.po_reader.proofs.SoundItems.{items_sound}
+use Rattle.po_reader.proofs.SoundCatalogue.{SoundEntry, entries_sound, drafts_valid, all_readable, draft_kind}
+use Rattle.po_reader.proofs.Kept.{bare_sound, bare_readable, bare_admitted}
+use Rattle.po_reader.proofs.Results.{ok_both, ok_step}
+use Rattle.po_reader.proofs.items.messages_of_items.Goals as goal
+
+pub returns-in_err-check_drafts-clause-memory : goal.returns-in_err-check_drafts-clause-memory
+returns-in_err-check_drafts-clause-memory c =
+    let p = err_from_is_err_and c.from_residual-in_err-check_drafts.result c.from_residual-in_err-check_drafts.ensures.1 in
+    rw (p.1, p.2) (λ memory. absurd (draft_kind c.in_err-check_drafts.ensures.fault memory))
+
+pub catalogue_of-requires : goal.catalogue_of-requires
+catalogue_of-requires c =
+    let spelt = rw c.deref.ensures.value at c.in_ok-drafts.ensures.found in
+    let sound = subst (All SoundEntry) (sym spelt.2) (bare_sound spelt.0 (entries_sound spelt.1 (items_sound _ c.requires.hold))) in
+    let asked = rw c.deref-2.ensures.value at c.in_ok-check_drafts.ensures.ok in
+    drafts_valid _ sound asked
+
+pub returns-clause-found : goal.returns-clause-found
+returns-clause-found c =
+    let spelt = rw c.deref.ensures.value at c.in_ok-drafts.ensures.found in
+    let asked = rw c.deref-2.ensures.value at c.in_ok-check_drafts.ensures.ok in
+    let readable = bare_readable spelt.0 (subst (All HasReadableTexts) spelt.2 (all_readable c.in_ok-drafts.drafts.items asked)) in
+    let admitted = ok_step c.catalogue_of.result (λ _ charsets. bare_admitted spelt.0 (subst (All HasAdmittedCharset) spelt.2 charsets)) c.catalogue_of.ensures.charsets in
+    ok_both c.catalogue_of.result (λ made is charsets. (
+      spelt.0,
+      record { reads = reads_spelt spelt.1; texts = readable; charsets = charsets },
+      is ∙ spelt.2,
+    )) c.catalogue_of.ensures.entries admitted
