@@ -111,6 +111,7 @@ fn node_at(table: &[Node], place: usize) -> Shape
 
 /// Visits the node at an index: a leaf has its value, and any other node waits for its first operand.
 #[tactic(auto, using(crate::proofs::Frames::visits_not, crate::proofs::Frames::visits_binary, crate::proofs::Frames::visits_conditional, crate::proofs::Frames::remaining_more, crate::proofs::Frames::frames_more))]
+#[inline(always)]
 fn visit<const DEPTH: usize>(
     table: &[Node],
     place: usize,
@@ -154,6 +155,7 @@ fn visit<const DEPTH: usize>(
 
 /// Hands a value to the nodes that wait for it, up to one that needs a further operand.
 #[tactic(auto, using(crate::proofs::Frames::finished_more, crate::proofs::Frames::remaining_more, crate::proofs::Frames::frames_more, crate::proofs::Frames::frames_split, crate::proofs::Frames::finished_undefined, crate::proofs::Frames::resumed_second))]
+#[inline(always)]
 fn resume<const DEPTH: usize>(frames: &mut Frames<DEPTH>, operand: u64) -> Step
     requires room { array_vec_len frames.old ≤ DEPTH }
     requires size { DEPTH ≤ expression_limit }
