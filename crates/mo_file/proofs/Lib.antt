@@ -1,3 +1,5 @@
+pub mod AgreementLemmas
+pub mod KeyComparison
 pub mod KeyLemmas
 pub mod FaultLemmas
 pub mod FaultTotality

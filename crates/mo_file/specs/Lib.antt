@@ -1,5 +1,6 @@
 pub mod Message
 pub mod Key
+pub mod Agreement
 pub mod Word
 pub mod Header
 pub mod StringTable

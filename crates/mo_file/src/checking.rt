@@ -5,8 +5,8 @@ ghost use Rattle.mo_file.specs.Checking.{HasStrings, IsHeader, IsSortedBelow};
 use crate::counting::Meter;
 use crate::fault::MoError;
 use crate::header::Header;
-use crate::strings::{key_at, range_at};
-use std::cmp::Ordering;
+use crate::key::is_below;
+use crate::strings::{range_at, text_at};
 
 /// Sees that each string lies inside the file and that a NUL follows it.
 pub(crate) fn check_strings(header: Header, bytes: &[u8]) -> Result<(), MoError>
@@ -55,14 +55,14 @@ pub(crate) fn check_order(header: Header, bytes: &[u8], meter: &mut Meter) -> Re
     if header.count == 0 {
         return Ok(());
     }
-    let mut key = key_at(header, bytes, 0);
+    let mut text = text_at(header, bytes, 0);
     for i in 0..header.count - 1 {
-        let next = key_at(header, bytes, i + 1);
+        let next = text_at(header, bytes, i + 1);
         meter.add_one();
-        match key.cmp(next) {
-            Ordering::Less => key = next,
-            _ => return Err(MoError::NotSorted(i + 1)),
+        if !is_below(text, next) {
+            return Err(MoError::NotSorted(i + 1));
         }
+        text = next;
     }
     Ok(())
 }

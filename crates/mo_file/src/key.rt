@@ -1,8 +1,9 @@
-ghost use Rattle.std.specs.Prelude.{◌≡◌, ◌∷◌};
+ghost use Rattle.std.specs.Prelude.{◌≡◌, ◌↔◌, IsTrue};
 ghost use Rattle.std.specs.Option.{option_copied};
+ghost use Rattle.std.specs.declared.cmp.Ordering.TheVariants.{Less};
 ghost use Rattle.mo_file.specs.Key.{key_cmp, key_of, query_key};
 
-use memchr::memchr;
+use crate::agreement::{agreement_len, byte_at, find_byte, long_agreement_len};
 use std::cmp::Ordering;
 
 /// The byte that stands between a context and a msgid.
@@ -12,36 +13,49 @@ const EOT: u8 = 4;
 pub(crate) fn key_of(original: &[u8]) -> &[u8]
     ensures { result.now ≡ key_of original.now }
 {
-    match memchr(0, original) {
+    match find_byte(0, original) {
         Some(end) => &original[..end],
         None => original,
     }
 }
 
-/// Where a message's key stands against the key that a query asks for: by unsigned bytes, a prefix
-/// before what is longer. The query's key is `id` alone, or the context, a byte 4 (EOT) and `id`; it
-/// is compared in place and never built ("The Format of GNU MO Files").
-pub fn compare_key(key: &[u8], context: Option<&[u8]>, id: &[u8]) -> Ordering
-    ensures { result ≡ key_cmp key.now (query_key (option_copied context.entry) id.now) }
+/// Where the key of an original stands against the key that a query asks for: by unsigned bytes, a
+/// prefix before what is longer. The query's key is `id` alone, or the context, a byte 4 (EOT) and
+/// `id`; it is compared in place and never built ("The Format of GNU MO Files").
+#[inline(always)]
+pub fn compare_key(original: &[u8], context: Option<&[u8]>, id: &[u8]) -> Ordering
+    ensures { result
+        ≡ key_cmp (key_of original.now) (query_key (option_copied context.entry) id.now) }
 {
     let Some(context) = context else {
-        return key.cmp(id);
+        return compare_id(original, id);
     };
-    let Some((front, rest)) = key.split_at_checked(context.len()) else {
-        return key.cmp(context);
-    };
-    match front.cmp(context) {
-        Ordering::Equal => compare_rest(rest, id),
+    let at = agreement_len(0, original, context);
+    if at < context.len() {
+        return byte_at(original, at).cmp(&context[at]).then(Ordering::Less);
+    }
+    match byte_at(original, at).cmp(&EOT) {
+        Ordering::Equal => compare_id(&original[at + 1..], id),
         unequal => unequal,
     }
 }
 
-/// Where what stands behind a context in a key stands against a byte 4 and `id`.
-fn compare_rest(rest: &[u8], id: &[u8]) -> Ordering
-    ensures { result ≡ key_cmp rest.now (4 ∷ id.now) }
+/// The same for a query without a context.
+#[inline(always)]
+fn compare_id(original: &[u8], id: &[u8]) -> Ordering
+    ensures { result ≡ key_cmp (key_of original.now) id.now }
 {
-    match rest {
-        [] => Ordering::Less,
-        [byte, rest @ ..] => byte.cmp(&EOT).then_with(|| rest.cmp(id)),
+    let at = agreement_len(0, original, id);
+    if at < id.len() {
+        return byte_at(original, at).cmp(&id[at]).then(Ordering::Less);
     }
+    byte_at(original, at).cmp(&0)
+}
+
+/// Whether the key of an original is below that of another.
+pub(crate) fn is_below(original: &[u8], other: &[u8]) -> bool
+    ensures { IsTrue result ↔ (key_cmp (key_of original.now) (key_of other.now) ≡ Less) }
+{
+    let at = long_agreement_len(0, original, other);
+    byte_at(original, at) < byte_at(other, at)
 }

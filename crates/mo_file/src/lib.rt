@@ -7,6 +7,7 @@
 //! can promise how few it needs.
 #![tactic(auto)]
 
+mod agreement;
 mod building;
 mod byte_order;
 mod checking;
@@ -20,6 +21,7 @@ mod strings;
 mod view;
 mod writing;
 
+pub use agreement::find_byte;
 pub use building::{BuildError, build, build_sorted};
 pub use byte_order::Order;
 pub use counting::Meter;

@@ -5,7 +5,6 @@ ghost use Rattle.mo_file.specs.Checking.{HasStrings, IsHeader};
 
 use crate::byte_order::{Order, word};
 use crate::header::{ENTRY_LEN, Header};
-use crate::key::key_of;
 use std::ops::Range;
 
 /// Where string `i` of a table stands, in bytes from the start of the file.
@@ -50,12 +49,14 @@ pub(crate) fn translation_at(header: Header, bytes: &[u8], i: u32) -> &[u8]
     string_at(header.order, bytes, header.translations, i)
 }
 
-/// The key of message `i`.
-pub(crate) fn key_at(header: Header, bytes: &[u8], i: u32) -> &[u8]
+/// The file from the original of message `i` on, where the NUL behind it ends its key.
+#[tactic(auto, using(crate::proofs::KeyComparison::key_of_rest), unfolding(crate::specs::StringTable::string_at))]
+#[inline(always)]
+pub(crate) fn text_at(header: Header, bytes: &[u8], i: u32) -> &[u8]
     requires read { IsHeader header bytes.now }
     requires strings { HasStrings header.order bytes.now }
     requires counted { i < header.count }
-    ensures { result.now ≡ key_of (original_at header.order bytes.now i) }
+    ensures { key_of result.now ≡ key_of (original_at header.order bytes.now i) }
 {
-    key_of(original_at(header, bytes, i))
+    &bytes[range_at(header.order, bytes, header.originals, i).start..]
 }

@@ -11,7 +11,7 @@ use crate::counting::Meter;
 use crate::fault::MoError;
 use crate::header::Header;
 use crate::key::compare_key;
-use crate::strings::{key_at, original_at, translation_at};
+use crate::strings::{original_at, text_at, translation_at};
 use std::cmp::Ordering;
 use std::marker::Model;
 
@@ -84,6 +84,7 @@ impl<'a> MoView<'a> {
 
     /// Where the key of message `i` stands against the key that a query asks for, as [`compare_key`]
     /// answers. It is one look.
+    #[inline(always)]
     pub fn compare(&self, i: u32, context: Option<&[u8]>, id: &[u8], meter: &mut Meter) -> Ordering
         requires inside { i < length self.now }
         requires room { meter.old < 2 ^ 64 - 1 }
@@ -92,7 +93,7 @@ impl<'a> MoView<'a> {
         ensures cost { meter.new ≡ meter.old + 1 }
     {
         meter.add_one();
-        compare_key(key_at(self.header, self.bytes, i), context, id)
+        compare_key(text_at(self.header, self.bytes, i), context, id)
     }
 
     /// The original of message `i`: its key, and for an entry with a plural a NUL and the plural. It

@@ -1,24 +1,39 @@
 -- A text is clean where no separator is found in it.
-use Rattle.std.proofs.Common.{◌≡◌, ℕ, Bool, true, false, not, List, Option, None, Some, sym, ◌∙◌, ap, arith}
+use Rattle.std.proofs.Common.{◌≡◌, ℕ, ◌==◌, ◌||◌, Bool, true, false, not, List, Option, None, Some, get_or, refl, sym, ap, arith}
 use Rattle.std.specs.Option.{is_some}
-use Rattle.std.specs.List.{list_any}
 use Rattle.std.proofs.lemmas.List.Elements.{All-from_get_or}
 use Rattle.std.proofs.lemmas.List.Folds.{list_any_at, list_any_none}
-use Rattle.memchr.specs.Find.{IsFirstByte, is_byte2}
+use Rattle.memchr.specs.Find.{IsFirstByte, is_byte}
 use Rattle.mo_lookup.specs.Query.{is_separator, is_clean}
 use Rattle.mo_lookup.proofs.FormLemmas.{not_true}
 
-pub separator-found : (text : List ℕ) (place : Option ℕ) → IsFirstByte (is_byte2 0 4) text place → is_some place ≡ list_any is_separator text
-separator-found text None none =
+neither : (nul eot : Bool) → nul ≡ false → eot ≡ false → (nul || eot) ≡ false
+neither nul eot no_nul no_eot = rw (no_nul, no_eot) refl
+
+second : (nul eot : Bool) → eot ≡ true → (nul || eot) ≡ true
+second true eot is = refl
+second false eot is = is
+
+-- a text where no NUL is found is clean where no EOT is found either
+pub clean_by_eot : (text : List ℕ) (nul eot : Option ℕ) (no_nul no_eot : Bool) →
+    IsFirstByte (is_byte 0) text nul → IsFirstByte (is_byte 4) text eot → is_some nul ≡ not no_nul → no_nul ≡ true →
+    is_some eot ≡ not no_eot → no_eot ≡ is_clean text
+clean_by_eot text (Some place) eot true no_eot first_nul first_eot is_nul none is_eot = absurd (cc)
+clean_by_eot text nul eot false no_eot first_nul first_eot is_nul none is_eot = absurd (cc)
+clean_by_eot text None (Some place) true true first_nul first_eot is_nul none is_eot = absurd (cc)
+clean_by_eot text None (Some place) true false first_nul first_eot is_nul none is_eot =
+    let inside = first_eot.0.high in
+    ap not (sym (list_any_at is_separator text place 0 (omega arith) (second (get_or text place 0 == 0) _ first_eot.1)))
+clean_by_eot text None None true false first_nul first_eot is_nul none is_eot = absurd (cc)
+clean_by_eot text None None true true first_nul first_eot is_nul none is_eot =
+    ap not
+    (
     sym
     (
     list_any_none is_separator text
-    (All-from_get_or (λ byte. is_separator byte ≡ false) text 0 (λ i inside. not_true _ (none i (omega arith) inside)))
+    (
+    All-from_get_or (λ byte. is_separator byte ≡ false) text 0
+    (λ i inside. neither _ _ (not_true _ (first_nul i (omega arith) inside)) (not_true _ (first_eot i (omega arith) inside)))
     )
-separator-found text (Some place) first =
-    let inside = first.0.high in sym (list_any_at is_separator text place 0 (omega arith) first.1)
-
--- where nothing is found, the text is clean
-pub is_clean-none : (text : List ℕ) (found none : Bool) → found ≡ list_any is_separator text → found ≡ not none → none ≡ is_clean text
-is_clean-none text found true is opposite = ap not (sym opposite ∙ is)
-is_clean-none text found false is opposite = ap not (sym opposite ∙ is)
+    )
+    )

@@ -8,14 +8,14 @@ ghost use Rattle.plural_rule.specs.PostOrder.{layout, tree_of};
 ghost use Rattle.mo_lookup.specs.Answer.{form_at, selected_form};
 ghost use Rattle.mo_lookup.specs.Contents.{forms};
 
-use memchr::memchr;
+use mo_file::find_byte;
 use plural_rule::{Node, evaluate};
 
 /// Form 0 of a translation, which each translation has.
 pub(crate) fn first_form(translation: &[u8]) -> &[u8]
     ensures { result.now ≡ form_at (forms translation.now) 0 }
 {
-    match memchr(0, translation) {
+    match find_byte(0, translation) {
         Some(end) => &translation[..end],
         None => translation,
     }
@@ -26,7 +26,7 @@ fn other_forms(translation: &[u8]) -> Option<&[u8]>
     ensures { MatchOption result (forms translation.now ≡ translation.now ∷ [])
         (λ others. forms translation.now ≡ form_at (forms translation.now) 0 ∷ forms others.now) }
 {
-    let end = memchr(0, translation)?;
+    let end = find_byte(0, translation)?;
     Some(&translation[end + 1..])
 }
 

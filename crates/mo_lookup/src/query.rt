@@ -5,13 +5,13 @@ ghost use Rattle.std.specs.Option.{option_copied};
 ghost use Rattle.mo_lookup.specs.Query.{given, is_clean, is_clean_key};
 ghost use Rattle.mo_lookup.specs.Answer.{untranslated_text};
 
-use memchr::memchr2;
+use mo_file::find_byte;
 
 /// Whether a text holds neither a NUL, which ends a string of an MO file, nor an EOT, which ends a context.
 fn is_clean(text: &[u8]) -> bool
     ensures { result ≡ is_clean text.now }
 {
-    memchr2(0, 4, text).is_none()
+    find_byte(0, text).is_none() && find_byte(4, text).is_none()
 }
 
 /// Whether a catalogue can have a message with this context and msgid.

@@ -7,6 +7,6 @@ use Rattle.mo_file.proofs.checking.check_order.Given as goal
 abbrev pub invariant-loop-i : goal.invariant-loop-i
 invariant-loop-i l = record {
   sorted : IsSortedBelow l.header.order l.bytes (l.i + 1);
-  current : l.key ≡ key_of (original_at l.header.order l.bytes l.i);
+  current : key_of l.text ≡ key_of (original_at l.header.order l.bytes l.i);
   cost : l.meter ≡ l.initial.meter + l.i;
 }

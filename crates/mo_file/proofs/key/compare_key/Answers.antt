@@ -1,18 +1,26 @@
-use Rattle.std.proofs.Common.{sym, ◌∙◌}
-use Rattle.mo_file.proofs.KeyLemmas.{key_cmp-shorter, key_cmp-equal, key_cmp-unequal}
+use Rattle.std.proofs.Common.{sym, ◌∙◌, ap, nat_cmp, arith}
+use Rattle.mo_file.proofs.KeyComparison.{decided_within, decided_equal, decided_unequal}
 use Rattle.mo_file.proofs.key.compare_key.Goals as goal
 
-pub returns-in_default-split_at_checked : goal.returns-in_default-split_at_checked
-returns-in_default-split_at_checked c =
-    rw c.in-Some.is (c.cmp-in_default-split_at_checked.ensures
-    ∙ sym (key_cmp-shorter _ _ _ (c.in_default-split_at_checked.ensures.cases)))
+pub returns-then-at-context : goal.returns-then-at-context
+returns-then-at-context c =
+    rw (c.in-Some.is, c.then.ensures, c.cmp.ensures, c.byte_at.ensures)
+    (sym (decided_within _ _ _ c.agreement_len-at.ensures _ c.if-at-context.true))
 
 pub returns-in-Equal : goal.returns-in-Equal
 returns-in-Equal c =
-    let cut = c.in-Some-split_at_checked.ensures.cases in
-    rw c.in-Some.is (c.compare_rest.ensures ∙ sym (key_cmp-equal _ _ _ _ _ cut.1 cut.2 c.in-Equal.ensures))
+    let at = c.agreement_len-at.ensures in
+    rw c.in-Some.is
+    (
+    c.compare_id-in-Equal.ensures
+    ∙ sym (decided_equal _ _ _ at _ (omega (arith, at.within_second, c.if-at-context.false)) (c.in-Equal.ensures ∙ ap (λ b. nat_cmp b 4) c.byte_at-2.ensures))
+    )
 
 pub returns-in_default-cmp : goal.returns-in_default-cmp
 returns-in_default-cmp c =
-    let cut = c.in-Some-split_at_checked.ensures.cases in
-    rw c.in-Some.is (key_cmp-unequal _ _ _ _ _ cut.1 c.cmp-2.ensures c.in_default-cmp.not-Equal)
+    let at = c.agreement_len-at.ensures in
+    rw c.in-Some.is
+    (
+    decided_unequal _ _ _ at _ _ (omega (arith, at.within_second, c.if-at-context.false))
+    (c.cmp-2.ensures ∙ ap (λ b. nat_cmp b 4) c.byte_at-2.ensures) c.in_default-cmp.not-Equal
+    )

@@ -1,0 +1,12 @@
+use Rattle.std.proofs.Common.{◌-◌, ◌≤◌}
+use Rattle.mo_file.specs.Agreement.{AgreeBetween}
+use Rattle.mo_file.proofs.agreement.agreement_within.Given as goal
+
+abbrev pub invariant-groups : goal.invariant-groups
+invariant-groups g l = record {
+  agree : AgreeBetween l.stop l.first l.second 0 l.at;
+  inside : l.at ≤ l.len;
+}
+
+abbrev pub decreases-groups : goal.decreases-groups
+decreases-groups g l = l.last - l.at

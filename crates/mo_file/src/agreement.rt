@@ -1,0 +1,100 @@
+ghost use Rattle.std.specs.Prelude.{◌≡◌, ◌+◌, ◌≤◌, ◌<◌, length, slice_index};
+ghost use Rattle.memchr.specs.Find.{IsFirstByte, is_byte};
+ghost use Rattle.mo_file.specs.Agreement.{IsAgreement, IsAgreementIn, first_set};
+
+use std::simd::prelude::*;
+
+/// How many bytes two texts have in common at their start, up to the first that is `stop`.
+#[inline(always)]
+pub(crate) fn agreement_len(stop: u8, first: &[u8], second: &[u8]) -> usize
+    ensures { IsAgreement stop first.now second.now result }
+{
+    let len = first.len().min(second.len());
+    if len >= 16 {
+        agreement_within::<16>(stop, first, second, len)
+    } else if len >= 8 {
+        agreement_within::<8>(stop, first, second, len)
+    } else if len >= 4 {
+        agreement_within::<4>(stop, first, second, len)
+    } else if len >= 1 {
+        agreement_within::<1>(stop, first, second, len)
+    } else {
+        0
+    }
+}
+
+/// The same of texts that may agree for long, as the rests of a file do.
+#[inline(always)]
+pub(crate) fn long_agreement_len(stop: u8, first: &[u8], second: &[u8]) -> usize
+    ensures { IsAgreement stop first.now second.now result }
+{
+    let len = first.len().min(second.len());
+    if len >= 32 {
+        agreement_within::<32>(stop, first, second, len)
+    } else {
+        agreement_len(stop, first, second)
+    }
+}
+
+/// The same, by `LANES` bytes at a time: the last of them may be such as were compared before.
+#[inline(always)]
+fn agreement_within<const LANES: usize>(stop: u8, first: &[u8], second: &[u8], len: usize) -> usize
+    requires lanes { (0 < LANES) × (LANES ≤ 64) }
+    requires long { LANES ≤ len }
+    requires first { len ≤ length first.now }
+    requires second { len ≤ length second.now }
+    ensures { IsAgreementIn stop first.now second.now 0 len result }
+{
+    let last = len - LANES;
+    let mut at = 0;
+    'groups: while at < last {
+        let many = agreement_at::<LANES>(stop, first, second, at);
+        if many < LANES {
+            return at + many;
+        }
+        at += LANES;
+    }
+    last + agreement_at::<LANES>(stop, first, second, last)
+}
+
+/// How many of the `LANES` bytes from a place are the same in both texts, up to the first that is `stop`.
+#[inline(always)]
+fn agreement_at<const LANES: usize>(stop: u8, first: &[u8], second: &[u8], at: usize) -> usize
+    requires lanes { LANES ≤ 64 }
+    requires first { at + LANES ≤ length first.now }
+    requires second { at + LANES ≤ length second.now }
+    ensures { IsAgreementIn stop first.now second.now at LANES result }
+{
+    let ours = Simd::<u8, LANES>::from_slice(&first[at..]);
+    let theirs = Simd::<u8, LANES>::from_slice(&second[at..]);
+    let parts = ours.simd_ne(theirs) | ours.simd_eq(Simd::splat(stop));
+    first_set(parts.to_bitmask(), LANES)
+}
+
+#[inline(always)]
+fn first_set(mask: u64, lanes: usize) -> usize
+    ensures { result ≡ first_set mask lanes }
+{
+    if mask == 0 {
+        lanes
+    } else {
+        mask.trailing_zeros() as usize
+    }
+}
+
+/// The byte at a place of a text, or 0 behind its end, as where a NUL ends it.
+#[inline(always)]
+pub(crate) fn byte_at(text: &[u8], at: usize) -> u8
+    ensures { result ≡ slice_index text.now at }
+{
+    text.get(at).copied().unwrap_or(0)
+}
+
+/// The place of the first byte of a text that is this one. A text agrees with itself up to there.
+#[inline(always)]
+pub fn find_byte(byte: u8, text: &[u8]) -> Option<usize>
+    ensures { IsFirstByte (is_byte byte) text.now result }
+{
+    let end = agreement_len(byte, text, text);
+    if end < text.len() { Some(end) } else { None }
+}
