@@ -20,6 +20,7 @@ const BLOCK: usize = 1 << 16;
 
 /// Writes the input with its references replaced, as [`Substituter`] replaces them. A `ReadFault`
 /// comes where a call of the reader failed, or `MOST_READS` calls gave no end of the input.
+#[inline(never)]
 pub fn run_envsubst<R: ByteIn, W: ByteOut>(
     reader: &mut R,
     writer: &mut W,

@@ -13,6 +13,7 @@ const PIECE: usize = 1 << 16;
 
 /// The whole input, or its first `INPUT_LIMIT` bytes where it has more. A `ReadFault` comes where
 /// a call of the reader failed.
+#[inline(never)]
 pub fn read_input<R: ByteIn>(alloc: Global, reader: &mut R) -> Result<Vec<u8>, ToolFault>
     requires calls { R.calls reader.old < 2 ^ 63 }
     requires failures { R.failures reader.old < 2 ^ 63 }

@@ -225,6 +225,7 @@ fn first_fault(rule: &Rule, entries: &[JoinedEntry<'_>]) -> Option<(u32, CheckFa
 /// rule where an entry has a plural; that each entry but the header has as many forms as the rule, and newlines
 /// at its ends where its msgid has them; and that the rule's values at the counts from 0 to 1,000 are indices of
 /// forms, where an entry has a plural. The first fault is reported, with the input of its line, or input 0.
+#[inline(never)]
 pub(crate) fn check_entries(entries: &[JoinedEntry<'_>]) -> Option<(u32, CheckFault)>
     ensures { IsChecked (input_entries entries.now) result }
 {
