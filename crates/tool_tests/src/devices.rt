@@ -1,7 +1,10 @@
 //! Readers and writers that fail or move few bytes a call: what is reported, and what has gone out.
 
 use mo_file::Order;
-use po_shell::{Counted, Failing, Substituter, ToolFault, put_all, read_input, run_envsubst};
+use po_shell::{
+    Counted, Failing, Substituter, ToolFault, put_all, read_input, run_envsubst,
+    run_envsubst_in_blocks,
+};
 use po_tools::{MsgfmtOptions, Run, deliver, run_msgfmt};
 use std::alloc::Global;
 
@@ -19,6 +22,13 @@ const ONE_FILE: &[u8] =
 
 /// What is read by single bytes.
 const THREE_BYTES: &[u8] = b"ab$";
+
+/// A text with two references, what each stands for, and what comes of it.
+const REFERENCES: &[u8] = b"$A and ${A}";
+
+const VARIABLES: &[(&[u8], &[u8])] = &[(b"A", b"v")];
+
+const REPLACED: &[u8] = b"v and v";
 
 const WRITE_FAULT: Result<(), ToolFault> = Err(ToolFault::WriteFault);
 
@@ -175,6 +185,65 @@ fn tells_a_writer_that_fails(rt: HostRuntime) {
             "at call {call}, {most} a call"
         );
     }
+}
+
+/// What envsubst reports over devices that move one byte a call, of which these calls fail, and what has gone out.
+fn substituted(alloc: Global, read: u64, write: u64) -> (Result<(), ToolFault>, Vec<u8>) {
+    let mut reader = Counted::new(Failing::new(REFERENCES, read, 1));
+    let mut writer = Counted::new(Failing::new(Vec::new(alloc), write, 1));
+    let outcome = run_envsubst(&mut reader, &mut writer, VARIABLES, None);
+    (outcome, writer.into_inner().into_inner())
+}
+
+/// Whether envsubst with its output in blocks, over a writer that takes so many bytes a call, tells this; where it
+/// tells no fault, all has gone out.
+fn substitutes_in_blocks(
+    alloc: Global,
+    read: u64,
+    write: u64,
+    most: usize,
+    told: Result<(), ToolFault>,
+) -> bool {
+    let mut reader = Counted::new(Failing::new(REFERENCES, read, 1));
+    let writer = Failing::new(Vec::new(alloc), write, most);
+    match run_envsubst_in_blocks(alloc, &mut reader, writer, VARIABLES, None) {
+        Ok(written) => told.is_ok() && written.into_inner().as_slice() == REPLACED,
+        Err(fault) => told == Err(fault),
+    }
+}
+
+#[test]
+fn each_call_of_envsubst_fails(rt: HostRuntime) {
+    let reads = REFERENCES.len() as u64 + 1;
+    for call in 1..=reads {
+        let (outcome, written) = substituted(rt.alloc(), call, 0);
+        assert!(rt;
+            outcome == Err(ToolFault::ReadFault) && REPLACED.starts_with(&written),
+            "at read {call}"
+        );
+        let fault = Err(ToolFault::ReadFault);
+        assert!(rt;
+            substitutes_in_blocks(rt.alloc(), call, 0, 1, fault),
+            "at read {call}"
+        );
+    }
+    for taken in 0..REPLACED.len() {
+        let call = taken as u64 + 1;
+        let (outcome, written) = substituted(rt.alloc(), 0, call);
+        assert!(rt;
+            outcome == WRITE_FAULT && written.as_slice() == &REPLACED[..taken],
+            "at write {call}"
+        );
+        assert!(rt;
+            substitutes_in_blocks(rt.alloc(), 0, call, 1, WRITE_FAULT),
+            "at write {call}"
+        );
+    }
+    let (outcome, written) = substituted(rt.alloc(), reads + 1, REPLACED.len() as u64 + 1);
+    assert!(rt; outcome.is_ok() && written.as_slice() == REPLACED);
+    assert!(rt; substitutes_in_blocks(rt.alloc(), reads + 1, 0, 1, Ok(())));
+    assert!(rt; substitutes_in_blocks(rt.alloc(), 0, 0, 1 << 20, Ok(())));
+    assert!(rt; substitutes_in_blocks(rt.alloc(), 0, 0, 0, WRITE_FAULT));
 }
 
 #[test]

@@ -7,7 +7,11 @@
 #[cfg(test)]
 mod answers;
 #[cfg(test)]
+mod damaged_files;
+#[cfg(test)]
 mod devices;
+#[cfg(test)]
+mod failing_calls;
 #[cfg(test)]
 mod locales;
 #[cfg(test)]
