@@ -1,0 +1,28 @@
+// What comes of a row.
+use po_syntax::{PoError, PoFault};
+
+/// What comes of a row.
+#[derive(Clone, Copy)]
+pub(crate) enum Outcome {
+    /// The call answered; whether rightly.
+    Answered(bool),
+    /// The call was refused; whether since memory was out, with its arguments as they were.
+    OutOfMemory(bool),
+    /// An allocation failed before the call.
+    Unready,
+    /// There is no row of this name.
+    NoRow,
+}
+
+/// Whether an error of the PO crates is that memory is out, which is on no line.
+pub(crate) fn is_memory(error: PoError) -> bool {
+    error.kind == PoFault::OutOfMemory && error.line == 0
+}
+
+/// What comes of a call that answers bytes.
+pub(crate) fn of_bytes(told: Result<Vec<u8>, PoError>, wanted: &[u8]) -> Outcome {
+    match told {
+        Ok(bytes) => Outcome::Answered(bytes.as_slice() == wanted),
+        Err(error) => Outcome::OutOfMemory(is_memory(error)),
+    }
+}
