@@ -64,8 +64,8 @@ fn refused_messages(rt: HostRuntime) {
             kind: *kind,
             line: 0,
         };
-        let told = Entry::message(rt.alloc(), *context, id, None, &[form]).err();
-        assert_eq!(rt; told, Some(wanted));
+        let reported = Entry::message(rt.alloc(), *context, id, None, &[form]).err();
+        assert_eq!(rt; reported, Some(wanted));
     }
 }
 

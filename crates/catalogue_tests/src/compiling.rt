@@ -239,8 +239,8 @@ fn refused(rt: HostRuntime) {
             kind: *kind,
             line: *line,
         };
-        let told = compile(rt.alloc(), text, LITTLE).err();
-        assert_eq!(rt; told, Some(wanted), "at {}", text.escape_ascii());
+        let reported = compile(rt.alloc(), text, LITTLE).err();
+        assert_eq!(rt; reported, Some(wanted), "at {}", text.escape_ascii());
     }
 }
 

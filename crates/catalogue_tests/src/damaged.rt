@@ -47,8 +47,8 @@ fn reads_back(alloc: Global, catalogue: &Catalogue) -> Result<bool, Fail> {
 
 /// Whether a text is accepted.
 fn check(rt: &impl Abort, alloc: Global, text: &[u8]) -> Result<bool, Fail> {
-    let told = items(alloc, text).err();
-    assert_eq!(rt; told, first_fault(text), "at {}", text.escape_ascii());
+    let reported = items(alloc, text).err();
+    assert_eq!(rt; reported, first_fault(text), "at {}", text.escape_ascii());
     match read(alloc, text) {
         Ok(catalogue) => {
             assert!(rt;
@@ -94,7 +94,7 @@ fn every_truncation(rt: HostRuntime) -> Result<(), Fail> {
     for text in [EVERY_LINE, ESCAPES, FUZZY_AND_OBSOLETE] {
         assert_eq!(rt; first_fault(text), None);
         let count = accepted(&rt, rt.alloc(), text)?;
-        // Cut behind the end of an entry's last string, with or without what blank lines follow.
+        // Cut after the end of an entry's last string, with or without what blank lines follow.
         assert!(rt; count >= 10 || text != FUZZY_AND_OBSOLETE);
     }
     Ok(())

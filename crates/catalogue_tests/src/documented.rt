@@ -40,7 +40,10 @@ fn a_translation_is_looked_up(rt: HostRuntime) -> Result<(), Fail> {
     let Ok(compiled) = compile(rt.alloc(), BOOKS, LITTLE) else {
         panic!(rt; "refused");
     };
-    assert_eq!(rt; three_books(compiled.bytes.as_slice()), Ok(b"%d B\xc3\xbccher".as_slice()));
+    assert_eq!(rt;
+        three_books(compiled.bytes.as_slice()),
+        Ok(b"%d B\xc3\xbccher".as_slice())
+    );
     Ok(())
 }
 
@@ -50,7 +53,8 @@ fn a_message_is_added(rt: HostRuntime) -> Result<(), Fail> {
     let Ok(written) = with_a_button(rt.alloc(), text) else {
         panic!(rt; "refused");
     };
-    let wanted = b"# about\nmsgid \"a\"\nmsgstr \"b\"\n\n#, fuzzy\nmsgctxt \"button\"\nmsgid \"Close\"\nmsgstr \"Zu\"\n";
+    let wanted =
+        b"# about\nmsgid \"a\"\nmsgstr \"b\"\n\n#, fuzzy\nmsgctxt \"button\"\nmsgid \"Close\"\nmsgstr \"Zu\"\n";
     assert_eq!(rt; written.as_slice(), wanted.as_slice());
     Ok(())
 }

@@ -121,18 +121,18 @@ const FAULTS: &[(&[u8], PoFault, u32)] = &[
 ];
 
 #[test]
-fn tells_the_leftmost_fault(rt: HostRuntime) {
+fn reports_the_leftmost_fault(rt: HostRuntime) {
     for (text, kind, line) in FAULTS {
         let wanted = PoError {
             kind: *kind,
             line: *line,
         };
-        let told = items(rt.alloc(), text).err();
-        assert_eq!(rt; told, Some(wanted), "at {}", text.escape_ascii());
+        let reported = items(rt.alloc(), text).err();
+        assert_eq!(rt; reported, Some(wanted), "at {}", text.escape_ascii());
     }
 }
 
-/// Bytes, each with their quoted form behind a keyword.
+/// Bytes, each with their quoted form after a keyword.
 const QUOTED: &[(&[u8], &[u8])] = &[
     (b"", b"msgid \"\""),
     (b"k", b"msgid \"k\""),

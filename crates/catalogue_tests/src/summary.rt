@@ -10,7 +10,7 @@ fn push_pieces(line: &mut Vec<u8>, pieces: &[&[u8]]) -> Result<(), Fail> {
     Ok(())
 }
 
-/// Appends texts, each with a semicolon behind it, and then an end.
+/// Appends texts, each with a semicolon after it, and then an end.
 fn push_texts(line: &mut Vec<u8>, texts: &[Vec<u8>], end: &[u8]) -> Result<(), Fail> {
     for text in texts {
         line.extend_from_slice(text)?;

@@ -23,6 +23,6 @@ pub letters-rising : (many : ℕ) → AreRising (letters many)
 letters-rising many = record {
   next = λ i inside.
       let here = key_at-letters many i (omega (arith, length-letters many)) in
-      let behind = key_at-letters many (i + 1) (omega (arith, length-letters many)) in
-      rw (here, behind) (one-less (98 + 2 * i) (98 + 2 * (i + 1)) (omega arith));
+      let after = key_at-letters many (i + 1) (omega (arith, length-letters many)) in
+      rw (here, after) (one-less (98 + 2 * i) (98 + 2 * (i + 1)) (omega arith));
 }

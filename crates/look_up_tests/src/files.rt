@@ -1,4 +1,4 @@
-//! How files are laid out and read, and what is told of damaged ones.
+//! How files are laid out and read, and what is reported of damaged ones.
 
 use crate::samples::{CONTEXTS, ONE, ONE_BIG, TWO, put};
 use mo_file::{
@@ -118,7 +118,7 @@ const ORDERS: &[(&[u8], Option<Order>)] = &[
 ];
 
 #[test]
-fn tells_the_byte_order(rt: HostRuntime) {
+fn reports_the_byte_order(rt: HostRuntime) {
     for (file, order) in ORDERS {
         assert!(rt; Order::of_file(file) == *order, "{file:?}");
     }
@@ -147,7 +147,7 @@ const CHANGES: &[(usize, &[u8], Result<u32, MoError>)] = &[
 ];
 
 #[test]
-fn tells_damage(rt: HostRuntime) {
+fn reports_damage(rt: HostRuntime) {
     for (at, bytes, want) in CHANGES {
         let mut file = ONE;
         put(&mut file, *at, bytes);
@@ -166,7 +166,7 @@ fn opens_other_files(rt: HostRuntime) {
 }
 
 #[test]
-fn tells_every_truncation(rt: HostRuntime) {
+fn reports_every_truncation(rt: HostRuntime) {
     for len in 0..48 {
         let want = match len {
             0..=27 => MoError::TooShort,

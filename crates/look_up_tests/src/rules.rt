@@ -115,9 +115,9 @@ const FIELDS: &[(&str, u64, u64)] = &[
 
 #[test]
 fn fields(rt: HostRuntime) {
-    for (text, number, value) in FIELDS {
+    for (text, nplurals, value) in FIELDS {
         let rule = Rule::parse(text.as_bytes());
-        let is_right = is_named(&rule, *number) && rule.eval(5).0 == Some(*value);
+        let is_right = is_named(&rule, *nplurals) && rule.eval(5).0 == Some(*value);
         assert!(rt; is_right, "{text}");
     }
 }
@@ -191,7 +191,7 @@ fn header(
     Ok(text)
 }
 
-/// What is repeated how often before and behind what, and the nodes, a count, the value there and the nodes that are
+/// What is repeated how often before and after what, and the nodes, a count, the value there and the nodes that are
 /// visited, or why it gives the default rule.
 const LONG_EXPRESSIONS: &[(
     usize,

@@ -38,10 +38,10 @@ length-magic Big = refl
 pub length-header : (order : Order) (count : ℕ) → length (header order count) ≡ 28
 length-header order count = simp (length-append, length-magic, length-word_bytes)
 
-pub length-table : (order : Order) (place : ℕ) (strings : List (List ℕ)) →
-    length (table order place strings) ≡ 8 * length strings
-length-table order place [] = refl
-length-table order place (s ∷ ss) = simp (length-append, length-word_bytes, length-table order (place + length s + 1) ss) (omega arith)
+pub length-table : (order : Order) (offset : ℕ) (strings : List (List ℕ)) →
+    length (table order offset strings) ≡ 8 * length strings
+length-table order offset [] = refl
+length-table order offset (s ∷ ss) = simp (length-append, length-word_bytes, length-table order (offset + length s + 1) ss) (omega arith)
 
 -- how long a layout is
 pub length-layout : (order : Order) (messages : List Message) →
@@ -114,7 +114,7 @@ keys-pair pairs i pair lt is =
 pub length-keys : (pairs : List Pair) → length (keys (messages_of_pairs pairs)) ≡ length pairs
 length-keys pairs = simp length-map
 
--- the key of a pair behind the first
+-- the key of a pair after the first
 pub keys-next : (pairs : List Pair) (i : ℕ) (pair : Pair) →
     i < length (slice_range pairs 1 (length pairs)) →
     pair ≡ get_or (slice_range pairs 1 (length pairs)) i pair →
@@ -125,6 +125,6 @@ keys-next pairs i pair lt is =
     let here = rw (take_rest pairs 1, get_or-drop 1 pairs i pair, after) at is in
     keys-pair pairs (i + 1) pair (omega arith) here
 
--- the pairs behind the first
+-- the pairs after the first
 pub length-rest : (pairs : List Pair) → length (slice_range pairs 1 (length pairs)) ≡ length pairs - 1
 length-rest pairs = rw (take_rest pairs 1) (length-drop 1 pairs)

@@ -24,7 +24,7 @@ Shows-unique bytes Big Big shows shows' = refl
 Shows-unique bytes Little Big shows shows' = cc
 Shows-unique bytes Big Little shows shows' = cc
 
--- faults behind the magic number are those in the order that it shows
+-- faults after the magic number are those in the order that it shows
 pub HasFaultIn-shown : (bytes : List ℕ) (order : Order) (f : MoError) → Shows order bytes →
     ((order' : Order) × Shows order' bytes × HasFaultIn order' bytes f) → HasFaultIn order bytes f
 HasFaultIn-shown bytes order f shows fault =

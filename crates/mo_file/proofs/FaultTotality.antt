@@ -12,7 +12,7 @@ use Rattle.mo_file.specs.StringTable.{end_at, original_at, messages_of}
 use Rattle.mo_file.specs.Key.{key_of, key_cmp}
 use Rattle.mo_file.specs.Message.{Message}
 use Rattle.mo_file.specs.Catalog.{IsCatalog}
-use Rattle.mo_file.specs.Fault.{HasFault, HasFaultIn, IsBefore, IsFirstFault, IsOutside, IsUnterminated, IsUnsorted, kind, place}
+use Rattle.mo_file.specs.Fault.{HasFault, HasFaultIn, IsBefore, IsFirstFault, IsOutside, IsUnterminated, IsUnsorted, kind, index}
 use Rattle.mo_file.proofs.FaultLemmas.{HasFaultIn-shown}
 
 -- a fact holds or it doesn't
@@ -80,7 +80,7 @@ fault_of k i =
     cond (k == 1) TooShort (cond (k == 2) BadMagic (cond (k == 3) BadRevision (cond (k == 4) TableOutside
     (cond (k == 5) (StringOutside i) (cond (k == 6) (NoTerminator i) (NotSorted i))))))
 
-named : (f : MoError) → fault_of (kind f) (place f) ≡ f
+named : (f : MoError) → fault_of (kind f) (index f) ≡ f
 named TooShort = refl
 named BadMagic = refl
 named BadRevision = refl
@@ -102,10 +102,10 @@ kind_within (NotSorted i) = (omega arith, omega arith)
 record Clear (bytes : List ℕ) (k : ℕ) : Type 0 where
   none : (f : MoError) → kind f < k → ¬ HasFault bytes f
 
-same_kind : (bytes : List ℕ) (f : MoError) (k : ℕ) → kind f ≡ k → HasFault bytes f → HasFault bytes (fault_of k (place f))
+same_kind : (bytes : List ℕ) (f : MoError) (k : ℕ) → kind f ≡ k → HasFault bytes f → HasFault bytes (fault_of k (index f))
 same_kind bytes f k e has =
     let Has : MoError → Type 0 = λ f. HasFault bytes f in
-    subst Has (sym (named f) ∙ ap (λ j. fault_of j (place f)) e) has
+    subst Has (sym (named f) ∙ ap (λ j. fault_of j (index f)) e) has
 
 clear_one : (bytes : List ℕ) → Clear bytes 1
 clear_one bytes = record { none = λ f less has. absurd (omega (arith, (kind_within f).0)) }
@@ -114,17 +114,17 @@ clear_more : (bytes : List ℕ) (k : ℕ) → Clear bytes k → ((i : ℕ) → �
 clear_more bytes k clear none = record {
   none = λ f less has. elim (cases_lt (kind f) k) [
     | inl before ↦ clear.none f before has
-    | inr other ↦ none (place f) (same_kind bytes f k (omega arith) has)
+    | inr other ↦ none (index f) (same_kind bytes f k (omega arith) has)
   ];
 }
 
-is_first : (bytes : List ℕ) (e : MoError) → Clear bytes (kind e) → ((i : ℕ) → i < place e → ¬ HasFault bytes (fault_of (kind e) i)) → HasFault bytes e
+is_first : (bytes : List ℕ) (e : MoError) → Clear bytes (kind e) → ((i : ℕ) → i < index e → ¬ HasFault bytes (fault_of (kind e) i)) → HasFault bytes e
     → IsFirstFault bytes e
 is_first bytes e clear least holds = record {
   holds = holds;
   first = λ f before has. elim before [
     | inl less ↦ clear.none f less has
-    | inr same ↦ least (place f) same.1 (same_kind bytes f (kind e) same.0 has)
+    | inr same ↦ least (index f) same.1 (same_kind bytes f (kind e) same.0 has)
   ];
 }
 
@@ -228,9 +228,9 @@ pub one_first_fault : (bytes : List ℕ) (fault fault' : MoError) → IsFirstFau
 one_first_fault bytes f f' is is' = elim (cases_order (kind f) (kind f')) [
   | inr (inl less) ↦ absurd (is'.first f (inl less) is.holds)
   | inr (inr more) ↦ absurd (is.first f' (inl more) is'.holds)
-  | inl kinds ↦ elim (cases_order (place f) (place f')) [
+  | inl kinds ↦ elim (cases_order (index f) (index f')) [
     | inr (inl less) ↦ absurd (is'.first f (inr (kinds, less)) is.holds)
     | inr (inr more) ↦ absurd (is.first f' (inr (sym kinds, more)) is'.holds)
-    | inl places ↦ sym (named f) ∙ ap (λ k. fault_of k (place f)) kinds ∙ ap (λ i. fault_of (kind f') i) places ∙ named f'
+    | inl offsets ↦ sym (named f) ∙ ap (λ k. fault_of k (index f)) kinds ∙ ap (λ i. fault_of (kind f') i) offsets ∙ named f'
   ]
 ]

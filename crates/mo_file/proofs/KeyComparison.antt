@@ -18,15 +18,15 @@ key_of-cut a xs b is = ap (λ c. take (cond (not c) (1 + prefix_len (λ x. not (
 -- a byte that isn't NUL is the first of its key
 key_of-cons : (a : ℕ) (xs : List ℕ) → (a ≡ 0 → ⊥) → key_of (a ∷ xs) ≡ a ∷ key_of xs
 key_of-cons a xs other =
-    let behind = prefix_len (λ x. not (is_nul x)) xs in
-    let one : 1 + behind ≡ suc behind = omega arith in
+    let after = prefix_len (λ x. not (is_nul x)) xs in
+    let one : 1 + after ≡ suc after = omega arith in
     key_of-cut a xs false (ne_eqb a 0 other) ∙ ap (λ n. take n (a ∷ xs)) one
 
 -- and before a NUL there is no key
 key_of-nul : (a : ℕ) (xs : List ℕ) → a ≡ 0 → key_of (a ∷ xs) ≡ []
 key_of-nul a xs nul = key_of-cut a xs true (eq-eqb a 0 nul)
 
--- a NUL ends the key, so what stands behind it is of no account
+-- a NUL ends the key, so what stands after it is of no account
 pub key_of-before : (n : ℕ) (xs : List ℕ) → get_or xs n 0 ≡ 0 → key_of xs ≡ key_of (take n xs)
 key_of-before n [] nul = ap key_of (sym (take_all n [] (omega arith)))
 key_of-before zero (a ∷ xs) nul = key_of-nul a xs nul
@@ -142,7 +142,7 @@ before_end (a ∷ xs) =
       | inr live ↦ ap (λ k. key_cmp k []) (key_of-cons a xs live) ∙ sym (cmp-greater a 0 (omega (arith, live)))
     ]
 
--- a text against a byte that isn't NUL, and what stands behind each of them
+-- a text against a byte that isn't NUL, and what stands after each of them
 before_separator : (x : List ℕ) (b : ℕ) (more : List ℕ) → 0 < b →
     key_cmp (key_of x) (b ∷ more) ≡ ordering_then (nat_cmp (get_or x 0 0) b) (key_cmp (key_of (drop 1 x)) more)
 before_separator [] b more live = rw (cmp-less 0 b live) refl
@@ -165,10 +165,10 @@ kept-unequal Less b unequal = refl
 kept-unequal Equal b unequal = absurd (unequal refl)
 kept-unequal Greater b unequal = refl
 
-tells : (less same : Bool) → IsTrue less ↔ (cond less Less (cond same Equal Greater) ≡ Less)
-tells true same = (λ _. refl, λ _. refl)
-tells false true = (λ is. absurd (cc), λ is. absurd (cc))
-tells false false = (λ is. absurd (cc), λ is. absurd (cc))
+reports : (less same : Bool) → IsTrue less ↔ (cond less Less (cond same Equal Greater) ≡ Less)
+reports true same = (λ _. refl, λ _. refl)
+reports false true = (λ is. absurd (cc), λ is. absurd (cc))
+reports false false = (λ is. absurd (cc), λ is. absurd (cc))
 
 -- two texts that part at once
 before_text : (x y : List ℕ) → (0 < length x → 0 < length y → (not (get_or x 0 0 == get_or y 0 0) || get_or x 0 0 == 0) ≡ true) →
@@ -194,15 +194,15 @@ at-drop n x =
     let same : n + 0 ≡ n = omega arith in
     get_or-drop n x 0 0 ∙ ap (λ k. get_or x k 0) same
 
-drop_behind : (n : ℕ) (x : List ℕ) → drop 1 (drop n x) ≡ drop (n + 1) x
-drop_behind zero x = refl
-drop_behind (suc n) [] = let e : suc n + 1 ≡ suc (n + 1) = omega arith in rw e refl
-drop_behind (suc n) (a ∷ xs) = let e : suc n + 1 ≡ suc (n + 1) = omega arith in rw e (drop_behind n xs)
+drop_after : (n : ℕ) (x : List ℕ) → drop 1 (drop n x) ≡ drop (n + 1) x
+drop_after zero x = refl
+drop_after (suc n) [] = let e : suc n + 1 ≡ suc (n + 1) = omega arith in rw e refl
+drop_after (suc n) (a ∷ xs) = let e : suc n + 1 ≡ suc (n + 1) = omega arith in rw e (drop_after n xs)
 
--- what is part of both texts behind the agreement parts them
-part_behind : (x y : List ℕ) (n : ℕ) → IsAgreement 0 x y n → 0 < length (drop n x) → 0 < length (drop n y) →
+-- what is part of both texts after the agreement parts them
+part_after : (x y : List ℕ) (n : ℕ) → IsAgreement 0 x y n → 0 < length (drop n x) → 0 < length (drop n y) →
     (not (get_or (drop n x) 0 0 == get_or (drop n y) 0 0) || get_or (drop n x) 0 0 == 0) ≡ true
-part_behind x y n is some_x some_y =
+part_after x y n is some_x some_y =
     rw (at-drop n x, at-drop n y) (is.part (omega (arith, length-drop n x)) (omega (arith, length-drop n y)))
 
 before_some : (x y more : List ℕ) → 0 < length y → (0 < length x → 0 < length y → (not (get_or x 0 0 == get_or y 0 0) || get_or x 0 0 == 0) ≡ true) →
@@ -216,7 +216,7 @@ module _ (x y : List ℕ) (n : ℕ) (is : IsAgreement 0 x y n) where
       key_cmp (key_of x) (y ++ more) ≡ ordering_then (nat_cmp (get_or x n 0) (get_or y n 0)) Less
   decided_within more below =
       skip n x y more is.agree is.within_first is.within_second
-      ∙ before_some (drop n x) (drop n y) more (omega (arith, length-drop n y)) (part_behind x y n is)
+      ∙ before_some (drop n x) (drop n y) more (omega (arith, length-drop n y)) (part_after x y n is)
       ∙ rw (at-drop n x, at-drop n y) refl
 
   pub decided_before_end : n < length y → key_cmp (key_of x) y ≡ ordering_then (nat_cmp (get_or x n 0) (get_or y n 0)) Less
@@ -231,19 +231,19 @@ module _ (x y : List ℕ) (n : ℕ) (is : IsAgreement 0 x y n) where
       ∙ before_end (drop n x)
       ∙ ap (λ a. nat_cmp a 0) (at-drop n x)
 
-  -- and where more follows behind an EOT, that decides
-  decided_behind : (more : List ℕ) → n ≡ length y →
+  -- and where more follows after an EOT, that decides
+  decided_after : (more : List ℕ) → n ≡ length y →
       key_cmp (key_of x) (y ++ 4 ∷ more) ≡ ordering_then (nat_cmp (get_or x n 0) 4) (key_cmp (key_of (drop (n + 1) x)) more)
-  decided_behind more end =
+  decided_after more end =
       skip n x y (4 ∷ more) is.agree is.within_first is.within_second
       ∙ ap (λ l. key_cmp (key_of (drop n x)) (l ++ 4 ∷ more)) (drop_all n y (omega arith))
       ∙ before_separator (drop n x) 4 more (omega arith)
-      ∙ rw (at-drop n x, drop_behind n x) refl
+      ∙ rw (at-drop n x, drop_after n x) refl
 
   pub decided_equal : (more : List ℕ) → n ≡ length y → Equal ≡ nat_cmp (get_or x n 0) 4 →
       key_cmp (key_of x) (y ++ 4 ∷ more) ≡ key_cmp (key_of (slice_range x (n + 1) (length x))) more
   decided_equal more end equal =
-      decided_behind more end
+      decided_after more end
       ∙ ap (λ o. ordering_then o (key_cmp (key_of (drop (n + 1) x)) more)) (sym equal)
       ∙ ap (λ l. key_cmp (key_of l) more) (sym (take_all (length x - (n + 1)) (drop (n + 1) x) (omega (arith, length-drop (n + 1) x))))
 
@@ -252,15 +252,15 @@ module _ (x y : List ℕ) (n : ℕ) (is : IsAgreement 0 x y n) where
   decided_unequal more order end is unequal =
       kept-unequal order (key_cmp (key_of (drop (n + 1) x)) more) unequal
       ∙ ap (λ o. ordering_then o (key_cmp (key_of (drop (n + 1) x)) more)) is
-      ∙ sym (decided_behind more end)
+      ∙ sym (decided_after more end)
 
   -- two keys
   decided_keys : key_cmp (key_of x) (key_of y) ≡ nat_cmp (get_or x n 0) (get_or y n 0)
   decided_keys =
       skip_keys n x y is.agree is.within_first is.within_second
-      ∙ before_text (drop n x) (drop n y) (part_behind x y n is)
+      ∙ before_text (drop n x) (drop n y) (part_after x y n is)
       ∙ rw (at-drop n x, at-drop n y) refl
 
   pub decided_below : (a b : ℕ) → a ≡ get_or x n 0 → b ≡ get_or y n 0 →
       IsTrue (nat_lt a b) ↔ (key_cmp (key_of x) (key_of y) ≡ Less)
-  decided_below a b is_a is_b = rw (decided_keys, ← is_a, ← is_b) (tells (nat_lt a b) (a == b))
+  decided_below a b is_a is_b = rw (decided_keys, ← is_a, ← is_b) (reports (nat_lt a b) (a == b))

@@ -14,56 +14,56 @@ use Rattle.mo_file.specs.Layout.{table, terminated}
 use Rattle.mo_file.proofs.BuildLemmas.{length-word_bytes, length-table}
 
 -- a part of a file stands at a place
-pub record StandsAt (bytes : List ℕ) (place : ℕ) (part : List ℕ) : Type 0 where
-  pub front : List ℕ
+pub record StandsAt (bytes : List ℕ) (offset : ℕ) (part : List ℕ) : Type 0 where
+  pub prefix : List ℕ
   pub rest : List ℕ
-  pub is : bytes ≡ front ++ (part ++ rest)
-  pub behind : length front ≡ place
+  pub is : bytes ≡ prefix ++ (part ++ rest)
+  pub after : length prefix ≡ offset
 
--- a part of a part stands behind what the part begins with
-pub StandsAt-part : {bytes : List ℕ} {place : ℕ} (front part rest : List ℕ) {whole : List ℕ} {there : ℕ} →
-    StandsAt bytes place whole → whole ≡ front ++ (part ++ rest) → place + length front ≡ there → StandsAt bytes there part
-StandsAt-part front part rest stands is behind = record {
-  front = stands.front ++ front;
+-- a part of a part stands after what the part begins with
+pub StandsAt-part : {bytes : List ℕ} {offset : ℕ} (prefix part rest : List ℕ) {whole : List ℕ} {there : ℕ} →
+    StandsAt bytes offset whole → whole ≡ prefix ++ (part ++ rest) → offset + length prefix ≡ there → StandsAt bytes there part
+StandsAt-part prefix part rest stands is after = record {
+  prefix = stands.prefix ++ prefix;
   rest = rest ++ stands.rest;
   is = stands.is ∙ rw is (simp append_assoc);
-  behind = omega (arith, length-append stands.front front, stands.behind);
+  after = omega (arith, length-append stands.prefix prefix, stands.after);
 }
 
 -- what stands at a place is found there
-drop-StandsAt : {bytes part : List ℕ} {place : ℕ} (stands : StandsAt bytes place part) →
-    drop place bytes ≡ part ++ stands.rest
-drop-StandsAt {place = place} stands = rw stands.is (drop_at stands.front _ place stands.behind)
+drop-StandsAt : {bytes part : List ℕ} {offset : ℕ} (stands : StandsAt bytes offset part) →
+    drop offset bytes ≡ part ++ stands.rest
+drop-StandsAt {offset = offset} stands = rw stands.is (drop_at stands.prefix _ offset stands.after)
 
-pub word_at-StandsAt : (order : Order) (bytes : List ℕ) (place number : ℕ) →
-    StandsAt bytes place (word_bytes order number) → number < 2 ^ 32 → word_at order bytes place ≡ number
+pub word_at-StandsAt : (order : Order) (bytes : List ℕ) (offset number : ℕ) →
+    StandsAt bytes offset (word_bytes order number) → number < 2 ^ 32 → word_at order bytes offset ≡ number
 unfolding word_at word_bytes
-word_at-StandsAt Little bytes place number stands small = rw (drop-StandsAt stands) (little_number-reads_back 4 number stands.rest small)
-word_at-StandsAt Big bytes place number stands small = rw (drop-StandsAt stands) (big_number-reads_back 4 number stands.rest small)
+word_at-StandsAt Little bytes offset number stands small = rw (drop-StandsAt stands) (little_number-reads_back 4 number stands.rest small)
+word_at-StandsAt Big bytes offset number stands small = rw (drop-StandsAt stands) (big_number-reads_back 4 number stands.rest small)
 
-slice_range-StandsAt : {bytes : List ℕ} {place : ℕ} (part : List ℕ) → StandsAt bytes place part →
-    slice_range bytes place (place + length part) ≡ part
-slice_range-StandsAt {place = place} part stands =
-    let len : length part ≡ place + length part - place = omega arith in
+slice_range-StandsAt : {bytes : List ℕ} {offset : ℕ} (part : List ℕ) → StandsAt bytes offset part →
+    slice_range bytes offset (offset + length part) ≡ part
+slice_range-StandsAt {offset = offset} part stands =
+    let len : length part ≡ offset + length part - offset = omega arith in
     rw (drop-StandsAt stands) (take_at part stands.rest _ len)
 
-slice_get-append : (front : List ℕ) (x : ℕ) (rest : List ℕ) →
-    slice_get (front ++ x ∷ rest) (length front) ≡ Some x
+slice_get-append : (prefix : List ℕ) (x : ℕ) (rest : List ℕ) →
+    slice_get (prefix ++ x ∷ rest) (length prefix) ≡ Some x
 slice_get-append [] x rest = refl
 slice_get-append (y ∷ ys) x rest = slice_get-append ys x rest
 
-slice_get-StandsAt : {bytes : List ℕ} {place x : ℕ} → StandsAt bytes place (x ∷ []) →
-    slice_get bytes place ≡ Some x
-slice_get-StandsAt stands = rw (stands.is, ← stands.behind) (slice_get-append stands.front _ stands.rest)
+slice_get-StandsAt : {bytes : List ℕ} {offset x : ℕ} → StandsAt bytes offset (x ∷ []) →
+    slice_get bytes offset ≡ Some x
+slice_get-StandsAt stands = rw (stands.is, ← stands.after) (slice_get-append stands.prefix _ stands.rest)
 
--- what a table and strings come to behind their first few
-table-append : (order : Order) (start behind : ℕ) (xs ys : List (List ℕ)) →
-    start + length (terminated xs) ≡ behind →
-    table order start (xs ++ ys) ≡ table order start xs ++ table order behind ys
-table-append order start behind [] ys is = let same : start ≡ behind = omega arith in ap (λ b. table order b ys) same
-table-append order start behind (x ∷ xs) ys is =
+-- what a table and strings come to after their first few
+table-append : (order : Order) (start after : ℕ) (xs ys : List (List ℕ)) →
+    start + length (terminated xs) ≡ after →
+    table order start (xs ++ ys) ≡ table order start xs ++ table order after ys
+table-append order start after [] ys is = let same : start ≡ after = omega arith in ap (λ b. table order b ys) same
+table-append order start after (x ∷ xs) ys is =
     let len : length (terminated (x ∷ xs)) ≡ length x + 1 + length (terminated xs) = simp length-append in
-    rw (table-append order (start + length x + 1) behind xs ys (omega arith)) (simp append_assoc)
+    rw (table-append order (start + length x + 1) after xs ys (omega arith)) (simp append_assoc)
 
 terminated-append : (xs ys : List (List ℕ)) → terminated (xs ++ ys) ≡ terminated xs ++ terminated ys
 terminated-append [] ys = refl
@@ -77,38 +77,38 @@ pub record IsString (order : Order) (bytes : List ℕ) (at i : ℕ) (s : List �
 
 -- one string among others, with its entry in the table
 module _ (order : Order) (bytes : List ℕ) (at start : ℕ) (xs : List (List ℕ)) (s : List ℕ) (ys : List (List ℕ)) where
-  abbrev behind : ℕ
-  behind = start + length (terminated xs)
+  abbrev after : ℕ
+  after = start + length (terminated xs)
 
-  module _ (in_table : StandsAt bytes at (table order start (xs ++ s ∷ ys))) (small : behind + length s < 2 ^ 32) where
+  module _ (in_table : StandsAt bytes at (table order start (xs ++ s ∷ ys))) (small : after + length s < 2 ^ 32) where
     abbrev later : List ℕ
-    later = table order (behind + length s + 1) ys
+    later = table order (after + length s + 1) ys
 
     len_here : word_at order bytes (at + 8 * length xs) ≡ length s
     len_here =
-        let split : table order start (xs ++ s ∷ ys) ≡ table order start xs ++ (word_bytes order (length s) ++ (word_bytes order behind ++ later)) =
-        table-append order start behind xs (s ∷ ys) refl ∙ simp append_assoc in
+        let split : table order start (xs ++ s ∷ ys) ≡ table order start xs ++ (word_bytes order (length s) ++ (word_bytes order after ++ later)) =
+        table-append order start after xs (s ∷ ys) refl ∙ simp append_assoc in
         word_at-StandsAt order bytes (at + 8 * length xs) (length s)
-        (StandsAt-part (table order start xs) (word_bytes order (length s)) (word_bytes order behind ++ later) in_table split
+        (StandsAt-part (table order start xs) (word_bytes order (length s)) (word_bytes order after ++ later) in_table split
         (omega (arith, length-table order start xs)))
         (omega arith)
 
-    offset_here : offset_at order bytes at (length xs) ≡ behind
+    offset_here : offset_at order bytes at (length xs) ≡ after
     offset_here =
-        let front = table order start xs ++ word_bytes order (length s) in
-        let split : table order start (xs ++ s ∷ ys) ≡ front ++ (word_bytes order behind ++ later) =
-        table-append order start behind xs (s ∷ ys) refl ∙ simp append_assoc in
-        word_at-StandsAt order bytes (at + 8 * length xs + 4) behind
-        (StandsAt-part front (word_bytes order behind) later in_table split
+        let prefix = table order start xs ++ word_bytes order (length s) in
+        let split : table order start (xs ++ s ∷ ys) ≡ prefix ++ (word_bytes order after ++ later) =
+        table-append order start after xs (s ∷ ys) refl ∙ simp append_assoc in
+        word_at-StandsAt order bytes (at + 8 * length xs + 4) after
+        (StandsAt-part prefix (word_bytes order after) later in_table split
         (simp (length-append, length-word_bytes, length-table) (omega arith)))
         (omega arith)
 
   module _ (in_strings : StandsAt bytes start (terminated (xs ++ s ∷ ys))) where
-    string_here : StandsAt bytes behind s
+    string_here : StandsAt bytes after s
     string_here =
         StandsAt-part (terminated xs) s (0 ∷ terminated ys) in_strings (terminated-append xs (s ∷ ys) ∙ simp append_assoc) refl
 
-    nul_here : StandsAt bytes (behind + length s) (0 ∷ [])
+    nul_here : StandsAt bytes (after + length s) (0 ∷ [])
     nul_here =
         StandsAt-part (terminated xs ++ s) (0 ∷ []) (terminated ys) in_strings (terminated-append xs (s ∷ ys) ∙ simp append_assoc)
         (omega (arith, length-append (terminated xs) s))

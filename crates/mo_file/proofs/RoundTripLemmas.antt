@@ -12,7 +12,7 @@ use Rattle.mo_file.specs.Header.{Shows, magic, revision, message_count, original
 use Rattle.mo_file.specs.Message.{Message, originals, translations}
 use Rattle.mo_file.specs.Key.{AreRising, keys}
 use Rattle.mo_file.specs.StringTable.{messages_of, message_at}
-use Rattle.mo_file.specs.Layout.{header, layout, originals_place, table, terminated, translations_place}
+use Rattle.mo_file.specs.Layout.{header, layout, originals_offset, table, terminated, translations_offset}
 use Rattle.mo_file.specs.Checking.{HasStrings, IsHeader, IsSortedBelow}
 use Rattle.mo_file.specs.Laws.{LayoutIsCatalog}
 use Rattle.mo_file.proofs.BuildLemmas.{length-header, length-layout, length-magic, length-table, length-word_bytes}
@@ -55,10 +55,10 @@ module _ (order : Order) (messages : List Message) where
 
   -- the two tables, and the two rows of strings
   abbrev original_entries : List ℕ
-  original_entries = table order (originals_place messages) (originals messages)
+  original_entries = table order (originals_offset messages) (originals messages)
 
   abbrev translation_entries : List ℕ
-  translation_entries = table order (translations_place messages) (translations messages)
+  translation_entries = table order (translations_offset messages) (translations messages)
 
   abbrev original_strings : List ℕ
   original_strings = terminated (originals messages)
@@ -70,9 +70,9 @@ module _ (order : Order) (messages : List Message) where
   body = original_entries ++ (translation_entries ++ (original_strings ++ translation_strings))
 
   -- a part of the layout
-  stands : (front part rest : List ℕ) (place : ℕ) → bytes ≡ front ++ (part ++ rest) → length front ≡ place →
-      StandsAt bytes place part
-  stands front part rest place is behind = record { front = front; rest = rest; is = is; behind = behind }
+  stands : (prefix part rest : List ℕ) (offset : ℕ) → bytes ≡ prefix ++ (part ++ rest) → length prefix ≡ offset →
+      StandsAt bytes offset part
+  stands prefix part rest offset is after = record { prefix = prefix; rest = rest; is = is; after = after }
 
   shows : Shows order bytes
   shows =
@@ -93,51 +93,51 @@ module _ (order : Order) (messages : List Message) where
 
     count_is : message_count order bytes ≡ count
     count_is =
-        let front = magic order ++ revision_word in
+        let prefix = magic order ++ revision_word in
         let rest = originals_word ++ (translations_word ++ (hash_words ++ body)) in
         word_at-StandsAt order bytes 8 count
-        (stands front count_word rest 8 (simp append_assoc) (simp (length-append, length-magic, length-word_bytes)))
+        (stands prefix count_word rest 8 (simp append_assoc) (simp (length-append, length-magic, length-word_bytes)))
         (omega (arith, small))
 
     originals_table_is : originals_table order bytes ≡ 28
     originals_table_is =
-        let front = magic order ++ (revision_word ++ count_word) in
+        let prefix = magic order ++ (revision_word ++ count_word) in
         let rest = translations_word ++ (hash_words ++ body) in
         word_at-StandsAt order bytes 12 28
-        (stands front originals_word rest 12 (simp append_assoc) (simp (length-append, length-magic, length-word_bytes)))
+        (stands prefix originals_word rest 12 (simp append_assoc) (simp (length-append, length-magic, length-word_bytes)))
         (omega arith)
 
     translations_table_is : translations_table order bytes ≡ 28 + 8 * count
     translations_table_is =
-        let front = magic order ++ (revision_word ++ (count_word ++ originals_word)) in
+        let prefix = magic order ++ (revision_word ++ (count_word ++ originals_word)) in
         word_at-StandsAt order bytes 16 (28 + 8 * count)
-        (stands front translations_word (hash_words ++ body) 16 (simp append_assoc) (simp (length-append, length-magic, length-word_bytes)))
+        (stands prefix translations_word (hash_words ++ body) 16 (simp append_assoc) (simp (length-append, length-magic, length-word_bytes)))
         (omega (arith, small))
 
     -- where the tables and the strings stand
     original_entries_stand : StandsAt bytes (originals_table order bytes) original_entries
     original_entries_stand =
-        let front = header order count in
+        let prefix = header order count in
         let rest = translation_entries ++ (original_strings ++ translation_strings) in
-        stands front original_entries rest (originals_table order bytes) (simp append_assoc) (length-header order count ∙ sym originals_table_is)
+        stands prefix original_entries rest (originals_table order bytes) (simp append_assoc) (length-header order count ∙ sym originals_table_is)
 
     translation_entries_stand : StandsAt bytes (translations_table order bytes) translation_entries
     translation_entries_stand =
-        let front = header order count ++ original_entries in
+        let prefix = header order count ++ original_entries in
         let rest = original_strings ++ translation_strings in
-        stands front translation_entries rest (translations_table order bytes) (simp append_assoc)
+        stands prefix translation_entries rest (translations_table order bytes) (simp append_assoc)
         (simp (length-append, length-magic, length-word_bytes, length-table, length-map) (omega (arith, translations_table_is)))
 
-    original_strings_stand : StandsAt bytes (originals_place messages) original_strings
+    original_strings_stand : StandsAt bytes (originals_offset messages) original_strings
     original_strings_stand =
-        let front = header order count ++ (original_entries ++ translation_entries) in
-        stands front original_strings translation_strings (originals_place messages) (simp append_assoc)
+        let prefix = header order count ++ (original_entries ++ translation_entries) in
+        stands prefix original_strings translation_strings (originals_offset messages) (simp append_assoc)
         (simp (length-append, length-magic, length-word_bytes, length-table, length-map) (omega arith))
 
-    translation_strings_stand : StandsAt bytes (translations_place messages) translation_strings
+    translation_strings_stand : StandsAt bytes (translations_offset messages) translation_strings
     translation_strings_stand =
-        let front = header order count ++ (original_entries ++ (translation_entries ++ original_strings)) in
-        stands front translation_strings [] (translations_place messages) (simp (append_assoc, append-nil))
+        let prefix = header order count ++ (original_entries ++ (translation_entries ++ original_strings)) in
+        stands prefix translation_strings [] (translations_offset messages) (simp (append_assoc, append-nil))
         (simp (length-append, length-magic, length-word_bytes, length-table, length-map) (omega arith))
 
     -- the strings of message i
@@ -145,7 +145,7 @@ module _ (order : Order) (messages : List Message) where
         IsString order bytes (originals_table order bytes) i m.original
     original_here i m is =
         let original = λ (x : Message). x.original in
-        IsString-laid order bytes (originals_table order bytes) (originals_place messages) (originals messages) original_entries_stand
+        IsString-laid order bytes (originals_table order bytes) (originals_offset messages) (originals messages) original_entries_stand
         original_strings_stand (omega (arith, small)) i m.original
         (slice_get-map original messages i ∙ ap (option_map original) is)
 
@@ -153,7 +153,7 @@ module _ (order : Order) (messages : List Message) where
         IsString order bytes (translations_table order bytes) i m.translation
     translation_here i m is =
         let translation = λ (x : Message). x.translation in
-        IsString-laid order bytes (translations_table order bytes) (translations_place messages) (translations messages) translation_entries_stand
+        IsString-laid order bytes (translations_table order bytes) (translations_offset messages) (translations messages) translation_entries_stand
         translation_strings_stand (omega (arith, small)) i m.translation
         (slice_get-map translation messages i ∙ ap (option_map translation) is)
 

@@ -1,5 +1,5 @@
 -- The faults for which bytes aren't an MO file ("The Format of GNU MO Files"), and which of them is
--- told.
+-- reported.
 use Rattle.std.specs.Prelude.{◌≡◌, ◌≢◌, ℕ, ◌+◌, ◌*◌, ◌/◌, ◌<◌, ◌⊎◌, List, length, Some, slice_get}
 use Rattle.std.specs.declared.cmp.Ordering.TheVariants.{Less}
 use Rattle.mo_file.specs.declared.byte_order.Order.{Order}
@@ -10,7 +10,7 @@ use Rattle.mo_file.specs.Header.{Shows, revision, message_count, originals_table
 use Rattle.mo_file.specs.StringTable.{end_at, original_at}
 use Rattle.mo_file.specs.Key.{key_of, key_cmp}
 
--- the original or the translation of message i ends behind the file
+-- the original or the translation of message i ends past the end of the file
 abbrev pub IsOutside : Order → List ℕ → ℕ → Type 0
 IsOutside order bytes i =
     (length bytes < end_at order bytes (originals_table order bytes) i)
@@ -27,7 +27,7 @@ abbrev pub IsUnsorted : Order → List ℕ → ℕ → Type 0
 IsUnsorted order bytes i =
     key_cmp (key_of (original_at order bytes i)) (key_of (original_at order bytes (i + 1))) ≢ Less
 
--- the faults behind the magic number, of bytes that are read in this order
+-- the faults after the magic number, of bytes that are read in this order
 abbrev pub HasFaultIn : Order → List ℕ → MoError → Type 0
 HasFaultIn order bytes TooShort = ⊥
 HasFaultIn order bytes BadMagic = ⊥
@@ -61,18 +61,18 @@ kind (NoTerminator i) = 6
 kind (NotSorted i) = 7
 
 -- the message that a fault names
-abbrev pub place : MoError → ℕ
-place TooShort = 0
-place BadMagic = 0
-place BadRevision = 0
-place TableOutside = 0
-place (StringOutside i) = i
-place (NoTerminator i) = i
-place (NotSorted i) = i
+abbrev pub index : MoError → ℕ
+index TooShort = 0
+index BadMagic = 0
+index BadRevision = 0
+index TableOutside = 0
+index (StringOutside i) = i
+index (NoTerminator i) = i
+index (NotSorted i) = i
 
 -- a fault is reported before another by its kind, then by its message
 abbrev pub IsBefore : MoError → MoError → Type 0
-IsBefore f e = (kind f < kind e) ⊎ ((kind f ≡ kind e) × (place f < place e))
+IsBefore f e = (kind f < kind e) ⊎ ((kind f ≡ kind e) × (index f < index e))
 
 -- the fault that is reported of these bytes
 pub record IsFirstFault (bytes : List ℕ) (e : MoError) : Type 0 where

@@ -1,5 +1,5 @@
 -- The key by which a message is looked up ("The Format of GNU MO Files"): a context stands before
--- the msgid with a byte 4 (EOT) between them, and a plural form stands after it behind a NUL.
+-- the msgid with a byte 4 (EOT) between them, and a plural form stands after it after a NUL.
 use Rattle.std.specs.Prelude.{◌≡◌, ℕ, ◌+◌, ◌<◌, ◌==◌, Bool, List, [], ◌∷◌, ◌++◌, length, map, slice_index_or, Option, None, Some}
 use Rattle.std.specs.Ordering.{nat_cmp}
 use Rattle.std.specs.declared.cmp.Ordering.{Ordering}

@@ -29,19 +29,19 @@ header order count =
     ++ word_bytes order (28 + 16 * count)
 
 -- where the originals begin
-abbrev pub originals_place : List Message → ℕ
-originals_place messages = 28 + 16 * length messages
+abbrev pub originals_offset : List Message → ℕ
+originals_offset messages = 28 + 16 * length messages
 
 -- where the translations begin
-abbrev pub translations_place : List Message → ℕ
-translations_place messages = originals_place messages + length (terminated (originals messages))
+abbrev pub translations_offset : List Message → ℕ
+translations_offset messages = originals_offset messages + length (terminated (originals messages))
 
 -- the whole file
 abbrev pub layout : Order → List Message → List ℕ
 layout order messages =
     header order (length messages)
-    ++ table order (originals_place messages) (originals messages)
-    ++ table order (translations_place messages) (translations messages)
+    ++ table order (originals_offset messages) (originals messages)
+    ++ table order (translations_offset messages) (translations messages)
     ++ terminated (originals messages)
     ++ terminated (translations messages)
 

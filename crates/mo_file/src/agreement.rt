@@ -82,7 +82,7 @@ fn first_set(mask: u64, lanes: usize) -> usize
     }
 }
 
-/// The byte at a place of a text, or 0 behind its end, as where a NUL ends it.
+/// The byte at a place of a text, or 0 after its end, as where a NUL ends it.
 #[inline(always)]
 pub(crate) fn byte_at(text: &[u8], at: usize) -> u8
     ensures { result ≡ slice_index text.now at }

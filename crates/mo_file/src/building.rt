@@ -7,7 +7,7 @@ ghost use Rattle.mo_file.specs.Pairs.{messages_of_lent, messages_of_pairs};
 use crate::byte_order::Order;
 use crate::header::HEADER_LEN;
 use crate::pairs::{LentPair, Pair, Part, are_rising, lend};
-use crate::writing::{originals_place, push_header, push_strings, push_table};
+use crate::writing::{originals_offset, push_header, push_strings, push_table};
 use std::alloc::{AllocError, Global};
 use thiserror::Error;
 
@@ -124,7 +124,7 @@ fn laid_out(
     let count = pairs.len() as u32;
     let mut out = Vec::with_capacity(alloc, len as usize)?;
     push_header(&mut out, order, count)?;
-    let originals = originals_place(count);
+    let originals = originals_offset(count);
     let translations = push_table(&mut out, order, pairs, Part::Original, originals)?;
     push_table(&mut out, order, pairs, Part::Translation, translations)?;
     push_strings(&mut out, pairs, Part::Original)?;

@@ -12,7 +12,7 @@ pub(crate) const LITTLE_MAGIC: [u8; 4] = [0xde, 0x12, 0x04, 0x95];
 pub(crate) const BIG_MAGIC: [u8; 4] = [0x95, 0x04, 0x12, 0xde];
 
 /// The byte order of the 32-bit words of an MO file ("The Format of GNU MO Files"): the machine that
-/// reads a file tells it from the magic number.
+/// reads a file knows it from the magic number.
 #[derive(Clone, Copy, Debug, PartialEq, Eq)]
 pub enum Order {
     /// The lowest byte of a word first.

@@ -14,10 +14,10 @@ pub enum MoError {
     /// The major revision, the high 16 bits of the second word, is neither 0 nor 1.
     #[error("unknown revision")]
     BadRevision,
-    /// The table of the originals or that of the translations ends behind the file.
+    /// The table of the originals or that of the translations ends past the end of the file.
     #[error("table outside the file")]
     TableOutside,
-    /// The original or the translation of this message ends behind the file.
+    /// The original or the translation of this message ends past the end of the file.
     #[error("string {0} outside the file")]
     StringOutside(u32),
     /// No NUL follows the original or the translation of this message.

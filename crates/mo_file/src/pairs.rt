@@ -12,7 +12,7 @@ use std::cmp::Ordering;
 /// between them ("The Format of GNU MO Files").
 #[derive(Debug, Drop)]
 pub struct Pair {
-    /// What is looked up, and the plural behind it.
+    /// What is looked up, and the plural after it.
     pub original: Vec<u8>,
     /// What stands in its place.
     pub translation: Vec<u8>,

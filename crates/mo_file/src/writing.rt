@@ -7,8 +7,8 @@ use crate::header::{ENTRY_LEN, HEADER_LEN};
 use crate::pairs::{LentPair, Part};
 use std::alloc::AllocError;
 
-/// Where the originals begin in a file of so many messages: behind the header and both tables.
-pub(crate) fn originals_place(count: u32) -> u32
+/// Where the originals begin in a file of so many messages: after the header and both tables.
+pub(crate) fn originals_offset(count: u32) -> u32
     requires { 28 + 16 * count < 2 ^ 32 }
     ensures { result ≡ 28 + 16 * count }
 {
@@ -30,25 +30,25 @@ pub(crate) fn push_header(out: &mut Vec<u8>, order: Order, count: u32) -> Result
     push_word(out, order, HEADER_LEN)?;
     push_word(out, order, HEADER_LEN + ENTRY_LEN * count)?;
     push_word(out, order, 0)?;
-    push_word(out, order, originals_place(count))
+    push_word(out, order, originals_offset(count))
 }
 
-/// Appends the table of strings of which the first is to stand at a place, and gives the place behind
+/// Appends the table of strings of which the first is to stand at a place, and gives the place after
 /// the NUL of the last.
 pub(crate) fn push_table(
     out: &mut Vec<u8>,
     order: Order,
     pairs: &[LentPair<'_>],
     part: Part,
-    place: u32,
+    offset: u32,
 ) -> Result<u32, AllocError>
-    requires { place + length (terminated (strings_of part pairs.now)) < 2 ^ 32 }
+    requires { offset + length (terminated (strings_of part pairs.now)) < 2 ^ 32 }
     ensures entries { OnOk result
-        (out.new.items ≡ out.old.items ++ table order place (strings_of part pairs.now)) }
-    ensures place { IfOk result
-        (λ end. end ≡ place + length (terminated (strings_of part pairs.now))) }
+        (out.new.items ≡ out.old.items ++ table order offset (strings_of part pairs.now)) }
+    ensures offset { IfOk result
+        (λ end. end ≡ offset + length (terminated (strings_of part pairs.now))) }
 {
-    let mut at = place;
+    let mut at = offset;
     for pair in pairs {
         let len = pair.string(part).len() as u32;
         push_word(out, order, len)?;

@@ -10,33 +10,33 @@ use Rattle.plural_rule.specs.PluralRule.{Meaning}
 use Rattle.mo_file.specs.Key.{query_key}
 use Rattle.mo_lookup.specs.Query.{Query, is_clean_key}
 use Rattle.mo_lookup.specs.Answer.{answer, translated, untranslated, untranslated_text}
-use Rattle.mo_lookup.specs.Contents.{Contents, forms, forms_found, told, translation_under}
-use Rattle.mo_lookup.specs.Chain.{answering_nodes, asked, chain_bound, chain_told, has_key, IsFirstWith, translates}
+use Rattle.mo_lookup.specs.Contents.{Contents, forms, forms_found, answered, translation_under}
+use Rattle.mo_lookup.specs.Chain.{answering_nodes, asked, chain_bound, chain_answered, has_key, IsFirstWith, translates}
 
 -- the catalogues before a place don't have the key, and were asked within their bounds
-pub record HaveNot (key : List ℕ) (chain : List Contents) (place began counted : ℕ) : Type 0 where
-  pub first : place + position_or_len (has_key key) (drop place chain) ≡ position_or_len (has_key key) chain
+pub record HaveNot (key : List ℕ) (chain : List Contents) (index began counted : ℕ) : Type 0 where
+  pub first : index + position_or_len (has_key key) (drop index chain) ≡ position_or_len (has_key key) chain
   pub rises : began ≤ counted
-  pub bound : counted ≤ began + chain_bound (take place chain)
-  pub small : counted ≤ began + 32 * place
+  pub bound : counted ≤ began + chain_bound (take index chain)
+  pub small : counted ≤ began + 32 * index
 
 -- where the test holds of the element at a place, and of none before, that place is the first
-first-at : (test : Contents → Bool) (chain : List Contents) (place : ℕ) (contents : Contents) →
-    place + position_or_len test (drop place chain) ≡ position_or_len test chain → place < length chain →
-    contents ≡ get_or chain place contents → test contents ≡ true → place ≡ position_or_len test chain
-first-at test chain place contents first inside is holds =
-    let cut : drop place chain ≡ contents ∷ drop (suc place) chain =
-    drop-cons chain place contents inside ∙ ap (λ x. x ∷ drop (suc place) chain) (sym is) in
-    let none : position_or_len test (drop place chain) ≡ 0 = rw (cut, holds) refl in
+first-at : (test : Contents → Bool) (chain : List Contents) (index : ℕ) (contents : Contents) →
+    index + position_or_len test (drop index chain) ≡ position_or_len test chain → index < length chain →
+    contents ≡ get_or chain index contents → test contents ≡ true → index ≡ position_or_len test chain
+first-at test chain index contents first inside is holds =
+    let cut : drop index chain ≡ contents ∷ drop (suc index) chain =
+    drop-cons chain index contents inside ∙ ap (λ x. x ∷ drop (suc index) chain) (sym is) in
+    let none : position_or_len test (drop index chain) ≡ 0 = rw (cut, holds) refl in
     omega arith
 
 -- the catalogue that has the key is the first, and the translation is that which stands there
-pub HaveNot-first : (key : List ℕ) (chain : List Contents) (place began counted : ℕ) (contents : Contents) (translation : List ℕ) →
-    HaveNot key chain place began counted → place < length chain → contents ≡ get_or chain place contents →
-    Some translation ≡ translation_under key contents.messages → IsFirstWith key chain place contents translation
-HaveNot-first key chain place began counted contents translation none inside is found = record {
-  first = first-at (has_key key) chain place contents none.first inside is (ap is_some (sym found));
-  there = slice_get-get_or chain place contents inside ∙ ap (λ x. Some x) (sym is);
+pub HaveNot-first : (key : List ℕ) (chain : List Contents) (index began counted : ℕ) (contents : Contents) (translation : List ℕ) →
+    HaveNot key chain index began counted → index < length chain → contents ≡ get_or chain index contents →
+    Some translation ≡ translation_under key contents.messages → IsFirstWith key chain index contents translation
+HaveNot-first key chain index began counted contents translation none inside is found = record {
+  first = first-at (has_key key) chain index contents none.first inside is (ap is_some (sym found));
+  there = slice_get-get_or chain index contents inside ∙ ap (λ x. Some x) (sym is);
   under = sym found;
 }
 
@@ -80,13 +80,13 @@ pub record Answers (chain : List Contents) (query : Query) (contents : Contents)
   pub count_is : count ≡ asked chain query
 
 -- where a catalogue has the key, it answers, and those up to it are asked
-pub chain-found : (chain : List Contents) (query : Query) (place : ℕ) (contents : Contents) (translation : List ℕ) →
-    is_clean_key query.context query.id ≡ true → IsFirstWith (query_key query.context query.id) chain place contents translation →
-    Answers chain query contents translation (place + 1)
-chain-found chain query place contents translation clean is =
-    let first : position_or_len (translates query) chain ≡ place =
+pub chain-found : (chain : List Contents) (query : Query) (index : ℕ) (contents : Contents) (translation : List ℕ) →
+    is_clean_key query.context query.id ≡ true → IsFirstWith (query_key query.context query.id) chain index contents translation →
+    Answers chain query contents translation (index + 1)
+chain-found chain query index contents translation clean is =
+    let first : position_or_len (translates query) chain ≡ index =
     same-position (translates query) (has_key (query_key query.context query.id)) (translates-clean query clean) chain ∙ sym is.first in
-    let inside : place < length chain = slice_get_within chain place contents is.there in
+    let inside : index < length chain = slice_get_within chain index contents is.there in
     record {
       first = find_at (translates query) chain ∙ ap (slice_get chain) first ∙ is.there;
       forms_are = rw (clean, is.under) refl;
@@ -100,14 +100,14 @@ same-outcome fs rule None text steps t s = rw (t, s) refl
 same-outcome fs rule (Some plural) text steps t s = rw (t, s) refl
 
 -- its form and its steps are what the chain answers
-pub Answers-told : (chain : List Contents) (query : Query) (contents : Contents) (translation text : List ℕ) (count steps : ℕ) →
+pub Answers-answered : (chain : List Contents) (query : Query) (contents : Contents) (translation text : List ℕ) (count steps : ℕ) →
     Answers chain query contents translation count → text ≡ (translated (forms translation) contents.rule query.plural).text →
     steps ≡ (translated (forms translation) contents.rule query.plural).steps →
-    record { text = text; found = true; steps = steps } ≡ chain_told chain query
-Answers-told chain query contents translation text count steps is t s =
+    record { text = text; found = true; steps = steps } ≡ chain_answered chain query
+Answers-answered chain query contents translation text count steps is t s =
     same-outcome (forms translation) contents.rule query.plural text steps t s
     ∙ sym (ap (λ fs. answer fs contents.rule query) is.forms_are)
-    ∙ sym (ap (λ c. option_map_or (λ contents. told contents query) c (untranslated query)) is.first)
+    ∙ sym (ap (λ c. option_map_or (λ contents. answered contents query) c (untranslated query)) is.first)
 
 -- its steps are at most the nodes of its rule
 pub Answers-nodes : (chain : List Contents) (query : Query) (contents : Contents) (translation : List ℕ) (count steps : ℕ) →
@@ -117,8 +117,8 @@ Answers-nodes chain query contents translation count steps is le =
     ap (λ c. option_map_or (λ contents. nodes contents.rule.tree) c 0) is.first in
     omega arith
 
--- what is told where no catalogue answers
-pub chain_told-none : (chain : List Contents) (query : Query) (text : List ℕ) → find (translates query) chain ≡ None →
-    text ≡ untranslated_text query.id query.plural → record { text = text; found = false; steps = 0 } ≡ chain_told chain query
-chain_told-none chain query text none t =
-    rw t (sym (ap (λ c. option_map_or (λ contents. told contents query) c (untranslated query)) none))
+-- what is answered where no catalogue answers
+pub chain_answered-none : (chain : List Contents) (query : Query) (text : List ℕ) → find (translates query) chain ≡ None →
+    text ≡ untranslated_text query.id query.plural → record { text = text; found = false; steps = 0 } ≡ chain_answered chain query
+chain_answered-none chain query text none t =
+    rw t (sym (ap (λ c. option_map_or (λ contents. answered contents query) c (untranslated query)) none))

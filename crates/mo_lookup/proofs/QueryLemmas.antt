@@ -18,12 +18,12 @@ second false eot is = is
 pub clean_by_eot : (text : List ℕ) (nul eot : Option ℕ) (no_nul no_eot : Bool) →
     IsFirstByte (is_byte 0) text nul → IsFirstByte (is_byte 4) text eot → is_some nul ≡ not no_nul → no_nul ≡ true →
     is_some eot ≡ not no_eot → no_eot ≡ is_clean text
-clean_by_eot text (Some place) eot true no_eot first_nul first_eot is_nul none is_eot = absurd (cc)
+clean_by_eot text (Some index) eot true no_eot first_nul first_eot is_nul none is_eot = absurd (cc)
 clean_by_eot text nul eot false no_eot first_nul first_eot is_nul none is_eot = absurd (cc)
-clean_by_eot text None (Some place) true true first_nul first_eot is_nul none is_eot = absurd (cc)
-clean_by_eot text None (Some place) true false first_nul first_eot is_nul none is_eot =
+clean_by_eot text None (Some index) true true first_nul first_eot is_nul none is_eot = absurd (cc)
+clean_by_eot text None (Some index) true false first_nul first_eot is_nul none is_eot =
     let inside = first_eot.0.high in
-    ap not (sym (list_any_at is_separator text place 0 (omega arith) (second (get_or text place 0 == 0) _ first_eot.1)))
+    ap not (sym (list_any_at is_separator text index 0 (omega arith) (second (get_or text index 0 == 0) _ first_eot.1)))
 clean_by_eot text None None true false first_nul first_eot is_nul none is_eot = absurd (cc)
 clean_by_eot text None None true true first_nul first_eot is_nul none is_eot =
     ap not

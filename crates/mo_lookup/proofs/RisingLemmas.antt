@@ -1,4 +1,4 @@
--- Keys that rise strictly: what one comparison says of all keys before or behind it.
+-- Keys that rise strictly: what one comparison says of all keys before or after it.
 use Rattle.std.proofs.Common.{ℕ, zero, suc, ◌≡◌, ◌≢◌, ◌+◌, ◌-◌, ◌<◌, ◌≤◌, List, length, ap, ◌∙◌, sym, subst, inl, inr, arith}
 use Rattle.std.specs.declared.cmp.Ordering.TheVariants.{Less, Equal, Greater}
 use Rattle.std.specs.Ordering.{ordering_reverse}
@@ -54,7 +54,7 @@ none_up_to ks key m rising inside less i before =
 -- where key m is above another key, none from m on is that key
 pub none_from : (ks : List (List ℕ)) (key : List ℕ) (m : ℕ) → AreRising ks → key_cmp (key_at ks m) key ≡ Greater →
     (i : ℕ) → m ≤ i → i < length ks → key_at ks i ≢ key
-none_from ks key m rising greater i behind inside =
+none_from ks key m rising greater i after inside =
     let less : key_cmp key (key_at ks m) ≡ Less = greater_is_less (key_at ks m) key greater in
     let other : key ≢ key_at ks i =
     elim (cases_lt m i) [

@@ -4,7 +4,7 @@ use Rattle.std.specs.declared.cmp.Ordering.{Ordering}
 use Rattle.std.specs.declared.cmp.Ordering.TheVariants.{Less, Equal, Greater}
 use Rattle.mo_file.specs.Key.{AreRising, key_at, key_cmp}
 use Rattle.mo_lookup.specs.Bound.{search_bound}
-use Rattle.mo_lookup.specs.Place.{IsPlaceOf}
+use Rattle.mo_lookup.specs.Index.{IsIndexOf}
 use Rattle.mo_lookup.proofs.BoundLemmas.{search_bound-halves, search_bound-rises, search_bound-small}
 use Rattle.mo_lookup.proofs.RisingLemmas.{equal_is_same, none_up_to, none_from}
 
@@ -32,7 +32,7 @@ at-start : (ks now : List (List ℕ)) (key : List ℕ) (middle : ℕ) (order : O
     order ≡ key_cmp (key_at now middle) key → key_cmp (key_at ks middle) key ≡ order
 at-start ks now key middle order same is = rw (← same) (sym is)
 
--- key `middle` is below the one: half of the range or less lies behind it
+-- key `middle` is below the one: half of the range or less lies after it
 pub IsSearch-less : (ks : List (List ℕ)) (key : List ℕ) (now after : List (List ℕ)) (began counted low high middle : ℕ) →
     IsSearch ks key now began counted low high → low < high → middle < high → high - (middle + 1) ≤ (high - low) / 2 →
     Less ≡ key_cmp (key_at now middle) key → after ≡ now →
@@ -57,11 +57,11 @@ pub IsSearch-greater : (ks : List (List ℕ)) (key : List ℕ) (now after : List
     IsSearch ks key now began counted low high → low < high → low ≤ middle → middle < high → middle - low ≤ (high - low) / 2 →
     Greater ≡ key_cmp (key_at now middle) key → after ≡ now →
     IsSearch ks key after began (counted + 1) low middle
-IsSearch-greater ks key now after began counted low high middle is some behind inside half greater unchanged = record {
+IsSearch-greater ks key now after began counted low high middle is some following inside half greater unchanged = record {
   same = unchanged ∙ is.same;
   rising = is.rising;
   short = is.short;
-  ordered = behind;
+  ordered = following;
   inside = omega arith;
   below = is.below;
   above = none_from ks key middle is.rising (at-start ks now key middle Greater is.same greater);
@@ -95,7 +95,7 @@ IsSearch-compared ks key now began counted low high is some =
 
 pub IsSearch-found : (ks : List (List ℕ)) (key : List ℕ) (now : List (List ℕ)) (began counted low high middle : ℕ) →
     IsSearch ks key now began counted low high → middle < high → Equal ≡ key_cmp (key_at now middle) key →
-    IsPlaceOf ks key (Some middle)
+    IsIndexOf ks key (Some middle)
 IsSearch-found ks key now began counted low high middle is inside equal =
     let end = is.inside in
     (omega arith, equal_is_same (key_at ks middle) key (at-start ks now key middle Equal is.same equal))

@@ -12,13 +12,13 @@ use Rattle.std.proofs.lemmas.Slice.Eq.{bytes_eq-Decides}
 use Rattle.std.proofs.lemmas.Bool.{cases_lt}
 use Rattle.mo_file.specs.Message.{Message, translations}
 use Rattle.mo_file.specs.Key.{AreRising, key_of, keys, key_at, key_cmp}
-use Rattle.mo_lookup.specs.Place.{IsPlaceOf}
+use Rattle.mo_lookup.specs.Index.{IsIndexOf}
 use Rattle.mo_lookup.specs.Answer.{form_at}
 use Rattle.mo_lookup.specs.Contents.{forms, header_text, translation_under}
 use Rattle.mo_lookup.proofs.FormLemmas.{not_true}
 use Rattle.mo_lookup.proofs.RisingLemmas.{equal_is_same, less_is_other, rising_between}
 
--- what is read behind the end of a list of messages
+-- what is read after the end of a list of messages
 no_message : Message
 no_message = record { original = []; translation = [] }
 
@@ -40,11 +40,11 @@ tested-same messages key i inside same =
     decides.1 (sym (key_at-original messages i inside) ∙ same)
 
 -- what is found is the message at the place of the first key that is the one
-under-place : (messages : List Message) (key : List ℕ) (place : ℕ) → position_or_len (λ m. bytes_eq (key_of m.original) key) messages ≡ place →
-    translation_under key messages ≡ slice_get (translations messages) place
-under-place messages key place first =
+under-index : (messages : List Message) (key : List ℕ) (index : ℕ) → position_or_len (λ m. bytes_eq (key_of m.original) key) messages ≡ index →
+    translation_under key messages ≡ slice_get (translations messages) index
+under-index messages key index first =
     ap (option_map (λ m. m.translation)) (find_at (λ m. bytes_eq (key_of m.original) key) messages ∙ ap (slice_get messages) first)
-    ∙ sym (slice_get-map (λ m. m.translation) messages place)
+    ∙ sym (slice_get-map (λ m. m.translation) messages index)
 
 -- where key i is the one, translation i stands under it
 pub under-found : (messages : List Message) (key : List ℕ) (i : ℕ) → AreRising (keys messages) → i < length (keys messages) →
@@ -53,7 +53,7 @@ under-found messages key i rising inside same =
     let short : i < length messages = omega (arith, length-map messages (λ m. key_of m.original)) in
     let before : (k : ℕ) → k < i → key_at (keys messages) k ≢ key =
     λ k lt. rw (← same) (less_is_other _ _ (rising_between (keys messages) rising k i lt inside)) in
-    under-place messages key i
+    under-index messages key i
     (
     position_or_len_is (λ m. bytes_eq (key_of m.original) key) messages i no_message (omega arith)
     (λ k lt. tested-other messages key k (omega arith) (before k lt)) (λ lt. tested-same messages key i lt same)
@@ -64,7 +64,7 @@ pub under-none : (messages : List Message) (key : List ℕ) → ((i : ℕ) → i
     translation_under key messages ≡ None
 under-none messages key none =
     let same_length : length (keys messages) ≡ length messages = length-map messages (λ m. key_of m.original) in
-    under-place messages key (length messages)
+    under-index messages key (length messages)
     (
     position_or_len_is (λ m. bytes_eq (key_of m.original) key) messages (length messages) no_message (omega arith)
     (λ k lt. tested-other messages key k lt (none k (omega arith))) (λ lt. absurd (omega arith))
@@ -72,8 +72,8 @@ under-none messages key none =
     ∙ slice_get_past (translations messages) (length messages) (omega (arith, length-map messages (λ m. m.translation)))
 
 -- what a search of the keys finds
-pub under-searched : (messages : List Message) (key : List ℕ) (place : Option ℕ) → AreRising (keys messages) → IsPlaceOf (keys messages) key place →
-    translation_under key messages ≡ option_and_then (slice_get (translations messages)) place
+pub under-searched : (messages : List Message) (key : List ℕ) (index : Option ℕ) → AreRising (keys messages) → IsIndexOf (keys messages) key index →
+    translation_under key messages ≡ option_and_then (slice_get (translations messages)) index
 under-searched messages key None rising none = under-none messages key none
 under-searched messages key (Some i) rising is = under-found messages key i rising is.0 is.1
 
@@ -85,9 +85,9 @@ not_below_empty (b ∷ bs) less = (cc)
 pub none-empty : (ks : List (List ℕ)) → AreRising ks → key_cmp (key_at ks 0) [] ≢ Equal → (i : ℕ) → i < length ks → key_at ks i ≢ []
 none-empty ks rising unequal i inside empty =
     elim (cases_lt 0 i) [
-      | inl behind ↦
+      | inl after ↦
           let P : List ℕ → Type 0 = λ k. key_cmp (key_at ks 0) k ≡ Less in
-          not_below_empty (key_at ks 0) (subst P empty (rising_between ks rising 0 i behind inside))
+          not_below_empty (key_at ks 0) (subst P empty (rising_between ks rising 0 i after inside))
       | inr first ↦
           let at : 0 ≡ i = omega arith in
           unequal (ap (λ k. key_cmp k []) (ap (key_at ks) at ∙ empty))

@@ -12,8 +12,8 @@ pub record Outcome : Type 0 where
   pub steps : ℕ
 
 -- what the result of a look-up says
-abbrev pub outcome_of : Answer → Outcome
-outcome_of answer = record { text = answer.text.now; found = answer.found; steps = answer.steps }
+abbrev pub answer_view : Answer → Outcome
+answer_view answer = record { text = answer.text.now; found = answer.found; steps = answer.steps }
 
 -- a form of a translation
 abbrev pub form_at : List (List ℕ) → ℕ → List ℕ
@@ -22,8 +22,8 @@ form_at forms index = slice_index_or forms index []
 -- the form that the value of a rule selects: form 0 where the value is undefined, isn't below the rule's number of forms,
 -- or isn't below the number of forms that are there
 abbrev pub selected_form : List (List ℕ) → ℕ → Option ℕ → List ℕ
-selected_form forms number None = form_at forms 0
-selected_form forms number (Some index) = if nat_lt index (min number (length forms)) then form_at forms index else form_at forms 0
+selected_form forms nplurals None = form_at forms 0
+selected_form forms nplurals (Some index) = if nat_lt index (min nplurals (length forms)) then form_at forms index else form_at forms 0
 
 -- the msgid, or for a count that isn't 1 the plural
 abbrev pub untranslated_text : List ℕ → Option (List ℕ × ℕ) → List ℕ
@@ -38,7 +38,7 @@ untranslated query = record { text = untranslated_text query.id query.plural; fo
 abbrev pub translated : List (List ℕ) → Meaning → Option (List ℕ × ℕ) → Outcome
 translated forms rule None = record { text = form_at forms 0; found = true; steps = 0 }
 translated forms rule (Some plural) =
-    record { text = selected_form forms rule.number (value rule.tree plural.1); found = true; steps = visited rule.tree plural.1 }
+    record { text = selected_form forms rule.nplurals (value rule.tree plural.1); found = true; steps = visited rule.tree plural.1 }
 
 -- the answer to a query, from the forms of its translation, where it has one, and the plural rule
 abbrev pub answer : Option (List (List ℕ)) → Meaning → Query → Outcome

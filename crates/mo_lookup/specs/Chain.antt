@@ -7,19 +7,19 @@ use Rattle.mo_lookup.specs.declared.chain.ChainAnswer.{ChainAnswer}
 use Rattle.mo_lookup.specs.Bound.{search_bound}
 use Rattle.mo_lookup.specs.Query.{Query, is_clean_key}
 use Rattle.mo_lookup.specs.Answer.{Outcome, untranslated}
-use Rattle.mo_lookup.specs.Contents.{Contents, forms_found, told, translation_under}
+use Rattle.mo_lookup.specs.Contents.{Contents, forms_found, answered, translation_under}
 
 -- what the result of a look-up in a chain says
-abbrev pub chain_outcome_of : ChainAnswer → Outcome
-chain_outcome_of answer = record { text = answer.text.now; found = answer.found; steps = answer.steps }
+abbrev pub chain_answer_view : ChainAnswer → Outcome
+chain_answer_view answer = record { text = answer.text.now; found = answer.found; steps = answer.steps }
 
 -- whether a catalogue translates a query
 abbrev pub translates : Query → Contents → Bool
 translates query contents = is_some (forms_found contents.messages query)
 
 -- what a chain answers
-abbrev pub chain_told : List Contents → Query → Outcome
-chain_told chain query = option_map_or (λ contents. told contents query) (find (translates query) chain) (untranslated query)
+abbrev pub chain_answered : List Contents → Query → Outcome
+chain_answered chain query = option_map_or (λ contents. answered contents query) (find (translates query) chain) (untranslated query)
 
 -- how many catalogues of a chain are asked: those up to the first that translates the query, else all of them; none
 -- where the query isn't clean
@@ -40,7 +40,7 @@ abbrev pub has_key : List ℕ → Contents → Bool
 has_key key contents = is_some (translation_under key contents.messages)
 
 -- internal: the first catalogue of a chain that has a key, its place, and its translation under the key
-pub record IsFirstWith (key : List ℕ) (chain : List Contents) (place : ℕ) (contents : Contents) (translation : List ℕ) : Type 0 where
-  pub first : place ≡ position_or_len (has_key key) chain
-  pub there : slice_get chain place ≡ Some contents
+pub record IsFirstWith (key : List ℕ) (chain : List Contents) (index : ℕ) (contents : Contents) (translation : List ℕ) : Type 0 where
+  pub first : index ≡ position_or_len (has_key key) chain
+  pub there : slice_get chain index ≡ Some contents
   pub under : translation_under key contents.messages ≡ Some translation

@@ -38,5 +38,5 @@ forms_found messages query =
     else None
 
 -- what a catalogue answers
-abbrev pub told : Contents → Query → Outcome
-told contents query = answer (forms_found contents.messages query) contents.rule query
+abbrev pub answered : Contents → Query → Outcome
+answered contents query = answer (forms_found contents.messages query) contents.rule query

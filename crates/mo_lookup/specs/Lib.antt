@@ -1,5 +1,5 @@
 pub mod Bound
-pub mod Place
+pub mod Index
 pub mod Query
 pub mod Answer
 pub mod Contents

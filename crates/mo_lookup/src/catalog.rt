@@ -11,11 +11,11 @@ ghost use Rattle.mo_file.specs.Catalog.{IsCatalog};
 ghost use Rattle.mo_file.specs.Fault.{IsFirstFault, looks_before};
 ghost use Rattle.mo_lookup.specs.Bound.{search_bound};
 ghost use Rattle.mo_lookup.specs.Query.{query, given, is_clean_key};
-ghost use Rattle.mo_lookup.specs.Contents.{AreContents, header_text, forms, told, translation_under};
-ghost use Rattle.mo_lookup.specs.Answer.{outcome_of, translated};
+ghost use Rattle.mo_lookup.specs.Contents.{AreContents, header_text, forms, answered, translation_under};
+ghost use Rattle.mo_lookup.specs.Answer.{answer_view, translated};
 
 use crate::answer::Answer;
-use crate::forms::first_form;
+use crate::forms::before_nul;
 use crate::looking::{form, look, translation};
 use mo_file::{Meter, MoError, MoView};
 use plural_rule::Rule;
@@ -58,7 +58,7 @@ fn header_text<'a>(view: &MoView<'a>, meter: &mut Meter) -> &'a [u8]
         return b"";
     }
     match view.compare(0, None, b"", meter) {
-        Ordering::Equal => first_form(view.translation(0)),
+        Ordering::Equal => before_nul(view.translation(0)),
         _ => b"",
     }
 }
@@ -66,7 +66,7 @@ fn header_text<'a>(view: &MoView<'a>, meter: &mut Meter) -> &'a [u8]
 impl<'a> Catalog<'a> {
     /// Opens the bytes of an MO file in either byte order. They are checked whole, and refused with the first fault
     /// in the order of `MoError` exactly where they are no valid file. The meter rises by at most the number of
-    /// messages; where a key is out of order, by at most the place of the message that is told; else where the
+    /// messages; where a key is out of order, by at most the place of the message that is reported; else where the
     /// bytes are refused, not at all. Before the call its count is below 2^63.
     #[inline(always)]
     pub fn open(bytes: &'a [u8], meter: &mut Meter) -> Result<Catalog<'a>, MoError>
@@ -118,7 +118,7 @@ impl<'a> Catalog<'a> {
     where
         'a: 'q,
         requires { meter.old < 2 ^ 63 }
-        ensures told { outcome_of result ≡ told self.now (query context.entry id.now plural.entry) }
+        ensures answered { answer_view result ≡ answered self.now (query context.entry id.now plural.entry) }
         ensures counted { meter.new ≡ meter.old + result.comparisons }
         ensures bound { result.comparisons ≤ search_bound (length self.now.messages) }
         ensures unclean { is_clean_key (option_copied context.entry) id.now ≡ false → result.comparisons ≡ 0 }

@@ -5,7 +5,7 @@ ghost use Rattle.std.specs.List.{position_or_len};
 ghost use Rattle.std.specs.Option.{option_copied};
 ghost use Rattle.mo_file.specs.Key.{query_key};
 ghost use Rattle.mo_lookup.specs.Query.{query};
-ghost use Rattle.mo_lookup.specs.Chain.{answering_nodes, asked, chain_bound, chain_outcome_of, chain_told, has_key, IsFirstWith};
+ghost use Rattle.mo_lookup.specs.Chain.{answering_nodes, asked, chain_bound, chain_answer_view, chain_answered, has_key, IsFirstWith};
 
 use crate::catalog::Catalog;
 use crate::query::{is_clean_key, untranslated_text};
@@ -70,7 +70,7 @@ impl<'c, 'a> Chain<'c, 'a> {
     where
         'a: 'q,
         requires { meter.old < 2 ^ 62 }
-        ensures told { chain_outcome_of result ≡ chain_told self.now (query context.entry id.now plural.entry) }
+        ensures answered { chain_answer_view result ≡ chain_answered self.now (query context.entry id.now plural.entry) }
         ensures asked { result.asked ≡ asked self.now (query context.entry id.now plural.entry) }
         ensures counted { meter.new ≡ meter.old + result.comparisons }
         ensures bound { result.comparisons ≤ chain_bound (take result.asked self.now) }
@@ -103,7 +103,7 @@ impl<'c, 'a> Chain<'c, 'a> {
             found: true,
             comparisons,
             steps,
-            asked: first.place + 1,
+            asked: first.index + 1,
         }
     }
 }
@@ -111,7 +111,7 @@ impl<'c, 'a> Chain<'c, 'a> {
 /// The first catalogue that has a key, its place counted from 0, and its translation under the key.
 #[derive(Drop)]
 struct First<'c, 'a> {
-    place: u32,
+    index: u32,
     catalog: &'c Catalog<'a>,
     translation: &'a [u8],
 }
@@ -127,15 +127,15 @@ fn first_with<'c, 'a>(
     requires room { meter.old < 2 ^ 62 }
     ensures found { let key = query_key (option_copied context.entry) id.now in
         MatchOption result (position_or_len (has_key key) catalogs.now ≡ length catalogs.now)
-        (λ first. IsFirstWith key catalogs.now first.place first.catalog.now first.translation.now) }
+        (λ first. IsFirstWith key catalogs.now first.index first.catalog.now first.translation.now) }
     ensures rises { meter.old ≤ meter.new }
     ensures bound { let first = position_or_len (has_key (query_key (option_copied context.entry) id.now)) catalogs.now in
         meter.new ≤ meter.old + chain_bound (take (first + 1) catalogs.now) }
 {
-    for (place, catalog) in catalogs.iter().enumerate() {
+    for (index, catalog) in catalogs.iter().enumerate() {
         if let Some(translation) = catalog.translation(context, id, meter) {
             return Some(First {
-                place: place as u32,
+                index: index as u32,
                 catalog,
                 translation,
             });

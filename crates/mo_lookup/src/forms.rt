@@ -4,7 +4,7 @@ ghost use Rattle.std.specs.Prelude.{◌≡◌, ◌≤◌, [], ◌∷◌, length,
 ghost use Rattle.std.specs.Option.{option_copied};
 ghost use Rattle.plural_rule.specs.Expression.{nodes, value, visited};
 ghost use Rattle.plural_rule.specs.PluralRule.{expression_limit};
-ghost use Rattle.plural_rule.specs.PostOrder.{layout, tree_of};
+ghost use Rattle.plural_rule.specs.PostOrder.{post_order, tree_of};
 ghost use Rattle.mo_lookup.specs.Answer.{form_at, selected_form};
 ghost use Rattle.mo_lookup.specs.Contents.{forms};
 
@@ -12,7 +12,7 @@ use mo_file::find_byte;
 use plural_rule::{Node, evaluate};
 
 /// Form 0 of a translation, which each translation has.
-pub(crate) fn first_form(translation: &[u8]) -> &[u8]
+pub(crate) fn before_nul(translation: &[u8]) -> &[u8]
     ensures { result.now ≡ form_at (forms translation.now) 0 }
 {
     match find_byte(0, translation) {
@@ -21,7 +21,7 @@ pub(crate) fn first_form(translation: &[u8]) -> &[u8]
     }
 }
 
-/// The forms of a translation behind its first, or None where it has one form alone.
+/// The forms of a translation after its first, or None where it has one form alone.
 fn other_forms(translation: &[u8]) -> Option<&[u8]>
     ensures { MatchOption result (forms translation.now ≡ translation.now ∷ [])
         (λ others. forms translation.now ≡ form_at (forms translation.now) 0 ∷ forms others.now) }
@@ -38,7 +38,7 @@ fn form(translation: &[u8], index: u64) -> Option<&[u8]>
     for _ in 0..index {
         rest = other_forms(rest)?;
     }
-    Some(first_form(rest))
+    Some(before_nul(rest))
 }
 
 /// The form that a rule with `nplurals` forms selects for a count, and the nodes of its expression that were evaluated.
@@ -48,7 +48,7 @@ pub(crate) fn selected_form<'t>(
     table: &[Node],
     count: u64,
 ) -> (&'t [u8], u32)
-    requires laid { table.now ≡ layout 0 (tree_of table.now) }
+    requires laid { table.now ≡ post_order 0 (tree_of table.now) }
     requires limit { length table.now ≤ expression_limit }
     ensures text { result.0.now ≡ selected_form (forms translation.now) nplurals (value (tree_of table.now) count) }
     ensures steps { result.1 ≡ visited (tree_of table.now) count }
@@ -61,6 +61,6 @@ pub(crate) fn selected_form<'t>(
     };
     match selected {
         Some(text) => (text, steps),
-        None => (first_form(translation), steps),
+        None => (before_nul(translation), steps),
     }
 }

@@ -25,5 +25,5 @@ pub use laws::{
 };
 pub use looking::look;
 pub use plural_rule::laws::{longer_limit, one_rule, one_tree, visited_at_most_nodes};
-pub use plural_rule::{LIMIT, Node, Reason, Rule, Source};
+pub use plural_rule::{EXPRESSION_LIMIT, Node, Reason, Rule, Source};
 pub use search::{Keys, find};

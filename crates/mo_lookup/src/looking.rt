@@ -5,15 +5,15 @@ ghost use Rattle.std.specs.Option.{option_copied};
 ghost use Rattle.plural_rule.specs.declared.rule.Source.{Source};
 ghost use Rattle.plural_rule.specs.Expression.{nodes};
 ghost use Rattle.plural_rule.specs.PluralRule.{expression_limit};
-ghost use Rattle.plural_rule.specs.PostOrder.{layout, tree_of};
+ghost use Rattle.plural_rule.specs.PostOrder.{post_order, tree_of};
 ghost use Rattle.mo_file.specs.Key.{query_key};
 ghost use Rattle.mo_lookup.specs.Bound.{search_bound};
 ghost use Rattle.mo_lookup.specs.Query.{query, given, is_clean_key};
-ghost use Rattle.mo_lookup.specs.Contents.{forms, told, translation_under};
-ghost use Rattle.mo_lookup.specs.Answer.{outcome_of, translated};
+ghost use Rattle.mo_lookup.specs.Contents.{forms, answered, translation_under};
+ghost use Rattle.mo_lookup.specs.Answer.{answer_view, translated};
 
 use crate::answer::Answer;
-use crate::forms::{first_form, selected_form};
+use crate::forms::{before_nul, selected_form};
 use crate::query::{is_clean_key, untranslated_text};
 use crate::search::find;
 use crate::view_keys::ViewKeys;
@@ -34,10 +34,10 @@ pub fn look<'a, 'q>(
 where
     'a: 'q,
     requires room { meter.old < 2 ^ 63 }
-    requires laid { table.now ≡ layout 0 (tree_of table.now) }
+    requires laid { table.now ≡ post_order 0 (tree_of table.now) }
     requires limit { length table.now ≤ expression_limit }
-    ensures told { (source : Source) → outcome_of result
-        ≡ told (record { messages = view.now; rule = record { source = source; number = nplurals; tree = tree_of table.now } })
+    ensures answered { (source : Source) → answer_view result
+        ≡ answered (record { messages = view.now; rule = record { source = source; nplurals = nplurals; tree = tree_of table.now } })
         (query context.entry id.now plural.entry) }
     ensures counted { meter.new ≡ meter.old + result.comparisons }
     ensures bound { result.comparisons ≤ search_bound (length view.now) }
@@ -78,8 +78,8 @@ pub(crate) fn translation<'a>(
 {
     let _rising = view.len();
     let mut keys = ViewKeys { view, meter };
-    let place = find(&mut keys, context, id)?;
-    Some(view.translation(place))
+    let index = find(&mut keys, context, id)?;
+    Some(view.translation(index))
 }
 
 /// The form of a translation, form 0 where no plural is asked for, and the nodes that were evaluated for it.
@@ -89,18 +89,18 @@ pub(crate) fn form<'a>(
     translation: &'a [u8],
     plural: Option<(&[u8], u64)>,
 ) -> (&'a [u8], u32)
-    requires laid { table.now ≡ layout 0 (tree_of table.now) }
+    requires laid { table.now ≡ post_order 0 (tree_of table.now) }
     requires limit { length table.now ≤ expression_limit }
     ensures text { (source : Source) → result.0.now
-        ≡ (translated (forms translation.now) (record { source = source; number = nplurals; tree = tree_of table.now })
+        ≡ (translated (forms translation.now) (record { source = source; nplurals = nplurals; tree = tree_of table.now })
         (given plural.entry)).text }
     ensures steps { (source : Source) → result.1
-        ≡ (translated (forms translation.now) (record { source = source; number = nplurals; tree = tree_of table.now })
+        ≡ (translated (forms translation.now) (record { source = source; nplurals = nplurals; tree = tree_of table.now })
         (given plural.entry)).steps }
     ensures nodes { result.1 ≤ nodes (tree_of table.now) }
 {
     match plural {
         Some((_, count)) => selected_form(translation, nplurals, table, count),
-        None => (first_form(translation), 0),
+        None => (before_nul(translation), 0),
     }
 }

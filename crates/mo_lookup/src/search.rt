@@ -4,7 +4,7 @@ ghost use Rattle.std.specs.Prelude.{ℕ, ◌≡◌, ◌+◌, ◌-◌, ◌^◌, �
 ghost use Rattle.std.specs.Option.{option_copied};
 ghost use Rattle.mo_file.specs.Key.{AreRising, key_at, key_cmp, query_key};
 ghost use Rattle.mo_lookup.specs.Bound.{search_bound};
-ghost use Rattle.mo_lookup.specs.Place.{IsPlaceOf};
+ghost use Rattle.mo_lookup.specs.Index.{IsIndexOf};
 
 use std::cmp::Ordering;
 
@@ -42,7 +42,7 @@ pub trait Keys {
 /// comparison for each time that the number of keys can be halved.
 pub fn find<K: Keys>(keys: &mut K, context: Option<&[u8]>, id: &[u8]) -> Option<u32>
     requires { K.counted keys.old < 2 ^ 63 }
-    ensures place { IsPlaceOf (K.listed keys.old) (query_key (option_copied context.entry) id.now) result }
+    ensures index { IsIndexOf (K.listed keys.old) (query_key (option_copied context.entry) id.now) result }
     ensures unchanged { K.listed keys.new ≡ K.listed keys.old }
     ensures rises { K.counted keys.old ≤ K.counted keys.new }
     ensures cost { K.counted keys.new ≤ K.counted keys.old + search_bound (length (K.listed keys.old)) }

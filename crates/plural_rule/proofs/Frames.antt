@@ -5,9 +5,9 @@ use Rattle.plural_rule.specs.declared.evaluator.Frame.TheVariants.{Not as NotFra
 use Rattle.plural_rule.specs.declared.operator.Operator.{Operator}
 use Rattle.plural_rule.specs.Expression.{Tree, Not, Binary, Conditional, negated, binary_value, combined, chosen, value, visited, visited_right}
 use Rattle.plural_rule.specs.PostOrder.{numeral-parts}
-use Rattle.plural_rule.specs.Evaluation.{second_frame, Outcome, outcome_of, subtree, resumed, finished, remaining, remaining_frame, AreFramesOf, IsFrameOf}
+use Rattle.plural_rule.specs.Evaluation.{second_frame, Evaluated, evaluated, subtree, resumed, finished, remaining, remaining_frame, AreFramesOf, IsFrameOf}
 
-pub finished_more : (whole : Tree) (n : ℕ) (xs : List Frame) (f : Frame) (o : Outcome) → finished whole n (xs ++ f ∷ []) o ≡ finished whole n xs (resumed whole n f o)
+pub finished_more : (whole : Tree) (n : ℕ) (xs : List Frame) (f : Frame) (o : Evaluated) → finished whole n (xs ++ f ∷ []) o ≡ finished whole n xs (resumed whole n f o)
 finished_more whole n [] f o = refl
 finished_more whole n (x ∷ xs) f o = ap (resumed whole n x) (finished_more whole n xs f o)
 
@@ -24,7 +24,7 @@ frames_split whole [] f h = (tt, h.0)
 frames_split whole (x ∷ xs) f h = let s = frames_split whole xs f h.1 in ((h.0, s.0), s.1)
 
 -- an operator before its second operand
-pub resumed_second : (whole : Tree) (n : ℕ) (op : Operator) (left : ℕ) (o : Outcome) →
+pub resumed_second : (whole : Tree) (n : ℕ) (op : Operator) (left : ℕ) (o : Evaluated) →
     resumed whole n (second_frame op left) o ≡ record { value = option_and_then (combined op left) o.value; steps = o.steps }
 resumed_second whole n op left o =
     ap (λ x. record { value = option_and_then (combined op x) o.value; steps = o.steps }) (numeral-parts left)
@@ -41,7 +41,7 @@ finished_undefined whole n steps [] = refl
 finished_undefined whole n steps (x ∷ xs) = ap (resumed whole n x) (finished_undefined whole n steps xs) ∙ resumed_undefined whole n steps x
 
 -- one frame less
-pub finished_pop : (whole : Tree) (n : ℕ) (frames rest : List Frame) (f : Frame) (o next final : Outcome) → frames ≡ rest ++ f ∷ [] → finished whole n frames o ≡ final → resumed whole n f o ≡ next → finished whole n rest next ≡ final
+pub finished_pop : (whole : Tree) (n : ℕ) (frames rest : List Frame) (f : Frame) (o next final : Evaluated) → frames ≡ rest ++ f ∷ [] → finished whole n frames o ≡ final → resumed whole n f o ≡ next → finished whole n rest next ≡ final
 finished_pop whole n frames rest f o next final split is step =
     sym (ap (finished whole n rest) step) ∙ sym (finished_more whole n rest f o) ∙ sym (ap (λ xs. finished whole n xs o) split) ∙ is
 
@@ -53,17 +53,17 @@ pub remaining_pop : (whole : Tree) (frames rest : List Frame) (f : Frame) → fr
 remaining_pop whole frames rest f split = omega (arith, ap (remaining whole) split, remaining_more whole rest f)
 
 -- a visit of a node: what it becomes, and its first operand
-visits : (whole : Tree) (n steps : ℕ) (xs ys : List Frame) (frame : Frame) (first part : Tree) → ys ≡ xs ++ frame ∷ [] → resumed whole n frame (outcome_of first n (steps + 1)) ≡ outcome_of part n steps → finished whole n ys (outcome_of first n (steps + 1)) ≡ finished whole n xs (outcome_of part n steps)
+visits : (whole : Tree) (n steps : ℕ) (xs ys : List Frame) (frame : Frame) (first part : Tree) → ys ≡ xs ++ frame ∷ [] → resumed whole n frame (evaluated first n (steps + 1)) ≡ evaluated part n steps → finished whole n ys (evaluated first n (steps + 1)) ≡ finished whole n xs (evaluated part n steps)
 visits whole n steps xs ys frame first part split same =
-    ap (λ zs. finished whole n zs (outcome_of first n (steps + 1))) split ∙ finished_more whole n xs frame _ ∙ ap (finished whole n xs) same
+    ap (λ zs. finished whole n zs (evaluated first n (steps + 1))) split ∙ finished_more whole n xs frame _ ∙ ap (finished whole n xs) same
 
-pub visits_not : (whole part : Tree) (n steps : ℕ) (xs ys : List Frame) (i : ℕ) → ys ≡ xs ++ NotFrame ∷ [] → part ≡ Not (subtree whole i) → finished whole n ys (outcome_of (subtree whole i) n (steps + 1)) ≡ finished whole n xs (outcome_of part n steps)
+pub visits_not : (whole part : Tree) (n steps : ℕ) (xs ys : List Frame) (i : ℕ) → ys ≡ xs ++ NotFrame ∷ [] → part ≡ Not (subtree whole i) → finished whole n ys (evaluated (subtree whole i) n (steps + 1)) ≡ finished whole n xs (evaluated part n steps)
 visits_not whole part n steps xs ys i split is =
     let a = subtree whole i in
     let sum : steps + 1 + visited a n ≡ steps + (1 + visited a n) = omega arith in
     visits whole n steps xs ys NotFrame a part split (rw is (ap (λ (s : ℕ). record { value = negated (value a n); steps = s }) sum))
 
-pub visits_binary : (whole part : Tree) (n steps : ℕ) (xs ys : List Frame) (op : Operator) (i j : ℕ) → ys ≡ xs ++ First op j ∷ [] → part ≡ Binary op (subtree whole i) (subtree whole j) → finished whole n ys (outcome_of (subtree whole i) n (steps + 1)) ≡ finished whole n xs (outcome_of part n steps)
+pub visits_binary : (whole part : Tree) (n steps : ℕ) (xs ys : List Frame) (op : Operator) (i j : ℕ) → ys ≡ xs ++ First op j ∷ [] → part ≡ Binary op (subtree whole i) (subtree whole j) → finished whole n ys (evaluated (subtree whole i) n (steps + 1)) ≡ finished whole n xs (evaluated part n steps)
 visits_binary whole part n steps xs ys op i j split is =
     let a = subtree whole i in
     let b = subtree whole j in
@@ -72,7 +72,7 @@ visits_binary whole part n steps xs ys op i j split is =
     visits whole n steps xs ys (First op j) a part split
     (rw is (ap (λ (s : ℕ). record { value = binary_value op (value a n) (value b n); steps = s }) sum))
 
-pub visits_conditional : (whole part : Tree) (n steps : ℕ) (xs ys : List Frame) (i j k : ℕ) → ys ≡ xs ++ Condition j k ∷ [] → part ≡ Conditional (subtree whole i) (subtree whole j) (subtree whole k) → finished whole n ys (outcome_of (subtree whole i) n (steps + 1)) ≡ finished whole n xs (outcome_of part n steps)
+pub visits_conditional : (whole part : Tree) (n steps : ℕ) (xs ys : List Frame) (i j k : ℕ) → ys ≡ xs ++ Condition j k ∷ [] → part ≡ Conditional (subtree whole i) (subtree whole j) (subtree whole k) → finished whole n ys (evaluated (subtree whole i) n (steps + 1)) ≡ finished whole n xs (evaluated part n steps)
 visits_conditional whole part n steps xs ys i j k split is =
     let a = subtree whole i in
     let b = subtree whole j in

@@ -80,48 +80,48 @@ token_of-spelling Colon own h = ap token_of h
 token_of-spelling Open own h = ap token_of h
 token_of-spelling Close own h = ap token_of h
 
--- of two fronts of a text one goes on from the other
+-- of two prefixes of a text one goes on from the other
 pub record GoesOn (xs us ys vs : List ℕ) : Type 0 where
   pub more : List ℕ
   pub longer : ys ≡ xs ++ more
   pub rest : us ≡ more ++ vs
 
-pub fronts : (xs us ys vs : List ℕ) → xs ++ us ≡ ys ++ vs → GoesOn xs us ys vs ⊎ GoesOn ys vs xs us
-fronts [] us ys vs h = inl (record { more = ys; longer = refl; rest = h })
-fronts (x ∷ xs) us [] vs h = inr (record { more = x ∷ xs; longer = refl; rest = sym h })
-fronts (x ∷ xs) us (y ∷ ys) vs h =
+pub prefixes : (xs us ys vs : List ℕ) → xs ++ us ≡ ys ++ vs → GoesOn xs us ys vs ⊎ GoesOn ys vs xs us
+prefixes [] us ys vs h = inl (record { more = ys; longer = refl; rest = h })
+prefixes (x ∷ xs) us [] vs h = inr (record { more = x ∷ xs; longer = refl; rest = sym h })
+prefixes (x ∷ xs) us (y ∷ ys) vs h =
     let heads : x ≡ y = cc in
     let tails : xs ++ us ≡ ys ++ vs = cc in
-    elim (fronts xs us ys vs tails) [
+    elim (prefixes xs us ys vs tails) [
       | inl g ↦ inl (record { more = g.more; longer = let e = g.longer in cc; rest = g.rest })
       | inr g ↦ inr (record { more = g.more; longer = let e = g.longer in cc; rest = g.rest })
     ]
 
--- a longest spelling isn't a shorter front of another spelling
-longest-ends : (u : Token) (own rest other behind more : List ℕ) → IsLongest own rest → IsSpelling u other → other ≡ own ++ more → rest ≡ more ++ behind → more ≡ []
-longest-ends u own rest other behind [] longest spelt e f = refl
-longest-ends u own rest other behind (m ∷ more) longest spelt e f =
-    absurd (longest u (m ∷ more) behind f (λ h. cc) (subst (IsSpelling u) e spelt))
+-- a longest spelling isn't a shorter prefix of another spelling
+longest-ends : (u : Token) (own rest other after more : List ℕ) → IsLongest own rest → IsSpelling u other → other ≡ own ++ more → rest ≡ more ++ after → more ≡ []
+longest-ends u own rest other after [] longest spelt e f = refl
+longest-ends u own rest other after (m ∷ more) longest spelt e f =
+    absurd (longest u (m ∷ more) after f (λ h. cc) (subst (IsSpelling u) e spelt))
 
--- the longest token at the front of a text is one alone
-pub record SameFront (t u : Token) (own rest other behind : List ℕ) : Type 0 where
+-- the longest token at the beginning of a text is one alone
+pub record SamePrefix (t u : Token) (own rest other after : List ℕ) : Type 0 where
   pub same_token : t ≡ u
   pub same_bytes : own ≡ other
-  pub same_rest : rest ≡ behind
+  pub same_rest : rest ≡ after
 
-pub one_front : (t u : Token) (own rest other behind : List ℕ) → IsSpelling t own → IsLongest own rest → IsSpelling u other → IsLongest other behind → own ++ rest ≡ other ++ behind → SameFront t u own rest other behind
-one_front t u own rest other behind spelt longest spelt' longest' h =
-    elim (fronts own rest other behind h) [
+pub one_prefix : (t u : Token) (own rest other after : List ℕ) → IsSpelling t own → IsLongest own rest → IsSpelling u other → IsLongest other after → own ++ rest ≡ other ++ after → SamePrefix t u own rest other after
+one_prefix t u own rest other after spelt longest spelt' longest' h =
+    elim (prefixes own rest other after h) [
       | inl g ↦
-          let none : g.more ≡ [] = longest-ends u own rest other behind g.more longest spelt' g.longer g.rest in
+          let none : g.more ≡ [] = longest-ends u own rest other after g.more longest spelt' g.longer g.rest in
           let bytes : other ≡ own = g.longer ∙ ap (λ m. own ++ m) none ∙ append-nil own in
           record {
             same_token = sym (token_of-spelling t own spelt) ∙ ap token_of (sym bytes) ∙ token_of-spelling u other spelt';
             same_bytes = sym bytes;
-            same_rest = g.rest ∙ ap (λ m. m ++ behind) none;
+            same_rest = g.rest ∙ ap (λ m. m ++ after) none;
           }
       | inr g ↦
-          let none : g.more ≡ [] = longest-ends t other behind own rest g.more longest' spelt g.longer g.rest in
+          let none : g.more ≡ [] = longest-ends t other after own rest g.more longest' spelt g.longer g.rest in
           let bytes : own ≡ other = g.longer ∙ ap (λ m. other ++ m) none ∙ append-nil other in
           record {
             same_token = sym (token_of-spelling t own spelt) ∙ ap token_of bytes ∙ token_of-spelling u other spelt';
@@ -130,8 +130,8 @@ one_front t u own rest other behind spelt longest spelt' longest' h =
           }
     ]
 
--- what stands behind a first token
-pub record Behind (t : Token) (rest : List ℕ) (ts : List Token) : Type 0 where
+-- what stands after a first token
+pub record After (t : Token) (rest : List ℕ) (ts : List Token) : Type 0 where
   pub later : List Token
   pub is : ts ≡ t ∷ later
   pub lexes : Lexes rest later
@@ -146,28 +146,28 @@ no-spelling_of-nothing t [] rest spelt e = false≢true (sym (spelling-not_blank
 no-spelling_of-nothing t (x ∷ own) rest spelt e = cc
 
 -- a text that begins with a longest token spells it first
-behind : (t : Token) (own rest text : List ℕ) (ts : List Token) → IsSpelling t own → IsLongest own rest → text ≡ own ++ rest → Lexes text ts → Behind t rest ts
-behind t own rest text ts spelt longest e end = absurd (no-spelling_of-nothing t own rest spelt (sym e))
-behind t own rest text ts spelt longest e (blank {c} {text = text'} b d) = absurd (blank-first t own rest text' c spelt (sym e) b)
-behind t own rest text ts spelt longest e (token {rest = rest'} {ts = ts'} u other spelt' longest' d) =
-    let same = one_front t u own rest other rest' spelt longest spelt' longest' (sym e) in
+after : (t : Token) (own rest text : List ℕ) (ts : List Token) → IsSpelling t own → IsLongest own rest → text ≡ own ++ rest → Lexes text ts → After t rest ts
+after t own rest text ts spelt longest e end = absurd (no-spelling_of-nothing t own rest spelt (sym e))
+after t own rest text ts spelt longest e (blank {c} {text = text'} b d) = absurd (blank-first t own rest text' c spelt (sym e) b)
+after t own rest text ts spelt longest e (token {rest = rest'} {ts = ts'} u other spelt' longest' d) =
+    let same = one_prefix t u own rest other rest' spelt longest spelt' longest' (sym e) in
     record {
       later = ts';
       is = ap (λ x. x ∷ ts') (sym same.same_token);
       lexes = subst (λ r. Lexes r ts') (sym same.same_rest) d;
     }
 
-pub Lexes-token : (t : Token) (own rest : List ℕ) (ts : List Token) → IsSpelling t own → IsLongest own rest → Lexes (own ++ rest) ts → Behind t rest ts
-Lexes-token t own rest ts spelt longest d = behind t own rest (own ++ rest) ts spelt longest refl d
+pub Lexes-token : (t : Token) (own rest : List ℕ) (ts : List Token) → IsSpelling t own → IsLongest own rest → Lexes (own ++ rest) ts → After t rest ts
+Lexes-token t own rest ts spelt longest d = after t own rest (own ++ rest) ts spelt longest refl d
 
-behind-blank : (c : ℕ) (text whole : List ℕ) (ts : List Token) → is_blank c ≡ true → whole ≡ c ∷ text → Lexes whole ts → Lexes text ts
-behind-blank c text whole ts b e end = absurd cc
-behind-blank c text whole ts b e (blank {text = text'} {ts = ts'} b' d) =
+after-blank : (c : ℕ) (text whole : List ℕ) (ts : List Token) → is_blank c ≡ true → whole ≡ c ∷ text → Lexes whole ts → Lexes text ts
+after-blank c text whole ts b e end = absurd cc
+after-blank c text whole ts b e (blank {text = text'} {ts = ts'} b' d) =
     let same : text' ≡ text = cc in subst (λ r. Lexes r ts') same d
-behind-blank c text whole ts b e (token {rest} u own spelt longest d) = absurd (blank-first u own rest text c spelt e b)
+after-blank c text whole ts b e (token {rest} u own spelt longest d) = absurd (blank-first u own rest text c spelt e b)
 
 pub Lexes-blank : (c : ℕ) (text : List ℕ) (ts : List Token) → is_blank c ≡ true → Lexes (c ∷ text) ts → Lexes text ts
-Lexes-blank c text ts b d = behind-blank c text (c ∷ text) ts b refl d
+Lexes-blank c text ts b d = after-blank c text (c ∷ text) ts b refl d
 
 nothing : (text : List ℕ) (ts : List Token) → text ≡ [] → Lexes text ts → ts ≡ []
 nothing text ts e end = refl

@@ -18,7 +18,7 @@ use Rattle.plural_rule.proofs.Complete.{complete}
 use Rattle.plural_rule.proofs.Sound.{sound}
 use Rattle.plural_rule.proofs.Lexing.{first_byte, Lexes-token, Lexes-blank, Lexes-nothing}
 
--- blanks at the front change nothing
+-- blanks at the beginning change nothing
 without_blanks-blank : (c : ℕ) (text : List ℕ) → is_blank c ≡ true → without_blanks (c ∷ text) ≡ without_blanks text
 without_blanks-blank c text b =
     let n = prefix_len is_blank text in
@@ -65,7 +65,7 @@ pub run-append : (xs ys : List Token) (state : State) → run state (xs ++ ys) �
 run-append [] ys state = refl
 run-append (x ∷ xs) ys state = of-next xs ys (λ s. run-append xs ys s) (step state x)
 
--- the tokens of a text behind those read
+-- the tokens of a text after those read
 pub record Split (read : List Token) (rest : List ℕ) (ts : List Token) : Type 0 where
   pub later : List Token
   pub is : ts ≡ read ++ later
@@ -93,7 +93,7 @@ reached-start text =
       represents = (refl, record { table_is = refl; entries_are = refl });
     }
 
--- the state behind one more token
+-- the state after one more token
 record Next (next : Option State) (table : List Node) (entries : List Pending) (complete : Bool) : Type 0 where
   after : State
   is : next ≡ Some after
@@ -129,21 +129,21 @@ reached-token text rest t n before after entries entries' complete complete' r a
 
 -- the first token of a text
 record First (rest : List ℕ) (ts : List Token) : Type 0 where
-  front : Token
+  prefix : Token
   own : List ℕ
-  behind : List ℕ
+  after : List ℕ
   later : List Token
-  ts_is : ts ≡ front ∷ later
-  rest_is : rest ≡ own ++ behind
-  spelling : IsSpelling front own
-  longest : IsLongest own behind
+  ts_is : ts ≡ prefix ∷ later
+  rest_is : rest ≡ own ++ after
+  spelling : IsSpelling prefix own
+  longest : IsLongest own after
 
 first : (rest text : List ℕ) (ts : List Token) → rest ≢ [] → is_blank (first_byte rest) ≡ false → text ≡ rest → Lexes text ts → First rest ts
 first rest text ts n b e end = absurd (n (sym e))
 first rest text ts n b e (blank {c} {text = text'} blank' d) =
     absurd (false≢true (sym b ∙ ap (λ x. is_blank (first_byte x)) (sym e) ∙ blank'))
-first rest text ts n b e (token {rest = behind} {ts = later} t own spelt longest d) =
-    record { front = t; own = own; behind = behind; later = later; ts_is = refl; rest_is = sym e; spelling = spelt; longest = longest }
+first rest text ts n b e (token {rest = after} {ts = later} t own spelt longest d) =
+    record { prefix = t; own = own; after = after; later = later; ts_is = refl; rest_is = sym e; spelling = spelt; longest = longest }
 
 -- a token that can't stand in a state
 refused : (read later : List Token) (t : Token) (state : State) (tree : Tree) → run (Want []) read ≡ Some state → step state t ≡ None → Spells 0 (read ++ t ∷ later) tree → ⊥
@@ -178,16 +178,16 @@ pub no-token : (text rest : List ℕ) (table : List Node) (entries : List Pendin
 no-token text rest table entries complete r n none tree (ts, lexes, spells) =
     let s = r.only ts lexes in
     let f = first rest rest s.later n (r.begins n) refl s.lexes in
-    let large = none f.front f.own f.behind f.rest_is f.spelling f.longest in
-    refused r.read f.later f.front r.state tree r.runs (too_large r.state f.front large)
+    let large = none f.prefix f.own f.after f.rest_is f.spelling f.longest in
+    refused r.read f.later f.prefix r.state tree r.runs (too_large r.state f.prefix large)
     (subst (λ x. Spells 0 x tree) (s.is ∙ ap (λ x. r.read ++ x) f.ts_is) spells)
 
 stands-not : (next : Option State) (table : List Node) (entries : List Pending) → Answers next None table entries → next ≡ None
 stands-not None table entries a = refl
 stands-not (Some s) table entries a = absurd a
 
-pub no-place : (text rest : List ℕ) (t : Token) (n : ℕ) (before after : List Node) (entries entries' : List Pending) (complete : Bool) → (r : Reached text rest before entries complete) → IsTokenAt rest t n → Answers (step r.state t) None after entries' → SpellsNothing text
-no-place text rest t n before after entries entries' complete r at answers tree (ts, lexes, spells) =
+pub no-index : (text rest : List ℕ) (t : Token) (n : ℕ) (before after : List Node) (entries entries' : List Pending) (complete : Bool) → (r : Reached text rest before entries complete) → IsTokenAt rest t n → Answers (step r.state t) None after entries' → SpellsNothing text
+no-index text rest t n before after entries entries' complete r at answers tree (ts, lexes, spells) =
     let s = r.only ts lexes in
     let whole : take n rest ++ drop n rest ≡ rest = take-append-drop n rest in
     let b = Lexes-token t (take n rest) (drop n rest) s.later at.spelling at.longest (subst (λ x. Lexes x s.later) (sym whole) s.lexes) in

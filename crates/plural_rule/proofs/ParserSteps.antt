@@ -1,4 +1,4 @@
--- The parser's table and stack behind one step.
+-- The parser's table and stack after one step.
 use Rattle.std.proofs.Common.{◌≡◌, ℕ, ◌+◌, ◌-◌, ◌==◌, false, nat_le, inl, inr, List, [], ◌∷◌, ◌++◌, length, Some, None, refl, sym, ap, ◌∙◌, append_assoc, arith, subst, length-append}
 use Rattle.std.proofs.lemmas.Bool.{cases_Bool}
 use Rattle.plural_rule.specs.declared.operator.Operator.{Operator}
@@ -8,33 +8,33 @@ use Rattle.plural_rule.specs.declared.parser.Pending.TheVariants.{Binary as Bina
 use Rattle.plural_rule.specs.Expression.{Tree, Count, Number, Not, Binary, Conditional, nodes}
 use Rattle.plural_rule.specs.Grammar.{level}
 use Rattle.plural_rule.specs.Node.{not_node, binary_node, conditional_node}
-use Rattle.plural_rule.specs.PostOrder.{layout}
+use Rattle.plural_rule.specs.PostOrder.{post_order}
 use Rattle.plural_rule.specs.ShiftReduce.{Waiting, WaitNot, WaitOpen, WaitBinary, WaitQuestion, WaitColon, Operand, completed, reduce, reduce_by, at_colon}
 use Rattle.plural_rule.specs.ParserState.{size, laid, pending, pendings, completed_node, IsWaiting, IsOperand, Answers}
 
-pub length-layout : (t : Tree) (base : ℕ) → length (layout base t) ≡ nodes t
-length-layout Count base = refl
-length-layout (Number v) base = refl
-length-layout (Not a) base = simp length-append (omega (arith, length-layout a base))
-length-layout (Binary op a b) base =
-    simp length-append (omega (arith, length-layout a base, length-layout b (base + nodes a)))
-length-layout (Conditional a b c) base =
-    simp length-append (omega (arith, length-layout a base, length-layout b (base + nodes a), length-layout c (base + nodes a + nodes b)))
+pub length-post_order : (t : Tree) (base : ℕ) → length (post_order base t) ≡ nodes t
+length-post_order Count base = refl
+length-post_order (Number v) base = refl
+length-post_order (Not a) base = simp length-append (omega (arith, length-post_order a base))
+length-post_order (Binary op a b) base =
+    simp length-append (omega (arith, length-post_order a base, length-post_order b (base + nodes a)))
+length-post_order (Conditional a b c) base =
+    simp length-append (omega (arith, length-post_order a base, length-post_order b (base + nodes a), length-post_order c (base + nodes a + nodes b)))
 
 pub length-laid : (stack : List Waiting) → length (laid stack) ≡ size stack
 length-laid [] = refl
 length-laid (WaitNot ∷ stack) = length-laid stack
 length-laid (WaitOpen ∷ stack) = length-laid stack
 length-laid (WaitBinary op a ∷ stack) =
-    simp length-append (omega (arith, length-laid stack, length-layout a (size stack)))
+    simp length-append (omega (arith, length-laid stack, length-post_order a (size stack)))
 length-laid (WaitQuestion a ∷ stack) =
-    simp length-append (omega (arith, length-laid stack, length-layout a (size stack)))
+    simp length-append (omega (arith, length-laid stack, length-post_order a (size stack)))
 length-laid (WaitColon a b ∷ stack) =
-    simp length-append (omega (arith, length-laid stack, length-layout a (size stack), length-layout b (size stack + nodes a)))
+    simp length-append (omega (arith, length-laid stack, length-post_order a (size stack), length-post_order b (size stack + nodes a)))
 
 pub length-operand : (table : List Node) (entries : List Pending) (stack : List Waiting) (t : Tree) → IsOperand table entries stack t → length table ≡ size stack + nodes t
 length-operand table entries stack t h =
-    ap length h.table_is ∙ length-append (laid stack) (layout (size stack) t) ∙ omega (arith, length-laid stack, length-layout t (size stack))
+    ap length h.table_is ∙ length-append (laid stack) (post_order (size stack) t) ∙ omega (arith, length-laid stack, length-post_order t (size stack))
 
 -- two lists with one more item each at their ends
 pub snoc-same : {A : Type 0} (xs ys : List A) (x y : A) → xs ++ x ∷ [] ≡ ys ++ y ∷ [] → (xs ≡ ys) × (x ≡ y)
@@ -67,16 +67,16 @@ top_of (w ∷ below) rest top e =
     let s = snoc-same rest (pendings below) top (pending (size below) w) e in
     record { newest = w; below = below; is = refl; rest_is = s.0; top_is = s.1 }
 
--- the tree that an operand completes, with its node behind the table
+-- the tree that an operand completes, with its node after the table
 pub record Completes (k : ℕ) (w : Waiting) (below : List Waiting) (t : Tree) (node : Node) : Type 0 where
   pub tree : Tree
   pub is : completed k w t ≡ Some tree
-  pub table_is : (laid (w ∷ below) ++ layout (size (w ∷ below)) t) ++ node ∷ [] ≡ laid below ++ layout (size below) tree
+  pub table_is : (laid (w ∷ below) ++ post_order (size (w ∷ below)) t) ++ node ∷ [] ≡ laid below ++ post_order (size below) tree
 
 pub completes : (k last : ℕ) (w : Waiting) (below : List Waiting) (t : Tree) (node : Node) → last ≡ size (w ∷ below) + nodes t - 1 → completed_node k (pending (size below) w) last ≡ Some node → Completes k w below t node
 completes k last WaitNot below t node l e =
     let is : node ≡ not_node (size below + nodes t - 1) = cc in
-    record { tree = Not t; is = refl; table_is = rw is (append_assoc (laid below) (layout (size below) t) _) }
+    record { tree = Not t; is = refl; table_is = rw is (append_assoc (laid below) (post_order (size below) t) _) }
 completes k last WaitOpen below t node l e = absurd cc
 completes k last (WaitBinary op a) below t node l e =
     elim (cases_Bool (nat_le k (level op))) [
@@ -156,19 +156,19 @@ Reduces-end k table entries goal l r =
     ap (λ s. record { stack = s; tree = r.tree }) empty ∙ ap (λ s. reduce k s r.tree) (sym empty) ∙ r.same in
     subst (λ (o : Operand). IsOperand table entries o.stack o.tree) same r.represents
 
--- an operator behind an operand
+-- an operator after an operand
 pub waits-binary : (op : Operator) (last : ℕ) (table : List Node) (entries : List Pending) (stack : List Waiting) (t : Tree) → IsOperand table entries stack t → last ≡ length table - 1 → IsWaiting table (entries ++ BinaryPending op last ∷ []) (WaitBinary op t ∷ stack)
 waits-binary op last table entries stack t h l =
     let index : last ≡ size stack + nodes t - 1 = l ∙ ap (λ n. n - 1) (length-operand table entries stack t h) in
     record { table_is = h.table_is; entries_are = let e = h.entries_are in cc }
 
--- `?` behind an operand
+-- `?` after an operand
 pub waits-question : (last : ℕ) (table : List Node) (entries : List Pending) (stack : List Waiting) (t : Tree) → IsOperand table entries stack t → last ≡ length table - 1 → IsWaiting table (entries ++ QuestionPending last ∷ []) (WaitQuestion t ∷ stack)
 waits-question last table entries stack t h l =
     let index : last ≡ size stack + nodes t - 1 = l ∙ ap (λ n. n - 1) (length-operand table entries stack t h) in
     record { table_is = h.table_is; entries_are = let e = h.entries_are in cc }
 
--- `:` behind an operand, where `?` waits for it
+-- `:` after an operand, where `?` waits for it
 colon-newest : (w : Waiting) (below : List Waiting) (i last : ℕ) (table : List Node) (rest : List Pending) (t : Tree) → QuestionPending i ≡ pending (size below) w → rest ≡ pendings below → IsOperand table (rest ++ QuestionPending i ∷ []) (w ∷ below) t → last ≡ length table - 1 → Answers (at_colon (w ∷ below) t) (Some false) table (rest ++ ColonPending i last ∷ [])
 colon-newest WaitNot below i last table rest t e r h l = absurd cc
 colon-newest WaitOpen below i last table rest t e r h l = absurd cc

@@ -5,19 +5,19 @@ use Rattle.plural_rule.specs.declared.rule.Source.TheVariants.{Header, Default}
 use Rattle.plural_rule.specs.declared.rule.Reason.{Reason}
 use Rattle.plural_rule.specs.Expression.{Tree}
 use Rattle.plural_rule.specs.PluralRule.{IsReadable, IsReason, IsRuleOf, default_tree}
-use Rattle.plural_rule.specs.PostOrder.{layout, tree_of, tree_of-layout}
+use Rattle.plural_rule.specs.PostOrder.{post_order, tree_of, tree_of-post_order}
 use Rattle.plural_rule.specs.ParserState.{HoldsRule}
 
-pub tree_of_laid : (table : List Node) (t : Tree) → table ≡ layout 0 t → tree_of table ≡ t
-tree_of_laid table t e = ap tree_of e ∙ tree_of-layout t 0
+pub tree_of_laid : (table : List Node) (t : Tree) → table ≡ post_order 0 t → tree_of table ≡ t
+tree_of_laid table t e = ap tree_of e ∙ tree_of-post_order t 0
 
-pub laid : (table : List Node) (t : Tree) → table ≡ layout 0 t → table ≡ layout 0 (tree_of table)
-laid table t e = e ∙ ap (layout 0) (sym (tree_of_laid table t e))
+pub laid : (table : List Node) (t : Tree) → table ≡ post_order 0 t → table ≡ post_order 0 (tree_of table)
+laid table t e = e ∙ ap (post_order 0) (sym (tree_of_laid table t e))
 
-pub from-header : (limit : ℕ) (header : List ℕ) (number : ℕ) (table : List Node) → HoldsRule limit header number table → IsRuleOf limit header (record { source = Header; number = number; tree = tree_of table })
-from-header limit header number table h =
-    subst (λ t. IsReadable limit header number t) (sym (tree_of_laid table h.tree h.table_is)) h.readable
+pub from-header : (limit : ℕ) (header : List ℕ) (nplurals : ℕ) (table : List Node) → HoldsRule limit header nplurals table → IsRuleOf limit header (record { source = Header; nplurals = nplurals; tree = tree_of table })
+from-header limit header nplurals table h =
+    subst (λ t. IsReadable limit header nplurals t) (sym (tree_of_laid table h.tree h.table_is)) h.readable
 
-pub from-default : (limit : ℕ) (header : List ℕ) (reason : Reason) (table : List Node) → IsReason limit header reason → table ≡ layout 0 default_tree → IsRuleOf limit header (record { source = Default reason; number = 2; tree = tree_of table })
+pub from-default : (limit : ℕ) (header : List ℕ) (reason : Reason) (table : List Node) → IsReason limit header reason → table ≡ post_order 0 default_tree → IsRuleOf limit header (record { source = Default reason; nplurals = 2; tree = tree_of table })
 from-default limit header reason table h e =
-    (h, ap (λ t. record { source = Default reason; number = 2; tree = t }) (tree_of_laid table default_tree e))
+    (h, ap (λ t. record { source = Default reason; nplurals = 2; tree = t }) (tree_of_laid table default_tree e))

@@ -1,4 +1,4 @@
--- The token at the front of a text.
+-- The token at the beginning of a text.
 use Rattle.std.proofs.Common.{◌≡◌, ◌≢◌, ℕ, suc, ◌-◌, ◌^◌, ◌<◌, ◌≤◌, true, false, inl, inr, List, [], ◌∷◌, ◌++◌, length, drop, get_or, refl, sym, ap, ◌∙◌, arith, subst, take-append-drop, length-drop, drop-cons}
 use Rattle.std.specs.Prelude.{take_while}
 use Rattle.std.specs.List.{prefix_len}
@@ -11,7 +11,7 @@ use Rattle.plural_rule.specs.declared.token.Token.{Token}
 use Rattle.plural_rule.specs.declared.token.Token.TheVariants.{Count, Number, Not, Binary, Question, Colon, Open, Close}
 use Rattle.plural_rule.specs.Tokens.{is_digit, AllDigits, decimal_value, operator_bytes, IsSpelling, IsLongest}
 use Rattle.plural_rule.specs.Scanner.{IsTokenAt, IsTooLarge, HasNoToken, BeginsWithDouble, HasNoDouble}
-use Rattle.plural_rule.proofs.Lexing.{one_front, first_byte, operator-facts, spelling-not_blank}
+use Rattle.plural_rule.proofs.Lexing.{one_prefix, first_byte, operator-facts, spelling-not_blank}
 
 -- two bytes or more that spell a token and begin with no digit are those of an operator
 pub record IsDouble (u : Token) (c d : ℕ) (more : List ℕ) : Type 0 where
@@ -55,7 +55,7 @@ digits-only Colon bytes d h = absurd (false≢true (sym (ap (λ xs. is_digit (fi
 digits-only Open bytes d h = absurd (false≢true (sym (ap (λ xs. is_digit (first_byte xs)) h) ∙ d))
 digits-only Close bytes d h = absurd (false≢true (sym (ap (λ xs. is_digit (first_byte xs)) h) ∙ d))
 
--- the digits at the front of a text
+-- the digits at the beginning of a text
 pub AllDigits-take_while : (text : List ℕ) → AllDigits (take_while is_digit text)
 AllDigits-take_while [] = tt
 AllDigits-take_while (c ∷ text) =
@@ -73,17 +73,17 @@ AllDigits-append [] ys h = h
 AllDigits-append (x ∷ xs) ys h = AllDigits-append xs ys h.1
 
 -- no digit follows them
-stops : (text more behind : List ℕ) → drop (prefix_len is_digit text) text ≡ more ++ behind → AllDigits more → more ≡ []
-stops text [] behind e a = refl
-stops text (m ∷ more) behind e a =
+stops : (text more after : List ℕ) → drop (prefix_len is_digit text) text ≡ more ++ after → AllDigits more → more ≡ []
+stops text [] after e a = refl
+stops text (m ∷ more) after e a =
     let k = prefix_len is_digit text in
-    let lengths : length text - k ≡ suc (length (more ++ behind)) = sym (length-drop k text) ∙ ap length e in
+    let lengths : length text - k ≡ suc (length (more ++ after)) = sym (length-drop k text) ∙ ap length e in
     let within : k < length text = omega arith in
-    let front : drop k text ≡ get_or text k 0 ∷ drop (suc k) text = drop-cons text k 0 within in
+    let prefix : drop k text ≡ get_or text k 0 ∷ drop (suc k) text = drop-cons text k 0 within in
     let same : get_or text k 0 ≡ m = cc in
     absurd (false≢true (sym (prefix_len_stops is_digit text 0 within) ∙ ap is_digit same ∙ a.0))
 
--- the digits at the front of a text, where there are some, are the longest that spell a token
+-- the digits at the beginning of a text, where there are some, are the longest that spell a token
 pub record Numeral (text : List ℕ) : Type 0 where
   pub some : take_while is_digit text ≢ []
   pub longest : IsLongest (take_while is_digit text) (drop (prefix_len is_digit text) text)
@@ -102,11 +102,11 @@ pub numeral : (text : List ℕ) → is_digit (first_byte text) ≡ true → Nume
 numeral text d =
     record {
       some = λ e. false≢true (ap (λ xs. is_digit (first_byte (xs ++ []))) (sym e) ∙ first-digit text [] d);
-      longest = λ u more behind e n h.
-          n (stops text more behind e (AllDigits-append (take_while is_digit text) more (digits-only u (take_while is_digit text ++ more) (first-digit text more d) h)));
+      longest = λ u more after e n h.
+          n (stops text more after e (AllDigits-append (take_while is_digit text) more (digits-only u (take_while is_digit text ++ more) (first-digit text more d) h)));
     }
 
--- the numeral at the front of a text
+-- the numeral at the beginning of a text
 pub numeral-token : (text : List ℕ) (v : ℕ) → is_digit (first_byte text) ≡ true → v ≡ decimal_value (take_while is_digit text) → IsTokenAt text (Number v) (length (take_while is_digit text))
 numeral-token text v d e =
     let n = numeral text d in
@@ -123,12 +123,12 @@ numeral-token text v d e =
     nonempty [] h = absurd (h refl)
     nonempty (x ∷ xs) h = omega arith
 
--- a numeral at the front that doesn't fit 64 bits
+-- a numeral at the beginning that doesn't fit 64 bits
 pub numeral-none : (text : List ℕ) → is_digit (first_byte text) ≡ true → 2 ^ 64 ≤ decimal_value (take_while is_digit text) → HasNoToken text
 numeral-none text d large t own rest e spelt longest =
     let n = numeral text d in
     let k = prefix_len is_digit text in
-    let same = one_front (Number (decimal_value (take_while is_digit text))) t (take_while is_digit text) (drop k text) own rest
+    let same = one_prefix (Number (decimal_value (take_while is_digit text))) t (take_while is_digit text) (drop k text) own rest
     (n.some, AllDigits-take_while text, refl) n.longest spelt longest (take-append-drop k text ∙ e) in
     subst IsTooLarge same.same_token large
 
@@ -140,32 +140,32 @@ double-token (c ∷ d ∷ rest) op n h =
       some = omega arith;
       within = omega arith;
       spelling = sym h.bytes;
-      longest = λ u more behind e s spelt. s (double u c d more n spelt).ends;
+      longest = λ u more after e s spelt. s (double u c d more n spelt).ends;
     }
 
 pub single-token : (text : List ℕ) (t : Token) → 0 < length text → is_digit (get_or text 0 0) ≡ false → IsSpelling t (get_or text 0 0 ∷ []) → HasNoDouble text → IsTokenAt text t 1
 single-token [] t l n h no_double = absurd (omega arith)
 single-token (c ∷ rest) t l n h no_double =
-    record { some = omega arith; within = omega arith; spelling = h; longest = λ u more behind e s spelt. longest rest more behind u no_double e s spelt }
+    record { some = omega arith; within = omega arith; spelling = h; longest = λ u more after e s spelt. longest rest more after u no_double e s spelt }
   where
-    longest : (rest more behind : List ℕ) (u : Token) → HasNoDouble (c ∷ rest) → rest ≡ more ++ behind → more ≢ [] → IsSpelling u (c ∷ more) → ⊥
-    longest rest [] behind u no_double e s spelt = s refl
-    longest [] (m ∷ more) behind u no_double e s spelt = cc
-    longest (d ∷ rest) (m ∷ more) behind u no_double e s spelt =
+    longest : (rest more after : List ℕ) (u : Token) → HasNoDouble (c ∷ rest) → rest ≡ more ++ after → more ≢ [] → IsSpelling u (c ∷ more) → ⊥
+    longest rest [] after u no_double e s spelt = s refl
+    longest [] (m ∷ more) after u no_double e s spelt = cc
+    longest (d ∷ rest) (m ∷ more) after u no_double e s spelt =
         let same : m ≡ d = cc in
         let two = double u c m more n spelt in
         no_double two.operator (record { two = omega arith; bytes = two.bytes ∙ ap (λ x. c ∷ x ∷ []) same })
 
 pub single-none : (text : List ℕ) → 0 < length text → is_digit (get_or text 0 0) ≡ false → ((t : Token) → IsSpelling t (get_or text 0 0 ∷ []) → ⊥) → HasNoDouble text → HasNoToken text
 single-none [] l n none no_double t own rest e spelt longest = absurd (omega arith)
-single-none (c ∷ text) l n none no_double t own rest e spelt longest = absurd (no-front text own t no_double e spelt)
+single-none (c ∷ text) l n none no_double t own rest e spelt longest = absurd (no-prefix text own t no_double e spelt)
   where
-    no-front : (text own : List ℕ) (t : Token) → HasNoDouble (c ∷ text) → c ∷ text ≡ own ++ rest → IsSpelling t own → ⊥
-    no-front text [] t no_double e spelt = false≢true (sym (spelling-not_blank t [] spelt))
-    no-front text (x ∷ []) t no_double e spelt =
+    no-prefix : (text own : List ℕ) (t : Token) → HasNoDouble (c ∷ text) → c ∷ text ≡ own ++ rest → IsSpelling t own → ⊥
+    no-prefix text [] t no_double e spelt = false≢true (sym (spelling-not_blank t [] spelt))
+    no-prefix text (x ∷ []) t no_double e spelt =
         let same : x ≡ c = cc in none t (subst (λ y. IsSpelling t (y ∷ [])) same spelt)
-    no-front [] (x ∷ y ∷ own) t no_double e spelt = cc
-    no-front (d ∷ text) (x ∷ y ∷ own) t no_double e spelt =
+    no-prefix [] (x ∷ y ∷ own) t no_double e spelt = cc
+    no-prefix (d ∷ text) (x ∷ y ∷ own) t no_double e spelt =
         let same : x ≡ c = cc in
         let same' : y ≡ d = cc in
         let two = double t x y own (ap is_digit same ∙ n) spelt in

@@ -1,4 +1,4 @@
--- The first place of a word in a text.
+-- The first place of a name in a text.
 use Rattle.std.proofs.Common.{◌≡◌, ℕ, zero, suc, ◌+◌, ◌-◌, ◌<◌, Bool, true, false, not, nat_eq, inl, inr, List, [], ◌∷◌, length, take, drop, Some, None, refl, ap, ◌∙◌, arith, length-append, length-drop}
 use Rattle.std.specs.List.{starts_with, before_first}
 use Rattle.std.proofs.Math.Seq.{take-append_seam}
@@ -9,48 +9,48 @@ use Rattle.std.proofs.lemmas.List.{take_all}
 use Rattle.std.proofs.lemmas.List.Sums.{prefix_len_is}
 use Rattle.memchr.specs.Find.{OccursAt, IsFirstByte, is_byte2}
 use Rattle.memchr.proofs.lemmas.MatchLemmas.{OccursAt-part, OccursAt-from_part, OccursAt-split}
-use Rattle.plural_rule.specs.Header.{behind_first, is_end}
+use Rattle.plural_rule.specs.Header.{after_first, is_end}
 
--- a word that occurs behind the first byte
-occurs-later : (word rest : List ℕ) (c k : ℕ) → OccursAt rest word k → OccursAt (c ∷ rest) word (suc k)
-occurs-later word rest c k h =
-    let fits = h.fits in OccursAt-from_part (c ∷ rest) word (suc k) (omega arith) (OccursAt-part rest word k h)
+-- a name that occurs after the first byte
+occurs-later : (name rest : List ℕ) (c k : ℕ) → OccursAt rest name k → OccursAt (c ∷ rest) name (suc k)
+occurs-later name rest c k h =
+    let fits = h.fits in OccursAt-from_part (c ∷ rest) name (suc k) (omega arith) (OccursAt-part rest name k h)
 
-occurs-earlier : (word rest : List ℕ) (c k : ℕ) → OccursAt (c ∷ rest) word (suc k) → OccursAt rest word k
-occurs-earlier word rest c k h =
-    let fits = h.fits in OccursAt-from_part rest word k (omega arith) (OccursAt-part (c ∷ rest) word (suc k) h)
+occurs-earlier : (name rest : List ℕ) (c k : ℕ) → OccursAt (c ∷ rest) name (suc k) → OccursAt rest name k
+occurs-earlier name rest c k h =
+    let fits = h.fits in OccursAt-from_part rest name k (omega arith) (OccursAt-part (c ∷ rest) name (suc k) h)
 
-starts-occurs : (word text : List ℕ) → starts_with nat_eq text word ≡ true → OccursAt text word 0
-starts-occurs word text e =
-    let split = (starts_is Decides-eqb text word (starts_with nat_eq text word) refl).0 e in
+starts-occurs : (name text : List ℕ) → starts_with nat_eq text name ≡ true → OccursAt text name 0
+starts-occurs name text e =
+    let split = (starts_is Decides-eqb text name (starts_with nat_eq text name) refl).0 e in
     let lengths = ap length split in
-    OccursAt-from_part text word 0 (omega (arith, length-append word (drop (length word) text))) (ap (take (length word)) split ∙ take-append_seam word (drop (length word) text))
+    OccursAt-from_part text name 0 (omega (arith, length-append name (drop (length name) text))) (ap (take (length name)) split ∙ take-append_seam name (drop (length name) text))
 
-occurs-starts : (word text : List ℕ) → OccursAt text word 0 → starts_with nat_eq text word ≡ true
-occurs-starts word text h =
-    (starts_is Decides-eqb text word (starts_with nat_eq text word) refl).1 _ (OccursAt-split text word 0 h)
+occurs-starts : (name text : List ℕ) → OccursAt text name 0 → starts_with nat_eq text name ≡ true
+occurs-starts name text h =
+    (starts_is Decides-eqb text name (starts_with nat_eq text name) refl).1 _ (OccursAt-split text name 0 h)
 
-pub behind_first-none : (word text : List ℕ) → ((k : ℕ) → OccursAt text word k → ⊥) → behind_first word text ≡ None
-behind_first-none word [] none = refl
-behind_first-none word (c ∷ rest) none =
-    elim (cases_Bool (starts_with nat_eq (c ∷ rest) word)) [
-      | inl e ↦ absurd (none 0 (starts-occurs word (c ∷ rest) e))
-      | inr e ↦ rw e (behind_first-none word rest (λ k h. none (suc k) (occurs-later word rest c k h)))
+pub after_first-none : (name text : List ℕ) → ((k : ℕ) → OccursAt text name k → ⊥) → after_first name text ≡ None
+after_first-none name [] none = refl
+after_first-none name (c ∷ rest) none =
+    elim (cases_Bool (starts_with nat_eq (c ∷ rest) name)) [
+      | inl e ↦ absurd (none 0 (starts-occurs name (c ∷ rest) e))
+      | inr e ↦ rw e (after_first-none name rest (λ k h. none (suc k) (occurs-later name rest c k h)))
     ]
 
-pub behind_first-some : (word text : List ℕ) (k : ℕ) → 0 < length word → OccursAt text word k → ((j : ℕ) → j < k → OccursAt text word j → ⊥) → behind_first word text ≡ Some (drop (k + length word) text)
-behind_first-some word [] k some h none = let fits = h.fits in absurd (omega arith)
-behind_first-some word (c ∷ rest) zero some h none =
-    let e = occurs-starts word (c ∷ rest) h in
-    let sum : length word ≡ zero + length word = omega arith in
+pub after_first-some : (name text : List ℕ) (k : ℕ) → 0 < length name → OccursAt text name k → ((j : ℕ) → j < k → OccursAt text name j → ⊥) → after_first name text ≡ Some (drop (k + length name) text)
+after_first-some name [] k some h none = let fits = h.fits in absurd (omega arith)
+after_first-some name (c ∷ rest) zero some h none =
+    let e = occurs-starts name (c ∷ rest) h in
+    let sum : length name ≡ zero + length name = omega arith in
     rw e (ap (λ n. Some (drop n (c ∷ rest))) sum)
-behind_first-some word (c ∷ rest) (suc k) some h none =
-    elim (cases_Bool (starts_with nat_eq (c ∷ rest) word)) [
-      | inl e ↦ absurd (none 0 (omega arith) (starts-occurs word (c ∷ rest) e))
+after_first-some name (c ∷ rest) (suc k) some h none =
+    elim (cases_Bool (starts_with nat_eq (c ∷ rest) name)) [
+      | inl e ↦ absurd (none 0 (omega arith) (starts-occurs name (c ∷ rest) e))
       | inr e ↦
-          let sum : suc (k + length word) ≡ suc k + length word = omega arith in
+          let sum : suc (k + length name) ≡ suc k + length name = omega arith in
           rw e
-          (behind_first-some word rest k some (occurs-earlier word rest c k h) (λ j l o. none (suc j) (omega arith) (occurs-later word rest c j o))
+          (after_first-some name rest k some (occurs-earlier name rest c k h) (λ j l o. none (suc j) (omega arith) (occurs-later name rest c j o))
           ∙ ap (λ n. Some (drop n (c ∷ rest))) sum)
     ]
 

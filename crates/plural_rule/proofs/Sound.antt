@@ -10,7 +10,7 @@ use Rattle.plural_rule.specs.Grammar.{Spells, tighter, conditional, binary, nega
 use Rattle.plural_rule.specs.ShiftReduce.{Waiting, WaitNot, WaitOpen, WaitBinary, WaitQuestion, WaitColon, Operand, State, Want, Have, reduce, at_colon, at_close, want_step, have_step, step, run, alone, finish, outcome}
 use Rattle.plural_rule.proofs.Complete.{Fits, level-range}
 
--- the tokens behind an entry, which is `before` and the entry's own tokens
+-- the tokens after an entry, which is `before` and the entry's own tokens
 pub record WaitsBinary (op : Operator) (a : Tree) (own : List Token) (stack : List Waiting) : Type 0 where
   pub left : List Token
   pub own_is : own ≡ left ++ BinaryToken op ∷ []
@@ -44,7 +44,7 @@ pub data Waits : List Waiting → List Token → Type 0 where
   nothing : Waits [] []
   more : {w : Waiting} {stack : List Waiting} {before : List Token} (own : List Token) → Waits stack before → Entry w own stack → Waits (w ∷ stack) (before ++ own)
 
--- what was read: what waits, and an operand of level m behind it
+-- what was read: what waits, and an operand of level m after it
 pub record Holds (m : ℕ) (stack : List Waiting) (tree : Tree) (read : List Token) : Type 0 where
   pub before : List Token
   pub own : List Token
@@ -136,7 +136,7 @@ holds-colon m a b stack t read h =
       fits = Fits-zero stack e.fits;
     }
 
--- behind a reduction to level k there is an operand of that level
+-- after a reduction to level k there is an operand of that level
 abbrev Reduced : ℕ → Operand → List Token → Type 0
 Reduced k o read = Holds k o.stack o.tree read
 

@@ -9,9 +9,9 @@ use Rattle.plural_rule.specs.declared.node.Shape.{Shape}
 use Rattle.plural_rule.specs.declared.node.Shape.TheVariants.{Count as CountShape, Number as NumberShape, Not as NotShape, Binary as BinaryShape, Conditional as ConditionalShape}
 use Rattle.plural_rule.specs.Node.{numeral, not_node, binary_node, conditional_node, shape_of, operator_of-code}
 use Rattle.plural_rule.specs.Expression.{Tree, Count, Number, Not, Binary, Conditional, nodes}
-use Rattle.plural_rule.specs.PostOrder.{layout, numeral-parts}
+use Rattle.plural_rule.specs.PostOrder.{post_order, numeral-parts}
 use Rattle.plural_rule.specs.Evaluation.{subtree, IsNodeOf}
-use Rattle.plural_rule.proofs.ParserSteps.{length-layout}
+use Rattle.plural_rule.proofs.ParserSteps.{length-post_order}
 
 pub nodes-positive : (t : Tree) → 1 ≤ nodes t
 nodes-positive Count = omega arith
@@ -52,7 +52,7 @@ Stands t base part (BinaryShape op i j) = (a : Tree) × (b : Tree) × Places t b
 Stands t base part (ConditionalShape i j k) =
     (a : Tree) × (b : Tree) × (c : Tree) × Places t base i a × Places t base j b × Places t base k c × (part ≡ Conditional a b c)
 
--- the parts of an operand, whose table begins `offset` nodes behind that of the whole
+-- the parts of an operand, whose table begins `offset` nodes after that of the whole
 record IsInside (a : Tree) (offset : ℕ) (t : Tree) (k : ℕ) : Type 0 where
   within : offset + k < nodes t
   same : subtree a k ≡ subtree t (offset + k)
@@ -125,10 +125,10 @@ inside-third a b c k h =
 abbrev StandsAt : Tree → ℕ → List Node → ℕ → Node → Type 0
 StandsAt t base table i d = Stands t base (subtree t i) (shape_of (get_or table i d))
 
-in-operand : (a t : Tree) (base inner offset i : ℕ) (d : Node) (table : List Node) → inner ≡ base + offset → Inside a offset t → i < nodes a → Stands a inner (subtree a i) (shape_of (get_or (layout inner a) i d)) → get_or table (offset + i) d ≡ get_or (layout inner a) i d → StandsAt t base table (offset + i) d
+in-operand : (a t : Tree) (base inner offset i : ℕ) (d : Node) (table : List Node) → inner ≡ base + offset → Inside a offset t → i < nodes a → Stands a inner (subtree a i) (shape_of (get_or (post_order inner a) i d)) → get_or table (offset + i) d ≡ get_or (post_order inner a) i d → StandsAt t base table (offset + i) d
 in-operand a t base inner offset i d table e inside h s read =
-    let lifted = lift-node a t base inner offset (subtree a i) (shape_of (get_or (layout inner a) i d)) e inside s in
-    subst (λ node. Stands t base (subtree t (offset + i)) (shape_of node)) (sym read) (subst (λ p. Stands t base p (shape_of (get_or (layout inner a) i d))) (inside i h).same lifted)
+    let lifted = lift-node a t base inner offset (subtree a i) (shape_of (get_or (post_order inner a) i d)) e inside s in
+    subst (λ node. Stands t base (subtree t (offset + i)) (shape_of node)) (sym read) (subst (λ p. Stands t base p (shape_of (get_or (post_order inner a) i d))) (inside i h).same lifted)
 
 -- which part of a table an index is in
 record Offset (n i : ℕ) : Type 0 where
@@ -138,42 +138,42 @@ record Offset (n i : ℕ) : Type 0 where
 offset : (n i : ℕ) → n ≤ i → Offset n i
 offset n i h = record { over = i - n; is = omega arith }
 
-last-node : (t : Tree) (base i : ℕ) (d node : Node) (front : List Node) → length front ≡ nodes t - 1 → i ≡ nodes t - 1 → Stands t base t (shape_of node) → StandsAt t base (front ++ node ∷ []) i d
-last-node t base i d node front l e s =
-    let read : get_or (front ++ node ∷ []) i d ≡ node = get_or-append_right front (node ∷ []) i i d (l ∙ sym e) (omega arith) ∙ ap (λ k. get_or (node ∷ []) k d) minus in
-    subst (λ p. Stands t base p (shape_of (get_or (front ++ node ∷ []) i d))) (sym (ap (subtree t) e ∙ subtree-last t)) (subst (λ m. Stands t base t (shape_of m)) (sym read) s)
+last-node : (t : Tree) (base i : ℕ) (d node : Node) (prefix : List Node) → length prefix ≡ nodes t - 1 → i ≡ nodes t - 1 → Stands t base t (shape_of node) → StandsAt t base (prefix ++ node ∷ []) i d
+last-node t base i d node prefix l e s =
+    let read : get_or (prefix ++ node ∷ []) i d ≡ node = get_or-append_right prefix (node ∷ []) i i d (l ∙ sym e) (omega arith) ∙ ap (λ k. get_or (node ∷ []) k d) minus in
+    subst (λ p. Stands t base p (shape_of (get_or (prefix ++ node ∷ []) i d))) (sym (ap (subtree t) e ∙ subtree-last t)) (subst (λ m. Stands t base t (shape_of m)) (sym read) s)
   where
     minus : i - i ≡ 0
     minus = omega arith
 
-node-at : (t : Tree) (base i : ℕ) (d : Node) → i < nodes t → StandsAt t base (layout base t) i d
+node-at : (t : Tree) (base i : ℕ) (d : Node) → i < nodes t → StandsAt t base (post_order base t) i d
 node-at Count base zero d h = refl
 node-at Count base (suc i) d h = absurd (omega arith)
 node-at (Number v) base zero d h = ap Number (sym (numeral-parts v))
 node-at (Number v) base (suc i) d h = absurd (omega arith)
 node-at (Not a) base i d h =
-    let lengths = length-layout a base in
+    let lengths = length-post_order a base in
     elim (cases_Bool (nat_lt i (nodes a))) [
       | inl b ↦
           let small : i < nodes a = ltb-true i (nodes a) b in
           let zero-i : 0 + i ≡ i = omega arith in
           let base-zero : base ≡ base + 0 = omega arith in
-          subst (λ j. StandsAt (Not a) base (layout base (Not a)) j d) zero-i
-          (in-operand a (Not a) base base 0 i d (layout base (Not a)) base-zero (inside-not a) small (node-at a base i d small)
-          (ap (λ j. get_or (layout base (Not a)) j d) zero-i ∙ get_or_append_left (layout base a) _ d i (omega arith)))
+          subst (λ j. StandsAt (Not a) base (post_order base (Not a)) j d) zero-i
+          (in-operand a (Not a) base base 0 i d (post_order base (Not a)) base-zero (inside-not a) small (node-at a base i d small)
+          (ap (λ j. get_or (post_order base (Not a)) j d) zero-i ∙ get_or_append_left (post_order base a) _ d i (omega arith)))
       | inr b ↦
           let large : nodes a ≤ i = grind (arith, nat_tests) in
           let base-zero : base ≡ base + 0 = omega arith in
-          last-node (Not a) base i d (not_node (base + nodes a - 1)) (layout base a) (omega arith) (omega arith)
+          last-node (Not a) base i d (not_node (base + nodes a - 1)) (post_order base a) (omega arith) (omega arith)
           (a, lift a (Not a) base base 0 (base + nodes a - 1) a base-zero (inside-not a) (root a base), refl)
     ]
 node-at (Binary op a b) base i d h =
     let t = Binary op a b in
     let inner = base + nodes a in
     let node = binary_node op (base + nodes a - 1) (base + nodes a + nodes b - 1) in
-    let table = layout base t in
-    let lengths = length-layout a base in
-    let lengths' = length-layout b inner in
+    let table = post_order base t in
+    let lengths = length-post_order a base in
+    let lengths' = length-post_order b inner in
     let base-zero : base ≡ base + 0 = omega arith in
     elim (cases_Bool (nat_lt i (nodes a))) [
       | inl s ↦
@@ -181,7 +181,7 @@ node-at (Binary op a b) base i d h =
           let zero-i : 0 + i ≡ i = omega arith in
           subst (λ j. StandsAt t base table j d) zero-i
           (in-operand a t base base 0 i d table base-zero (inside-left op a b) small (node-at a base i d small)
-          (ap (λ j. get_or table j d) zero-i ∙ get_or_append_left (layout base a) _ d i (omega arith)))
+          (ap (λ j. get_or table j d) zero-i ∙ get_or_append_left (post_order base a) _ d i (omega arith)))
       | inr s ↦
           let large : nodes a ≤ i = grind (arith, nat_tests) in
           elim (cases_Bool (nat_lt i (nodes a + nodes b))) [
@@ -192,14 +192,14 @@ node-at (Binary op a b) base i d h =
                 let sum : nodes a + j ≡ i = omega arith in
                 subst (λ k. StandsAt t base table k d) sum
                 (in-operand b t base inner (nodes a) j d table refl (inside-right op a b) below (node-at b inner j d below)
-                (ap (λ k. get_or table k d) sum ∙ get_or-append_right (layout base a) _ (nodes a) i d lengths large ∙ get_or_append_left (layout inner b) (node ∷ []) d j (omega arith)))
+                (ap (λ k. get_or table k d) sum ∙ get_or-append_right (post_order base a) _ (nodes a) i d lengths large ∙ get_or_append_left (post_order inner b) (node ∷ []) d j (omega arith)))
             | inr s' ↦
                 let large' : nodes a + nodes b ≤ i = grind (arith, nat_tests) in
-                let front = layout base a ++ layout inner b in
-                let whole : front ++ node ∷ [] ≡ table = append_assoc (layout base a) (layout inner b) (node ∷ []) in
-                let front-length : length front ≡ nodes t - 1 = omega (arith, length-append (layout base a) (layout inner b)) in
+                let prefix = post_order base a ++ post_order inner b in
+                let whole : prefix ++ node ∷ [] ≡ table = append_assoc (post_order base a) (post_order inner b) (node ∷ []) in
+                let prefix-length : length prefix ≡ nodes t - 1 = omega (arith, length-append (post_order base a) (post_order inner b)) in
                 subst (λ xs. StandsAt t base xs i d) whole
-                (last-node t base i d node front front-length (omega arith)
+                (last-node t base i d node prefix prefix-length (omega arith)
                 (a, b, lift a t base base 0 (base + nodes a - 1) a base-zero (inside-left op a b) (root a base), lift b t base inner (nodes a) (base + nodes a + nodes b - 1) b refl (inside-right op a b) (root b inner), ap (λ o. Binary o a b) (sym (operator_of-code op))))
           ]
     ]
@@ -208,10 +208,10 @@ node-at (Conditional a b c) base i d h =
     let inner = base + nodes a in
     let innermost = base + nodes a + nodes b in
     let node = conditional_node (base + nodes a - 1) (base + nodes a + nodes b - 1) (base + nodes a + nodes b + nodes c - 1) in
-    let table = layout base t in
-    let lengths = length-layout a base in
-    let lengths' = length-layout b inner in
-    let lengths'' = length-layout c innermost in
+    let table = post_order base t in
+    let lengths = length-post_order a base in
+    let lengths' = length-post_order b inner in
+    let lengths'' = length-post_order c innermost in
     let base-zero : base ≡ base + 0 = omega arith in
     let sum-base : innermost ≡ base + (nodes a + nodes b) = omega arith in
     elim (cases_Bool (nat_lt i (nodes a))) [
@@ -220,7 +220,7 @@ node-at (Conditional a b c) base i d h =
           let zero-i : 0 + i ≡ i = omega arith in
           subst (λ j. StandsAt t base table j d) zero-i
           (in-operand a t base base 0 i d table base-zero (inside-first a b c) small (node-at a base i d small)
-          (ap (λ j. get_or table j d) zero-i ∙ get_or_append_left (layout base a) _ d i (omega arith)))
+          (ap (λ j. get_or table j d) zero-i ∙ get_or_append_left (post_order base a) _ d i (omega arith)))
       | inr s ↦
           let large : nodes a ≤ i = grind (arith, nat_tests) in
           elim (cases_Bool (nat_lt i (nodes a + nodes b))) [
@@ -231,7 +231,7 @@ node-at (Conditional a b c) base i d h =
                 let sum : nodes a + j ≡ i = omega arith in
                 subst (λ k. StandsAt t base table k d) sum
                 (in-operand b t base inner (nodes a) j d table refl (inside-second a b c) below (node-at b inner j d below)
-                (ap (λ k. get_or table k d) sum ∙ get_or-append_right (layout base a) _ (nodes a) i d lengths large ∙ get_or_append_left (layout inner b) _ d j (omega arith)))
+                (ap (λ k. get_or table k d) sum ∙ get_or-append_right (post_order base a) _ (nodes a) i d lengths large ∙ get_or_append_left (post_order inner b) _ d j (omega arith)))
             | inr s' ↦
                 let large' : nodes a + nodes b ≤ i = grind (arith, nat_tests) in
                 elim (cases_Bool (nat_lt i (nodes a + nodes b + nodes c))) [
@@ -242,17 +242,17 @@ node-at (Conditional a b c) base i d h =
                       let sum : nodes a + nodes b + j ≡ i = omega arith in
                       subst (λ k. StandsAt t base table k d) sum
                       (in-operand c t base innermost (nodes a + nodes b) j d table sum-base (inside-third a b c) below (node-at c innermost j d below)
-                      (ap (λ k. get_or table k d) sum ∙ get_or-append_right (layout base a) _ (nodes a) i d lengths large
-                      ∙ get_or-append_right (layout inner b) _ (nodes b) (i - nodes a) d lengths' (omega arith) ∙ get_or_append_left (layout innermost c) (node ∷ []) d j (omega arith)))
+                      (ap (λ k. get_or table k d) sum ∙ get_or-append_right (post_order base a) _ (nodes a) i d lengths large
+                      ∙ get_or-append_right (post_order inner b) _ (nodes b) (i - nodes a) d lengths' (omega arith) ∙ get_or_append_left (post_order innermost c) (node ∷ []) d j (omega arith)))
                   | inr s'' ↦
                       let large'' : nodes a + nodes b + nodes c ≤ i = grind (arith, nat_tests) in
-                      let front = layout base a ++ (layout inner b ++ layout innermost c) in
-                      let whole : front ++ node ∷ [] ≡ table =
-                      append_assoc (layout base a) (layout inner b ++ layout innermost c) (node ∷ []) ∙ ap (λ xs. layout base a ++ xs) (append_assoc (layout inner b) (layout innermost c) (node ∷ [])) in
-                      let front-length : length front ≡ nodes t - 1 =
-                      omega (arith, length-append (layout base a) (layout inner b ++ layout innermost c), length-append (layout inner b) (layout innermost c)) in
+                      let prefix = post_order base a ++ (post_order inner b ++ post_order innermost c) in
+                      let whole : prefix ++ node ∷ [] ≡ table =
+                      append_assoc (post_order base a) (post_order inner b ++ post_order innermost c) (node ∷ []) ∙ ap (λ xs. post_order base a ++ xs) (append_assoc (post_order inner b) (post_order innermost c) (node ∷ [])) in
+                      let prefix-length : length prefix ≡ nodes t - 1 =
+                      omega (arith, length-append (post_order base a) (post_order inner b ++ post_order innermost c), length-append (post_order inner b) (post_order innermost c)) in
                       subst (λ xs. StandsAt t base xs i d) whole
-                      (last-node t base i d node front front-length (omega arith)
+                      (last-node t base i d node prefix prefix-length (omega arith)
                       (a, b, c, lift a t base base 0 (base + nodes a - 1) a base-zero (inside-first a b c) (root a base), lift b t base inner (nodes a) (base + nodes a + nodes b - 1) b refl (inside-second a b c) (root b inner), lift c t base innermost (nodes a + nodes b) (base + nodes a + nodes b + nodes c - 1) c sum-base (inside-third a b c) (root c innermost), refl))
                 ]
           ]
@@ -288,6 +288,6 @@ of-node whole part (ConditionalShape i j k) s =
     let third-is = r.part_is in
     (rw at p.within, rw at' q.within, rw at'' r.within, (cc))
 
-pub node_of : (table : List Node) (tree : Tree) (place : ℕ) (d : Node) → table ≡ layout 0 tree → place < nodes tree → IsNodeOf tree (subtree tree place) (shape_of (get_or table place d))
-node_of table tree place d laid h =
-    of-node tree (subtree tree place) (shape_of (get_or table place d)) (subst (λ xs. StandsAt tree 0 xs place d) (sym laid) (node-at tree 0 place d h))
+pub node_of : (table : List Node) (tree : Tree) (index : ℕ) (d : Node) → table ≡ post_order 0 tree → index < nodes tree → IsNodeOf tree (subtree tree index) (shape_of (get_or table index d))
+node_of table tree index d laid h =
+    of-node tree (subtree tree index) (shape_of (get_or table index d)) (subst (λ xs. StandsAt tree 0 xs index d) (sym laid) (node-at tree 0 index d h))

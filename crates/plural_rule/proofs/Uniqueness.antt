@@ -9,7 +9,7 @@ use Rattle.plural_rule.specs.declared.rule.Reason.{Reason}
 use Rattle.plural_rule.specs.declared.rule.Reason.TheVariants.{NoNumber, NoExpression, Unreadable, TooLong}
 use Rattle.plural_rule.specs.Expression.{Tree, Count, Number, Not, Binary, Conditional, nodes, is_zero, needs_right, chosen, value, visited, visited_right}
 use Rattle.plural_rule.specs.Grammar.{Spelt}
-use Rattle.plural_rule.specs.Header.{number_of, expression_of}
+use Rattle.plural_rule.specs.Header.{nplurals_of, expression_of}
 use Rattle.plural_rule.specs.PluralRule.{Meaning, IsReadable, IsTooLong, IsUnreadable, IsReason, Gives, IsRuleOf, IsWithin, default_rule}
 use Rattle.plural_rule.proofs.Complete.{complete}
 use Rattle.plural_rule.proofs.Lexing.{one_list}
@@ -44,22 +44,22 @@ visited-le-nodes (Conditional a b c) n =
 same-text : (header text text' : List ℕ) → expression_of header ≡ Some text → expression_of header ≡ Some text' → text ≡ text'
 same-text header text text' e e' = cc
 
-same-number : (header : List ℕ) (n n' : ℕ) → number_of header ≡ Some n → number_of header ≡ Some n' → n ≡ n'
-same-number header n n' e e' = cc
+same-nplurals : (header : List ℕ) (n n' : ℕ) → nplurals_of header ≡ Some n → nplurals_of header ≡ Some n' → n ≡ n'
+same-nplurals header n n' e e' = cc
 
 named : {A : Type 0} (o : Option A) (x : A) → o ≡ Some x → o ≡ None → ⊥
 named o x e e' = cc
 
 -- a rule that can be read has no reason for the default
-readable-no_reason : (limit : ℕ) (header : List ℕ) (number : ℕ) (tree : Tree) (reason : Reason) → IsReadable limit header number tree → IsReason limit header reason → ⊥
-readable-no_reason limit header number tree NoNumber r h = named _ _ r.number_is h
-readable-no_reason limit header number tree NoExpression r h = named _ _ r.text_is h.text_is
-readable-no_reason limit header number tree Unreadable r h =
+readable-no_reason : (limit : ℕ) (header : List ℕ) (nplurals : ℕ) (tree : Tree) (reason : Reason) → IsReadable limit header nplurals tree → IsReason limit header reason → ⊥
+readable-no_reason limit header nplurals tree NoNumber r h = named _ _ r.nplurals_is h
+readable-no_reason limit header nplurals tree NoExpression r h = named _ _ r.text_is h.text_is
+readable-no_reason limit header nplurals tree Unreadable r h =
     elim h.wrong [
-      | inl large ↦ let e = same-number header number h.number r.number_is h.number_is in let fits = r.number_fits in omega arith
+      | inl large ↦ let e = same-nplurals header nplurals h.nplurals r.nplurals_is h.nplurals_is in let fits = r.nplurals_fits in omega arith
       | inr nothing ↦ nothing tree (subst (Spelt tree) (same-text header r.text h.text r.text_is h.text_is) r.spelt)
     ]
-readable-no_reason limit header number tree TooLong r h =
+readable-no_reason limit header nplurals tree TooLong r h =
     let e = ap length (same-text header r.text h.text r.text_is h.text_is) in
     let fits = r.text_fits in
     let fits_not = h.text_fits_not in
@@ -75,37 +75,37 @@ fits-not_too_long limit header u h =
 
 one_reason : (limit : ℕ) (header : List ℕ) (a b : Reason) → IsReason limit header a → IsReason limit header b → a ≡ b
 one_reason limit header NoNumber NoNumber h k = refl
-one_reason limit header NoNumber NoExpression h k = absurd (named _ _ k.number_is h)
-one_reason limit header NoNumber Unreadable h k = absurd (named _ _ k.number_is h)
-one_reason limit header NoNumber TooLong h k = absurd (named _ _ k.number_is h)
-one_reason limit header NoExpression NoNumber h k = absurd (named _ _ h.number_is k)
+one_reason limit header NoNumber NoExpression h k = absurd (named _ _ k.nplurals_is h)
+one_reason limit header NoNumber Unreadable h k = absurd (named _ _ k.nplurals_is h)
+one_reason limit header NoNumber TooLong h k = absurd (named _ _ k.nplurals_is h)
+one_reason limit header NoExpression NoNumber h k = absurd (named _ _ h.nplurals_is k)
 one_reason limit header NoExpression NoExpression h k = refl
 one_reason limit header NoExpression Unreadable h k = absurd (named _ _ k.text_is h.text_is)
 one_reason limit header NoExpression TooLong h k = absurd (named _ _ k.text_is h.text_is)
-one_reason limit header Unreadable NoNumber h k = absurd (named _ _ h.number_is k)
+one_reason limit header Unreadable NoNumber h k = absurd (named _ _ h.nplurals_is k)
 one_reason limit header Unreadable NoExpression h k = absurd (named _ _ h.text_is k.text_is)
 one_reason limit header Unreadable Unreadable h k = refl
 one_reason limit header Unreadable TooLong h k = absurd (fits-not_too_long limit header h k)
-one_reason limit header TooLong NoNumber h k = absurd (named _ _ h.number_is k)
+one_reason limit header TooLong NoNumber h k = absurd (named _ _ h.nplurals_is k)
 one_reason limit header TooLong NoExpression h k = absurd (named _ _ h.text_is k.text_is)
 one_reason limit header TooLong Unreadable h k = absurd (fits-not_too_long limit header k h)
 one_reason limit header TooLong TooLong h k = refl
 
-same-rule : (rule other : Meaning) → rule.source ≡ other.source → rule.number ≡ other.number → rule.tree ≡ other.tree → rule ≡ other
-same-rule rule other source number tree =
-    ap (λ x. record { source = x; number = rule.number; tree = rule.tree }) source
-    ∙ ap (λ x. record { source = other.source; number = x; tree = rule.tree }) number
-    ∙ ap (λ x. record { source = other.source; number = other.number; tree = x }) tree
+same-rule : (rule other : Meaning) → rule.source ≡ other.source → rule.nplurals ≡ other.nplurals → rule.tree ≡ other.tree → rule ≡ other
+same-rule rule other source nplurals tree =
+    ap (λ x. record { source = x; nplurals = rule.nplurals; tree = rule.tree }) source
+    ∙ ap (λ x. record { source = other.source; nplurals = x; tree = rule.tree }) nplurals
+    ∙ ap (λ x. record { source = other.source; nplurals = other.nplurals; tree = x }) tree
 
 one_rule-by : (limit : ℕ) (header : List ℕ) (rule other : Meaning) (a b : Source) → rule.source ≡ a → other.source ≡ b → Gives limit header rule a → Gives limit header other b → rule ≡ other
 one_rule-by limit header rule other Header Header e e' h k =
     let text = same-text header h.text k.text h.text_is k.text_is in
-    same-rule rule other (e ∙ sym e') (same-number header rule.number other.number h.number_is k.number_is)
+    same-rule rule other (e ∙ sym e') (same-nplurals header rule.nplurals other.nplurals h.nplurals_is k.nplurals_is)
     (one_tree k.text rule.tree other.tree (subst (Spelt rule.tree) text h.spelt) k.spelt)
 one_rule-by limit header rule other Header (Default reason) e e' h k =
-    absurd (readable-no_reason limit header rule.number rule.tree reason h k.0)
+    absurd (readable-no_reason limit header rule.nplurals rule.tree reason h k.0)
 one_rule-by limit header rule other (Default reason) Header e e' h k =
-    absurd (readable-no_reason limit header other.number other.tree reason k h.0)
+    absurd (readable-no_reason limit header other.nplurals other.tree reason k h.0)
 one_rule-by limit header rule other (Default reason) (Default reason') e e' h k =
     h.1 ∙ ap default_rule (one_reason limit header reason reason' h.0 k.0) ∙ sym k.1
 
@@ -113,18 +113,18 @@ pub one_rule : (limit : ℕ) (header : List ℕ) (rule other : Meaning) → IsRu
 one_rule limit header rule other h k = one_rule-by limit header rule other rule.source other.source refl refl h k
 
 -- within a limit: the text that the header names fits it
-within : (limit : ℕ) (header text : List ℕ) (number : ℕ) → IsWithin limit header → number_of header ≡ Some number → expression_of header ≡ Some text → length text ≤ limit
-within limit header text number (inl none) e e' = absurd (named _ _ e none)
-within limit header text number (inr short) e e' = short text e'
+within : (limit : ℕ) (header text : List ℕ) (nplurals : ℕ) → IsWithin limit header → nplurals_of header ≡ Some nplurals → expression_of header ≡ Some text → length text ≤ limit
+within limit header text nplurals (inl none) e e' = absurd (named _ _ e none)
+within limit header text nplurals (inr short) e e' = short text e'
 
 longer-reason : (limit longer : ℕ) (header : List ℕ) (reason : Reason) → limit ≤ longer → IsWithin limit header → IsReason limit header reason → IsReason longer header reason
 longer-reason limit longer header NoNumber le w h = h
 longer-reason limit longer header NoExpression le w h = h
 longer-reason limit longer header Unreadable le w h =
     let fits = h.text_fits in
-    record { number = h.number; text = h.text; number_is = h.number_is; text_is = h.text_is; text_fits = omega arith; wrong = h.wrong }
+    record { nplurals = h.nplurals; text = h.text; nplurals_is = h.nplurals_is; text_is = h.text_is; text_fits = omega arith; wrong = h.wrong }
 longer-reason limit longer header TooLong le w h =
-    let fits = within limit header h.text h.number w h.number_is h.text_is in
+    let fits = within limit header h.text h.nplurals w h.nplurals_is h.text_is in
     let fits_not = h.text_fits_not in
     absurd (omega arith)
 
@@ -132,21 +132,21 @@ shorter-reason : (limit longer : ℕ) (header : List ℕ) (reason : Reason) → 
 shorter-reason limit longer header NoNumber le w h = h
 shorter-reason limit longer header NoExpression le w h = h
 shorter-reason limit longer header Unreadable le w h =
-    record { number = h.number; text = h.text; number_is = h.number_is; text_is = h.text_is; text_fits = within limit header h.text h.number w h.number_is h.text_is; wrong = h.wrong }
+    record { nplurals = h.nplurals; text = h.text; nplurals_is = h.nplurals_is; text_is = h.text_is; text_fits = within limit header h.text h.nplurals w h.nplurals_is h.text_is; wrong = h.wrong }
 shorter-reason limit longer header TooLong le w h =
-    let fits = within limit header h.text h.number w h.number_is h.text_is in
+    let fits = within limit header h.text h.nplurals w h.nplurals_is h.text_is in
     let fits_not = h.text_fits_not in
     absurd (omega arith)
 
 longer-by : (limit longer : ℕ) (header : List ℕ) (rule : Meaning) (source : Source) → limit ≤ longer → IsWithin limit header → Gives limit header rule source → Gives longer header rule source
 longer-by limit longer header rule Header le w h =
     let fits = h.text_fits in
-    record { text = h.text; number_is = h.number_is; number_fits = h.number_fits; text_is = h.text_is; text_fits = omega arith; spelt = h.spelt }
+    record { text = h.text; nplurals_is = h.nplurals_is; nplurals_fits = h.nplurals_fits; text_is = h.text_is; text_fits = omega arith; spelt = h.spelt }
 longer-by limit longer header rule (Default reason) le w h = (longer-reason limit longer header reason le w h.0, h.1)
 
 shorter-by : (limit longer : ℕ) (header : List ℕ) (rule : Meaning) (source : Source) → limit ≤ longer → IsWithin limit header → Gives longer header rule source → Gives limit header rule source
 shorter-by limit longer header rule Header le w h =
-    record { text = h.text; number_is = h.number_is; number_fits = h.number_fits; text_is = h.text_is; text_fits = within limit header h.text rule.number w h.number_is h.text_is; spelt = h.spelt }
+    record { text = h.text; nplurals_is = h.nplurals_is; nplurals_fits = h.nplurals_fits; text_is = h.text_is; text_fits = within limit header h.text rule.nplurals w h.nplurals_is h.text_is; spelt = h.spelt }
 shorter-by limit longer header rule (Default reason) le w h = (shorter-reason limit longer header reason le w h.0, h.1)
 
 pub longer_limit : (limit longer : ℕ) (header : List ℕ) (rule : Meaning) → limit ≤ longer → IsWithin limit header → IsRuleOf limit header rule ↔ IsRuleOf longer header rule

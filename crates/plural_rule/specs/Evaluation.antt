@@ -35,20 +35,20 @@ IsNodeOf whole part (ConditionalShape i j k) =
     × (part ≡ Conditional (subtree whole i) (subtree whole j) (subtree whole k))
 
 -- a value, and how many nodes were visited for it
-pub record Outcome : Type 0 where
+pub record Evaluated : Type 0 where
   pub value : Option ℕ
   pub steps : ℕ
 
 -- the outcome of a tree, after some steps
-abbrev pub outcome_of : Tree → ℕ → ℕ → Outcome
-outcome_of tree n steps = record { value = value tree n; steps = steps + visited tree n }
+abbrev pub evaluated : Tree → ℕ → ℕ → Evaluated
+evaluated tree n steps = record { value = value tree n; steps = steps + visited tree n }
 
 -- an operator before its second operand, with the value of the first
 abbrev pub second_frame : Operator → ℕ → Frame
 second_frame op left = let node = numeral_node left in Second op node.first node.second node.third node.fourth
 
 -- the outcome of a node that waits, from that of the operand that it waits for
-abbrev pub resumed : Tree → ℕ → Frame → Outcome → Outcome
+abbrev pub resumed : Tree → ℕ → Frame → Evaluated → Evaluated
 resumed whole n NotFrame o = record { value = negated o.value; steps = o.steps }
 resumed whole n (First op j) o =
     record {
@@ -64,13 +64,13 @@ resumed whole n (Condition j k) o =
     }
 
 -- the outcome of the whole expression, from that of the operand for which the last node waits
-abbrev pub finished : Tree → ℕ → List Frame → Outcome → Outcome
+abbrev pub finished : Tree → ℕ → List Frame → Evaluated → Evaluated
 finished whole n [] o = o
 finished whole n (frame ∷ frames) o = resumed whole n frame (finished whole n frames o)
 
 -- the same from what is done next
-abbrev pub finished_step : Tree → ℕ → List Frame → ℕ → Step → Outcome
-finished_step whole n frames steps (Visit i) = finished whole n frames (outcome_of (subtree whole i) n steps)
+abbrev pub finished_step : Tree → ℕ → List Frame → ℕ → Step → Evaluated
+finished_step whole n frames steps (Visit i) = finished whole n frames (evaluated (subtree whole i) n steps)
 finished_step whole n frames steps (Stop v) = record { value = v; steps = steps }
 
 -- how many nodes may still be visited for what waits

@@ -88,7 +88,7 @@ abbrev pub visited_right : Operator → Option ℕ → ℕ → ℕ
 visited_right op None steps = 0
 visited_right op (Some x) steps = if needs_right op x then steps else 0
 
--- how many nodes the evaluation at a count visits: operands from the left, none that isn't needed, and none behind an undefined one
+-- how many nodes the evaluation at a count visits: operands from the left, none that isn't needed, and none after an undefined one
 abbrev pub visited : Tree → ℕ → ℕ
 visited Count n = 1
 visited (Number v) n = 1

@@ -4,12 +4,12 @@ use Rattle.std.specs.Prelude.{ℕ, Bool, ◌||◌, ◌==◌, nat_eq, List, [], �
 use Rattle.std.specs.List.{starts_with, prefix_len, before_first}
 use Rattle.plural_rule.specs.Tokens.{is_blank, is_digit, decimal_value}
 
--- what stands behind the first place of a word in a text
-abbrev pub behind_first : List ℕ → List ℕ → Option (List ℕ)
-behind_first word [] = None
-behind_first word (c ∷ rest) = if starts_with nat_eq (c ∷ rest) word then Some (drop (length word) (c ∷ rest)) else behind_first word rest
+-- what stands after the first place of a name in a text
+abbrev pub after_first : List ℕ → List ℕ → Option (List ℕ)
+after_first name [] = None
+after_first name (c ∷ rest) = if starts_with nat_eq (c ∷ rest) name then Some (drop (length name) (c ∷ rest)) else after_first name rest
 
--- the text without the blanks at its front
+-- the text without the blanks at its beginning
 abbrev pub without_blanks : List ℕ → List ℕ
 without_blanks text = drop (prefix_len is_blank text) text
 
@@ -18,13 +18,13 @@ abbrev pub number_of_digits : List ℕ → Option ℕ
 number_of_digits [] = None
 number_of_digits (c ∷ rest) = Some (decimal_value (c ∷ rest))
 
--- the number at the front of a text, behind blanks
+-- the number at the beginning of a text, after blanks
 abbrev pub leading_number : List ℕ → Option ℕ
 leading_number text = number_of_digits (take_while is_digit (without_blanks text))
 
 -- the number of plural forms that a header names
-abbrev pub number_of : List ℕ → Option ℕ
-number_of header = option_and_then leading_number (behind_first (codes "nplurals=") header)
+abbrev pub nplurals_of : List ℕ → Option ℕ
+nplurals_of header = option_and_then leading_number (after_first (codes "nplurals=") header)
 
 -- a byte that ends an expression: `;` or LF
 abbrev pub is_end : ℕ → Bool
@@ -32,4 +32,4 @@ is_end c = c == 59 || c == 10
 
 -- the text of the expression that a header names
 abbrev pub expression_of : List ℕ → Option (List ℕ)
-expression_of header = option_map (before_first is_end) (behind_first (codes "plural=") header)
+expression_of header = option_map (before_first is_end) (after_first (codes "plural=") header)

@@ -7,7 +7,7 @@ use Rattle.plural_rule.specs.Expression.{Tree, nodes}
 use Rattle.plural_rule.specs.Grammar.{level, Spelt}
 use Rattle.plural_rule.specs.PluralRule.{IsReadable}
 use Rattle.plural_rule.specs.Node.{not_node, binary_node, conditional_node}
-use Rattle.plural_rule.specs.PostOrder.{layout}
+use Rattle.plural_rule.specs.PostOrder.{post_order}
 use Rattle.plural_rule.specs.ShiftReduce.{Waiting, WaitNot, WaitOpen, WaitBinary, WaitQuestion, WaitColon, State, Want, Have}
 
 -- how many nodes stand in the table for what waits
@@ -24,9 +24,9 @@ abbrev pub laid : List Waiting → List Node
 laid [] = []
 laid (WaitNot ∷ stack) = laid stack
 laid (WaitOpen ∷ stack) = laid stack
-laid (WaitBinary op a ∷ stack) = laid stack ++ layout (size stack) a
-laid (WaitQuestion a ∷ stack) = laid stack ++ layout (size stack) a
-laid (WaitColon a b ∷ stack) = (laid stack ++ layout (size stack) a) ++ layout (size stack + nodes a) b
+laid (WaitBinary op a ∷ stack) = laid stack ++ post_order (size stack) a
+laid (WaitQuestion a ∷ stack) = laid stack ++ post_order (size stack) a
+laid (WaitColon a b ∷ stack) = (laid stack ++ post_order (size stack) a) ++ post_order (size stack + nodes a) b
 
 -- the parser's entry for what waits, whose operands stand in the table from index base on
 abbrev pub pending : ℕ → Waiting → Pending
@@ -54,9 +54,9 @@ pub record IsWaiting (table : List Node) (entries : List Pending) (stack : List 
   pub table_is : table ≡ laid stack
   pub entries_are : entries ≡ pendings stack
 
--- table and stack stand for what waits and an operand behind it
+-- table and stack stand for what waits and an operand after it
 pub record IsOperand (table : List Node) (entries : List Pending) (stack : List Waiting) (tree : Tree) : Type 0 where
-  pub table_is : table ≡ laid stack ++ layout (size stack) tree
+  pub table_is : table ≡ laid stack ++ post_order (size stack) tree
   pub entries_are : entries ≡ pendings stack
 
 -- table, stack and whether an operand is complete stand for a state
@@ -64,7 +64,7 @@ abbrev pub Represents : List Node → List Pending → Bool → State → Type 0
 Represents table entries complete (Want stack) = (complete ≡ false) × IsWaiting table entries stack
 Represents table entries complete (Have stack tree) = (complete ≡ true) × IsOperand table entries stack tree
 
--- the answer to a token stands for the state behind it
+-- the answer to a token stands for the state after it
 abbrev pub Answers : Option State → Option Bool → List Node → List Pending → Type 0
 Answers None answer table entries = answer ≡ None
 Answers (Some state) None table entries = ⊥
@@ -74,16 +74,16 @@ Answers (Some state) (Some complete) table entries = Represents table entries co
 pub record HoldsTree (read : Option Tree) (table : List Node) : Type 0 where
   pub tree : Tree
   pub read_is : read ≡ Some tree
-  pub table_is : table ≡ layout 0 tree
+  pub table_is : table ≡ post_order 0 tree
 
 -- the table holds the tree that the text spells
 pub record HoldsExpression (text : List ℕ) (table : List Node) : Type 0 where
   pub tree : Tree
   pub spelt : Spelt tree text
-  pub table_is : table ≡ layout 0 tree
+  pub table_is : table ≡ post_order 0 tree
 
 -- the header names a rule that can be read, and the table holds its tree
-pub record HoldsRule (limit : ℕ) (header : List ℕ) (number : ℕ) (table : List Node) : Type 0 where
+pub record HoldsRule (limit : ℕ) (header : List ℕ) (nplurals : ℕ) (table : List Node) : Type 0 where
   pub tree : Tree
-  pub readable : IsReadable limit header number tree
-  pub table_is : table ≡ layout 0 tree
+  pub readable : IsReadable limit header nplurals tree
+  pub table_is : table ≡ post_order 0 tree

@@ -8,12 +8,12 @@ use Rattle.plural_rule.specs.declared.rule.Reason.{Reason}
 use Rattle.plural_rule.specs.declared.rule.Reason.TheVariants.{NoNumber, NoExpression, Unreadable, TooLong}
 use Rattle.plural_rule.specs.Expression.{Tree, Count, Number, Binary}
 use Rattle.plural_rule.specs.Grammar.{Spelt}
-use Rattle.plural_rule.specs.Header.{number_of, expression_of}
+use Rattle.plural_rule.specs.Header.{nplurals_of, expression_of}
 
 -- what a rule means: where it comes from, the number of plural forms, and the expression
 pub record Meaning : Type 0 where
   pub source : Source
-  pub number : ℕ
+  pub nplurals : ℕ
   pub tree : Tree
 
 -- the most bytes of an expression that is read, and so the most nodes that a rule has
@@ -26,50 +26,50 @@ default_tree = Binary NotEqual Count (Number 1)
 
 -- the rule of a header without a readable one: two forms, and `n != 1`
 abbrev pub default_rule : Reason → Meaning
-default_rule reason = record { source = Default reason; number = 2; tree = default_tree }
+default_rule reason = record { source = Default reason; nplurals = 2; tree = default_tree }
 
 -- the header names a number that fits 64 bits, and an expression within the limit that spells the tree
-pub record IsReadable (limit : ℕ) (header : List ℕ) (number : ℕ) (tree : Tree) : Type 0 where
+pub record IsReadable (limit : ℕ) (header : List ℕ) (nplurals : ℕ) (tree : Tree) : Type 0 where
   pub text : List ℕ
-  pub number_is : number_of header ≡ Some number
-  pub number_fits : number < 2 ^ 64
+  pub nplurals_is : nplurals_of header ≡ Some nplurals
+  pub nplurals_fits : nplurals < 2 ^ 64
   pub text_is : expression_of header ≡ Some text
   pub text_fits : length text ≤ limit
   pub spelt : Spelt tree text
 
 -- the header names a number, and no expression
 pub record HasNoExpression (header : List ℕ) : Type 0 where
-  pub number : ℕ
-  pub number_is : number_of header ≡ Some number
+  pub nplurals : ℕ
+  pub nplurals_is : nplurals_of header ≡ Some nplurals
   pub text_is : expression_of header ≡ None
 
 -- the header names a number, and an expression past the limit
 pub record IsTooLong (limit : ℕ) (header : List ℕ) : Type 0 where
-  pub number : ℕ
+  pub nplurals : ℕ
   pub text : List ℕ
-  pub number_is : number_of header ≡ Some number
+  pub nplurals_is : nplurals_of header ≡ Some nplurals
   pub text_is : expression_of header ≡ Some text
   pub text_fits_not : limit < length text
 
 -- the header names a number and an expression within the limit, and the number is too large or the expression spells no tree
 pub record IsUnreadable (limit : ℕ) (header : List ℕ) : Type 0 where
-  pub number : ℕ
+  pub nplurals : ℕ
   pub text : List ℕ
-  pub number_is : number_of header ≡ Some number
+  pub nplurals_is : nplurals_of header ≡ Some nplurals
   pub text_is : expression_of header ≡ Some text
   pub text_fits : length text ≤ limit
-  pub wrong : (2 ^ 64 ≤ number) ⊎ ((tree : Tree) → Spelt tree text → ⊥)
+  pub wrong : (2 ^ 64 ≤ nplurals) ⊎ ((tree : Tree) → Spelt tree text → ⊥)
 
 -- the reason for the default rule holds of the header
 abbrev pub IsReason : ℕ → List ℕ → Reason → Type 0
-IsReason limit header NoNumber = number_of header ≡ None
+IsReason limit header NoNumber = nplurals_of header ≡ None
 IsReason limit header NoExpression = HasNoExpression header
 IsReason limit header TooLong = IsTooLong limit header
 IsReason limit header Unreadable = IsUnreadable limit header
 
 -- the header gives the rule, whose source is this one
 abbrev pub Gives : ℕ → List ℕ → Meaning → Source → Type 0
-Gives limit header rule Header = IsReadable limit header rule.number rule.tree
+Gives limit header rule Header = IsReadable limit header rule.nplurals rule.tree
 Gives limit header rule (Default reason) = IsReason limit header reason × (rule ≡ default_rule reason)
 
 -- the rule of a header text, within a limit on the bytes of its expression
@@ -78,4 +78,4 @@ IsRuleOf limit header rule = Gives limit header rule rule.source
 
 -- what the header says is within the limit: an expression that isn't longer, or no rule whatever the limit is
 abbrev pub IsWithin : ℕ → List ℕ → Type 0
-IsWithin limit header = (number_of header ≡ None) ⊎ ((text : List ℕ) → expression_of header ≡ Some text → length text ≤ limit)
+IsWithin limit header = (nplurals_of header ≡ None) ⊎ ((text : List ℕ) → expression_of header ≡ Some text → length text ≤ limit)

@@ -10,14 +10,14 @@ use Rattle.plural_rule.specs.Node.{count_node, numeral, numeral_node, not_node, 
 use Rattle.plural_rule.specs.Expression.{Tree, Count, Number, Not, Binary, Conditional, nodes}
 
 -- the nodes of a tree, the first of which stands at index base
-abbrev pub layout : ℕ → Tree → List Node
-layout base Count = count_node ∷ []
-layout base (Number v) = numeral_node v ∷ []
-layout base (Not a) = layout base a ++ not_node (base + nodes a - 1) ∷ []
-layout base (Binary op a b) =
-    layout base a ++ (layout (base + nodes a) b ++ binary_node op (base + nodes a - 1) (base + nodes a + nodes b - 1) ∷ [])
-layout base (Conditional a b c) =
-    layout base a ++ (layout (base + nodes a) b ++ (layout (base + nodes a + nodes b) c
+abbrev pub post_order : ℕ → Tree → List Node
+post_order base Count = count_node ∷ []
+post_order base (Number v) = numeral_node v ∷ []
+post_order base (Not a) = post_order base a ++ not_node (base + nodes a - 1) ∷ []
+post_order base (Binary op a b) =
+    post_order base a ++ (post_order (base + nodes a) b ++ binary_node op (base + nodes a - 1) (base + nodes a + nodes b - 1) ∷ [])
+post_order base (Conditional a b c) =
+    post_order base a ++ (post_order (base + nodes a) b ++ (post_order (base + nodes a + nodes b) c
     ++ conditional_node (base + nodes a - 1) (base + nodes a + nodes b - 1) (base + nodes a + nodes b + nodes c - 1) ∷ []))
 
 -- the trees read so far, newest first, and one more node, by what it is
@@ -56,37 +56,37 @@ numeral-parts v =
     ∙ ap (λ x. x * 2 ^ 16 + v % 2 ^ 16) (div-add-mod' (v / 2 ^ 16) (2 ^ 16))
     ∙ div-add-mod' v (2 ^ 16)
 
-with_nodes-layout : (t : Tree) (base : ℕ) (trees : List Tree) (rest : List Node) → with_nodes trees (layout base t ++ rest) ≡ with_nodes (t ∷ trees) rest
-with_nodes-layout Count base trees rest = refl
-with_nodes-layout (Number v) base trees rest = ap (λ x. with_nodes (Number x ∷ trees) rest) (numeral-parts v)
-with_nodes-layout (Not a) base trees rest =
+with_nodes-post_order : (t : Tree) (base : ℕ) (trees : List Tree) (rest : List Node) → with_nodes trees (post_order base t ++ rest) ≡ with_nodes (t ∷ trees) rest
+with_nodes-post_order Count base trees rest = refl
+with_nodes-post_order (Number v) base trees rest = ap (λ x. with_nodes (Number x ∷ trees) rest) (numeral-parts v)
+with_nodes-post_order (Not a) base trees rest =
     let last = not_node (base + nodes a - 1) in
-    ap (with_nodes trees) (append_assoc (layout base a) (last ∷ []) rest) ∙ with_nodes-layout a base trees (last ∷ rest)
-with_nodes-layout (Binary op a b) base trees rest =
+    ap (with_nodes trees) (append_assoc (post_order base a) (last ∷ []) rest) ∙ with_nodes-post_order a base trees (last ∷ rest)
+with_nodes-post_order (Binary op a b) base trees rest =
     let last = binary_node op (base + nodes a - 1) (base + nodes a + nodes b - 1) in
-    let second = layout (base + nodes a) b in
-    ap (with_nodes trees) (append_assoc (layout base a) (second ++ last ∷ []) rest)
-    ∙ with_nodes-layout a base trees ((second ++ last ∷ []) ++ rest)
+    let second = post_order (base + nodes a) b in
+    ap (with_nodes trees) (append_assoc (post_order base a) (second ++ last ∷ []) rest)
+    ∙ with_nodes-post_order a base trees ((second ++ last ∷ []) ++ rest)
     ∙ ap (with_nodes (a ∷ trees)) (append_assoc second (last ∷ []) rest)
-    ∙ with_nodes-layout b (base + nodes a) (a ∷ trees) (last ∷ rest)
+    ∙ with_nodes-post_order b (base + nodes a) (a ∷ trees) (last ∷ rest)
     ∙ ap (λ o. with_nodes (Binary o a b ∷ trees) rest) (operator_of-code op)
-with_nodes-layout (Conditional a b c) base trees rest =
+with_nodes-post_order (Conditional a b c) base trees rest =
     let last = conditional_node (base + nodes a - 1) (base + nodes a + nodes b - 1) (base + nodes a + nodes b + nodes c - 1) in
-    let second = layout (base + nodes a) b in
-    let third = layout (base + nodes a + nodes b) c in
-    ap (with_nodes trees) (append_assoc (layout base a) (second ++ (third ++ last ∷ [])) rest)
-    ∙ with_nodes-layout a base trees ((second ++ (third ++ last ∷ [])) ++ rest)
+    let second = post_order (base + nodes a) b in
+    let third = post_order (base + nodes a + nodes b) c in
+    ap (with_nodes trees) (append_assoc (post_order base a) (second ++ (third ++ last ∷ [])) rest)
+    ∙ with_nodes-post_order a base trees ((second ++ (third ++ last ∷ [])) ++ rest)
     ∙ ap (with_nodes (a ∷ trees)) (append_assoc second (third ++ last ∷ []) rest)
-    ∙ with_nodes-layout b (base + nodes a) (a ∷ trees) ((third ++ last ∷ []) ++ rest)
+    ∙ with_nodes-post_order b (base + nodes a) (a ∷ trees) ((third ++ last ∷ []) ++ rest)
     ∙ ap (with_nodes (b ∷ a ∷ trees)) (append_assoc third (last ∷ []) rest)
-    ∙ with_nodes-layout c (base + nodes a + nodes b) (b ∷ a ∷ trees) (last ∷ rest)
+    ∙ with_nodes-post_order c (base + nodes a + nodes b) (b ∷ a ∷ trees) (last ∷ rest)
 
 -- a table holds the one tree of which it is the layout
-pub tree_of-layout : (t : Tree) (base : ℕ) → tree_of (layout base t) ≡ t
+pub tree_of-post_order : (t : Tree) (base : ℕ) → tree_of (post_order base t) ≡ t
 unfolding tree_of
-tree_of-layout t base =
-    ap (λ table. newest (with_nodes [] table)) (sym (append-nil (layout base t))) ∙ ap newest (with_nodes-layout t base [] [])
+tree_of-post_order t base =
+    ap (λ table. newest (with_nodes [] table)) (sym (append-nil (post_order base t))) ∙ ap newest (with_nodes-post_order t base [] [])
 
 -- a tree is stored as data by its table
 abbrev pub tree_code : Coded Node → Coded Tree
-tree_code node_code = code_by (List Node) (coded_list node_code) (layout 0) tree_of (λ t. tree_of-layout t 0)
+tree_code node_code = code_by (List Node) (coded_list node_code) (post_order 0) tree_of (λ t. tree_of-post_order t 0)

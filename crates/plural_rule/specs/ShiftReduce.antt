@@ -32,7 +32,7 @@ completed k (WaitBinary op a) t = if nat_le k (level op) then Some (Binary op a 
 completed k (WaitQuestion a) t = None
 completed k (WaitColon a b) t = if k == 0 then Some (Conditional a b t) else None
 
--- the operand behind what binds at least as tight as level k
+-- the operand after what binds at least as tight as level k
 abbrev pub reduce_by : (Tree → Operand) → Waiting → List Waiting → Tree → Option Tree → Operand
 reduce_by go w stack t None = record { stack = w ∷ stack; tree = t }
 reduce_by go w stack t (Some u) = go u
@@ -41,7 +41,7 @@ abbrev pub reduce : ℕ → List Waiting → Tree → Operand
 reduce k [] t = record { stack = []; tree = t }
 reduce k (w ∷ stack) t = reduce_by (reduce k stack) w stack t (completed k w t)
 
--- what `:` and `)` do behind an operand
+-- what `:` and `)` do after an operand
 abbrev pub at_colon : List Waiting → Tree → Option State
 at_colon [] b = None
 at_colon (WaitQuestion a ∷ stack) b = Some (Want (WaitColon a b ∷ stack))
@@ -52,7 +52,7 @@ at_close [] a = None
 at_close (WaitOpen ∷ stack) a = Some (Have stack a)
 at_close (_ ∷ stack) a = None
 
--- the state behind a token, or none where it can't stand here
+-- the state after a token, or none where it can't stand here
 abbrev pub want_step : List Waiting → Token → Option State
 want_step stack CountToken = Some (Have stack Count)
 want_step stack (NumberToken v) = if nat_lt v (2 ^ 64) then Some (Have stack (Number v)) else None
@@ -72,7 +72,7 @@ abbrev pub step : State → Token → Option State
 step (Want stack) token = want_step stack token
 step (Have stack t) token = have_step stack t token
 
--- the state behind tokens
+-- the state after tokens
 abbrev pub run : State → List Token → Option State
 run state [] = Some state
 run state (token ∷ ts) = option_and_then (λ next. run next ts) (step state token)

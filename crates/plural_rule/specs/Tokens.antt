@@ -51,7 +51,7 @@ IsSpelling Close bytes = bytes ≡ codes ")"
 
 -- no spelling is longer: with what follows, none begins with these bytes and goes on
 abbrev pub IsLongest : List ℕ → List ℕ → Type 0
-IsLongest own rest = (t : Token) (more behind : List ℕ) → rest ≡ more ++ behind → more ≢ [] → IsSpelling t (own ++ more) → ⊥
+IsLongest own rest = (t : Token) (more after : List ℕ) → rest ≡ more ++ after → more ≢ [] → IsSpelling t (own ++ more) → ⊥
 
 -- the text spells the tokens
 pub data Lexes : List ℕ → List Token → Type 0 where

@@ -6,12 +6,12 @@ ghost use Rattle.std.specs.Prelude.{◌≡◌, ℕ, ◌+◌, ◌<◌, ◌≤◌,
 ghost use Rattle.arrayvec.specs.ArrayVec.{array_vec_len};
 ghost use Rattle.plural_rule.specs.Expression.{Tree, nodes, value, visited};
 ghost use Rattle.plural_rule.specs.PluralRule.{expression_limit};
-ghost use Rattle.plural_rule.specs.PostOrder.{layout, tree_of};
-ghost use Rattle.plural_rule.specs.Evaluation.{second_frame, subtree, IsNodeOf, Outcome, outcome_of, finished, finished_step, remaining, remaining_step, AreFramesOf, IsStepOf};
+ghost use Rattle.plural_rule.specs.PostOrder.{post_order, tree_of};
+ghost use Rattle.plural_rule.specs.Evaluation.{second_frame, subtree, IsNodeOf, Evaluated, evaluated, finished, finished_step, remaining, remaining_step, AreFramesOf, IsStepOf};
 
 use crate::node::{Node, Shape, numeral};
 use crate::operator::{Operator, truth};
-use crate::rule::LIMIT;
+use crate::rule::EXPRESSION_LIMIT;
 use arrayvec::ArrayVec;
 
 /// A node that waits for the value of an operand.
@@ -63,7 +63,7 @@ pub(crate) enum Step {
 ///
 /// The table is that of a rule: each node stands after its operands, and the whole expression's last.
 pub fn evaluate(table: &[Node], count: u64) -> (Option<u64>, u32)
-    requires laid { table.now ≡ layout 0 (tree_of table.now) }
+    requires laid { table.now ≡ post_order 0 (tree_of table.now) }
     requires limit { length table.now ≤ expression_limit }
     ensures value { result.0 ≡ value (tree_of table.now) count }
     ensures steps { result.1 ≡ visited (tree_of table.now) count }
@@ -72,14 +72,14 @@ pub fn evaluate(table: &[Node], count: u64) -> (Option<u64>, u32)
     if table.len() <= SHORT {
         evaluate_within::<SHORT>(table, count)
     } else {
-        evaluate_within::<LIMIT>(table, count)
+        evaluate_within::<EXPRESSION_LIMIT>(table, count)
     }
 }
 
 /// The same, where at most `DEPTH` nodes wait.
 #[inline(never)]
 fn evaluate_within<const DEPTH: usize>(table: &[Node], count: u64) -> (Option<u64>, u32)
-    requires laid { table.now ≡ layout 0 (tree_of table.now) }
+    requires laid { table.now ≡ post_order 0 (tree_of table.now) }
     requires limit { nodes (tree_of table.now) ≤ expression_limit }
     requires depth { nodes (tree_of table.now) ≤ DEPTH }
     requires size { DEPTH ≤ expression_limit }
@@ -88,25 +88,25 @@ fn evaluate_within<const DEPTH: usize>(table: &[Node], count: u64) -> (Option<u6
     ensures bound { result.1 ≤ nodes (tree_of table.now) }
 {
     let mut frames = Frames::<DEPTH>::new();
-    let mut place = table.len() - 1;
+    let mut index = table.len() - 1;
     let mut steps = 0;
     'visits: loop {
         steps += 1;
-        match visit(table, place, count, &mut frames) {
-            Step::Visit(next) => place = next as usize,
+        match visit(table, index, count, &mut frames) {
+            Step::Visit(next) => index = next as usize,
             Step::Stop(value) => return (value, steps),
         }
     }
 }
 
 /// What the node at an index is.
-fn node_at(table: &[Node], place: usize) -> Shape
-    requires laid { table.now ≡ layout 0 (tree_of table.now) }
+fn node_at(table: &[Node], index: usize) -> Shape
+    requires laid { table.now ≡ post_order 0 (tree_of table.now) }
     requires limit { nodes (tree_of table.now) ≤ expression_limit }
-    requires place { place < nodes (tree_of table.now) }
-    ensures { IsNodeOf (tree_of table.now) (subtree (tree_of table.now) place) result }
+    requires index { index < nodes (tree_of table.now) }
+    ensures { IsNodeOf (tree_of table.now) (subtree (tree_of table.now) index) result }
 {
-    table[place].shape()
+    table[index].shape()
 }
 
 /// Visits the node at an index: a leaf has its value, and any other node waits for its first operand.
@@ -114,26 +114,26 @@ fn node_at(table: &[Node], place: usize) -> Shape
 #[inline(always)]
 fn visit<const DEPTH: usize>(
     table: &[Node],
-    place: usize,
+    index: usize,
     count: u64,
     frames: &mut Frames<DEPTH>,
 ) -> Step
-    requires laid { table.now ≡ layout 0 (tree_of table.now) }
+    requires laid { table.now ≡ post_order 0 (tree_of table.now) }
     requires limit { nodes (tree_of table.now) ≤ expression_limit }
-    requires place { place < nodes (tree_of table.now) }
+    requires index { index < nodes (tree_of table.now) }
     requires room { array_vec_len frames.old < DEPTH }
     requires size { DEPTH ≤ expression_limit }
     requires frames { AreFramesOf (tree_of table.now) frames.old.items }
     ensures outcome { (steps : ℕ) →
         finished_step (tree_of table.now) count frames.new.items (steps + 1) result
-        ≡ finished (tree_of table.now) count frames.old.items (outcome_of (subtree (tree_of table.now) place) count steps) }
+        ≡ finished (tree_of table.now) count frames.old.items (evaluated (subtree (tree_of table.now) index) count steps) }
     ensures remaining { remaining_step (tree_of table.now) result + remaining (tree_of table.now) frames.new.items + 1
-        ≤ nodes (subtree (tree_of table.now) place) + remaining (tree_of table.now) frames.old.items }
+        ≤ nodes (subtree (tree_of table.now) index) + remaining (tree_of table.now) frames.old.items }
     ensures step { IsStepOf (tree_of table.now) result }
     ensures frames { AreFramesOf (tree_of table.now) frames.new.items }
     ensures size { array_vec_len frames.new ≤ array_vec_len frames.old + 1 }
 {
-    match node_at(table, place) {
+    match node_at(table, index) {
         Shape::Count => resume(frames, count),
         Shape::Number(first, second, third, fourth) => {
             resume(frames, numeral(first, second, third, fourth))

@@ -2,29 +2,29 @@
 ghost use Rattle.std.specs.Prelude.{◌≡◌, ◌<◌, ◌≤◌, Some, None, length, MatchOption};
 ghost use Rattle.std.specs.List.{before_first};
 ghost use Rattle.plural_rule.specs.Tokens.{AllDigits, decimal_value};
-ghost use Rattle.plural_rule.specs.Header.{behind_first, number_of, is_end, expression_of};
+ghost use Rattle.plural_rule.specs.Header.{after_first, nplurals_of, is_end, expression_of};
 
 use crate::lexer;
 use memchr::{memchr2, memmem};
 
-/// The text behind the first `word` in it.
-fn behind_first<'a>(text: &'a [u8], word: &[u8]) -> Option<&'a [u8]>
-    requires { 0 < length word.now }
-    ensures { MatchOption result (behind_first word.now text.now ≡ None)
-        (λ rest. behind_first word.now text.now ≡ Some rest.now) }
+/// The text after the first `name` in it.
+fn after_first<'a>(text: &'a [u8], name: &[u8]) -> Option<&'a [u8]>
+    requires { 0 < length name.now }
+    ensures { MatchOption result (after_first name.now text.now ≡ None)
+        (λ rest. after_first name.now text.now ≡ Some rest.now) }
 {
-    match memmem::find(text, word) {
-        Some(place) => Some(&text[place + word.len()..]),
+    match memmem::find(text, name) {
+        Some(index) => Some(&text[index + name.len()..]),
         None => None,
     }
 }
 
 /// The digits of the number of plural forms, of which there is one at least.
 pub(crate) fn number_digits(header: &[u8]) -> Option<&[u8]>
-    ensures { MatchOption result (number_of header.now ≡ None)
-        (λ digits. AllDigits digits.now × (number_of header.now ≡ Some (decimal_value digits.now))) }
+    ensures { MatchOption result (nplurals_of header.now ≡ None)
+        (λ digits. AllDigits digits.now × (nplurals_of header.now ≡ Some (decimal_value digits.now))) }
 {
-    let Some(rest) = behind_first(header, b"nplurals=") else {
+    let Some(rest) = after_first(header, b"nplurals=") else {
         return None;
     };
     let digits = lexer::leading_digits(lexer::without_blanks(rest));
@@ -40,7 +40,7 @@ pub(crate) fn expression(header: &[u8]) -> Option<&[u8]>
     ensures { MatchOption result (expression_of header.now ≡ None)
         (λ text. expression_of header.now ≡ Some text.now) }
 {
-    match behind_first(header, b"plural=") {
+    match after_first(header, b"plural=") {
         Some(rest) => Some(first_statement(rest)),
         None => None,
     }

@@ -41,7 +41,7 @@ fn digits(text: &[u8]) -> usize
     text.len()
 }
 
-/// The text without the spaces and TABs at its front.
+/// The text without the spaces and TABs at its beginning.
 pub(crate) fn without_blanks(text: &[u8]) -> &[u8]
     ensures value { result.now ≡ without_blanks text.now }
     ensures shorter { length result.now ≤ length text.now }
@@ -49,7 +49,7 @@ pub(crate) fn without_blanks(text: &[u8]) -> &[u8]
     &text[blanks(text)..]
 }
 
-/// The decimal digits at the front of the text.
+/// The decimal digits at the beginning of the text.
 pub(crate) fn leading_digits(text: &[u8]) -> &[u8]
     ensures { result.now ≡ take_while is_digit text.now }
 {
@@ -74,7 +74,7 @@ pub(crate) fn decimal_value(digits: &[u8]) -> Option<u64>
     Some(value)
 }
 
-/// The token at the front of a text, the longest that fits, and how many bytes it has.
+/// The token at the beginning of a text, the longest that fits, and how many bytes it has.
 ///
 /// There is none where no token begins the text, or only a numeral of 2^64 or more.
 pub(crate) fn token(text: &[u8]) -> Option<(Token, usize)>
@@ -94,7 +94,7 @@ pub(crate) fn token(text: &[u8]) -> Option<(Token, usize)>
     }
 }
 
-/// The numeral at the front of a text that begins with a digit.
+/// The numeral at the beginning of a text that begins with a digit.
 fn numeral(text: &[u8]) -> Option<(Token, usize)>
     requires some { 0 < length text.now }
     requires digit { is_digit (slice_index text.now 0) ≡ true }

@@ -18,4 +18,4 @@ mod token;
 
 pub use evaluator::evaluate;
 pub use node::Node;
-pub use rule::{LIMIT, Reason, Rule, Source};
+pub use rule::{EXPRESSION_LIMIT, Reason, Rule, Source};

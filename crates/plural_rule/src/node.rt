@@ -3,7 +3,7 @@ ghost use Rattle.std.specs.Prelude.{◌≡◌};
 ghost use Rattle.plural_rule.specs.Node.{count_node, numeral_node, not_node, binary_node, conditional_node, numeral, shape_of};
 
 use crate::operator::Operator;
-use crate::rule::LIMIT;
+use crate::rule::EXPRESSION_LIMIT;
 use arrayvec::ArrayVec;
 
 /// A node of an expression as it stands in a table, after its operands: plain numbers, so that C can
@@ -136,4 +136,4 @@ impl Default for Node {
 }
 
 /// The nodes of an expression, the whole one's last.
-pub(crate) type Table = ArrayVec<Node, LIMIT>;
+pub(crate) type Table = ArrayVec<Node, EXPRESSION_LIMIT>;

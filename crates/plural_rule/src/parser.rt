@@ -13,7 +13,7 @@ ghost use Rattle.plural_rule.specs.PluralRule.{expression_limit};
 use crate::lexer;
 use crate::node::{Node, Table};
 use crate::operator::Operator;
-use crate::rule::LIMIT;
+use crate::rule::EXPRESSION_LIMIT;
 use crate::token::Token;
 use arrayvec::ArrayVec;
 
@@ -93,7 +93,7 @@ fn reduce<const DEPTH: usize>(table: &mut Table, stack: &mut Stack<DEPTH>, loose
     }
 }
 
-/// Reads a token where an operand may begin: whether an operand is complete behind it, or `None` where it can't stand here.
+/// Reads a token where an operand may begin: whether an operand is complete after it, or `None` where it can't stand here.
 fn take_operand<const DEPTH: usize>(
     table: &mut Table,
     stack: &mut Stack<DEPTH>,
@@ -128,7 +128,7 @@ fn take_operand<const DEPTH: usize>(
     }
 }
 
-/// The same behind a complete operand.
+/// The same after a complete operand.
 fn take_operator<const DEPTH: usize>(
     table: &mut Table,
     stack: &mut Stack<DEPTH>,
@@ -150,7 +150,7 @@ fn take_operator<const DEPTH: usize>(
             Some(false)
         }
         Token::Question => {
-            // What waits behind `:` binds no tighter than `?`, which groups to the right.
+            // What waits after `:` binds no tighter than `?`, which groups to the right.
             reduce(table, stack, 1);
             stack.push(Pending::Question(last_index(table)));
             Some(false)
@@ -174,7 +174,7 @@ fn take_operator<const DEPTH: usize>(
     }
 }
 
-/// Reads a token: whether an operand is complete behind it, or `None` where the token can't stand here.
+/// Reads a token: whether an operand is complete after it, or `None` where the token can't stand here.
 fn take<const DEPTH: usize>(
     table: &mut Table,
     stack: &mut Stack<DEPTH>,
@@ -213,7 +213,7 @@ fn finish<const DEPTH: usize>(table: &mut Table, stack: &mut Stack<DEPTH>, compl
     stack.is_empty()
 }
 
-/// Writes the expression that a text spells into the empty `table`, and tells whether it spells one.
+/// Writes the expression that a text spells into the empty `table`, and says whether it spells one.
 pub(crate) fn parse(text: &[u8], table: &mut Table) -> bool
     requires empty { table.old.items ≡ [] }
     requires limit { length text.now ≤ expression_limit }
@@ -222,7 +222,7 @@ pub(crate) fn parse(text: &[u8], table: &mut Table) -> bool
     if text.len() <= SHORT {
         parse_within::<SHORT>(text, table)
     } else {
-        parse_within::<LIMIT>(text, table)
+        parse_within::<EXPRESSION_LIMIT>(text, table)
     }
 }
 

@@ -2,7 +2,7 @@
 ghost use Rattle.std.specs.Prelude.{◌≡◌, ◌≤◌, [], length, MatchResult};
 ghost use Rattle.plural_rule.specs.Expression.{value, visited, nodes};
 ghost use Rattle.plural_rule.specs.PluralRule.{IsRuleOf, IsReason, default_tree, expression_limit};
-ghost use Rattle.plural_rule.specs.PostOrder.{layout, tree_of};
+ghost use Rattle.plural_rule.specs.PostOrder.{post_order, tree_of};
 ghost use Rattle.plural_rule.specs.ParserState.{HoldsRule};
 
 use crate::evaluator::evaluate;
@@ -12,7 +12,7 @@ use crate::{header, lexer, parser};
 use std::marker::Model;
 
 /// The most bytes that an expression may have, and so the most nodes.
-pub const LIMIT: usize = 4096;
+pub const EXPRESSION_LIMIT: usize = 4096;
 
 /// Where a rule comes from.
 #[derive(Clone, Copy, Debug, PartialEq, Eq, Drop)]
@@ -27,13 +27,13 @@ pub enum Source {
 /// `TooLong`, `Unreadable` is reported.
 #[derive(Clone, Copy, Debug, PartialEq, Eq, Drop)]
 pub enum Reason {
-    /// There is no `nplurals=` with a number behind it.
+    /// There is no `nplurals=` with a number after it.
     NoNumber,
     /// There is no `plural=`.
     NoExpression,
     /// The number of plural forms or a numeral is 2^64 or more, or the expression isn't one of the grammar.
     Unreadable,
-    /// The expression has more than `LIMIT` bytes.
+    /// The expression has more than `EXPRESSION_LIMIT` bytes.
     TooLong,
 }
 
@@ -44,7 +44,7 @@ pub enum Reason {
 #[derive(Drop)]
 pub struct Rule {
     source: Source,
-    number: u64,
+    nplurals: u64,
     table: Table,
 }
 
@@ -52,21 +52,21 @@ impl Model for Rule {
     ghost use Rattle.std.specs.Prelude.{◌≡◌};
     ghost use Rattle.std.specs.Coded.{codes};
     ghost use Rattle.plural_rule.specs.PluralRule.{Meaning};
-    ghost use Rattle.plural_rule.specs.PostOrder.{layout, tree_of, tree_code};
+    ghost use Rattle.plural_rule.specs.PostOrder.{post_order, tree_of, tree_code};
 
     ghost Value = { Meaning };
 
     ghost coded = { Prim.hlevel (codes, tree_code (Prim.hlevel codes)) };
 
-    ghost view = { λ r. record { source = r.source; number = r.number; tree = tree_of r.table.items } };
+    ghost view = { λ r. record { source = r.source; nplurals = r.nplurals; tree = tree_of r.table.items } };
 
-    ghost invariant = { λ r. r.table.items ≡ layout 0 (tree_of r.table.items) };
+    ghost invariant = { λ r. r.table.items ≡ post_order 0 (tree_of r.table.items) };
 }
 
 impl Rule {
     /// The rule that a header text gives.
     ///
-    /// The number of plural forms stands behind the first `nplurals=`, and the expression behind the
+    /// The number of plural forms stands after the first `nplurals=`, and the expression after the
     /// first `plural=`, up to `;`, a line feed or the end. Where one of them is missing or can't be
     /// read, the rule is the default, and `source` says why.
     #[inline(always)]
@@ -74,10 +74,10 @@ impl Rule {
         ensures { IsRuleOf expression_limit header.now result }
     {
         let mut table = Table::new();
-        let (source, number) = fill(header, &mut table);
+        let (source, nplurals) = fill(header, &mut table);
         Rule {
             source,
-            number,
+            nplurals,
             table,
         }
     }
@@ -91,9 +91,9 @@ impl Rule {
 
     /// The number of plural forms.
     pub fn nplurals(&self) -> u64
-        ensures { result ≡ self.now.number }
+        ensures { result ≡ self.now.nplurals }
     {
-        self.number
+        self.nplurals
     }
 
     /// How many nodes the expression has: `n`, numerals and operators.
@@ -117,7 +117,7 @@ impl Rule {
     /// The nodes of the expression, as [`evaluate`] takes them: each one after its operands, and the whole
     /// expression's last.
     pub fn table(&self) -> &[Node]
-        ensures laid { result.now ≡ layout 0 self.now.tree }
+        ensures laid { result.now ≡ post_order 0 self.now.tree }
         ensures tree { tree_of result.now ≡ self.now.tree }
         ensures limit { length result.now ≤ expression_limit }
     {
@@ -125,16 +125,16 @@ impl Rule {
     }
 }
 
-/// Writes the expression of a header's rule into the empty `table`, and tells where the rule comes from and its
+/// Writes the expression of a header's rule into the empty `table`, and says where the rule comes from and its
 /// number of plural forms.
 #[inline(never)]
 fn fill(header: &[u8], table: &mut Table) -> (Source, u64)
     requires { table.old.items ≡ [] }
-    ensures rule { IsRuleOf expression_limit header.now (record { source = result.0; number = result.1; tree = tree_of table.new.items }) }
-    ensures laid { table.new.items ≡ layout 0 (tree_of table.new.items) }
+    ensures rule { IsRuleOf expression_limit header.now (record { source = result.0; nplurals = result.1; tree = tree_of table.new.items }) }
+    ensures laid { table.new.items ≡ post_order 0 (tree_of table.new.items) }
 {
     match read(header, table) {
-        Ok(number) => (Source::Header, number),
+        Ok(nplurals) => (Source::Header, nplurals),
         Err(reason) => {
             write_default(table);
             (Source::Default(reason), 2)
@@ -145,7 +145,7 @@ fn fill(header: &[u8], table: &mut Table) -> (Source, u64)
 /// Reads a header's number, and its expression into the empty `table`.
 fn read(header: &[u8], table: &mut Table) -> Result<u64, Reason>
     requires { table.old.items ≡ [] }
-    ensures { MatchResult result (λ number. HoldsRule expression_limit header.now number table.new.items)
+    ensures { MatchResult result (λ nplurals. HoldsRule expression_limit header.now nplurals table.new.items)
         (λ reason. IsReason expression_limit header.now reason) }
 {
     let Some(digits) = header::number_digits(header) else {
@@ -154,14 +154,14 @@ fn read(header: &[u8], table: &mut Table) -> Result<u64, Reason>
     let Some(text) = header::expression(header) else {
         return Err(Reason::NoExpression);
     };
-    if text.len() > LIMIT {
+    if text.len() > EXPRESSION_LIMIT {
         return Err(Reason::TooLong);
     }
-    let Some(number) = lexer::decimal_value(digits) else {
+    let Some(nplurals) = lexer::decimal_value(digits) else {
         return Err(Reason::Unreadable);
     };
     if parser::parse(text, table) {
-        Ok(number)
+        Ok(nplurals)
     } else {
         Err(Reason::Unreadable)
     }
@@ -169,7 +169,7 @@ fn read(header: &[u8], table: &mut Table) -> Result<u64, Reason>
 
 /// Writes `n != 1` in place of what `table` holds.
 fn write_default(table: &mut Table)
-    ensures { table.new.items ≡ layout 0 default_tree }
+    ensures { table.new.items ≡ post_order 0 default_tree }
 {
     table.clear();
     table.push(Node::COUNT);

@@ -49,16 +49,16 @@ among_or_apart (x ∷ xs) entry = elim (message_is x.entry entry) [
 ]
 
 -- one more entry that is of no message before it
-differ_more : (front : List InputEntry) (x : InputEntry) → AllDiffer (entries_of front) → All (λ e. ¬ IsSameMessage e.entry x.entry) front → AllDiffer (entries_of (front ++ x ∷ []))
-differ_more front x differ apart =
-    subst AllDiffer (sym (map-append (λ (e : InputEntry). e.entry) front (x ∷ [])))
-    (all_pairs_push (λ a b. ¬ IsSameMessage a b) (entries_of front) x.entry differ (All-map (λ e. ¬ IsSameMessage e x.entry) (λ (e : InputEntry). e.entry) front apart))
+differ_more : (prefix : List InputEntry) (x : InputEntry) → AllDiffer (entries_of prefix) → All (λ e. ¬ IsSameMessage e.entry x.entry) prefix → AllDiffer (entries_of (prefix ++ x ∷ []))
+differ_more prefix x differ apart =
+    subst AllDiffer (sym (map-append (λ (e : InputEntry). e.entry) prefix (x ∷ [])))
+    (all_pairs_push (λ a b. ¬ IsSameMessage a b) (entries_of prefix) x.entry differ (All-map (λ e. ¬ IsSameMessage e x.entry) (λ (e : InputEntry). e.entry) prefix apart))
 
-search_on : (entries front rest : List InputEntry) → live_entries entries ≡ front ++ rest → AllDiffer (entries_of front)
+search_on : (entries prefix rest : List InputEntry) → live_entries entries ≡ prefix ++ rest → AllDiffer (entries_of prefix)
     → AllDiffer (entries_of (live_entries entries)) ⊎ ((first later : InputEntry) × IsFirstDuplicate entries first later)
-search_on entries front [] whole differ =
-    inl (subst (λ l. AllDiffer (entries_of l)) (sym (whole ∙ append-nil front)) differ)
-search_on entries front (x ∷ rest) whole differ = elim (among_or_apart front x.entry) [
+search_on entries prefix [] whole differ =
+    inl (subst (λ l. AllDiffer (entries_of l)) (sym (whole ∙ append-nil prefix)) differ)
+search_on entries prefix (x ∷ rest) whole differ = elim (among_or_apart prefix x.entry) [
   | inl found ↦ inr (
     found.first,
     x,
@@ -71,7 +71,7 @@ search_on entries front (x ∷ rest) whole differ = elim (among_or_apart front x
       differ = subst (λ l. AllDiffer (entries_of l)) found.split differ;
     },
   )
-  | inr apart ↦ search_on entries (front ++ x ∷ []) rest (whole ∙ sym (append_assoc front (x ∷ []) rest)) (differ_more front x differ apart)
+  | inr apart ↦ search_on entries (prefix ++ x ∷ []) rest (whole ∙ sym (append_assoc prefix (x ∷ []) rest)) (differ_more prefix x differ apart)
 ]
 
 pub none_or_first : (entries : List InputEntry) → HasNoDuplicate (entries_of entries) ⊎ ((first later : InputEntry) × IsFirstDuplicate entries first later)
@@ -81,14 +81,14 @@ none_or_first entries = elim (search_on entries [] (live_entries entries) refl (
 ]
 
 -- two splits of one list, the first of which is shorter
-split_behind : (xs ys as' bs : List InputEntry) (x : InputEntry) → xs ++ x ∷ as' ≡ ys ++ bs → length xs < length ys → (zs : List InputEntry) × (ys ≡ xs ++ x ∷ zs)
-split_behind xs [] as' bs x e less = absurd (omega arith)
-split_behind [] (y ∷ ys) as' bs x e less = let same : y ≡ x = cc in (ys, ap (λ z. z ∷ ys) same)
-split_behind (z ∷ xs) (y ∷ ys) as' bs x e less =
+split_after : (xs ys as' bs : List InputEntry) (x : InputEntry) → xs ++ x ∷ as' ≡ ys ++ bs → length xs < length ys → (zs : List InputEntry) × (ys ≡ xs ++ x ∷ zs)
+split_after xs [] as' bs x e less = absurd (omega arith)
+split_after [] (y ∷ ys) as' bs x e less = let same : y ≡ x = cc in (ys, ap (λ z. z ∷ ys) same)
+split_after (z ∷ xs) (y ∷ ys) as' bs x e less =
     let same : y ≡ z = cc in
     let rest : xs ++ x ∷ as' ≡ ys ++ bs = cc in
-    let later = split_behind xs ys as' bs x rest (omega arith) in
-    let behind = later.1 in
+    let later = split_after xs ys as' bs x rest (omega arith) in
+    let following = later.1 in
     (later.0, cc)
 
 split_alike : (xs ys as' bs : List InputEntry) (x y : InputEntry) → xs ++ x ∷ as' ≡ ys ++ y ∷ bs → length xs ≡ length ys → (xs ≡ ys) × (x ≡ y)
@@ -99,34 +99,34 @@ split_alike (a ∷ xs) (b ∷ ys) as' bs x y e same =
     let first : a ≡ b = cc in
     let rest : xs ++ x ∷ as' ≡ ys ++ y ∷ bs = cc in
     let later = split_alike xs ys as' bs x y rest (omega arith) in
-    let front = later.0 in
+    let prefix = later.0 in
     (cc, later.1)
 
 -- no first duplicate stands before another
 not_before : (entries : List InputEntry) (first later other last : InputEntry) (a : IsFirstDuplicate entries first later) (b : IsFirstDuplicate entries other last)
     → length (a.before ++ first ∷ a.between) < length (b.before ++ other ∷ b.between) → ⊥
 not_before entries first later other last a b less =
-    let behind = split_behind (a.before ++ first ∷ a.between) (b.before ++ other ∷ b.between) a.after (last ∷ b.after) later (sym a.order ∙ b.order) less in
-    apart_entries a.before a.between behind.0 first later (subst (λ l. AllDiffer (entries_of l)) behind.1 b.differ) a.same
+    let following = split_after (a.before ++ first ∷ a.between) (b.before ++ other ∷ b.between) a.after (last ∷ b.after) later (sym a.order ∙ b.order) less in
+    apart_entries a.before a.between following.0 first later (subst (λ l. AllDiffer (entries_of l)) following.1 b.differ) a.same
 
 -- entries of one message don't stand apart in a list of entries that differ
-not_apart : (before between behind after : List InputEntry) (a b : InputEntry) → before ++ a ∷ between ≡ behind ++ b ∷ after → AllDiffer (entries_of (behind ++ b ∷ after))
-    → IsSameMessage a.entry b.entry → length before < length behind → ⊥
-not_apart before between behind after a b e differ same less =
-    let split = split_behind before behind between (b ∷ after) a e less in
+not_apart : (before between following after : List InputEntry) (a b : InputEntry) → before ++ a ∷ between ≡ following ++ b ∷ after → AllDiffer (entries_of (following ++ b ∷ after))
+    → IsSameMessage a.entry b.entry → length before < length following → ⊥
+not_apart before between following after a b e differ same less =
+    let split = split_after before following between (b ∷ after) a e less in
     apart_entries before split.0 after a b (subst (λ l. AllDiffer (entries_of (l ++ b ∷ after))) split.1 differ) same
 
 pub first_once : (entries : List InputEntry) (first later other last : InputEntry) → IsFirstDuplicate entries first later → IsFirstDuplicate entries other last
     → (first ≡ other) × (later ≡ last)
 first_once entries first later other last a b = elim (cases_order (length (a.before ++ first ∷ a.between)) (length (b.before ++ other ∷ b.between))) [
   | inl long ↦
-      let fronts = split_alike (a.before ++ first ∷ a.between) (b.before ++ other ∷ b.between) a.after b.after later last (sym a.order ∙ b.order) long in
-      let context : first.entry.context ≡ other.entry.context = a.same.0 ∙ ap (λ (e : InputEntry). e.entry.context) fronts.1 ∙ sym b.same.0 in
-      let id : first.entry.id ≡ other.entry.id = a.same.1 ∙ ap (λ (e : InputEntry). e.entry.id) fronts.1 ∙ sym b.same.1 in
+      let prefixes = split_alike (a.before ++ first ∷ a.between) (b.before ++ other ∷ b.between) a.after b.after later last (sym a.order ∙ b.order) long in
+      let context : first.entry.context ≡ other.entry.context = a.same.0 ∙ ap (λ (e : InputEntry). e.entry.context) prefixes.1 ∙ sym b.same.0 in
+      let id : first.entry.id ≡ other.entry.id = a.same.1 ∙ ap (λ (e : InputEntry). e.entry.id) prefixes.1 ∙ sym b.same.1 in
       elim (cases_order (length a.before) (length b.before)) [
-        | inl place ↦ let firsts = split_alike a.before b.before a.between b.between first other fronts.0 place in (firsts.1, fronts.1)
-        | inr (inl less) ↦ absurd (not_apart a.before a.between b.before b.between first other fronts.0 b.differ (context, id) less)
-        | inr (inr more) ↦ absurd (not_apart b.before b.between a.before a.between other first (sym fronts.0) a.differ (sym context, sym id) more)
+        | inl location ↦ let firsts = split_alike a.before b.before a.between b.between first other prefixes.0 location in (firsts.1, prefixes.1)
+        | inr (inl less) ↦ absurd (not_apart a.before a.between b.before b.between first other prefixes.0 b.differ (context, id) less)
+        | inr (inr more) ↦ absurd (not_apart b.before b.between a.before a.between other first (sym prefixes.0) a.differ (sym context, sym id) more)
       ]
   | inr (inl less) ↦ absurd (not_before entries first later other last a b less)
   | inr (inr more) ↦ absurd (not_before entries other last first later b a more)

@@ -34,19 +34,19 @@ abbrev pub duplicate_error : InputEntry → InputEntry → JoinError
 duplicate_error first later = record { input = later.input; first_input = first.input; error = record { kind = Duplicate first.entry.line; line = later.entry.line } }
 
 -- out of memory, which has no line and no input
-abbrev pub entry_memory : PoError
-entry_memory = record { kind = OutOfMemory; line = 0 }
+abbrev pub out_of_memory_error : PoError
+out_of_memory_error = record { kind = OutOfMemory; line = 0 }
 
-abbrev pub join_memory : JoinError
-join_memory = record { input = 0; first_input = 0; error = entry_memory }
+abbrev pub join_out_of_memory : JoinError
+join_out_of_memory = record { input = 0; first_input = 0; error = out_of_memory_error }
 
 -- why a joined list is refused: its first duplicate, or out of memory
 abbrev pub IsDuplicateFault : List InputEntry → JoinError → Type 0
 IsDuplicateFault entries error =
-    (error ≡ join_memory) ⊎ ((first later : InputEntry) × IsFirstDuplicate entries first later × (error ≡ duplicate_error first later))
+    (error ≡ join_out_of_memory) ⊎ ((first later : InputEntry) × IsFirstDuplicate entries first later × (error ≡ duplicate_error first later))
 
 -- why the entries of one catalogue are refused
 abbrev pub IsDuplicateErrorOf : List TextEntry → PoError → Type 0
 IsDuplicateErrorOf entries error =
-    (error ≡ entry_memory)
+    (error ≡ out_of_memory_error)
     ⊎ ((first later : InputEntry) × IsFirstDuplicate (map (in_input 0) entries) first later × (error ≡ (duplicate_error first later).error))

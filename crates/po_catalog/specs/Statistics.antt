@@ -45,11 +45,11 @@ added_stats stats entry = record {
 abbrev pub counted : ℕ → List ℕ → List ℕ
 counted count noun = decimal count ++ noun ++ (if count == 1 then [] else codes "s")
 
--- a further count, behind a comma, unless it is 0
+-- a further count, after a comma, unless it is 0
 abbrev pub further : ℕ → List ℕ → List ℕ
 further count noun = if count == 0 then [] else codes ", " ++ counted count noun
 
--- the line that tells the statistics
+-- the line that reports the statistics
 abbrev pub stats_line : Stats → List ℕ
 stats_line stats =
     counted stats.translated (codes " translated message")

@@ -2,7 +2,7 @@ ghost use Rattle.std.specs.Prelude.{◌≡◌, ◌<◌, ◌^◌, length, MatchRe
 ghost use Rattle.po_syntax.specs.declared.fault.PoFault.TheVariants.{OutOfMemory};
 ghost use Rattle.po_catalog.specs.JoinedView.{input_entries};
 ghost use Rattle.po_catalog.specs.Joined.{joined, joined_entries, entries_of};
-ghost use Rattle.po_catalog.specs.Duplicate.{HasNoDuplicate, IsDuplicateFault, IsDuplicateErrorOf, join_memory, entry_memory};
+ghost use Rattle.po_catalog.specs.Duplicate.{HasNoDuplicate, IsDuplicateFault, IsDuplicateErrorOf, join_out_of_memory, out_of_memory_error};
 
 use crate::joining::{JoinedEntry, add_entries, is_live, joined};
 use po_entry::Catalogue;
@@ -52,7 +52,7 @@ impl<T: Drop> From<AllocFailed<T>> for JoinError {
 /// that repeats one; and where an allocation failed.
 pub fn duplicates(alloc: Global, catalogue: &Catalogue) -> Result<(), PoError>
     ensures exact { MatchResult result (λ _. HasNoDuplicate catalogue.now) (IsDuplicateErrorOf catalogue.now) }
-    ensures only { HasNoDuplicate catalogue.now → IsOkUnless result entry_memory }
+    ensures only { HasNoDuplicate catalogue.now → IsOkUnless result out_of_memory_error }
 {
     let mut entries = Vec::new(alloc);
     add_entries(&mut entries, catalogue.entries(), 0, false)?;
@@ -68,7 +68,7 @@ pub fn duplicates(alloc: Global, catalogue: &Catalogue) -> Result<(), PoError>
 pub fn joined_duplicates(alloc: Global, catalogues: &[Catalogue]) -> Result<(), JoinError>
     requires { length catalogues.now < 2 ^ 32 }
     ensures exact { MatchResult result (λ _. HasNoDuplicate (joined_entries catalogues.now)) (IsDuplicateFault (joined catalogues.now)) }
-    ensures only { HasNoDuplicate (joined_entries catalogues.now) → IsOkUnless result join_memory }
+    ensures only { HasNoDuplicate (joined_entries catalogues.now) → IsOkUnless result join_out_of_memory }
 {
     let entries = joined(alloc, catalogues)?;
     first_duplicate(alloc, &entries)
@@ -85,8 +85,8 @@ fn first_duplicate(alloc: Global, entries: &[JoinedEntry<'_>]) -> Result<(), Joi
         if !is_live(entry) {
             continue;
         }
-        let place = (joined.input, entry.line());
-        if let Some((first_input, line)) = seen.insert((entry.context(), entry.id()), place)? {
+        let location = (joined.input, entry.line());
+        if let Some((first_input, line)) = seen.insert((entry.context(), entry.id()), location)? {
             return Err(JoinError {
                 input: joined.input,
                 first_input,

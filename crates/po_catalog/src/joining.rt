@@ -50,7 +50,7 @@ pub fn into_joined(alloc: Global, catalogues: Vec<Catalogue>) -> Result<Vec<Entr
     Ok(joined)
 }
 
-/// Moves the entries of an input behind others, without its live headers where an earlier input has one.
+/// Moves the entries of an input after others, without its live headers where an earlier input has one.
 fn move_entries(
     joined: &mut Vec<Entry>,
     entries: Vec<Entry>,

@@ -1,5 +1,5 @@
 ghost use Rattle.std.specs.Prelude.{◌≡◌, ◌+◌, ◌-◌, ◌<◌, ◌^◌, ◌++◌, IfOk, IfErr, OnOk};
-ghost use Rattle.po_catalog.specs.Duplicate.{entry_memory};
+ghost use Rattle.po_catalog.specs.Duplicate.{out_of_memory_error};
 ghost use Rattle.po_catalog.specs.Statistics.{stats_of, counted, further, has_translation};
 
 use itoa::Buffer;
@@ -25,7 +25,7 @@ impl Stats {
     /// The line that `--statistics` prints, with its LF. Refused only where an allocation failed.
     pub fn line(&self, alloc: Global) -> Result<Vec<u8>, PoError>
         ensures line { IfOk result (λ line. line.items ≡ stats_line self.now) }
-        ensures memory { IfErr result (λ e. e ≡ entry_memory) }
+        ensures memory { IfErr result (λ e. e ≡ out_of_memory_error) }
     {
         let mut line = Vec::new(alloc);
         add_count(&mut line, self.translated, b" translated message")?;
@@ -87,7 +87,7 @@ pub fn has_translation(entry: &Entry) -> bool
     }
 }
 
-/// Appends a further count behind a comma, unless it is 0.
+/// Appends a further count after a comma, unless it is 0.
 fn add_further(line: &mut Vec<u8>, count: u64, noun: &[u8]) -> Result<(), AllocError>
     ensures { OnOk result (line.new.items ≡ line.old.items ++ further count noun.now) }
 {

@@ -8,7 +8,7 @@ use Rattle.po_entry.specs.TextEntry.{TextEntry}
 use Rattle.po_entry.specs.Reads.{ReadsText}
 use Rattle.po_reader.specs.Faults.{IsReadFault}
 use Rattle.po_catalog.specs.Joined.{InputEntry, in_input, joined, joined_entries, entries_of}
-use Rattle.po_catalog.specs.Duplicate.{HasNoDuplicate, IsFirstDuplicate, join_memory}
+use Rattle.po_catalog.specs.Duplicate.{HasNoDuplicate, IsFirstDuplicate, join_out_of_memory}
 use Rattle.po_catalog.specs.declared.duplicate.JoinError.{JoinError}
 use Rattle.po_compile.specs.Accepted.{ReadsDistinct, AreRead, AreAccepted, IsTextFault, IsFaultOfInput, HasJoinedDuplicate, IsTooLarge, IsCompileFault}
 use Rattle.po_compile.specs.CompiledList.{compiled_list}
@@ -73,7 +73,7 @@ layout_faultless one one_list options texts catalogues error accepted fault =
     let small = accepted.layout.small in omega arith
 
 pub accepted_faultless : OneReading → NoReadFault → NoFirstDuplicate → MessagesAreOne → (options : Options) (texts : List (List ℕ)) (catalogues : List (List TextEntry)) (error : JoinError)
-    → AreAccepted options texts catalogues → IsCompileFault options texts error → error ≡ join_memory
+    → AreAccepted options texts catalogues → IsCompileFault options texts error → error ≡ join_out_of_memory
 accepted_faultless one no_fault no_first one_list options texts catalogues error accepted (inl (inl memory)) = memory
 accepted_faultless one no_fault no_first one_list options texts catalogues error accepted (inl (inr (inl fault))) =
     absurd (input_faultless one no_fault no_first texts catalogues error accepted.read.each fault)

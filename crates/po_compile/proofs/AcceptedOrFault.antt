@@ -12,7 +12,7 @@ use Rattle.po_entry.specs.Reads.{ReadsText}
 use Rattle.po_entry.specs.Validity.{IsEntry}
 use Rattle.po_reader.specs.Faults.{IsReadFault}
 use Rattle.po_catalog.specs.Joined.{InputEntry, in_input, joined, joined_entries, entries_of}
-use Rattle.po_catalog.specs.Duplicate.{HasNoDuplicate, IsFirstDuplicate, duplicate_error, join_memory}
+use Rattle.po_catalog.specs.Duplicate.{HasNoDuplicate, IsFirstDuplicate, duplicate_error, join_out_of_memory}
 use Rattle.po_catalog.specs.declared.duplicate.JoinError.{JoinError}
 use Rattle.po_compile.specs.Accepted.{ReadsDistinct, AreRead, AreAccepted, IsTextFault, IsFaultOfInput, IsCompileFault}
 use Rattle.po_compile.specs.Compiling.{layout_fault}
@@ -36,30 +36,30 @@ NoneOrFirst = (entries : List InputEntry) → HasNoDuplicate (entries_of entries
 
 text_settled : EntriesOrFault → NoFaultIsMemory → NoneOrFirst → (text : List ℕ)
     → ((entries : List TextEntry) × ReadsDistinct text entries) ⊎ ((error : PoError) × IsTextFault text error × (error.kind ≢ OutOfMemory))
-text_settled reads told none_or_first text = elim (reads text) [
+text_settled reads reported none_or_first text = elim (reads text) [
   | inl read ↦ elim (none_or_first (map (in_input 0) read.0)) [
     | inl distinct ↦ inl (read.0, record { reads = read.1; distinct = subst HasNoDuplicate (entries_of_input 0 read.0) distinct })
     | inr found ↦
         let error = (duplicate_error found.0 found.1).error in
         inr (error, inr (record { entries = read.0; reads = read.1; first = found.0; later = found.1; duplicate = found.2; error_is = refl }), λ e. cc)
   ]
-  | inr found ↦ let error : PoError = record { kind = found.0; line = found.1 } in inr (error, inl found.2, told text found.0 found.1 found.2)
+  | inr found ↦ let error : PoError = record { kind = found.0; line = found.1 } in inr (error, inl found.2, reported text found.0 found.1 found.2)
 ]
 
--- a fault of the inputs behind the first, among them all
-abbrev behind_first : JoinError → JoinError
-behind_first error = record { input = suc error.input; first_input = suc error.first_input; error = error.error }
+-- a fault of the inputs after the first, among them all
+abbrev after_first : JoinError → JoinError
+after_first error = record { input = suc error.input; first_input = suc error.first_input; error = error.error }
 
 texts_settled : EntriesOrFault → NoFaultIsMemory → NoneOrFirst → (texts : List (List ℕ))
     → ((catalogues : List (List TextEntry)) × AllZip ReadsDistinct texts catalogues) ⊎ ((error : JoinError) × IsFaultOfInput texts error × (error.error.kind ≢ OutOfMemory))
-texts_settled reads told none_or_first [] = inl ([], tt)
-texts_settled reads told none_or_first (text ∷ texts) = elim (text_settled reads told none_or_first text) [
-  | inl read ↦ elim (texts_settled reads told none_or_first texts) [
+texts_settled reads reported none_or_first [] = inl ([], tt)
+texts_settled reads reported none_or_first (text ∷ texts) = elim (text_settled reads reported none_or_first text) [
+  | inl read ↦ elim (texts_settled reads reported none_or_first texts) [
     | inl later ↦ inl (read.0 ∷ later.0, (read.1, later.1))
     | inr found ↦
         let fault = found.1 in
         inr (
-          behind_first found.0,
+          after_first found.0,
           record {
             before = text ∷ fault.before;
             text = fault.text;
@@ -83,11 +83,11 @@ texts_settled reads told none_or_first (text ∷ texts) = elim (text_settled rea
       )
 ]
 
-other_than_memory : (error : JoinError) → error.error.kind ≢ OutOfMemory → error ≢ join_memory
+other_than_memory : (error : JoinError) → error.error.kind ≢ OutOfMemory → error ≢ join_out_of_memory
 other_than_memory error other same = other (ap (λ (e : JoinError). e.error.kind) same)
 
 layout_settled : EntriesCanStand → (options : Options) (texts : List (List ℕ)) (catalogues : List (List TextEntry)) → AreRead texts catalogues
-    → AreAccepted options texts catalogues ⊎ ((error : JoinError) × IsCompileFault options texts error × (error ≢ join_memory))
+    → AreAccepted options texts catalogues ⊎ ((error : JoinError) × IsCompileFault options texts error × (error ≢ join_out_of_memory))
 layout_settled stand options texts catalogues read =
     let entries = joined_entries catalogues in
     let valid = compiled_valid options.use_fuzzy entries (joined_valid stand 0 false texts catalogues read.each) in
@@ -103,7 +103,7 @@ layout_settled stand options texts catalogues read =
     ]
 
 pub accepted_or_fault : EntriesOrFault → NoFaultIsMemory → NoneOrFirst → EntriesCanStand → AcceptedOrFault
-accepted_or_fault reads told none_or_first stand options texts = elim (texts_settled reads told none_or_first texts) [
+accepted_or_fault reads reported none_or_first stand options texts = elim (texts_settled reads reported none_or_first texts) [
   | inl read ↦ elim (none_or_first (joined read.0)) [
     | inl distinct ↦ elim (layout_settled stand options texts read.0 (record { each = read.1; distinct = distinct })) [
       | inl accepted ↦ inl (read.0, accepted)

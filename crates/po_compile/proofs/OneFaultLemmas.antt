@@ -60,8 +60,8 @@ module _ (one : OneReading) (no_fault : NoReadFault) (no_first : NoFirstDuplicat
   first_once (t ∷ before) (u ∷ others) text other after rest [] ds a b e reads also f g = absurd reads
   first_once (t ∷ before) (u ∷ others) text other after rest (c ∷ cs) [] a b e reads also f g = absurd also
   first_once (t ∷ before) (u ∷ others) text other after rest (c ∷ cs) (d ∷ ds) a b e reads also f g =
-      let behind : before ++ text ∷ after ≡ others ++ other ∷ rest = cc in
-      let same = first_once before others text other after rest cs ds a b behind reads.1 also.1 f g in
+      let following : before ++ text ∷ after ≡ others ++ other ∷ rest = cc in
+      let same = first_once before others text other after rest cs ds a b following reads.1 also.1 f g in
       (ap suc same.0, same.1)
 
   input_fault_once : (texts : List (List ℕ)) (a b : JoinError) → IsFaultOfInput texts a → IsFaultOfInput texts b → a ≡ b

@@ -147,8 +147,8 @@ digits_first a b in_a in_b =
     (λ h. digits_rise 32 b a in_b in_a (nat_list_cmp_total.antisymm b a ∙ ap ordering_reverse h))
 
 -- numbers with the same first part stand as their second parts do
-same_front : (f m n : ℕ) → nat_cmp (f + m) (f + n) ≡ nat_cmp m n
-same_front f m n = by_parts (nat_cmp m n) (ranked m n (nat_cmp m n) refl) where
+same_prefix : (f m n : ℕ) → nat_cmp (f + m) (f + n) ≡ nat_cmp m n
+same_prefix f m n = by_parts (nat_cmp m n) (ranked m n (nat_cmp m n) refl) where
   by_parts : (o : Ordering) → MatchOrdering o (m < n) (m ≡ n) (n < m) → nat_cmp (f + m) (f + n) ≡ o
   by_parts Less h = by_whole (nat_cmp (f + m) (f + n)) (ranked (f + m) (f + n) (nat_cmp (f + m) (f + n)) refl) h where
     by_whole : (p : Ordering) → MatchOrdering p (f + m < f + n) (f + m ≡ f + n) (f + n < f + m) → m < n → p ≡ Less
@@ -171,5 +171,5 @@ second_decides m n a b first second same in_a in_b order is other =
     let whole_a : digits 32 a ≡ prefix_of a * 256 ^ 16 + second_of a = digits_split 16 32 16 a refl in
     let whole_b : digits 32 b ≡ prefix_of a * 256 ^ 16 + second_of b = digits_split 16 32 16 b refl ∙ ap (λ p. p * 256 ^ 16 + second_of b) (sym same) in
     let by_digits : order ≡ nat_cmp (digits 32 a) (digits 32 b) =
-    is ∙ ap₂ nat_cmp first second ∙ sym (same_front (prefix_of a * 256 ^ 16) (second_of a) (second_of b)) ∙ sym (ap₂ nat_cmp whole_a whole_b) in
+    is ∙ ap₂ nat_cmp first second ∙ sym (same_prefix (prefix_of a * 256 ^ 16) (second_of a) (second_of b)) ∙ sym (ap₂ nat_cmp whole_a whole_b) in
     then_decided order (key_cmp a b) other (ap (λ o. ordering_then o (key_cmp a b)) by_digits ∙ digits_first a b in_a in_b)

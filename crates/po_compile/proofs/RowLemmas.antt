@@ -1,4 +1,4 @@
--- The rows of live entries, sorted by their keys: neighbours tell duplicates, and those that are compiled are the messages.
+-- The rows of live entries, sorted by their keys: neighbours show duplicates, and those that are compiled are the messages.
 use Rattle.std.proofs.Common.{◌≡◌, ◌≢◌, refl, sym, ap, ap₂, subst, ◌∙◌, ℕ, zero, suc, ◌+◌, ◌<◌, Bool, true, false, ◌&&◌, cond, List, [], ◌∷◌, ◌++◌, length, get_or, map, filter, arith, add-one, All, AllPairs, IsPermutation, count_by}
 use Rattle.std.specs.Ordering.{ordering_reverse}
 use Rattle.std.specs.declared.cmp.Ordering.TheVariants.{Less, Greater}
@@ -18,7 +18,7 @@ use Rattle.po_entry.specs.TextEntry.{TextEntry}
 use Rattle.po_entry.specs.Validity.{IsCatalogueEntry}
 use Rattle.po_catalog.specs.Joined.{is_live}
 use Rattle.po_catalog.specs.Duplicate.{HasNoDuplicate, IsSameMessage}
-use Rattle.po_compile.specs.Collected.{LiveMessage, live_message, row_seen, lengths_of, counts_of, IsSortedOf}
+use Rattle.po_compile.specs.Collected.{LiveMessage, live_message, row_view, lengths_of, counts_of, IsSortedOf}
 use Rattle.std.proofs.lemmas.List.Sums.{length-filter}
 use Rattle.po_catalog.specs.Statistics.{stats_of, is_translated, is_fuzzy, is_untranslated}
 use Rattle.po_compile.specs.declared.collecting.Lengths.{Lengths}
@@ -28,14 +28,14 @@ use Rattle.po_compile.specs.CompiledMessages.{AreMessagesOf, message_of, message
 use Rattle.po_compile.proofs.FilteredMoves.{IsPermutation-filter}
 use Rattle.po_compile.proofs.MeaningLemmas.{IsClean, clean_entry, key_of-original}
 
-abbrev pub key_seen : LiveMessage → List ℕ
-key_seen m = m.key
+abbrev pub key_view : LiveMessage → List ℕ
+key_view m = m.key
 
-abbrev message_seen : LiveMessage → Message
-message_seen m = m.message
+abbrev message_view : LiveMessage → Message
+message_view m = m.message
 
-abbrev compiled_seen : LiveMessage → Bool
-compiled_seen m = m.compiled
+abbrev compiled_view : LiveMessage → Bool
+compiled_view m = m.compiled
 
 abbrev pub key_of_entry : TextEntry → List ℕ
 key_of_entry entry = query_key entry.context entry.id
@@ -45,10 +45,10 @@ abbrev Rises : List LiveMessage → Type 0
 Rises [] = Unit {0}
 Rises (m ∷ ms) = All (λ (n : LiveMessage). key_cmp m.key n.key ≡ Less) ms × Rises ms
 
-rising_rest : (m : LiveMessage) (ms : List LiveMessage) → AreRising (map key_seen (m ∷ ms)) → AreRising (map key_seen ms)
+rising_rest : (m : LiveMessage) (ms : List LiveMessage) → AreRising (map key_view (m ∷ ms)) → AreRising (map key_view ms)
 rising_rest m ms h = record { next = λ i inside. rw add-one (rw add-one at (h.next (suc i) (omega (arith, inside)))) }
 
-pub rising_rises : (ms : List LiveMessage) → AreRising (map key_seen ms) → Rises ms
+pub rising_rises : (ms : List LiveMessage) → AreRising (map key_view ms) → Rises ms
 rising_rises [] h = tt
 rising_rises (m ∷ []) h = (All-nil (λ (n : LiveMessage). key_cmp m.key n.key ≡ Less), tt)
 rising_rises (m ∷ next ∷ ms) h =
@@ -62,16 +62,16 @@ kept_rises : (m : LiveMessage) (ms : List LiveMessage) (b : Bool) → All (λ (n
 kept_rises m ms true below rises = (below, rises)
 kept_rises m ms false below rises = rises
 
-filter_rises : (ms : List LiveMessage) → Rises ms → Rises (filter compiled_seen ms)
+filter_rises : (ms : List LiveMessage) → Rises ms → Rises (filter compiled_view ms)
 filter_rises [] h = tt
 filter_rises (m ∷ ms) h =
-    kept_rises m (filter compiled_seen ms) m.compiled (All-filter compiled_seen (λ (n : LiveMessage). key_cmp m.key n.key ≡ Less) ms h.0) (filter_rises ms h.1)
+    kept_rises m (filter compiled_view ms) m.compiled (All-filter compiled_view (λ (n : LiveMessage). key_cmp m.key n.key ≡ Less) ms h.0) (filter_rises ms h.1)
 
 -- the key is that of the original
 abbrev IsKeyed : LiveMessage → Type 0
 IsKeyed m = key_of m.message.original ≡ m.key
 
-next_rises : (ms : List LiveMessage) (i : ℕ) → All IsKeyed ms → Rises ms → suc i < length (keys (map message_seen ms)) → key_cmp (key_at (keys (map message_seen ms)) i) (key_at (keys (map message_seen ms)) (suc i)) ≡ Less
+next_rises : (ms : List LiveMessage) (i : ℕ) → All IsKeyed ms → Rises ms → suc i < length (keys (map message_view ms)) → key_cmp (key_at (keys (map message_view ms)) i) (key_at (keys (map message_view ms)) (suc i)) ≡ Less
 next_rises [] i keyed rises inside = absurd (omega arith)
 next_rises (m ∷ []) i keyed rises inside = absurd (omega arith)
 next_rises (m ∷ n ∷ ms) zero keyed rises inside =
@@ -81,14 +81,14 @@ next_rises (m ∷ n ∷ ms) zero keyed rises inside =
 next_rises (m ∷ n ∷ ms) (suc i) keyed rises inside = next_rises (n ∷ ms) i (All-tail IsKeyed m (n ∷ ms) keyed) rises.1 (omega arith)
 
 kept_step : (use_fuzzy : Bool) (entry : TextEntry) (live compiled : List TextEntry) (b c : Bool) → is_compiled use_fuzzy entry ≡ c → (b ≡ false → c ≡ false)
-    → map message_seen (filter compiled_seen (map (live_message use_fuzzy) live)) ≡ map message_of compiled
-    → map message_seen (filter compiled_seen (map (live_message use_fuzzy) (cond b (entry ∷ live) live))) ≡ map message_of (cond c (entry ∷ compiled) compiled)
+    → map message_view (filter compiled_view (map (live_message use_fuzzy) live)) ≡ map message_of compiled
+    → map message_view (filter compiled_view (map (live_message use_fuzzy) (cond b (entry ∷ live) live))) ≡ map message_of (cond c (entry ∷ compiled) compiled)
 kept_step use_fuzzy entry live compiled true true e only same =
     let rest = map (live_message use_fuzzy) live in
-    ap (λ (d : Bool). map message_seen (cond d (live_message use_fuzzy entry ∷ filter compiled_seen rest) (filter compiled_seen rest))) e ∙ ap (λ (ms : List Message). message_of entry ∷ ms) same
+    ap (λ (d : Bool). map message_view (cond d (live_message use_fuzzy entry ∷ filter compiled_view rest) (filter compiled_view rest))) e ∙ ap (λ (ms : List Message). message_of entry ∷ ms) same
 kept_step use_fuzzy entry live compiled true false e only same =
     let rest = map (live_message use_fuzzy) live in
-    ap (λ (d : Bool). map message_seen (cond d (live_message use_fuzzy entry ∷ filter compiled_seen rest) (filter compiled_seen rest))) e ∙ same
+    ap (λ (d : Bool). map message_view (cond d (live_message use_fuzzy entry ∷ filter compiled_view rest) (filter compiled_view rest))) e ∙ same
 kept_step use_fuzzy entry live compiled false true e only same = absurd (let f : true ≡ false = only refl in cc)
 kept_step use_fuzzy entry live compiled false false e only same = same
 
@@ -98,7 +98,7 @@ dead_stays false w e = refl
 
 -- the messages of the live entries that are compiled are those of the compiled list
 kept_live : (use_fuzzy : Bool) (entries : List TextEntry)
-    → map message_seen (filter compiled_seen (map (live_message use_fuzzy) (filter is_live entries))) ≡ messages_of_entries (compiled_list use_fuzzy entries)
+    → map message_view (filter compiled_view (map (live_message use_fuzzy) (filter is_live entries))) ≡ messages_of_entries (compiled_list use_fuzzy entries)
 kept_live use_fuzzy [] = refl
 kept_live use_fuzzy (entry ∷ entries) =
     kept_step use_fuzzy entry (filter is_live entries) (compiled_list use_fuzzy entries) (is_live entry) (is_compiled use_fuzzy entry) refl (dead_stays (is_live entry) _) (kept_live use_fuzzy entries)
@@ -111,15 +111,15 @@ live_keyed use_fuzzy entries valid =
 
 -- the compiled ones of the sorted rows
 pub kept_messages : (use_fuzzy : Bool) (entries : List TextEntry) (sorted : List LiveMessage) → All IsCatalogueEntry entries → IsPermutation (map (live_message use_fuzzy) (filter is_live entries)) sorted
-    → AreRising (map key_seen sorted) → AreMessagesOf (compiled_list use_fuzzy entries) (map message_seen (filter compiled_seen sorted))
+    → AreRising (map key_view sorted) → AreMessagesOf (compiled_list use_fuzzy entries) (map message_view (filter compiled_view sorted))
 kept_messages use_fuzzy entries sorted valid permuted rising =
     let live = map (live_message use_fuzzy) (filter is_live entries) in
     let keyed : All IsKeyed sorted = All-permutation IsKeyed live sorted permuted (live_keyed use_fuzzy entries valid) in
-    let filtered = IsPermutation-filter compiled_seen live sorted permuted in
-    let moved = IsPermutation-map message_seen (filter compiled_seen live) (filter compiled_seen sorted) filtered in
+    let filtered = IsPermutation-filter compiled_view live sorted permuted in
+    let moved = IsPermutation-map message_view (filter compiled_view live) (filter compiled_view sorted) filtered in
     record {
-      all = subst (λ (ms : List Message). IsPermutation ms (map message_seen (filter compiled_seen sorted))) (kept_live use_fuzzy entries) moved;
-      rising = record { next = λ i inside. rw add-one (next_rises (filter compiled_seen sorted) i (All-filter compiled_seen IsKeyed sorted keyed) (filter_rises sorted (rising_rises sorted rising)) (omega (arith, inside))) };
+      all = subst (λ (ms : List Message). IsPermutation ms (map message_view (filter compiled_view sorted))) (kept_live use_fuzzy entries) moved;
+      rising = record { next = λ i inside. rw add-one (next_rises (filter compiled_view sorted) i (All-filter compiled_view IsKeyed sorted keyed) (filter_rises sorted (rising_rises sorted rising)) (omega (arith, inside))) };
     }
 
 less_differs : (k l : List ℕ) → key_cmp k l ≡ Less → k ≢ l
@@ -128,49 +128,49 @@ less_differs k l less same =
     let reversed : key_cmp k k ≡ Greater = nat_list_cmp_total.antisymm k k ∙ ap ordering_reverse self in
     absurd (cc (self, reversed))
 
-distinct_keys : (ms : List LiveMessage) → Rises ms → AllPairs (λ k l. k ≢ l) (map key_seen ms)
+distinct_keys : (ms : List LiveMessage) → Rises ms → AllPairs (λ k l. k ≢ l) (map key_view ms)
 distinct_keys [] h = λ i j d below inside. absurd (omega arith)
 distinct_keys (m ∷ ms) h =
-    AllPairs-cons (λ k l. k ≢ l) m.key (map key_seen ms)
-    (All-map (λ l. m.key ≢ l) key_seen ms (All-weaker (λ (n : LiveMessage). key_cmp m.key n.key ≡ Less) (λ (n : LiveMessage). m.key ≢ n.key) (λ n less. less_differs m.key n.key less) ms h.0)) (distinct_keys ms h.1)
+    AllPairs-cons (λ k l. k ≢ l) m.key (map key_view ms)
+    (All-map (λ l. m.key ≢ l) key_view ms (All-weaker (λ (n : LiveMessage). key_cmp m.key n.key ≡ Less) (λ (n : LiveMessage). m.key ≢ n.key) (λ n less. less_differs m.key n.key less) ms h.0)) (distinct_keys ms h.1)
 
 same_key : (a b : TextEntry) → IsSameMessage a b → key_of_entry a ≡ key_of_entry b
 same_key a b same = ap₂ query_key same.0 same.1
 
-pub key_of_live : (use_fuzzy : Bool) (live : List TextEntry) → map key_seen (map (live_message use_fuzzy) live) ≡ map key_of_entry live
+pub key_of_live : (use_fuzzy : Bool) (live : List TextEntry) → map key_view (map (live_message use_fuzzy) live) ≡ map key_of_entry live
 key_of_live use_fuzzy [] = refl
 key_of_live use_fuzzy (entry ∷ live) = ap (λ ks. key_of_entry entry ∷ ks) (key_of_live use_fuzzy live)
 
 -- where the sorted keys rise, no live entry repeats another
 pub rows_distinct : (use_fuzzy : Bool) (entries : List TextEntry) (sorted : List LiveMessage) → IsPermutation (map (live_message use_fuzzy) (filter is_live entries)) sorted
-    → AreRising (map key_seen sorted) → HasNoDuplicate entries
+    → AreRising (map key_view sorted) → HasNoDuplicate entries
 rows_distinct use_fuzzy entries sorted permuted rising =
     let live = filter is_live entries in
     let rows = map (live_message use_fuzzy) live in
-    let distinct : AllPairs (λ k l. k ≢ l) (map key_seen rows) =
-    AllPairs-from_IsDistinct bytes_eq-Decides (map key_seen rows)
-    (IsDistinct-IsPermutation bytes_eq nat_list_eq_equiv.symm (map key_seen sorted) (map key_seen rows)
-    (IsPermutation-map key_seen sorted rows (IsPermutation-sym rows sorted permuted))
-    (IsDistinct-from_AllPairs bytes_eq-Decides (map key_seen sorted) (distinct_keys sorted (rising_rises sorted rising)))) in
+    let distinct : AllPairs (λ k l. k ≢ l) (map key_view rows) =
+    AllPairs-from_IsDistinct bytes_eq-Decides (map key_view rows)
+    (IsDistinct-IsPermutation bytes_eq nat_list_eq_equiv.symm (map key_view sorted) (map key_view rows)
+    (IsPermutation-map key_view sorted rows (IsPermutation-sym rows sorted permuted))
+    (IsDistinct-from_AllPairs bytes_eq-Decides (map key_view sorted) (distinct_keys sorted (rising_rises sorted rising)))) in
     let apart : AllPairs (λ k l. k ≢ l) (map key_of_entry live) = subst (λ (ks : List (List ℕ)). AllPairs (λ k l. k ≢ l) ks) (key_of_live use_fuzzy live) distinct in
     λ i j d below inside same.
     apart i j (key_of_entry d) below (omega (arith, inside, length-map live key_of_entry))
     (get_or-map key_of_entry live i d ∙ same_key (get_or live i d) (get_or live j d) same ∙ sym (get_or-map key_of_entry live j d))
 
-pub keys_of_rows : (rows : List Row) → map key_seen (map row_seen rows) ≡ map (λ (r : Row). r.key.now) rows
+pub keys_of_rows : (rows : List Row) → map key_view (map row_view rows) ≡ map (λ (r : Row). r.key.now) rows
 keys_of_rows [] = refl
 keys_of_rows (row ∷ rows) = ap (λ ks. row.key.now ∷ ks) (keys_of_rows rows)
 
 -- the sorted rows, where their keys rise, and the messages taken from them
-pub rows_mean : (use_fuzzy : Bool) (entries : List TextEntry) (rows sorted : List Row) (messages : List Message) → All IsCatalogueEntry entries → map row_seen rows ≡ map (live_message use_fuzzy) (filter is_live entries)
-    → IsPermutation rows sorted → AreRising (map (λ (r : Row). r.key.now) sorted) → messages ≡ map message_seen (filter compiled_seen (map row_seen sorted)) → IsSortedOf use_fuzzy entries messages
+pub rows_mean : (use_fuzzy : Bool) (entries : List TextEntry) (rows sorted : List Row) (messages : List Message) → All IsCatalogueEntry entries → map row_view rows ≡ map (live_message use_fuzzy) (filter is_live entries)
+    → IsPermutation rows sorted → AreRising (map (λ (r : Row). r.key.now) sorted) → messages ≡ map message_view (filter compiled_view (map row_view sorted)) → IsSortedOf use_fuzzy entries messages
 rows_mean use_fuzzy entries rows sorted messages valid made permuted rising is =
     let live = map (live_message use_fuzzy) (filter is_live entries) in
-    let moved : IsPermutation live (map row_seen sorted) = subst (λ (ms : List LiveMessage). IsPermutation ms (map row_seen sorted)) made (IsPermutation-map row_seen rows sorted permuted) in
-    let rises : AreRising (map key_seen (map row_seen sorted)) = subst AreRising (sym (keys_of_rows sorted)) rising in
+    let moved : IsPermutation live (map row_view sorted) = subst (λ (ms : List LiveMessage). IsPermutation ms (map row_view sorted)) made (IsPermutation-map row_view rows sorted permuted) in
+    let rises : AreRising (map key_view (map row_view sorted)) = subst AreRising (sym (keys_of_rows sorted)) rising in
     record {
-      distinct = rows_distinct use_fuzzy entries (map row_seen sorted) moved rises;
-      are_messages = subst (AreMessagesOf (compiled_list use_fuzzy entries)) (sym is) (kept_messages use_fuzzy entries (map row_seen sorted) valid moved rises);
+      distinct = rows_distinct use_fuzzy entries (map row_view sorted) moved rises;
+      are_messages = subst (AreMessagesOf (compiled_list use_fuzzy entries)) (sym is) (kept_messages use_fuzzy entries (map row_view sorted) valid moved rises);
     }
 
 count_step : (use_fuzzy : Bool) (f : TextEntry → Bool) (g : Lengths → Bool) (entry : TextEntry) (live counted : List TextEntry) (b c : Bool) → g (lengths_of use_fuzzy entry) ≡ c → (b ≡ false → c ≡ false)

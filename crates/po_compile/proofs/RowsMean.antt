@@ -4,7 +4,7 @@ use Rattle.std.specs.List.{flat_map}
 use Rattle.std.proofs.Math.Seq.{take-append_seam, drop-cons}
 use Rattle.mo_file.specs.Key.{query_key}
 use Rattle.po_entry.specs.TextEntry.{TextEntry}
-use Rattle.po_compile.specs.Collected.{lengths_of, message_bytes, live_message, row_seen}
+use Rattle.po_compile.specs.Collected.{lengths_of, message_bytes, live_message, row_view}
 use Rattle.po_compile.specs.CompiledList.{is_compiled}
 use Rattle.po_compile.specs.CompiledMessages.{original_of, translation_of, plural_part}
 use Rattle.po_compile.specs.declared.collecting.Lengths.{Lengths}
@@ -24,13 +24,13 @@ pub record RowMade (use_fuzzy : Bool) (lengths : Lengths) (bytes next : List ℕ
 
 row_made : (use_fuzzy : Bool) (entry : TextEntry) (next : List ℕ) → RowMade use_fuzzy (lengths_of use_fuzzy entry) (original_of entry ++ (translation_of entry ++ next)) next entry
 row_made use_fuzzy entry next =
-    let behind : drop (length (original_of entry)) (original_of entry ++ (translation_of entry ++ next)) ≡ translation_of entry ++ next = drop_seam (original_of entry) (translation_of entry ++ next) in
+    let after : drop (length (original_of entry)) (original_of entry ++ (translation_of entry ++ next)) ≡ translation_of entry ++ next = drop_seam (original_of entry) (translation_of entry ++ next) in
     record {
       original = take-append_seam (original_of entry) (translation_of entry ++ next);
-      translation = ap (take (length (translation_of entry))) behind ∙ take-append_seam (translation_of entry) next;
+      translation = ap (take (length (translation_of entry))) after ∙ take-append_seam (translation_of entry) next;
       key = take-append_seam (query_key entry.context entry.id) (plural_part entry.plural);
       compiled = refl;
-      rest = ap (drop (length (translation_of entry))) behind ∙ drop_seam (translation_of entry) next;
+      rest = ap (drop (length (translation_of entry))) after ∙ drop_seam (translation_of entry) next;
     }
 
 row_in : (use_fuzzy : Bool) (live : List TextEntry) (i : ℕ) (d : Lengths) (bytes : List ℕ) → i < length (map (lengths_of use_fuzzy) live) → bytes ≡ flat_map message_bytes (drop i live)
@@ -51,6 +51,6 @@ row_at use_fuzzy live all i d bytes is inside e =
     let found = row_in use_fuzzy live i d bytes (omega (arith, inside, ap length is)) e in
     (found.0, found.1, subst (λ (ls : List Lengths). RowMade use_fuzzy (get_or ls i d) bytes (flat_map message_bytes (drop (i + 1) live)) found.0) (sym is) found.2)
 
-pub row_seen_is : (use_fuzzy : Bool) (entry : TextEntry) (row : Row) → row.key.now ≡ query_key entry.context entry.id → row.original.now ≡ original_of entry → row.translation.now ≡ translation_of entry → row.compiled ≡ is_compiled use_fuzzy entry
-    → row_seen row ≡ live_message use_fuzzy entry
-row_seen_is use_fuzzy entry row key original translation compiled = cc
+pub row_view_is : (use_fuzzy : Bool) (entry : TextEntry) (row : Row) → row.key.now ≡ query_key entry.context entry.id → row.original.now ≡ original_of entry → row.translation.now ≡ translation_of entry → row.compiled ≡ is_compiled use_fuzzy entry
+    → row_view row ≡ live_message use_fuzzy entry
+row_view_is use_fuzzy entry row key original translation compiled = cc

@@ -19,10 +19,10 @@ use Rattle.po_entry.specs.TextEntry.{TextEntry}
 use Rattle.po_entry.specs.Validity.{IsCatalogueEntry}
 use Rattle.po_catalog.specs.Joined.{is_live}
 use Rattle.po_catalog.specs.Duplicate.{IsSameMessage, AllDiffer, HasNoDuplicate}
-use Rattle.po_compile.specs.Collected.{live_message, row_seen}
+use Rattle.po_compile.specs.Collected.{live_message, row_view}
 use Rattle.po_compile.specs.declared.row.Row.{Row}
 use Rattle.po_compile.proofs.MeaningLemmas.{IsClean, clean_entry}
-use Rattle.po_compile.proofs.RowLemmas.{key_seen, key_of_entry, key_of_live, keys_of_rows}
+use Rattle.po_compile.proofs.RowLemmas.{key_view, key_of_entry, key_of_live, keys_of_rows}
 use Rattle.po_compile.proofs.TextLemmas.{query_key_is_one}
 
 abbrev key : Row → List ℕ
@@ -65,12 +65,12 @@ sorted_rise rows distinct sorted = record {
       ap₂ key_cmp here next ∙ rise (key (get_or rows i x)) (key (get_or rows (i + 1) x)) (sorted i x (omega arith) (omega (arith, long))) (λ e. apart (here ∙ e ∙ sym next));
 }
 
-pub rows_rise : (use_fuzzy : Bool) (entries : List TextEntry) (rows sorted : List Row) → All IsCatalogueEntry entries → map row_seen rows ≡ map (live_message use_fuzzy) (filter is_live entries)
+pub rows_rise : (use_fuzzy : Bool) (entries : List TextEntry) (rows sorted : List Row) → All IsCatalogueEntry entries → map row_view rows ≡ map (live_message use_fuzzy) (filter is_live entries)
     → IsPermutation rows sorted → IsSortedBy (λ (a b : Row). is_lt (key_cmp a.key.now b.key.now)) sorted → HasNoDuplicate entries → AreRising (map (λ (r : Row). r.key.now) sorted)
 rows_rise use_fuzzy entries rows sorted valid made permuted in_order none =
     let live = filter is_live entries in
     let clean : All IsClean live = All-weaker IsCatalogueEntry IsClean (λ e v. clean_entry e v.valid) live (All-filter is_live IsCatalogueEntry entries valid) in
-    let keys_before : map key rows ≡ map key_of_entry live = sym (keys_of_rows rows) ∙ ap (map key_seen) made ∙ key_of_live use_fuzzy live in
+    let keys_before : map key rows ≡ map key_of_entry live = sym (keys_of_rows rows) ∙ ap (map key_view) made ∙ key_of_live use_fuzzy live in
     let before : AllPairs (λ k l. k ≢ l) (map key rows) = subst (λ (ks : List (List ℕ)). AllPairs (λ k l. k ≢ l) ks) (sym keys_before) (entry_keys live clean none) in
     let distinct : AllPairs (λ k l. k ≢ l) (map key sorted) =
     AllPairs-from_IsDistinct bytes_eq-Decides (map key sorted)

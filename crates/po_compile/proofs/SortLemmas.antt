@@ -28,7 +28,7 @@ use Rattle.po_compile.specs.declared.options.Options.{Options}
 use Rattle.mo_file.specs.declared.pairs.Pair.{Pair}
 use Rattle.po_entry.specs.TextEntry.{TextEntry}
 use Rattle.mo_file.specs.Message.{originals, translations}
-use Rattle.mo_file.specs.Layout.{layout, header, table, terminated, originals_place, translations_place}
+use Rattle.mo_file.specs.Layout.{layout, header, table, terminated, originals_offset, translations_offset}
 use Rattle.mo_file.specs.declared.byte_order.Order.{Order}
 use Rattle.po_entry.specs.Header.{is_header}
 use Rattle.po_entry.specs.Validity.{IsEntry, IsCatalogueEntry}
@@ -190,10 +190,10 @@ terminated_long (s ∷ strings) =
 -- a layout has a byte for each message
 pub count_below_layout : (order : Order) (messages : List Message) → length messages ≤ length (layout order messages)
 count_below_layout order messages =
-    let front = header order (length messages) ++ table order (originals_place messages) (originals messages)
-    ++ table order (translations_place messages) (translations messages) in
-    let long = length-append (front ++ terminated (originals messages)) (terminated (translations messages)) in
-    let long' = length-append front (terminated (originals messages)) in
+    let prefix = header order (length messages) ++ table order (originals_offset messages) (originals messages)
+    ++ table order (translations_offset messages) (translations messages) in
+    let long = length-append (prefix ++ terminated (originals messages)) (terminated (translations messages)) in
+    let long' = length-append prefix (terminated (originals messages)) in
     let original : Message → List ℕ = λ m. m.original in
     omega (arith, long, long', terminated_long (originals messages), length-map messages original)
 

@@ -16,7 +16,7 @@ use Rattle.po_compile.proofs.MeaningLemmas.{IsClean}
 use Rattle.po_compile.proofs.OneListLemmas.{IsBelow}
 use Rattle.po_compile.proofs.SortLemmas.{keys_differ}
 
--- each message is below those behind it
+-- each message is below those after it
 abbrev Rises : List Message → Type 0
 Rises [] = Unit {0}
 Rises (m ∷ ms) = All (IsBelow m) ms × Rises ms
@@ -25,7 +25,7 @@ Rises (m ∷ ms) = All (IsBelow m) ms × Rises ms
 abbrev RisingWith : Message → List Message → Type 0
 RisingWith m ns = (ms : List Message) × IsPermutation (m ∷ ns) ms × Rises ms
 
--- one more message stands before the first, or among those behind it
+-- one more message stands before the first, or among those after it
 insert_by_order : (m n : Message) (ns : List Message) → key_of m.original ≢ key_of n.original → Rises (n ∷ ns) → RisingWith m ns
     → (o : Ordering) → key_cmp (key_of m.original) (key_of n.original) ≡ o → RisingWith m (n ∷ ns)
 insert_by_order m n ns apart rises later Less e =

@@ -17,18 +17,18 @@ use Rattle.po_compile.specs.CompiledMessages.{plural_part}
 no_nul : (b : ℕ) → b ≢ 0 → is_nul b ≡ false
 no_nul b h = false_from_ne_true (is_nul b) (λ e. h ((Decides-eqb b 0).0 e))
 
--- a key without a NUL, and nothing or a NUL and more behind it
-front_of_key : (key rest : List ℕ) → Lacks 0 key → ((length key < length (key ++ rest)) → is_nul (get_or (key ++ rest) (length key) 0) ≡ true) → key_of (key ++ rest) ≡ key
-front_of_key key rest lacks ends =
+-- a key without a NUL, and nothing or a NUL and more after it
+prefix_of_key : (key rest : List ℕ) → Lacks 0 key → ((length key < length (key ++ rest)) → is_nul (get_or (key ++ rest) (length key) 0) ≡ true) → key_of (key ++ rest) ≡ key
+prefix_of_key key rest lacks ends =
     let at : position_or_len is_nul (key ++ rest) ≡ length key =
     position_or_len_is is_nul (key ++ rest) (length key) 0 (omega (arith, length-append key rest))
     (λ k inside. ap is_nul (get_or_append_left key rest 0 k inside) ∙ no_nul (get_or key k 0) (lacks k 0 inside)) ends in
     ap (λ n. take n (key ++ rest)) at ∙ take-append_seam key rest
 
 pub key_of-plural_part : (key : List ℕ) (plural : Option (List ℕ)) → Lacks 0 key → key_of (key ++ plural_part plural) ≡ key
-key_of-plural_part key None lacks = let nil : List ℕ = [] in front_of_key key [] lacks (λ inside. absurd (omega (arith, length-append key nil)))
+key_of-plural_part key None lacks = let nil : List ℕ = [] in prefix_of_key key [] lacks (λ inside. absurd (omega (arith, length-append key nil)))
 key_of-plural_part key (Some plural) lacks =
-    front_of_key key (0 ∷ plural) lacks (λ inside. ap is_nul (let e : length key ≡ length key + 0 = omega arith in ap (λ n. get_or (key ++ 0 ∷ plural) n 0) e ∙ get_or-append-add key (0 ∷ plural) 0 0))
+    prefix_of_key key (0 ∷ plural) lacks (λ inside. ap is_nul (let e : length key ≡ length key + 0 = omega arith in ap (λ n. get_or (key ++ 0 ∷ plural) n 0) e ∙ get_or-append-add key (0 ∷ plural) 0 0))
 
 -- a key holds no NUL where its context and msgid hold none
 pub query_key_lacks : (context : Option (List ℕ)) (id : List ℕ) → IfSome context (Lacks 0) → Lacks 0 id → Lacks 0 (query_key context id)

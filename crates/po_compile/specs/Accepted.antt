@@ -11,11 +11,11 @@ use Rattle.po_entry.specs.TextEntry.{TextEntry}
 use Rattle.po_entry.specs.Reads.{ReadsText}
 use Rattle.po_reader.specs.Faults.{IsReadFault}
 use Rattle.po_catalog.specs.Joined.{InputEntry, in_input, joined, joined_entries}
-use Rattle.po_catalog.specs.Duplicate.{HasNoDuplicate, IsFirstDuplicate, duplicate_error, join_memory}
+use Rattle.po_catalog.specs.Duplicate.{HasNoDuplicate, IsFirstDuplicate, duplicate_error, join_out_of_memory}
 use Rattle.po_catalog.specs.declared.duplicate.JoinError.{JoinError}
 use Rattle.po_compile.specs.CompiledList.{compiled_list}
 use Rattle.po_compile.specs.CompiledMessages.{AreMessagesOf}
-use Rattle.po_compile.specs.Compiling.{IsCompiled, HasLargeLayout, layout_fault}
+use Rattle.po_compile.specs.Compiling.{IsCompilation, HasLargeLayout, layout_fault}
 use Rattle.po_compile.specs.declared.options.Options.{Options}
 use Rattle.po_compile.specs.declared.options.Compiled.{Compiled}
 
@@ -44,7 +44,7 @@ pub record AreAccepted (options : Options) (texts : List (List ℕ)) (catalogues
 pub record AreCompiled (options : Options) (texts : List (List ℕ)) (compiled : Compiled) : Type 0 where
   pub catalogues : List (List TextEntry)
   pub read : AreRead texts catalogues
-  pub is_compiled : IsCompiled options (joined_entries catalogues) compiled
+  pub is_compiled : IsCompilation options (joined_entries catalogues) compiled
 
 -- the first duplicate of a text that reads as entries
 pub record HasDuplicate (text : List ℕ) (error : PoError) : Type 0 where
@@ -94,7 +94,7 @@ pub record HasJoinedDuplicate (texts : List (List ℕ)) (error : JoinError) : Ty
 
 -- why texts aren't read: a fault of an input, a duplicate across inputs, or out of memory
 abbrev pub IsReadingFault : List (List ℕ) → JoinError → Type 0
-IsReadingFault texts error = (error ≡ join_memory) ⊎ IsFaultOfInput texts error ⊎ HasJoinedDuplicate texts error
+IsReadingFault texts error = (error ≡ join_out_of_memory) ⊎ IsFaultOfInput texts error ⊎ HasJoinedDuplicate texts error
 
 -- the layout of texts that are read is too large
 pub record IsTooLarge (options : Options) (texts : List (List ℕ)) (error : JoinError) : Type 0 where

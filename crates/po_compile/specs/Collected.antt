@@ -61,8 +61,8 @@ live_message use_fuzzy entry = record {
 }
 
 -- what contracts see of a row
-abbrev pub row_seen : Row → LiveMessage
-row_seen row = record {
+abbrev pub row_view : Row → LiveMessage
+row_view row = record {
   key = row.key.now;
   message = record { original = row.original.now; translation = row.translation.now };
   compiled = row.compiled;

@@ -5,7 +5,7 @@ use Rattle.po_entry.specs.TextEntry.{TextEntry}
 use Rattle.mo_file.specs.Message.{Message}
 use Rattle.mo_file.specs.Key.{AreRising, keys, query_key}
 
--- what stands behind the key: nothing, or a NUL and the plural
+-- what stands after the key: nothing, or a NUL and the plural
 abbrev pub plural_part : Option (List ℕ) → List ℕ
 plural_part None = []
 plural_part (Some plural) = 0 ∷ plural

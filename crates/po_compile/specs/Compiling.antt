@@ -7,7 +7,7 @@ use Rattle.mo_file.specs.declared.building.BuildError.{BuildError}
 use Rattle.mo_file.specs.declared.building.BuildError.TheVariants.{TooLarge as Large, NotSorted, OutOfMemory as NoMemory}
 use Rattle.po_entry.specs.TextEntry.{TextEntry}
 use Rattle.po_syntax.specs.declared.fault.PoFault.TheVariants.{TooLarge}
-use Rattle.po_catalog.specs.Duplicate.{join_memory}
+use Rattle.po_catalog.specs.Duplicate.{join_out_of_memory}
 use Rattle.po_catalog.specs.Statistics.{stats_of}
 use Rattle.po_catalog.specs.declared.duplicate.JoinError.{JoinError}
 use Rattle.po_compile.specs.CompiledList.{compiled_list}
@@ -18,7 +18,7 @@ use Rattle.po_compile.specs.declared.options.Compiled.{Compiled}
 
 -- The file is the layout of the compiled entries' messages. It is valid, holds these messages, and answers each query as
 -- the entries do. With it go their number and the statistics of all entries.
-pub record IsCompiled (options : Options) (entries : List TextEntry) (compiled : Compiled) : Type 0 where
+pub record IsCompilation (options : Options) (entries : List TextEntry) (compiled : Compiled) : Type 0 where
   pub messages : List Message
   pub are_messages : AreMessagesOf (compiled_list options.use_fuzzy entries) messages
   pub bytes : compiled.bytes.items ≡ layout options.order messages
@@ -42,8 +42,8 @@ layout_fault = record { input = 0; first_input = 0; error = record { kind = TooL
 abbrev pub IsLayoutError : BuildError → JoinError → Type 0
 IsLayoutError Large error = error ≡ layout_fault
 IsLayoutError NotSorted error = ⊥
-IsLayoutError NoMemory error = error ≡ join_memory
+IsLayoutError NoMemory error = error ≡ join_out_of_memory
 
 -- why entries of which no two live ones are of one message aren't compiled: their layout, or out of memory
 abbrev pub IsLayoutFault : Options → List TextEntry → JoinError → Type 0
-IsLayoutFault options entries error = (error ≡ join_memory) ⊎ ((error ≡ layout_fault) × HasLargeLayout options entries)
+IsLayoutFault options entries error = (error ≡ join_out_of_memory) ⊎ ((error ≡ layout_fault) × HasLargeLayout options entries)

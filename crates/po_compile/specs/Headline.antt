@@ -9,7 +9,7 @@ use Rattle.po_catalog.specs.Joined.{joined_entries}
 use Rattle.po_compile.specs.CompiledList.{compiled_list}
 use Rattle.po_compile.specs.CompiledMessages.{AreMessagesOf}
 use Rattle.po_compile.specs.Meaning.{MeansEntries}
-use Rattle.po_catalog.specs.Duplicate.{join_memory}
+use Rattle.po_catalog.specs.Duplicate.{join_out_of_memory}
 use Rattle.po_catalog.specs.declared.duplicate.JoinError.{JoinError}
 use Rattle.po_syntax.specs.declared.fault.PoError.{PoError}
 use Rattle.po_compile.specs.Accepted.{AreAccepted, AreRead, IsCompileFault, IsTextFault, ReadsDistinct}
@@ -39,21 +39,21 @@ LookUpMeansEntries =
 abbrev pub NoFaultWhereAccepted : Type 0
 NoFaultWhereAccepted =
     (options : Options) (texts : List (List ℕ)) (catalogues : List (List TextEntry)) (error : JoinError)
-    → AreAccepted options texts catalogues → IsCompileFault options texts error → error ≡ join_memory
+    → AreAccepted options texts catalogues → IsCompileFault options texts error → error ≡ join_out_of_memory
 
 -- Texts are accepted or have a fault, which is not out of memory.
 abbrev pub AcceptedOrFault : Type 0
 AcceptedOrFault =
     (options : Options) (texts : List (List ℕ))
     → ((catalogues : List (List TextEntry)) × AreAccepted options texts catalogues)
-    ⊎ ((error : JoinError) × IsCompileFault options texts error × (error ≢ join_memory))
+    ⊎ ((error : JoinError) × IsCompileFault options texts error × (error ≢ join_out_of_memory))
 
 -- Texts have at most one fault, of one input on one line, beside out of memory.
 abbrev pub OneCompileFault : Type 0
 OneCompileFault =
     (options : Options) (texts : List (List ℕ)) (error other : JoinError)
     → IsCompileFault options texts error → IsCompileFault options texts other
-    → error ≢ join_memory → other ≢ join_memory → error ≡ other
+    → error ≢ join_out_of_memory → other ≢ join_out_of_memory → error ≡ other
 
 -- Texts are read as one list of catalogues.
 abbrev pub CataloguesAreOne : Type 0

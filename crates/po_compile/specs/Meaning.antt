@@ -5,7 +5,7 @@ use Rattle.std.specs.Str.{bytes_eq}
 use Rattle.plural_rule.specs.PluralRule.{Meaning, IsRuleOf, expression_limit}
 use Rattle.mo_file.specs.Message.{Message}
 use Rattle.mo_lookup.specs.Answer.{Outcome, answer}
-use Rattle.mo_lookup.specs.Contents.{AreContents, told}
+use Rattle.mo_lookup.specs.Contents.{AreContents, answered}
 use Rattle.mo_lookup.specs.Query.{Query, is_clean_key}
 use Rattle.po_entry.specs.TextEntry.{TextEntry}
 use Rattle.po_entry.specs.Header.{first_form}
@@ -33,4 +33,4 @@ meant entries rule query = answer (option_map (λ entry. entry.forms) (definitio
 -- the answers of a file's messages are those of the entries
 pub record MeansEntries (entries : List TextEntry) (messages : List Message) : Type 0 where
   pub rule : (rule : Meaning) → AreContents messages rule → IsRuleOfEntries entries rule
-  pub answers : (rule : Meaning) (query : Query) → told (record { messages = messages; rule = rule }) query ≡ meant entries rule query
+  pub answers : (rule : Meaning) (query : Query) → answered (record { messages = messages; rule = rule }) query ≡ meant entries rule query

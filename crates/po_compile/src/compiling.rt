@@ -1,10 +1,10 @@
 ghost use Rattle.std.specs.Prelude.{◌≡◌, ◌≢◌, ◌⊎◌, ◌<◌, ◌^◌, [], ◌∷◌, List, length, IfOk, IfErr, IfSome, MatchResult};
 ghost use Rattle.po_entry.specs.TextEntry.{TextEntry, slice_texts};
 ghost use Rattle.po_catalog.specs.Joined.{joined_entries};
-ghost use Rattle.po_catalog.specs.Duplicate.{HasNoDuplicate, entry_memory};
+ghost use Rattle.po_catalog.specs.Duplicate.{HasNoDuplicate, out_of_memory_error};
 ghost use Rattle.po_compile.specs.Collected.{HoldsEntries, IsLargeText, ReadsLive};
 ghost use Rattle.po_compile.specs.Accepted.{AreCompiled, IsCompileFault, fault_of_only_input};
-ghost use Rattle.po_compile.specs.Compiling.{IsCompiled, IsLayoutFault, IsLayoutError};
+ghost use Rattle.po_compile.specs.Compiling.{IsCompilation, IsLayoutFault, IsLayoutError};
 
 use crate::collecting::{Collected, collect};
 use crate::laws::messages_mean_entries;
@@ -90,8 +90,8 @@ fn compile_collected(
     options: Options,
 ) -> Result<Option<Compiled>, PoError>
     requires { (entries : List TextEntry) × HoldsEntries options.use_fuzzy entries collected.now }
-    ensures found { IfOk result (λ found. IfSome found (λ compiled. (entries : List TextEntry) → HoldsEntries options.use_fuzzy entries collected.now → HasNoDuplicate entries × IsCompiled options entries compiled)) }
-    ensures fault { IfErr result (λ e. (e ≡ entry_memory) ⊎ ((entries : List TextEntry) → HoldsEntries options.use_fuzzy entries collected.now → IsLargeText options entries e)) }
+    ensures found { IfOk result (λ found. IfSome found (λ compiled. (entries : List TextEntry) → HoldsEntries options.use_fuzzy entries collected.now → HasNoDuplicate entries × IsCompilation options entries compiled)) }
+    ensures fault { IfErr result (λ e. (e ≡ out_of_memory_error) ⊎ ((entries : List TextEntry) → HoldsEntries options.use_fuzzy entries collected.now → IsLargeText options entries e)) }
 {
     let Some(pairs) = sorted_pairs(alloc, collected)? else {
         return Ok(None);
@@ -131,7 +131,7 @@ pub fn compile_catalogues(
     options: Options,
 ) -> Result<Compiled, JoinError>
     requires { HasNoDuplicate (joined_entries catalogues.items) }
-    ensures { MatchResult result (IsCompiled options (joined_entries catalogues.items)) (IsLayoutFault options (joined_entries catalogues.items)) }
+    ensures { MatchResult result (IsCompilation options (joined_entries catalogues.items)) (IsLayoutFault options (joined_entries catalogues.items)) }
 {
     let entries = into_joined(alloc, catalogues)?;
     let stats = entry_statistics(&entries);

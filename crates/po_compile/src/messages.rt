@@ -14,7 +14,7 @@ use po_entry::{Entry, Fields};
 use std::alloc::{AllocError, Global};
 
 /// Whether an entry of a joined list is compiled: it is live and translated, and not marked as fuzzy where fuzzy
-/// entries are left out. A header's mark is ignored.
+/// entries are omitted. A header's mark is ignored.
 pub fn is_compiled(entry: &Entry, use_fuzzy: bool) -> bool
     ensures { result ≡ is_compiled use_fuzzy entry.now }
 {
@@ -65,7 +65,7 @@ fn message_of(alloc: Global, entry: Entry) -> Result<Pair, AllocError>
     })
 }
 
-/// The key of an entry, and behind it a NUL and the plural, where there is one.
+/// The key of an entry, and after it a NUL and the plural, where there is one.
 fn original_of(
     context: Option<Vec<u8>>,
     id: Vec<u8>,
@@ -73,26 +73,26 @@ fn original_of(
 ) -> Result<Vec<u8>, AllocError>
     ensures { IfOk result (λ original. original.items ≡ query_key (optional_text context) id.items ++ plural_part (optional_text plural)) }
 {
-    let mut original = key_of(context, id)?;
+    let mut original = build_key(context, id)?;
     if let Some(plural) = plural {
-        push_behind(&mut original, 0, &plural)?;
+        push_after(&mut original, 0, &plural)?;
     }
     Ok(original)
 }
 
 /// The msgid, and before it the context, where there is one, with an EOT (byte 4).
-fn key_of(context: Option<Vec<u8>>, id: Vec<u8>) -> Result<Vec<u8>, AllocError>
+fn build_key(context: Option<Vec<u8>>, id: Vec<u8>) -> Result<Vec<u8>, AllocError>
     ensures { IfOk result (λ key. key.items ≡ query_key (optional_text context) id.items) }
 {
     let Some(mut key) = context else {
         return Ok(id);
     };
-    push_behind(&mut key, 4, &id)?;
+    push_after(&mut key, 4, &id)?;
     Ok(key)
 }
 
 /// Appends a byte and a text, in room for just these.
-fn push_behind(out: &mut Vec<u8>, byte: u8, text: &[u8]) -> Result<(), AllocError>
+fn push_after(out: &mut Vec<u8>, byte: u8, text: &[u8]) -> Result<(), AllocError>
     ensures { OnOk result (out.new.items ≡ out.old.items ++ byte ∷ text.now) }
 {
     out.reserve_exact(text.len().saturating_add(1))?;
@@ -108,15 +108,15 @@ fn translation_of(alloc: Global, mut forms: Vec<Vec<u8>>) -> Result<Vec<u8>, All
         return Ok(Vec::new(alloc));
     }
     let mut translation = forms.remove(0);
-    translation.reserve_exact(room_behind(&forms))?;
+    translation.reserve_exact(room_after(&forms))?;
     for form in &forms {
-        push_behind(&mut translation, 0, form)?;
+        push_after(&mut translation, 0, form)?;
     }
     Ok(translation)
 }
 
 /// The room for forms, each with a NUL before it.
-fn room_behind(forms: &[Vec<u8>]) -> usize {
+fn room_after(forms: &[Vec<u8>]) -> usize {
     let mut room = forms.len();
     for form in forms {
         room = room.saturating_add(form.len());

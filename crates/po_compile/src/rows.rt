@@ -5,7 +5,7 @@ ghost use Rattle.std.specs.Ordering.{is_lt};
 ghost use Rattle.mo_file.specs.Key.{key_cmp, AreRising};
 ghost use Rattle.mo_file.specs.Pairs.{messages_of_lent};
 ghost use Rattle.po_entry.specs.TextEntry.{TextEntry};
-ghost use Rattle.po_compile.specs.Collected.{message_bytes, lengths_of, live_message, row_seen, LiveMessage};
+ghost use Rattle.po_compile.specs.Collected.{message_bytes, lengths_of, live_message, row_view, LiveMessage};
 
 use crate::collecting::Lengths;
 use crate::prefix::{prefix_of, second_of};
@@ -45,7 +45,7 @@ pub(crate) fn rows_of<'b>(
     bytes: &'b [u8],
     lengths: &[Lengths],
 ) -> Result<Vec<Row<'b>>, AllocError>
-    ensures { IfOk result (λ rows. (use_fuzzy : Bool) (live : List TextEntry) → bytes.now ≡ flat_map message_bytes live → lengths.now ≡ map (lengths_of use_fuzzy) live → map row_seen rows.items ≡ map (live_message use_fuzzy) live) }
+    ensures { IfOk result (λ rows. (use_fuzzy : Bool) (live : List TextEntry) → bytes.now ≡ flat_map message_bytes live → lengths.now ≡ map (lengths_of use_fuzzy) live → map row_view rows.items ≡ map (live_message use_fuzzy) live) }
 {
     let mut rows = Vec::with_capacity(alloc, lengths.len())?;
     let mut rest = bytes;
@@ -86,7 +86,7 @@ pub(crate) fn compiled_pairs<'b>(
     alloc: Global,
     rows: &[Row<'b>],
 ) -> Result<Vec<LentPair<'b>>, AllocError>
-    ensures { IfOk result (λ pairs. messages_of_lent pairs.items ≡ map (λ (m : LiveMessage). m.message) (filter (λ (m : LiveMessage). m.compiled) (map row_seen rows.now))) }
+    ensures { IfOk result (λ pairs. messages_of_lent pairs.items ≡ map (λ (m : LiveMessage). m.message) (filter (λ (m : LiveMessage). m.compiled) (map row_view rows.now))) }
 {
     let mut pairs = Vec::with_capacity(alloc, rows.len())?;
     for row in rows {

@@ -8,7 +8,7 @@ use Rattle.std.proofs.lemmas.List.{append_cancel_left, drop_at}
 use Rattle.std.proofs.lemmas.List.Elements.{All-head, All-tail}
 use Rattle.std.proofs.lemmas.Slice.Eq.{starts_is}
 use Rattle.po_syntax.specs.Runs.{FailsFirst, parts_of}
-use Rattle.po_entry.specs.Header.{behind_charset, ends_name, charset_of}
+use Rattle.po_entry.specs.Header.{after_charset, ends_name, charset_of}
 use Rattle.po_entry.specs.Charset.{EndsName, space, tab, carriage_return, line_feed, semicolon, IsAfterName, at_end, at_byte, IsAround, NamesCharset, unnamed, named}
 
 -- no `charset=` stands in the text before this many bytes
@@ -52,13 +52,13 @@ none_in_nothing : HasNone []
 none_in_nothing [] rest e = cc
 none_in_nothing (x ∷ before) rest e = cc
 
-found : (text : List ℕ) → Found text (behind_charset text)
+found : (text : List ℕ) → Found text (after_charset text)
 unfolding starts
 found [] = inl (none_in_nothing, refl)
 found (b ∷ text) =
     elim (cases_Bool (starts (b ∷ text))) [
       | inl e ↦ subst (Found (b ∷ text)) (sym (cond-true (starts (b ∷ text)) _ _ e)) (inr ([], starts_prefix (b ∷ text) e, λ other more h. omega arith))
-      | inr e ↦ subst (Found (b ∷ text)) (sym (cond-false (starts (b ∷ text)) _ _ e)) (found_more b text (behind_charset text) e (found text))
+      | inr e ↦ subst (Found (b ∷ text)) (sym (cond-false (starts (b ∷ text)) _ _ e)) (found_more b text (after_charset text) e (found text))
     ]
 
 or_step : {P : Type 0} (x y : Bool) → (x ≡ true → P) → (y ≡ true → P) → (x || y) ≡ true → P
@@ -114,7 +114,7 @@ charset_of_found text rest (inr (before, around, first)) =
     named before name.rest (around ∙ ap (λ r. before ++ (codes "charset=" ++ r)) name.whole) first name.holds_no_end name.ends
 
 found_named : (text : List ℕ) → NamesCharset text (charset_of text)
-found_named text = charset_of_found text (behind_charset text) (found text)
+found_named text = charset_of_found text (after_charset text) (found text)
 
 after_not_first : (b : ℕ) (rest name : List ℕ) → IsAfterName rest → rest ≡ b ∷ name → (EndsName b → ⊥) → ⊥
 after_not_first b rest name at_end e has = cc

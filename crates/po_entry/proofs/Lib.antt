@@ -8,5 +8,5 @@ pub mod PreviousOrder
 pub mod Spelt
 pub mod SpeltReads
 pub mod CharsetNames
-pub mod ListedWords
+pub mod ListedElements
 pub mod JoinedPieces

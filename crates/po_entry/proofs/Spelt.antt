@@ -10,20 +10,20 @@ use Rattle.po_syntax.specs.declared.item.Marks.{Marks}
 use Rattle.po_syntax.specs.TextItem.{TextItem, Comment, Word, Str}
 use Rattle.po_entry.specs.TextEntry.{TextEntry}
 use Rattle.po_entry.specs.Strings as string
-use Rattle.po_entry.specs.Words as word
+use Rattle.po_entry.specs.Keywords as word
 use Rattle.po_entry.specs.Body as body
 use Rattle.po_entry.specs.Head as head
 use Rattle.po_entry.specs.Descent as read
 use Rattle.po_entry.specs.Spelling as spell
 use Rattle.po_entry.proofs.SameMarks.{same_bool_true, same_marks_true, marks_of}
-use Rattle.po_entry.proofs.PreviousOrder.{Rise, words, rise_order}
+use Rattle.po_entry.proofs.PreviousOrder.{Rise, keywords, rise_order}
 
 -- the items are a spelling before the rest
-abbrev Front : (List TextItem → Type 0) → List TextItem → List TextItem → Type 0
-Front P items rest = (own : List TextItem) × P own × (items ≡ own ++ rest)
+abbrev Prefix : (List TextItem → Type 0) → List TextItem → List TextItem → Type 0
+Prefix P items rest = (own : List TextItem) × P own × (items ≡ own ++ rest)
 
-joined : (items own behind later rest : List TextItem) → items ≡ own ++ behind → behind ≡ later ++ rest → items ≡ (own ++ later) ++ rest
-joined items own behind later rest e f = e ∙ ap (λ (x : List TextItem). own ++ x) f ∙ sym (append_assoc own later rest)
+joined : (items own after later rest : List TextItem) → items ≡ own ++ after → after ≡ later ++ rest → items ≡ (own ++ later) ++ rest
+joined items own after later rest e f = e ∙ ap (λ (x : List TextItem). own ++ x) f ∙ sym (append_assoc own later rest)
 
 string_taken : (marks : Marks) (items rest : List TextItem) (bytes : List ℕ) → string.string_step marks items ≡ string.Take bytes rest → (line : ℕ) × (items ≡ Str bytes marks line ∷ rest)
 string_taken marks [] rest bytes e = absurd cc
@@ -34,22 +34,22 @@ string_taken marks (Str text found line ∷ items) rest bytes e = (line, taken (
   taken true t q = let m : marks ≡ found = same_marks_true marks found t in cc
   taken false t q = cc
 
-strings_front : {marks : Marks} {items rest : List TextItem} {bytes : List ℕ} → string.IsStrings marks items bytes rest → Front (λ own. spell.SpellsStrings marks own bytes) items rest
-strings_front {marks} (string.last {items = items} {rest = rest} {bytes = bytes} e f) =
+strings_prefix : {marks : Marks} {items rest : List TextItem} {bytes : List ℕ} → string.IsStrings marks items bytes rest → Prefix (λ own. spell.SpellsStrings marks own bytes) items rest
+strings_prefix {marks} (string.last {items = items} {rest = rest} {bytes = bytes} e f) =
     let here = string_taken marks items rest bytes e in
     (Str bytes marks here.0 ∷ [], spell.last, here.1)
-strings_front {marks} (string.more {items = items} {behind = behind} {rest = rest} {bytes = bytes} e f s) =
-    let here = string_taken marks items behind bytes e in
-    let later = strings_front s in
-    (Str bytes marks here.0 ∷ later.0, spell.more later.1, joined items (Str bytes marks here.0 ∷ []) behind later.0 rest here.1 later.2)
+strings_prefix {marks} (string.more {items = items} {after = after} {rest = rest} {bytes = bytes} e f s) =
+    let here = string_taken marks items after bytes e in
+    let later = strings_prefix s in
+    (Str bytes marks here.0 ∷ later.0, spell.more later.1, joined items (Str bytes marks here.0 ∷ []) after later.0 rest here.1 later.2)
 
--- a word that is taken is wanted, and bears the marks of the entry's own lines
-word_taken : (wanted : word.Wanted) (obsolete : Bool) (items rest : List TextItem) (keyword : Keyword) (line : ℕ) → word.next_word wanted obsolete items ≡ word.Take keyword line rest
+-- a keyword that is taken is wanted, and bears the marks of the entry's own lines
+keyword_taken : (wanted : word.Wanted) (obsolete : Bool) (items rest : List TextItem) (keyword : Keyword) (line : ℕ) → word.next_keyword wanted obsolete items ≡ word.Take keyword line rest
     → (items ≡ Word keyword (string.own_marks obsolete) line ∷ rest) × (word.is_wanted wanted keyword ≡ true)
-word_taken wanted obsolete [] rest keyword line e = absurd cc
-word_taken wanted obsolete (Comment kind text at ∷ items) rest keyword line e = absurd cc
-word_taken wanted obsolete (Str text found at ∷ items) rest keyword line e = absurd cc
-word_taken wanted obsolete (Word found marks at ∷ items) rest keyword line e = taken marks.previous refl (word.is_wanted wanted found) refl (string.same_bool obsolete marks.obsolete) refl (word.is_wrong_form wanted found) e where
+keyword_taken wanted obsolete [] rest keyword line e = absurd cc
+keyword_taken wanted obsolete (Comment kind text at ∷ items) rest keyword line e = absurd cc
+keyword_taken wanted obsolete (Str text found at ∷ items) rest keyword line e = absurd cc
+keyword_taken wanted obsolete (Word found marks at ∷ items) rest keyword line e = taken marks.previous refl (word.is_wanted wanted found) refl (string.same_bool obsolete marks.obsolete) refl (word.is_wrong_form wanted found) e where
   taken : (p : Bool) → marks.previous ≡ p → (w : Bool) → word.is_wanted wanted found ≡ w → (s : Bool) → string.same_bool obsolete marks.obsolete ≡ s → (f : Bool)
       → (if p then word.Refuse BadOrder else if w then (if s then word.Take found at items else word.Refuse MixedObsolete) else if f then word.Refuse BadPluralIndex else word.Refuse BadOrder) ≡ word.Take keyword line rest
       → (Word found marks at ∷ items ≡ Word keyword (string.own_marks obsolete) line ∷ rest) × (word.is_wanted wanted keyword ≡ true)
@@ -62,12 +62,12 @@ word_taken wanted obsolete (Word found marks at ∷ items) rest keyword line e =
   taken false p false t s u true q = absurd cc
   taken false p false t s u false q = absurd cc
 
-word_front : {wanted : word.Wanted} {obsolete : Bool} {items rest : List TextItem} {keyword : Keyword} {line : ℕ} {text : List ℕ} → word.IsWorded wanted obsolete items keyword line text rest
-    → Front (λ own. spell.SpellsWord keyword (string.own_marks obsolete) line own text) items rest × (word.is_wanted wanted keyword ≡ true)
-word_front {wanted} {obsolete} (word.worded {items = items} {text = text} {rest = rest} {keyword = keyword} {line = line} e s) =
-    let here = word_taken wanted obsolete items text keyword line e in
-    let later = strings_front s in
-    ((Word keyword (string.own_marks obsolete) line ∷ later.0, spell.worded later.1, joined items (Word keyword (string.own_marks obsolete) line ∷ []) text later.0 rest here.0 later.2), here.1)
+keyword_prefix : {wanted : word.Wanted} {obsolete : Bool} {items rest : List TextItem} {keyword : Keyword} {line : ℕ} {text : List ℕ} → word.IsKeywordText wanted obsolete items keyword line text rest
+    → Prefix (λ own. spell.SpellsKeywordText keyword (string.own_marks obsolete) line own text) items rest × (word.is_wanted wanted keyword ≡ true)
+keyword_prefix {wanted} {obsolete} (word.keyword_text {items = items} {text = text} {rest = rest} {keyword = keyword} {line = line} e s) =
+    let here = keyword_taken wanted obsolete items text keyword line e in
+    let later = strings_prefix s in
+    ((Word keyword (string.own_marks obsolete) line ∷ later.0, spell.keyword_text later.1, joined items (Word keyword (string.own_marks obsolete) line ∷ []) text later.0 rest here.0 later.2), here.1)
 
 wanted_id : (keyword : Keyword) → word.is_wanted word.Id keyword ≡ true → keyword ≡ MsgId
 wanted_id MsgCtxt e = cc
@@ -84,25 +84,25 @@ wanted_form index MsgStr e = cc
 wanted_form index (MsgStrAt found) e = ap (λ (i : ℕ). MsgStrAt i) (eqb-true found index e)
 
 -- a form that is wanted bears its index
-form_front : {obsolete : Bool} {index : ℕ} {items rest : List TextItem} {keyword : Keyword} {line : ℕ} {form : List ℕ} → word.IsWorded (word.Form index) obsolete items keyword line form rest
-    → Front (λ own. spell.SpellsWord (MsgStrAt index) (string.own_marks obsolete) line own form) items rest
-form_front {obsolete} {index} {items} {rest} {keyword} {line} {form} w =
-    let front = word_front w in
-    subst (λ (k : Keyword). Front (λ own. spell.SpellsWord k (string.own_marks obsolete) line own form) items rest) (wanted_form index keyword front.1) front.0
+form_prefix : {obsolete : Bool} {index : ℕ} {items rest : List TextItem} {keyword : Keyword} {line : ℕ} {form : List ℕ} → word.IsKeywordText (word.Form index) obsolete items keyword line form rest
+    → Prefix (λ own. spell.SpellsKeywordText (MsgStrAt index) (string.own_marks obsolete) line own form) items rest
+form_prefix {obsolete} {index} {items} {rest} {keyword} {line} {form} w =
+    let prefix = keyword_prefix w in
+    subst (λ (k : Keyword). Prefix (λ own. spell.SpellsKeywordText k (string.own_marks obsolete) line own form) items rest) (wanted_form index keyword prefix.1) prefix.0
 
-forms_front : {obsolete : Bool} {index : ℕ} {items rest : List TextItem} {forms : List (List ℕ)} → body.IsForms obsolete index items forms rest → Front (λ own. spell.SpellsForms obsolete index own forms) items rest
-forms_front (body.last w f) = let front = form_front w in (front.0, spell.last_form front.1, front.2)
-forms_front (body.more {items = items} {behind = behind} {rest = rest} w f s) =
-    let front = form_front w in
-    let later = forms_front s in
-    (front.0 ++ later.0, spell.more_forms front.1 later.1, joined items front.0 behind later.0 rest front.2 later.2)
+forms_prefix : {obsolete : Bool} {index : ℕ} {items rest : List TextItem} {forms : List (List ℕ)} → body.IsForms obsolete index items forms rest → Prefix (λ own. spell.SpellsForms obsolete index own forms) items rest
+forms_prefix (body.last w f) = let prefix = form_prefix w in (prefix.0, spell.last_form prefix.1, prefix.2)
+forms_prefix (body.more {items = items} {after = after} {rest = rest} w f s) =
+    let prefix = form_prefix w in
+    let later = forms_prefix s in
+    (prefix.0 ++ later.0, spell.more_forms prefix.1 later.1, joined items prefix.0 after later.0 rest prefix.2 later.2)
 
-translation_front : {obsolete : Bool} {items rest : List TextItem} {plural : Option (List ℕ)} {forms : List (List ℕ)} → body.IsTranslation obsolete items plural forms rest → Front (λ own. spell.SpellsTranslation obsolete own plural forms) items rest
-translation_front (body.single w) = let front = (word_front w).0 in (front.0, spell.single front.1, front.2)
-translation_front (body.plural {items = items} {behind = behind} {rest = rest} w f) =
-    let front = (word_front w).0 in
-    let later = forms_front f in
-    (front.0 ++ later.0, spell.plural front.1 later.1, joined items front.0 behind later.0 rest front.2 later.2)
+translation_prefix : {obsolete : Bool} {items rest : List TextItem} {plural : Option (List ℕ)} {forms : List (List ℕ)} → body.IsTranslation obsolete items plural forms rest → Prefix (λ own. spell.SpellsTranslation obsolete own plural forms) items rest
+translation_prefix (body.single w) = let prefix = (keyword_prefix w).0 in (prefix.0, spell.single prefix.1, prefix.2)
+translation_prefix (body.plural {items = items} {after = after} {rest = rest} w f) =
+    let prefix = (keyword_prefix w).0 in
+    let later = forms_prefix f in
+    (prefix.0 ++ later.0, spell.plural prefix.1 later.1, joined items prefix.0 after later.0 rest prefix.2 later.2)
 
 context_taken : (obsolete : Bool) (items rest : List TextItem) → body.body_start items ≡ body.WithContext obsolete rest → (line : ℕ) × (items ≡ Word MsgCtxt (string.own_marks obsolete) line ∷ rest)
 context_taken obsolete [] rest e = absurd cc
@@ -143,45 +143,45 @@ id_taken obsolete line (Word MsgStr marks at ∷ items) rest e = cc
 id_taken obsolete line (Word (MsgStrAt index) marks at ∷ items) rest e = cc
 
 -- an entry's msgid and its translation
-lines_front : (obsolete : Bool) (line : ℕ) (items behind rest : List TextItem) (context : Option (List ℕ)) (id : List ℕ) (plural : Option (List ℕ)) (forms : List (List ℕ)) (first : List TextItem) → spell.SpellsContext obsolete first context
-    → Front (λ own. spell.SpellsWord MsgId (string.own_marks obsolete) line own id) items behind → body.IsTranslation obsolete behind plural forms rest
-    → Front (λ own. spell.SpellsBody own (record { context = context; id = id; plural = plural; forms = forms; obsolete = obsolete; line = line })) (first ++ items) rest
-lines_front obsolete line items behind rest context id plural forms first c front t =
-    let later = translation_front t in
-    let start = joined (first ++ items) first items front.0 behind refl front.2 in
-    (first ++ front.0 ++ later.0, spell.own_lines c front.1 later.1, joined (first ++ items) (first ++ front.0) behind later.0 rest start later.2)
+lines_prefix : (obsolete : Bool) (line : ℕ) (items after rest : List TextItem) (context : Option (List ℕ)) (id : List ℕ) (plural : Option (List ℕ)) (forms : List (List ℕ)) (first : List TextItem) → spell.SpellsContext obsolete first context
+    → Prefix (λ own. spell.SpellsKeywordText MsgId (string.own_marks obsolete) line own id) items after → body.IsTranslation obsolete after plural forms rest
+    → Prefix (λ own. spell.SpellsBody own (record { context = context; id = id; plural = plural; forms = forms; obsolete = obsolete; line = line })) (first ++ items) rest
+lines_prefix obsolete line items after rest context id plural forms first c prefix t =
+    let later = translation_prefix t in
+    let start = joined (first ++ items) first items prefix.0 after refl prefix.2 in
+    (first ++ prefix.0 ++ later.0, spell.own_lines c prefix.1 later.1, joined (first ++ items) (first ++ prefix.0) after later.0 rest start later.2)
 
-body_front : {items rest : List TextItem} {own : body.Body} → body.IsBody items own rest → Front (λ here. spell.SpellsBody here own) items rest
-body_front (body.without_context {obsolete = obsolete} {line = line} {items = items} {text = text} {behind = behind} {rest = rest} {id = id} {plural = plural} {forms = forms} e s t) =
+body_prefix : {items rest : List TextItem} {own : body.Body} → body.IsBody items own rest → Prefix (λ here. spell.SpellsBody here own) items rest
+body_prefix (body.without_context {obsolete = obsolete} {line = line} {items = items} {text = text} {after = after} {rest = rest} {id = id} {plural = plural} {forms = forms} e s t) =
     let here = id_taken obsolete line items text e in
-    let strings = strings_front s in
+    let strings = strings_prefix s in
     let own = Word MsgId (string.own_marks obsolete) line ∷ strings.0 in
-    lines_front obsolete line items behind rest None id plural forms [] spell.no_context (own, spell.worded strings.1, joined items (Word MsgId (string.own_marks obsolete) line ∷ []) text strings.0 behind here strings.2) t
-body_front (body.with_context {obsolete = obsolete} {keyword = keyword} {line = line} {items = items} {text = text} {middle = middle} {behind = behind} {rest = rest} {context = context} {id = id} {plural = plural} {forms = forms} e s w t) =
+    lines_prefix obsolete line items after rest None id plural forms [] spell.no_context (own, spell.keyword_text strings.1, joined items (Word MsgId (string.own_marks obsolete) line ∷ []) text strings.0 after here strings.2) t
+body_prefix (body.with_context {obsolete = obsolete} {keyword = keyword} {line = line} {items = items} {text = text} {middle = middle} {after = after} {rest = rest} {context = context} {id = id} {plural = plural} {forms = forms} e s w t) =
     let here = context_taken obsolete items text e in
-    let strings = strings_front s in
+    let strings = strings_prefix s in
     let first = Word MsgCtxt (string.own_marks obsolete) here.0 ∷ strings.0 in
-    let ids = word_front w in
-    let found = subst (λ (k : Keyword). Front (λ own. spell.SpellsWord k (string.own_marks obsolete) line own id) middle behind) (wanted_id keyword ids.1) ids.0 in
+    let ids = keyword_prefix w in
+    let found = subst (λ (k : Keyword). Prefix (λ own. spell.SpellsKeywordText k (string.own_marks obsolete) line own id) middle after) (wanted_id keyword ids.1) ids.0 in
     let whole = joined items (Word MsgCtxt (string.own_marks obsolete) here.0 ∷ []) text strings.0 middle here.1 strings.2 in
-    let front = lines_front obsolete line middle behind rest (Some context) id plural forms first (spell.context (spell.worded strings.1)) found t in
-    (front.0, front.1, whole ∙ front.2)
+    let prefix = lines_prefix obsolete line middle after rest (Some context) id plural forms first (spell.context (spell.keyword_text strings.1)) found t in
+    (prefix.0, prefix.1, whole ∙ prefix.2)
 
-remark_taken : (above : ℕ) (items rest : List TextItem) (kind : CommentKind) (text : List ℕ) → head.head_step above items ≡ head.Remark kind text rest → (line : ℕ) × (items ≡ Comment kind text line ∷ rest)
-remark_taken above [] rest kind text e = absurd (end (above == 0) e) where
-  end : (t : Bool) → (if t then head.Over else head.Refuse BadOrder) ≡ head.Remark kind text rest → ⊥
+comment_taken : (above : ℕ) (items rest : List TextItem) (kind : CommentKind) (text : List ℕ) → head.head_step above items ≡ head.HeadComment kind text rest → (line : ℕ) × (items ≡ Comment kind text line ∷ rest)
+comment_taken above [] rest kind text e = absurd (end (above == 0) e) where
+  end : (t : Bool) → (if t then head.Over else head.Refuse BadOrder) ≡ head.HeadComment kind text rest → ⊥
   end true q = cc
   end false q = cc
-remark_taken above (Comment sort words line ∷ items) rest kind text e = (line, cc)
-remark_taken above (Str bytes marks line ∷ items) rest kind text e = absurd cc
-remark_taken above (Word keyword marks line ∷ items) rest kind text e = absurd (other marks.previous (nat_lt above (head.rank keyword)) (head.begins_body keyword) e) where
-  other : (p r b : Bool) → (if p then (if r then head.Previous keyword marks items else head.Refuse BadOrder) else if b then head.Over else head.Refuse BadOrder) ≡ head.Remark kind text rest → ⊥
+comment_taken above (Comment sort keywords line ∷ items) rest kind text e = (line, cc)
+comment_taken above (Str bytes marks line ∷ items) rest kind text e = absurd cc
+comment_taken above (Word keyword marks line ∷ items) rest kind text e = absurd (other marks.previous (nat_lt above (head.rank keyword)) (head.begins_body keyword) e) where
+  other : (p r b : Bool) → (if p then (if r then head.Previous keyword marks items else head.Refuse BadOrder) else if b then head.Over else head.Refuse BadOrder) ≡ head.HeadComment kind text rest → ⊥
   other true true b q = cc
   other true false b q = cc
   other false r true q = cc
   other false r false q = cc
 
--- a previous text's word is marked so, and its rank is above those before it
+-- a previous text's keyword is marked so, and its rank is above those before it
 previous_taken : (above : ℕ) (items rest : List TextItem) (keyword : Keyword) (marks : Marks) → head.head_step above items ≡ head.Previous keyword marks rest
     → (line : ℕ) × (items ≡ Word keyword marks line ∷ rest) × (marks ≡ spell.previous_marks marks.obsolete) × (above < head.rank keyword)
 previous_taken above [] rest keyword marks e = absurd (end (above == 0) e) where
@@ -207,29 +207,29 @@ previous_taken above (Word word found line ∷ items) rest keyword marks e = (li
   here = taken found.previous refl (nat_lt above (head.rank word)) refl (head.begins_body word) e
 
 -- a head is spelt, with previous texts whose ranks rise
-abbrev HeadOf : ℕ → List head.Note → List head.PreviousText → List TextItem → Type 0
-HeadOf above notes previous own = spell.SpellsHead own notes previous × Rise above (words previous)
+abbrev HeadOf : ℕ → List head.CommentText → List head.PreviousText → List TextItem → Type 0
+HeadOf above comment_texts previous own = spell.SpellsHead own comment_texts previous × Rise above (keywords previous)
 
-head_front : {above : ℕ} {items rest : List TextItem} {notes : List head.Note} {previous : List head.PreviousText} → head.IsHead above items notes previous rest → Front (HeadOf above notes previous) items rest
-head_front (head.over e) = ([], (spell.nothing, tt), refl)
-head_front (head.remark {above = above} {kind = kind} {text = text} {items = items} {behind = behind} {rest = rest} e h) =
-    let here = remark_taken above items behind kind text e in
-    let later = head_front h in
-    (Comment kind text here.0 ∷ later.0, (spell.remark later.1.0, later.1.1), joined items (Comment kind text here.0 ∷ []) behind later.0 rest here.1 later.2)
-head_front (head.previous {above = above} {keyword = keyword} {marks = marks} {bytes = bytes} {items = items} {text = text} {behind = behind} {rest = rest} e s h) =
+head_prefix : {above : ℕ} {items rest : List TextItem} {comment_texts : List head.CommentText} {previous : List head.PreviousText} → head.IsHead above items comment_texts previous rest → Prefix (HeadOf above comment_texts previous) items rest
+head_prefix (head.over e) = ([], (spell.nothing, tt), refl)
+head_prefix (head.head_comment {above = above} {kind = kind} {text = text} {items = items} {after = after} {rest = rest} e h) =
+    let here = comment_taken above items after kind text e in
+    let later = head_prefix h in
+    (Comment kind text here.0 ∷ later.0, (spell.head_comment later.1.0, later.1.1), joined items (Comment kind text here.0 ∷ []) after later.0 rest here.1 later.2)
+head_prefix (head.previous {above = above} {keyword = keyword} {marks = marks} {bytes = bytes} {items = items} {text = text} {after = after} {rest = rest} e s h) =
     let here = previous_taken above items text keyword marks e in
-    let strings = strings_front s in
-    let later = head_front h in
+    let strings = strings_prefix s in
+    let later = head_prefix h in
     let first = Word keyword marks here.0 ∷ strings.0 in
-    let worded : spell.SpellsWord keyword marks here.0 first bytes = spell.worded strings.1 in
-    let previous = subst (λ (m : Marks). spell.SpellsWord keyword m here.0 first bytes) here.2 worded in
-    let start = joined items (Word keyword marks here.0 ∷ []) text strings.0 behind here.1 strings.2 in
-    (first ++ later.0, (spell.previous_text previous later.1.0, (here.3, later.1.1)), joined items first behind later.0 rest start later.2)
+    let keyword_text : spell.SpellsKeywordText keyword marks here.0 first bytes = spell.keyword_text strings.1 in
+    let previous = subst (λ (m : Marks). spell.SpellsKeywordText keyword m here.0 first bytes) here.2 keyword_text in
+    let start = joined items (Word keyword marks here.0 ∷ []) text strings.0 after here.1 strings.2 in
+    (first ++ later.0, (spell.previous_text previous later.1.0, (here.3, later.1.1)), joined items first after later.0 rest start later.2)
 
 pub reads_spelt : {items : List TextItem} {entries : List TextEntry} → read.Reads items entries → spell.SpellsEntries items entries
 reads_spelt (read.comments only) = spell.comments only
-reads_spelt (read.entry {items = items} {own = own} {rest = rest} {notes = notes} {previous = previous} {body = lines} {entries = entries} h b more) =
-    let front = head_front h in
-    let later = body_front b in
-    let whole = joined items front.0 own later.0 rest front.2 later.2 in
-    subst (λ (x : List TextItem). spell.SpellsEntries x (spell.entry_from notes previous lines ∷ entries)) (sym whole) (spell.entries (spell.entry front.1.0 (rise_order previous front.1.1) later.1) (reads_spelt more))
+reads_spelt (read.entry {items = items} {own = own} {rest = rest} {comment_texts = comment_texts} {previous = previous} {body = lines} {entries = entries} h b more) =
+    let prefix = head_prefix h in
+    let later = body_prefix b in
+    let whole = joined items prefix.0 own later.0 rest prefix.2 later.2 in
+    subst (λ (x : List TextItem). spell.SpellsEntries x (spell.entry_from comment_texts previous lines ∷ entries)) (sym whole) (spell.entries (spell.entry prefix.1.0 (rise_order previous prefix.1.1) later.1) (reads_spelt more))

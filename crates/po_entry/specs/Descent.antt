@@ -3,11 +3,11 @@ use Rattle.std.specs.Prelude.{List, [], ◌∷◌}
 use Rattle.po_syntax.specs.TextItem.{TextItem}
 use Rattle.po_entry.specs.TextEntry.{TextEntry}
 use Rattle.po_entry.specs.Body.{Body, IsBody}
-use Rattle.po_entry.specs.Head.{Note, PreviousText, IsHead}
+use Rattle.po_entry.specs.Head.{CommentText, PreviousText, IsHead}
 use Rattle.po_entry.specs.Spelling.{entry_from, AreComments}
 
 -- going through these items from the left, the reader finds these entries
 pub data Reads : List TextItem → List TextEntry → Type 0 where
   comments : {items : List TextItem} → AreComments items → Reads items []
-  entry : {items own rest : List TextItem} {notes : List Note} {previous : List PreviousText} {body : Body} {entries : List TextEntry} → IsHead 0 items notes previous own → IsBody own body rest → Reads rest entries
-      → Reads items (entry_from notes previous body ∷ entries)
+  entry : {items own rest : List TextItem} {comment_texts : List CommentText} {previous : List PreviousText} {body : Body} {entries : List TextEntry} → IsHead 0 items comment_texts previous own → IsBody own body rest → Reads rest entries
+      → Reads items (entry_from comment_texts previous body ∷ entries)

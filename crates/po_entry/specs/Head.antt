@@ -10,16 +10,16 @@ use Rattle.po_syntax.specs.TextItem.{TextItem, Comment, Word, Str}
 use Rattle.po_entry.specs.Strings.{IsStrings}
 
 -- a comment, with its kind
-pub record Note : Type 0 where
+pub record CommentText : Type 0 where
   pub kind : CommentKind
   pub text : List ℕ
 
--- a previous text, with its word
+-- a previous text, with its keyword
 pub record PreviousText : Type 0 where
   pub keyword : Keyword
   pub text : List ℕ
 
--- The place of a word among the previous texts: each stands at most once, and in this order. The others, of rank 0, are no previous texts.
+-- The place of a keyword among the previous texts: each stands at most once, and in this order. The others, of rank 0, are no previous texts.
 abbrev pub rank : Keyword → ℕ
 rank MsgCtxt = 1
 rank MsgId = 2
@@ -27,7 +27,7 @@ rank MsgIdPlural = 3
 rank MsgStr = 0
 rank (MsgStrAt index) = 0
 
--- an entry's own lines may begin with this word
+-- an entry's own lines may begin with this keyword
 abbrev pub begins_body : Keyword → Bool
 begins_body MsgCtxt = true
 begins_body MsgId = true
@@ -35,26 +35,26 @@ begins_body MsgIdPlural = false
 begins_body MsgStr = false
 begins_body (MsgStrAt index) = false
 
--- What stands before an entry's own lines, behind a previous text of this rank, or of rank 0 where there is none yet: a comment; a previous text's word with its marks; nothing more, as the own lines begin, or the items end; or a fault.
+-- What stands before an entry's own lines, after a previous text of this rank, or of rank 0 where there is none yet: a comment; a previous text's keyword with its marks; nothing more, as the own lines begin, or the items end; or a fault.
 pub data HeadStep : Type 0 where
-  Remark : CommentKind → List ℕ → List TextItem → HeadStep
+  HeadComment : CommentKind → List ℕ → List TextItem → HeadStep
   Previous : Keyword → Marks → List TextItem → HeadStep
   Over : HeadStep
   Refuse : PoFault → HeadStep
 
 abbrev pub head_step : ℕ → List TextItem → HeadStep
 head_step above [] = if above == 0 then Over else Refuse BadOrder
-head_step above (Comment kind text line ∷ rest) = Remark kind text rest
+head_step above (Comment kind text line ∷ rest) = HeadComment kind text rest
 head_step above (Str bytes marks line ∷ rest) = Refuse BadOrder
 head_step above (Word keyword marks line ∷ rest) =
     if marks.previous then (if nat_lt above (rank keyword) then Previous keyword marks rest else Refuse BadOrder)
     else if begins_body keyword then Over
     else Refuse BadOrder
 
--- behind a previous text of this rank, these items begin with these comments and previous texts, and go on with the rest
-pub data IsHead : ℕ → List TextItem → List Note → List PreviousText → List TextItem → Type 0 where
+-- after a previous text of this rank, these items begin with these comments and previous texts, and go on with the rest
+pub data IsHead : ℕ → List TextItem → List CommentText → List PreviousText → List TextItem → Type 0 where
   over : {above : ℕ} {items : List TextItem} → head_step above items ≡ Over → IsHead above items [] [] items
-  remark : {above : ℕ} {kind : CommentKind} {text : List ℕ} {items behind rest : List TextItem} {notes : List Note} {previous : List PreviousText} → head_step above items ≡ Remark kind text behind
-      → IsHead above behind notes previous rest → IsHead above items (record { kind = kind; text = text } ∷ notes) previous rest
-  previous : {above : ℕ} {keyword : Keyword} {marks : Marks} {bytes : List ℕ} {items text behind rest : List TextItem} {notes : List Note} {others : List PreviousText} → head_step above items ≡ Previous keyword marks text
-      → IsStrings marks text bytes behind → IsHead (rank keyword) behind notes others rest → IsHead above items notes (record { keyword = keyword; text = bytes } ∷ others) rest
+  head_comment : {above : ℕ} {kind : CommentKind} {text : List ℕ} {items after rest : List TextItem} {comment_texts : List CommentText} {previous : List PreviousText} → head_step above items ≡ HeadComment kind text after
+      → IsHead above after comment_texts previous rest → IsHead above items (record { kind = kind; text = text } ∷ comment_texts) previous rest
+  previous : {above : ℕ} {keyword : Keyword} {marks : Marks} {bytes : List ℕ} {items text after rest : List TextItem} {comment_texts : List CommentText} {others : List PreviousText} → head_step above items ≡ Previous keyword marks text
+      → IsStrings marks text bytes after → IsHead (rank keyword) after comment_texts others rest → IsHead above items comment_texts (record { keyword = keyword; text = bytes } ∷ others) rest

@@ -8,11 +8,11 @@ use Rattle.po_entry.specs.TextEntry.{TextEntry}
 abbrev pub is_header : TextEntry → Bool
 is_header entry = is_none entry.context && length entry.id == 0
 
--- what stands behind the first `charset=`; nothing where there is none
-abbrev pub behind_charset : List ℕ → List ℕ
-behind_charset [] = []
-behind_charset (b ∷ text) =
-    if starts_with nat_eq (b ∷ text) (codes "charset=") then drop 8 (b ∷ text) else behind_charset text
+-- what stands after the first `charset=`; nothing where there is none
+abbrev pub after_charset : List ℕ → List ℕ
+after_charset [] = []
+after_charset (b ∷ text) =
+    if starts_with nat_eq (b ∷ text) (codes "charset=") then drop 8 (b ∷ text) else after_charset text
 
 -- a space, TAB, CR, LF or semicolon ends a charset's name
 abbrev pub ends_name : ℕ → Bool
@@ -20,7 +20,7 @@ ends_name b = b == 32 || b == 9 || b == 13 || b == 10 || b == 59
 
 -- the charset that a header's text names; the empty word where it names none
 abbrev pub charset_of : List ℕ → List ℕ
-charset_of text = before_first ends_name (behind_charset text)
+charset_of text = before_first ends_name (after_charset text)
 
 -- no name, UTF-8, its part ASCII, and the word of a template, in lowercase
 abbrev pub admitted_names : List (List ℕ)

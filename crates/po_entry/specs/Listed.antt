@@ -8,12 +8,12 @@ abbrev pub EndsReference : List ℕ → Type 0
 EndsReference [] = Unit {0}
 EndsReference (b ∷ text) = IsBlank b
 
--- the references of a text: its words, between blanks
+-- the references of a text: its elements, between blanks
 pub data ListsReferences : List ℕ → List (List ℕ) → Type 0 where
   no_text : ListsReferences [] []
   blank : {b : ℕ} {text : List ℕ} {references : List (List ℕ)} → IsBlank b → ListsReferences text references → ListsReferences (b ∷ text) references
-  reference : {word rest : List ℕ} {references : List (List ℕ)} → word ≢ [] → All (λ b. IsBlank b → ⊥) word → EndsReference rest → ListsReferences rest references
-      → ListsReferences (word ++ rest) (word ∷ references)
+  reference : {element rest : List ℕ} {references : List (List ℕ)} → element ≢ [] → All (λ b. IsBlank b → ⊥) element → EndsReference rest → ListsReferences rest references
+      → ListsReferences (element ++ rest) (element ∷ references)
 
 -- the text without the blanks at its ends
 pub record IsWithoutBlanks (text kept : List ℕ) : Type 0 where

@@ -7,36 +7,36 @@ use Rattle.po_syntax.specs.declared.item.Marks.{Marks}
 use Rattle.po_syntax.specs.TextItem.{TextItem, Comment, Word, Str}
 use Rattle.po_entry.specs.TextEntry.{TextEntry}
 use Rattle.po_entry.specs.Strings.{own_marks}
-use Rattle.po_entry.specs.Head.{Note, PreviousText}
+use Rattle.po_entry.specs.Head.{CommentText, PreviousText}
 use Rattle.po_entry.specs.Body.{Body}
-use Rattle.po_entry.specs.Notes.{comments_of, extracted_of, references_of, fuzzy_of, flags_of, previous_of}
+use Rattle.po_entry.specs.Comments.{comments_of, extracted_of, references_of, fuzzy_of, flags_of, previous_of}
 
 -- one string or more, all under these marks: their bytes, joined
 pub data SpellsStrings (marks : Marks) : List TextItem → List ℕ → Type 0 where
   last : {line : ℕ} {bytes : List ℕ} → SpellsStrings marks (Str bytes marks line ∷ []) bytes
   more : {line : ℕ} {bytes others : List ℕ} {strings : List TextItem} → SpellsStrings marks strings others → SpellsStrings marks (Str bytes marks line ∷ strings) (bytes ++ others)
 
--- a word on this line, and behind it the strings of its text, under the word's marks
-pub data SpellsWord (keyword : Keyword) (marks : Marks) (line : ℕ) : List TextItem → List ℕ → Type 0 where
-  worded : {strings : List TextItem} {text : List ℕ} → SpellsStrings marks strings text → SpellsWord keyword marks line (Word keyword marks line ∷ strings) text
+-- a keyword on this line, and after it the strings of its text, under the keyword's marks
+pub data SpellsKeywordText (keyword : Keyword) (marks : Marks) (line : ℕ) : List TextItem → List ℕ → Type 0 where
+  keyword_text : {strings : List TextItem} {text : List ℕ} → SpellsStrings marks strings text → SpellsKeywordText keyword marks line (Word keyword marks line ∷ strings) text
 
 -- the marks of previous texts, whose lines begin with `#|` or `#~|`
 abbrev pub previous_marks : Bool → Marks
 previous_marks obsolete = record { obsolete = obsolete; previous = true }
 
 -- comments, and previous texts among them
-pub data SpellsHead : List TextItem → List Note → List PreviousText → Type 0 where
+pub data SpellsHead : List TextItem → List CommentText → List PreviousText → Type 0 where
   nothing : SpellsHead [] [] []
-  remark : {kind : CommentKind} {text : List ℕ} {line : ℕ} {items : List TextItem} {notes : List Note} {previous : List PreviousText} → SpellsHead items notes previous
-      → SpellsHead (Comment kind text line ∷ items) (record { kind = kind; text = text } ∷ notes) previous
-  previous_text : {keyword : Keyword} {obsolete : Bool} {line : ℕ} {text : List ℕ} {own items : List TextItem} {notes : List Note} {others : List PreviousText} → SpellsWord keyword (previous_marks obsolete) line own text → SpellsHead items notes others
-      → SpellsHead (own ++ items) notes (record { keyword = keyword; text = text } ∷ others)
+  head_comment : {kind : CommentKind} {text : List ℕ} {line : ℕ} {items : List TextItem} {comment_texts : List CommentText} {previous : List PreviousText} → SpellsHead items comment_texts previous
+      → SpellsHead (Comment kind text line ∷ items) (record { kind = kind; text = text } ∷ comment_texts) previous
+  previous_text : {keyword : Keyword} {obsolete : Bool} {line : ℕ} {text : List ℕ} {own items : List TextItem} {comment_texts : List CommentText} {others : List PreviousText} → SpellsKeywordText keyword (previous_marks obsolete) line own text → SpellsHead items comment_texts others
+      → SpellsHead (own ++ items) comment_texts (record { keyword = keyword; text = text } ∷ others)
 
--- some of all these words, each where it stands among them
+-- some of all these keywords, each where it stands among them
 pub data AreSome : List Keyword → List Keyword → Type 0 where
   none : AreSome [] []
-  with : {word : Keyword} {some all : List Keyword} → AreSome some all → AreSome (word ∷ some) (word ∷ all)
-  without : {word : Keyword} {some all : List Keyword} → AreSome some all → AreSome some (word ∷ all)
+  with : {keyword : Keyword} {some all : List Keyword} → AreSome some all → AreSome (keyword ∷ some) (keyword ∷ all)
+  without : {keyword : Keyword} {some all : List Keyword} → AreSome some all → AreSome some (keyword ∷ all)
 
 -- `msgctxt`, `msgid` and `msgid_plural`, each at most once and in this order
 abbrev pub AreInOrder : List PreviousText → Type 0
@@ -45,34 +45,34 @@ AreInOrder texts = AreSome (map (λ (text : PreviousText). text.keyword) texts) 
 -- `msgctxt` with the context, or nothing
 pub data SpellsContext (obsolete : Bool) : List TextItem → Option (List ℕ) → Type 0 where
   no_context : SpellsContext obsolete [] None
-  context : {line : ℕ} {items : List TextItem} {text : List ℕ} → SpellsWord MsgCtxt (own_marks obsolete) line items text → SpellsContext obsolete items (Some text)
+  context : {line : ℕ} {items : List TextItem} {text : List ℕ} → SpellsKeywordText MsgCtxt (own_marks obsolete) line items text → SpellsContext obsolete items (Some text)
 
 -- `msgstr` with each plural form from this index on, one at least
 pub data SpellsForms (obsolete : Bool) : ℕ → List TextItem → List (List ℕ) → Type 0 where
-  last_form : {index line : ℕ} {items : List TextItem} {form : List ℕ} → SpellsWord (MsgStrAt index) (own_marks obsolete) line items form → SpellsForms obsolete index items (form ∷ [])
-  more_forms : {index line : ℕ} {own items : List TextItem} {form : List ℕ} {forms : List (List ℕ)} → SpellsWord (MsgStrAt index) (own_marks obsolete) line own form → SpellsForms obsolete (index + 1) items forms
+  last_form : {index line : ℕ} {items : List TextItem} {form : List ℕ} → SpellsKeywordText (MsgStrAt index) (own_marks obsolete) line items form → SpellsForms obsolete index items (form ∷ [])
+  more_forms : {index line : ℕ} {own items : List TextItem} {form : List ℕ} {forms : List (List ℕ)} → SpellsKeywordText (MsgStrAt index) (own_marks obsolete) line own form → SpellsForms obsolete (index + 1) items forms
       → SpellsForms obsolete index (own ++ items) (form ∷ forms)
 
 -- `msgstr` with the one form; or `msgid_plural` with the plural, and then the plural forms
 pub data SpellsTranslation (obsolete : Bool) : List TextItem → Option (List ℕ) → List (List ℕ) → Type 0 where
-  single : {line : ℕ} {items : List TextItem} {form : List ℕ} → SpellsWord MsgStr (own_marks obsolete) line items form → SpellsTranslation obsolete items None (form ∷ [])
-  plural : {line : ℕ} {own items : List TextItem} {text : List ℕ} {forms : List (List ℕ)} → SpellsWord MsgIdPlural (own_marks obsolete) line own text → SpellsForms obsolete 0 items forms
+  single : {line : ℕ} {items : List TextItem} {form : List ℕ} → SpellsKeywordText MsgStr (own_marks obsolete) line items form → SpellsTranslation obsolete items None (form ∷ [])
+  plural : {line : ℕ} {own items : List TextItem} {text : List ℕ} {forms : List (List ℕ)} → SpellsKeywordText MsgIdPlural (own_marks obsolete) line own text → SpellsForms obsolete 0 items forms
       → SpellsTranslation obsolete (own ++ items) (Some text) forms
 
 -- an entry's own lines: its context, if any, its msgid with its line, and its translation, all obsolete or none
 pub data SpellsBody : List TextItem → Body → Type 0 where
   own_lines : {obsolete : Bool} {line : ℕ} {first own last : List TextItem} {context : Option (List ℕ)} {id : List ℕ} {plural : Option (List ℕ)} {forms : List (List ℕ)} → SpellsContext obsolete first context
-      → SpellsWord MsgId (own_marks obsolete) line own id → SpellsTranslation obsolete last plural forms
+      → SpellsKeywordText MsgId (own_marks obsolete) line own id → SpellsTranslation obsolete last plural forms
       → SpellsBody (first ++ own ++ last) (record { context = context; id = id; plural = plural; forms = forms; obsolete = obsolete; line = line })
 
 -- the entry with this head and this body
-abbrev pub entry_from : List Note → List PreviousText → Body → TextEntry
-entry_from notes previous body = record {
-  comments = comments_of notes;
-  extracted = extracted_of notes;
-  references = references_of notes;
-  fuzzy = fuzzy_of notes;
-  flags = flags_of notes;
+abbrev pub entry_from : List CommentText → List PreviousText → Body → TextEntry
+entry_from comment_texts previous body = record {
+  comments = comments_of comment_texts;
+  extracted = extracted_of comment_texts;
+  references = references_of comment_texts;
+  fuzzy = fuzzy_of comment_texts;
+  flags = flags_of comment_texts;
   previous = previous_of previous;
   context = body.context;
   id = body.id;
@@ -84,7 +84,7 @@ entry_from notes previous body = record {
 
 -- an entry: its head, and then its own lines
 pub data SpellsEntry : List TextItem → TextEntry → Type 0 where
-  entry : {head own : List TextItem} {notes : List Note} {previous : List PreviousText} {body : Body} → SpellsHead head notes previous → AreInOrder previous → SpellsBody own body → SpellsEntry (head ++ own) (entry_from notes previous body)
+  entry : {head own : List TextItem} {comment_texts : List CommentText} {previous : List PreviousText} {body : Body} → SpellsHead head comment_texts previous → AreInOrder previous → SpellsBody own body → SpellsEntry (head ++ own) (entry_from comment_texts previous body)
 
 abbrev pub IsCommentItem : TextItem → Type 0
 IsCommentItem (Comment kind text line) = Unit {0}

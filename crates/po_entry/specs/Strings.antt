@@ -1,4 +1,4 @@
--- The quoted strings of one text: one or more, directly behind their word and under its marks, joined (manual, "The Format of PO Files").
+-- The quoted strings of one text: one or more, directly after their keyword and under its marks, joined (manual, "The Format of PO Files").
 use Rattle.std.specs.Prelude.{◌≡◌, ℕ, Bool, true, false, ◌&&◌, ◌||◌, not, List, [], ◌∷◌, ◌++◌, if◌then◌else◌}
 use Rattle.po_syntax.specs.declared.fault.PoFault.{PoFault}
 use Rattle.po_syntax.specs.declared.fault.PoFault.TheVariants.{BadOrder, MixedObsolete}
@@ -16,7 +16,7 @@ same_marks a b = same_bool a.obsolete b.obsolete && same_bool a.previous b.previ
 abbrev pub own_marks : Bool → Marks
 own_marks obsolete = record { obsolete = obsolete; previous = false }
 
--- What stands where a string under these marks is wanted: the string, with the items behind it, or a fault.
+-- What stands where a string under these marks is wanted: the string, with the items after it, or a fault.
 pub data StringStep : Type 0 where
   Take : List ℕ → List TextItem → StringStep
   Refuse : PoFault → StringStep
@@ -41,5 +41,5 @@ begins_string (Str bytes marks line ∷ rest) = true
 -- these items begin with the strings of a text under these marks, all that follow each other, and go on with the rest
 pub data IsStrings (marks : Marks) : List TextItem → List ℕ → List TextItem → Type 0 where
   last : {items rest : List TextItem} {bytes : List ℕ} → string_step marks items ≡ Take bytes rest → begins_string rest ≡ false → IsStrings marks items bytes rest
-  more : {items behind rest : List TextItem} {bytes others : List ℕ} → string_step marks items ≡ Take bytes behind → begins_string behind ≡ true → IsStrings marks behind others rest
+  more : {items after rest : List TextItem} {bytes others : List ℕ} → string_step marks items ≡ Take bytes after → begins_string after ≡ true → IsStrings marks after others rest
       → IsStrings marks items (bytes ++ others) rest

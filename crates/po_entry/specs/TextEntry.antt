@@ -40,8 +40,8 @@ abbrev pub slice_texts : List (Bor (List ℕ)) → List (List ℕ)
 slice_texts slices = map (λ s. s.now) slices
 
 -- a live entry of these texts, without comments, previous texts and a line
-abbrev pub message_of : Option (List ℕ) → List ℕ → Option (List ℕ) → List (List ℕ) → TextEntry
-message_of context id plural forms = record {
+abbrev pub plain_entry : Option (List ℕ) → List ℕ → Option (List ℕ) → List (List ℕ) → TextEntry
+plain_entry context id plural forms = record {
   comments = [];
   extracted = [];
   references = [];

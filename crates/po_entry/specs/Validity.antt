@@ -20,19 +20,19 @@ pub record IsComment (text : List ℕ) : Type 0 where
   pub one_line : Lacks 10 text
   pub no_final_return : trim_returns text ≡ text
 
--- A translator's comment begins with no character that tells another kind of line: none of `.:,|~`.
+-- A translator's comment begins with no character that marks another kind of line: none of `.:,|~`.
 pub record IsTranslatorComment (text : List ℕ) : Type 0 where
   pub comment : IsComment text
   pub plain : (rest : List ℕ) (b : ℕ) → text ≡ b ∷ rest → Contains (codes ".:,|~") b → ⊥
 
--- a reference is a word between blanks, on one line
+-- a reference is an element between blanks, on one line
 pub record IsReference (text : List ℕ) : Type 0 where
   pub valid : IsText text
   pub some_byte : text ≢ []
   pub no_blank : All (λ b. is_blank b ≡ false) text
   pub one_line : Lacks 10 text
 
--- a flag is a trimmed word between commas, other than `fuzzy`
+-- a flag is a trimmed element between commas, other than `fuzzy`
 pub record IsFlag (text : List ℕ) : Type 0 where
   pub valid : IsText text
   pub some_byte : text ≢ []

@@ -1,5 +1,5 @@
 ghost use Rattle.std.specs.Prelude.{◌≡◌, IsTrue, ◌↔◌, position};
-ghost use Rattle.po_entry.specs.Header.{HasAdmittedCharset, IsAdmittedName, charset_of, behind_charset, ends_name};
+ghost use Rattle.po_entry.specs.Header.{HasAdmittedCharset, IsAdmittedName, charset_of, after_charset, ends_name};
 
 use crate::entry::Entry;
 
@@ -33,7 +33,7 @@ fn is_admitted_name(name: &[u8]) -> bool
 fn charset_of(header: &[u8]) -> &[u8]
     ensures { result.now ≡ charset_of header.now }
 {
-    let name = behind_charset(header);
+    let name = after_charset(header);
     match name_len(name) {
         Some(len) => &name[..len],
         None => name,
@@ -52,8 +52,8 @@ fn ends_name(b: u8) -> bool
     matches!(b, b' ' | b'\t' | b'\r' | b'\n' | b';')
 }
 
-fn behind_charset(header: &[u8]) -> &[u8]
-    ensures { result.now ≡ behind_charset header.now }
+fn after_charset(header: &[u8]) -> &[u8]
+    ensures { result.now ≡ after_charset header.now }
 {
     let mut rest = header;
     while let Some((_, next)) = rest.split_first() {

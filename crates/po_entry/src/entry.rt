@@ -1,6 +1,6 @@
 ghost use Rattle.std.specs.Prelude.{◌≡◌, ◌<◌, IfOk, IfErr, IsOkUnless, Some, None, IsTrue, ◌↔◌, map, [], true, false, length, option_copied};
-ghost use Rattle.po_entry.specs.TextEntry.{texts, slice_texts, message_of, optional_text, no_previous};
-ghost use Rattle.po_entry.specs.EntryText.{entry_of};
+ghost use Rattle.po_entry.specs.TextEntry.{texts, slice_texts, plain_entry, optional_text, no_previous};
+ghost use Rattle.po_entry.specs.EntryView.{entry_view};
 ghost use Rattle.po_entry.specs.Header.{is_header};
 ghost use Rattle.po_entry.specs.Validity.{IsEntry, RefusesMessage, out_of_memory};
 
@@ -23,14 +23,14 @@ pub struct Entry {
 
 impl Model for Entry {
     ghost use Rattle.po_entry.specs.TextEntry.{TextEntry};
-    ghost use Rattle.po_entry.specs.EntryText.{entry_of};
+    ghost use Rattle.po_entry.specs.EntryView.{entry_view};
     ghost use Rattle.po_entry.specs.Validity.{IsEntry};
 
     ghost Value = { TextEntry };
 
-    ghost view = { λ e. entry_of e.fields };
+    ghost view = { λ e. entry_view e.fields };
 
-    ghost invariant = { λ e. IsEntry (entry_of e.fields) };
+    ghost invariant = { λ e. IsEntry (entry_view e.fields) };
 }
 
 impl Entry {
@@ -46,9 +46,9 @@ impl Entry {
     ) -> Result<Entry, PoError>
         requires some_form { 0 < length forms.now }
         requires one_form { plural ≡ None → length forms.now ≡ 1 }
-        ensures entry { IfOk result (λ e. e ≡ message_of (option_copied context.entry) id.now (option_copied plural.entry) (slice_texts forms.now)) }
+        ensures entry { IfOk result (λ e. e ≡ plain_entry (option_copied context.entry) id.now (option_copied plural.entry) (slice_texts forms.now)) }
         ensures valid { IfOk result IsEntry }
-        ensures fault { IfErr result (λ e. RefusesMessage (message_of (option_copied context.entry) id.now (option_copied plural.entry) (slice_texts forms.now)) e) }
+        ensures fault { IfErr result (λ e. RefusesMessage (plain_entry (option_copied context.entry) id.now (option_copied plural.entry) (slice_texts forms.now)) e) }
     {
         let fields = Fields {
             comments: Vec::new(alloc),
@@ -106,16 +106,16 @@ impl Entry {
 
     /// The entry of these fields, which are those of an entry.
     pub fn of(fields: Fields) -> Entry
-        requires { IsEntry (entry_of fields) }
-        ensures { result ≡ entry_of fields }
+        requires { IsEntry (entry_view fields) }
+        ensures { result ≡ entry_view fields }
     {
         Entry { fields }
     }
 
     /// The fields of the entry, given up by it: each text is moved and none is copied.
     pub fn into_fields(self) -> Fields
-        ensures fields { entry_of result ≡ self }
-        ensures valid { IsEntry (entry_of result) }
+        ensures fields { entry_view result ≡ self }
+        ensures valid { IsEntry (entry_view result) }
     {
         let Entry { fields } = self;
         fields

@@ -1,7 +1,7 @@
 ghost use Rattle.std.specs.Prelude.{◌≡◌, option_copied};
 ghost use Rattle.po_entry.specs.Equality.{texts_eq, optional_eq, previous_eq, comments_eq, messages_eq};
 ghost use Rattle.po_entry.specs.TextEntry.{texts};
-ghost use Rattle.po_entry.specs.EntryText.{entry_of};
+ghost use Rattle.po_entry.specs.EntryView.{entry_view};
 
 use crate::fields::Fields;
 use crate::previous::Previous;
@@ -31,7 +31,7 @@ pub(crate) fn same_previous(a: &Previous, b: &Previous) -> bool
 }
 
 pub(crate) fn same_comments(a: &Fields, b: &Fields) -> bool
-    ensures { result ≡ comments_eq (entry_of a.now) (entry_of b.now) }
+    ensures { result ≡ comments_eq (entry_view a.now) (entry_view b.now) }
 {
     same_texts(&a.comments, &b.comments)
         && same_texts(&a.extracted, &b.extracted)
@@ -41,7 +41,7 @@ pub(crate) fn same_comments(a: &Fields, b: &Fields) -> bool
 }
 
 pub(crate) fn same_message(a: &Fields, b: &Fields) -> bool
-    ensures { result ≡ messages_eq (entry_of a.now) (entry_of b.now) }
+    ensures { result ≡ messages_eq (entry_view a.now) (entry_view b.now) }
 {
     same_optional(a.context.as_deref(), b.context.as_deref())
         && a.id == b.id

@@ -1,5 +1,5 @@
 ghost use Rattle.std.specs.Prelude.{◌≡◌, IfOk};
-ghost use Rattle.po_entry.specs.EntryText.{entry_of};
+ghost use Rattle.po_entry.specs.EntryView.{entry_view};
 
 use crate::copies::{copy_optional, copy_texts};
 use crate::previous::Previous;
@@ -12,7 +12,7 @@ pub struct Fields {
     pub comments: Vec<Vec<u8>>,
     /// The comments extracted from the program, each without its `#.`.
     pub extracted: Vec<Vec<u8>>,
-    /// The words of the `#:` lines.
+    /// The elements of the `#:` lines.
     pub references: Vec<Vec<u8>>,
     /// Whether the flag `fuzzy` is there.
     pub fuzzy: bool,
@@ -36,7 +36,7 @@ pub struct Fields {
 
 impl Fields {
     pub(crate) fn copy(&self, alloc: Global) -> Result<Fields, AllocError>
-        ensures { IfOk result (λ copy. entry_of copy ≡ entry_of self.now) }
+        ensures { IfOk result (λ copy. entry_view copy ≡ entry_view self.now) }
     {
         Ok(Fields {
             comments: copy_texts(alloc, &self.comments)?,

@@ -5,10 +5,10 @@ ghost use Rattle.po_syntax.specs.TextItem.{TextItem};
 ghost use Rattle.po_entry.specs.TextEntry.{TextEntry, SameButLine};
 ghost use Rattle.po_entry.specs.Charset.{NamesCharset};
 ghost use Rattle.po_entry.specs.Equality.{entry_eq};
-ghost use Rattle.po_entry.specs.Head.{Note};
+ghost use Rattle.po_entry.specs.Head.{CommentText};
 ghost use Rattle.po_entry.specs.Header.{charset_of};
 ghost use Rattle.po_entry.specs.Listed.{KeepsFlags, ListsFlags, ListsReferences};
-ghost use Rattle.po_entry.specs.Notes.{flag_words, flag_words_of, flags_of, words_of};
+ghost use Rattle.po_entry.specs.Comments.{listed_flags, all_listed_flags, flags_of, listed_references};
 ghost use Rattle.po_entry.specs.Descent.{Reads};
 ghost use Rattle.po_entry.specs.Spelling.{SpellsEntries};
 
@@ -33,21 +33,21 @@ pub fn charset_is_named()
 /// The references that are found in the text of a comment are those that it lists, between blanks.
 pub fn references_are_listed()
     ensures { (text : List ℕ) (references : List (List ℕ))
-        → (references ≡ words_of text) ↔ ListsReferences text references }
+        → (references ≡ listed_references text) ↔ ListsReferences text references }
 {}
 
 /// The flags that are found in the text of a comment are those that it lists, between commas and
 /// without the blanks at their ends.
 pub fn flags_are_listed()
     ensures { (text : List ℕ) (flags : List (List ℕ))
-        → (flags ≡ flag_words text) ↔ ListsFlags text flags }
+        → (flags ≡ listed_flags text) ↔ ListsFlags text flags }
 {}
 
 /// Of all the flags that an entry's comments list, the entry keeps each where it first stands, and
 /// never `fuzzy`.
 pub fn flags_are_kept_once()
-    ensures { (notes : List Note) (flags : List (List ℕ))
-        → (flags ≡ flags_of notes) ↔ KeepsFlags (flag_words_of notes) flags }
+    ensures { (comment_texts : List CommentText) (flags : List (List ℕ))
+        → (flags ≡ flags_of comment_texts) ↔ KeepsFlags (all_listed_flags comment_texts) flags }
 {}
 
 /// The items of two pieces of a text, joined, spell the entries of both, joined, where those of the

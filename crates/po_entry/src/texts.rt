@@ -1,5 +1,5 @@
 ghost use Rattle.std.specs.Prelude.{◌≡◌, MatchResult, All, IfSome, IsUtf8, IsTrue, ◌↔◌, option_to_list, option_copied};
-ghost use Rattle.po_entry.specs.EntryText.{entry_of};
+ghost use Rattle.po_entry.specs.EntryView.{entry_view};
 ghost use Rattle.po_entry.specs.TextEntry.{quoted_texts, previous_texts, texts, optional_text};
 ghost use Rattle.po_entry.specs.Bytes.{Lacks};
 ghost use Rattle.po_entry.specs.Validity.{TextsFault, HasTexts, IsClean};
@@ -17,7 +17,7 @@ const EOT: u8 = 4;
 /// Whether an entry can have these texts: `NotUtf8` where a text of its quoted strings is not
 /// UTF-8, then `ForbiddenByte` for a NUL in one, or for an EOT in its own context or msgid.
 pub fn check_texts(fields: &Fields) -> Result<(), PoFault>
-    ensures { MatchResult result (λ _. HasTexts (entry_of fields.now)) (λ fault. TextsFault (entry_of fields.now) fault) }
+    ensures { MatchResult result (λ _. HasTexts (entry_view fields.now)) (λ fault. TextsFault (entry_view fields.now) fault) }
 {
     if !are_utf8(fields) {
         return Err(PoFault::NotUtf8);
@@ -29,7 +29,7 @@ pub fn check_texts(fields: &Fields) -> Result<(), PoFault>
 }
 
 fn are_utf8(fields: &Fields) -> bool
-    ensures { IsTrue result ↔ All IsUtf8 (quoted_texts (entry_of fields.now)) }
+    ensures { IsTrue result ↔ All IsUtf8 (quoted_texts (entry_view fields.now)) }
 {
     previous_is_utf8(&fields.previous)
         & optional_is_utf8(fields.context.as_deref())
@@ -67,7 +67,7 @@ fn all_utf8(list: &[Vec<u8>]) -> bool
 }
 
 fn are_clean(fields: &Fields) -> bool
-    ensures { IsTrue result ↔ IsClean (entry_of fields.now) }
+    ensures { IsTrue result ↔ IsClean (entry_view fields.now) }
 {
     quoted_lack(NUL, fields)
         & optional_lacks(EOT, fields.context.as_deref())
@@ -75,7 +75,7 @@ fn are_clean(fields: &Fields) -> bool
 }
 
 fn quoted_lack(byte: u8, fields: &Fields) -> bool
-    ensures { IsTrue result ↔ All (Lacks byte) (quoted_texts (entry_of fields.now)) }
+    ensures { IsTrue result ↔ All (Lacks byte) (quoted_texts (entry_view fields.now)) }
 {
     previous_lacks(byte, &fields.previous)
         & optional_lacks(byte, fields.context.as_deref())

@@ -9,7 +9,7 @@ use Rattle.std.proofs.lemmas.List.{map-append}
 use Rattle.std.proofs.lemmas.List.Elements.{filter-append}
 use Rattle.std.proofs.lemmas.Bool.{false≢true}
 use Rattle.po_merge.specs.Groups.{with_new, first_ones}
-use Rattle.po_merge.specs.Grouping.{place}
+use Rattle.po_merge.specs.Grouping.{index}
 
 pub or_false : (b : Bool) → (b || false) ≡ b
 or_false true = refl
@@ -91,12 +91,12 @@ module _ {X : Type 0} (alike : X → X → Bool) (laws : IsEquivalence alike) wh
   more_of xs x f e = filter-append (λ y. alike y f) xs (x ∷ []) ∙ ap (λ (b : Bool). group_of alike xs f ++ cond b (x ∷ []) []) e
 
   -- one more element that is like a first one grows its group alone
-  pub grown : (xs : List X) (x : X) (fs : List X) (i : ℕ) (d : List X) → Apart alike fs → place (alike x) fs ≡ Some i
+  pub grown : (xs : List X) (x : X) (fs : List X) (i : ℕ) (d : List X) → Apart alike fs → index (alike x) fs ≡ Some i
       → map (group_of alike (xs ++ x ∷ [])) fs ≡ set (map (group_of alike xs) fs) i (get_or (map (group_of alike xs) fs) i d ++ x ∷ [])
   grown xs x [] i d h e = cc
-  grown xs x (f ∷ fs) i d h e = found (alike x f) refl (place (alike x) fs) refl e (λ j p. grown xs x fs j d h.1 p) where
-    found : (b : Bool) → alike x f ≡ b → (r : Option ℕ) → place (alike x) fs ≡ r → cond b (Some 0) (option_map suc r) ≡ Some i
-        → ((j : ℕ) → place (alike x) fs ≡ Some j → map (group_of alike (xs ++ x ∷ [])) fs ≡ set (map (group_of alike xs) fs) j (get_or (map (group_of alike xs) fs) j d ++ x ∷ []))
+  grown xs x (f ∷ fs) i d h e = found (alike x f) refl (index (alike x) fs) refl e (λ j p. grown xs x fs j d h.1 p) where
+    found : (b : Bool) → alike x f ≡ b → (r : Option ℕ) → index (alike x) fs ≡ r → cond b (Some 0) (option_map suc r) ≡ Some i
+        → ((j : ℕ) → index (alike x) fs ≡ Some j → map (group_of alike (xs ++ x ∷ [])) fs ≡ set (map (group_of alike xs) fs) j (get_or (map (group_of alike xs) fs) j d ++ x ∷ []))
         → map (group_of alike (xs ++ x ∷ [])) (f ∷ fs) ≡ set (map (group_of alike xs) (f ∷ fs)) i (get_or (map (group_of alike xs) (f ∷ fs)) i d ++ x ∷ [])
     found true a r p q more =
         let zero_is : 0 ≡ i = ap (λ (o : Option ℕ). unwrap_or o 0) q in
@@ -130,33 +130,33 @@ module _ {X : Type 0} (alike : X → X → Bool) (laws : IsEquivalence alike) wh
   firsts_more xs x h = fold_push (with_new alike) [] xs x ∙ ap (λ (b : Bool). if b then first_ones alike xs else first_ones alike xs ++ x ∷ []) h
 
 module _ {X : Type 0} (test : X → Bool) where
-  pub place_none : (xs : List X) → place test xs ≡ None → list_any test xs ≡ false
+  pub place_none : (xs : List X) → index test xs ≡ None → list_any test xs ≡ false
   place_none [] e = refl
-  place_none (x ∷ xs) e = found (test x) (place test xs) refl e (place_none xs) where
-    found : (b : Bool) (r : Option ℕ) → place test xs ≡ r → cond b (Some 0) (option_map suc r) ≡ None → (place test xs ≡ None → list_any test xs ≡ false) → (b || list_any test xs) ≡ false
+  place_none (x ∷ xs) e = found (test x) (index test xs) refl e (place_none xs) where
+    found : (b : Bool) (r : Option ℕ) → index test xs ≡ r → cond b (Some 0) (option_map suc r) ≡ None → (index test xs ≡ None → list_any test xs ≡ false) → (b || list_any test xs) ≡ false
     found true r p q more = cc
     found false None p q more = more p
     found false (Some i) p q more = cc
 
-  pub place_some : (xs : List X) (i : ℕ) → place test xs ≡ Some i → (list_any test xs ≡ true) × (i < length xs)
+  pub place_some : (xs : List X) (i : ℕ) → index test xs ≡ Some i → (list_any test xs ≡ true) × (i < length xs)
   place_some [] i e = cc
-  place_some (x ∷ xs) i e = found (test x) (place test xs) refl e (place_some xs) where
-    found : (b : Bool) (r : Option ℕ) → place test xs ≡ r → cond b (Some 0) (option_map suc r) ≡ Some i → ((j : ℕ) → place test xs ≡ Some j → (list_any test xs ≡ true) × (j < length xs))
+  place_some (x ∷ xs) i e = found (test x) (index test xs) refl e (place_some xs) where
+    found : (b : Bool) (r : Option ℕ) → index test xs ≡ r → cond b (Some 0) (option_map suc r) ≡ Some i → ((j : ℕ) → index test xs ≡ Some j → (list_any test xs ≡ true) × (j < length xs))
         → ((b || list_any test xs) ≡ true) × (i < length (x ∷ xs))
     found true r p q more = let zero_is : 0 ≡ i = ap (λ (o : Option ℕ). unwrap_or o 0) q in (refl, omega (arith, zero_is))
     found false None p q more = cc
     found false (Some j) p q more = let suc_is : suc j ≡ i = ap (λ (o : Option ℕ). unwrap_or o 0) q in let h = more j p in (h.0, omega (arith, suc_is, h.1))
 
-  pub place_push : (xs : List X) (x : X) → place test (xs ++ x ∷ []) ≡ option_or (place test xs) (cond (test x) (Some (length xs)) None)
+  pub place_push : (xs : List X) (x : X) → index test (xs ++ x ∷ []) ≡ option_or (index test xs) (cond (test x) (Some (length xs)) None)
   place_push [] x = refl
-  place_push (y ∷ ys) x = found (test y) (place test ys) (test x) (place_push ys x) where
-    found : (b : Bool) (r : Option ℕ) (c : Bool) → place test (ys ++ x ∷ []) ≡ option_or r (cond c (Some (length ys)) None)
-        → cond b (Some 0) (option_map suc (place test (ys ++ x ∷ []))) ≡ option_or (cond b (Some 0) (option_map suc r)) (cond c (Some (length (y ∷ ys))) None)
+  place_push (y ∷ ys) x = found (test y) (index test ys) (test x) (place_push ys x) where
+    found : (b : Bool) (r : Option ℕ) (c : Bool) → index test (ys ++ x ∷ []) ≡ option_or r (cond c (Some (length ys)) None)
+        → cond b (Some 0) (option_map suc (index test (ys ++ x ∷ []))) ≡ option_or (cond b (Some 0) (option_map suc r)) (cond c (Some (length (y ∷ ys))) None)
     found true r c e = refl
     found false (Some i) c e = ap (λ (o : Option ℕ). option_map suc o) e
     found false None true e = ap (λ (o : Option ℕ). option_map suc o) e
     found false None false e = ap (λ (o : Option ℕ). option_map suc o) e
 
-pub place_same : {X : Type 0} (p q : X → Bool) → ((x : X) → p x ≡ q x) → (xs : List X) → place p xs ≡ place q xs
+pub place_same : {X : Type 0} (p q : X → Bool) → ((x : X) → p x ≡ q x) → (xs : List X) → index p xs ≡ index q xs
 place_same p q h [] = refl
 place_same p q h (x ∷ xs) = ap₂ (λ (b : Bool) (r : Option ℕ). cond b (Some 0) (option_map suc r)) (h x) (place_same p q h xs)

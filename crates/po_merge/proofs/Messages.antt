@@ -9,7 +9,7 @@ use Rattle.std.specs.Borrow.{Bor}
 use Rattle.std.specs.BTreeMap.{is_at}
 use Rattle.po_merge.specs.Inputs.{NamedEntry}
 use Rattle.po_merge.specs.Groups.{same_message}
-use Rattle.po_merge.specs.Grouping.{Message, is_message_of, message_cmp, place}
+use Rattle.po_merge.specs.Grouping.{Message, is_message_of, message_cmp, index}
 use Rattle.po_merge.proofs.FirstOnes.{place_same, place_push}
 
 abbrev Parts : Type 0
@@ -42,7 +42,7 @@ pub record IsMessage (m : Message) (e : NamedEntry) : Type 0 where
   pub id : m.1.now ≡ e.entry.id
 
 -- asking for the entry's message is asking for the entry
-pub message_of_entry : (m : Message) (e : NamedEntry) → IsMessage m e → (fs : List NamedEntry) → place (is_message_of m) fs ≡ place (same_message e) fs
+pub message_of_entry : (m : Message) (e : NamedEntry) → IsMessage m e → (fs : List NamedEntry) → index (is_message_of m) fs ≡ index (same_message e) fs
 message_of_entry m e h fs = place_same (is_message_of m) (same_message e) (λ f. ap₂ (λ (c : Option (List ℕ)) (i : List ℕ). option_eq bytes_eq c f.entry.context && bytes_eq i f.entry.id) h.context h.id) fs
 
 tied : (m q : Message) (e : NamedEntry) → IsMessage m e → is_message_of q e ≡ is_at (message_cmp m) q
@@ -54,16 +54,16 @@ option_or_none : (r : Option ℕ) → option_or r None ≡ r
 option_or_none None = refl
 option_or_none (Some i) = refl
 
--- the places, with that of one more message behind the others
+-- the places, with that of one more message after the others
 pub places_more : (old new : Message → Option ℕ) (m : Message) (e : NamedEntry) (fs : List NamedEntry) → IsMessage m e
-    → ((q : Message) → old q ≡ place (is_message_of q) fs) → old m ≡ None
+    → ((q : Message) → old q ≡ index (is_message_of q) fs) → old m ≡ None
     → ((q : Message) → new q ≡ cond (is_at (message_cmp m) q) (Some (length fs)) (old q))
-    → (q : Message) → new q ≡ place (is_message_of q) (fs ++ e ∷ [])
-places_more old new m e fs h places absent updated q = updated q ∙ found (is_at (message_cmp m) q) refl ∙ sym (place_push (is_message_of q) fs e) where
-  found : (b : Bool) → is_at (message_cmp m) q ≡ b → cond b (Some (length fs)) (old q) ≡ option_or (place (is_message_of q) fs) (cond (is_message_of q e) (Some (length fs)) None)
+    → (q : Message) → new q ≡ index (is_message_of q) (fs ++ e ∷ [])
+places_more old new m e fs h indices absent updated q = updated q ∙ found (is_at (message_cmp m) q) refl ∙ sym (place_push (is_message_of q) fs e) where
+  found : (b : Bool) → is_at (message_cmp m) q ≡ b → cond b (Some (length fs)) (old q) ≡ option_or (index (is_message_of q) fs) (cond (is_message_of q e) (Some (length fs)) None)
   found true t =
       let same : same_parts (parts q) (parts m) ≡ true = same_parts_laws.symm (parts q) (parts m) ∙ messages_tie m q ∙ t in
-      let nowhere : place (is_message_of q) fs ≡ None = place_same (is_message_of q) (is_message_of m) (λ f. same_parts_laws.congr (parts q) (parts m) (f.entry.context, f.entry.id) same) fs ∙ sym (places m) ∙ absent in
+      let nowhere : index (is_message_of q) fs ≡ None = place_same (is_message_of q) (is_message_of m) (λ f. same_parts_laws.congr (parts q) (parts m) (f.entry.context, f.entry.id) same) fs ∙ sym (indices m) ∙ absent in
       sym (ap₂ (λ (r : Option ℕ) (c : Bool). option_or r (cond c (Some (length fs)) None)) nowhere (tied m q e h ∙ t))
   found false t =
-      places q ∙ sym (ap (λ (c : Bool). option_or (place (is_message_of q) fs) (cond c (Some (length fs)) None)) (tied m q e h ∙ t) ∙ option_or_none (place (is_message_of q) fs))
+      indices q ∙ sym (ap (λ (c : Bool). option_or (index (is_message_of q) fs) (cond c (Some (length fs)) None)) (tied m q e h ∙ t) ∙ option_or_none (index (is_message_of q) fs))

@@ -8,7 +8,7 @@ use Rattle.std.proofs.lemmas.Slice.Eq.{bytes_eq-Decides}
 use Rattle.std.proofs.lemmas.List.Folds.{list_any-append, list_any_at}
 use Rattle.std.proofs.lemmas.List.Kept.{AllPairs-cons}
 use Rattle.std.proofs.lemmas.List.Elements.{All-head, All-tail, All-filter, All-map, All-weaker, filter_agree, filter_passes}
-use Rattle.po_entry.specs.TextEntry.{TextEntry, message_of}
+use Rattle.po_entry.specs.TextEntry.{TextEntry, plain_entry}
 use Rattle.po_catalog.specs.Joined.{is_live}
 use Rattle.po_catalog.specs.Duplicate.{IsSameMessage, AllDiffer}
 use Rattle.po_merge.specs.declared.input.MergeOptions.{MergeOptions}
@@ -104,7 +104,7 @@ module _ (o : MergeOptions) (es : List NamedEntry) where
 
   module _ (context : Option (List ℕ)) (id : List ℕ) where
     abbrev wanted : NamedEntry
-    wanted = named [] (message_of context id None [])
+    wanted = named [] (plain_entry context id None [])
 
     abbrev kept : Bool
     kept = is_kept o (definitions (filter (λ e. is_of context id e.entry) es))

@@ -15,7 +15,7 @@ use Rattle.po_entry.specs.TextEntry.{texts}
 use Rattle.po_entry.specs.Equality.{texts_eq}
 use Rattle.po_merge.specs.Inputs.{NamedEntry}
 use Rattle.po_merge.specs.MergedEntry.{with_others}
-use Rattle.po_merge.specs.Sets.{HasTexts, HasForms}
+use Rattle.po_merge.specs.Sets.{HoldsTexts, HasForms}
 use Rattle.po_merge.proofs.FirstOnes.{or_false, or_true}
 
 cond_or : (a b c : Bool) → a ≡ b → cond a true c ≡ (c || b)
@@ -24,9 +24,9 @@ cond_or true false c e = cc
 cond_or false true c e = cc
 cond_or false false c e = sym (or_false c)
 
-pub one_text_more : (old new : BTreeSet (Bor (List ℕ))) (k : Bor (List ℕ)) (done : List (List ℕ)) → HasTexts old done
+pub one_text_more : (old new : BTreeSet (Bor (List ℕ))) (k : Bor (List ℕ)) (done : List (List ℕ)) → HoldsTexts old done
     → ((q : Bor (List ℕ)) → contains (λ x y. slice_cmp nat_cmp x.now y.now) new q ≡ cond (is_at (λ y. slice_cmp nat_cmp k.now y.now) q) true (contains (λ x y. slice_cmp nat_cmp x.now y.now) old q))
-    → HasTexts new (done ++ k.now ∷ [])
+    → HoldsTexts new (done ++ k.now ∷ [])
 one_text_more old new k done h updated q =
     updated q ∙ cond_or (is_at (λ y. slice_cmp nat_cmp k.now y.now) q) (bytes_eq q.now k.now) (contains (λ x y. slice_cmp nat_cmp x.now y.now) old q) (sym (texts_ties k.now q.now) ∙ nat_list_eq_equiv.symm k.now q.now)
     ∙ ap₂ (λ (s t : Bool). s || t) (h q) (sym (or_false (bytes_eq q.now k.now))) ∙ sym (list_any-append (bytes_eq q.now) done (k.now ∷ []))
@@ -53,7 +53,7 @@ one_definition_more old new k d found h forms updated q =
     (sym (forms_tie k.now q.now) ∙ texts_eq_symm (texts k.now) (texts q.now) ∙ ap (texts_eq (texts q.now)) forms)
     ∙ ap₂ (λ (s t : Bool). s || t) (h q) (sym (or_false tests)) ∙ sym (list_any-append (λ e. texts_eq (texts q.now) e.entry.forms) found (d ∷ []))
 
--- what both have, the one has whatever is left out of the other
+-- what both have, the one has whatever is omitted of the other
 has_others : (q : List ℕ) (done ts : List (List ℕ)) → (list_any (bytes_eq q) done || list_any (bytes_eq q) (filter (λ t. not (list_any (bytes_eq t) done)) ts)) ≡ (list_any (bytes_eq q) done || list_any (bytes_eq q) ts)
 has_others q done [] = refl
 has_others q done (t ∷ ts) = found (list_any (bytes_eq t) done) refl (bytes_eq q t) refl (list_any (bytes_eq q) done) refl (has_others q done ts) where
@@ -66,6 +66,6 @@ has_others q done (t ∷ ts) = found (list_any (bytes_eq t) done) refl (bytes_eq
   found false e true f false g more = ap (λ (x : Bool). x || list_any (bytes_eq q) (filter (λ u. not (list_any (bytes_eq u) done)) ts)) f
   found false e false f false g more = ap (λ (x : Bool). x || list_any (bytes_eq q) (filter (λ u. not (list_any (bytes_eq u) done)) ts)) f ∙ rw g at more
 
-pub same_texts_met : (seen : BTreeSet (Bor (List ℕ))) (done ts : List (List ℕ)) → HasTexts seen (done ++ ts) → HasTexts seen (with_others done ts)
+pub same_texts_met : (seen : BTreeSet (Bor (List ℕ))) (done ts : List (List ℕ)) → HoldsTexts seen (done ++ ts) → HoldsTexts seen (with_others done ts)
 same_texts_met seen done ts h q =
     h q ∙ list_any-append (bytes_eq q.now) done ts ∙ sym (has_others q.now done ts) ∙ sym (list_any-append (bytes_eq q.now) done (filter (λ t. not (list_any (bytes_eq t) done)) ts))

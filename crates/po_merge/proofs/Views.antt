@@ -24,7 +24,7 @@ or_cases : (a b : Bool) → (a || b) ≡ false → (a ≡ false) × (b ≡ false
 or_cases true b e = cc
 or_cases false b e = (refl, e)
 
--- the first definition that has the part, behind ones that have not
+-- the first definition that has the part, after ones that have not
 pub first_at : (p : TextEntry → Bool) (ds : List Definition) (i : ℕ) (d : Definition) → i < length ds → d ≡ get_or ds i d → list_any (λ x. p x.entry.now) (take i ds) ≡ false → p d.entry.now ≡ true
     → d.entry.now ≡ first_with p (named_entries ds)
 first_at p ds i d below at none has = ap (λ (r : Option NamedEntry). option_map_or (λ (x : NamedEntry). x.entry) r (first_of (named_entries ds))) (sym (here ds i below at none)) where

@@ -39,9 +39,9 @@ abbrev pub message_cmp : Message → Message → Ordering
 message_cmp a b = ordering_then (option_cmp (λ x y. slice_cmp nat_cmp x.now y.now) a.0 b.0) (slice_cmp nat_cmp a.1.now b.1.now)
 
 -- where the first element that passes the test stands
-abbrev pub place : {X : Type 0} → (X → Bool) → List X → Option ℕ
-place test [] = None
-place test (x ∷ xs) = cond (test x) (Some 0) (option_map suc (place test xs))
+abbrev pub index : {X : Type 0} → (X → Bool) → List X → Option ℕ
+index test [] = None
+index test (x ∷ xs) = cond (test x) (Some 0) (option_map suc (index test xs))
 
 abbrev pub group_entries : List (Vec Definition) → List (List NamedEntry)
 group_entries all = map (λ group. named_entries group.items) all
@@ -49,4 +49,4 @@ group_entries all = map (λ group. named_entries group.items) all
 -- these are the groups of the entries, and each message has the place of its group
 pub record IsGrouped (grouped : Grouped) (entries : List NamedEntry) : Type 0 where
   pub are_groups : group_entries grouped.groups.items ≡ groups entries
-  pub are_places : (m : Message) → get message_cmp grouped.places m ≡ place (is_message_of m) (first_ones same_message entries)
+  pub are_places : (m : Message) → get message_cmp grouped.indices m ≡ index (is_message_of m) (first_ones same_message entries)

@@ -5,7 +5,7 @@ use Rattle.std.specs.Option.{option_eq}
 use Rattle.po_catalog.specs.Joined.{is_live}
 use Rattle.po_merge.specs.Inputs.{NamedEntry}
 
--- the list with one more element behind it, unless the list has one that is alike
+-- the list with one more element after it, unless the list has one that is alike
 abbrev pub with_new : {X : Type 0} → (X → X → Bool) → List X → X → List X
 with_new alike xs x = if list_any (alike x) xs then xs else xs ++ x ∷ []
 

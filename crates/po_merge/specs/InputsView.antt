@@ -4,11 +4,11 @@ use Rattle.po_merge.specs.declared.input.Named.{Named}
 use Rattle.po_merge.specs.declared.definition.Definition.{Definition}
 use Rattle.po_merge.specs.Inputs.{Input, NamedEntry}
 
-abbrev pub input_of : Named → Input
-input_of input = record { name = input.name.now; entries = input.catalogue }
+abbrev pub input_view : Named → Input
+input_view input = record { name = input.name.now; entries = input.catalogue }
 
-abbrev pub inputs_of : List Named → List Input
-inputs_of inputs = map input_of inputs
+abbrev pub inputs_view : List Named → List Input
+inputs_view inputs = map input_view inputs
 
 abbrev pub named_entry : Definition → NamedEntry
 named_entry definition = record { name = definition.name.now; entry = definition.entry.now }

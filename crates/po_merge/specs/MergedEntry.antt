@@ -4,7 +4,7 @@ use Rattle.std.specs.List.{list_any, flat_map, range_with_len, ends_with}
 use Rattle.std.specs.Option.{option_map_or}
 use Rattle.po_syntax.specs.declared.item.CommentKind.{CommentKind}
 use Rattle.po_syntax.specs.declared.item.CommentKind.TheVariants.{Translator, Extracted, Reference, Flags}
-use Rattle.po_entry.specs.TextEntry.{TextEntry, message_of}
+use Rattle.po_entry.specs.TextEntry.{TextEntry, plain_entry}
 use Rattle.po_entry.specs.Equality.{texts_eq}
 use Rattle.po_catalog.specs.Statistics.{has_translation}
 use Rattle.po_merge.specs.declared.input.MergeOptions.{MergeOptions}
@@ -13,7 +13,7 @@ use Rattle.po_merge.specs.Groups.{first_ones}
 
 -- the first definition; an entry without forms where there is none
 abbrev pub first_of : List NamedEntry → TextEntry
-first_of [] = message_of None [] None []
+first_of [] = plain_entry None [] None []
 first_of (d ∷ ds) = d.entry
 
 -- the first definition that has something, or else the first
@@ -62,7 +62,7 @@ is_joined o ds = not o.use_first && nat_lt 1 (length (translations ds))
 abbrev pub ended : List ℕ → List ℕ
 ended form = if ends_with nat_eq form (10 ∷ []) then form else form ++ 10 ∷ []
 
--- the form, behind a line that names its input
+-- the form, after a line that names its input
 abbrev pub marked : List ℕ → List ℕ → List ℕ
 marked name form = codes "#-#-#-#-#  " ++ name ++ codes "  #-#-#-#-#\n" ++ ended form
 

@@ -11,8 +11,8 @@ use Rattle.po_entry.specs.Equality.{texts_eq}
 use Rattle.po_merge.specs.Inputs.{NamedEntry}
 
 -- the set has just these texts
-abbrev pub HasTexts : BTreeSet (Bor (List ℕ)) → List (List ℕ) → Type 0
-HasTexts seen done =
+abbrev pub HoldsTexts : BTreeSet (Bor (List ℕ)) → List (List ℕ) → Type 0
+HoldsTexts seen done =
     (q : Bor (List ℕ)) → contains (λ x y. slice_cmp nat_cmp x.now y.now) seen q ≡ list_any (bytes_eq q.now) done
 
 -- the set has just the form lists of these definitions

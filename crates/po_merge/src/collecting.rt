@@ -1,6 +1,6 @@
 ghost use Rattle.std.specs.Prelude.{◌≡◌, ◌<◌, ◌++◌, ℕ, List, length, IfOk, OnOk};
 ghost use Rattle.po_entry.specs.TextEntry.{texts};
-ghost use Rattle.po_merge.specs.Sets.{HasTexts};
+ghost use Rattle.po_merge.specs.Sets.{HoldsTexts};
 ghost use Rattle.po_merge.specs.InputsView.{named_entries};
 ghost use Rattle.po_merge.specs.MergedEntry.{collected, comment_of, texts_of, with_others};
 
@@ -31,7 +31,7 @@ fn push_others<'a>(
     seen: &BTreeSet<&'a [u8]>,
     others: &'a [Vec<u8>],
 ) -> Result<(), AllocError>
-    requires { HasTexts seen.now (texts done.old.items) }
+    requires { HoldsTexts seen.now (texts done.old.items) }
     ensures { OnOk result (texts done.new.items ≡ with_others (texts done.old.items) (texts others.now)) }
 {
     for text in others {
@@ -43,8 +43,8 @@ fn push_others<'a>(
 }
 
 /// Adds texts to a set of them.
-fn note_texts<'a>(seen: &mut BTreeSet<&'a [u8]>, others: &'a [Vec<u8>]) -> Result<(), AllocError>
-    ensures { (done : List (List ℕ)) → HasTexts seen.old done → OnOk result (HasTexts seen.new (done ++ texts others.now)) }
+fn comment_texts<'a>(seen: &mut BTreeSet<&'a [u8]>, others: &'a [Vec<u8>]) -> Result<(), AllocError>
+    ensures { (done : List (List ℕ)) → HoldsTexts seen.old done → OnOk result (HoldsTexts seen.new (done ++ texts others.now)) }
 {
     for text in others {
         seen.insert(text.as_slice())?;
@@ -65,7 +65,7 @@ fn collected(
     for definition in definitions {
         let others = texts_of(definition.entry, kind);
         push_others(alloc, &mut all, &seen, others)?;
-        note_texts(&mut seen, others)?;
+        comment_texts(&mut seen, others)?;
     }
     Ok(all)
 }

@@ -3,7 +3,7 @@ ghost use Rattle.po_entry.specs.Bytes.{Lacks};
 ghost use Rattle.po_merge.specs.Grouping.{IsGrouped, IsDefinition, group_entries};
 ghost use Rattle.po_merge.specs.Groups.{groups};
 ghost use Rattle.po_merge.specs.Inputs.{NamedEntry, named, all_entries};
-ghost use Rattle.po_merge.specs.InputsView.{inputs_of, named_entry};
+ghost use Rattle.po_merge.specs.InputsView.{inputs_view, named_entry};
 
 use crate::definition::Definition;
 use crate::input::Named;
@@ -18,7 +18,7 @@ type Message<'a> = (Option<&'a [u8]>, &'a [u8]);
 #[derive(Drop)]
 pub(crate) struct Groups<'a> {
     /// The place of each message among the groups.
-    places: BTreeMap<Message<'a>, usize>,
+    indices: BTreeMap<Message<'a>, usize>,
     /// The entries of each message, in the order in which the messages first appear.
     groups: Vec<Vec<Definition<'a>>>,
 }
@@ -29,7 +29,7 @@ impl<'a> Groups<'a> {
         ensures { IsGrouped result [] }
     {
         Groups {
-            places: BTreeMap::new(alloc),
+            indices: BTreeMap::new(alloc),
             groups: Vec::new(alloc),
         }
     }
@@ -40,13 +40,13 @@ impl<'a> Groups<'a> {
         ensures { (entries : List NamedEntry) → IsGrouped self.old entries → OnOk result (IsGrouped self.new (entries ++ named_entry definition.entry ∷ [])) }
     {
         let message = (definition.entry.context(), definition.entry.id());
-        if let Some(place) = self.places.get(&message).copied() {
-            self.groups[place].push(definition)?;
+        if let Some(index) = self.indices.get(&message).copied() {
+            self.groups[index].push(definition)?;
             return Ok(());
         }
         let mut group = Vec::new(alloc);
         group.push(definition)?;
-        self.places.insert(message, self.groups.len())?;
+        self.indices.insert(message, self.groups.len())?;
         self.groups.push(group)?;
         Ok(())
     }
@@ -75,8 +75,8 @@ pub(crate) fn grouped<'a>(
     inputs: &'a [Named<'a>],
 ) -> Result<Vec<Vec<Definition<'a>>>, AllocError>
     requires { All (λ input. Lacks 0 input.name.now) inputs.now }
-    ensures groups { IfOk result (λ all. group_entries all.items ≡ groups (all_entries (inputs_of inputs.now))) }
-    ensures valid { OnOk result (All IsDefinition (all_entries (inputs_of inputs.now))) }
+    ensures groups { IfOk result (λ all. group_entries all.items ≡ groups (all_entries (inputs_view inputs.now))) }
+    ensures valid { OnOk result (All IsDefinition (all_entries (inputs_view inputs.now))) }
 {
     let mut groups = Groups::new(alloc);
     for input in inputs {

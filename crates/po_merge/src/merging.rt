@@ -3,7 +3,7 @@ ghost use Rattle.po_entry.specs.Bytes.{Lacks};
 ghost use Rattle.po_entry.specs.TextEntry.{texts};
 ghost use Rattle.po_entry.specs.Validity.{out_of_memory};
 ghost use Rattle.po_merge.specs.Grouping.{IsDefinition, IsGroup, group_entries};
-ghost use Rattle.po_merge.specs.InputsView.{inputs_of, named_entries};
+ghost use Rattle.po_merge.specs.InputsView.{inputs_view, named_entries};
 ghost use Rattle.po_merge.specs.MergedEntry.{merged_entry, taken};
 ghost use Rattle.po_merge.specs.Groups.{definitions};
 ghost use Rattle.po_merge.specs.Merged.{IsMergeFault, merged, merged_messages};
@@ -181,8 +181,8 @@ pub fn merge<'a>(
     options: &MergeOptions,
 ) -> Result<Catalogue, PoError>
     requires { All (λ input. Lacks 0 input.name.now) inputs.now }
-    ensures merged { IfOk result (λ catalogue. catalogue ≡ merged options.now (inputs_of inputs.now)) }
-    ensures fault { IfErr result (IsMergeFault (merged options.now (inputs_of inputs.now))) }
+    ensures merged { IfOk result (λ catalogue. catalogue ≡ merged options.now (inputs_view inputs.now)) }
+    ensures fault { IfErr result (IsMergeFault (merged options.now (inputs_view inputs.now))) }
 {
     let groups = grouped(alloc, inputs)?;
     merge_groups(alloc, &groups, options)

@@ -11,13 +11,13 @@ use Rattle.po_reader.specs.Stops as stop
 use Rattle.po_reader.specs.Viable.{IsViable}
 use Rattle.po_reader.proofs.OneReading.{spelt_or_stop}
 use Rattle.po_reader.proofs.Looks.{FormsEnd, forms_end, head_look, reads_look, body_starts, stop_starts}
-use Rattle.po_reader.proofs.Cuts.{followed, extended, remark_cut, previous_cut, strings_cut, body_cut, head_cut}
+use Rattle.po_reader.proofs.Cuts.{followed, extended, comment_cut, previous_cut, strings_cut, body_cut, head_cut}
 use Rattle.po_reader.proofs.Blocked.{Blocked, Context, AtHead, shorter, as_long, lifted, deeper}
 use Rattle.po_reader.proofs.BlockedParts.{AreBody, empty_message, message_empty, strings_blocked, body_blocked}
 
 -- an entry, from within its head on
 abbrev IsEntry : ℕ → List TextItem → Type 0
-IsEntry above items = (notes : List head.Note) × (previous : List head.PreviousText) × (own : List TextItem) × head.IsHead above items notes previous own × AreBody own
+IsEntry above items = (comment_texts : List head.CommentText) × (previous : List head.PreviousText) × (own : List TextItem) × head.IsHead above items comment_texts previous own × AreBody own
 
 abbrev AreEntries : List TextItem → Type 0
 AreEntries items = (entries : List TextEntry) × Reads items entries
@@ -26,37 +26,37 @@ entry_empty : (above : ℕ) → IsEntry above (empty_message false)
 entry_empty above = ([], [], empty_message false, head.over refl, message_empty false)
 
 head_blocked : {end : ℕ} {whole : List TextItem} {above : ℕ} {items : List TextItem} {fault : PoFault} {line : ℕ} → Context whole (stop.HeadStops end above) (IsEntry above) items → stop.HeadStops end above items fault line → Blocked end whole fault line
-head_blocked {end} context (stop.refused {above = above} {items = items} e place) = record {
-  front = context.own;
+head_blocked {end} context (stop.refused {above = above} {items = items} e index) = record {
+  prefix = context.own;
   tail = items;
   point = AtHead above;
   split = context.split;
   refused = e;
-  placed = place;
+  placed = index;
   unread = λ others other alike refused. context.unread others other (stop.line_at end others) alike (stop.refused refused refl);
   viable = λ item accepted.
-      let behind = empty_message false in
+      let after = empty_message false in
       let own = entry_empty above in
-      let complete = context.viable (item ∷ behind) (_, own.1, own.2, head.remark (accepted.2 behind) own.3, own.4) in
-      shorter (context.own ++ item ∷ []) behind (subst IsViable (sym (append_assoc context.own (item ∷ []) behind)) complete);
+      let complete = context.viable (item ∷ after) (_, own.1, own.2, head.head_comment (accepted.2 after) own.3, own.4) in
+      shorter (context.own ++ item ∷ []) after (subst IsViable (sym (append_assoc context.own (item ∷ []) after)) complete);
 }
 head_blocked context (stop.in_previous {above = above} {keyword = keyword} {marks = marks} {items = items} {text = text} e s) =
     strings_blocked
     (deeper context (previous_cut above items text keyword marks e) (λ others fault line alike stopped. (tt, λ start p. stop.in_previous p stopped))
     (λ others part.
-    let behind = empty_message false in
+    let after = empty_message false in
     let own = entry_empty (head.rank keyword) in
-    (others ++ behind, (behind, refl), tt, λ start p. (own.0, _, own.2, head.previous p (extended (strings_cut part.1) behind refl) own.3, own.4))))
+    (others ++ after, (after, refl), tt, λ start p. (own.0, _, own.2, head.previous p (extended (strings_cut part.1) after refl) own.3, own.4))))
     s
-head_blocked context (stop.behind_remark {above = above} {kind = kind} {text = text} {items = items} {behind = behind} e s) =
+head_blocked context (stop.after_comment {above = above} {kind = kind} {text = text} {items = items} {after = after} e s) =
     head_blocked
-    (deeper context (remark_cut above items behind kind text e) (λ others fault line alike stopped. (tt, λ start p. stop.behind_remark p stopped))
-    (λ others part. (others, as_long others, tt, λ start p. (_, part.1, part.2, head.remark p part.3, part.4))))
+    (deeper context (comment_cut above items after kind text e) (λ others fault line alike stopped. (tt, λ start p. stop.after_comment p stopped))
+    (λ others part. (others, as_long others, tt, λ start p. (_, part.1, part.2, head.head_comment p part.3, part.4))))
     s
-head_blocked context (stop.behind_previous {above = above} {keyword = keyword} {marks = marks} {items = items} {text = text} e u s) =
+head_blocked context (stop.after_previous {above = above} {keyword = keyword} {marks = marks} {items = items} {text = text} e u s) =
     let cut = followed (previous_cut above items text keyword marks e) (strings_cut u) (λ x y q. tt) in
     head_blocked
-    (deeper context cut (λ others fault line alike stopped. (sym alike.0 ∙ cut.look, λ start p. stop.behind_previous p.1 p.2 stopped))
+    (deeper context cut (λ others fault line alike stopped. (sym alike.0 ∙ cut.look, λ start p. stop.after_previous p.1 p.2 stopped))
     (λ others part. (others, as_long others, (head_look part.3).0, λ start p. (part.0, _, part.2, head.previous p.1 p.2 part.3, part.4))))
     s
 

@@ -7,11 +7,11 @@ use Rattle.po_syntax.specs.declared.item.Keyword.{Keyword}
 use Rattle.po_syntax.specs.declared.item.Marks.{Marks}
 use Rattle.po_syntax.specs.TextItem.{TextItem}
 use Rattle.po_entry.specs.Strings as string
-use Rattle.po_entry.specs.Words as word
+use Rattle.po_entry.specs.Keywords as word
 use Rattle.po_entry.specs.Body as body
 use Rattle.po_entry.specs.Head as head
-use Rattle.po_reader.proofs.Steps.{string_item, word_item, start_item, StartDoes, head_item, HeadDoes}
-use Rattle.po_reader.proofs.Looks.{Starts, FormsEnd, strings_look, worded_look, forms_look, translation_look, head_look}
+use Rattle.po_reader.proofs.Steps.{string_item, keyword_item, start_item, StartDoes, head_item, HeadDoes}
+use Rattle.po_reader.proofs.Looks.{Starts, FormsEnd, strings_look, keyword_text_look, forms_look, translation_look, head_look}
 
 -- From these items to this rest P is made by the items before the rest, and by what Q asks of the rest.
 pub record Cut (P : List TextItem → List TextItem → Type 0) (Q : List TextItem → Type 0) (items rest : List TextItem) : Type 0 where
@@ -26,7 +26,7 @@ Anything items = Unit {0}
 abbrev pub Then : (List TextItem → List TextItem → Type 0) → (List TextItem → List TextItem → Type 0) → List TextItem → List TextItem → Type 0
 Then P R items rest = (middle : List TextItem) × P items middle × R middle rest
 
-pub joined : {P R S : List TextItem → List TextItem → Type 0} {Q O : List TextItem → Type 0} {items behind rest : List TextItem} → Cut P Q items behind → Cut R O behind rest
+pub joined : {P R S : List TextItem → List TextItem → Type 0} {Q O : List TextItem → Type 0} {items following rest : List TextItem} → Cut P Q items following → Cut R O following rest
     → ((middle other : List TextItem) → R middle other → Q middle) → ((start middle other : List TextItem) → P start middle → R middle other → S start other) → Cut S O items rest
 joined {P} {R} {S} {rest = rest} first second looks makes = record {
   own = first.own ++ second.own;
@@ -37,7 +37,7 @@ joined {P} {R} {S} {rest = rest} first second looks makes = record {
       subst (λ (x : List TextItem). S x other) (sym (append_assoc first.own second.own other)) (makes (first.own ++ (second.own ++ other)) (second.own ++ other) other (first.again (second.own ++ other) (looks (second.own ++ other) other here)) here);
 }
 
-pub followed : {P R : List TextItem → List TextItem → Type 0} {Q O : List TextItem → Type 0} {items behind rest : List TextItem} → Cut P Q items behind → Cut R O behind rest
+pub followed : {P R : List TextItem → List TextItem → Type 0} {Q O : List TextItem → Type 0} {items following rest : List TextItem} → Cut P Q items following → Cut R O following rest
     → ((middle other : List TextItem) → R middle other → Q middle) → Cut (Then P R) O items rest
 followed first second looks = joined first second looks (λ start middle other p r. (middle, p, r))
 
@@ -56,10 +56,10 @@ string_cut marks (item ∷ items) rest bytes e = elim (string_item marks item) [
   | inr does ↦ let step : string.Refuse does.0 ≡ string.Take bytes rest = sym (does.1 items) ∙ e in absurd cc
 ]
 
-pub word_cut : (wanted : word.Wanted) (obsolete : Bool) (items rest : List TextItem) (keyword : Keyword) (line : ℕ) → word.next_word wanted obsolete items ≡ word.Take keyword line rest
-    → Cut (λ x y. word.next_word wanted obsolete x ≡ word.Take keyword line y) Anything items rest
-word_cut wanted obsolete [] rest keyword line e = absurd cc
-word_cut wanted obsolete (item ∷ items) rest keyword line e = elim (word_item wanted obsolete item) [
+pub keyword_cut : (wanted : word.Wanted) (obsolete : Bool) (items rest : List TextItem) (keyword : Keyword) (line : ℕ) → word.next_keyword wanted obsolete items ≡ word.Take keyword line rest
+    → Cut (λ x y. word.next_keyword wanted obsolete x ≡ word.Take keyword line y) Anything items rest
+keyword_cut wanted obsolete [] rest keyword line e = absurd cc
+keyword_cut wanted obsolete (item ∷ items) rest keyword line e = elim (keyword_item wanted obsolete item) [
   | inl does ↦
       let step : word.Take does.0 does.1 items ≡ word.Take keyword line rest = sym (does.2 items) ∙ e in
       let same : items ≡ rest = cc in
@@ -94,21 +94,21 @@ id_cut obsolete line (item ∷ items) rest e = elim (start_item item) [
   | StartDoes.starts_nothing does ↦ let step : body.NoStart ≡ body.WithoutContext obsolete line rest = sym (does items) ∙ e in absurd cc
 ]
 
-pub remark_cut : (above : ℕ) (items rest : List TextItem) (kind : CommentKind) (text : List ℕ) → head.head_step above items ≡ head.Remark kind text rest → Cut (λ x y. head.head_step above x ≡ head.Remark kind text y) Anything items rest
-remark_cut above [] rest kind text e = absurd (nothing (above == 0) e) where
-  nothing : (t : Bool) → (if t then head.Over else head.Refuse BadOrder) ≡ head.Remark kind text rest → ⊥
+pub comment_cut : (above : ℕ) (items rest : List TextItem) (kind : CommentKind) (text : List ℕ) → head.head_step above items ≡ head.HeadComment kind text rest → Cut (λ x y. head.head_step above x ≡ head.HeadComment kind text y) Anything items rest
+comment_cut above [] rest kind text e = absurd (nothing (above == 0) e) where
+  nothing : (t : Bool) → (if t then head.Over else head.Refuse BadOrder) ≡ head.HeadComment kind text rest → ⊥
   nothing true q = cc
   nothing false q = cc
-remark_cut above (item ∷ items) rest kind text e = elim (head_item above item) [
-  | HeadDoes.remarks sort words does ↦
-      let step : head.Remark sort words items ≡ head.Remark kind text rest = sym (does items) ∙ e in
+comment_cut above (item ∷ items) rest kind text e = elim (head_item above item) [
+  | HeadDoes.head_comments sort content does ↦
+      let step : head.HeadComment sort content items ≡ head.HeadComment kind text rest = sym (does items) ∙ e in
       let same : items ≡ rest = cc in
       let kinds : sort ≡ kind = cc in
-      let texts : words ≡ text = cc in
-      record { own = item ∷ []; split = ap (λ (x : List TextItem). item ∷ x) same; look = tt; again = λ other q. does other ∙ ap₂ (λ (k : CommentKind) (t : List ℕ). head.Remark k t other) kinds texts }
-  | HeadDoes.texts keyword marks does ↦ let step : head.Previous keyword marks items ≡ head.Remark kind text rest = sym (does items) ∙ e in absurd cc
-  | HeadDoes.ends does ↦ let step : head.Over ≡ head.Remark kind text rest = sym (does items) ∙ e in absurd cc
-  | HeadDoes.refuses fault does ↦ let step : head.Refuse fault ≡ head.Remark kind text rest = sym (does items) ∙ e in absurd cc
+      let texts : content ≡ text = cc in
+      record { own = item ∷ []; split = ap (λ (x : List TextItem). item ∷ x) same; look = tt; again = λ other q. does other ∙ ap₂ (λ (k : CommentKind) (t : List ℕ). head.HeadComment k t other) kinds texts }
+  | HeadDoes.texts keyword marks does ↦ let step : head.Previous keyword marks items ≡ head.HeadComment kind text rest = sym (does items) ∙ e in absurd cc
+  | HeadDoes.ends does ↦ let step : head.Over ≡ head.HeadComment kind text rest = sym (does items) ∙ e in absurd cc
+  | HeadDoes.refuses fault does ↦ let step : head.Refuse fault ≡ head.HeadComment kind text rest = sym (does items) ∙ e in absurd cc
 ]
 
 pub previous_cut : (above : ℕ) (items rest : List TextItem) (keyword : Keyword) (marks : Marks) → head.head_step above items ≡ head.Previous keyword marks rest
@@ -118,7 +118,7 @@ previous_cut above [] rest keyword marks e = absurd (nothing (above == 0) e) whe
   nothing true q = cc
   nothing false q = cc
 previous_cut above (item ∷ items) rest keyword marks e = elim (head_item above item) [
-  | HeadDoes.remarks sort words does ↦ let step : head.Remark sort words items ≡ head.Previous keyword marks rest = sym (does items) ∙ e in absurd cc
+  | HeadDoes.head_comments sort content does ↦ let step : head.HeadComment sort content items ≡ head.Previous keyword marks rest = sym (does items) ∙ e in absurd cc
   | HeadDoes.texts word found does ↦
       let step : head.Previous word found items ≡ head.Previous keyword marks rest = sym (does items) ∙ e in
       let same : items ≡ rest = cc in
@@ -133,39 +133,39 @@ pub strings_cut : {marks : Marks} {items rest : List TextItem} {a : List ℕ} �
 strings_cut {marks} (string.last {items = items} {rest = rest} {bytes = bytes} e f) =
     let step = string_cut marks items rest bytes e in
     record { own = step.own; split = step.split; look = f; again = λ other q. string.last (step.again other tt) q }
-strings_cut {marks} (string.more {items = items} {behind = behind} {bytes = bytes} e f s) =
-    joined (string_cut marks items behind bytes e) (strings_cut s) (λ x y q. tt) (λ x y z p q. string.more p (strings_look q) q)
+strings_cut {marks} (string.more {items = items} {following = following} {bytes = bytes} e f s) =
+    joined (string_cut marks items following bytes e) (strings_cut s) (λ x y q. tt) (λ x y z p q. string.more p (strings_look q) q)
 
-pub worded_cut : {wanted : word.Wanted} {obsolete : Bool} {items rest : List TextItem} {k : Keyword} {l : ℕ} {a : List ℕ} → word.IsWorded wanted obsolete items k l a rest
-    → Cut (λ x y. word.IsWorded wanted obsolete x k l a y) (λ y. string.begins_string y ≡ false) items rest
-worded_cut {wanted} {obsolete} (word.worded {items = items} {text = text} {keyword = keyword} {line = line} e s) =
-    joined (word_cut wanted obsolete items text keyword line e) (strings_cut s) (λ x y q. tt) (λ x y z p q. word.worded p q)
+pub keyword_text_cut : {wanted : word.Wanted} {obsolete : Bool} {items rest : List TextItem} {k : Keyword} {l : ℕ} {a : List ℕ} → word.IsKeywordText wanted obsolete items k l a rest
+    → Cut (λ x y. word.IsKeywordText wanted obsolete x k l a y) (λ y. string.begins_string y ≡ false) items rest
+keyword_text_cut {wanted} {obsolete} (word.keyword_text {items = items} {text = text} {keyword = keyword} {line = line} e s) =
+    joined (keyword_cut wanted obsolete items text keyword line e) (strings_cut s) (λ x y q. tt) (λ x y z p q. word.keyword_text p q)
 
 pub forms_cut : {obsolete : Bool} {index : ℕ} {items rest : List TextItem} {a : List (List ℕ)} → body.IsForms obsolete index items a rest
     → Cut (λ x y. body.IsForms obsolete index x a y) (λ y. (string.begins_string y ≡ false) × (body.begins_form y ≡ false)) items rest
 forms_cut (body.last w f) =
-    let cut = worded_cut w in
+    let cut = keyword_text_cut w in
     record { own = cut.own; split = cut.split; look = (cut.look, f); again = λ other q. body.last (cut.again other q.0) q.1 }
-forms_cut (body.more w f s) = joined (worded_cut w) (forms_cut s) (λ x y q. (forms_look q).0) (λ x y z p q. body.more p (forms_look q).1 q)
+forms_cut (body.more w f s) = joined (keyword_text_cut w) (forms_cut s) (λ x y q. (forms_look q).0) (λ x y z p q. body.more p (forms_look q).1 q)
 
 pub translation_cut : {obsolete : Bool} {items rest : List TextItem} {plural : Option (List ℕ)} {a : List (List ℕ)} → body.IsTranslation obsolete items plural a rest
     → Cut (λ x y. body.IsTranslation obsolete x plural a y) (λ y. (string.begins_string y ≡ false) × FormsEnd plural (body.begins_form y)) items rest
 translation_cut (body.single w) =
-    let cut = worded_cut w in
+    let cut = keyword_text_cut w in
     record { own = cut.own; split = cut.split; look = (cut.look, tt); again = λ other q. body.single (cut.again other q.0) }
-translation_cut (body.plural w f) = joined (worded_cut w) (forms_cut f) (λ x y q. (forms_look q).0) (λ x y z p q. body.plural p q)
+translation_cut (body.plural w f) = joined (keyword_text_cut w) (forms_cut f) (λ x y q. (forms_look q).0) (λ x y z p q. body.plural p q)
 
 pub body_cut : {items rest : List TextItem} {a : body.Body} → body.IsBody items a rest → Cut (λ x y. body.IsBody x a y) (λ y. (string.begins_string y ≡ false) × FormsEnd a.plural (body.begins_form y)) items rest
 body_cut (body.without_context {obsolete = obsolete} {line = line} {items = items} {text = text} e s t) =
     joined (id_cut obsolete line items text e) (followed (strings_cut s) (translation_cut t) (λ x y q. translation_look q)) (λ x y q. tt) (λ x y z p q. body.without_context p q.1 q.2)
 body_cut (body.with_context {obsolete = obsolete} {items = items} {text = text} e s w t) =
-    joined (context_cut obsolete items text e) (followed (strings_cut s) (followed (worded_cut w) (translation_cut t) (λ x y q. translation_look q)) (λ x y q. worded_look q.1)) (λ x y q. tt)
+    joined (context_cut obsolete items text e) (followed (strings_cut s) (followed (keyword_text_cut w) (translation_cut t) (λ x y q. translation_look q)) (λ x y q. keyword_text_look q.1)) (λ x y q. tt)
     (λ x y z p q. body.with_context p q.1 q.2.1 q.2.2)
 
-pub head_cut : {above : ℕ} {items rest : List TextItem} {notes : List head.Note} {previous : List head.PreviousText} → head.IsHead above items notes previous rest → Starts rest
-    → Cut (λ x y. head.IsHead above x notes previous y) Starts items rest
+pub head_cut : {above : ℕ} {items rest : List TextItem} {comment_texts : List head.CommentText} {previous : List head.PreviousText} → head.IsHead above items comment_texts previous rest → Starts rest
+    → Cut (λ x y. head.IsHead above x comment_texts previous y) Starts items rest
 head_cut (head.over {above = above} e) starts = record { own = []; split = refl; look = starts; again = λ other q. head.over (q above) }
-head_cut (head.remark {above = above} {kind = kind} {text = text} {items = items} {behind = behind} e h) starts =
-    joined (remark_cut above items behind kind text e) (head_cut h starts) (λ x y q. tt) (λ x y z p q. head.remark p q)
+head_cut (head.head_comment {above = above} {kind = kind} {text = text} {items = items} {following = following} e h) starts =
+    joined (comment_cut above items following kind text e) (head_cut h starts) (λ x y q. tt) (λ x y z p q. head.head_comment p q)
 head_cut (head.previous {above = above} {keyword = keyword} {marks = marks} {items = items} {text = text} e s h) starts =
     joined (previous_cut above items text keyword marks e) (followed (strings_cut s) (head_cut h starts) (λ x y q. (head_look q).0)) (λ x y q. tt) (λ x y z p q. head.previous p q.1 q.2)

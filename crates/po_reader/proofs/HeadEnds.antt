@@ -9,13 +9,13 @@ use Rattle.po_syntax.specs.declared.item.Keyword.TheVariants.{MsgCtxt, MsgId, Ms
 use Rattle.po_syntax.specs.declared.item.Marks.{Marks}
 use Rattle.po_syntax.specs.TextItem.{TextItem, Comment, Word, Str}
 use Rattle.po_entry.specs.Body.{body_start, NoStart}
-use Rattle.po_entry.specs.Head.{Note, PreviousText, Remark, Previous, Over, Refuse, head_step, rank, begins_body, IsHead, over, remark, previous}
+use Rattle.po_entry.specs.Head.{CommentText, PreviousText, HeadComment, Previous, Over, Refuse, head_step, rank, begins_body, IsHead, over, head_comment, previous}
 use Rattle.po_entry.specs.Spelling.{AreComments}
 
 -- a head ends where nothing more of it stands
-pub head_over : {above : ℕ} {items rest : List TextItem} {notes : List Note} {others : List PreviousText} → IsHead above items notes others rest → (behind : ℕ) × (head_step behind rest ≡ Over)
+pub head_over : {above : ℕ} {items rest : List TextItem} {comment_texts : List CommentText} {others : List PreviousText} → IsHead above items comment_texts others rest → (after : ℕ) × (head_step after rest ≡ Over)
 head_over (over {above = above} step) = (above, step)
-head_over (remark step h) = head_over h
+head_over (head_comment step h) = head_over h
 head_over (previous step strings h) = head_over h
 
 -- there the items end, or an entry's own lines begin
@@ -37,15 +37,15 @@ over_cases above (Word keyword marks line ∷ rest) e = inr (own keyword marks.p
   own MsgStr false q = cc
   own (MsgStrAt index) false q = cc
 
-behind_remark : (above : ℕ) (items behind : List TextItem) (kind : CommentKind) (text : List ℕ) → head_step above items ≡ Remark kind text behind → AreComments behind → AreComments items
-behind_remark above [] behind kind text e h = empty (above == 0) e where
-  empty : (b : Bool) → (if b then Over else Refuse BadOrder) ≡ Remark kind text behind → AreComments []
+after_comment : (above : ℕ) (items after : List TextItem) (kind : CommentKind) (text : List ℕ) → head_step above items ≡ HeadComment kind text after → AreComments after → AreComments items
+after_comment above [] after kind text e h = empty (above == 0) e where
+  empty : (b : Bool) → (if b then Over else Refuse BadOrder) ≡ HeadComment kind text after → AreComments []
   empty true q = tt
   empty false q = tt
-behind_remark above (Comment k t l ∷ rest) behind kind text e h = let same : rest ≡ behind = cc in (tt, rw same h)
-behind_remark above (Str b m l ∷ rest) behind kind text e h = cc
-behind_remark above (Word keyword marks line ∷ rest) behind kind text e h = absurd (word marks.previous (nat_lt above (rank keyword)) (begins_body keyword) e) where
-  word : (p r b : Bool) → (if p then (if r then Previous keyword marks rest else Refuse BadOrder) else if b then Over else Refuse BadOrder) ≡ Remark kind text behind → ⊥
+after_comment above (Comment k t l ∷ rest) after kind text e h = let same : rest ≡ after = cc in (tt, rw same h)
+after_comment above (Str b m l ∷ rest) after kind text e h = cc
+after_comment above (Word keyword marks line ∷ rest) after kind text e h = absurd (word marks.previous (nat_lt above (rank keyword)) (begins_body keyword) e) where
+  word : (p r b : Bool) → (if p then (if r then Previous keyword marks rest else Refuse BadOrder) else if b then Over else Refuse BadOrder) ≡ HeadComment kind text after → ⊥
   word true true b q = cc
   word true false b q = cc
   word false r true q = cc
@@ -71,12 +71,12 @@ previous_ranked above (Word found at line ∷ rest) text keyword marks e z = wor
   word false r t false q = cc
 
 -- a head that runs to the end of the items is comments alone
-pub head_at_end : {above : ℕ} {items rest : List TextItem} {notes : List Note} {others : List PreviousText} → IsHead above items notes others rest → rest ≡ [] → (above ≡ 0) × AreComments items
+pub head_at_end : {above : ℕ} {items rest : List TextItem} {comment_texts : List CommentText} {others : List PreviousText} → IsHead above items comment_texts others rest → rest ≡ [] → (above ≡ 0) × AreComments items
 head_at_end (over {above = above} {items = items} step) e = ended (rw e at step) where
   ended : head_step above [] ≡ Over → (above ≡ 0) × AreComments items
   ended q = zero (above == 0) refl q where
     zero : (b : Bool) → (above == 0) ≡ b → (if b then Over else Refuse BadOrder) ≡ Over → (above ≡ 0) × AreComments items
     zero true t p = (eqb-true _ _ t, rw e tt)
     zero false t p = cc
-head_at_end (remark {above = above} {kind = kind} {text = text} {items = items} {behind = behind} step h) e = let ends = head_at_end h e in (ends.0, behind_remark above items behind kind text step ends.1)
+head_at_end (head_comment {above = above} {kind = kind} {text = text} {items = items} {after = after} step h) e = let ends = head_at_end h e in (ends.0, after_comment above items after kind text step ends.1)
 head_at_end (previous {above = above} {keyword = keyword} {marks = marks} {items = items} {text = text} step strings h) e = absurd (previous_ranked above items text keyword marks step (head_at_end h e).0)

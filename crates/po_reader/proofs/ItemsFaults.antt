@@ -8,15 +8,15 @@ use Rattle.po_reader.specs.Viable.{IsViable, Misfit, index, mixed, order, ItemsF
 use Rattle.po_reader.proofs.Blocked.{shorter}
 
 -- what reads is viable up to each of its items
-viable_up_to : (front : List TextItem) (item : TextItem) (rest : List TextItem) → IsViable (front ++ item ∷ rest) → IsViable (front ++ item ∷ [])
-viable_up_to front item rest viable = shorter (front ++ item ∷ []) rest (subst IsViable (sym (append_assoc front (item ∷ []) rest)) viable)
+viable_up_to : (prefix : List TextItem) (item : TextItem) (rest : List TextItem) → IsViable (prefix ++ item ∷ rest) → IsViable (prefix ++ item ∷ [])
+viable_up_to prefix item rest viable = shorter (prefix ++ item ∷ []) rest (subst IsViable (sym (append_assoc prefix (item ∷ []) rest)) viable)
 
 pub fault_unread : {items : List TextItem} {fault : PoFault} {line : ℕ} {entries : List TextEntry} → ItemsFault items fault line → SpellsEntries items entries → ⊥
-fault_unread {entries = entries} (at {front = front} {item = item} rest viable never misfit) reads =
-    never (rest, entries, subst (λ (i : List TextItem). SpellsEntries i entries) (sym (append_assoc front (item ∷ []) rest)) reads)
+fault_unread {entries = entries} (at {prefix = prefix} {item = item} rest viable never misfit) reads =
+    never (rest, entries, subst (λ (i : List TextItem). SpellsEntries i entries) (sym (append_assoc prefix (item ∷ []) rest)) reads)
 fault_unread {entries = entries} (at_end viable none) reads = none entries reads
 
-misfit_once : {front : List TextItem} {item : TextItem} {f g : PoFault} → Misfit front item f → Misfit front item g → f ≡ g
+misfit_once : {prefix : List TextItem} {item : TextItem} {f g : PoFault} → Misfit prefix item f → Misfit prefix item g → f ≡ g
 misfit_once (index w) (index v) = refl
 misfit_once (index w) (mixed n m) = absurd (n w)
 misfit_once (index w) (order n o) = absurd (n w)
@@ -27,16 +27,16 @@ misfit_once (order n o) (index w) = absurd (n w)
 misfit_once (order n o) (mixed p m) = absurd (o m)
 misfit_once (order n o) (order p q) = refl
 
--- of two fronts of a list they are one, or one goes on behind the other's item
-parted : (front other : List TextItem) (item next : TextItem) (rest behind : List TextItem) → front ++ item ∷ rest ≡ other ++ next ∷ behind
-    → ((front ≡ other) × (item ≡ next)) ⊎ (((more : List TextItem) × (other ≡ front ++ item ∷ more)) ⊎ ((more : List TextItem) × (front ≡ other ++ next ∷ more)))
-parted [] [] item next rest behind e = inl (refl, cc)
-parted [] (x ∷ other) item next rest behind e = let same : x ≡ item = cc in inr (inl (other, ap (λ (i : TextItem). i ∷ other) same))
-parted (x ∷ front) [] item next rest behind e = let same : x ≡ next = cc in inr (inr (front, ap (λ (i : TextItem). i ∷ front) same))
-parted (x ∷ front) (y ∷ other) item next rest behind e =
+-- of two prefixes of a list they are one, or one goes on after the other's item
+parted : (prefix other : List TextItem) (item next : TextItem) (rest after : List TextItem) → prefix ++ item ∷ rest ≡ other ++ next ∷ after
+    → ((prefix ≡ other) × (item ≡ next)) ⊎ (((more : List TextItem) × (other ≡ prefix ++ item ∷ more)) ⊎ ((more : List TextItem) × (prefix ≡ other ++ next ∷ more)))
+parted [] [] item next rest after e = inl (refl, cc)
+parted [] (x ∷ other) item next rest after e = let same : x ≡ item = cc in inr (inl (other, ap (λ (i : TextItem). i ∷ other) same))
+parted (x ∷ prefix) [] item next rest after e = let same : x ≡ next = cc in inr (inr (prefix, ap (λ (i : TextItem). i ∷ prefix) same))
+parted (x ∷ prefix) (y ∷ other) item next rest after e =
     let same : x ≡ y = cc in
-    let later : front ++ item ∷ rest ≡ other ++ next ∷ behind = cc in
-    elim (parted front other item next rest behind later) [
+    let later : prefix ++ item ∷ rest ≡ other ++ next ∷ after = cc in
+    elim (parted prefix other item next rest after later) [
       | inl both ↦ inl (ap₂ (λ (i : TextItem) (l : List TextItem). i ∷ l) same both.0, both.1)
       | inr one ↦
           elim one [
@@ -46,17 +46,17 @@ parted (x ∷ front) (y ∷ other) item next rest behind e =
     ]
 
 once : {items others : List TextItem} {f g : PoFault} {m n : ℕ} → items ≡ others → ItemsFault items f m → ItemsFault others g n → (f ≡ g) × (m ≡ n)
-once {g = g} e (at {front = front} {item = item} rest viable never misfit) (at {front = other} {item = next} behind possible nowhere wrong) =
-    elim (parted front other item next rest behind e) [
+once {g = g} e (at {prefix = prefix} {item = item} rest viable never misfit) (at {prefix = other} {item = next} after possible nowhere wrong) =
+    elim (parted prefix other item next rest after e) [
       | inl both ↦ (misfit_once misfit (subst₂ (λ (l : List TextItem) (i : TextItem). Misfit l i g) (sym both.0) (sym both.1) wrong), ap line_of both.1)
       | inr one ↦
           elim one [
-            | inl longer ↦ absurd (never (viable_up_to front item longer.0 (subst IsViable longer.1 possible)))
+            | inl longer ↦ absurd (never (viable_up_to prefix item longer.0 (subst IsViable longer.1 possible)))
             | inr longer ↦ absurd (nowhere (viable_up_to other next longer.0 (subst IsViable longer.1 viable)))
           ]
     ]
-once e (at {front = front} {item = item} rest viable never misfit) (at_end possible none) = absurd (never (viable_up_to front item rest (subst IsViable (sym e) possible)))
-once e (at_end viable none) (at {front = other} {item = next} behind possible nowhere wrong) = absurd (nowhere (viable_up_to other next behind (subst IsViable e viable)))
+once e (at {prefix = prefix} {item = item} rest viable never misfit) (at_end possible none) = absurd (never (viable_up_to prefix item rest (subst IsViable (sym e) possible)))
+once e (at_end viable none) (at {prefix = other} {item = next} after possible nowhere wrong) = absurd (nowhere (viable_up_to other next after (subst IsViable e viable)))
 once e (at_end viable none) (at_end possible nowhere) = (refl, ap last_line e)
 
 pub items_fault_once : {items : List TextItem} {f g : PoFault} {m n : ℕ} → ItemsFault items f m → ItemsFault items g n → (f ≡ g) × (m ≡ n)

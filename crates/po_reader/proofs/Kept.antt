@@ -9,19 +9,19 @@ use Rattle.po_syntax.specs.TextItem.{TextItem}
 use Rattle.po_entry.specs.TextEntry.{TextEntry}
 use Rattle.po_entry.specs.Body.{Body}
 use Rattle.po_entry.specs.Descent.{Reads}
-use Rattle.po_entry.specs.Head.{Note, PreviousText}
+use Rattle.po_entry.specs.Head.{CommentText, PreviousText}
 use Rattle.po_entry.specs.Header.{HasAdmittedCharset}
-use Rattle.po_entry.specs.Notes.{same_kind, texts_of, words_of, flag_words, is_fuzzy_word, with_flag, previous_of}
+use Rattle.po_entry.specs.Comments.{same_kind, texts_of, listed_references, listed_flags, is_fuzzy_flag, with_flag, previous_of}
 use Rattle.po_entry.specs.Reads.{HasReadableTexts}
 use Rattle.po_entry.specs.Spelling.{entry_from}
 use Rattle.po_entry.specs.Validity.{IsComment, IsTranslatorComment, IsReference}
-use Rattle.po_reader.specs.Bare.{kept_notes, kept_entry, without_comments}
+use Rattle.po_reader.specs.Bare.{kept_comments, kept_entry, without_comments}
 use Rattle.po_reader.proofs.SoundCatalogue.{SoundEntry}
 
-abbrev is_flags : Note → Bool
-is_flags note = same_kind Flags note.kind
+abbrev is_flags : CommentText → Bool
+is_flags comment_text = same_kind Flags comment_text.kind
 
-pub kept_nothing : (all : Bool) → kept_notes all [] ≡ []
+pub kept_nothing : (all : Bool) → kept_comments all [] ≡ []
 kept_nothing true = refl
 kept_nothing false = refl
 
@@ -31,31 +31,31 @@ flags_kind Extracted e = cc
 flags_kind Reference e = cc
 flags_kind Flags e = refl
 
-none_of : (kind : CommentKind) → same_kind kind Flags ≡ false → (notes : List Note) → texts_of kind (filter is_flags notes) ≡ []
+none_of : (kind : CommentKind) → same_kind kind Flags ≡ false → (comment_texts : List CommentText) → texts_of kind (filter is_flags comment_texts) ≡ []
 none_of kind other [] = refl
-none_of kind other (note ∷ notes) = found (same_kind Flags note.kind) refl (none_of kind other notes) where
-  found : (t : Bool) → same_kind Flags note.kind ≡ t → texts_of kind (filter is_flags notes) ≡ [] → texts_of kind (cond t (note ∷ filter is_flags notes) (filter is_flags notes)) ≡ []
+none_of kind other (comment_text ∷ comment_texts) = found (same_kind Flags comment_text.kind) refl (none_of kind other comment_texts) where
+  found : (t : Bool) → same_kind Flags comment_text.kind ≡ t → texts_of kind (filter is_flags comment_texts) ≡ [] → texts_of kind (cond t (comment_text ∷ filter is_flags comment_texts) (filter is_flags comment_texts)) ≡ []
   found true t more =
-      let differs : same_kind kind note.kind ≡ false = subst (λ k. same_kind kind k ≡ false) (flags_kind note.kind t) other in
-      ap (λ b. map (λ (n : Note). n.text) (cond b (note ∷ filter (λ (n : Note). same_kind kind n.kind) (filter is_flags notes)) (filter (λ (n : Note). same_kind kind n.kind) (filter is_flags notes)))) differs ∙ more
+      let differs : same_kind kind comment_text.kind ≡ false = subst (λ k. same_kind kind k ≡ false) (flags_kind comment_text.kind t) other in
+      ap (λ b. map (λ (n : CommentText). n.text) (cond b (comment_text ∷ filter (λ (n : CommentText). same_kind kind n.kind) (filter is_flags comment_texts)) (filter (λ (n : CommentText). same_kind kind n.kind) (filter is_flags comment_texts)))) differs ∙ more
   found false t more = more
 
-flags_kept : (notes : List Note) → texts_of Flags (filter is_flags notes) ≡ texts_of Flags notes
+flags_kept : (comment_texts : List CommentText) → texts_of Flags (filter is_flags comment_texts) ≡ texts_of Flags comment_texts
 flags_kept [] = refl
-flags_kept (note ∷ notes) = found (same_kind Flags note.kind) refl (flags_kept notes) where
-  found : (t : Bool) → same_kind Flags note.kind ≡ t → texts_of Flags (filter is_flags notes) ≡ texts_of Flags notes
-      → texts_of Flags (cond t (note ∷ filter is_flags notes) (filter is_flags notes)) ≡ map (λ (n : Note). n.text) (cond t (note ∷ filter is_flags notes) (filter is_flags notes))
+flags_kept (comment_text ∷ comment_texts) = found (same_kind Flags comment_text.kind) refl (flags_kept comment_texts) where
+  found : (t : Bool) → same_kind Flags comment_text.kind ≡ t → texts_of Flags (filter is_flags comment_texts) ≡ texts_of Flags comment_texts
+      → texts_of Flags (cond t (comment_text ∷ filter is_flags comment_texts) (filter is_flags comment_texts)) ≡ map (λ (n : CommentText). n.text) (cond t (comment_text ∷ filter is_flags comment_texts) (filter is_flags comment_texts))
   found true t more =
-      ap (λ b. map (λ (n : Note). n.text) (cond b (note ∷ filter is_flags (filter is_flags notes)) (filter is_flags (filter is_flags notes)))) t ∙ ap (λ ts. note.text ∷ ts) more
+      ap (λ b. map (λ (n : CommentText). n.text) (cond b (comment_text ∷ filter is_flags (filter is_flags comment_texts)) (filter is_flags (filter is_flags comment_texts)))) t ∙ ap (λ ts. comment_text.text ∷ ts) more
   found false t more = more
 
 abbrev entry_with : List PreviousText → Body → (comments extracted references flags : List (List ℕ)) → TextEntry
 entry_with previous body comments extracted references flags = record {
   comments = comments;
   extracted = extracted;
-  references = flat_map words_of references;
-  fuzzy = list_any is_fuzzy_word (flat_map flag_words flags);
-  flags = fold with_flag [] (flat_map flag_words flags);
+  references = flat_map listed_references references;
+  fuzzy = list_any is_fuzzy_flag (flat_map listed_flags flags);
+  flags = fold with_flag [] (flat_map listed_flags flags);
   previous = previous_of previous;
   context = body.context;
   id = body.id;
@@ -66,14 +66,14 @@ entry_with previous body comments extracted references flags = record {
 }
 
 -- the entry that is made of the notes that are kept
-pub kept_from : (all : Bool) (notes : List Note) (previous : List PreviousText) (body : Body) → entry_from (kept_notes all notes) previous body ≡ kept_entry all (entry_from notes previous body)
-kept_from true notes previous body = refl
-kept_from false notes previous body =
-    let kept : List Note = filter is_flags notes in
-    ap (λ ts. entry_with previous body ts (texts_of Extracted kept) (texts_of Reference kept) (texts_of Flags kept)) (none_of Translator refl notes)
-    ∙ ap (λ ts. entry_with previous body [] ts (texts_of Reference kept) (texts_of Flags kept)) (none_of Extracted refl notes)
-    ∙ ap (λ ts. entry_with previous body [] [] ts (texts_of Flags kept)) (none_of Reference refl notes)
-    ∙ ap (λ ts. entry_with previous body [] [] [] ts) (flags_kept notes)
+pub kept_from : (all : Bool) (comment_texts : List CommentText) (previous : List PreviousText) (body : Body) → entry_from (kept_comments all comment_texts) previous body ≡ kept_entry all (entry_from comment_texts previous body)
+kept_from true comment_texts previous body = refl
+kept_from false comment_texts previous body =
+    let kept : List CommentText = filter is_flags comment_texts in
+    ap (λ ts. entry_with previous body ts (texts_of Extracted kept) (texts_of Reference kept) (texts_of Flags kept)) (none_of Translator refl comment_texts)
+    ∙ ap (λ ts. entry_with previous body [] ts (texts_of Reference kept) (texts_of Flags kept)) (none_of Extracted refl comment_texts)
+    ∙ ap (λ ts. entry_with previous body [] [] ts (texts_of Flags kept)) (none_of Reference refl comment_texts)
+    ∙ ap (λ ts. entry_with previous body [] [] [] ts) (flags_kept comment_texts)
 
 all_kept : (entries : List TextEntry) → map (kept_entry true) entries ≡ entries
 all_kept [] = refl

@@ -1,4 +1,4 @@
-pub mod Wordings
+pub mod TakenKeywords
 pub mod Results
 pub mod Splits
 pub mod Heads

@@ -9,19 +9,19 @@ use Rattle.po_syntax.specs.declared.item.Marks.{Marks}
 use Rattle.po_syntax.specs.TextItem.{TextItem, Comment, Word, Str}
 use Rattle.po_entry.specs.TextEntry.{TextEntry}
 use Rattle.po_entry.specs.Strings as string
-use Rattle.po_entry.specs.Words as word
+use Rattle.po_entry.specs.Keywords as word
 use Rattle.po_entry.specs.Body as body
 use Rattle.po_entry.specs.Head as head
 use Rattle.po_entry.specs.Descent.{Reads, comments, entry}
 use Rattle.po_entry.specs.Spelling.{AreComments}
 use Rattle.po_reader.specs.Stops as stop
-use Rattle.po_reader.proofs.Steps.{word_told}
+use Rattle.po_reader.proofs.Steps.{keyword_reported}
 
 -- the head of an entry ends here, whatever stands in it
 abbrev pub Starts : List TextItem → Type 0
 Starts items = (above : ℕ) → head.head_step above items ≡ head.Over
 
--- behind a plural no form stands that is not one of its forms
+-- after a plural no form stands that is not one of its forms
 abbrev pub FormsEnd : Option (List ℕ) → Bool → Type 0
 FormsEnd None form = Unit {0}
 FormsEnd (Some plural) form = form ≡ false
@@ -38,16 +38,16 @@ string_taken marks (Str text found line ∷ items) rest bytes e = refl
 
 pub strings_look : {marks : Marks} {items rest : List TextItem} {a : List ℕ} → string.IsStrings marks items a rest → string.begins_string items ≡ true
 strings_look {marks} (string.last {items = items} {rest = rest} {bytes = bytes} e f) = string_taken marks items rest bytes e
-strings_look {marks} (string.more {items = items} {behind = behind} {bytes = bytes} e f s) = string_taken marks items behind bytes e
+strings_look {marks} (string.more {items = items} {after = after} {bytes = bytes} e f s) = string_taken marks items after bytes e
 
--- a word that is taken is wanted
-wanted_word : (wanted : word.Wanted) (obsolete : Bool) (items rest : List TextItem) (keyword : Keyword) (line : ℕ) → word.next_word wanted obsolete items ≡ word.Take keyword line rest → (string.begins_string items ≡ false) × (word.is_wanted wanted keyword ≡ true)
-wanted_word wanted obsolete [] rest keyword line e = cc
-wanted_word wanted obsolete (Comment kind text l ∷ items) rest keyword line e = cc
-wanted_word wanted obsolete (Str text found l ∷ items) rest keyword line e = cc
-wanted_word wanted obsolete (Word found marks l ∷ items) rest keyword line e = (refl, chosen marks.previous (word.is_wanted wanted found) refl (string.same_bool obsolete marks.obsolete) (word.is_wrong_form wanted found) e) where
+-- a keyword that is taken is wanted
+wanted_keyword : (wanted : word.Wanted) (obsolete : Bool) (items rest : List TextItem) (keyword : Keyword) (line : ℕ) → word.next_keyword wanted obsolete items ≡ word.Take keyword line rest → (string.begins_string items ≡ false) × (word.is_wanted wanted keyword ≡ true)
+wanted_keyword wanted obsolete [] rest keyword line e = cc
+wanted_keyword wanted obsolete (Comment kind text l ∷ items) rest keyword line e = cc
+wanted_keyword wanted obsolete (Str text found l ∷ items) rest keyword line e = cc
+wanted_keyword wanted obsolete (Word found marks l ∷ items) rest keyword line e = (refl, chosen marks.previous (word.is_wanted wanted found) refl (string.same_bool obsolete marks.obsolete) (word.is_wrong_form wanted found) e) where
   chosen : (p w : Bool) → word.is_wanted wanted found ≡ w → (s f : Bool)
-      → word_told p w s f found l items ≡ word.Take keyword line rest
+      → keyword_reported p w s f found l items ≡ word.Take keyword line rest
       → word.is_wanted wanted keyword ≡ true
   chosen true w t s f q = cc
   chosen false true t true f q = let same : found ≡ keyword = cc in subst (λ (k : Keyword). word.is_wanted wanted k ≡ true) same t
@@ -55,18 +55,18 @@ wanted_word wanted obsolete (Word found marks l ∷ items) rest keyword line e =
   chosen false false t s true q = cc
   chosen false false t s false q = cc
 
-pub worded_look : {wanted : word.Wanted} {obsolete : Bool} {items rest : List TextItem} {k : Keyword} {l : ℕ} {a : List ℕ} → word.IsWorded wanted obsolete items k l a rest → string.begins_string items ≡ false
-worded_look {wanted} {obsolete} (word.worded {items = items} {text = text} {keyword = keyword} {line = line} e s) = (wanted_word wanted obsolete items text keyword line e).0
+pub keyword_text_look : {wanted : word.Wanted} {obsolete : Bool} {items rest : List TextItem} {k : Keyword} {l : ℕ} {a : List ℕ} → word.IsKeywordText wanted obsolete items k l a rest → string.begins_string items ≡ false
+keyword_text_look {wanted} {obsolete} (word.keyword_text {items = items} {text = text} {keyword = keyword} {line = line} e s) = (wanted_keyword wanted obsolete items text keyword line e).0
 
-pub worded_wanted : {wanted : word.Wanted} {obsolete : Bool} {items rest : List TextItem} {k : Keyword} {l : ℕ} {a : List ℕ} → word.IsWorded wanted obsolete items k l a rest → word.is_wanted wanted k ≡ true
-worded_wanted {wanted} {obsolete} (word.worded {items = items} {text = text} {keyword = keyword} {line = line} e s) = (wanted_word wanted obsolete items text keyword line e).1
+pub keyword_text_wanted : {wanted : word.Wanted} {obsolete : Bool} {items rest : List TextItem} {k : Keyword} {l : ℕ} {a : List ℕ} → word.IsKeywordText wanted obsolete items k l a rest → word.is_wanted wanted k ≡ true
+keyword_text_wanted {wanted} {obsolete} (word.keyword_text {items = items} {text = text} {keyword = keyword} {line = line} e s) = (wanted_keyword wanted obsolete items text keyword line e).1
 
 never_taken : {keyword : Keyword} {line : ℕ} {rest : List TextItem} (p : Bool) → (if p then word.Refuse BadOrder else word.Refuse BadOrder) ≡ word.Take keyword line rest → ⊥
 never_taken true e = cc
 never_taken false e = cc
 
 -- a wanted form begins as a form
-form_taken : (index : ℕ) (obsolete : Bool) (items rest : List TextItem) (keyword : Keyword) (line : ℕ) → word.next_word (word.Form index) obsolete items ≡ word.Take keyword line rest → body.begins_form items ≡ true
+form_taken : (index : ℕ) (obsolete : Bool) (items rest : List TextItem) (keyword : Keyword) (line : ℕ) → word.next_keyword (word.Form index) obsolete items ≡ word.Take keyword line rest → body.begins_form items ≡ true
 form_taken index obsolete [] rest keyword line e = cc
 form_taken index obsolete (Comment kind text l ∷ items) rest keyword line e = cc
 form_taken index obsolete (Str text found l ∷ items) rest keyword line e = cc
@@ -75,23 +75,23 @@ form_taken index obsolete (Word MsgId marks l ∷ items) rest keyword line e = a
 form_taken index obsolete (Word MsgIdPlural marks l ∷ items) rest keyword line e = absurd (never_taken marks.previous e)
 form_taken index obsolete (Word MsgStr marks l ∷ items) rest keyword line e = absurd (never_taken marks.previous e)
 form_taken index obsolete (Word (MsgStrAt found) marks l ∷ items) rest keyword line e = chosen marks.previous e where
-  chosen : (p : Bool) → (if p then word.Refuse BadOrder else word.word_step (word.Form index) obsolete (MsgStrAt found) (string.own_marks marks.obsolete) l items) ≡ word.Take keyword line rest → not p ≡ true
+  chosen : (p : Bool) → (if p then word.Refuse BadOrder else word.keyword_step (word.Form index) obsolete (MsgStrAt found) (string.own_marks marks.obsolete) l items) ≡ word.Take keyword line rest → not p ≡ true
   chosen true q = cc
   chosen false q = refl
 
-form_look : {index : ℕ} {obsolete : Bool} {items rest : List TextItem} {k : Keyword} {l : ℕ} {a : List ℕ} → word.IsWorded (word.Form index) obsolete items k l a rest → body.begins_form items ≡ true
-form_look {index} {obsolete} (word.worded {items = items} {text = text} {keyword = keyword} {line = line} e s) = form_taken index obsolete items text keyword line e
+form_look : {index : ℕ} {obsolete : Bool} {items rest : List TextItem} {k : Keyword} {l : ℕ} {a : List ℕ} → word.IsKeywordText (word.Form index) obsolete items k l a rest → body.begins_form items ≡ true
+form_look {index} {obsolete} (word.keyword_text {items = items} {text = text} {keyword = keyword} {line = line} e s) = form_taken index obsolete items text keyword line e
 
 pub forms_look : {obsolete : Bool} {index : ℕ} {items rest : List TextItem} {a : List (List ℕ)} → body.IsForms obsolete index items a rest → (string.begins_string items ≡ false) × (body.begins_form items ≡ true)
-forms_look (body.last w f) = (worded_look w, form_look w)
-forms_look (body.more w f s) = (worded_look w, form_look w)
+forms_look (body.last w f) = (keyword_text_look w, form_look w)
+forms_look (body.more w f s) = (keyword_text_look w, form_look w)
 
 pub translation_look : {obsolete : Bool} {items rest : List TextItem} {plural : Option (List ℕ)} {a : List (List ℕ)} → body.IsTranslation obsolete items plural a rest → string.begins_string items ≡ false
-translation_look (body.single w) = worded_look w
-translation_look (body.plural w f) = worded_look w
+translation_look (body.single w) = keyword_text_look w
+translation_look (body.plural w f) = keyword_text_look w
 
 abbrev GoesOn : head.HeadStep → Type 0
-GoesOn (head.Remark kind text rest) = Unit {0}
+GoesOn (head.HeadComment kind text rest) = Unit {0}
 GoesOn (head.Previous keyword marks rest) = Unit {0}
 GoesOn head.Over = Unit {0}
 GoesOn (head.Refuse fault) = ⊥
@@ -113,9 +113,9 @@ head_apart above (Word (MsgStrAt index) marks line ∷ items) h = (refl, chosen 
   chosen true q = refl
   chosen false q = absurd q
 
-pub head_look : {above : ℕ} {items rest : List TextItem} {notes : List head.Note} {previous : List head.PreviousText} → head.IsHead above items notes previous rest → IsApart items
+pub head_look : {above : ℕ} {items rest : List TextItem} {comment_texts : List head.CommentText} {previous : List head.PreviousText} → head.IsHead above items comment_texts previous rest → IsApart items
 head_look (head.over {above = above} {items = items} e) = head_apart above items (subst GoesOn (sym e) tt)
-head_look (head.remark {above = above} {items = items} e h) = head_apart above items (subst GoesOn (sym e) tt)
+head_look (head.head_comment {above = above} {items = items} e h) = head_apart above items (subst GoesOn (sym e) tt)
 head_look (head.previous {above = above} {items = items} e s h) = head_apart above items (subst GoesOn (sym e) tt)
 
 comments_look : (items : List TextItem) → AreComments items → IsApart items
@@ -159,5 +159,5 @@ pub stop_starts : {end line : ℕ} {items : List TextItem} {fault : PoFault} →
 stop_starts (stop.in_context {items = items} e s) = started items (subst IsStart (sym e) tt)
 stop_starts (stop.at_id {items = items} e s t) = started items (subst IsStart (sym e) tt)
 stop_starts (stop.in_id {items = items} e s) = started items (subst IsStart (sym e) tt)
-stop_starts (stop.behind_context {items = items} e s w t) = started items (subst IsStart (sym e) tt)
-stop_starts (stop.behind_id {items = items} e s t) = started items (subst IsStart (sym e) tt)
+stop_starts (stop.after_context {items = items} e s w t) = started items (subst IsStart (sym e) tt)
+stop_starts (stop.after_id {items = items} e s t) = started items (subst IsStart (sym e) tt)

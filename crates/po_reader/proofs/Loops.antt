@@ -7,7 +7,7 @@ use Rattle.po_syntax.specs.declared.item.Item.{Item}
 use Rattle.po_syntax.specs.TextItem.{line_of, view, views}
 use Rattle.po_reader.specs.Viable.{last_line}
 
--- the element at an index stands first behind it
+-- the element at an index stands first after it
 pub drop_here : {X : Type 0} (xs : List X) (i : ℕ) (x : X) → i < length xs → x ≡ get_or xs i x → drop i xs ≡ x ∷ drop (i + 1) xs
 drop_here xs i x below is = rw add-one (drop-cons xs i x below ∙ ap (λ y. y ∷ drop (suc i) xs) (sym is))
 
@@ -30,7 +30,7 @@ pub some_length : (items : List Item) (item : Item) → Some item ≡ slice_get 
 some_length [] item e = cc
 some_length (first ∷ items) item e = omega arith
 
--- one more element in front
+-- one more element at the beginning
 pub take_here : {X : Type 0} (xs : List X) (i : ℕ) (x : X) → i < length xs → x ≡ get_or xs i x → take (i + 1) xs ≡ take i xs ++ x ∷ []
 take_here [] i x below is = absurd (omega arith)
 take_here (y ∷ xs) zero x below is = ap (λ z. z ∷ []) (sym is)

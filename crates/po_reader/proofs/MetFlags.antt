@@ -12,12 +12,12 @@ use Rattle.std.proofs.lemmas.List.{take_more, map-append}
 use Rattle.std.proofs.lemmas.List.Folds.{list_any-append}
 use Rattle.std.proofs.lemmas.List.Sums.{fold_push}
 use Rattle.po_entry.specs.TextEntry.{texts}
-use Rattle.po_entry.specs.Notes.{is_fuzzy_word, with_flag}
+use Rattle.po_entry.specs.Comments.{is_fuzzy_flag, with_flag}
 use Rattle.po_reader.specs.MetFlags.{HasFlags}
 
-pub list_any-texts : (p : List ℕ → Bool) (words : List (Vec ℕ)) → list_any (λ word. p word.items) words ≡ list_any p (texts words)
+pub list_any-texts : (p : List ℕ → Bool) (keywords : List (Vec ℕ)) → list_any (λ word. p word.items) keywords ≡ list_any p (texts keywords)
 list_any-texts p [] = refl
-list_any-texts p (word ∷ words) = ap (λ b. p word.items || b) (list_any-texts p words)
+list_any-texts p (word ∷ keywords) = ap (λ b. p word.items || b) (list_any-texts p keywords)
 
 or_false : (b : Bool) → (b || false) ≡ b
 or_false true = refl
@@ -38,10 +38,10 @@ one_flag_more old new k flags h updated q =
     updated q ∙ cond_or (is_at (λ y. slice_cmp nat_cmp k.now y.now) q) (bytes_eq q.now k.now) (contains (λ x y. slice_cmp nat_cmp x.now y.now) old q) (sym (texts_ties k.now q.now) ∙ nat_list_eq_equiv.symm k.now q.now)
     ∙ ap₂ (λ (s t : Bool). s || t) (h q) (sym (or_false (bytes_eq q.now k.now))) ∙ sym (list_any-append (bytes_eq q.now) flags (k.now ∷ []))
 
--- the words up to the next one, of which flags are kept
-pub flags_more : (words : List (Vec ℕ)) (i : ℕ) (x : Vec ℕ) (flags : List (List ℕ)) (b : Bool) → i < length words → x ≡ get_or words i x
-    → flags ≡ fold with_flag [] (texts (take i words)) → (is_fuzzy_word x.items || list_any (bytes_eq x.items) flags) ≡ b
-    → cond b flags (flags ++ x.items ∷ []) ≡ fold with_flag [] (texts (take (i + 1) words))
-flags_more words i x flags b below at is known =
-    sym (ap (fold with_flag []) (ap texts (take_more words i x below ∙ ap (λ (v : Vec ℕ). take i words ++ v ∷ []) (sym at)) ∙ map-append (λ (v : Vec ℕ). v.items) (take i words) (x ∷ []))
-    ∙ fold_push with_flag [] (texts (take i words)) x.items ∙ ap (λ l. with_flag l x.items) (sym is) ∙ ap (λ t. cond t flags (flags ++ x.items ∷ [])) known)
+-- the keywords up to the next one, of which flags are kept
+pub flags_more : (keywords : List (Vec ℕ)) (i : ℕ) (x : Vec ℕ) (flags : List (List ℕ)) (b : Bool) → i < length keywords → x ≡ get_or keywords i x
+    → flags ≡ fold with_flag [] (texts (take i keywords)) → (is_fuzzy_flag x.items || list_any (bytes_eq x.items) flags) ≡ b
+    → cond b flags (flags ++ x.items ∷ []) ≡ fold with_flag [] (texts (take (i + 1) keywords))
+flags_more keywords i x flags b below at is known =
+    sym (ap (fold with_flag []) (ap texts (take_more keywords i x below ∙ ap (λ (v : Vec ℕ). take i keywords ++ v ∷ []) (sym at)) ∙ map-append (λ (v : Vec ℕ). v.items) (take i keywords) (x ∷ []))
+    ∙ fold_push with_flag [] (texts (take i keywords)) x.items ∙ ap (λ l. with_flag l x.items) (sym is) ∙ ap (λ t. cond t flags (flags ++ x.items ∷ [])) known)

@@ -22,15 +22,15 @@ use Rattle.po_reader.specs.Faults as fault
 use Rattle.po_reader.proofs.ItemsFaults.{fault_unread}
 use Rattle.po_reader.proofs.Once.{head_once, head_or_stop, body_once, body_or_stop}
 
--- a step over a comment goes on behind it
-comment_behind : (above : ℕ) (items behind : List TextItem) (kind : CommentKind) (text : List ℕ) → head.head_step above items ≡ head.Remark kind text behind → AreComments items → AreComments behind
-comment_behind above [] behind kind text e only = empty (above == 0) e where
-  empty : (t : Bool) → (if t then head.Over else head.Refuse BadOrder) ≡ head.Remark kind text behind → AreComments behind
+-- a step over a comment goes on after it
+comment_after : (above : ℕ) (items after : List TextItem) (kind : CommentKind) (text : List ℕ) → head.head_step above items ≡ head.HeadComment kind text after → AreComments items → AreComments after
+comment_after above [] after kind text e only = empty (above == 0) e where
+  empty : (t : Bool) → (if t then head.Over else head.Refuse BadOrder) ≡ head.HeadComment kind text after → AreComments after
   empty true q = cc
   empty false q = cc
-comment_behind above (Comment k t l ∷ items) behind kind text e only = let same : items ≡ behind = cc in subst AreComments same only.1
-comment_behind above (Word k m l ∷ items) behind kind text e only = absurd only.0
-comment_behind above (Str b m l ∷ items) behind kind text e only = absurd only.0
+comment_after above (Comment k t l ∷ items) after kind text e only = let same : items ≡ after = cc in subst AreComments same only.1
+comment_after above (Word k m l ∷ items) after kind text e only = absurd only.0
+comment_after above (Str b m l ∷ items) after kind text e only = absurd only.0
 
 -- comments alone hold no previous text
 no_previous_text : (above : ℕ) (items text : List TextItem) (keyword : Keyword) (marks : Marks) → head.head_step above items ≡ head.Previous keyword marks text → AreComments items → ⊥
@@ -49,9 +49,9 @@ over_end above (Word k m l ∷ items) e only = absurd only.0
 over_end above (Str b m l ∷ items) e only = absurd only.0
 
 -- comments alone are a head up to the end
-comments_end : {above : ℕ} {items rest : List TextItem} {a : List head.Note} {p : List head.PreviousText} → head.IsHead above items a p rest → AreComments items → rest ≡ []
+comments_end : {above : ℕ} {items rest : List TextItem} {a : List head.CommentText} {p : List head.PreviousText} → head.IsHead above items a p rest → AreComments items → rest ≡ []
 comments_end (head.over {above = above} {items = items} e) only = over_end above items e only
-comments_end (head.remark {above = above} {kind = kind} {text = text} {items = items} {behind = behind} e h) only = comments_end h (comment_behind above items behind kind text e only)
+comments_end (head.head_comment {above = above} {kind = kind} {text = text} {items = items} {after = after} e h) only = comments_end h (comment_after above items after kind text e only)
 comments_end (head.previous {above = above} {keyword = keyword} {marks = marks} {items = items} {text = text} e s h) only = absurd (no_previous_text above items text keyword marks e only)
 
 refused_comments : (items : List TextItem) (kind : PoFault) → head.head_step 0 items ≡ head.Refuse kind → AreComments items → ⊥
@@ -63,8 +63,8 @@ refused_comments (Str b m l ∷ items) kind e only = only.0
 comments_go_on : {end line above : ℕ} {kind : PoFault} {items : List TextItem} → stop.HeadStops end above items kind line → above ≡ 0 → AreComments items → ⊥
 comments_go_on (stop.refused {above = above} {items = items} {fault = kind} e l) zero only = refused_comments items kind (subst (λ (a : ℕ). head.head_step a items ≡ head.Refuse kind) zero e) only
 comments_go_on (stop.in_previous {above = above} {keyword = keyword} {marks = marks} {items = items} {text = text} e s) zero only = no_previous_text above items text keyword marks e only
-comments_go_on (stop.behind_remark {above = above} {kind = kind} {text = text} {items = items} {behind = behind} e h) zero only = comments_go_on h zero (comment_behind above items behind kind text e only)
-comments_go_on (stop.behind_previous {above = above} {keyword = keyword} {marks = marks} {items = items} {text = text} e s h) zero only = no_previous_text above items text keyword marks e only
+comments_go_on (stop.after_comment {above = above} {kind = kind} {text = text} {items = items} {after = after} e h) zero only = comments_go_on h zero (comment_after above items after kind text e only)
+comments_go_on (stop.after_previous {above = above} {keyword = keyword} {marks = marks} {items = items} {text = text} e s h) zero only = no_previous_text above items text keyword marks e only
 
 body_somewhere : {items rest : List TextItem} {a : body.Body} → body.IsBody items a rest → items ≡ [] → ⊥
 body_somewhere (body.without_context {items = items} e s t) none = let start : body.body_start items ≡ body.NoStart = ap body.body_start none in cc
@@ -74,18 +74,18 @@ stop_somewhere : {end line : ℕ} {kind : PoFault} {items : List TextItem} → s
 stop_somewhere (stop.in_context {items = items} e s) none = let start : body.body_start items ≡ body.NoStart = ap body.body_start none in cc
 stop_somewhere (stop.at_id {items = items} e s t) none = let start : body.body_start items ≡ body.NoStart = ap body.body_start none in cc
 stop_somewhere (stop.in_id {items = items} e s) none = let start : body.body_start items ≡ body.NoStart = ap body.body_start none in cc
-stop_somewhere (stop.behind_context {items = items} e s t u) none = let start : body.body_start items ≡ body.NoStart = ap body.body_start none in cc
-stop_somewhere (stop.behind_id {items = items} e s t) none = let start : body.body_start items ≡ body.NoStart = ap body.body_start none in cc
+stop_somewhere (stop.after_context {items = items} e s t u) none = let start : body.body_start items ≡ body.NoStart = ap body.body_start none in cc
+stop_somewhere (stop.after_id {items = items} e s t) none = let start : body.body_start items ≡ body.NoStart = ap body.body_start none in cc
 
 pub reads_once : {items : List TextItem} {a b : List TextEntry} → Reads items a → Reads items b → a ≡ b
 reads_once (comments only) (comments also) = refl
 reads_once (comments only) (entry h own more) = absurd (body_somewhere own (comments_end h only))
 reads_once (entry h own more) (comments only) = absurd (body_somewhere own (comments_end h only))
-reads_once (entry {notes = notes} {previous = previous} {body = a} {entries = entries} h own more) (entry {own = here} {rest = after} {notes = remarks} {previous = texts} {body = b} {entries = again} k also others) =
+reads_once (entry {comment_texts = comment_texts} {previous = previous} {body = a} {entries = entries} h own more) (entry {own = here} {rest = after} {comment_texts = head_comments} {previous = texts} {body = b} {entries = again} k also others) =
     let heads = head_once h k in
     let bodies = body_once own (subst (λ (i : List TextItem). body.IsBody i b after) (sym heads.2) also) in
     let later = reads_once more (subst (λ (i : List TextItem). Reads i again) (sym bodies.1) others) in
-    let same_notes = heads.0 in
+    let same_comments = heads.0 in
     let same_previous = heads.1 in
     let same_body = bodies.0 in
     cc

@@ -11,9 +11,9 @@ use Rattle.std.proofs.lemmas.Str.{IsUtf8-past_char, IsUtf8-take, IsUtf8-drop, Is
 use Rattle.std.proofs.lemmas.Bool.{ltb-false, ltb-true, eqb-true, not-true, not-false}
 use Rattle.po_syntax.specs.Token.{is_blank}
 
--- text behind an ASCII byte
-pub utf8_behind : (b : ℕ) (text : List ℕ) → b < 128 → IsUtf8 (b ∷ text) → IsUtf8 text
-utf8_behind b text ascii h = IsUtf8-past_char (b ∷ text) text b h (rw (encode_ascii b ascii) refl)
+-- text after an ASCII byte
+pub utf8_after : (b : ℕ) (text : List ℕ) → b < 128 → IsUtf8 (b ∷ text) → IsUtf8 text
+utf8_after b text ascii h = IsUtf8-past_char (b ∷ text) text b h (rw (encode_ascii b ascii) refl)
 
 -- text before an ASCII byte
 pub utf8_before : (text : List ℕ) (b : ℕ) → b < 128 → IsUtf8 (text ++ b ∷ []) → IsUtf8 text
@@ -62,9 +62,9 @@ utf8_parts p ascii (suc n) text few h = found (nat_lt (position_or_len p text) (
       let separator : p (get_or text (position_or_len p text) 0) ≡ true = not-false _ (prefix_len_stops (λ x. not (p x)) text 0 inside) in
       let low : get_or text (position_or_len p text) 0 < 128 = ascii _ separator in
       let first : IsUtf8 (before_first p text) = IsUtf8-take text (position_or_len p text) h (IsCharBoundary-before_ascii text (position_or_len p text) inside low) in
-      let behind : IsUtf8 (after_first p text) = IsUtf8-drop text (position_or_len p text + 1) h (IsCharBoundary-after_ascii text (position_or_len p text) h inside low) in
+      let after : IsUtf8 (after_first p text) = IsUtf8-drop text (position_or_len p text + 1) h (IsCharBoundary-after_ascii text (position_or_len p text) h inside low) in
       let fewer : length (after_first p text) ≤ n = omega (arith, length-drop (position_or_len p text + 1) text) in
-      rw (slice_split_first p text 0 inside) (All-cons IsUtf8 (before_first p text) (slice_split p (after_first p text)) first (more (after_first p text) fewer behind))
+      rw (slice_split_first p text 0 inside) (All-cons IsUtf8 (before_first p text) (slice_split p (after_first p text)) first (more (after_first p text) fewer after))
 
 -- what holds of each byte of a text holds of each byte of its parts
 pub all_parts : (P : ℕ → Type 0) (p : ℕ → Bool) (text : List ℕ) → All P text → All (All P) (slice_split p text)

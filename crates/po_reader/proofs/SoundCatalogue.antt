@@ -6,13 +6,13 @@ use Rattle.po_syntax.specs.declared.item.CommentKind.TheVariants.{Translator, Ex
 use Rattle.po_syntax.specs.declared.fault.PoFault.{PoFault}
 use Rattle.po_syntax.specs.declared.fault.PoFault.TheVariants.{OutOfMemory}
 use Rattle.po_entry.specs.declared.fields.Fields.{Fields}
-use Rattle.po_entry.specs.EntryText.{entry_of}
+use Rattle.po_entry.specs.EntryView.{entry_view}
 use Rattle.po_syntax.specs.TextItem.{TextItem}
 use Rattle.po_entry.specs.TextEntry.{TextEntry, quoted_texts, previous_texts}
 use Rattle.po_entry.specs.Bytes.{Lacks, AreDistinct}
 use Rattle.po_entry.specs.Body.{Body}
-use Rattle.po_entry.specs.Head.{Note, PreviousText}
-use Rattle.po_entry.specs.Notes.{texts_of, comments_of, extracted_of, references_of, flag_words_of, flags_of, previous_of}
+use Rattle.po_entry.specs.Head.{CommentText, PreviousText}
+use Rattle.po_entry.specs.Comments.{texts_of, comments_of, extracted_of, references_of, all_listed_flags, flags_of, previous_of}
 use Rattle.po_entry.specs.Descent.{Reads, comments, entry}
 use Rattle.po_entry.specs.Reads.{HasReadableTexts, HasNoEot}
 use Rattle.po_entry.specs.Spelling.{entry_from}
@@ -23,8 +23,8 @@ use Rattle.po_reader.specs.Drafts as drafts
 use Rattle.po_reader.specs.Faults.{TextsStop, UnreadableTexts}
 use Rattle.po_reader.specs.Faults as faults
 use Rattle.po_reader.proofs.SoundItems.{SoundItem, SoundComment}
-use Rattle.po_reader.proofs.SoundEntries.{SoundNote, SoundPrevious, SoundBody, body_sound, head_sound}
-use Rattle.po_reader.proofs.SoundFields.{SoundFlagWord, SoundFlags, kind_sound, references_sound, all_flag_words_sound, flags_sound, previous_lacks}
+use Rattle.po_reader.proofs.SoundEntries.{SoundCommentText, SoundPrevious, SoundBody, body_sound, head_sound}
+use Rattle.po_reader.proofs.SoundFields.{SoundFlagElement, SoundFlags, kind_sound, references_sound, all_flag_elements_sound, flags_sound, previous_lacks}
 
 -- an entry that sound items spell, but for what its texts must be
 pub record SoundEntry (spelt : TextEntry) : Type 0 where
@@ -40,16 +40,16 @@ pub record SoundEntry (spelt : TextEntry) : Type 0 where
 translator_sound : (text : List ℕ) → SoundComment Translator text → IsTranslatorComment text
 translator_sound text h = record { comment = h.comment; plain = h.plain refl }
 
-entry_sound : (notes : List Note) (previous : List PreviousText) (own : Body) (rest : List TextItem) → All SoundNote notes → All SoundPrevious previous → SoundBody own rest → SoundEntry (entry_from notes previous own)
-entry_sound notes previous own rest n p b =
-    let translator : All (SoundComment Translator) (comments_of notes) = kind_sound Translator notes n in
-    let extracted : All (SoundComment Extracted) (extracted_of notes) = kind_sound Extracted notes n in
-    let references : All IsReference (references_of notes) = references_sound (texts_of Reference notes) (kind_sound Reference notes n) in
-    let words : All SoundFlagWord (flag_words_of notes) = all_flag_words_sound (texts_of Flags notes) (kind_sound Flags notes n) in
-    let flags : SoundFlags (flags_of notes) = flags_sound (flag_words_of notes) [] (record { all = All-nil IsFlag; distinct = tt }) words in
+entry_sound : (comment_texts : List CommentText) (previous : List PreviousText) (own : Body) (rest : List TextItem) → All SoundCommentText comment_texts → All SoundPrevious previous → SoundBody own rest → SoundEntry (entry_from comment_texts previous own)
+entry_sound comment_texts previous own rest n p b =
+    let translator : All (SoundComment Translator) (comments_of comment_texts) = kind_sound Translator comment_texts n in
+    let extracted : All (SoundComment Extracted) (extracted_of comment_texts) = kind_sound Extracted comment_texts n in
+    let references : All IsReference (references_of comment_texts) = references_sound (texts_of Reference comment_texts) (kind_sound Reference comment_texts n) in
+    let keywords : All SoundFlagElement (all_listed_flags comment_texts) = all_flag_elements_sound (texts_of Flags comment_texts) (kind_sound Flags comment_texts n) in
+    let flags : SoundFlags (flags_of comment_texts) = flags_sound (all_listed_flags comment_texts) [] (record { all = All-nil IsFlag; distinct = tt }) keywords in
     record {
-      comments = All-weaker (SoundComment Translator) IsTranslatorComment translator_sound (comments_of notes) translator;
-      extracted = All-weaker (SoundComment Extracted) IsComment (λ text h. h.comment) (extracted_of notes) extracted;
+      comments = All-weaker (SoundComment Translator) IsTranslatorComment translator_sound (comments_of comment_texts) translator;
+      extracted = All-weaker (SoundComment Extracted) IsComment (λ text h. h.comment) (extracted_of comment_texts) extracted;
       references = references;
       flags = flags.all;
       distinct_flags = flags.distinct;
@@ -68,10 +68,10 @@ entry_sound notes previous own rest n p b =
 -- every entry that sound items spell
 pub entries_sound : {items : List TextItem} {entries : List TextEntry} → Reads items entries → All SoundItem items → All SoundEntry entries
 entries_sound (comments only) h = All-nil SoundEntry
-entries_sound (entry {rest = rest} {notes = notes} {previous = previous} {body = own} {entries = entries} head body more) h =
+entries_sound (entry {rest = rest} {comment_texts = comment_texts} {previous = previous} {body = own} {entries = entries} head body more) h =
     let before = head_sound head h in
-    let own_lines = body_sound body before.behind in
-    All-cons SoundEntry (entry_from notes previous own) entries (entry_sound notes previous own rest before.notes_sound before.previous_sound own_lines) (entries_sound more own_lines.behind)
+    let own_lines = body_sound body before.after in
+    All-cons SoundEntry (entry_from comment_texts previous own) entries (entry_sound comment_texts previous own rest before.comments_sound before.previous_sound own_lines) (entries_sound more own_lines.after)
 
 both_texts : (texts : List (List ℕ)) → All IsUtf8 texts → All (Lacks 0) texts → All IsText texts
 both_texts [] a b = All-nil IsText
@@ -107,17 +107,17 @@ stops_readable (drafts.here {entry = spelt} {entries = entries} {fault = fault} 
 stops_readable (drafts.later {entry = spelt} {entries = entries} t more) h = faults.later (texts_readable spelt t) (stops_readable more (All-tail SoundEntry spelt entries h))
 
 -- the entries of drafts whose texts were asked
-pub drafts_valid : (made : List Fields) → All SoundEntry (map entry_of made) → All (λ draft. HasTexts (entry_of draft)) made → All (λ draft. IsEntry (entry_of draft)) made
-drafts_valid [] h t = All-nil (λ draft. IsEntry (entry_of draft))
+pub drafts_valid : (made : List Fields) → All SoundEntry (map entry_view made) → All (λ draft. HasTexts (entry_view draft)) made → All (λ draft. IsEntry (entry_view draft)) made
+drafts_valid [] h t = All-nil (λ draft. IsEntry (entry_view draft))
 drafts_valid (draft ∷ made) h t =
-    All-cons (λ d. IsEntry (entry_of d)) draft made
-    (entry_valid (entry_of draft) (All-head SoundEntry (entry_of draft) (map entry_of made) h) (All-head (λ d. HasTexts (entry_of d)) draft made t))
-    (drafts_valid made (All-tail SoundEntry (entry_of draft) (map entry_of made) h) (All-tail (λ d. HasTexts (entry_of d)) draft made t))
+    All-cons (λ d. IsEntry (entry_view d)) draft made
+    (entry_valid (entry_view draft) (All-head SoundEntry (entry_view draft) (map entry_view made) h) (All-head (λ d. HasTexts (entry_view d)) draft made t))
+    (drafts_valid made (All-tail SoundEntry (entry_view draft) (map entry_view made) h) (All-tail (λ d. HasTexts (entry_view d)) draft made t))
 
-pub all_readable : (made : List Fields) → All (λ draft. HasTexts (entry_of draft)) made → All HasReadableTexts (map entry_of made)
+pub all_readable : (made : List Fields) → All (λ draft. HasTexts (entry_view draft)) made → All HasReadableTexts (map entry_view made)
 all_readable [] t = All-nil HasReadableTexts
 all_readable (draft ∷ made) t =
-    All-cons HasReadableTexts (entry_of draft) (map entry_of made) (texts_readable (entry_of draft) (All-head (λ d. HasTexts (entry_of d)) draft made t)) (all_readable made (All-tail (λ d. HasTexts (entry_of d)) draft made t))
+    All-cons HasReadableTexts (entry_view draft) (map entry_view made) (texts_readable (entry_view draft) (All-head (λ d. HasTexts (entry_view d)) draft made t)) (all_readable made (All-tail (λ d. HasTexts (entry_view d)) draft made t))
 
 fault_kind : (spelt : TextEntry) (fault : PoFault) → TextsFault spelt fault → fault ≡ OutOfMemory → ⊥
 fault_kind spelt fault (validity.not_utf8 some) e = cc

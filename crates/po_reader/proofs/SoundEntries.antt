@@ -9,20 +9,20 @@ use Rattle.po_syntax.specs.declared.item.Marks.{Marks}
 use Rattle.po_syntax.specs.TextItem.{TextItem, Comment, Word, Str}
 use Rattle.po_entry.specs.Bytes.{Lacks}
 use Rattle.po_entry.specs.Strings.{IsStrings, last, more, string_step, Take, Refuse, same_marks, same_bool, stray_string}
-use Rattle.po_entry.specs.Words as word
+use Rattle.po_entry.specs.Keywords as word
 use Rattle.po_entry.specs.Body as body
 use Rattle.po_entry.specs.Head as head
-use Rattle.po_entry.specs.Head.{Note, PreviousText}
+use Rattle.po_entry.specs.Head.{CommentText, PreviousText}
 use Rattle.po_reader.proofs.SoundItems.{SoundItem, SoundComment}
 
 -- the texts of a head's comments and previous texts, and of own lines
-abbrev pub SoundNote : Note → Type 0
-SoundNote note = SoundComment note.kind note.text
+abbrev pub SoundCommentText : CommentText → Type 0
+SoundCommentText comment_text = SoundComment comment_text.kind comment_text.text
 
 abbrev pub SoundPrevious : PreviousText → Type 0
 SoundPrevious previous = Lacks 0 previous.text
 
--- a string that was taken, and the items behind it
+-- a string that was taken, and the items after it
 string_sound : (marks : Marks) (items rest : List TextItem) (bytes : List ℕ) → string_step marks items ≡ Take bytes rest → All SoundItem items → Lacks 0 bytes × All SoundItem rest
 string_sound marks [] rest bytes e h = cc
 string_sound marks (Comment kind text line ∷ items) rest bytes e h = cc
@@ -31,66 +31,66 @@ string_sound marks (Str text found line ∷ items) rest bytes e h = taken (same_
   taken : (t : Bool) → (if t then Take text items else Refuse (stray_string marks found)) ≡ Take bytes rest → Lacks 0 bytes × All SoundItem rest
   taken true q =
       let same : text ≡ bytes = cc in
-      let behind : items ≡ rest = cc in
-      (subst (Lacks 0) same (All-head SoundItem (Str text found line) items h), subst (All SoundItem) behind (All-tail SoundItem (Str text found line) items h))
+      let after : items ≡ rest = cc in
+      (subst (Lacks 0) same (All-head SoundItem (Str text found line) items h), subst (All SoundItem) after (All-tail SoundItem (Str text found line) items h))
   taken false q = cc
 
 strings_sound : {marks : Marks} {items rest : List TextItem} {bytes : List ℕ} → IsStrings marks items bytes rest → All SoundItem items → Lacks 0 bytes × All SoundItem rest
 strings_sound {marks} (last {items = items} {rest = rest} {bytes = bytes} e ends) h = string_sound marks items rest bytes e h
-strings_sound {marks} (more {items = items} {behind = behind} {bytes = bytes} {others = others} e goes_on strings) h =
-    let here = string_sound marks items behind bytes e h in
+strings_sound {marks} (more {items = items} {after = after} {bytes = bytes} {others = others} e goes_on strings) h =
+    let here = string_sound marks items after bytes e h in
     let later = strings_sound strings here.1 in
     (All-append (λ b. b ≢ 0) bytes others here.0 later.0, later.1)
 
-word_behind : (wanted : word.Wanted) (obsolete : Bool) (items text : List TextItem) (keyword : Keyword) (line : ℕ) → word.next_word wanted obsolete items ≡ word.Take keyword line text → All SoundItem items → All SoundItem text
-word_behind wanted obsolete [] text keyword line e h = cc
-word_behind wanted obsolete (Comment k t l ∷ items) text keyword line e h = cc
-word_behind wanted obsolete (Str b m l ∷ items) text keyword line e h = cc
-word_behind wanted obsolete (Word found marks at ∷ items) text keyword line e h =
+keyword_after : (wanted : word.Wanted) (obsolete : Bool) (items text : List TextItem) (keyword : Keyword) (line : ℕ) → word.next_keyword wanted obsolete items ≡ word.Take keyword line text → All SoundItem items → All SoundItem text
+keyword_after wanted obsolete [] text keyword line e h = cc
+keyword_after wanted obsolete (Comment k t l ∷ items) text keyword line e h = cc
+keyword_after wanted obsolete (Str b m l ∷ items) text keyword line e h = cc
+keyword_after wanted obsolete (Word found marks at ∷ items) text keyword line e h =
     taken marks.previous (word.is_wanted wanted found) (same_bool obsolete marks.obsolete) (word.is_wrong_form wanted found) e where
       taken : (p w s f : Bool)
           → (if p then word.Refuse BadOrder else if w then (if s then word.Take found at items else word.Refuse MixedObsolete) else if f then word.Refuse BadPluralIndex else word.Refuse BadOrder) ≡ word.Take keyword line text
           → All SoundItem text
       taken true w s f q = cc
-      taken false true true f q = let behind : items ≡ text = cc in subst (All SoundItem) behind (All-tail SoundItem (Word found marks at) items h)
+      taken false true true f q = let after : items ≡ text = cc in subst (All SoundItem) after (All-tail SoundItem (Word found marks at) items h)
       taken false true false f q = cc
       taken false false s true q = cc
       taken false false s false q = cc
 
-worded_sound : {wanted : word.Wanted} {obsolete : Bool} {items rest : List TextItem} {keyword : Keyword} {line : ℕ} {bytes : List ℕ} → word.IsWorded wanted obsolete items keyword line bytes rest → All SoundItem items
+keyword_text_sound : {wanted : word.Wanted} {obsolete : Bool} {items rest : List TextItem} {keyword : Keyword} {line : ℕ} {bytes : List ℕ} → word.IsKeywordText wanted obsolete items keyword line bytes rest → All SoundItem items
     → Lacks 0 bytes × All SoundItem rest
-worded_sound {wanted} {obsolete} (word.worded {items = items} {text = text} {keyword = keyword} {line = line} e strings) h =
-    strings_sound strings (word_behind wanted obsolete items text keyword line e h)
+keyword_text_sound {wanted} {obsolete} (word.keyword_text {items = items} {text = text} {keyword = keyword} {line = line} e strings) h =
+    strings_sound strings (keyword_after wanted obsolete items text keyword line e h)
 
 record SoundForms (forms : List (List ℕ)) (rest : List TextItem) : Type 0 where
   lacks : All (Lacks 0) forms
   some_form : 0 < length forms
-  behind : All SoundItem rest
+  after : All SoundItem rest
 
 forms_sound : {obsolete : Bool} {index : ℕ} {items rest : List TextItem} {forms : List (List ℕ)} → body.IsForms obsolete index items forms rest → All SoundItem items → SoundForms forms rest
 forms_sound (body.last {form = form} w ends) h =
-    let here = worded_sound w h in
-    record { lacks = All-cons (Lacks 0) form [] here.0 (All-nil (Lacks 0)); some_form = omega arith; behind = here.1 }
+    let here = keyword_text_sound w h in
+    record { lacks = All-cons (Lacks 0) form [] here.0 (All-nil (Lacks 0)); some_form = omega arith; after = here.1 }
 forms_sound (body.more {form = form} {forms = forms} w goes_on others) h =
-    let here = worded_sound w h in
+    let here = keyword_text_sound w h in
     let later = forms_sound others here.1 in
-    record { lacks = All-cons (Lacks 0) form forms here.0 later.lacks; some_form = omega arith; behind = later.behind }
+    record { lacks = All-cons (Lacks 0) form forms here.0 later.lacks; some_form = omega arith; after = later.after }
 
 record SoundTranslation (plural : Option (List ℕ)) (forms : List (List ℕ)) (rest : List TextItem) : Type 0 where
   plural_lacks : All (Lacks 0) (option_to_list plural)
   forms_lack : All (Lacks 0) forms
   some_form : 0 < length forms
   one_form : plural ≡ None → length forms ≡ 1
-  behind : All SoundItem rest
+  after : All SoundItem rest
 
 translation_sound : {obsolete : Bool} {items rest : List TextItem} {plural : Option (List ℕ)} {forms : List (List ℕ)} → body.IsTranslation obsolete items plural forms rest → All SoundItem items → SoundTranslation plural forms rest
 translation_sound (body.single {form = form} w) h =
-    let here = worded_sound w h in
-    record { plural_lacks = All-nil (Lacks 0); forms_lack = All-cons (Lacks 0) form [] here.0 (All-nil (Lacks 0)); some_form = omega arith; one_form = λ _. refl; behind = here.1 }
+    let here = keyword_text_sound w h in
+    record { plural_lacks = All-nil (Lacks 0); forms_lack = All-cons (Lacks 0) form [] here.0 (All-nil (Lacks 0)); some_form = omega arith; one_form = λ _. refl; after = here.1 }
 translation_sound (body.plural {plural = plural} w forms) h =
-    let here = worded_sound w h in
+    let here = keyword_text_sound w h in
     let later = forms_sound forms here.1 in
-    record { plural_lacks = All-cons (Lacks 0) plural [] here.0 (All-nil (Lacks 0)); forms_lack = later.lacks; some_form = later.some_form; one_form = λ e. cc; behind = later.behind }
+    record { plural_lacks = All-cons (Lacks 0) plural [] here.0 (All-nil (Lacks 0)); forms_lack = later.lacks; some_form = later.some_form; one_form = λ e. cc; after = later.after }
 
 pub record SoundBody (own : body.Body) (rest : List TextItem) : Type 0 where
   pub context_lacks : All (Lacks 0) (option_to_list own.context)
@@ -99,7 +99,7 @@ pub record SoundBody (own : body.Body) (rest : List TextItem) : Type 0 where
   pub forms_lack : All (Lacks 0) own.forms
   pub some_form : 0 < length own.forms
   pub one_form : own.plural ≡ None → length own.forms ≡ 1
-  pub behind : All SoundItem rest
+  pub after : All SoundItem rest
 
 abbrev StartSound : body.Start → Type 0
 StartSound (body.WithContext obsolete rest) = All SoundItem rest
@@ -126,10 +126,10 @@ pub body_sound : {items rest : List TextItem} {own : body.Body} → body.IsBody 
 body_sound {items} (body.without_context e strings translation) h =
     let id = strings_sound strings (subst StartSound e (start_sound items h)) in
     let later = translation_sound translation id.1 in
-    record { context_lacks = All-nil (Lacks 0); id_lacks = id.0; plural_lacks = later.plural_lacks; forms_lack = later.forms_lack; some_form = later.some_form; one_form = later.one_form; behind = later.behind }
+    record { context_lacks = All-nil (Lacks 0); id_lacks = id.0; plural_lacks = later.plural_lacks; forms_lack = later.forms_lack; some_form = later.some_form; one_form = later.one_form; after = later.after }
 body_sound {items} (body.with_context {context = context} e strings w translation) h =
     let first = strings_sound strings (subst StartSound e (start_sound items h)) in
-    let id = worded_sound w first.1 in
+    let id = keyword_text_sound w first.1 in
     let later = translation_sound translation id.1 in
     record {
       context_lacks = All-cons (Lacks 0) context [] first.0 (All-nil (Lacks 0));
@@ -138,11 +138,11 @@ body_sound {items} (body.with_context {context = context} e strings w translatio
       forms_lack = later.forms_lack;
       some_form = later.some_form;
       one_form = later.one_form;
-      behind = later.behind;
+      after = later.after;
     }
 
 abbrev HeadStepSound : head.HeadStep → Type 0
-HeadStepSound (head.Remark kind text rest) = SoundComment kind text × All SoundItem rest
+HeadStepSound (head.HeadComment kind text rest) = SoundComment kind text × All SoundItem rest
 HeadStepSound (head.Previous keyword marks rest) = All SoundItem rest
 HeadStepSound head.Over = Unit {0}
 HeadStepSound (head.Refuse fault) = Unit {0}
@@ -161,18 +161,18 @@ head_step_sound above (Word keyword marks line ∷ items) h = own marks.previous
   own false r true = tt
   own false r false = tt
 
-pub record SoundHead (notes : List Note) (previous : List PreviousText) (rest : List TextItem) : Type 0 where
-  pub notes_sound : All SoundNote notes
+pub record SoundHead (comment_texts : List CommentText) (previous : List PreviousText) (rest : List TextItem) : Type 0 where
+  pub comments_sound : All SoundCommentText comment_texts
   pub previous_sound : All SoundPrevious previous
-  pub behind : All SoundItem rest
+  pub after : All SoundItem rest
 
-pub head_sound : {above : ℕ} {items rest : List TextItem} {notes : List Note} {previous : List PreviousText} → head.IsHead above items notes previous rest → All SoundItem items → SoundHead notes previous rest
-head_sound (head.over e) h = record { notes_sound = All-nil SoundNote; previous_sound = All-nil SoundPrevious; behind = h }
-head_sound (head.remark {above = above} {kind = kind} {text = text} {items = items} {notes = notes} e behind) h =
+pub head_sound : {above : ℕ} {items rest : List TextItem} {comment_texts : List CommentText} {previous : List PreviousText} → head.IsHead above items comment_texts previous rest → All SoundItem items → SoundHead comment_texts previous rest
+head_sound (head.over e) h = record { comments_sound = All-nil SoundCommentText; previous_sound = All-nil SoundPrevious; after = h }
+head_sound (head.head_comment {above = above} {kind = kind} {text = text} {items = items} {comment_texts = comment_texts} e after) h =
     let here = subst HeadStepSound e (head_step_sound above items h) in
-    let later = head_sound behind here.1 in
-    record { notes_sound = All-cons SoundNote (record { kind = kind; text = text }) notes here.0 later.notes_sound; previous_sound = later.previous_sound; behind = later.behind }
-head_sound (head.previous {above = above} {keyword = keyword} {bytes = bytes} {items = items} {others = others} e strings behind) h =
+    let later = head_sound after here.1 in
+    record { comments_sound = All-cons SoundCommentText (record { kind = kind; text = text }) comment_texts here.0 later.comments_sound; previous_sound = later.previous_sound; after = later.after }
+head_sound (head.previous {above = above} {keyword = keyword} {bytes = bytes} {items = items} {others = others} e strings after) h =
     let text = strings_sound strings (subst HeadStepSound e (head_step_sound above items h)) in
-    let later = head_sound behind text.1 in
-    record { notes_sound = later.notes_sound; previous_sound = All-cons SoundPrevious (record { keyword = keyword; text = bytes }) others text.0 later.previous_sound; behind = later.behind }
+    let later = head_sound after text.1 in
+    record { comments_sound = later.comments_sound; previous_sound = All-cons SoundPrevious (record { keyword = keyword; text = bytes }) others text.0 later.previous_sound; after = later.after }

@@ -12,12 +12,12 @@ use Rattle.po_syntax.specs.Token.{is_blank, skip_blanks}
 use Rattle.po_entry.specs.TextEntry.{TextPrevious, previous_texts, no_previous}
 use Rattle.po_entry.specs.Bytes.{Lacks, trimmed, AreDistinct}
 use Rattle.po_entry.specs.Halves.{All-left}
-use Rattle.po_entry.specs.Head.{Note, PreviousText, rank}
-use Rattle.po_entry.specs.Notes.{same_kind, texts_of, is_not_empty, is_comma, words_of, flag_words, is_fuzzy_word, with_flag, with_previous, previous_of}
+use Rattle.po_entry.specs.Head.{CommentText, PreviousText, rank}
+use Rattle.po_entry.specs.Comments.{same_kind, texts_of, is_not_empty, is_comma, listed_references, listed_flags, is_fuzzy_flag, with_flag, with_previous, previous_of}
 use Rattle.po_entry.specs.Validity.{IsText, IsReference, IsFlag}
 use Rattle.po_reader.proofs.SoundItems.{SoundComment, IsLineText}
-use Rattle.po_reader.proofs.SoundEntries.{SoundNote, SoundPrevious}
-use Rattle.po_reader.proofs.Pieces.{utf8_behind, utf8_before, utf8_parts, all_parts, parts_fail, blank_is_ascii}
+use Rattle.po_reader.proofs.SoundEntries.{SoundCommentText, SoundPrevious}
+use Rattle.po_reader.proofs.Pieces.{utf8_after, utf8_before, utf8_parts, all_parts, parts_fail, blank_is_ascii}
 use Rattle.po_reader.proofs.Trims.{end_keeps, start_keeps, ends_once}
 
 same_kinds : (a b : CommentKind) → same_kind a b ≡ true → b ≡ a
@@ -38,11 +38,11 @@ same_kinds Flags Extracted e = cc
 same_kinds Flags Reference e = cc
 same_kinds Flags Flags e = refl
 
-pub kind_sound : (kind : CommentKind) (notes : List Note) → All SoundNote notes → All (SoundComment kind) (texts_of kind notes)
+pub kind_sound : (kind : CommentKind) (comment_texts : List CommentText) → All SoundCommentText comment_texts → All (SoundComment kind) (texts_of kind comment_texts)
 kind_sound kind [] h = All-nil (SoundComment kind)
-kind_sound kind (note ∷ notes) h = found (same_kind kind note.kind) refl (kind_sound kind notes (All-tail SoundNote note notes h)) where
-  found : (t : Bool) → same_kind kind note.kind ≡ t → All (SoundComment kind) (texts_of kind notes) → All (SoundComment kind) (map (λ (n : Note). n.text) (cond t (note ∷ filter (λ (n : Note). same_kind kind n.kind) notes) (filter (λ (n : Note). same_kind kind n.kind) notes)))
-  found true t more = All-cons (SoundComment kind) note.text (texts_of kind notes) (subst (λ k. SoundComment k note.text) (same_kinds kind note.kind t) (All-head SoundNote note notes h)) more
+kind_sound kind (comment_text ∷ comment_texts) h = found (same_kind kind comment_text.kind) refl (kind_sound kind comment_texts (All-tail SoundCommentText comment_text comment_texts h)) where
+  found : (t : Bool) → same_kind kind comment_text.kind ≡ t → All (SoundComment kind) (texts_of kind comment_texts) → All (SoundComment kind) (map (λ (n : CommentText). n.text) (cond t (comment_text ∷ filter (λ (n : CommentText). same_kind kind n.kind) comment_texts) (filter (λ (n : CommentText). same_kind kind n.kind) comment_texts)))
+  found true t more = All-cons (SoundComment kind) comment_text.text (texts_of kind comment_texts) (subst (λ k. SoundComment k comment_text.text) (same_kinds kind comment_text.kind t) (All-head SoundCommentText comment_text comment_texts h)) more
   found false t more = more
 
 line_text : (kind : CommentKind) (text : List ℕ) → SoundComment kind text → IsLineText text
@@ -62,8 +62,8 @@ line_parts p ascii text h =
 some_byte : (text : List ℕ) → is_not_empty text ≡ true → text ≢ []
 some_byte text e none = let length_zero : length text ≡ 0 = ap length none in eqb-false _ _ (not-true _ e) length_zero
 
-words_sound : (text : List ℕ) → IsLineText text → All IsReference (words_of text)
-words_sound text h = kept (slice_split is_blank text) (line_parts is_blank blank_is_ascii text h) (parts_fail is_blank text) where
+elements_sound : (text : List ℕ) → IsLineText text → All IsReference (listed_references text)
+elements_sound text h = kept (slice_split is_blank text) (line_parts is_blank blank_is_ascii text h) (parts_fail is_blank text) where
   kept : (parts : List (List ℕ)) → All IsLineText parts → All (All (λ b. is_blank b ≡ false)) parts → All IsReference (filter is_not_empty parts)
   kept [] a b = All-nil IsReference
   kept (part ∷ parts) a b = found (is_not_empty part) refl (kept parts (All-tail IsLineText part parts a) (All-tail (All (λ c. is_blank c ≡ false)) part parts b)) where
@@ -79,14 +79,14 @@ words_sound text h = kept (slice_split is_blank text) (line_parts is_blank blank
         All-cons IsReference part (filter is_not_empty parts) here more
     found false t more = more
 
-pub references_sound : (texts : List (List ℕ)) → All (SoundComment Reference) texts → All IsReference (flat_map words_of texts)
+pub references_sound : (texts : List (List ℕ)) → All (SoundComment Reference) texts → All IsReference (flat_map listed_references texts)
 references_sound [] h = All-nil IsReference
 references_sound (text ∷ texts) h =
-    All-append IsReference (words_of text) (flat_map words_of texts) (words_sound text (line_text Reference text (All-head (SoundComment Reference) text texts h)))
+    All-append IsReference (listed_references text) (flat_map listed_references texts) (elements_sound text (line_text Reference text (All-head (SoundComment Reference) text texts h)))
     (references_sound texts (All-tail (SoundComment Reference) text texts h))
 
--- a word of a flag line
-pub record SoundFlagWord (word : List ℕ) : Type 0 where
+-- an element of a flag line
+pub record SoundFlagElement (word : List ℕ) : Type 0 where
   pub valid : IsText word
   pub some : word ≢ []
   pub no_blank_ends : trimmed word ≡ word
@@ -99,12 +99,12 @@ record FlagPiece (text : List ℕ) : Type 0 where
 
 piece_tail : (b : ℕ) (text : List ℕ) → is_blank b ≡ true → FlagPiece (b ∷ text) → FlagPiece text
 piece_tail b text e h = record {
-  line = record { utf8 = utf8_behind b text (blank_is_ascii b e) h.line.utf8; no_nul = All-tail (λ c. c ≢ 0) b text h.line.no_nul; one_line = All-tail (λ c. c ≢ 10) b text h.line.one_line };
+  line = record { utf8 = utf8_after b text (blank_is_ascii b e) h.line.utf8; no_nul = All-tail (λ c. c ≢ 0) b text h.line.no_nul; one_line = All-tail (λ c. c ≢ 10) b text h.line.one_line };
   no_comma = All-tail (λ c. c ≢ 44) b text h.no_comma;
 }
 
-piece_front : (text : List ℕ) (b : ℕ) → is_blank b ≡ true → FlagPiece (text ++ b ∷ []) → FlagPiece text
-piece_front text b e h = record {
+piece_prefix : (text : List ℕ) (b : ℕ) → is_blank b ≡ true → FlagPiece (text ++ b ∷ []) → FlagPiece text
+piece_prefix text b e h = record {
   line = record {
     utf8 = utf8_before text b (blank_is_ascii b e) h.line.utf8;
     no_nul = All-left (λ c. c ≢ 0) text (b ∷ []) h.line.no_nul;
@@ -114,37 +114,37 @@ piece_front text b e h = record {
 }
 
 trimmed_piece : (text : List ℕ) → FlagPiece text → FlagPiece (trimmed text)
-trimmed_piece text h = end_keeps FlagPiece is_blank piece_front (skip_blanks text) (start_keeps FlagPiece is_blank piece_tail text h)
+trimmed_piece text h = end_keeps FlagPiece is_blank piece_prefix (skip_blanks text) (start_keeps FlagPiece is_blank piece_tail text h)
 
 comma_is_ascii : (b : ℕ) → is_comma b ≡ true → b < 128
 comma_is_ascii b e = let low : 44 < 128 = lit< tt in rw (eqb-true _ _ e) low
 
-flag_words_sound : (text : List ℕ) → IsLineText text → All SoundFlagWord (flag_words text)
-flag_words_sound text h = kept (slice_split is_comma text) (line_parts is_comma comma_is_ascii text h) (parts_fail is_comma text) where
-  kept : (parts : List (List ℕ)) → All IsLineText parts → All (All (λ b. is_comma b ≡ false)) parts → All SoundFlagWord (filter is_not_empty (map trimmed parts))
-  kept [] a b = All-nil SoundFlagWord
+flag_elements_sound : (text : List ℕ) → IsLineText text → All SoundFlagElement (listed_flags text)
+flag_elements_sound text h = kept (slice_split is_comma text) (line_parts is_comma comma_is_ascii text h) (parts_fail is_comma text) where
+  kept : (parts : List (List ℕ)) → All IsLineText parts → All (All (λ b. is_comma b ≡ false)) parts → All SoundFlagElement (filter is_not_empty (map trimmed parts))
+  kept [] a b = All-nil SoundFlagElement
   kept (part ∷ parts) a b = found (is_not_empty (trimmed part)) refl (kept parts (All-tail IsLineText part parts a) (All-tail (All (λ c. is_comma c ≡ false)) part parts b)) where
-    found : (t : Bool) → is_not_empty (trimmed part) ≡ t → All SoundFlagWord (filter is_not_empty (map trimmed parts))
-        → All SoundFlagWord (cond t (trimmed part ∷ filter is_not_empty (map trimmed parts)) (filter is_not_empty (map trimmed parts)))
+    found : (t : Bool) → is_not_empty (trimmed part) ≡ t → All SoundFlagElement (filter is_not_empty (map trimmed parts))
+        → All SoundFlagElement (cond t (trimmed part ∷ filter is_not_empty (map trimmed parts)) (filter is_not_empty (map trimmed parts)))
     found true t more =
         let no_comma : Lacks 44 part = All-weaker (λ c. is_comma c ≡ false) (λ c. c ≢ 44) (λ c e. eqb-false _ _ e) part (All-head (All (λ c. is_comma c ≡ false)) part parts b) in
         let piece : FlagPiece part = record { line = All-head IsLineText part parts a; no_comma = no_comma } in
         let word = trimmed_piece part piece in
-        let here : SoundFlagWord (trimmed part) = record {
+        let here : SoundFlagElement (trimmed part) = record {
           valid = record { utf8 = word.line.utf8; no_nul = word.line.no_nul };
           some = some_byte (trimmed part) t;
           no_blank_ends = ends_once is_blank part;
           no_comma = word.no_comma;
           one_line = word.line.one_line;
         } in
-        All-cons SoundFlagWord (trimmed part) (filter is_not_empty (map trimmed parts)) here more
+        All-cons SoundFlagElement (trimmed part) (filter is_not_empty (map trimmed parts)) here more
     found false t more = more
 
-pub all_flag_words_sound : (texts : List (List ℕ)) → All (SoundComment Flags) texts → All SoundFlagWord (flat_map flag_words texts)
-all_flag_words_sound [] h = All-nil SoundFlagWord
-all_flag_words_sound (text ∷ texts) h =
-    All-append SoundFlagWord (flag_words text) (flat_map flag_words texts) (flag_words_sound text (line_text Flags text (All-head (SoundComment Flags) text texts h)))
-    (all_flag_words_sound texts (All-tail (SoundComment Flags) text texts h))
+pub all_flag_elements_sound : (texts : List (List ℕ)) → All (SoundComment Flags) texts → All SoundFlagElement (flat_map listed_flags texts)
+all_flag_elements_sound [] h = All-nil SoundFlagElement
+all_flag_elements_sound (text ∷ texts) h =
+    All-append SoundFlagElement (listed_flags text) (flat_map listed_flags texts) (flag_elements_sound text (line_text Flags text (All-head (SoundComment Flags) text texts h)))
+    (all_flag_elements_sound texts (All-tail (SoundComment Flags) text texts h))
 
 -- flags that can stand in an entry
 pub record SoundFlags (flags : List (List ℕ)) : Type 0 where
@@ -161,9 +161,9 @@ distinct_push (flag ∷ flags) word h new = (
 not_among : (flags : List (List ℕ)) (word : List ℕ) → list_any (bytes_eq word) flags ≡ false → Contains flags word → ⊥
 not_among flags word e (k, below, is) = false≢true (sym e ∙ list_any_at (bytes_eq word) flags k word below ((bytes_eq-Decides word _).1 (sym is)))
 
-flag_added : (flags : List (List ℕ)) (word : List ℕ) → SoundFlags flags → SoundFlagWord word → SoundFlags (with_flag flags word)
-flag_added flags word h w = found (is_fuzzy_word word) (list_any (bytes_eq word) flags) refl refl where
-  found : (f a : Bool) → is_fuzzy_word word ≡ f → list_any (bytes_eq word) flags ≡ a → SoundFlags (if f || a then flags else flags ++ word ∷ [])
+flag_added : (flags : List (List ℕ)) (word : List ℕ) → SoundFlags flags → SoundFlagElement word → SoundFlags (with_flag flags word)
+flag_added flags word h w = found (is_fuzzy_flag word) (list_any (bytes_eq word) flags) refl refl where
+  found : (f a : Bool) → is_fuzzy_flag word ≡ f → list_any (bytes_eq word) flags ≡ a → SoundFlags (if f || a then flags else flags ++ word ∷ [])
   found true a e d = h
   found false true e d = h
   found false false e d =
@@ -177,10 +177,10 @@ flag_added flags word h w = found (is_fuzzy_word word) (list_any (bytes_eq word)
       } in
       record { all = All-push IsFlag flags word h.all here; distinct = distinct_push flags word h.distinct (not_among flags word d) }
 
-pub flags_sound : (words : List (List ℕ)) (flags : List (List ℕ)) → SoundFlags flags → All SoundFlagWord words → SoundFlags (fold with_flag flags words)
+pub flags_sound : (keywords : List (List ℕ)) (flags : List (List ℕ)) → SoundFlags flags → All SoundFlagElement keywords → SoundFlags (fold with_flag flags keywords)
 flags_sound [] flags h w = h
-flags_sound (word ∷ words) flags h w =
-    flags_sound words (with_flag flags word) (flag_added flags word h (All-head SoundFlagWord word words w)) (All-tail SoundFlagWord word words w)
+flags_sound (word ∷ keywords) flags h w =
+    flags_sound keywords (with_flag flags word) (flag_added flags word h (All-head SoundFlagElement word keywords w)) (All-tail SoundFlagElement word keywords w)
 
 -- previous texts
 

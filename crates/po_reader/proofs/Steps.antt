@@ -1,4 +1,4 @@
--- What a step makes of an item hangs on the item alone, whatever stands behind it.
+-- What a step makes of an item hangs on the item alone, whatever stands after it.
 use Rattle.std.proofs.Common.{◌≡◌, ℕ, Bool, true, false, nat_lt, List, ◌∷◌, refl, inl, inr, ◌⊎◌}
 use Rattle.std.specs.Prelude.{if◌then◌else◌}
 use Rattle.po_syntax.specs.declared.fault.PoFault.{PoFault}
@@ -9,7 +9,7 @@ use Rattle.po_syntax.specs.declared.item.Keyword.TheVariants.{MsgCtxt, MsgId, Ms
 use Rattle.po_syntax.specs.declared.item.Marks.{Marks}
 use Rattle.po_syntax.specs.TextItem.{TextItem, Comment, Word, Str}
 use Rattle.po_entry.specs.Strings as string
-use Rattle.po_entry.specs.Words as word
+use Rattle.po_entry.specs.Keywords as word
 use Rattle.po_entry.specs.Body as body
 use Rattle.po_entry.specs.Head as head
 
@@ -24,20 +24,20 @@ string_item marks (Str bytes found line) = chosen (string.same_marks marks found
   chosen true = inl (bytes, λ rest. refl)
   chosen false = inr (string.stray_string marks found, λ rest. refl)
 
--- what stands where a word is wanted, by the four tests that decide it
-abbrev pub word_told : (p w s f : Bool) → Keyword → ℕ → List TextItem → word.WordStep
-word_told p w s f keyword line rest = if p then word.Refuse BadOrder else if w then (if s then word.Take keyword line rest else word.Refuse MixedObsolete) else if f then word.Refuse BadPluralIndex else word.Refuse BadOrder
+-- what stands where a keyword is wanted, by the four tests that decide it
+abbrev pub keyword_reported : (p w s f : Bool) → Keyword → ℕ → List TextItem → word.KeywordStep
+keyword_reported p w s f keyword line rest = if p then word.Refuse BadOrder else if w then (if s then word.Take keyword line rest else word.Refuse MixedObsolete) else if f then word.Refuse BadPluralIndex else word.Refuse BadOrder
 
-abbrev WordDoes : (List TextItem → word.WordStep) → Type 0
-WordDoes step =
+abbrev KeywordDoes : (List TextItem → word.KeywordStep) → Type 0
+KeywordDoes step =
     ((keyword : Keyword) × (line : ℕ) × ((rest : List TextItem) → step rest ≡ word.Take keyword line rest)) ⊎ ((fault : PoFault) × ((rest : List TextItem) → step rest ≡ word.Refuse fault))
 
-pub word_item : (wanted : word.Wanted) (obsolete : Bool) (item : TextItem) → WordDoes (λ rest. word.next_word wanted obsolete (item ∷ rest))
-word_item wanted obsolete (Comment kind text line) = inr (BadOrder, λ rest. refl)
-word_item wanted obsolete (Str bytes marks line) = inr (BadOrder, λ rest. refl)
-word_item wanted obsolete (Word keyword marks line) = chosen marks.previous (word.is_wanted wanted keyword) (string.same_bool obsolete marks.obsolete) (word.is_wrong_form wanted keyword) where
+pub keyword_item : (wanted : word.Wanted) (obsolete : Bool) (item : TextItem) → KeywordDoes (λ rest. word.next_keyword wanted obsolete (item ∷ rest))
+keyword_item wanted obsolete (Comment kind text line) = inr (BadOrder, λ rest. refl)
+keyword_item wanted obsolete (Str bytes marks line) = inr (BadOrder, λ rest. refl)
+keyword_item wanted obsolete (Word keyword marks line) = chosen marks.previous (word.is_wanted wanted keyword) (string.same_bool obsolete marks.obsolete) (word.is_wrong_form wanted keyword) where
   chosen : (p w s f : Bool)
-      → WordDoes (λ rest. word_told p w s f keyword line rest)
+      → KeywordDoes (λ rest. keyword_reported p w s f keyword line rest)
   chosen true w s f = inr (BadOrder, λ rest. refl)
   chosen false true true f = inl (keyword, line, λ rest. refl)
   chosen false true false f = inr (MixedObsolete, λ rest. refl)
@@ -65,20 +65,20 @@ start_item (Word MsgStr marks line) = StartDoes.starts_nothing (λ rest. refl)
 start_item (Word (MsgStrAt index) marks line) = StartDoes.starts_nothing (λ rest. refl)
 
 pub data HeadDoes (step : List TextItem → head.HeadStep) : Type 0 where
-  remarks : (kind : CommentKind) (text : List ℕ) → ((rest : List TextItem) → step rest ≡ head.Remark kind text rest) → HeadDoes step
+  head_comments : (kind : CommentKind) (text : List ℕ) → ((rest : List TextItem) → step rest ≡ head.HeadComment kind text rest) → HeadDoes step
   texts : (keyword : Keyword) (marks : Marks) → ((rest : List TextItem) → step rest ≡ head.Previous keyword marks rest) → HeadDoes step
   ends : ((rest : List TextItem) → step rest ≡ head.Over) → HeadDoes step
   refuses : (fault : PoFault) → ((rest : List TextItem) → step rest ≡ head.Refuse fault) → HeadDoes step
 
--- what stands in a head where a word stands, by the three tests that decide it
-abbrev pub head_told : (p r b : Bool) → Keyword → Marks → List TextItem → head.HeadStep
-head_told p r b keyword marks rest = if p then (if r then head.Previous keyword marks rest else head.Refuse BadOrder) else if b then head.Over else head.Refuse BadOrder
+-- what stands in a head where a keyword stands, by the three tests that decide it
+abbrev pub head_reported : (p r b : Bool) → Keyword → Marks → List TextItem → head.HeadStep
+head_reported p r b keyword marks rest = if p then (if r then head.Previous keyword marks rest else head.Refuse BadOrder) else if b then head.Over else head.Refuse BadOrder
 
 pub head_item : (above : ℕ) (item : TextItem) → HeadDoes (λ rest. head.head_step above (item ∷ rest))
-head_item above (Comment kind text line) = HeadDoes.remarks kind text (λ rest. refl)
+head_item above (Comment kind text line) = HeadDoes.head_comments kind text (λ rest. refl)
 head_item above (Str bytes marks line) = HeadDoes.refuses BadOrder (λ rest. refl)
 head_item above (Word keyword marks line) = chosen marks.previous (nat_lt above (head.rank keyword)) (head.begins_body keyword) where
-  chosen : (p r b : Bool) → HeadDoes (λ rest. head_told p r b keyword marks rest)
+  chosen : (p r b : Bool) → HeadDoes (λ rest. head_reported p r b keyword marks rest)
   chosen true true b = HeadDoes.texts keyword marks (λ rest. refl)
   chosen true false b = HeadDoes.refuses BadOrder (λ rest. refl)
   chosen false r true = HeadDoes.ends (λ rest. refl)

@@ -8,14 +8,14 @@ use Rattle.po_syntax.specs.declared.item.Marks.{Marks}
 use Rattle.po_syntax.specs.TextItem.{TextItem, line_of}
 use Rattle.po_entry.specs.TextEntry.{TextEntry}
 use Rattle.po_entry.specs.Strings as string
-use Rattle.po_entry.specs.Words as word
+use Rattle.po_entry.specs.Keywords as word
 use Rattle.po_entry.specs.Body as body
 use Rattle.po_entry.specs.Head as head
 use Rattle.po_entry.specs.Descent.{Reads, comments, entry}
 use Rattle.po_entry.specs.Spelling.{entry_from}
 use Rattle.po_reader.specs.Stops as stop
-use Rattle.po_reader.proofs.Steps.{string_item, word_item, start_item, StartDoes, head_item, HeadDoes}
-use Rattle.po_reader.proofs.Wordings.{translation_word}
+use Rattle.po_reader.proofs.Steps.{string_item, keyword_item, start_item, StartDoes, head_item, HeadDoes}
+use Rattle.po_reader.proofs.TakenKeywords.{translation_keyword}
 use Rattle.po_reader.proofs.HeadEnds.{head_over, over_cases, head_at_end}
 
 -- the strings of a text
@@ -24,10 +24,10 @@ StringsEnd end marks items =
     ((bytes : List ℕ) × (rest : List TextItem) × string.IsStrings marks items bytes rest × (length rest < length items))
     ⊎ ((fault : PoFault) × (line : ℕ) × stop.StringsStop end marks items fault line)
 
-behind_string : (end : ℕ) (marks : Marks) (item : TextItem) (items : List TextItem) (bytes : List ℕ) → string.string_step marks (item ∷ items) ≡ string.Take bytes items
+after_string : (end : ℕ) (marks : Marks) (item : TextItem) (items : List TextItem) (bytes : List ℕ) → string.string_step marks (item ∷ items) ≡ string.Take bytes items
     → StringsEnd end marks items → (begins : Bool) → string.begins_string items ≡ begins → StringsEnd end marks (item ∷ items)
-behind_string end marks item items bytes step next false e = inl (bytes, items, string.last step e, omega arith)
-behind_string end marks item items bytes step next true e = elim next [
+after_string end marks item items bytes step next false e = inl (bytes, items, string.last step e, omega arith)
+after_string end marks item items bytes step next true e = elim next [
   | inl found ↦ inl (bytes ++ found.0, found.1, string.more step e found.2, omega (arith, found.3))
   | inr found ↦ inr (found.0, found.1, stop.StringsStop.later step e found.2)
 ]
@@ -35,24 +35,24 @@ behind_string end marks item items bytes step next true e = elim next [
 strings_end : (end : ℕ) (marks : Marks) (items : List TextItem) → StringsEnd end marks items
 strings_end end marks [] = inr (BadOrder, end, stop.StringsStop.refused refl refl)
 strings_end end marks (item ∷ items) = elim (string_item marks item) [
-  | inl taken ↦ behind_string end marks item items taken.0 (taken.1 items) (strings_end end marks items) (string.begins_string items) refl
+  | inl taken ↦ after_string end marks item items taken.0 (taken.1 items) (strings_end end marks items) (string.begins_string items) refl
   | inr refused ↦ inr (refused.0, line_of item, stop.StringsStop.refused (refused.1 items) refl)
 ]
 
--- a wanted word with its text
-abbrev WordedEnds : ℕ → word.Wanted → Bool → List TextItem → Type 0
-WordedEnds end wanted obsolete items =
-    ((keyword : Keyword) × (at : ℕ) × (bytes : List ℕ) × (rest : List TextItem) × word.IsWorded wanted obsolete items keyword at bytes rest × (length rest < length items))
-    ⊎ ((fault : PoFault) × (line : ℕ) × stop.WordedStops end wanted obsolete items fault line)
+-- a wanted keyword with its text
+abbrev KeywordTextEnds : ℕ → word.Wanted → Bool → List TextItem → Type 0
+KeywordTextEnds end wanted obsolete items =
+    ((keyword : Keyword) × (at : ℕ) × (bytes : List ℕ) × (rest : List TextItem) × word.IsKeywordText wanted obsolete items keyword at bytes rest × (length rest < length items))
+    ⊎ ((fault : PoFault) × (line : ℕ) × stop.KeywordTextStops end wanted obsolete items fault line)
 
-worded_end : (end : ℕ) (wanted : word.Wanted) (obsolete : Bool) (items : List TextItem) → WordedEnds end wanted obsolete items
-worded_end end wanted obsolete [] = inr (BadOrder, end, stop.WordedStops.refused refl refl)
-worded_end end wanted obsolete (item ∷ items) = elim (word_item wanted obsolete item) [
+keyword_text_end : (end : ℕ) (wanted : word.Wanted) (obsolete : Bool) (items : List TextItem) → KeywordTextEnds end wanted obsolete items
+keyword_text_end end wanted obsolete [] = inr (BadOrder, end, stop.KeywordTextStops.refused refl refl)
+keyword_text_end end wanted obsolete (item ∷ items) = elim (keyword_item wanted obsolete item) [
   | inl taken ↦ elim (strings_end end (string.own_marks obsolete) items) [
-    | inl found ↦ inl (taken.0, taken.1, found.0, found.1, word.worded (taken.2 items) found.2, omega (arith, found.3))
+    | inl found ↦ inl (taken.0, taken.1, found.0, found.1, word.keyword_text (taken.2 items) found.2, omega (arith, found.3))
     | inr found ↦ inr (found.0, found.1, stop.in_text (taken.2 items) found.2)
   ]
-  | inr refused ↦ inr (refused.0, line_of item, stop.WordedStops.refused (refused.1 items) refl)
+  | inr refused ↦ inr (refused.0, line_of item, stop.KeywordTextStops.refused (refused.1 items) refl)
 ]
 
 -- the plural forms from an index on
@@ -61,18 +61,18 @@ FormsEnd end obsolete index items =
     ((forms : List (List ℕ)) × (rest : List TextItem) × body.IsForms obsolete index items forms rest × (length rest < length items))
     ⊎ ((fault : PoFault) × (line : ℕ) × stop.FormsStop end obsolete index items fault line)
 
-behind_form : (end : ℕ) (obsolete : Bool) (index at : ℕ) (keyword : Keyword) (items behind : List TextItem) (form : List ℕ) → word.IsWorded (word.Form index) obsolete items keyword at form behind
-    → length behind < length items → FormsEnd end obsolete (index + 1) behind → (begins : Bool) → body.begins_form behind ≡ begins → FormsEnd end obsolete index items
-behind_form end obsolete index at keyword items behind form read less next false e = inl (form ∷ [], behind, body.last read e, less)
-behind_form end obsolete index at keyword items behind form read less next true e = elim next [
+after_form : (end : ℕ) (obsolete : Bool) (index at : ℕ) (keyword : Keyword) (items after : List TextItem) (form : List ℕ) → word.IsKeywordText (word.Form index) obsolete items keyword at form after
+    → length after < length items → FormsEnd end obsolete (index + 1) after → (begins : Bool) → body.begins_form after ≡ begins → FormsEnd end obsolete index items
+after_form end obsolete index at keyword items after form read less next false e = inl (form ∷ [], after, body.last read e, less)
+after_form end obsolete index at keyword items after form read less next true e = elim next [
   | inl found ↦ inl (form ∷ found.0, found.1, body.more read e found.2, omega (arith, found.3))
   | inr found ↦ inr (found.0, found.1, stop.FormsStop.later read e found.2)
 ]
 
 forms_below : (end : ℕ) (obsolete : Bool) (n index : ℕ) (items : List TextItem) → length items < n → FormsEnd end obsolete index items
 forms_below end obsolete zero index items h = absurd (omega arith)
-forms_below end obsolete (suc n) index items h = elim (worded_end end (word.Form index) obsolete items) [
-  | inl form ↦ behind_form end obsolete index form.1 form.0 items form.3 form.2 form.4 form.5 (forms_below end obsolete n (index + 1) form.3 (omega (arith, form.5))) (body.begins_form form.3) refl
+forms_below end obsolete (suc n) index items h = elim (keyword_text_end end (word.Form index) obsolete items) [
+  | inl form ↦ after_form end obsolete index form.1 form.0 items form.3 form.2 form.4 form.5 (forms_below end obsolete n (index + 1) form.3 (omega (arith, form.5))) (body.begins_form form.3) refl
   | inr found ↦ inr (found.0, found.1, stop.FormsStop.here found.2)
 ]
 
@@ -83,15 +83,15 @@ TranslationEnds end obsolete items =
     ⊎ ((fault : PoFault) × (line : ℕ) × stop.TranslationStops end obsolete items fault line)
 
 translation_end : (end : ℕ) (obsolete : Bool) (items : List TextItem) → TranslationEnds end obsolete items
-translation_end end obsolete items = elim (worded_end end word.Translation obsolete items) [
-  | inl first ↦ elim (translation_word first.4) [
+translation_end end obsolete items = elim (keyword_text_end end word.Translation obsolete items) [
+  | inl first ↦ elim (translation_keyword first.4) [
     | inl is ↦
-        let plural = subst (λ k. word.IsWorded word.Translation obsolete items k first.1 first.2 first.3) is first.4 in
+        let plural = subst (λ k. word.IsKeywordText word.Translation obsolete items k first.1 first.2 first.3) is first.4 in
         elim (forms_below end obsolete (length first.3 + 1) 0 first.3 (omega arith)) [
           | inl found ↦ inl (Some first.2, found.0, found.1, body.plural plural found.2, omega (arith, first.5, found.3))
           | inr found ↦ inr (found.0, found.1, stop.in_forms plural found.2)
         ]
-    | inr is ↦ inl (None, first.2 ∷ [], first.3, body.single (subst (λ k. word.IsWorded word.Translation obsolete items k first.1 first.2 first.3) is first.4), first.5)
+    | inr is ↦ inl (None, first.2 ∷ [], first.3, body.single (subst (λ k. word.IsKeywordText word.Translation obsolete items k first.1 first.2 first.3) is first.4), first.5)
   ]
   | inr found ↦ inr (found.0, found.1, stop.TranslationStops.here found.2)
 ]
@@ -102,8 +102,8 @@ BodyEnds end items =
     ((own : body.Body) × (rest : List TextItem) × body.IsBody items own rest × (length rest < length items))
     ⊎ ((fault : PoFault) × (line : ℕ) × stop.BodyStops end items fault line)
 
-behind_id : (end line : ℕ) (obsolete : Bool) (item : TextItem) (items : List TextItem) → body.body_start (item ∷ items) ≡ body.WithoutContext obsolete line items → BodyEnds end (item ∷ items)
-behind_id end line obsolete item items start = elim (strings_end end (string.own_marks obsolete) items) [
+after_id : (end line : ℕ) (obsolete : Bool) (item : TextItem) (items : List TextItem) → body.body_start (item ∷ items) ≡ body.WithoutContext obsolete line items → BodyEnds end (item ∷ items)
+after_id end line obsolete item items start = elim (strings_end end (string.own_marks obsolete) items) [
   | inl id ↦ elim (translation_end end obsolete id.1) [
     | inl found ↦ inl (
       record { context = None; id = id.0; plural = found.0; forms = found.1; obsolete = obsolete; line = line },
@@ -111,14 +111,14 @@ behind_id end line obsolete item items start = elim (strings_end end (string.own
       body.without_context start id.2 found.3,
       omega (arith, id.3, found.4),
     )
-    | inr found ↦ inr (found.0, found.1, stop.behind_id start id.2 found.2)
+    | inr found ↦ inr (found.0, found.1, stop.after_id start id.2 found.2)
   ]
   | inr found ↦ inr (found.0, found.1, stop.in_id start found.2)
 ]
 
-behind_context : (end : ℕ) (obsolete : Bool) (item : TextItem) (items : List TextItem) → body.body_start (item ∷ items) ≡ body.WithContext obsolete items → BodyEnds end (item ∷ items)
-behind_context end obsolete item items start = elim (strings_end end (string.own_marks obsolete) items) [
-  | inl context ↦ elim (worded_end end word.Id obsolete context.1) [
+after_context : (end : ℕ) (obsolete : Bool) (item : TextItem) (items : List TextItem) → body.body_start (item ∷ items) ≡ body.WithContext obsolete items → BodyEnds end (item ∷ items)
+after_context end obsolete item items start = elim (strings_end end (string.own_marks obsolete) items) [
+  | inl context ↦ elim (keyword_text_end end word.Id obsolete context.1) [
     | inl id ↦ elim (translation_end end obsolete id.3) [
       | inl found ↦ inl (
         record { context = Some context.0; id = id.2; plural = found.0; forms = found.1; obsolete = obsolete; line = id.1 },
@@ -126,7 +126,7 @@ behind_context end obsolete item items start = elim (strings_end end (string.own
         body.with_context start context.2 id.4 found.3,
         omega (arith, context.3, id.5, found.4),
       )
-      | inr found ↦ inr (found.0, found.1, stop.behind_context start context.2 id.4 found.2)
+      | inr found ↦ inr (found.0, found.1, stop.after_context start context.2 id.4 found.2)
     ]
     | inr found ↦ inr (found.0, found.1, stop.at_id start context.2 found.2)
   ]
@@ -136,15 +136,15 @@ behind_context end obsolete item items start = elim (strings_end end (string.own
 body_end : (end : ℕ) (items : List TextItem) → (body.body_start items ≡ body.NoStart → ⊥) → BodyEnds end items
 body_end end [] starts = absurd (starts refl)
 body_end end (item ∷ items) starts = elim (start_item item) [
-  | StartDoes.contexts obsolete start ↦ behind_context end obsolete item items (start items)
-  | StartDoes.ids obsolete line start ↦ behind_id end line obsolete item items (start items)
+  | StartDoes.contexts obsolete start ↦ after_context end obsolete item items (start items)
+  | StartDoes.ids obsolete line start ↦ after_id end line obsolete item items (start items)
   | StartDoes.starts_nothing start ↦ absurd (starts (start items))
 ]
 
 -- what stands before an entry's own lines
 abbrev HeadEnds : ℕ → ℕ → List TextItem → Type 0
 HeadEnds end above items =
-    ((notes : List head.Note) × (previous : List head.PreviousText) × (rest : List TextItem) × head.IsHead above items notes previous rest × (length rest ≤ length items))
+    ((comment_texts : List head.CommentText) × (previous : List head.PreviousText) × (rest : List TextItem) × head.IsHead above items comment_texts previous rest × (length rest ≤ length items))
     ⊎ ((fault : PoFault) × (line : ℕ) × stop.HeadStops end above items fault line)
 
 head_at : (end above : ℕ) (at_start : Bool) → (above == 0) ≡ at_start → HeadEnds end above []
@@ -161,14 +161,14 @@ head_below : (end n above : ℕ) (items : List TextItem) → length items < n �
 head_below end zero above items h = absurd (omega arith)
 head_below end (suc n) above [] h = head_at end above (above == 0) refl
 head_below end (suc n) above (item ∷ items) h = elim (head_item above item) [
-  | HeadDoes.remarks kind text step ↦ elim (head_below end n above items (omega arith)) [
-    | inl found ↦ inl (record { kind = kind; text = text } ∷ found.0, found.1, found.2, head.remark (step items) found.3, omega (arith, found.4))
-    | inr found ↦ inr (found.0, found.1, stop.behind_remark (step items) found.2)
+  | HeadDoes.head_comments kind text step ↦ elim (head_below end n above items (omega arith)) [
+    | inl found ↦ inl (record { kind = kind; text = text } ∷ found.0, found.1, found.2, head.head_comment (step items) found.3, omega (arith, found.4))
+    | inr found ↦ inr (found.0, found.1, stop.after_comment (step items) found.2)
   ]
   | HeadDoes.texts keyword marks step ↦ elim (strings_end end marks items) [
     | inl text ↦ elim (head_below end n (head.rank keyword) text.1 (omega (arith, text.3))) [
       | inl found ↦ inl (found.0, record { keyword = keyword; text = text.0 } ∷ found.1, found.2, head.previous (step items) text.2 found.3, omega (arith, text.3, found.4))
-      | inr found ↦ inr (found.0, found.1, stop.behind_previous (step items) text.2 found.2)
+      | inr found ↦ inr (found.0, found.1, stop.after_previous (step items) text.2 found.2)
     ]
     | inr found ↦ inr (found.0, found.1, stop.in_previous (step items) found.2)
   ]
@@ -184,16 +184,16 @@ EntriesEnd end items =
 entries_below : (end n : ℕ) (items : List TextItem) → length items < n → EntriesEnd end items
 entries_below end zero items h = absurd (omega arith)
 entries_below end (suc n) items h = elim (head_below end (length items + 1) 0 items (omega arith)) [
-  | inl front ↦
-      let over = head_over front.3 in
-      elim (over_cases over.0 front.2 over.1) [
-        | inl ended ↦ inl ([], comments (head_at_end front.3 ended).1)
-        | inr starts ↦ elim (body_end end front.2 starts) [
-          | inl own ↦ elim (entries_below end n own.1 (omega (arith, front.4, own.3))) [
-            | inl found ↦ inl (entry_from front.0 front.1 own.0 ∷ found.0, entry front.3 own.2 found.1)
-            | inr found ↦ inr (found.0, found.1, stop.EntriesStop.later front.3 own.2 found.2)
+  | inl prefix ↦
+      let over = head_over prefix.3 in
+      elim (over_cases over.0 prefix.2 over.1) [
+        | inl ended ↦ inl ([], comments (head_at_end prefix.3 ended).1)
+        | inr starts ↦ elim (body_end end prefix.2 starts) [
+          | inl own ↦ elim (entries_below end n own.1 (omega (arith, prefix.4, own.3))) [
+            | inl found ↦ inl (entry_from prefix.0 prefix.1 own.0 ∷ found.0, entry prefix.3 own.2 found.1)
+            | inr found ↦ inr (found.0, found.1, stop.EntriesStop.later prefix.3 own.2 found.2)
           ]
-          | inr found ↦ inr (found.0, found.1, stop.in_body front.3 found.2)
+          | inr found ↦ inr (found.0, found.1, stop.in_body prefix.3 found.2)
         ]
       ]
   | inr found ↦ inr (found.0, found.1, stop.in_head found.2)

@@ -83,13 +83,13 @@ start_stays p (b ∷ xs) stops = start_fails p b xs (stops b xs refl)
 -- a text without passing bytes at both ends is its own
 pub ends_once : (p : ℕ → Bool) (xs : List ℕ) → without_end p (without_start p (without_end p (without_start p xs))) ≡ without_end p (without_start p xs)
 ends_once p xs =
-    let front = without_start p xs in
-    let stays : without_start p (without_end p front) ≡ without_end p front = start_stays p (without_end p front) (first front refl) in
-    ap (without_end p) stays ∙ end_once p front
+    let prefix = without_start p xs in
+    let stays : without_start p (without_end p prefix) ≡ without_end p prefix = start_stays p (without_end p prefix) (first prefix refl) in
+    ap (without_end p) stays ∙ end_once p prefix
   where
-    first : (front : List ℕ) → without_start p xs ≡ front → (b : ℕ) (rest : List ℕ) → without_end p front ≡ b ∷ rest → p b ≡ false
-    first front is b rest e = taken (length front - suffix_len p front) front is e where
-      taken : (n : ℕ) (front : List ℕ) → without_start p xs ≡ front → take n front ≡ b ∷ rest → p b ≡ false
-      taken zero front is e = cc
+    first : (prefix : List ℕ) → without_start p xs ≡ prefix → (b : ℕ) (rest : List ℕ) → without_end p prefix ≡ b ∷ rest → p b ≡ false
+    first prefix is b rest e = taken (length prefix - suffix_len p prefix) prefix is e where
+      taken : (n : ℕ) (prefix : List ℕ) → without_start p xs ≡ prefix → take n prefix ≡ b ∷ rest → p b ≡ false
+      taken zero prefix is e = cc
       taken (suc n) [] is e = cc
-      taken (suc n) (c ∷ front) is e = let same : c ≡ b = cc in rw (← same) (start_stops p xs c front is)
+      taken (suc n) (c ∷ prefix) is e = let same : c ≡ b = cc in rw (← same) (start_stops p xs c prefix is)

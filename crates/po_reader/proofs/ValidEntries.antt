@@ -2,7 +2,7 @@
 use Rattle.std.proofs.Common.{ℕ, List, get_or}
 use Rattle.std.specs.Prelude.{All}
 use Rattle.po_syntax.specs.TextItem.{TextItem}
-use Rattle.po_syntax.specs.ItemText.{HoldsText}
+use Rattle.po_syntax.specs.ItemContents.{HoldsText}
 use Rattle.po_syntax.specs.PoText.{SpellsText}
 use Rattle.po_entry.specs.TextEntry.{TextEntry}
 use Rattle.po_entry.specs.Reads.{ReadsText}

@@ -3,8 +3,8 @@
 use Rattle.std.specs.Prelude.{Bool, true, false, List, [], filter}
 use Rattle.po_syntax.specs.declared.item.CommentKind.TheVariants.{Flags}
 use Rattle.po_entry.specs.TextEntry.{TextEntry}
-use Rattle.po_entry.specs.Head.{Note}
-use Rattle.po_entry.specs.Notes.{same_kind}
+use Rattle.po_entry.specs.Head.{CommentText}
+use Rattle.po_entry.specs.Comments.{same_kind}
 
 -- the entry without its comments and references
 abbrev pub without_comments : TextEntry → TextEntry
@@ -16,6 +16,6 @@ kept_entry true entry = entry
 kept_entry false entry = without_comments entry
 
 -- all notes, or the flags alone
-abbrev pub kept_notes : Bool → List Note → List Note
-kept_notes true notes = notes
-kept_notes false notes = filter (λ (note : Note). same_kind Flags note.kind) notes
+abbrev pub kept_comments : Bool → List CommentText → List CommentText
+kept_comments true comment_texts = comment_texts
+kept_comments false comment_texts = filter (λ (comment_text : CommentText). same_kind Flags comment_text.kind) comment_texts

@@ -2,17 +2,17 @@
 use Rattle.std.specs.Prelude.{◌≡◌, List}
 use Rattle.po_reader.specs.declared.head.Head.{Head}
 use Rattle.po_entry.specs.TextEntry.{texts}
-use Rattle.po_entry.specs.Head.{Note, PreviousText}
-use Rattle.po_entry.specs.Notes.{comments_of, extracted_of, references_of, flag_words_of, previous_of}
+use Rattle.po_entry.specs.Head.{CommentText, PreviousText}
+use Rattle.po_entry.specs.Comments.{comments_of, extracted_of, references_of, all_listed_flags, previous_of}
 
 -- the head holds these comments
-pub record HoldsNotes (head : Head) (notes : List Note) : Type 0 where
-  pub comments : texts head.comments.items ≡ comments_of notes
-  pub extracted : texts head.extracted.items ≡ extracted_of notes
-  pub references : texts head.references.items ≡ references_of notes
-  pub flags : texts head.flags.items ≡ flag_words_of notes
+pub record HoldsComments (head : Head) (comment_texts : List CommentText) : Type 0 where
+  pub comments : texts head.comments.items ≡ comments_of comment_texts
+  pub extracted : texts head.extracted.items ≡ extracted_of comment_texts
+  pub references : texts head.references.items ≡ references_of comment_texts
+  pub flags : texts head.flags.items ≡ all_listed_flags comment_texts
 
 -- the head holds these comments and previous texts
-pub record HoldsHead (head : Head) (notes : List Note) (previous : List PreviousText) : Type 0 where
-  pub remarks : HoldsNotes head notes
+pub record HoldsHead (head : Head) (comment_texts : List CommentText) (previous : List PreviousText) : Type 0 where
+  pub head_comments : HoldsComments head comment_texts
   pub texts : head.previous ≡ previous_of previous

@@ -1,6 +1,6 @@
 pub mod Stops
 pub mod Viable
-pub mod Seen
+pub mod ReaderView
 pub mod Heads
 pub mod Faults
 pub mod Bare

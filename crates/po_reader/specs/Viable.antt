@@ -1,4 +1,4 @@
--- Why items are no entries: how far they could still become some, and what is wrong with the item behind (manual, "The Format of PO Files").
+-- Why items are no entries: how far they could still become some, and what is wrong with the item after (manual, "The Format of PO Files").
 use Rattle.std.specs.Prelude.{◌≡◌, ◌≢◌, ℕ, Bool, false, List, [], ◌∷◌, ◌++◌}
 use Rattle.po_syntax.specs.declared.fault.PoFault.{PoFault}
 use Rattle.po_syntax.specs.declared.fault.PoFault.TheVariants.{BadOrder, BadPluralIndex, MixedObsolete}
@@ -10,7 +10,7 @@ use Rattle.po_entry.specs.Spelling.{SpellsEntries}
 
 -- some items could follow these, and then all of them read as entries
 abbrev pub IsViable : List TextItem → Type 0
-IsViable items = (behind : List TextItem) × (entries : List TextEntry) × SpellsEntries (items ++ behind) entries
+IsViable items = (after : List TextItem) × (entries : List TextEntry) × SpellsEntries (items ++ after) entries
 
 -- an item of an entry's own lines: no comment, and not on a line of previous texts
 abbrev pub IsOwn : TextItem → Type 0
@@ -24,26 +24,26 @@ with_obsolete obsolete (Comment kind text line) = Comment kind text line
 with_obsolete obsolete (Word keyword marks line) = Word keyword (record { obsolete = obsolete; previous = marks.previous }) line
 with_obsolete obsolete (Str bytes marks line) = Str bytes (record { obsolete = obsolete; previous = marks.previous }) line
 
--- the item is an own `msgstr` with an index, and one with another index could follow the front, under some obsolete mark
+-- the item is an own `msgstr` with an index, and one with another index could follow the prefix, under some obsolete mark
 abbrev pub IsWrongIndex : List TextItem → TextItem → Type 0
-IsWrongIndex front (Word (MsgStrAt index) marks line) =
-    (marks.previous ≡ false) × (other : ℕ) × (obsolete : Bool) × (other ≢ index) × IsViable (front ++ Word (MsgStrAt other) (own_marks obsolete) line ∷ [])
-IsWrongIndex front (Word MsgCtxt marks line) = ⊥
-IsWrongIndex front (Word MsgId marks line) = ⊥
-IsWrongIndex front (Word MsgIdPlural marks line) = ⊥
-IsWrongIndex front (Word MsgStr marks line) = ⊥
-IsWrongIndex front (Comment kind text line) = ⊥
-IsWrongIndex front (Str bytes marks line) = ⊥
+IsWrongIndex prefix (Word (MsgStrAt index) marks line) =
+    (marks.previous ≡ false) × (other : ℕ) × (obsolete : Bool) × (other ≢ index) × IsViable (prefix ++ Word (MsgStrAt other) (own_marks obsolete) line ∷ [])
+IsWrongIndex prefix (Word MsgCtxt marks line) = ⊥
+IsWrongIndex prefix (Word MsgId marks line) = ⊥
+IsWrongIndex prefix (Word MsgIdPlural marks line) = ⊥
+IsWrongIndex prefix (Word MsgStr marks line) = ⊥
+IsWrongIndex prefix (Comment kind text line) = ⊥
+IsWrongIndex prefix (Str bytes marks line) = ⊥
 
--- the item is one of an entry's own lines, and it could follow the front under some obsolete mark
+-- the item is one of an entry's own lines, and it could follow the prefix under some obsolete mark
 abbrev pub IsMixed : List TextItem → TextItem → Type 0
-IsMixed front item = IsOwn item × ((obsolete : Bool) × IsViable (front ++ with_obsolete obsolete item ∷ []))
+IsMixed prefix item = IsOwn item × ((obsolete : Bool) × IsViable (prefix ++ with_obsolete obsolete item ∷ []))
 
--- what is wrong with an item that can't follow the front: its index; else its obsolete mark; else its order
-pub data Misfit (front : List TextItem) (item : TextItem) : PoFault → Type 0 where
-  index : IsWrongIndex front item → Misfit front item BadPluralIndex
-  mixed : (IsWrongIndex front item → ⊥) → IsMixed front item → Misfit front item MixedObsolete
-  order : (IsWrongIndex front item → ⊥) → (IsMixed front item → ⊥) → Misfit front item BadOrder
+-- what is wrong with an item that can't follow the prefix: its index; else its obsolete mark; else its order
+pub data Misfit (prefix : List TextItem) (item : TextItem) : PoFault → Type 0 where
+  index : IsWrongIndex prefix item → Misfit prefix item BadPluralIndex
+  mixed : (IsWrongIndex prefix item → ⊥) → IsMixed prefix item → Misfit prefix item MixedObsolete
+  order : (IsWrongIndex prefix item → ⊥) → (IsMixed prefix item → ⊥) → Misfit prefix item BadOrder
 
 -- the line of the last item, 0 where there is none
 abbrev pub last_line : List TextItem → ℕ
@@ -51,7 +51,7 @@ last_line [] = 0
 last_line (item ∷ []) = line_of item
 last_line (item ∷ next ∷ items) = last_line (next ∷ items)
 
--- The fault of items that are no entries, with its line: that of the item behind the longest viable front; or, where the items could still become entries and only end too early, BadOrder on the last line.
+-- The fault of items that are no entries, with its line: that of the item after the longest viable prefix; or, where the items could still become entries and only end too early, BadOrder on the last line.
 pub data ItemsFault : List TextItem → PoFault → ℕ → Type 0 where
-  at : {front : List TextItem} {item : TextItem} (rest : List TextItem) {fault : PoFault} → IsViable front → (IsViable (front ++ item ∷ []) → ⊥) → Misfit front item fault → ItemsFault (front ++ item ∷ rest) fault (line_of item)
+  at : {prefix : List TextItem} {item : TextItem} (rest : List TextItem) {fault : PoFault} → IsViable prefix → (IsViable (prefix ++ item ∷ []) → ⊥) → Misfit prefix item fault → ItemsFault (prefix ++ item ∷ rest) fault (line_of item)
   at_end : {items : List TextItem} → IsViable items → ((entries : List TextEntry) → SpellsEntries items entries → ⊥) → ItemsFault items BadOrder (last_line items)

@@ -4,11 +4,11 @@ ghost use Rattle.po_entry.specs.Body.{begins_form, body_start, IsForms, IsTransl
 ghost use Rattle.po_entry.specs.Body as spec;
 ghost use Rattle.po_entry.specs.TextEntry.{texts, optional_text};
 ghost use Rattle.po_reader.specs.Stops.{FormsStop, TranslationStops, BodyStops};
-ghost use Rattle.po_reader.specs.Seen.{start_seen, body_seen};
+ghost use Rattle.po_reader.specs.ReaderView.{start_view, body_view};
 
-use crate::place::item_at;
+use crate::index::item_at;
+use crate::keywords::{KeywordText, Wanted, wanted_keyword};
 use crate::strings::strings_of;
-use crate::words::{Wanted, Worded, wanted_word};
 use po_syntax::{Item, Keyword, Marks, PoError, PoFault};
 use std::alloc::Global;
 
@@ -22,7 +22,7 @@ fn begins_form(items: &[Item<'_>], at: usize) -> bool
     }
 }
 
-/// The plural forms from index 0 on, and the place behind them.
+/// The plural forms from index 0 on, and the place after them.
 fn forms_of(
     alloc: Global,
     items: &[Item<'_>],
@@ -42,9 +42,9 @@ fn forms_of(
     let mut at = from;
     let mut index = 0;
     loop {
-        let form = wanted_word(alloc, items, at, Wanted::Form(index), obsolete, end)?;
+        let form = wanted_keyword(alloc, items, at, Wanted::Form(index), obsolete, end)?;
         forms.push(form.text)?;
-        at = form.behind;
+        at = form.after;
         if !begins_form(items, at) {
             return Ok((forms, at));
         }
@@ -57,8 +57,8 @@ fn forms_of(
 pub(crate) struct Translation {
     pub(crate) plural: Option<Vec<u8>>,
     pub(crate) forms: Vec<Vec<u8>>,
-    /// The place of the item behind them.
-    pub(crate) behind: usize,
+    /// The place of the item after them.
+    pub(crate) after: usize,
 }
 
 fn translation_of(
@@ -70,19 +70,19 @@ fn translation_of(
 ) -> Result<Translation, PoError>
     requires within { from ≤ length items.now }
     requires few { length items.now < 2 ^ 32 }
-    ensures found { IfOk result (λ t. IsTranslation obsolete (views (drop from items.now)) (optional_text t.plural) (texts t.forms.items) (views (drop t.behind items.now))) }
-    ensures within { IfOk result (λ t. t.behind ≤ length items.now) }
-    ensures further { IfOk result (λ t. from < t.behind) }
+    ensures found { IfOk result (λ t. IsTranslation obsolete (views (drop from items.now)) (optional_text t.plural) (texts t.forms.items) (views (drop t.after items.now))) }
+    ensures within { IfOk result (λ t. t.after ≤ length items.now) }
+    ensures further { IfOk result (λ t. from < t.after) }
     ensures fault { IfErr result (λ e. e.kind ≢ PoFault.OutOfMemory → TranslationStops end obsolete (views (drop from items.now)) e.kind e.line) }
     ensures memory { IfErr result (λ e. e.kind ≡ PoFault.OutOfMemory → e.line ≡ 0) }
 {
-    let first = wanted_word(alloc, items, from, Wanted::Translation, obsolete, end)?;
+    let first = wanted_keyword(alloc, items, from, Wanted::Translation, obsolete, end)?;
     if let Keyword::MsgIdPlural = first.keyword {
-        let (forms, behind) = forms_of(alloc, items, first.behind, obsolete, end)?;
+        let (forms, after) = forms_of(alloc, items, first.after, obsolete, end)?;
         return Ok(Translation {
             plural: Some(first.text),
             forms,
-            behind,
+            after,
         });
     }
     let mut forms = Vec::with_capacity(alloc, 1)?;
@@ -90,7 +90,7 @@ fn translation_of(
     Ok(Translation {
         plural: None,
         forms,
-        behind: first.behind,
+        after: first.after,
     })
 }
 
@@ -121,7 +121,7 @@ enum Start {
 
 fn start_at(items: &[Item<'_>], at: usize) -> Option<Start>
     requires { at ≤ length items.now }
-    ensures start { MatchOption result (body_start (views (drop at items.now)) ≡ spec.NoStart) (λ start. body_start (views (drop at items.now)) ≡ start_seen start (views (drop (at + 1) items.now))) }
+    ensures start { MatchOption result (body_start (views (drop at items.now)) ≡ spec.NoStart) (λ start. body_start (views (drop at items.now)) ≡ start_view start (views (drop (at + 1) items.now))) }
     ensures within { IfSome result (λ _. at < length items.now) }
 {
     match item_at(items, at) {
@@ -136,7 +136,7 @@ fn start_at(items: &[Item<'_>], at: usize) -> Option<Start>
 }
 
 /// The own lines of an entry whose context and msgid stand before a place.
-fn body_behind(
+fn body_after(
     alloc: Global,
     items: &[Item<'_>],
     from: usize,
@@ -145,10 +145,10 @@ fn body_behind(
 ) -> Result<Body, PoError>
     requires within { from ≤ length items.now }
     requires few { length items.now < 2 ^ 32 }
-    ensures found { IfOk result (λ b. IsTranslation original.obsolete (views (drop from items.now)) (optional_text b.translation.plural) (texts b.translation.forms.items) (views (drop b.translation.behind items.now))) }
+    ensures found { IfOk result (λ b. IsTranslation original.obsolete (views (drop from items.now)) (optional_text b.translation.plural) (texts b.translation.forms.items) (views (drop b.translation.after items.now))) }
     ensures original { IfOk result (λ b. b.original ≡ original) }
-    ensures within { IfOk result (λ b. b.translation.behind ≤ length items.now) }
-    ensures further { IfOk result (λ b. from < b.translation.behind) }
+    ensures within { IfOk result (λ b. b.translation.after ≤ length items.now) }
+    ensures further { IfOk result (λ b. from < b.translation.after) }
     ensures fault { IfErr result (λ e. e.kind ≢ PoFault.OutOfMemory → TranslationStops end original.obsolete (views (drop from items.now)) e.kind e.line) }
     ensures memory { IfErr result (λ e. e.kind ≡ PoFault.OutOfMemory → e.line ≡ 0) }
 {
@@ -171,9 +171,9 @@ pub(crate) fn body_of(
     requires within { from ≤ length items.now }
     requires few { length items.now < 2 ^ 32 }
     requires begins { body_start (views (drop from items.now)) ≢ spec.NoStart }
-    ensures found { IfOk result (λ b. IsBody (views (drop from items.now)) (body_seen b) (views (drop b.translation.behind items.now))) }
-    ensures within { IfOk result (λ b. b.translation.behind ≤ length items.now) }
-    ensures further { IfOk result (λ b. from < b.translation.behind) }
+    ensures found { IfOk result (λ b. IsBody (views (drop from items.now)) (body_view b) (views (drop b.translation.after items.now))) }
+    ensures within { IfOk result (λ b. b.translation.after ≤ length items.now) }
+    ensures further { IfOk result (λ b. from < b.translation.after) }
     ensures fault { IfErr result (λ e. e.kind ≢ PoFault.OutOfMemory → BodyStops end (views (drop from items.now)) e.kind e.line) }
     ensures memory { IfErr result (λ e. e.kind ≡ PoFault.OutOfMemory → e.line ≡ 0) }
 {
@@ -187,14 +187,14 @@ pub(crate) fn body_of(
                 obsolete,
                 previous: false,
             };
-            let (id, behind) = strings_of(alloc, items, from + 1, marks, end)?;
+            let (id, after) = strings_of(alloc, items, from + 1, marks, end)?;
             let original = Original {
                 context: None,
                 id,
                 obsolete,
                 line,
             };
-            body_behind(alloc, items, behind, original, end)
+            body_after(alloc, items, after, original, end)
         }
         Start::WithContext(obsolete) => {
             let marks = Marks {
@@ -202,19 +202,19 @@ pub(crate) fn body_of(
                 previous: false,
             };
             let (context, middle) = strings_of(alloc, items, from + 1, marks, end)?;
-            let Worded {
+            let KeywordText {
                 line,
                 text: id,
-                behind,
+                after,
                 ..
-            } = wanted_word(alloc, items, middle, Wanted::Id, obsolete, end)?;
+            } = wanted_keyword(alloc, items, middle, Wanted::Id, obsolete, end)?;
             let original = Original {
                 context: Some(context),
                 id,
                 obsolete,
                 line,
             };
-            body_behind(alloc, items, behind, original, end)
+            body_after(alloc, items, after, original, end)
         }
     }
 }

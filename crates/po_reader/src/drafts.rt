@@ -1,13 +1,13 @@
 ghost use Rattle.std.specs.Prelude.{◌≡◌, ◌≢◌, ◌<◌, ◌^◌, ℕ, List, map, length, IfOk, IfErr};
 ghost use Rattle.po_syntax.specs.TextItem.{views};
-ghost use Rattle.po_entry.specs.EntryText.{entry_of};
-ghost use Rattle.po_entry.specs.Head.{Note, PreviousText};
+ghost use Rattle.po_entry.specs.EntryView.{entry_view};
+ghost use Rattle.po_entry.specs.Head.{CommentText, PreviousText};
 ghost use Rattle.po_entry.specs.Descent.{Reads};
 ghost use Rattle.po_entry.specs.Spelling.{entry_from};
 ghost use Rattle.po_entry.specs.TextEntry.{TextEntry};
 ghost use Rattle.po_reader.specs.Bare.{kept_entry};
 ghost use Rattle.po_reader.specs.Heads.{HoldsHead};
-ghost use Rattle.po_reader.specs.Seen.{body_seen};
+ghost use Rattle.po_reader.specs.ReaderView.{body_view};
 ghost use Rattle.po_reader.specs.Stops.{EntriesStop};
 
 use crate::body::{Body, Original, Translation, body_of};
@@ -18,7 +18,7 @@ use po_syntax::{Item, PoError, PoFault};
 use std::alloc::{AllocError, Global};
 
 fn fields_of(alloc: Global, head: Head, body: Body) -> Result<Fields, AllocError>
-    ensures { IfOk result (λ fields. (notes : List Note) (previous : List PreviousText) → HoldsHead head notes previous → entry_of fields ≡ entry_from notes previous (body_seen body)) }
+    ensures { IfOk result (λ fields. (comment_texts : List CommentText) (previous : List PreviousText) → HoldsHead head comment_texts previous → entry_view fields ≡ entry_from comment_texts previous (body_view body)) }
 {
     let Head {
         comments,
@@ -64,7 +64,7 @@ pub(crate) fn drafts_of(
     all: bool,
 ) -> Result<Vec<Fields>, PoError>
     requires { length items.now < 2 ^ 32 }
-    ensures found { IfOk result (λ drafts. (entries : List TextEntry) × Reads (views items.now) entries × (map entry_of drafts.items ≡ map (kept_entry all) entries)) }
+    ensures found { IfOk result (λ drafts. (entries : List TextEntry) × Reads (views items.now) entries × (map entry_view drafts.items ≡ map (kept_entry all) entries)) }
     ensures fault { IfErr result (λ e. e.kind ≢ PoFault.OutOfMemory → EntriesStop end (views items.now) e.kind e.line) }
     ensures memory { IfErr result (λ e. e.kind ≡ PoFault.OutOfMemory → e.line ≡ 0) }
 {
@@ -76,7 +76,7 @@ pub(crate) fn drafts_of(
             return Ok(drafts);
         }
         let body = body_of(alloc, items, own, end)?;
-        at = body.translation.behind;
+        at = body.translation.after;
         drafts.push(fields_of(alloc, head, body)?)?;
     }
 }

@@ -2,7 +2,7 @@
 ghost use Rattle.std.specs.Prelude.{◌≡◌, [], fold, IfOk};
 ghost use Rattle.std.specs.List.{list_any};
 ghost use Rattle.po_entry.specs.TextEntry.{texts};
-ghost use Rattle.po_entry.specs.Notes.{is_fuzzy_word, with_flag};
+ghost use Rattle.po_entry.specs.Comments.{is_fuzzy_flag, with_flag};
 
 use std::alloc::{AllocError, Global};
 use std::collections::BTreeSet;
@@ -15,27 +15,27 @@ pub(crate) struct Flags {
     pub(crate) others: Vec<Vec<u8>>,
 }
 
-fn is_fuzzy_word(word: &[u8]) -> bool
-    ensures { result ≡ is_fuzzy_word word.now }
+fn is_fuzzy_flag(word: &[u8]) -> bool
+    ensures { result ≡ is_fuzzy_flag word.now }
 {
     word == b"fuzzy".as_slice()
 }
 
-fn has_fuzzy(words: &[Vec<u8>]) -> bool
-    ensures { result ≡ list_any (λ word. is_fuzzy_word word.items) words.now }
+fn has_fuzzy(keywords: &[Vec<u8>]) -> bool
+    ensures { result ≡ list_any (λ word. is_fuzzy_flag word.items) keywords.now }
 {
-    words.iter().any(|word| is_fuzzy_word(word))
+    keywords.iter().any(|word| is_fuzzy_flag(word))
 }
 
-/// The words other than `fuzzy`, each where it first stands. A tree finds the words that were met,
+/// The keywords other than `fuzzy`, each where it first stands. A tree finds the keywords that were met,
 /// so that no choice of flags makes this slow.
-fn others(alloc: Global, words: &[Vec<u8>]) -> Result<Vec<Vec<u8>>, AllocError>
-    ensures { IfOk result (λ kept. texts kept.items ≡ fold with_flag [] (texts words.now)) }
+fn others(alloc: Global, keywords: &[Vec<u8>]) -> Result<Vec<Vec<u8>>, AllocError>
+    ensures { IfOk result (λ kept. texts kept.items ≡ fold with_flag [] (texts keywords.now)) }
 {
     let mut met = BTreeSet::new(alloc);
     let mut kept = Vec::new(alloc);
-    for word in words {
-        if is_fuzzy_word(word) {
+    for word in keywords {
+        if is_fuzzy_flag(word) {
             continue;
         }
         if !met.insert(word.as_slice())? {
@@ -46,19 +46,19 @@ fn others(alloc: Global, words: &[Vec<u8>]) -> Result<Vec<Vec<u8>>, AllocError>
     Ok(kept)
 }
 
-/// The flags of an entry, by the words of all its flag comments.
-pub(crate) fn flags_of(alloc: Global, words: Vec<Vec<u8>>) -> Result<Flags, AllocError>
-    ensures fuzzy { IfOk result (λ flags. flags.fuzzy ≡ list_any is_fuzzy_word (texts words.items)) }
-    ensures others { IfOk result (λ flags. texts flags.others.items ≡ fold with_flag [] (texts words.items)) }
+/// The flags of an entry, by the keywords of all its flag comments.
+pub(crate) fn flags_of(alloc: Global, keywords: Vec<Vec<u8>>) -> Result<Flags, AllocError>
+    ensures fuzzy { IfOk result (λ flags. flags.fuzzy ≡ list_any is_fuzzy_flag (texts keywords.items)) }
+    ensures others { IfOk result (λ flags. texts flags.others.items ≡ fold with_flag [] (texts keywords.items)) }
 {
-    if words.is_empty() {
+    if keywords.is_empty() {
         return Ok(Flags {
             fuzzy: false,
-            others: words,
+            others: keywords,
         });
     }
     Ok(Flags {
-        fuzzy: has_fuzzy(&words),
-        others: others(alloc, &words)?,
+        fuzzy: has_fuzzy(&keywords),
+        others: others(alloc, &keywords)?,
     })
 }

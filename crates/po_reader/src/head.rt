@@ -1,16 +1,16 @@
 ghost use Rattle.std.specs.Prelude.{◌≡◌, ◌≢◌, ◌+◌, ◌<◌, ◌≤◌, ◌++◌, ◌∷◌, [], Some, ℕ, List, drop, length, IfOk, IfErr, OnOk, OnErr, IfSome, MatchResult, ◌||◌};
 ghost use Rattle.po_syntax.specs.TextItem.{view, views};
-ghost use Rattle.po_entry.specs.Head.{Note, PreviousText, IsHead, head_step, rank, begins_body};
+ghost use Rattle.po_entry.specs.Head.{CommentText, PreviousText, IsHead, head_step, rank, begins_body};
 ghost use Rattle.po_entry.specs.Head as spec;
-ghost use Rattle.po_entry.specs.Notes.{same_kind, with_previous};
+ghost use Rattle.po_entry.specs.Comments.{same_kind, with_previous};
 ghost use Rattle.po_syntax.specs.declared.item.CommentKind.TheVariants.{Flags};
-ghost use Rattle.po_reader.specs.Bare.{kept_notes};
+ghost use Rattle.po_reader.specs.Bare.{kept_comments};
 ghost use Rattle.po_reader.specs.Stops.{HeadStops};
-ghost use Rattle.po_reader.specs.Seen.{head_seen};
-ghost use Rattle.po_reader.specs.Heads.{HoldsHead, HoldsNotes};
+ghost use Rattle.po_reader.specs.ReaderView.{head_view};
+ghost use Rattle.po_reader.specs.Heads.{HoldsHead, HoldsComments};
 
-use crate::notes::{add_flags, add_words};
-use crate::place::{item_at, refusal};
+use crate::comment_texts::{add_flags, add_references};
+use crate::index::{item_at, refusal};
 use crate::strings::strings_of;
 use po_entry::Previous;
 use po_syntax::{CommentKind, Item, Keyword, Marks, PoError, PoFault};
@@ -30,14 +30,14 @@ pub(crate) struct Head {
 /// What a head goes on with.
 enum Step<'i> {
     /// A comment.
-    Remark(CommentKind, &'i [u8]),
-    /// The word of a previous text, with its marks.
+    HeadComment(CommentKind, &'i [u8]),
+    /// The keyword of a previous text, with its marks.
     Previous(Keyword, Marks),
     /// Nothing more: the own lines begin, or the items end.
     Over,
 }
 
-/// The place of a word among the previous texts; 0 where it is none of theirs.
+/// The place of a keyword among the previous texts; 0 where it is none of theirs.
 fn rank(keyword: Keyword) -> u32
     ensures { result ≡ rank keyword }
 {
@@ -57,8 +57,8 @@ fn begins_body(keyword: Keyword) -> bool
 
 fn step_at<'i>(items: &'i [Item<'_>], at: usize, above: u32) -> Result<Step<'i>, PoFault>
     requires { at ≤ length items.now }
-    ensures step { MatchResult result (λ step. head_step above (views (drop at items.now)) ≡ head_seen step (views (drop (at + 1) items.now))) (λ fault. head_step above (views (drop at items.now)) ≡ spec.Refuse fault) }
-    ensures within { IfOk result (λ step. head_seen step (views (drop (at + 1) items.now)) ≢ spec.Over → at < length items.now) }
+    ensures step { MatchResult result (λ step. head_step above (views (drop at items.now)) ≡ head_view step (views (drop (at + 1) items.now))) (λ fault. head_step above (views (drop at items.now)) ≡ spec.Refuse fault) }
+    ensures within { IfOk result (λ step. head_view step (views (drop (at + 1) items.now)) ≢ spec.Over → at < length items.now) }
 {
     match item_at(items, at) {
         None => if above == 0 {
@@ -66,7 +66,7 @@ fn step_at<'i>(items: &'i [Item<'_>], at: usize, above: u32) -> Result<Step<'i>,
         } else {
             Err(PoFault::BadOrder)
         },
-        Some(Item::Comment(kind, text, _)) => Ok(Step::Remark(*kind, text)),
+        Some(Item::Comment(kind, text, _)) => Ok(Step::HeadComment(*kind, text)),
         Some(Item::Str(..)) => Err(PoFault::BadOrder),
         Some(Item::Word(keyword, marks, _)) => {
             if marks.previous {
@@ -92,36 +92,36 @@ fn is_kept(all: bool, kind: CommentKind) -> bool
 }
 
 /// Adds a comment to the fields of its kind, where it is wanted.
-fn add_note(
+fn add_comment(
     alloc: Global,
     head: &mut Head,
     all: bool,
     kind: CommentKind,
     text: &[u8],
 ) -> Result<(), AllocError>
-    ensures notes { OnOk result ((notes : List Note) → HoldsNotes head.old (kept_notes all notes) → HoldsNotes head.new (kept_notes all (notes ++ (record { kind = kind; text = text.now }) ∷ []))) }
+    ensures comment_texts { OnOk result ((comment_texts : List CommentText) → HoldsComments head.old (kept_comments all comment_texts) → HoldsComments head.new (kept_comments all (comment_texts ++ (record { kind = kind; text = text.now }) ∷ []))) }
     ensures previous { OnOk result (head.new.previous ≡ head.old.previous) }
 {
     if is_kept(all, kind) {
-        add_kept_note(alloc, head, kind, text)?;
+        add_kept_comment(alloc, head, kind, text)?;
     }
     Ok(())
 }
 
 /// Adds a comment to the fields of its kind.
-fn add_kept_note(
+fn add_kept_comment(
     alloc: Global,
     head: &mut Head,
     kind: CommentKind,
     text: &[u8],
 ) -> Result<(), AllocError>
-    ensures notes { OnOk result ((notes : List Note) → HoldsNotes head.old notes → HoldsNotes head.new (notes ++ (record { kind = kind; text = text.now }) ∷ [])) }
+    ensures comment_texts { OnOk result ((comment_texts : List CommentText) → HoldsComments head.old comment_texts → HoldsComments head.new (comment_texts ++ (record { kind = kind; text = text.now }) ∷ [])) }
     ensures previous { OnOk result (head.new.previous ≡ head.old.previous) }
 {
     match kind {
         CommentKind::Translator => head.comments.push(text.to_vec(alloc)?)?,
         CommentKind::Extracted => head.extracted.push(text.to_vec(alloc)?)?,
-        CommentKind::Reference => add_words(alloc, &mut head.references, text)?,
+        CommentKind::Reference => add_references(alloc, &mut head.references, text)?,
         CommentKind::Flags => add_flags(alloc, &mut head.flags, text)?,
     }
     Ok(())
@@ -149,9 +149,9 @@ pub(crate) fn head_of(
     all: bool,
 ) -> Result<(Head, usize), PoError>
     requires { from ≤ length items.now }
-    ensures found { IfOk result (λ p. (notes : List Note) × (previous : List PreviousText) × IsHead 0 (views (drop from items.now)) notes previous (views (drop p.1 items.now)) × HoldsHead p.0 (kept_notes all notes) previous) }
+    ensures found { IfOk result (λ p. (comment_texts : List CommentText) × (previous : List PreviousText) × IsHead 0 (views (drop from items.now)) comment_texts previous (views (drop p.1 items.now)) × HoldsHead p.0 (kept_comments all comment_texts) previous) }
     ensures within { IfOk result (λ p. p.1 ≤ length items.now) }
-    ensures behind { IfOk result (λ p. from ≤ p.1) }
+    ensures after { IfOk result (λ p. from ≤ p.1) }
     ensures fault { IfErr result (λ e. e.kind ≢ PoFault.OutOfMemory → HeadStops end 0 (views (drop from items.now)) e.kind e.line) }
     ensures memory { IfErr result (λ e. e.kind ≡ PoFault.OutOfMemory → e.line ≡ 0) }
 {
@@ -168,15 +168,15 @@ pub(crate) fn head_of(
         match step_at(items, at, above) {
             Err(kind) => return Err(refusal(items, at, end, kind)),
             Ok(Step::Over) => return Ok((head, at)),
-            Ok(Step::Remark(kind, text)) => {
-                add_note(alloc, &mut head, all, kind, text)?;
+            Ok(Step::HeadComment(kind, text)) => {
+                add_comment(alloc, &mut head, all, kind, text)?;
                 at += 1;
             }
             Ok(Step::Previous(keyword, marks)) => {
-                let (text, behind) = strings_of(alloc, items, at + 1, marks, end)?;
+                let (text, after) = strings_of(alloc, items, at + 1, marks, end)?;
                 set_previous(&mut head.previous, keyword, text);
                 above = rank(keyword);
-                at = behind;
+                at = after;
             }
         }
     }

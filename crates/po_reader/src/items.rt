@@ -1,7 +1,7 @@
 ghost use Rattle.std.specs.Prelude.{◌≡◌, ◌≢◌, ◌<◌, ◌≤◌, ◌^◌, ◌∷◌, [], ◌++◌, ℕ, List, All, map, length, vec_len, IfOk, IfErr, OnOk, IsErr};
-ghost use Rattle.po_syntax.specs.ItemText.{HoldsText};
+ghost use Rattle.po_syntax.specs.ItemContents.{HoldsText};
 ghost use Rattle.po_syntax.specs.TextItem.{views};
-ghost use Rattle.po_entry.specs.EntryText.{entry_of};
+ghost use Rattle.po_entry.specs.EntryView.{entry_view};
 ghost use Rattle.po_entry.specs.Header.{HasAdmittedCharset};
 ghost use Rattle.po_entry.specs.Validity.{IsEntry, HasTexts};
 ghost use Rattle.po_entry.specs.TextEntry.{TextEntry};
@@ -12,7 +12,7 @@ ghost use Rattle.po_reader.specs.ItemsRead.{ReadsItems, ItemsStop};
 ghost use Rattle.po_reader.specs.Viable.{last_line};
 
 use crate::drafts::drafts_of;
-use crate::place::line_of;
+use crate::index::line_of;
 use po_entry::{Catalogue, Entry, Fields, check_texts};
 use po_syntax::{Item, PoError, PoFault};
 use std::alloc::Global;
@@ -55,8 +55,8 @@ fn last_line(items: &[Item<'_>]) -> u32
 
 /// Whether entries can have the texts that were read for them, asked in their order.
 fn check_drafts(drafts: &[Fields]) -> Result<(), PoError>
-    ensures ok { OnOk result (All (λ draft. HasTexts (entry_of draft)) drafts.now) }
-    ensures fault { IfErr result (λ e. DraftsStop (map entry_of drafts.now) e.kind e.line) }
+    ensures ok { OnOk result (All (λ draft. HasTexts (entry_view draft)) drafts.now) }
+    ensures fault { IfErr result (λ e. DraftsStop (map entry_view drafts.now) e.kind e.line) }
 {
     for draft in drafts {
         if let Err(kind) = check_texts(draft) {
@@ -71,10 +71,10 @@ fn check_drafts(drafts: &[Fields]) -> Result<(), PoError>
 
 /// The catalogue of the entries that were read, whose headers' charsets are asked in their order.
 fn catalogue_of(alloc: Global, drafts: Vec<Fields>) -> Result<Catalogue, PoError>
-    requires { All (λ draft. IsEntry (entry_of draft)) drafts.items }
-    ensures entries { IfOk result (λ c. c ≡ map entry_of drafts.items) }
-    ensures charsets { OnOk result (All HasAdmittedCharset (map entry_of drafts.items)) }
-    ensures fault { IfErr result (λ e. e.kind ≢ PoFault.OutOfMemory → (e.kind ≡ PoFault.ForeignCharset) × CharsetStops (map entry_of drafts.items) e.line) }
+    requires { All (λ draft. IsEntry (entry_view draft)) drafts.items }
+    ensures entries { IfOk result (λ c. c ≡ map entry_view drafts.items) }
+    ensures charsets { OnOk result (All HasAdmittedCharset (map entry_view drafts.items)) }
+    ensures fault { IfErr result (λ e. e.kind ≢ PoFault.OutOfMemory → (e.kind ≡ PoFault.ForeignCharset) × CharsetStops (map entry_view drafts.items) e.line) }
     ensures memory { IfErr result (λ e. e.kind ≡ PoFault.OutOfMemory → e.line ≡ 0) }
 {
     let mut catalogue = Catalogue::new(alloc);

@@ -27,9 +27,9 @@ pub fn no_fault_where_entries()
 
 /// A text has at most one first fault, on one line.
 pub fn one_fault()
-    ensures { (text : List ℕ) (fault other : PoFault) (line place : ℕ)
-        → IsReadFault text fault line → IsReadFault text other place
-        → (fault ≡ other) × (line ≡ place) }
+    ensures { (text : List ℕ) (fault other : PoFault) (line index : ℕ)
+        → IsReadFault text fault line → IsReadFault text other index
+        → (fault ≡ other) × (line ≡ index) }
 {
     syntax::one_reading();
     syntax::no_fault_where_items();

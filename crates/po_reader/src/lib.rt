@@ -3,17 +3,17 @@
 #![tactic(auto)]
 
 mod body;
+mod comment_texts;
 mod drafts;
 mod flags;
 mod head;
+mod index;
 mod items;
+mod keywords;
 pub mod laws;
-mod notes;
 mod piecewise;
-mod place;
 mod reading;
 mod strings;
-mod words;
 
 pub use crate::piecewise::{Refusal, next_catalogue, next_messages};
 pub use crate::reading::{PIECE, read, read_in_pieces, read_whole};

@@ -17,7 +17,7 @@ pub const PIECE: usize = 16_384;
 ///
 /// Told is the first of these that holds: `TooLarge`, without a line, above 2,147,483,647 bytes;
 /// `NotUtf8` at the first byte that is not; `ForbiddenByte` at the first NUL; the leftmost fault of
-/// an item's spelling; at the item behind the longest prefix of items that some continuation would
+/// an item's spelling; at the item after the longest prefix of items that some continuation would
 /// complete, `BadPluralIndex` where another index could stand there, `MixedObsolete` where the item
 /// could under another obsolete mark, else `BadOrder`, which also is reported, on the line of the last
 /// item, where the text only ends too early; entry by entry, on the line of its `msgid`, `NotUtf8`

@@ -4,7 +4,7 @@ ghost use Rattle.po_entry.specs.Strings.{IsStrings, string_step, begins_string, 
 ghost use Rattle.po_entry.specs.Strings as spec;
 ghost use Rattle.po_reader.specs.Stops.{StringsStop, line_at};
 
-use crate::place::{item_at, refusal};
+use crate::index::{item_at, refusal};
 use po_syntax::{Item, Marks, PoError, PoFault};
 use std::alloc::Global;
 
@@ -51,7 +51,7 @@ fn begins_string(items: &[Item<'_>], at: usize) -> bool
     matches!(item_at(items, at), Some(Item::Str(..)))
 }
 
-/// The text of the strings from a place on, under these marks, and the place behind them.
+/// The text of the strings from a place on, under these marks, and the place after them.
 pub(crate) fn strings_of(
     alloc: Global,
     items: &[Item<'_>],

@@ -5,10 +5,10 @@ use Rattle.std.proofs.lemmas.Bool.{cond-false, cases_Bool}
 use Rattle.std.proofs.lemmas.List.{drop_all, take_min}
 use Rattle.memchr.specs.Find.{is_byte}
 use Rattle.po_shell.specs.declared.escape.Escape.{Escape}
-use Rattle.po_shell.specs.Escapes.{is_octal, octal_run, octal_value, letter_escape, escape_behind, unit, units_after, expansion, has_no_newline}
+use Rattle.po_shell.specs.Escapes.{is_octal, octal_run, octal_value, letter_escape, escape_after, unit, units_after, expansion, has_no_newline}
 use Rattle.po_shell.proofs.SearchLemmas.{byte-here, byte-later, byte-at}
 
--- skipped bytes leave the text behind them
+-- skipped bytes leave the text after them
 units-skipped : (n : ℕ) (bs : List ℕ) → units_after n bs ≡ units_after 0 (drop n bs)
 unfolding units_after
 units-skipped zero bs = refl
@@ -18,39 +18,39 @@ units-skipped (suc n) (b ∷ bs) = units-skipped n bs
 -- a byte that is no backslash stands for itself
 pub units-plain : (b : ℕ) (bs : List ℕ) → eqb b 92 ≡ false → units_after 0 (b ∷ bs) ≡ Some b ∷ units_after 0 bs
 unfolding units_after
-units-plain b bs other = ap (λ e. unit b e (λ skip. units_after skip bs)) (cond-false (eqb b 92) (escape_behind bs) None other)
+units-plain b bs other = ap (λ e. unit b e (λ skip. units_after skip bs)) (cond-false (eqb b 92) (escape_after bs) None other)
 
 -- a backslash that begins no escape stays
-pub units-stays : (bs : List ℕ) → escape_behind bs ≡ None → units_after 0 (92 ∷ bs) ≡ Some 92 ∷ units_after 0 bs
+pub units-stays : (bs : List ℕ) → escape_after bs ≡ None → units_after 0 (92 ∷ bs) ≡ Some 92 ∷ units_after 0 bs
 unfolding units_after
 units-stays bs none = ap (λ e. unit 92 e (λ skip. units_after skip bs)) none
 
 -- an escape gives its byte, if it has one
-pub units-escape : (bs : List ℕ) (e : Escape) → escape_behind bs ≡ Some e → units_after 0 (92 ∷ bs) ≡ e.byte ∷ units_after 0 (drop e.size bs)
+pub units-escape : (bs : List ℕ) (e : Escape) → escape_after bs ≡ Some e → units_after 0 (92 ∷ bs) ≡ e.byte ∷ units_after 0 (drop e.size bs)
 unfolding units_after
 units-escape bs e some = ap (λ o. unit 92 o (λ skip. units_after skip bs)) some ∙ ap (λ us. e.byte ∷ us) (units-skipped e.size bs)
 
 -- the bytes before the first backslash
-front-bytes : (bs : List ℕ) → expansion bs ≡ take (position_or_len (is_byte 92) bs) bs ++ expansion (drop (position_or_len (is_byte 92) bs) bs)
-front-bytes [] = refl
-front-bytes (b ∷ bs) = elim (cases_Bool (eqb b 92)) [
+prefix-bytes : (bs : List ℕ) → expansion bs ≡ take (position_or_len (is_byte 92) bs) bs ++ expansion (drop (position_or_len (is_byte 92) bs) bs)
+prefix-bytes [] = refl
+prefix-bytes (b ∷ bs) = elim (cases_Bool (eqb b 92)) [
   | inl e ↦ subst (λ n. expansion (b ∷ bs) ≡ take n (b ∷ bs) ++ expansion (drop n (b ∷ bs))) (sym (byte-here 92 b bs e)) refl
   | inr e ↦ subst (λ n. expansion (b ∷ bs) ≡ take n (b ∷ bs) ++ expansion (drop n (b ∷ bs))) (sym (byte-later 92 b bs e))
-      (ap (filter_map (λ u. u)) (units-plain b bs e) ∙ ap (λ l. b ∷ l) (front-bytes bs))
+      (ap (filter_map (λ u. u)) (units-plain b bs e) ∙ ap (λ l. b ∷ l) (prefix-bytes bs))
 ]
 
-front-newline : (bs : List ℕ) → has_no_newline bs ≡ has_no_newline (drop (position_or_len (is_byte 92) bs) bs)
-front-newline [] = refl
-front-newline (b ∷ bs) = elim (cases_Bool (eqb b 92)) [
+prefix-newline : (bs : List ℕ) → has_no_newline bs ≡ has_no_newline (drop (position_or_len (is_byte 92) bs) bs)
+prefix-newline [] = refl
+prefix-newline (b ∷ bs) = elim (cases_Bool (eqb b 92)) [
   | inl e ↦ sym (ap (λ n. has_no_newline (drop n (b ∷ bs))) (byte-here 92 b bs e))
-  | inr e ↦ ap (list_any (λ u. is_none u)) (units-plain b bs e) ∙ front-newline bs ∙ sym (ap (λ n. has_no_newline (drop n (b ∷ bs))) (byte-later 92 b bs e))
+  | inr e ↦ ap (list_any (λ u. is_none u)) (units-plain b bs e) ∙ prefix-newline bs ∙ sym (ap (λ n. has_no_newline (drop n (b ∷ bs))) (byte-later 92 b bs e))
 ]
 
-front-at : (bs : List ℕ) (n : ℕ) → n ≡ position_or_len (is_byte 92) bs → expansion bs ≡ take n bs ++ expansion (drop n bs)
-front-at bs n place = subst (λ m. expansion bs ≡ take m bs ++ expansion (drop m bs)) (sym place) (front-bytes bs)
+prefix-at : (bs : List ℕ) (n : ℕ) → n ≡ position_or_len (is_byte 92) bs → expansion bs ≡ take n bs ++ expansion (drop n bs)
+prefix-at bs n index = subst (λ m. expansion bs ≡ take m bs ++ expansion (drop m bs)) (sym index) (prefix-bytes bs)
 
 newline-at : (bs : List ℕ) (n : ℕ) → n ≡ position_or_len (is_byte 92) bs → has_no_newline bs ≡ has_no_newline (drop n bs)
-newline-at bs n place = front-newline bs ∙ ap (λ m. has_no_newline (drop m bs)) (sym place)
+newline-at bs n index = prefix-newline bs ∙ ap (λ m. has_no_newline (drop m bs)) (sym index)
 
 or-none : (b : Bool) → (b || false) ≡ b
 or-none true = refl
@@ -63,79 +63,79 @@ or-found false = refl
 -- where no backslash is left
 pub end-bytes : (bytes bs all : List ℕ) (n : ℕ) → bytes ++ expansion bs ≡ all → n ≡ position_or_len (is_byte 92) bs → n ≡ length bs → bytes ++ take n bs ≡ all
 unfolding units_after
-end-bytes bytes bs all n inv place end =
+end-bytes bytes bs all n inv index end =
     let nothing : drop n bs ≡ [] = drop_all n bs (omega arith) in
-    ap (λ l. bytes ++ l) (sym (front-at bs n place ∙ ap (λ l. take n bs ++ expansion l) nothing ∙ append-nil (take n bs))) ∙ inv
+    ap (λ l. bytes ++ l) (sym (prefix-at bs n index ∙ ap (λ l. take n bs ++ expansion l) nothing ∙ append-nil (take n bs))) ∙ inv
 
 pub end-newline : (found all : Bool) (bs : List ℕ) (n : ℕ) → (found || has_no_newline bs) ≡ all → n ≡ position_or_len (is_byte 92) bs → n ≡ length bs → found ≡ all
 unfolding units_after
-end-newline found all bs n inv place end =
+end-newline found all bs n inv index end =
     let nothing : drop n bs ≡ [] = drop_all n bs (omega arith) in
-    sym (or-none found) ∙ ap (λ b. found || b) (sym (newline-at bs n place ∙ ap has_no_newline nothing)) ∙ inv
+    sym (or-none found) ∙ ap (λ b. found || b) (sym (newline-at bs n index ∙ ap has_no_newline nothing)) ∙ inv
 
--- a backslash that stays, behind plain bytes
-pub stays-bytes : (bytes bs all : List ℕ) (n : ℕ) → bytes ++ expansion bs ≡ all → n ≡ position_or_len (is_byte 92) bs → n < length bs → escape_behind (drop (n + 1) bs) ≡ None
+-- a backslash that stays, after plain bytes
+pub stays-bytes : (bytes bs all : List ℕ) (n : ℕ) → bytes ++ expansion bs ≡ all → n ≡ position_or_len (is_byte 92) bs → n < length bs → escape_after (drop (n + 1) bs) ≡ None
     → ((bytes ++ take n bs) ++ 92 ∷ []) ++ expansion (drop (n + 1) bs) ≡ all
-stays-bytes bytes bs all n inv place short none =
-    let behind = drop (n + 1) bs in
-    append_assoc (bytes ++ take n bs) (92 ∷ []) (expansion behind)
-    ∙ append_assoc bytes (take n bs) (92 ∷ expansion behind)
-    ∙ ap (λ l. bytes ++ (take n bs ++ l)) (sym (ap expansion (byte-at 92 bs n place short) ∙ ap (filter_map (λ u. u)) (units-stays behind none)))
-    ∙ ap (λ l. bytes ++ l) (sym (front-at bs n place)) ∙ inv
+stays-bytes bytes bs all n inv index short none =
+    let after = drop (n + 1) bs in
+    append_assoc (bytes ++ take n bs) (92 ∷ []) (expansion after)
+    ∙ append_assoc bytes (take n bs) (92 ∷ expansion after)
+    ∙ ap (λ l. bytes ++ (take n bs ++ l)) (sym (ap expansion (byte-at 92 bs n index short) ∙ ap (filter_map (λ u. u)) (units-stays after none)))
+    ∙ ap (λ l. bytes ++ l) (sym (prefix-at bs n index)) ∙ inv
 
-pub stays-newline : (found all : Bool) (bs : List ℕ) (n : ℕ) → (found || has_no_newline bs) ≡ all → n ≡ position_or_len (is_byte 92) bs → n < length bs → escape_behind (drop (n + 1) bs) ≡ None
+pub stays-newline : (found all : Bool) (bs : List ℕ) (n : ℕ) → (found || has_no_newline bs) ≡ all → n ≡ position_or_len (is_byte 92) bs → n < length bs → escape_after (drop (n + 1) bs) ≡ None
     → (found || has_no_newline (drop (n + 1) bs)) ≡ all
-stays-newline found all bs n inv place short none =
-    ap (λ b. found || b) (sym (newline-at bs n place ∙ ap has_no_newline (byte-at 92 bs n place short) ∙ ap (list_any (λ u. is_none u)) (units-stays _ none))) ∙ inv
+stays-newline found all bs n inv index short none =
+    ap (λ b. found || b) (sym (newline-at bs n index ∙ ap has_no_newline (byte-at 92 bs n index short) ∙ ap (list_any (λ u. is_none u)) (units-stays _ none))) ∙ inv
 
 -- an escape that gives a byte
-pub byte-bytes : (bytes bs all : List ℕ) (n byte : ℕ) (e : Escape) → bytes ++ expansion bs ≡ all → n ≡ position_or_len (is_byte 92) bs → n < length bs → escape_behind (drop (n + 1) bs) ≡ Some e → e.byte ≡ Some byte
+pub byte-bytes : (bytes bs all : List ℕ) (n byte : ℕ) (e : Escape) → bytes ++ expansion bs ≡ all → n ≡ position_or_len (is_byte 92) bs → n < length bs → escape_after (drop (n + 1) bs) ≡ Some e → e.byte ≡ Some byte
     → ((bytes ++ take n bs) ++ byte ∷ []) ++ expansion (drop e.size (drop (n + 1) bs)) ≡ all
-byte-bytes bytes bs all n byte e inv place short some is =
-    let behind = drop (n + 1) bs in
-    let units = units-escape behind e some ∙ ap (λ b. b ∷ units_after 0 (drop e.size behind)) is in
-    append_assoc (bytes ++ take n bs) (byte ∷ []) (expansion (drop e.size behind))
-    ∙ append_assoc bytes (take n bs) (byte ∷ expansion (drop e.size behind))
-    ∙ ap (λ l. bytes ++ (take n bs ++ l)) (sym (ap expansion (byte-at 92 bs n place short) ∙ ap (filter_map (λ u. u)) units))
-    ∙ ap (λ l. bytes ++ l) (sym (front-at bs n place)) ∙ inv
+byte-bytes bytes bs all n byte e inv index short some is =
+    let after = drop (n + 1) bs in
+    let units = units-escape after e some ∙ ap (λ b. b ∷ units_after 0 (drop e.size after)) is in
+    append_assoc (bytes ++ take n bs) (byte ∷ []) (expansion (drop e.size after))
+    ∙ append_assoc bytes (take n bs) (byte ∷ expansion (drop e.size after))
+    ∙ ap (λ l. bytes ++ (take n bs ++ l)) (sym (ap expansion (byte-at 92 bs n index short) ∙ ap (filter_map (λ u. u)) units))
+    ∙ ap (λ l. bytes ++ l) (sym (prefix-at bs n index)) ∙ inv
 
-pub byte-newline : (found all : Bool) (bs : List ℕ) (n byte : ℕ) (e : Escape) → (found || has_no_newline bs) ≡ all → n ≡ position_or_len (is_byte 92) bs → n < length bs → escape_behind (drop (n + 1) bs) ≡ Some e → e.byte ≡ Some byte
+pub byte-newline : (found all : Bool) (bs : List ℕ) (n byte : ℕ) (e : Escape) → (found || has_no_newline bs) ≡ all → n ≡ position_or_len (is_byte 92) bs → n < length bs → escape_after (drop (n + 1) bs) ≡ Some e → e.byte ≡ Some byte
     → (found || has_no_newline (drop e.size (drop (n + 1) bs))) ≡ all
-byte-newline found all bs n byte e inv place short some is =
+byte-newline found all bs n byte e inv index short some is =
     let units = units-escape (drop (n + 1) bs) e some ∙ ap (λ b. b ∷ units_after 0 (drop e.size (drop (n + 1) bs))) is in
-    ap (λ b. found || b) (sym (newline-at bs n place ∙ ap has_no_newline (byte-at 92 bs n place short) ∙ ap (list_any (λ u. is_none u)) units)) ∙ inv
+    ap (λ b. found || b) (sym (newline-at bs n index ∙ ap has_no_newline (byte-at 92 bs n index short) ∙ ap (list_any (λ u. is_none u)) units)) ∙ inv
 
 -- an escape that gives none
-pub none-bytes : (bytes bs all : List ℕ) (n : ℕ) (e : Escape) → bytes ++ expansion bs ≡ all → n ≡ position_or_len (is_byte 92) bs → n < length bs → escape_behind (drop (n + 1) bs) ≡ Some e → e.byte ≡ None
+pub none-bytes : (bytes bs all : List ℕ) (n : ℕ) (e : Escape) → bytes ++ expansion bs ≡ all → n ≡ position_or_len (is_byte 92) bs → n < length bs → escape_after (drop (n + 1) bs) ≡ Some e → e.byte ≡ None
     → (bytes ++ take n bs) ++ expansion (drop e.size (drop (n + 1) bs)) ≡ all
-none-bytes bytes bs all n e inv place short some is =
-    let behind = drop (n + 1) bs in
-    let units = units-escape behind e some ∙ ap (λ b. b ∷ units_after 0 (drop e.size behind)) is in
-    append_assoc bytes (take n bs) (expansion (drop e.size behind))
-    ∙ ap (λ l. bytes ++ (take n bs ++ l)) (sym (ap expansion (byte-at 92 bs n place short) ∙ ap (filter_map (λ u. u)) units))
-    ∙ ap (λ l. bytes ++ l) (sym (front-at bs n place)) ∙ inv
+none-bytes bytes bs all n e inv index short some is =
+    let after = drop (n + 1) bs in
+    let units = units-escape after e some ∙ ap (λ b. b ∷ units_after 0 (drop e.size after)) is in
+    append_assoc bytes (take n bs) (expansion (drop e.size after))
+    ∙ ap (λ l. bytes ++ (take n bs ++ l)) (sym (ap expansion (byte-at 92 bs n index short) ∙ ap (filter_map (λ u. u)) units))
+    ∙ ap (λ l. bytes ++ l) (sym (prefix-at bs n index)) ∙ inv
 
-pub none-newline : (found all : Bool) (bs : List ℕ) (n : ℕ) (e : Escape) → (found || has_no_newline bs) ≡ all → n ≡ position_or_len (is_byte 92) bs → n < length bs → escape_behind (drop (n + 1) bs) ≡ Some e → e.byte ≡ None → true ≡ all
-none-newline found all bs n e inv place short some is =
+pub none-newline : (found all : Bool) (bs : List ℕ) (n : ℕ) (e : Escape) → (found || has_no_newline bs) ≡ all → n ≡ position_or_len (is_byte 92) bs → n < length bs → escape_after (drop (n + 1) bs) ≡ Some e → e.byte ≡ None → true ≡ all
+none-newline found all bs n e inv index short some is =
     let units = units-escape (drop (n + 1) bs) e some ∙ ap (λ b. b ∷ units_after 0 (drop e.size (drop (n + 1) bs))) is in
     sym (or-found found)
-    ∙ ap (λ b. found || b) (sym (newline-at bs n place ∙ ap has_no_newline (byte-at 92 bs n place short) ∙ ap (list_any (λ u. is_none u)) units)) ∙ inv
+    ∙ ap (λ b. found || b) (sym (newline-at bs n index ∙ ap has_no_newline (byte-at 92 bs n index short) ∙ ap (list_any (λ u. is_none u)) units)) ∙ inv
 
 -- an escape by its first byte
-pub escape-first : (bs : List ℕ) → (bs ≡ [] → ⊥) → escape_behind bs ≡ cond (is_octal (get_or bs 0 0)) (Some (record { byte = Some (octal_value (octal_run bs)); size = length (octal_run bs) })) (letter_escape (get_or bs 0 0))
-unfolding escape_behind
+pub escape-first : (bs : List ℕ) → (bs ≡ [] → ⊥) → escape_after bs ≡ cond (is_octal (get_or bs 0 0)) (Some (record { byte = Some (octal_value (octal_run bs)); size = length (octal_run bs) })) (letter_escape (get_or bs 0 0))
+unfolding escape_after
 escape-first [] some = absurd (some refl)
 escape-first (b ∷ bs) some = refl
 
-pub escape-none : (bs : List ℕ) → bs ≡ [] → escape_behind bs ≡ None
-unfolding escape_behind
-escape-none bs none = ap escape_behind none
+pub escape-none : (bs : List ℕ) → bs ≡ [] → escape_after bs ≡ None
+unfolding escape_after
+escape-none bs none = ap escape_after none
 
 -- the first three bytes, or all of them
-pub octal_run-front : (bs : List ℕ) (n : ℕ) → n ≡ min (length bs) 3 → take (prefix_len is_octal (take n bs)) (take n bs) ≡ octal_run bs
-octal_run-front bs n e =
-    let front : take n bs ≡ take 3 bs = ap (λ m. take m bs) (e ∙ grind arith) ∙ take_min 3 bs in
-    ap (λ l. take (prefix_len is_octal l) l) front
+pub octal_run-prefix : (bs : List ℕ) (n : ℕ) → n ≡ min (length bs) 3 → take (prefix_len is_octal (take n bs)) (take n bs) ≡ octal_run bs
+octal_run-prefix bs n e =
+    let prefix : take n bs ≡ take 3 bs = ap (λ m. take m bs) (e ∙ grind arith) ∙ take_min 3 bs in
+    ap (λ l. take (prefix_len is_octal l) l) prefix
 
 abbrev octal-of : ℕ → ℕ → Option Escape
 octal-of value size = Some (record { byte = Some value; size = size })

@@ -4,7 +4,7 @@ use Rattle.std.specs.Prelude.{◌↔◌}
 use Rattle.std.specs.List.{filter_map, list_any}
 use Rattle.std.proofs.lemmas.Bool.{cases_Bool, cond-true, cond-false, eqb-true, eqb-false, ne_eqb}
 use Rattle.po_shell.specs.declared.escape.Escape.{Escape}
-use Rattle.po_shell.specs.Escapes.{escape_behind, unit, units_after, expansion, has_no_newline}
+use Rattle.po_shell.specs.Escapes.{escape_after, unit, units_after, expansion, has_no_newline}
 use Rattle.po_shell.specs.Expanding.{SpellsByte, IsNoEscape, Expands, nothing, plain, escape, no_newline, stays}
 use Rattle.po_shell.proofs.EscapeLemmas.{units-plain, units-stays, units-escape}
 use Rattle.po_shell.proofs.SpeltEscapes.{byte_read, mark_read, ByteSays, escape_spelt}
@@ -12,18 +12,18 @@ use Rattle.po_shell.proofs.SpeltEscapes.{byte_read, mark_read, ByteSays, escape_
 some_is_none : {X : Type 0} (x : X) → Some x ≡ None → ⊥
 some_is_none x e = cc
 
-no_escape : (text : List ℕ) → escape_behind text ≡ None → IsNoEscape text
+no_escape : (text : List ℕ) → escape_after text ≡ None → IsNoEscape text
 no_escape text none = record {
   no_byte = λ b rest h. let read = byte_read h in some_is_none read.escape (sym read.read ∙ none);
-  no_mark = λ rest is. some_is_none _ (sym (mark_read rest) ∙ ap escape_behind (sym is) ∙ none);
+  no_mark = λ rest is. some_is_none _ (sym (mark_read rest) ∙ ap escape_after (sym is) ∙ none);
 }
 
-none_read : (text : List ℕ) (o : Option Escape) → escape_behind text ≡ o → IsNoEscape text → escape_behind text ≡ None
+none_read : (text : List ℕ) (o : Option Escape) → escape_after text ≡ o → IsNoEscape text → escape_after text ≡ None
 none_read text None e none = e
-none_read text (Some found) e none = absurd (given found.byte refl) where
-  given : (byte : Option ℕ) → found.byte ≡ byte → ⊥
-  given None is = none.no_mark _ (subst (λ b. ByteSays text b found.size) is (escape_spelt text found e))
-  given (Some b) is = none.no_byte b _ (subst (λ b. ByteSays text b found.size) is (escape_spelt text found e))
+none_read text (Some found) e none = absurd (non_empty found.byte refl) where
+  non_empty : (byte : Option ℕ) → found.byte ≡ byte → ⊥
+  non_empty None is = none.no_mark _ (subst (λ b. ByteSays text b found.size) is (escape_spelt text found e))
+  non_empty (Some b) is = none.no_byte b _ (subst (λ b. ByteSays text b found.size) is (escape_spelt text found e))
 
 -- the bytes of units, and whether one of them is no byte
 abbrev Makes : List ℕ → List (Option ℕ) → Type 0
@@ -33,7 +33,7 @@ escape_makes : (text : List ℕ) (byte : Option ℕ) (size : ℕ) → ByteSays t
 escape_makes text None size says later = subst (λ t. Makes (92 ∷ t) (None ∷ units_after size text)) (sym says) (no_newline (later size))
 escape_makes text (Some b) size says later = escape says (later size)
 
-backslash_makes : (text : List ℕ) (o : Option Escape) → escape_behind text ≡ o → ((skip : ℕ) → Makes (drop skip text) (units_after skip text)) → Makes (92 ∷ text) (unit 92 o (λ skip. units_after skip text))
+backslash_makes : (text : List ℕ) (o : Option Escape) → escape_after text ≡ o → ((skip : ℕ) → Makes (drop skip text) (units_after skip text)) → Makes (92 ∷ text) (unit 92 o (λ skip. units_after skip text))
 backslash_makes text None e later = stays (no_escape text e) (later 0)
 backslash_makes text (Some found) e later = escape_makes text found.byte found.size (escape_spelt text found e) later
 
@@ -46,9 +46,9 @@ after (b ∷ text) zero =
     let later = after text in
     elim (cases_Bool (eqb b 92)) [
       | inl e ↦ let is = eqb-true b 92 e in
-          subst (λ o. Makes (b ∷ text) (unit b o (λ skip. units_after skip text))) (sym (cond-true (eqb b 92) (escape_behind text) None e))
-          (subst (λ a. Makes (a ∷ text) (unit a (escape_behind text) (λ skip. units_after skip text))) (sym is) (backslash_makes text (escape_behind text) refl later))
-      | inr e ↦ subst (λ o. Makes (b ∷ text) (unit b o (λ skip. units_after skip text))) (sym (cond-false (eqb b 92) (escape_behind text) None e)) (plain (eqb-false b 92 e) (later 0))
+          subst (λ o. Makes (b ∷ text) (unit b o (λ skip. units_after skip text))) (sym (cond-true (eqb b 92) (escape_after text) None e))
+          (subst (λ a. Makes (a ∷ text) (unit a (escape_after text) (λ skip. units_after skip text))) (sym is) (backslash_makes text (escape_after text) refl later))
+      | inr e ↦ subst (λ o. Makes (b ∷ text) (unit b o (λ skip. units_after skip text))) (sym (cond-false (eqb b 92) (escape_after text) None e)) (plain (eqb-false b 92 e) (later 0))
     ]
 
 -- the expansion of a text, and whether it holds `\c`, are these
@@ -73,7 +73,7 @@ are_expanded (no_newline {text = text} {bytes = bytes} more) =
     let units = units-escape (99 ∷ text) (record { byte = None; size = 1 }) (mark_read text) in
     ((are_expanded more).0 ∙ ap (filter_map (λ u. u)) (sym units), ap (list_any (λ u. is_none u)) (sym units))
 are_expanded (stays {text = text} {bytes = bytes} {is_marked = is_marked} none more) =
-    are_more (92 ∷ text) text bytes 92 is_marked (units-stays text (none_read text (escape_behind text) refl none)) (are_expanded more)
+    are_more (92 ∷ text) text bytes 92 is_marked (units-stays text (none_read text (escape_after text) refl none)) (are_expanded more)
 
 pub escapes_expanded : (text bytes : List ℕ) (is_marked : Bool) → ((bytes ≡ expansion text) × (is_marked ≡ has_no_newline text)) ↔ Expands text bytes is_marked
 escapes_expanded text bytes is_marked = (

@@ -1,12 +1,12 @@
--- Lemmas on names and references: what the byte behind a begun reference makes of it.
+-- Lemmas on names and references: what the byte after a begun reference makes of it.
 use Rattle.std.proofs.Common.{◌≡◌, ℕ, suc, ◌+◌, ◌<◌, ◌≤◌, Bool, true, false, ◌&&◌, eqb, ltb, ◌⊎◌, inl, inr, List, [], ◌∷◌, ◌++◌, length, drop, Some, None, refl, sym, ap, ◌∙◌, append-nil, length-append, arith}
 use Rattle.std.specs.List.{list_all}
 use Rattle.std.proofs.lemmas.Bool.{and_parts, and_from, and_left, and_right, cond-true, cond-false, cond_both, both_ways, lt-ltb, le-ltb, ne_eqb, eqb-true, cases_Bool, false≢true, ltb-true}
 use Rattle.std.proofs.lemmas.Bool.Decides.{nat_tests}
 use Rattle.std.proofs.lemmas.List.{drop_at, drop-drop}
 use Rattle.std.proofs.lemmas.List.Sums.{take_while-cons}
-use Rattle.po_shell.specs.References.{is_letter, is_name_byte, is_name, name_run, begins_with, bare_reference, braced_reference, reference_behind}
-use Rattle.po_shell.specs.Holding.{is_begun_name, behind_dollar, is_undecided_behind, is_undecided}
+use Rattle.po_shell.specs.References.{is_letter, is_name_byte, is_name, name_run, begins_with, bare_reference, braced_reference, reference_after}
+use Rattle.po_shell.specs.Holding.{is_begun_name, after_dollar, is_undecided_after, is_undecided}
 
 -- neither `$` nor a brace is a name byte
 pub dollar-no_name : is_name_byte 36 ≡ false
@@ -62,7 +62,7 @@ begun-more (b ∷ bs) next h passes first short =
     and_from _ _ (and_from _ _ q.0 (lt-ltb _ _ room)) (all-more (b ∷ bs) next p.1 passes)
 
 -- with a brace or without, a begun name is undecided
-pub begun-undecided : (is_braced : Bool) (name : List ℕ) → is_begun_name name ≡ true → is_undecided (36 ∷ behind_dollar is_braced name) ≡ true
+pub begun-undecided : (is_braced : Bool) (name : List ℕ) → is_begun_name name ≡ true → is_undecided (36 ∷ after_dollar is_braced name) ≡ true
 unfolding is_undecided
 begun-undecided true name h = h
 begun-undecided false [] h = refl
@@ -70,16 +70,16 @@ begun-undecided false (b ∷ bs) h =
     let p = and_parts (is_name_byte b) (list_all is_name_byte bs) (begun-name b bs h).1 in
     cond-false (eqb b 123) (is_begun_name bs) (is_begun_name (b ∷ bs)) (name_byte-not 123 b open-no_name p.0) ∙ h
 
-pub brace-undecided : (is_braced : Bool) (name : List ℕ) (b : ℕ) → name ≡ [] → b ≡ 123 → is_braced ≡ false → is_undecided (36 ∷ behind_dollar is_braced (name ++ b ∷ [])) ≡ true
+pub brace-undecided : (is_braced : Bool) (name : List ℕ) (b : ℕ) → name ≡ [] → b ≡ 123 → is_braced ≡ false → is_undecided (36 ∷ after_dollar is_braced (name ++ b ∷ [])) ≡ true
 unfolding is_undecided
 brace-undecided is_braced name b none brace bare =
-    ap (λ (l : List ℕ). is_undecided (36 ∷ behind_dollar is_braced (l ++ b ∷ []))) none
-    ∙ ap (λ (n : ℕ). is_undecided (36 ∷ behind_dollar is_braced (n ∷ []))) brace
-    ∙ ap (λ (v : Bool). is_undecided (36 ∷ behind_dollar v (123 ∷ []))) bare
+    ap (λ (l : List ℕ). is_undecided (36 ∷ after_dollar is_braced (l ++ b ∷ []))) none
+    ∙ ap (λ (n : ℕ). is_undecided (36 ∷ after_dollar is_braced (n ∷ []))) brace
+    ∙ ap (λ (v : Bool). is_undecided (36 ∷ after_dollar v (123 ∷ []))) bare
 
 -- where the run isn't a name there is no reference
-pub unnamed : (is_braced : Bool) (xs : List ℕ) → is_name (name_run xs) ≡ false → (is_braced ≡ false → begins_with 123 xs ≡ false) → reference_behind (behind_dollar is_braced xs) ≡ None
-unfolding reference_behind bare_reference braced_reference
+pub unnamed : (is_braced : Bool) (xs : List ℕ) → is_name (name_run xs) ≡ false → (is_braced ≡ false → begins_with 123 xs ≡ false) → reference_after (after_dollar is_braced xs) ≡ None
+unfolding reference_after bare_reference braced_reference
 unnamed true xs fails brace = cond-false _ _ _ (and_left _ (begins_with 125 (drop (length (name_run xs)) xs)) fails)
 unnamed false xs fails brace = cond-false (begins_with 123 xs) _ _ (brace refl) ∙ cond-false (is_name (name_run xs)) _ _ fails
 
@@ -114,9 +114,9 @@ too-long name b bs all passes long =
     let run = name_run-append name (b ∷ bs) all ∙ ap (λ l. name ++ l) (take_while-cons is_name_byte b bs ∙ cond-true (is_name_byte b) _ _ passes) in
     ap is_name run ∙ long-no_name (name ++ b ∷ name_run bs) (omega (arith, length-append name (b ∷ name_run bs)))
 
--- the byte behind a name that ends there
-pub ends : (name : List ℕ) (b : ℕ) (bs : List ℕ) → is_begun_name name ≡ true → (name ≡ [] → ⊥) → is_name_byte b ≡ false → reference_behind (name ++ b ∷ bs) ≡ Some (record { name = name; size = length name })
-unfolding reference_behind bare_reference
+-- the byte after a name that ends there
+pub ends : (name : List ℕ) (b : ℕ) (bs : List ℕ) → is_begun_name name ≡ true → (name ≡ [] → ⊥) → is_name_byte b ≡ false → reference_after (name ++ b ∷ bs) ≡ Some (record { name = name; size = length name })
+unfolding reference_after bare_reference
 ends [] b bs h some stop = absurd (some refl)
 ends (c ∷ cs) b bs h some stop =
     let p = begun-name c cs h in
@@ -126,9 +126,9 @@ ends (c ∷ cs) b bs h some stop =
     ∙ cond-true (is_name (name_run ((c ∷ cs) ++ b ∷ bs))) _ _ (ap is_name run ∙ p.0)
     ∙ ap (λ l. Some (record { name = l; size = length l })) run
 
--- the brace behind a name, or another byte
-pub closes : (name : List ℕ) (bs : List ℕ) → is_begun_name name ≡ true → (name ≡ [] → ⊥) → reference_behind (123 ∷ (name ++ 125 ∷ bs)) ≡ Some (record { name = name; size = length name + 2 })
-unfolding reference_behind braced_reference
+-- the brace after a name, or another byte
+pub closes : (name : List ℕ) (bs : List ℕ) → is_begun_name name ≡ true → (name ≡ [] → ⊥) → reference_after (123 ∷ (name ++ 125 ∷ bs)) ≡ Some (record { name = name; size = length name + 2 })
+unfolding reference_after braced_reference
 closes [] bs h some = absurd (some refl)
 closes (c ∷ cs) bs h some =
     let p = begun-name c cs h in
@@ -139,8 +139,8 @@ closes (c ∷ cs) bs h some =
     cond-true (is_name (name_run (name ++ 125 ∷ bs)) && begins_with 125 (drop (length (name_run (name ++ 125 ∷ bs))) (name ++ 125 ∷ bs))) _ _ (and_from _ _ (ap is_name run ∙ p.0) closed)
     ∙ ap (λ l. Some (record { name = l; size = length l + 2 })) run
 
-pub not-closed : (name : List ℕ) (b : ℕ) (bs : List ℕ) → is_begun_name name ≡ true → is_name_byte b ≡ false → eqb b 125 ≡ false → reference_behind (123 ∷ (name ++ b ∷ bs)) ≡ None
-unfolding reference_behind braced_reference
+pub not-closed : (name : List ℕ) (b : ℕ) (bs : List ℕ) → is_begun_name name ≡ true → is_name_byte b ≡ false → eqb b 125 ≡ false → reference_after (123 ∷ (name ++ b ∷ bs)) ≡ None
+unfolding reference_after braced_reference
 not-closed name b bs h stop other =
     let run = name_run-ends name b bs (begun-bytes name h) stop in
     let opened : begins_with 125 (drop (length (name_run (name ++ b ∷ bs))) (name ++ b ∷ bs)) ≡ false =
@@ -148,37 +148,37 @@ not-closed name b bs h stop other =
     cond-false (is_name (name_run (name ++ b ∷ bs)) && begins_with 125 (drop (length (name_run (name ++ b ∷ bs))) (name ++ b ∷ bs))) _ _ (and_right _ _ opened)
 
 -- a byte that begins neither a name nor a brace
-pub not-begun : (is_braced : Bool) (name : List ℕ) (b : ℕ) (bs : List ℕ) → name ≡ [] → is_letter b ≡ false → ((b ≡ 123) × (is_braced ≡ true)) ⊎ (b ≡ 123 → ⊥) → reference_behind (behind_dollar is_braced (name ++ b ∷ bs)) ≡ None
+pub not-begun : (is_braced : Bool) (name : List ℕ) (b : ℕ) (bs : List ℕ) → name ≡ [] → is_letter b ≡ false → ((b ≡ 123) × (is_braced ≡ true)) ⊎ (b ≡ 123 → ⊥) → reference_after (after_dollar is_braced (name ++ b ∷ bs)) ≡ None
 not-begun is_braced name b bs none fails other =
-    ap (λ (l : List ℕ). reference_behind (behind_dollar is_braced (l ++ b ∷ bs))) none
+    ap (λ (l : List ℕ). reference_after (after_dollar is_braced (l ++ b ∷ bs))) none
     ∙ unnamed is_braced (b ∷ bs) (wrong-first b bs fails)
     (λ bare. elim other [ inl p ↦ absurd (both_ways is_braced bare p.1) | inr ne ↦ ne_eqb b 123 ne ])
 
 -- a name that is too long
-pub not-short : (is_braced : Bool) (name : List ℕ) (b : ℕ) (bs : List ℕ) → is_begun_name name ≡ true → (name ≡ [] → ⊥) → is_name_byte b ≡ true → 255 ≤ length name → reference_behind (behind_dollar is_braced (name ++ b ∷ bs)) ≡ None
+pub not-short : (is_braced : Bool) (name : List ℕ) (b : ℕ) (bs : List ℕ) → is_begun_name name ≡ true → (name ≡ [] → ⊥) → is_name_byte b ≡ true → 255 ≤ length name → reference_after (after_dollar is_braced (name ++ b ∷ bs)) ≡ None
 not-short is_braced [] b bs h some passes long = absurd (some refl)
 not-short is_braced (c ∷ cs) b bs h some passes long =
     let p = begun-name c cs h in
     let q = and_parts (is_name_byte c) (list_all is_name_byte cs) p.1 in
     unnamed is_braced ((c ∷ cs) ++ b ∷ bs) (too-long (c ∷ cs) b bs p.1 passes long) (λ _. name_byte-not 123 c open-no_name q.0)
 
--- what stands behind a `$` that is held
-pub undecided-dollar : (held : List ℕ) → 0 < length held → is_undecided held ≡ true → (held ≡ 36 ∷ drop 1 held) × (is_undecided_behind (drop 1 held) ≡ true)
+-- what stands after a `$` that is held
+pub undecided-dollar : (held : List ℕ) → 0 < length held → is_undecided held ≡ true → (held ≡ 36 ∷ drop 1 held) × (is_undecided_after (drop 1 held) ≡ true)
 unfolding is_undecided
 undecided-dollar [] some h = absurd (omega arith)
-undecided-dollar (b ∷ bs) some h = let p = and_parts (eqb b 36) (is_undecided_behind bs) h in (ap (λ a. a ∷ bs) (eqb-true b 36 p.0), p.1)
+undecided-dollar (b ∷ bs) some h = let p = and_parts (eqb b 36) (is_undecided_after bs) h in (ap (λ a. a ∷ bs) (eqb-true b 36 p.0), p.1)
 
-pub undecided-braced : (bs : List ℕ) → is_undecided_behind bs ≡ true → begins_with 123 bs ≡ true → (bs ≡ 123 ∷ drop 1 bs) × (is_begun_name (drop 1 bs) ≡ true)
+pub undecided-braced : (bs : List ℕ) → is_undecided_after bs ≡ true → begins_with 123 bs ≡ true → (bs ≡ 123 ∷ drop 1 bs) × (is_begun_name (drop 1 bs) ≡ true)
 undecided-braced [] h brace = absurd (false≢true brace)
 undecided-braced (b ∷ bs) h brace = (ap (λ a. a ∷ bs) (eqb-true b 123 brace), sym (cond-true (eqb b 123) (is_begun_name bs) (is_begun_name (b ∷ bs)) brace) ∙ h)
 
-pub undecided-bare : (bs : List ℕ) → is_undecided_behind bs ≡ true → begins_with 123 bs ≡ false → is_begun_name bs ≡ true
+pub undecided-bare : (bs : List ℕ) → is_undecided_after bs ≡ true → begins_with 123 bs ≡ false → is_begun_name bs ≡ true
 undecided-bare [] h brace = refl
 undecided-bare (b ∷ bs) h brace = sym (cond-false (eqb b 123) (is_begun_name bs) (is_begun_name (b ∷ bs)) brace) ∙ h
 
--- what is behind the closing brace
-pub behind-closed : (name : List ℕ) (b : ℕ) (bs : List ℕ) → drop (length name + 2) (123 ∷ (name ++ b ∷ bs)) ≡ bs
-behind-closed name b bs =
+-- what is after the closing brace
+pub after-closed : (name : List ℕ) (b : ℕ) (bs : List ℕ) → drop (length name + 2) (123 ∷ (name ++ b ∷ bs)) ≡ bs
+after-closed name b bs =
     let two : length name + 2 ≡ suc (length name + 1) = omega arith in
     ap (λ (n : ℕ). drop n (123 ∷ (name ++ b ∷ bs))) two ∙ sym (drop-drop 1 (length name) (name ++ b ∷ bs)) ∙ ap (drop 1) (drop_at name (b ∷ bs) (length name) refl)
 
@@ -186,20 +186,20 @@ behind-closed name b bs =
 run-whole : (name : List ℕ) → is_begun_name name ≡ true → name_run (name ++ []) ≡ name
 run-whole name h = name_run-append name [] (begun-bytes name h) ∙ append-nil name
 
-nothing-behind : reference_behind [] ≡ None
-unfolding reference_behind bare_reference is_name
-nothing-behind = refl
+nothing-after : reference_after [] ≡ None
+unfolding reference_after bare_reference is_name
+nothing-after = refl
 
-pub ending-none : (is_braced : Bool) (name : List ℕ) → is_begun_name name ≡ true → (is_braced ≡ true) ⊎ (name ≡ []) → reference_behind (behind_dollar is_braced (name ++ [])) ≡ None
-unfolding reference_behind braced_reference bare_reference
+pub ending-none : (is_braced : Bool) (name : List ℕ) → is_begun_name name ≡ true → (is_braced ≡ true) ⊎ (name ≡ []) → reference_after (after_dollar is_braced (name ++ [])) ≡ None
+unfolding reference_after braced_reference bare_reference
 ending-none true name h which =
     let opened : begins_with 125 (drop (length (name_run (name ++ []))) (name ++ [])) ≡ false =
     ap (λ l. begins_with 125 (drop (length l) (name ++ []))) (run-whole name h) ∙ ap (begins_with 125) (drop_at name [] (length name) refl) in
     cond-false (is_name (name_run (name ++ [])) && begins_with 125 (drop (length (name_run (name ++ []))) (name ++ []))) _ _ (and_right _ _ opened)
-ending-none false name h which = elim which [ inl e ↦ absurd (false≢true e) | inr none ↦ ap (λ l. reference_behind (l ++ [])) none ∙ nothing-behind ]
+ending-none false name h which = elim which [ inl e ↦ absurd (false≢true e) | inr none ↦ ap (λ l. reference_after (l ++ [])) none ∙ nothing-after ]
 
-pub ending-some : (name : List ℕ) → is_begun_name name ≡ true → (name ≡ [] → ⊥) → reference_behind (name ++ []) ≡ Some (record { name = name; size = length name })
-unfolding reference_behind bare_reference
+pub ending-some : (name : List ℕ) → is_begun_name name ≡ true → (name ≡ [] → ⊥) → reference_after (name ++ []) ≡ Some (record { name = name; size = length name })
+unfolding reference_after bare_reference
 ending-some [] h some = absurd (some refl)
 ending-some (c ∷ cs) h some =
     let p = begun-name c cs h in
@@ -217,9 +217,9 @@ begun-length (b ∷ bs) h =
     let short = (and_parts (is_letter b) (ltb (length bs) 255) (begun-name b bs h).0).1 in
     let below = ltb-true (length bs) 255 short in omega arith
 
-behind-length : (bs : List ℕ) → is_undecided_behind bs ≡ true → length bs ≤ 256
-behind-length [] h = omega arith
-behind-length (b ∷ bs) h = elim (cases_Bool (eqb b 123)) [
+after-length : (bs : List ℕ) → is_undecided_after bs ≡ true → length bs ≤ 256
+after-length [] h = omega arith
+after-length (b ∷ bs) h = elim (cases_Bool (eqb b 123)) [
   | inl e ↦ omega (arith, begun-length bs (sym (cond-true (eqb b 123) (is_begun_name bs) (is_begun_name (b ∷ bs)) e) ∙ h))
   | inr e ↦ omega (arith, begun-length (b ∷ bs) (sym (cond-false (eqb b 123) (is_begun_name bs) (is_begun_name (b ∷ bs)) e) ∙ h))
 ]
@@ -227,7 +227,7 @@ behind-length (b ∷ bs) h = elim (cases_Bool (eqb b 123)) [
 pub undecided-length : (held : List ℕ) → is_undecided held ≡ true → length held ≤ 257
 unfolding is_undecided
 undecided-length [] h = omega arith
-undecided-length (b ∷ bs) h = omega (arith, behind-length bs (and_parts (eqb b 36) (is_undecided_behind bs) h).1)
+undecided-length (b ∷ bs) h = omega (arith, after-length bs (and_parts (eqb b 36) (is_undecided_after bs) h).1)
 
 pub nothing-undecided : is_undecided [] ≡ true
 unfolding is_undecided

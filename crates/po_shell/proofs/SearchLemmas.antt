@@ -32,4 +32,4 @@ byte-next a (b ∷ bs) l = elim (cases_Bool (eqb b a)) [
 
 -- the place as a number of its own
 pub byte-at : (a : ℕ) (bs : List ℕ) (n : ℕ) → n ≡ position_or_len (is_byte a) bs → n < length bs → drop n bs ≡ a ∷ drop (n + 1) bs
-byte-at a bs n place l = subst (λ m. drop m bs ≡ a ∷ drop (m + 1) bs) (sym place) (byte-next a bs (omega (arith, place)))
+byte-at a bs n index l = subst (λ m. drop m bs ≡ a ∷ drop (m + 1) bs) (sym index) (byte-next a bs (omega (arith, index)))

@@ -4,7 +4,7 @@ use Rattle.std.specs.List.{take_while}
 use Rattle.std.proofs.lemmas.Bool.{and_parts, and_from, cases_Bool, cond-true, cond-false, eqb-true, leb-true, le-leb, false_from_ne_true, false≢true}
 use Rattle.std.proofs.lemmas.List.Sums.{take_while-cons}
 use Rattle.po_shell.specs.declared.escape.Escape.{Escape}
-use Rattle.po_shell.specs.Escapes.{is_octal, octal_run, octal_value, letter, letter_escape, escape_behind}
+use Rattle.po_shell.specs.Escapes.{is_octal, octal_run, octal_value, letter, letter_escape, escape_after}
 use Rattle.po_shell.specs.Expanding.{NoOctalFirst, SpellsByte, alert, backspace, form_feed, line_feed, carriage_return, tab, vertical_tab, backslash, one_digit, two_digits, three_digits}
 
 octal_digit : (a : ℕ) → a < 8 → is_octal (48 + a) ≡ true
@@ -54,34 +54,34 @@ three_value a b c l m k = omega (arith, l, m, k)
 abbrev gives : ℕ → ℕ → Option Escape
 gives b size = Some (record { byte = Some b; size = size })
 
-run_read : (a b size : ℕ) (text run : List ℕ) → a < 8 → octal_run ((48 + a) ∷ text) ≡ run → octal_value run ≡ b → length run ≡ size → escape_behind ((48 + a) ∷ text) ≡ gives b size
-unfolding escape_behind
+run_read : (a b size : ℕ) (text run : List ℕ) → a < 8 → octal_run ((48 + a) ∷ text) ≡ run → octal_value run ≡ b → length run ≡ size → escape_after ((48 + a) ∷ text) ≡ gives b size
+unfolding escape_after
 run_read a b size text run l is value long =
     cond-true (is_octal (48 + a)) (Some (record { byte = Some (octal_value (octal_run ((48 + a) ∷ text))); size = length (octal_run ((48 + a) ∷ text)) })) _ (octal_digit a l)
     ∙ ap (λ (r : List ℕ). gives (octal_value r) (length r)) is ∙ ap (λ (n : ℕ). gives n (length run)) value ∙ ap (λ (n : ℕ). gives b n) long
 
-one_read : (a : ℕ) (rest : List ℕ) → a < 8 → NoOctalFirst rest → escape_behind ((48 + a) ∷ rest) ≡ gives a 1
+one_read : (a : ℕ) (rest : List ℕ) → a < 8 → NoOctalFirst rest → escape_after ((48 + a) ∷ rest) ≡ gives a 1
 one_read a rest l none = run_read a a 1 rest ((48 + a) ∷ []) l (one_run a rest l none) (one_value a l) refl
 
-two_read : (a b : ℕ) (rest : List ℕ) → a < 8 → b < 8 → NoOctalFirst rest → escape_behind ((48 + a) ∷ (48 + b) ∷ rest) ≡ gives (8 * a + b) 2
+two_read : (a b : ℕ) (rest : List ℕ) → a < 8 → b < 8 → NoOctalFirst rest → escape_after ((48 + a) ∷ (48 + b) ∷ rest) ≡ gives (8 * a + b) 2
 two_read a b rest l m none = run_read a (8 * a + b) 2 ((48 + b) ∷ rest) ((48 + a) ∷ (48 + b) ∷ []) l (two_run a b rest l m none) (two_value a b l m) refl
 
-three_read : (a b c : ℕ) (rest : List ℕ) → a < 8 → b < 8 → c < 8 → escape_behind ((48 + a) ∷ (48 + b) ∷ (48 + c) ∷ rest) ≡ gives ((64 * a + 8 * b + c) % 256) 3
+three_read : (a b c : ℕ) (rest : List ℕ) → a < 8 → b < 8 → c < 8 → escape_after ((48 + a) ∷ (48 + b) ∷ (48 + c) ∷ rest) ≡ gives ((64 * a + 8 * b + c) % 256) 3
 three_read a b c rest l m k =
     run_read a ((64 * a + 8 * b + c) % 256) 3 ((48 + b) ∷ (48 + c) ∷ rest) ((48 + a) ∷ (48 + b) ∷ (48 + c) ∷ []) l (three_run a b c rest l m k) (three_value a b c l m k) refl
 
 -- what is read of a spelt escape
 pub record IsRead (text : List ℕ) (byte : Option ℕ) (rest : List ℕ) : Type 0 where
   pub escape : Escape
-  pub read : escape_behind text ≡ Some escape
+  pub read : escape_after text ≡ Some escape
   pub byte_is : escape.byte ≡ byte
   pub after : drop escape.size text ≡ rest
 
-letter_read : (a b : ℕ) (rest : List ℕ) → escape_behind (a ∷ rest) ≡ gives b 1 → IsRead (a ∷ rest) (Some b) rest
+letter_read : (a b : ℕ) (rest : List ℕ) → escape_after (a ∷ rest) ≡ gives b 1 → IsRead (a ∷ rest) (Some b) rest
 letter_read a b rest e = record { escape = record { byte = Some b; size = 1 }; read = e; byte_is = refl; after = refl }
 
 pub byte_read : {text rest : List ℕ} {b : ℕ} → SpellsByte text b rest → IsRead text (Some b) rest
-unfolding escape_behind letter_escape
+unfolding escape_after letter_escape
 byte_read (alert {rest = rest}) = letter_read 97 7 rest refl
 byte_read (backspace {rest = rest}) = letter_read 98 8 rest refl
 byte_read (form_feed {rest = rest}) = letter_read 102 12 rest refl
@@ -94,8 +94,8 @@ byte_read (one_digit a {rest = rest} l none) = record { escape = record { byte =
 byte_read (two_digits a b {rest = rest} l m none) = record { escape = record { byte = Some (8 * a + b); size = 2 }; read = two_read a b rest l m none; byte_is = refl; after = refl }
 byte_read (three_digits a b c {rest = rest} l m k) = record { escape = record { byte = Some ((64 * a + 8 * b + c) % 256); size = 3 }; read = three_read a b c rest l m k; byte_is = refl; after = refl }
 
-pub mark_read : (rest : List ℕ) → escape_behind (99 ∷ rest) ≡ Some (record { byte = None; size = 1 })
-unfolding escape_behind letter_escape
+pub mark_read : (rest : List ℕ) → escape_after (99 ∷ rest) ≡ Some (record { byte = None; size = 1 })
+unfolding escape_after letter_escape
 mark_read rest = refl
 
 -- what is read as an escape is spelt
@@ -107,30 +107,30 @@ abbrev Says : List ℕ → Option Escape → Type 0
 Says text None = Unit {0}
 Says text (Some e) = ByteSays text e.byte e.size
 
-octal_says : (a : ℕ) (text : List ℕ) → a < 8 → Says ((48 + a) ∷ text) (escape_behind ((48 + a) ∷ text))
+octal_says : (a : ℕ) (text : List ℕ) → a < 8 → Says ((48 + a) ∷ text) (escape_after ((48 + a) ∷ text))
 octal_says a text l = more text where
-  one : (rest : List ℕ) → NoOctalFirst rest → Says ((48 + a) ∷ rest) (escape_behind ((48 + a) ∷ rest))
+  one : (rest : List ℕ) → NoOctalFirst rest → Says ((48 + a) ∷ rest) (escape_after ((48 + a) ∷ rest))
   one rest none = subst (Says ((48 + a) ∷ rest)) (sym (one_read a rest l none)) (one_digit a l none)
 
-  two : (b : ℕ) (rest : List ℕ) → b < 8 → NoOctalFirst rest → Says ((48 + a) ∷ (48 + b) ∷ rest) (escape_behind ((48 + a) ∷ (48 + b) ∷ rest))
+  two : (b : ℕ) (rest : List ℕ) → b < 8 → NoOctalFirst rest → Says ((48 + a) ∷ (48 + b) ∷ rest) (escape_after ((48 + a) ∷ (48 + b) ∷ rest))
   two b rest m none = subst (Says ((48 + a) ∷ (48 + b) ∷ rest)) (sym (two_read a b rest l m none)) (two_digits a b l m none)
 
-  three : (b c : ℕ) (rest : List ℕ) → b < 8 → c < 8 → Says ((48 + a) ∷ (48 + b) ∷ (48 + c) ∷ rest) (escape_behind ((48 + a) ∷ (48 + b) ∷ (48 + c) ∷ rest))
+  three : (b c : ℕ) (rest : List ℕ) → b < 8 → c < 8 → Says ((48 + a) ∷ (48 + b) ∷ (48 + c) ∷ rest) (escape_after ((48 + a) ∷ (48 + b) ∷ (48 + c) ∷ rest))
   three b c rest m k = subst (Says ((48 + a) ∷ (48 + b) ∷ (48 + c) ∷ rest)) (sym (three_read a b c rest l m k)) (three_digits a b c l m k)
 
-  third : (b : ℕ) → b < 8 → (rest : List ℕ) → Says ((48 + a) ∷ (48 + b) ∷ rest) (escape_behind ((48 + a) ∷ (48 + b) ∷ rest))
+  third : (b : ℕ) → b < 8 → (rest : List ℕ) → Says ((48 + a) ∷ (48 + b) ∷ rest) (escape_after ((48 + a) ∷ (48 + b) ∷ rest))
   third b m [] = two b [] m tt
   third b m (c ∷ rest) =
       elim (cases_Bool (is_octal c)) [
-        | inl e ↦ let d = digit_of c e in subst (λ x. Says ((48 + a) ∷ (48 + b) ∷ x ∷ rest) (escape_behind ((48 + a) ∷ (48 + b) ∷ x ∷ rest))) (sym d.1) (three b d.0 rest m d.2)
+        | inl e ↦ let d = digit_of c e in subst (λ x. Says ((48 + a) ∷ (48 + b) ∷ x ∷ rest) (escape_after ((48 + a) ∷ (48 + b) ∷ x ∷ rest))) (sym d.1) (three b d.0 rest m d.2)
         | inr e ↦ two b (c ∷ rest) m (no_octal c e)
       ]
 
-  more : (rest : List ℕ) → Says ((48 + a) ∷ rest) (escape_behind ((48 + a) ∷ rest))
+  more : (rest : List ℕ) → Says ((48 + a) ∷ rest) (escape_after ((48 + a) ∷ rest))
   more [] = one [] tt
   more (b ∷ rest) =
       elim (cases_Bool (is_octal b)) [
-        | inl e ↦ let d = digit_of b e in subst (λ x. Says ((48 + a) ∷ x ∷ rest) (escape_behind ((48 + a) ∷ x ∷ rest))) (sym d.1) (third d.0 d.2 rest)
+        | inl e ↦ let d = digit_of b e in subst (λ x. Says ((48 + a) ∷ x ∷ rest) (escape_after ((48 + a) ∷ x ∷ rest))) (sym d.1) (third d.0 d.2 rest)
         | inr e ↦ one (b ∷ rest) (no_octal b e)
       ]
 
@@ -151,14 +151,14 @@ letter_says b text =
     if_says (b ∷ text) (b == 92) _ _ (λ e. rw (eqb-true b 92 e) backslash) (λ _.
     if_says (b ∷ text) (b == 99) (letter None) None (λ e. ap (λ a. a ∷ text) (eqb-true b 99 e)) (λ _. tt)))))))))
 
-says : (text : List ℕ) → Says text (escape_behind text)
-unfolding escape_behind
+says : (text : List ℕ) → Says text (escape_after text)
+unfolding escape_after
 says [] = tt
 says (b ∷ text) =
     elim (cases_Bool (is_octal b)) [
-      | inl e ↦ let d = digit_of b e in subst (λ x. Says (x ∷ text) (escape_behind (x ∷ text))) (sym d.1) (octal_says d.0 text d.2)
+      | inl e ↦ let d = digit_of b e in subst (λ x. Says (x ∷ text) (escape_after (x ∷ text))) (sym d.1) (octal_says d.0 text d.2)
       | inr e ↦ subst (Says (b ∷ text)) (sym (cond-false (is_octal b) _ (letter_escape b) e)) (letter_says b text)
     ]
 
-pub escape_spelt : (text : List ℕ) (e : Escape) → escape_behind text ≡ Some e → ByteSays text e.byte e.size
+pub escape_spelt : (text : List ℕ) (e : Escape) → escape_after text ≡ Some e → ByteSays text e.byte e.size
 escape_spelt text e is = subst (Says text) is (says text)

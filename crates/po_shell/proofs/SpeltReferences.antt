@@ -6,10 +6,10 @@ use Rattle.std.proofs.lemmas.Bool.{and_parts, and_from, or_cases, or_left, or_ri
 use Rattle.std.proofs.lemmas.List.{drop_at, drop-drop}
 use Rattle.std.proofs.lemmas.List.Elements.{All-nil, All-cons, All-head, All-tail}
 use Rattle.std.proofs.lemmas.List.Sums.{take_while-cons}
-use Rattle.po_shell.specs.References.{Reference, is_letter, is_name_byte, is_name, name_run, begins_with, bare_reference, braced_reference, reference_behind}
+use Rattle.po_shell.specs.References.{Reference, is_letter, is_name_byte, is_name, name_run, begins_with, bare_reference, braced_reference, reference_after}
 use Rattle.po_shell.specs.Holding.{is_begun_name}
 use Rattle.po_shell.specs.Replacing.{BeginsName, upper, lower, underscore, IsInName, begins, digit, IsName, NoNameGoesOn, SpellsReference, bare, braced}
-use Rattle.po_shell.proofs.ReferenceLemmas.{ends, closes, ending-some, behind-closed, letter-name_byte}
+use Rattle.po_shell.proofs.ReferenceLemmas.{ends, closes, ending-some, following-closed, letter-name_byte}
 
 range_says : (low high b : ℕ) → is_in_range low high b ≡ true → (low ≤ b) × (b ≤ high)
 range_says low high b e = let p = and_parts _ _ e in (leb-true low b p.0, leb-true b high p.1)
@@ -87,10 +87,10 @@ pub record IsRead (text name rest : List ℕ) : Type 0 where
   pub bytes : List ℕ
   pub size : ℕ
   pub dollar : text ≡ 36 ∷ bytes
-  pub read : reference_behind bytes ≡ Some (record { name = name; size = size })
+  pub read : reference_after bytes ≡ Some (record { name = name; size = size })
   pub after : drop size bytes ≡ rest
 
-bare_read : (name rest : List ℕ) → IsName name → NoNameGoesOn rest → reference_behind (name ++ rest) ≡ Some (record { name = name; size = length name })
+bare_read : (name rest : List ℕ) → IsName name → NoNameGoesOn rest → reference_after (name ++ rest) ≡ Some (record { name = name; size = length name })
 bare_read name [] h ended = ending-some name (name_begun name h) (name_some name h)
 bare_read name (b ∷ rest) h ended = ends name b rest (name_begun name h) (name_some name h) (false_from_ne_true (is_name_byte b) (λ passes. ended (byte_says b passes)))
 
@@ -107,7 +107,7 @@ reference_read (braced {name = name} {rest = rest} h) = record {
   size = length name + 2;
   dollar = refl;
   read = closes name rest (name_begun name h) (name_some name h);
-  after = behind-closed name 125 rest;
+  after = following-closed name 125 rest;
 }
 
 -- a text is the longest run of name bytes, and a rest
@@ -162,12 +162,12 @@ opened_by : (bytes : List ℕ) → begins_with 123 bytes ≡ true → 123 ∷ dr
 opened_by [] h = absurd (false≢true h)
 opened_by (b ∷ bytes) h = ap (λ a. a ∷ bytes) (sym (eqb-true b 123 h))
 
-says : (bytes : List ℕ) → Says bytes (reference_behind bytes)
-unfolding reference_behind
+says : (bytes : List ℕ) → Says bytes (reference_after bytes)
+unfolding reference_after
 says bytes =
     cond_both (begins_with 123 bytes) (braced_reference (drop 1 bytes)) (bare_reference bytes) (Says bytes)
     (λ opened. subst (λ text. Says text (braced_reference (drop 1 bytes))) (opened_by bytes opened) (braced_says (drop 1 bytes)))
     (λ _. bare_says bytes)
 
-pub reference_spelt : (bytes : List ℕ) (r : Reference) → reference_behind bytes ≡ Some r → SpellsReference (36 ∷ bytes) r.name (drop r.size bytes)
+pub reference_spelt : (bytes : List ℕ) (r : Reference) → reference_after bytes ≡ Some r → SpellsReference (36 ∷ bytes) r.name (drop r.size bytes)
 reference_spelt bytes r e = subst (Says bytes) e (says bytes)

@@ -9,7 +9,7 @@ use Rattle.po_shell.specs.Device.{AppendsPrefix}
 use Rattle.po_shell.specs.Substitution.{Values, substitution}
 use Rattle.po_shell.specs.Stream.{Advances, Stops, Cut, AreCuts, pieces_of, written_in, held_after, CutsAgree}
 use Rattle.po_shell.proofs.SearchLemmas.{byte-at}
-use Rattle.po_shell.proofs.SubstitutionLemmas.{plain-front}
+use Rattle.po_shell.proofs.SubstitutionLemmas.{plain-prefix}
 
 -- what a text becomes depends on its bytes alone
 pub Advances-from : (values : Values) (a b c : List ℕ) (old new : Option (List ℕ)) → a ≡ b → Advances values b c old new → Advances values a c old new
@@ -26,7 +26,7 @@ Advances-trans values a b c first second third p q = record {
   passes = λ rest. p.passes rest ∙ ap (λ l. p.written ++ l) (q.passes rest) ∙ sym (append_assoc p.written q.written (substitution values (c ++ rest)));
 }
 
--- a step leaves what comes behind its text
+-- a step leaves what comes after its text
 pub Advances-more : (values : Values) (a b more : List ℕ) (old new : Option (List ℕ)) → Advances values a b old new → Advances values (a ++ more) (b ++ more) old new
 Advances-more values a b more old new p = record {
   written = p.written;
@@ -84,19 +84,19 @@ out-piece values held out next taken piece e fits passes rest =
 
 -- the bytes before the first `$`
 pub plain-out : (values : Values) (n : ℕ) (piece : List ℕ) → n ≡ position_or_len (is_byte 36) piece → (rest : List ℕ) → substitution values (piece ++ rest) ≡ take n piece ++ substitution values (drop n piece ++ rest)
-plain-out values n piece e rest = subst (λ m. substitution values (piece ++ rest) ≡ take m piece ++ substitution values (drop m piece ++ rest)) (sym e) (plain-front values piece rest)
+plain-out values n piece e rest = subst (λ m. substitution values (piece ++ rest) ≡ take m piece ++ substitution values (drop m piece ++ rest)) (sym e) (plain-prefix values piece rest)
 
 pub plain-advances : (values : Values) (n : ℕ) (held piece : List ℕ) (old new : Option (List ℕ)) → n ≡ position_or_len (is_byte 36) piece → held ≡ [] → Appends old new (take n piece) → Advances values piece (held ++ drop n piece) old new
-plain-advances values n held piece old new place none appends =
+plain-advances values n held piece old new index none appends =
     Advances-out values piece (held ++ drop n piece) (take n piece) old new
-    (λ rest. plain-out values n piece place rest ∙ ap (λ h. take n piece ++ substitution values ((h ++ drop n piece) ++ rest)) (sym none)) appends
+    (λ rest. plain-out values n piece index rest ∙ ap (λ h. take n piece ++ substitution values ((h ++ drop n piece) ++ rest)) (sym none)) appends
 
 -- and the `$` that is held
 pub dollar-advances : (values : Values) (n : ℕ) (held piece : List ℕ) (old new : Option (List ℕ)) → n ≡ position_or_len (is_byte 36) piece → n < length piece → held ≡ 36 ∷ [] → Appends old new (take n piece) → Advances values piece (held ++ drop (n + 1) piece) old new
-dollar-advances values n held piece old new place short dollar appends =
-    let next = byte-at 36 piece n place short in
+dollar-advances values n held piece old new index short dollar appends =
+    let next = byte-at 36 piece n index short in
     Advances-out values piece (held ++ drop (n + 1) piece) (take n piece) old new
-    (λ rest. plain-out values n piece place rest ∙ ap (λ t. take n piece ++ substitution values (t ++ rest)) (next ∙ ap (λ h. h ++ drop (n + 1) piece) (sym dollar))) appends
+    (λ rest. plain-out values n piece index rest ∙ ap (λ t. take n piece ++ substitution values (t ++ rest)) (next ∙ ap (λ h. h ++ drop (n + 1) piece) (sym dollar))) appends
 
 -- the bytes held, as they are seen, and the first one of a piece
 pub out-advances : (values : Values) (held seen out : List ℕ) (next taken : ℕ) (piece after : List ℕ) (old new : Option (List ℕ)) → seen ≡ held → piece ≡ next ∷ drop 1 piece → taken ≤ 1
@@ -122,7 +122,7 @@ pub piece-split : (piece : List ℕ) (d : ℕ) → 0 < length piece → piece �
 piece-split [] d some = absurd (omega arith)
 piece-split (b ∷ bs) d some = refl
 
--- a step over `&piece[at..]`, behind the steps before it
+-- a step over `&piece[at..]`, after the steps before it
 pub pass-advances : (values : Values) (text held after piece : List ℕ) (at taken : ℕ) (first second third : Option (List ℕ)) → Advances values text (held ++ drop at piece) first second
     → Advances values (held ++ take (length piece - at) (drop at piece)) (after ++ drop taken (take (length piece - at) (drop at piece))) second third → Advances values text (after ++ drop (at + taken) piece) first third
 pass-advances values text held after piece at taken first second third p q =

@@ -1,16 +1,16 @@
 -- Where the catalogues of a text domain lie ("Invoking the gettext program" and "Locating Message Catalog Files" of the GNU gettext manual).
 use Rattle.std.specs.Prelude.{ℕ, if◌then◌else◌, List, [], ◌++◌, map, Option, Some, None, unwrap_or, codes}
 use Rattle.std.specs.Option.{option_or, option_copied}
-use Rattle.po_shell.specs.Locales.{given, is_path_part, candidates_of}
+use Rattle.po_shell.specs.Locales.{non_empty, is_path_part, candidates_of}
 use Rattle.po_shell.specs.declared.locale.Environment.{Environment}
 
--- the text domain: the one among the words, else that of `-d`, else that of TEXTDOMAIN, each also where it is empty
+-- the text domain: the one among the arguments, else that of `-d`, else that of TEXTDOMAIN, each also where it is empty
 abbrev pub domain_of : Option (List ℕ) → Option (List ℕ) → Environment → Option (List ℕ)
 domain_of word option env = option_or word (option_or option (option_copied env.textdomain))
 
 -- the folder that the catalogues lie below: that of TEXTDOMAINDIR, where it counts
 abbrev pub folder_of : Environment → List ℕ
-folder_of env = unwrap_or (given env.textdomaindir) (codes "/usr/share/locale")
+folder_of env = unwrap_or (non_empty env.textdomaindir) (codes "/usr/share/locale")
 
 -- where the catalogue of a domain lies for a locale
 abbrev pub path_of : List ℕ → List ℕ → List ℕ → List ℕ

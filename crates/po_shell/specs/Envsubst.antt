@@ -13,7 +13,7 @@ Substitutes values input old new = IfSome input (λ text. Appends old new (subst
 abbrev pub StopsAtEnd : Values → Option (List ℕ) → Option (List ℕ) → Option (List ℕ) → Type 0
 StopsAtEnd values input old new = IfSome input (λ text. AppendsPrefix old new (substitution values text))
 
--- the writer took a prefix of what these bytes of the input become, whatever comes behind them
+-- the writer took a prefix of what these bytes of the input become, whatever comes after them
 pub record StopsWithin (values : Values) (input left old new : Option (List ℕ)) : Type 0 where
   pub read : List ℕ
   pub reads : Consumes input left read

@@ -6,7 +6,7 @@ use Rattle.po_shell.specs.declared.escape.Escape.{Escape}
 abbrev pub is_octal : ℕ → Bool
 is_octal b = nat_le 48 b && nat_le b 55
 
--- up to three octal digits at the front
+-- up to three octal digits at the beginning
 abbrev pub octal_run : List ℕ → List ℕ
 octal_run bs = take_while is_octal (take 3 bs)
 
@@ -35,23 +35,23 @@ letter_escape b =
     else if b == 99 then letter None
     else None
 
--- the escape that a `\` begins, by the bytes behind it; any other `\` stays
-unfoldable pub escape_behind : List ℕ → Option Escape
-escape_behind [] = None
-escape_behind (b ∷ bs) =
+-- the escape that a `\` begins, by the bytes after it; any other `\` stays
+unfoldable pub escape_after : List ℕ → Option Escape
+escape_after [] = None
+escape_after (b ∷ bs) =
     if is_octal b then Some (record { byte = Some (octal_value (octal_run (b ∷ bs))); size = length (octal_run (b ∷ bs)) })
     else letter_escape b
 
--- what stands for one byte, with what stands for those behind it
+-- what stands for one byte, with what stands for those after it
 abbrev pub unit : ℕ → Option Escape → (ℕ → List (Option ℕ)) → List (Option ℕ)
 unit b None later = Some b ∷ later 0
 unit b (Some e) later = e.byte ∷ later e.size
 
--- what the bytes behind these places give; the first `skip` bytes belong to an escape
+-- what the bytes after these places give; the first `skip` bytes belong to an escape
 unfoldable pub units_after : ℕ → List ℕ → List (Option ℕ)
 units_after skip [] = []
 units_after (suc skip) (b ∷ bs) = units_after skip bs
-units_after zero (b ∷ bs) = unit b (if b == 92 then escape_behind bs else None) (λ skip. units_after skip bs)
+units_after zero (b ∷ bs) = unit b (if b == 92 then escape_after bs else None) (λ skip. units_after skip bs)
 
 -- the text with its escapes expanded
 abbrev pub expansion : List ℕ → List ℕ

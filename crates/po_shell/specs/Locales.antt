@@ -8,13 +8,13 @@ use Rattle.memchr.specs.Find.{is_byte}
 use Rattle.po_shell.specs.declared.locale.Environment.{Environment}
 
 -- a variable counts where it is set and not empty
-abbrev pub given : Option (Bor (List ℕ)) → Option (List ℕ)
-given None = None
-given (Some value) = if length value.now == 0 then None else Some value.now
+abbrev pub non_empty : Option (Bor (List ℕ)) → Option (List ℕ)
+non_empty None = None
+non_empty (Some value) = if length value.now == 0 then None else Some value.now
 
 -- the locale: the first of LC_ALL, LC_MESSAGES and LANG that counts
 abbrev pub locale_of : Environment → Option (List ℕ)
-locale_of env = option_or (given env.lc_all) (option_or (given env.lc_messages) (given env.lang))
+locale_of env = option_or (non_empty env.lc_all) (option_or (non_empty env.lc_messages) (non_empty env.lang))
 
 -- the locales in which nothing is translated
 unfoldable pub is_untranslated : List ℕ → Bool
@@ -68,4 +68,4 @@ candidates_in language (Some locale) =
 
 -- the candidates of an environment, the first to be asked first
 unfoldable pub candidates_of : Environment → List (List ℕ)
-candidates_of env = candidates_in (given env.language) (locale_of env)
+candidates_of env = candidates_in (non_empty env.language) (locale_of env)

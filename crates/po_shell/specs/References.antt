@@ -17,11 +17,11 @@ unfoldable pub is_name : List ℕ → Bool
 is_name [] = false
 is_name (b ∷ bs) = is_letter b && nat_lt (length bs) 255
 
--- the longest run of name bytes at the front of a text
+-- the longest run of name bytes at the beginning of a text
 abbrev pub name_run : List ℕ → List ℕ
 name_run bs = take_while is_name_byte bs
 
--- a reference: its name, and how many bytes it takes behind its `$`
+-- a reference: its name, and how many bytes it takes after its `$`
 pub record Reference : Type 0 where
   pub name : List ℕ
   pub size : ℕ
@@ -31,25 +31,25 @@ abbrev pub begins_with : ℕ → List ℕ → Bool
 begins_with a [] = false
 begins_with a (b ∷ bs) = b == a
 
--- `$NAME`, by the bytes behind the `$`
+-- `$NAME`, by the bytes after the `$`
 unfoldable pub bare_reference : List ℕ → Option Reference
 bare_reference bs = if is_name (name_run bs) then Some (record { name = name_run bs; size = length (name_run bs) }) else None
 
--- `${NAME}`, by the bytes behind the `${`
+-- `${NAME}`, by the bytes after the `${`
 unfoldable pub braced_reference : List ℕ → Option Reference
 braced_reference bs =
     if is_name (name_run bs) && begins_with 125 (drop (length (name_run bs)) bs)
     then Some (record { name = name_run bs; size = length (name_run bs) + 2 }) else None
 
--- the reference that a `$` begins, by the bytes behind it
-unfoldable pub reference_behind : List ℕ → Option Reference
-reference_behind bs = if begins_with 123 bs then braced_reference (drop 1 bs) else bare_reference bs
+-- the reference that a `$` begins, by the bytes after it
+unfoldable pub reference_after : List ℕ → Option Reference
+reference_after bs = if begins_with 123 bs then braced_reference (drop 1 bs) else bare_reference bs
 
 -- the names of the references in a text, in order, with repeats
 unfoldable pub names_in : List ℕ → List (List ℕ)
 names_in [] = []
 names_in (b ∷ bs) =
-    cons_option (if b == 36 then option_map (λ r. r.name) (reference_behind bs) else None) (names_in bs)
+    cons_option (if b == 36 then option_map (λ r. r.name) (reference_after bs) else None) (names_in bs)
 
 -- the names of the references in a text, one a line
 abbrev pub name_lines : List ℕ → List ℕ

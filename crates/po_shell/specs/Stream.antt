@@ -4,13 +4,13 @@ use Rattle.std.specs.List.{flat_map}
 use Rattle.std.specs.Io.KnownBytes.{Appends}
 use Rattle.po_shell.specs.Substitution.{Values, substitution}
 
--- what was written is what the text before becomes, whatever comes behind it, but for what is held back
+-- what was written is what the text before becomes, whatever comes after it, but for what is held back
 pub record Advances (values : Values) (before held : List ℕ) (old new : Option (List ℕ)) : Type 0 where
   pub written : List ℕ
   pub appends : Appends old new written
   pub passes : (rest : List ℕ) → substitution values (before ++ rest) ≡ written ++ substitution values (held ++ rest)
 
--- what was written is a prefix of what the text becomes, whatever comes behind it
+-- what was written is a prefix of what the text becomes, whatever comes after it
 pub record Stops (values : Values) (text : List ℕ) (old new : Option (List ℕ)) : Type 0 where
   pub written : List ℕ
   pub appends : Appends old new written

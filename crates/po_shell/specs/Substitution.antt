@@ -4,7 +4,7 @@ use Rattle.std.specs.Borrow.{Bor}
 use Rattle.std.specs.List.{list_any}
 use Rattle.std.specs.Option.{option_map}
 use Rattle.std.specs.Str.{bytes_eq}
-use Rattle.po_shell.specs.References.{Reference, reference_behind}
+use Rattle.po_shell.specs.References.{Reference, reference_after}
 
 -- what the references to a name become; at `None` they are copied
 abbrev pub Values : Type 0
@@ -24,7 +24,7 @@ is_replaced (Some names) name = list_any (λ n. bytes_eq n name) names
 unfoldable pub values_of : List (List ℕ × List ℕ) → Option (List (List ℕ)) → Values
 values_of vars only name = if is_replaced only name then Some (value_of vars name) else None
 
--- a replaced reference: what it becomes, and how many bytes it takes behind its `$`
+-- a replaced reference: what it becomes, and how many bytes it takes after its `$`
 pub record Replacement : Type 0 where
   pub value : List ℕ
   pub size : ℕ
@@ -35,16 +35,16 @@ replacement_of values None = None
 replacement_of values (Some r) = option_map (λ v. record { value = v; size = r.size }) (values r.name)
 
 -- what stands for one byte: itself, or the value of the reference that it begins, of which the next bytes are then skipped
-abbrev pub place : ℕ → Option Replacement → (ℕ → List ℕ) → List ℕ
-place b None later = b ∷ later 0
-place b (Some r) later = r.value ++ later r.size
+abbrev pub index : ℕ → Option Replacement → (ℕ → List ℕ) → List ℕ
+index b None later = b ∷ later 0
+index b (Some r) later = r.value ++ later r.size
 
--- the text behind these places, with its references replaced; the first `skip` bytes belong to a reference
+-- the text after these places, with its references replaced; the first `skip` bytes belong to a reference
 unfoldable pub substitution_after : Values → ℕ → List ℕ → List ℕ
 substitution_after values skip [] = []
 substitution_after values (suc skip) (b ∷ bs) = substitution_after values skip bs
 substitution_after values zero (b ∷ bs) =
-    place b (if b == 36 then replacement_of values (reference_behind bs) else None) (λ skip. substitution_after values skip bs)
+    index b (if b == 36 then replacement_of values (reference_after bs) else None) (λ skip. substitution_after values skip bs)
 
 -- the text with its references replaced
 abbrev pub substitution : Values → List ℕ → List ℕ

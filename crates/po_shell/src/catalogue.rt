@@ -6,14 +6,14 @@ ghost use Rattle.po_shell.specs.Locales.{candidates_of};
 ghost use Rattle.po_shell.specs.Catalogues.{folder_of, path_of, paths_of};
 
 use crate::fault::ToolFault;
-use crate::locale::{Environment, given, is_path_part, locale_candidates};
+use crate::locale::{Environment, is_path_part, locale_candidates, non_empty};
 use std::alloc::Global;
 
 /// The folder that the catalogues lie below where TEXTDOMAINDIR names none.
 pub const DEFAULT_FOLDER: &[u8] = b"/usr/share/locale";
 
 /// The paths of the catalogues of a text domain, the first to be asked first. The domain is the
-/// one among the words, else that of `-d`, else that of TEXTDOMAIN; there is no path where there is
+/// one among the arguments, else that of `-d`, else that of TEXTDOMAIN; there is no path where there is
 /// none, nor where it is empty or has a slash. The folder is that of TEXTDOMAINDIR, or
 /// `DEFAULT_FOLDER`.
 pub fn catalogue_paths(
@@ -76,7 +76,7 @@ fn domain_paths(
 fn folder_of<'a>(environment: &Environment<'a>) -> &'a [u8]
     ensures { result.now ≡ folder_of environment.now }
 {
-    match given(environment.textdomaindir) {
+    match non_empty(environment.textdomaindir) {
         Some(folder) => folder,
         None => DEFAULT_FOLDER,
     }

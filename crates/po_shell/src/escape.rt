@@ -1,6 +1,6 @@
 // The escapes that `gettext -e` expands ("Invoking the gettext program" of the GNU gettext manual).
 ghost use Rattle.std.specs.Prelude.{◌≡◌, ◌≤◌, length, IfSome, IfOk, OnErr, Err};
-ghost use Rattle.po_shell.specs.Escapes.{expansion, has_no_newline, is_octal, octal_run, octal_value, letter, letter_escape, escape_behind};
+ghost use Rattle.po_shell.specs.Escapes.{expansion, has_no_newline, is_octal, octal_run, octal_value, letter, letter_escape, escape_after};
 
 use crate::fault::ToolFault;
 use crate::search::len_before;
@@ -11,11 +11,11 @@ use std::alloc::Global;
 pub struct Expanded {
     /// The text's bytes, without those of its escapes and with what these give.
     pub bytes: Vec<u8>,
-    /// Whether a `\c` stands in the text, so that no newline is to be written behind it.
+    /// Whether a `\c` stands in the text, so that no newline is to be written after it.
     pub no_newline: bool,
 }
 
-// What an escape gives, which with `\c` is no byte, and how many bytes it takes behind its
+// What an escape gives, which with `\c` is no byte, and how many bytes it takes after its
 // backslash.
 #[derive(Clone, Copy)]
 struct Escape {
@@ -41,7 +41,7 @@ pub fn expand(alloc: Global, text: &[u8]) -> Result<Expanded, ToolFault>
             return Ok(Expanded { bytes, no_newline });
         }
         rest = &rest[plain + 1..];
-        let Some(escape) = escape_behind(rest) else {
+        let Some(escape) = escape_after(rest) else {
             bytes.push(b'\\')?;
             continue;
         };
@@ -53,18 +53,18 @@ pub fn expand(alloc: Global, text: &[u8]) -> Result<Expanded, ToolFault>
     }
 }
 
-// The escape that a backslash begins, by the bytes behind it.
-fn escape_behind(behind: &[u8]) -> Option<Escape>
-    ensures escape { result ≡ escape_behind behind.now }
-    ensures within { IfSome result (λ escape. escape.size ≤ length behind.now) }
+// The escape that a backslash begins, by the bytes after it.
+fn escape_after(after: &[u8]) -> Option<Escape>
+    ensures escape { result ≡ escape_after after.now }
+    ensures within { IfSome result (λ escape. escape.size ≤ length after.now) }
 {
-    if behind.is_empty() {
+    if after.is_empty() {
         return None;
     }
-    if !is_octal(behind[0]) {
-        return letter_escape(behind[0]);
+    if !is_octal(after[0]) {
+        return letter_escape(after[0]);
     }
-    let digits = octal_run(behind);
+    let digits = octal_run(after);
     Some(Escape {
         byte: Some(octal_value(digits)),
         size: digits.len(),
@@ -77,18 +77,18 @@ fn is_octal(byte: u8) -> bool
     matches!(byte, b'0'..=b'7')
 }
 
-// Up to three octal digits at the front.
+// Up to three octal digits at the beginning.
 fn octal_run(bytes: &[u8]) -> &[u8]
     ensures run { result.now ≡ octal_run bytes.now }
     ensures within { length result.now ≤ length bytes.now }
 {
-    let front = &bytes[..bytes.len().min(3)];
-    for (len, byte) in front.iter().enumerate() {
+    let prefix = &bytes[..bytes.len().min(3)];
+    for (len, byte) in prefix.iter().enumerate() {
         if !is_octal(*byte) {
-            return &front[..len];
+            return &prefix[..len];
         }
     }
-    front
+    prefix
 }
 
 // The byte that octal digits give, modulo 256.

@@ -8,7 +8,7 @@ ghost use Rattle.po_shell.specs.Failing.{calls_after, failing_inner, failing_cal
 use std::io::{self, ErrorKind, Read, Write};
 
 /// A reader or writer over one in memory that fails at a chosen call, or moves few bytes a call,
-/// so that a test sees what a tool leaves behind.
+/// so that a test sees what a tool leaves.
 #[derive(Drop)]
 pub struct Failing<D> {
     inner: D,

@@ -1,17 +1,17 @@
 // The bytes that may begin a reference, held back until the next ones decide.
 ghost use Rattle.std.specs.Prelude.{◌≡◌, ◌<◌, true, false, ◌∷◌, [], length};
-ghost use Rattle.po_shell.specs.Holding.{Decides, ComesOut, Replaces, Ending, is_undecided, is_begun_name, behind_dollar};
+ghost use Rattle.po_shell.specs.Holding.{Decides, ComesOut, Replaces, Ending, is_undecided, is_begun_name, after_dollar};
 ghost use Rattle.po_shell.specs.Substitution.{values_given};
 
 use crate::reference::{LONGEST_NAME, begins_with, is_letter, is_name_byte};
 use crate::variable::replacement;
 
-/// What the byte behind a begun reference makes of it.
+/// What the byte after a begun reference makes of it.
 #[derive(Clone, Copy)]
 pub(crate) enum Decision {
     /// It may still become a reference.
     Grows,
-    /// It is `$NAME`, and the byte stands behind it.
+    /// It is `$NAME`, and the byte stands after it.
     Ends,
     /// It is `${NAME}` with the byte.
     Closes,
@@ -20,7 +20,7 @@ pub(crate) enum Decision {
 }
 
 /// What becomes of the bytes held back, at the next byte.
-pub(crate) enum Outcome<'a> {
+pub(crate) enum Effect<'a> {
     /// They are held on, and so is the byte.
     Held,
     /// They come out as they are, and the byte isn't taken.
@@ -61,32 +61,32 @@ pub(crate) fn decide(is_braced: bool, name: &[u8], next: u8) -> Decision
 pub(crate) fn begun(held: &[u8]) -> (bool, &[u8])
     requires some { 0 < length held.now }
     requires undecided { is_undecided held.now ≡ true }
-    ensures bytes { held.now ≡ 36 ∷ behind_dollar result.0 result.1.now }
+    ensures bytes { held.now ≡ 36 ∷ after_dollar result.0 result.1.now }
     ensures name { is_begun_name result.1.now ≡ true }
 {
-    let behind = &held[1..];
-    if begins_with(b'{', behind) {
-        (true, &behind[1..])
+    let after = &held[1..];
+    if begins_with(b'{', after) {
+        (true, &after[1..])
     } else {
-        (false, behind)
+        (false, after)
     }
 }
 
 /// What becomes of the bytes held back, at the next byte.
-pub(crate) fn outcome_of<'a>(
+pub(crate) fn effect_of<'a>(
     vars: &[(&'a [u8], &'a [u8])],
     only: Option<&[&[u8]]>,
     held: &[u8],
     next: u8,
-) -> Outcome<'a>
+) -> Effect<'a>
     requires some { 0 < length held.now }
     requires undecided { is_undecided held.now ≡ true }
     ensures { ComesOut (values_given vars.now only.entry) held.now next result }
 {
     let (is_braced, name) = begun(held);
     match decide(is_braced, name, next) {
-        Decision::Grows => Outcome::Held,
-        Decision::Copies => Outcome::Copied,
+        Decision::Grows => Effect::Held,
+        Decision::Copies => Effect::Copied,
         Decision::Ends => replace(vars, only, name, 0),
         Decision::Closes => replace(vars, only, name, 1),
     }
@@ -98,12 +98,12 @@ fn replace<'a>(
     only: Option<&[&[u8]]>,
     name: &[u8],
     taken: usize,
-) -> Outcome<'a>
+) -> Effect<'a>
     ensures { Replaces (values_given vars.now only.entry) name.now taken result }
 {
     match replacement(vars, only, name) {
-        Some(value) => Outcome::Replaced(value, taken),
-        None => Outcome::Copied,
+        Some(value) => Effect::Replaced(value, taken),
+        None => Effect::Copied,
     }
 }
 

@@ -3,7 +3,7 @@
 ghost use Rattle.std.specs.Prelude.{◌≡◌, ◌++◌, ◌∷◌, [], map, fold, IfOk, OnOk, OnErr, Err};
 ghost use Rattle.std.specs.List.{flat_map};
 ghost use Rattle.std.specs.Option.{option_map};
-ghost use Rattle.po_shell.specs.Locales.{given, locale_of, is_untranslated, has_slash, is_path_part, before, from_first, variants, language_parts, languages, distinct, candidates_of};
+ghost use Rattle.po_shell.specs.Locales.{non_empty, locale_of, is_untranslated, has_slash, is_path_part, before, from_first, variants, language_parts, languages, distinct, candidates_of};
 ghost use Rattle.po_shell.specs.LocaleSteps.{variants_in};
 
 use crate::fault::ToolFault;
@@ -58,11 +58,11 @@ fn names_of(
     language: Option<&[u8]>,
 ) -> Result<Vec<Vec<u8>>, ToolFault>
     ensures names { IfOk result (λ v. map (λ name. name.items) v.items
-        ≡ flat_map variants (languages (given language.entry) locale.now)) }
+        ≡ flat_map variants (languages (non_empty language.entry) locale.now)) }
     ensures fault { OnErr result (result ≡ Err ToolFault.OutOfMemory) }
 {
     let mut names = Vec::new(alloc);
-    match given(language) {
+    match non_empty(language) {
         None => add_variants(alloc, &mut names, locale)?,
         Some(languages) => add_languages(alloc, &mut names, languages)?,
     }
@@ -88,8 +88,8 @@ fn distinct(alloc: Global, names: &[Vec<u8>]) -> Result<Vec<Vec<u8>>, ToolFault>
 }
 
 /// A variable that is set and not empty.
-pub(crate) fn given(variable: Option<&[u8]>) -> Option<&[u8]>
-    ensures { option_map (λ value. value.now) result ≡ given variable.entry }
+pub(crate) fn non_empty(variable: Option<&[u8]>) -> Option<&[u8]>
+    ensures { option_map (λ value. value.now) result ≡ non_empty variable.entry }
 {
     match variable {
         Some(value) if !value.is_empty() => Some(value),
@@ -101,13 +101,13 @@ pub(crate) fn given(variable: Option<&[u8]>) -> Option<&[u8]>
 fn locale_of<'a>(environment: &Environment<'a>) -> Option<&'a [u8]>
     ensures { option_map (λ value. value.now) result ≡ locale_of environment.now }
 {
-    if let Some(locale) = given(environment.lc_all) {
+    if let Some(locale) = non_empty(environment.lc_all) {
         return Some(locale);
     }
-    if let Some(locale) = given(environment.lc_messages) {
+    if let Some(locale) = non_empty(environment.lc_messages) {
         return Some(locale);
     }
-    given(environment.lang)
+    non_empty(environment.lang)
 }
 
 #[tactic(auto, unfolding(crate::specs::Locales::is_untranslated))]
@@ -138,15 +138,15 @@ fn add_languages(alloc: Global, names: &mut Vec<Vec<u8>>, languages: &[u8]) -> R
 {
     let mut rest = languages;
     loop {
-        let (part, behind) = rest.split_at(len_before(b':', rest));
+        let (part, after) = rest.split_at(len_before(b':', rest));
         if is_untranslated(part) {
             return Ok(());
         }
         add_language(alloc, names, part)?;
-        if behind.is_empty() {
+        if after.is_empty() {
             return Ok(());
         }
-        rest = &behind[1..];
+        rest = &after[1..];
     }
 }
 
@@ -200,14 +200,14 @@ fn from_first(byte: u8, name: &[u8]) -> &[u8]
 fn add_name(
     alloc: Global,
     names: &mut Vec<Vec<u8>>,
-    front: &[u8],
+    prefix: &[u8],
     back: &[u8],
 ) -> Result<(), ToolFault>
     ensures added { OnOk result (map (λ name. name.items) names.new.items
-        ≡ map (λ name. name.items) names.old.items ++ (front.now ++ back.now) ∷ []) }
+        ≡ map (λ name. name.items) names.old.items ++ (prefix.now ++ back.now) ∷ []) }
     ensures fault { OnErr result (result ≡ Err ToolFault.OutOfMemory) }
 {
-    let mut name = Vec::from_slice(alloc, front)?;
+    let mut name = Vec::from_slice(alloc, prefix)?;
     name.extend_from_slice(back)?;
     names.push(name)?;
     Ok(())

@@ -2,7 +2,7 @@
 ghost use Rattle.std.specs.Prelude.{◌≡◌, ◌<◌, ◌≤◌, [], map, length, IfNone, IfSome, IfOk, OnErr, Err};
 ghost use Rattle.std.specs.Option.{option_map};
 ghost use Rattle.std.specs.List.{cons_option};
-ghost use Rattle.po_shell.specs.References.{begins_with, is_letter, is_name_byte, is_name, name_run, reference_behind, names_in, name_lines};
+ghost use Rattle.po_shell.specs.References.{begins_with, is_letter, is_name_byte, is_name, name_run, reference_after, names_in, name_lines};
 
 use crate::fault::ToolFault;
 use crate::search::len_before;
@@ -45,7 +45,7 @@ pub(crate) fn begins_with(byte: u8, text: &[u8]) -> bool
     text.first() == Some(&byte)
 }
 
-// The longest run of name bytes at the front.
+// The longest run of name bytes at the beginning.
 fn name_run(bytes: &[u8]) -> &[u8]
     ensures { result.now ≡ name_run bytes.now }
 {
@@ -57,29 +57,29 @@ fn name_run(bytes: &[u8]) -> &[u8]
     bytes
 }
 
-// The name of the reference that a `$` begins, by the bytes behind it.
-#[tactic(auto, unfolding(crate::specs::References::reference_behind, crate::specs::References::braced_reference, crate::specs::References::bare_reference))]
-fn reference_name(behind: &[u8]) -> Option<&[u8]>
+// The name of the reference that a `$` begins, by the bytes after it.
+#[tactic(auto, unfolding(crate::specs::References::reference_after, crate::specs::References::braced_reference, crate::specs::References::bare_reference))]
+fn reference_name(after: &[u8]) -> Option<&[u8]>
     ensures { option_map (λ name. name.now) result
-        ≡ option_map (λ r. r.name) (reference_behind behind.now) }
+        ≡ option_map (λ r. r.name) (reference_after after.now) }
 {
-    if begins_with(b'{', behind) {
-        let inner = &behind[1..];
+    if begins_with(b'{', after) {
+        let inner = &after[1..];
         let name = name_run(inner);
         let is_closed = begins_with(b'}', &inner[name.len()..]);
         (is_name(name) && is_closed).then_some(name)
     } else {
-        let name = name_run(behind);
+        let name = name_run(after);
         is_name(name).then_some(name)
     }
 }
 
-// What stands behind the first `$`.
-fn behind_dollar(text: &[u8]) -> Option<&[u8]>
+// What stands after the first `$`.
+fn after_dollar(text: &[u8]) -> Option<&[u8]>
     ensures none { IfNone result (names_in text.now ≡ []) }
-    ensures names { IfSome result (λ behind. names_in text.now
-        ≡ cons_option (option_map (λ r. r.name) (reference_behind behind.now)) (names_in behind.now)) }
-    ensures shorter { IfSome result (λ behind. length behind.now < length text.now) }
+    ensures names { IfSome result (λ after. names_in text.now
+        ≡ cons_option (option_map (λ r. r.name) (reference_after after.now)) (names_in after.now)) }
+    ensures shorter { IfSome result (λ after. length after.now < length text.now) }
 {
     let plain = len_before(b'$', text);
     if plain < text.len() {
@@ -96,9 +96,9 @@ pub fn names(alloc: Global, format: &[u8]) -> Result<Vec<&[u8]>, ToolFault>
 {
     let mut names = Vec::new(alloc);
     let mut text = format;
-    while let Some(behind) = behind_dollar(text) {
-        text = behind;
-        if let Some(name) = reference_name(behind) {
+    while let Some(after) = after_dollar(text) {
+        text = after;
+        if let Some(name) = reference_name(after) {
             names.push(name)?;
         }
     }

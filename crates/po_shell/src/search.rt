@@ -7,7 +7,7 @@ use memchr::memchr;
 
 /// How many bytes stand before the first `byte`: all, where there is none.
 pub(crate) fn len_before(byte: u8, bytes: &[u8]) -> usize
-    ensures place { result ≡ position_or_len (is_byte byte) bytes.now }
+    ensures index { result ≡ position_or_len (is_byte byte) bytes.now }
     ensures bound { result ≤ length bytes.now }
 {
     memchr(byte, bytes).unwrap_or(bytes.len())

@@ -11,7 +11,7 @@ ghost use Rattle.po_shell.specs.Substitution.{Values, substitution, values_given
 use crate::delivery::put_all;
 use crate::device::ByteOut;
 use crate::fault::ToolFault;
-use crate::holding::{Outcome, ending, outcome_of};
+use crate::holding::{Effect, effect_of, ending};
 use crate::search::len_before;
 use arrayvec::ArrayVec;
 use std::marker::Model;
@@ -170,17 +170,17 @@ fn advance<W: ByteOut>(
     if held.is_empty() {
         return copy_plain(held, piece, writer);
     }
-    match outcome_of(vars, only, held, piece[0]) {
-        Outcome::Held => {
+    match effect_of(vars, only, held, piece[0]) {
+        Effect::Held => {
             held.push(piece[0]);
             Ok(1)
         }
-        Outcome::Copied => {
+        Effect::Copied => {
             put_all(writer, held)?;
             held.clear();
             Ok(0)
         }
-        Outcome::Replaced(value, taken) => {
+        Effect::Replaced(value, taken) => {
             put_all(writer, value)?;
             held.clear();
             Ok(taken)

@@ -22,7 +22,7 @@ pub fn name_and_value(entry: &[u8]) -> Option<(&[u8], &[u8])>
 
 // Where the first `=` stands.
 fn first_equals(entry: &[u8]) -> Option<usize>
-    ensures place { result ≡ position (λ b. b == 61) entry.now }
+    ensures index { result ≡ position (λ b. b == 61) entry.now }
     ensures bound { IfSome result (λ at. at < length entry.now) }
     ensures there { IfSome result (λ at. entry.now ≡ take at entry.now ++ 61 ∷ drop (at + 1) entry.now) }
     ensures before { IfSome result (λ at. All (λ b. b ≢ 61) (take at entry.now)) }

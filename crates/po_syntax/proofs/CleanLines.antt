@@ -31,14 +31,14 @@ lacks_all byte text h = rw (take_all (length text) text (omega arith)) at (lacks
 lines_below : (n : ℕ) (text : List ℕ) → length text < n → IsUtf8 text → All (λ b. b ≢ 0) text → AreCleanLines (lines_of text)
 lines_below zero text h utf8 no_nul = absurd (omega arith)
 lines_below (suc n) text h utf8 no_nul =
-    let place = position_or_len is_feed text in
-    elim (cases_lt place (length text)) [
+    let index = position_or_len is_feed text in
+    elim (cases_lt index (length text)) [
       | inl inside ↦
-          let feed : get_or text place 0 ≡ 10 = eqb-true _ _ (not-false _ (prefix_len_stops (λ b. not (is_feed b)) text 0 inside)) in
-          let behind = IsCharBoundary-after_ascii text place utf8 inside (omega arith) in
+          let feed : get_or text index 0 ≡ 10 = eqb-true _ _ (not-false _ (prefix_len_stops (λ b. not (is_feed b)) text 0 inside)) in
+          let after = IsCharBoundary-after_ascii text index utf8 inside (omega arith) in
           rw (slice_split_first is_feed text 0 inside) (
-            record { utf8 = IsUtf8-take text place utf8 (omega arith, λ within lead. absurd (omega arith)); no_nul = All-take (λ b. b ≢ 0) place text no_nul; one_line = lacks_before 10 text place (omega arith) },
-            lines_below n (drop (place + 1) text) (omega (arith, length-drop (place + 1) text)) (IsUtf8-drop text (place + 1) utf8 behind) (All-drop (λ b. b ≢ 0) (place + 1) text no_nul),
+            record { utf8 = IsUtf8-take text index utf8 (omega arith, λ within lead. absurd (omega arith)); no_nul = All-take (λ b. b ≢ 0) index text no_nul; one_line = lacks_before 10 text index (omega arith) },
+            lines_below n (drop (index + 1) text) (omega (arith, length-drop (index + 1) text)) (IsUtf8-drop text (index + 1) utf8 after) (All-drop (λ b. b ≢ 0) (index + 1) text no_nul),
           )
       | inr none ↦
           rw (slice_split_none is_feed text (λ k d inside. before_first_passes is_feed text k d (omega arith))) (record { utf8 = utf8; no_nul = no_nul; one_line = lacks_all 10 text none }, tt)
@@ -52,9 +52,9 @@ mark_cases text true e utf8 =
     IsUtf8-past_char text (drop 3 text) 0xFEFF utf8 (sym (rw (sym mark) at (take-append-drop 3 text)))
 mark_cases text false e utf8 = utf8
 
-behind_mark : (P : ℕ → Type 0) (text : List ℕ) (marked : Bool) → All P text → All P (if marked then drop 3 text else text)
-behind_mark P text true h = All-drop P 3 text h
-behind_mark P text false h = h
+after_mark : (P : ℕ → Type 0) (text : List ℕ) (marked : Bool) → All P text → All P (if marked then drop 3 text else text)
+after_mark P text true h = All-drop P 3 text h
+after_mark P text false h = h
 
 no_nul_all : (text : List ℕ) → HasNoNul text → All (λ b. b ≢ 0) text
 no_nul_all text h =
@@ -65,4 +65,4 @@ no_nul_all text h =
 
 pub clean_lines : (text : List ℕ) → IsUtf8 text → HasNoNul text → AreCleanLines (lines_of (without_mark text))
 clean_lines text utf8 no_nul =
-    lines_below (length (without_mark text) + 1) (without_mark text) (omega arith) (mark_cases text _ refl utf8) (behind_mark (λ b. b ≢ 0) text _ (no_nul_all text no_nul))
+    lines_below (length (without_mark text) + 1) (without_mark text) (omega arith) (mark_cases text _ refl utf8) (after_mark (λ b. b ≢ 0) text _ (no_nul_all text no_nul))

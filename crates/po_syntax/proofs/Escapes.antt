@@ -9,18 +9,18 @@ use Rattle.po_syntax.specs.QuotedString.{Step, End, Byte, Stop, digit_count, num
 use Rattle.po_syntax.specs.Escapes.{NoDigitFirst, SpellsEscape, alert, backspace, form_feed, line_feed, carriage_return, tab, vertical_tab, backslash, quote, octal, hexadecimal, SpellsString, closed, plain, escape}
 
 -- the first n bytes are digits, at most so many, and no digit follows where there are fewer
-abbrev AreFront : ℕ → ℕ → List ℕ → ℕ → Type 0
-AreFront base most text n = AllDigits base (take n text) × (length (take n text) ≤ most) × ((length (take n text) ≡ most) ⊎ NoDigitFirst base (drop n text))
+abbrev ArePrefix : ℕ → ℕ → List ℕ → ℕ → Type 0
+ArePrefix base most text n = AllDigits base (take n text) × (length (take n text) ≤ most) × ((length (take n text) ≡ most) ⊎ NoDigitFirst base (drop n text))
 
-front_step : (base most b : ℕ) (text : List ℕ) (n more : ℕ) (test : Bool) → more ≡ suc n → is_digit b base ≡ test → AreFront base most text n → AreFront base (suc most) (b ∷ text) (cond test more 0)
-front_step base most b text n more true same e h =
+prefix_step : (base most b : ℕ) (text : List ℕ) (n more : ℕ) (test : Bool) → more ≡ suc n → is_digit b base ≡ test → ArePrefix base most text n → ArePrefix base (suc most) (b ∷ text) (cond test more 0)
+prefix_step base most b text n more true same e h =
     rw same ((ltb-true (digit_value b) base e, h.0), omega (arith, h.1), elim (h.2) [ inl all ↦ inl (omega (arith, all)) | inr none ↦ inr none ])
-front_step base most b text n more false same e h = (tt, omega arith, inr (ltb-false (digit_value b) base e))
+prefix_step base most b text n more false same e h = (tt, omega arith, inr (ltb-false (digit_value b) base e))
 
-front : (base most : ℕ) (text : List ℕ) → AreFront base most text (digit_count base (take most text))
-front base zero text = (tt, omega arith, inl refl)
-front base (suc most) [] = (tt, omega arith, inr tt)
-front base (suc most) (b ∷ text) = front_step base most b text (digit_count base (take most text)) (1 + digit_count base (take most text)) (is_digit b base) (omega arith) refl (front base most text)
+prefix : (base most : ℕ) (text : List ℕ) → ArePrefix base most text (digit_count base (take most text))
+prefix base zero text = (tt, omega arith, inl refl)
+prefix base (suc most) [] = (tt, omega arith, inr tt)
+prefix base (suc most) (b ∷ text) = prefix_step base most b text (digit_count base (take most text)) (1 + digit_count base (take most text)) (is_digit b base) (omega arith) refl (prefix base most text)
 
 -- the first n bytes are digits, and no digit follows
 abbrev pub AreAll : ℕ → List ℕ → ℕ → Type 0
@@ -35,7 +35,7 @@ pub all_digits : (base : ℕ) (text : List ℕ) → AreAll base text (digit_coun
 all_digits base [] = (tt, omega arith, tt)
 all_digits base (b ∷ text) = all_step base b text (digit_count base text) (1 + digit_count base text) (is_digit b base) (omega arith) refl (all_digits base text)
 
--- what a step behind a backslash says of the text
+-- what a step after a backslash says of the text
 abbrev EscapeSays : List ℕ → Step → Type 0
 EscapeSays text (End rest) = ⊥
 EscapeSays text (Byte b rest) = SpellsEscape text b rest
@@ -49,7 +49,7 @@ pub positive : (n : ℕ) → (n == 0) ≡ false → 0 < n
 positive zero e = absurd (cc)
 positive (suc n) e = omega arith
 
--- the number of a front of digits, where the escape that it numbers is spelt
+-- the number of a prefix of digits, where the escape that it numbers is spelt
 number_says : (base count : ℕ) (text whole : List ℕ) → ((0 < digits_value base (take count text)) × (digits_value base (take count text) < 256) → SpellsEscape whole (digits_value base (take count text)) (drop count text)) → EscapeSays whole (number_step base count text)
 number_says base count text whole spells =
     let number = digits_value base (take count text) in
@@ -59,7 +59,7 @@ number_says base count text whole spells =
 octal_says : (b : ℕ) (text : List ℕ) → is_digit b 8 ≡ true → EscapeSays (b ∷ text) (number_step 8 (digit_count 8 (take 3 (b ∷ text))) (b ∷ text))
 octal_says b text e =
     let count = digit_count 8 (take 3 (b ∷ text)) in
-    let digits = front 8 3 (b ∷ text) in
+    let digits = prefix 8 3 (b ∷ text) in
     let counted : 0 < count = rw e (omega arith) in
     let some : 0 < length (take count (b ∷ text)) = omega (arith, counted, length-take count (b ∷ text)) in
     number_says 8 count (b ∷ text) (b ∷ text) (λ small. subst (λ t. SpellsEscape t (digits_value 8 (take count (b ∷ text))) (drop count (b ∷ text))) (take-append-drop count (b ∷ text)) (octal (take count (b ∷ text)) (some, digits.0) digits.1 digits.2 small))
@@ -104,17 +104,17 @@ if_step : (text : List ℕ) (test : Bool) (s t : Step) → (test ≡ true → St
 if_step text true s t p q = p refl
 if_step text false s t p q = q refl
 
-behind_backslash : (text : List ℕ) (step : Step) → EscapeSays text step → StepSays (92 ∷ text) step
-behind_backslash text (End rest) h = absurd h
-behind_backslash text (Byte b next) h = λ bytes rest more. escape h more
-behind_backslash text (Stop fault) h = tt
+after_backslash : (text : List ℕ) (step : Step) → EscapeSays text step → StepSays (92 ∷ text) step
+after_backslash text (End rest) h = absurd h
+after_backslash text (Byte b next) h = λ bytes rest more. escape h more
+after_backslash text (Stop fault) h = tt
 
 step_says : (text : List ℕ) → StepSays text (step_at text)
 unfolding step_at
 step_says [] = tt
 step_says (b ∷ text) =
     if_step (b ∷ text) (b == 34) (End text) _ (λ is. subst (λ x. SpellsString (x ∷ text) [] text) (sym (eqb-true b 34 is)) closed) (λ inside.
-    if_step (b ∷ text) (b == 92) _ (Byte b text) (λ is. subst (λ x. StepSays (x ∷ text) (escape_at text)) (sym (eqb-true b 92 is)) (behind_backslash text (escape_at text) (escape_says text))) (λ raw bytes rest more. plain (eqb-false b 34 inside) (eqb-false b 92 raw) more))
+    if_step (b ∷ text) (b == 92) _ (Byte b text) (λ is. subst (λ x. StepSays (x ∷ text) (escape_at text)) (sym (eqb-true b 92 is)) (after_backslash text (escape_at text) (escape_says text))) (λ raw bytes rest more. plain (eqb-false b 34 inside) (eqb-false b 92 raw) more))
 
 pub quoted_spelt : {text bytes rest : List ℕ} → IsQuoted text bytes rest → SpellsString text bytes rest
 quoted_spelt (ended {text = text} e) = subst (StepSays text) e (step_says text)

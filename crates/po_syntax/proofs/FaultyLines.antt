@@ -17,7 +17,7 @@ use Rattle.po_syntax.specs.QuotedString.{Stop, numbered, number_step, letter_val
 use Rattle.po_syntax.specs.Runs.{FailsFirst}
 use Rattle.po_syntax.specs.Spelling.{IsBlank, IsWordByte, EndsWord, marked}
 use Rattle.po_syntax.specs.Token.{Halt, is_blank, is_word_byte, skip_blanks, close_token, index_token, bracket_token, keyword_token, first_token, token_at}
-use Rattle.po_syntax.proofs.SpeltEscapes.{count_front, count_all, plain_read, backslash_read, spelt_quoted}
+use Rattle.po_syntax.proofs.SpeltEscapes.{count_prefix, count_all, plain_read, backslash_read, spelt_quoted}
 use Rattle.po_syntax.proofs.SpeltKeywords.{blank_says, word_byte_says, word_byte_passes, skip_prefix, keyword_read, m_read, word_prefix, ends_before_bracket, blank_no_word, digits_no_blank}
 use Rattle.po_syntax.proofs.SpeltLines.{quote_opens, blank_skipped, hash_first, bar_first, tilde_first, tilde_bar_first, tilde_comment}
 
@@ -34,7 +34,7 @@ octal_stops : {fault : PoFault} (digits rest : List ℕ) → IsNumeral 8 digits 
 unfolding escape_at
 octal_stops [] rest numeral within end h = absurd (omega (arith, numeral.0))
 octal_stops (d ∷ digits) rest numeral within end h =
-    rw (count_front 8 3 (d ∷ digits) rest numeral.1 within end, lt-ltb (digit_value d) 8 numeral.1.0) (digits_stop 8 (d ∷ digits) rest h)
+    rw (count_prefix 8 3 (d ∷ digits) rest numeral.1 within end, lt-ltb (digit_value d) 8 numeral.1.0) (digits_stop 8 (d ∷ digits) rest h)
 
 hexadecimal_stops : {fault : PoFault} (digits rest : List ℕ) → IsNumeral 16 digits → NoDigitFirst 16 rest → NumberFault (digits_value 16 digits) fault → escape_at (120 ∷ digits ++ rest) ≡ Stop fault
 unfolding escape_at

@@ -10,8 +10,8 @@ use Rattle.po_syntax.specs.declared.item.Marks.{Marks}
 use Rattle.po_syntax.specs.declared.item.CommentKind.{CommentKind}
 use Rattle.po_syntax.specs.declared.item.CommentKind.TheVariants.{Translator, Extracted, Reference, Flags}
 use Rattle.po_syntax.specs.declared.fault.PoFault.TheVariants.{BadEscape}
-use Rattle.po_syntax.specs.ItemText.{IsCommentText, HoldsText}
-use Rattle.po_syntax.specs.Line.{Shape, Note, Tokens, NoShape, note_shape, obsolete_shape, tilde_shape, hash_shape, first_shape, shape_of, trim_returns, SpellsTokens, none, word, string, SpellsLine, comment, tokens}
+use Rattle.po_syntax.specs.ItemContents.{IsCommentText, HoldsText}
+use Rattle.po_syntax.specs.Line.{Shape, CommentLine, Tokens, NoShape, comment_shape, obsolete_shape, tilde_shape, hash_shape, first_shape, shape_of, trim_returns, SpellsTokens, none, word, string, SpellsLine, comment, tokens}
 use Rattle.po_syntax.specs.PoText.{SpellsLines, SpellsText}
 use Rattle.po_syntax.specs.QuotedString.{Step, End, Byte, Stop, digit_count, number_step, letter_value, letter_step, escape_at, step_at, IsQuoted, ended, spelt}
 use Rattle.po_syntax.specs.TextItem.{TextItem}
@@ -24,19 +24,19 @@ use Rattle.po_syntax.proofs.Tokens.{skip_blanks-rest, key-rest, open-rest}
 use Rattle.po_syntax.proofs.TrimmedReturns.{trim_end, trim_returns-utf8, trim_returns-twice}
 use Rattle.po_syntax.proofs.Rests.{IsRest, whole_rest, rest-tail, All-rest}
 
--- a byte that tells another kind of comment or line
-abbrev tells_kind : ℕ → Bool
-tells_kind b = b == 46 || b == 58 || b == 44 || b == 124 || b == 126
+-- a byte that marks another kind of comment or line
+abbrev begins_kind : ℕ → Bool
+begins_kind b = b == 46 || b == 58 || b == 44 || b == 124 || b == 126
 
--- a comment's text stands behind an ASCII byte; a translator's begins with none that tells a kind
-record IsNote (text : List ℕ) (kind : CommentKind) (rest : List ℕ) : Type 0 where
-  front : ℕ
-  ascii : front < 128
-  behind : IsRest (front ∷ rest) text
-  plain : kind ≡ Translator → (b : ℕ) (more : List ℕ) → rest ≡ b ∷ more → tells_kind b ≡ false
+-- a comment's text stands after an ASCII byte; a translator's begins with none that marks a kind
+record IsCommentLine (text : List ℕ) (kind : CommentKind) (rest : List ℕ) : Type 0 where
+  prefix : ℕ
+  ascii : prefix < 128
+  after : IsRest (prefix ∷ rest) text
+  plain : kind ≡ Translator → (b : ℕ) (more : List ℕ) → rest ≡ b ∷ more → begins_kind b ≡ false
 
 abbrev Sound : List ℕ → Shape → Type 0
-Sound text (Note kind rest) = IsNote text kind rest
+Sound text (CommentLine kind rest) = IsCommentLine text kind rest
 Sound text (Tokens marks rest) = Unit {0}
 Sound text NoShape = Unit {0}
 
@@ -44,22 +44,22 @@ if_sound : (text : List ℕ) (test : Bool) (s t : Shape) → (test ≡ true → 
 if_sound text true s t p q = p refl
 if_sound text false s t p q = q refl
 
-note_sound : (hash : ℕ) (rest text : List ℕ) → hash ≡ 35 → IsRest (hash ∷ rest) text → Sound text (note_shape rest)
-note_sound hash [] text is h = record { front = hash; ascii = omega arith; behind = h; plain = λ e b more same. absurd (cc) }
-note_sound hash (b ∷ rest) text is h =
+comment_sound : (hash : ℕ) (rest text : List ℕ) → hash ≡ 35 → IsRest (hash ∷ rest) text → Sound text (comment_shape rest)
+comment_sound hash [] text is h = record { prefix = hash; ascii = omega arith; after = h; plain = λ e b more same. absurd (cc) }
+comment_sound hash (b ∷ rest) text is h =
     let inside = rest-tail hash text h in
-    if_sound text (b == 46) (Note Extracted rest) _ (λ e. record { front = b; ascii = omega (arith, eqb-true b 46 e); behind = inside; plain = λ other. absurd (cc) }) (λ not_dot.
-    if_sound text (b == 58) (Note Reference rest) _ (λ e. record { front = b; ascii = omega (arith, eqb-true b 58 e); behind = inside; plain = λ other. absurd (cc) }) (λ not_colon.
-    if_sound text (b == 44) (Note Flags rest) _ (λ e. record { front = b; ascii = omega (arith, eqb-true b 44 e); behind = inside; plain = λ other. absurd (cc) }) (λ not_comma.
+    if_sound text (b == 46) (CommentLine Extracted rest) _ (λ e. record { prefix = b; ascii = omega (arith, eqb-true b 46 e); after = inside; plain = λ other. absurd (cc) }) (λ not_dot.
+    if_sound text (b == 58) (CommentLine Reference rest) _ (λ e. record { prefix = b; ascii = omega (arith, eqb-true b 58 e); after = inside; plain = λ other. absurd (cc) }) (λ not_colon.
+    if_sound text (b == 44) (CommentLine Flags rest) _ (λ e. record { prefix = b; ascii = omega (arith, eqb-true b 44 e); after = inside; plain = λ other. absurd (cc) }) (λ not_comma.
     if_sound text (b == 124) NoShape _ (λ _. tt) (λ not_bar.
-    if_sound text (b == 126) NoShape (Note Translator (b ∷ rest)) (λ _. tt) (λ not_tilde.
-    record { front = hash; ascii = omega arith; behind = h; plain = λ _ first more same. let is_b : b ≡ first = cc in rw (sym is_b, not_dot, not_colon, not_comma, not_bar, not_tilde) })))))
+    if_sound text (b == 126) NoShape (CommentLine Translator (b ∷ rest)) (λ _. tt) (λ not_tilde.
+    record { prefix = hash; ascii = omega arith; after = h; plain = λ _ first more same. let is_b : b ≡ first = cc in rw (sym is_b, not_dot, not_colon, not_comma, not_bar, not_tilde) })))))
 
 obsolete_sound : (rest text : List ℕ) → IsRest rest text → Sound text (obsolete_shape rest)
 unfolding obsolete_shape
 obsolete_sound [] text h = tt
 obsolete_sound (b ∷ rest) text h =
-    if_sound text (b == 35) _ (Tokens _ (b ∷ rest)) (λ e. note_sound b rest text (eqb-true b 35 e) h) (λ _. tt)
+    if_sound text (b == 35) _ (Tokens _ (b ∷ rest)) (λ e. comment_sound b rest text (eqb-true b 35 e) h) (λ _. tt)
 
 tilde_sound : (rest text : List ℕ) → IsRest rest text → Sound text (tilde_shape rest)
 unfolding tilde_shape
@@ -69,10 +69,10 @@ tilde_sound (b ∷ rest) text h =
 
 hash_sound : (hash : ℕ) (rest text : List ℕ) → hash ≡ 35 → IsRest (hash ∷ rest) text → Sound text (hash_shape rest)
 unfolding hash_shape
-hash_sound hash [] text is h = note_sound hash [] text is h
+hash_sound hash [] text is h = comment_sound hash [] text is h
 hash_sound hash (b ∷ rest) text is h =
     if_sound text (b == 124) (Tokens _ rest) _ (λ _. tt) (λ _.
-    if_sound text (b == 126) _ _ (λ _. tilde_sound rest text (rest-tail b text (rest-tail hash text h))) (λ _. note_sound hash (b ∷ rest) text is h))
+    if_sound text (b == 126) _ _ (λ _. tilde_sound rest text (rest-tail b text (rest-tail hash text h))) (λ _. comment_sound hash (b ∷ rest) text is h))
 
 first_sound : (rest text : List ℕ) → IsRest rest text → Sound text (first_shape rest)
 unfolding first_shape
@@ -80,15 +80,15 @@ first_sound [] text h = tt
 first_sound (b ∷ rest) text h =
     if_sound text (b == 35) _ (Tokens _ (b ∷ rest)) (λ e. hash_sound b rest text (eqb-true b 35 e) h) (λ _. tt)
 
-note-sound : (text : List ℕ) {kind : CommentKind} {rest : List ℕ} → shape_of text ≡ Note kind rest → IsNote text kind rest
-note-sound text e =
+comment_line-sound : (text : List ℕ) {kind : CommentKind} {rest : List ℕ} → shape_of text ≡ CommentLine kind rest → IsCommentLine text kind rest
+comment_line-sound text e =
     subst (Sound text) e (first_sound (skip_blanks text) text (skip_blanks-rest text (whole_rest text)))
 
--- none of the characters that tell a kind of comment or line
-other_byte : (b kind : ℕ) → tells_kind b ≡ false → tells_kind kind ≡ true → kind ≡ b → ⊥
-other_byte b kind h tells same = false≢true (sym h ∙ subst (λ c. tells_kind c ≡ true) same tells)
+-- none of the characters that mark a kind of comment or line
+other_byte : (b kind : ℕ) → begins_kind b ≡ false → begins_kind kind ≡ true → kind ≡ b → ⊥
+other_byte b kind h reports same = false≢true (sym h ∙ subst (λ c. begins_kind c ≡ true) same reports)
 
-not_among : (b k : ℕ) → tells_kind b ≡ false → k < 5 → get_or (codes ".:,|~") k b ≡ b → ⊥
+not_among : (b k : ℕ) → begins_kind b ≡ false → k < 5 → get_or (codes ".:,|~") k b ≡ b → ⊥
 not_among b zero h less e = other_byte b 46 h refl e
 not_among b (suc zero) h less e = other_byte b 58 h refl e
 not_among b (suc (suc zero)) h less e = other_byte b 44 h refl e
@@ -96,31 +96,31 @@ not_among b (suc (suc (suc zero))) h less e = other_byte b 124 h refl e
 not_among b (suc (suc (suc (suc zero)))) h less e = other_byte b 126 h refl e
 not_among b (suc (suc (suc (suc (suc k))))) h less e = absurd (omega arith)
 
--- a text begins as its front does
+-- a text begins as its prefix does
 take_first : (n : ℕ) (text : List ℕ) (b : ℕ) (more : List ℕ) → take n text ≡ b ∷ more → (others : List ℕ) × (text ≡ b ∷ others)
 take_first zero text b more e = absurd (cc)
 take_first (suc n) [] b more e = absurd (cc)
 take_first (suc n) (c ∷ text) b more e = let same : c ≡ b = cc in (text, rw same)
 
--- behind an ASCII byte a text is UTF-8
-rest_utf8 : (front : ℕ) (rest text : List ℕ) → front < 128 → IsRest (front ∷ rest) text → IsUtf8 text → IsUtf8 rest
-rest_utf8 front rest text ascii h utf8 =
+-- after an ASCII byte a text is UTF-8
+rest_utf8 : (prefix : ℕ) (rest text : List ℕ) → prefix < 128 → IsRest (prefix ∷ rest) text → IsUtf8 text → IsUtf8 rest
+rest_utf8 prefix rest text ascii h utf8 =
     let inside : h.0 < length text = omega (arith, ap length h.1, length-drop h.0 text) in
-    let first : front ≡ get_or text (h.0 + 0) 0 = ap (λ t. get_or t 0 0) h.1 ∙ get_or-drop h.0 text 0 0 in
-    let same : front ≡ get_or text h.0 0 = rw add-zero at first in
-    let behind : rest ≡ drop (h.0 + 1) text = ap (drop 1) h.1 ∙ drop-drop 1 h.0 text in
-    rw behind (IsUtf8-drop text (h.0 + 1) utf8 (IsCharBoundary-after_ascii text h.0 utf8 inside (omega arith)))
+    let first : prefix ≡ get_or text (h.0 + 0) 0 = ap (λ t. get_or t 0 0) h.1 ∙ get_or-drop h.0 text 0 0 in
+    let same : prefix ≡ get_or text h.0 0 = rw add-zero at first in
+    let after : rest ≡ drop (h.0 + 1) text = ap (drop 1) h.1 ∙ drop-drop 1 h.0 text in
+    rw after (IsUtf8-drop text (h.0 + 1) utf8 (IsCharBoundary-after_ascii text h.0 utf8 inside (omega arith)))
 
 -- the text of a comment on a clean line
-comment_text : (line : List ℕ) (kind : CommentKind) (rest : List ℕ) → IsCleanLine line → IsNote line kind rest → IsCommentText kind (trim_returns rest)
-comment_text line kind rest clean note =
-    let behind = rest-tail note.front line note.behind in
+comment_text : (line : List ℕ) (kind : CommentKind) (rest : List ℕ) → IsCleanLine line → IsCommentLine line kind rest → IsCommentText kind (trim_returns rest)
+comment_text line kind rest clean comment_line =
+    let after = rest-tail comment_line.prefix line comment_line.after in
     let end = trim_end rest in record {
-      utf8 = trim_returns-utf8 rest (rest_utf8 note.front rest line note.ascii note.behind clean.utf8);
-      no_nul = rw end.2 (All-take (λ b. b ≢ 0) end.0 rest (All-rest (λ b. b ≢ 0) line clean.no_nul behind));
-      one_line = rw end.2 (All-take (λ b. b ≢ 10) end.0 rest (All-rest (λ b. b ≢ 10) line clean.one_line behind));
+      utf8 = trim_returns-utf8 rest (rest_utf8 comment_line.prefix rest line comment_line.ascii comment_line.after clean.utf8);
+      no_nul = rw end.2 (All-take (λ b. b ≢ 0) end.0 rest (All-rest (λ b. b ≢ 0) line clean.no_nul after));
+      one_line = rw end.2 (All-take (λ b. b ≢ 10) end.0 rest (All-rest (λ b. b ≢ 10) line clean.one_line after));
       no_final_return = trim_returns-twice rest;
-      plain = λ is b more e among. let first = take_first end.0 rest b more (sym end.2 ∙ e) in not_among b among.0 (note.plain is b first.0 first.1) among.1 among.2;
+      plain = λ is b more e among. let first = take_first end.0 rest b more (sym end.2 ∙ e) in not_among b among.0 (comment_line.plain is b first.0 first.1) among.1 among.2;
     }
 
 -- a step inside a quoted string gives no NUL
@@ -189,7 +189,7 @@ tokens_texts (string {text = text} e quoted more) h =
     All-cons HoldsText _ _ read.0 (tokens_texts more read.1)
 
 pub line_texts : {number : ℕ} {line : List ℕ} {items : List TextItem} → SpellsLine number line items → IsCleanLine line → All HoldsText items
-line_texts (comment {text = line} {rest = rest} {kind = kind} e) clean = All-cons HoldsText _ [] (comment_text line kind rest clean (note-sound line e)) no_items
+line_texts (comment {text = line} {rest = rest} {kind = kind} e) clean = All-cons HoldsText _ [] (comment_text line kind rest clean (comment_line-sound line e)) no_items
 line_texts (tokens {text = line} e h) clean = tokens_texts h (All-rest (λ b. b ≢ 0) line clean.no_nul (tokens-rest line e))
 
 lines_texts : (number : ℕ) (lines : List (List ℕ)) (items : List TextItem) → SpellsLines number lines items → AreCleanLines lines → All HoldsText items

@@ -4,7 +4,7 @@ use Rattle.po_syntax.specs.declared.item.CommentKind.{CommentKind}
 use Rattle.std.specs.List.{onto_first}
 use Rattle.po_syntax.specs.declared.item.CommentKind.TheVariants.{Translator, Extracted, Reference, Flags}
 use Rattle.po_syntax.specs.declared.item.Marks.{Marks}
-use Rattle.po_syntax.specs.Line.{Shape, Note, Tokens, NoShape, note_shape, obsolete_shape, tilde_shape, hash_shape, first_shape, shape_of, SpellsTokens, none, word, string, SpellsLine, comment, tokens}
+use Rattle.po_syntax.specs.Line.{Shape, CommentLine, Tokens, NoShape, comment_shape, obsolete_shape, tilde_shape, hash_shape, first_shape, shape_of, SpellsTokens, none, word, string, SpellsLine, comment, tokens}
 use Rattle.po_syntax.specs.PoText.{SpellsLines, lines_of, without_mark}
 use Rattle.po_syntax.specs.TextItem.{TextItem}
 use Rattle.po_syntax.specs.Token.{skip_blanks}
@@ -14,7 +14,7 @@ use Rattle.po_syntax.proofs.Tokens.{skip_blanks-rest, key-shorter, open-shorter}
 
 -- a shape leaves a rest of this text
 abbrev Within : List ℕ → Shape → Type 0
-Within text (Note kind rest) = IsRest rest text
+Within text (CommentLine kind rest) = IsRest rest text
 Within text (Tokens marks rest) = IsRest rest text
 Within text NoShape = Unit {0}
 
@@ -22,17 +22,17 @@ if_within : (text : List ℕ) (test : Bool) (s t : Shape) → Within text s → 
 if_within text true s t p q = p
 if_within text false s t p q = q
 
-note_within : (rest text : List ℕ) → IsRest rest text → Within text (note_shape rest)
-note_within [] text h = h
-note_within (b ∷ rest) text h =
+comment_within : (rest text : List ℕ) → IsRest rest text → Within text (comment_shape rest)
+comment_within [] text h = h
+comment_within (b ∷ rest) text h =
     let inside = rest-tail b text h in
-    if_within text (b == 46) (Note Extracted rest) _ inside (if_within text (b == 58) (Note Reference rest) _ inside (if_within text (b == 44) (Note Flags rest) _ inside (if_within text (b == 124) NoShape _ tt (if_within text (b == 126) NoShape (Note Translator (b ∷ rest)) tt h))))
+    if_within text (b == 46) (CommentLine Extracted rest) _ inside (if_within text (b == 58) (CommentLine Reference rest) _ inside (if_within text (b == 44) (CommentLine Flags rest) _ inside (if_within text (b == 124) NoShape _ tt (if_within text (b == 126) NoShape (CommentLine Translator (b ∷ rest)) tt h))))
 
 obsolete_within : (rest text : List ℕ) → IsRest rest text → Within text (obsolete_shape rest)
 unfolding obsolete_shape
 obsolete_within [] text h = h
 obsolete_within (b ∷ rest) text h =
-    if_within text (b == 35) _ (Tokens _ (b ∷ rest)) (note_within rest text (rest-tail b text h)) h
+    if_within text (b == 35) _ (Tokens _ (b ∷ rest)) (comment_within rest text (rest-tail b text h)) h
 
 tilde_within : (rest text : List ℕ) → IsRest rest text → Within text (tilde_shape rest)
 unfolding tilde_shape
@@ -42,10 +42,10 @@ tilde_within (b ∷ rest) text h =
 
 hash_within : (rest text : List ℕ) → IsRest rest text → Within text (hash_shape rest)
 unfolding hash_shape
-hash_within [] text h = note_within [] text h
+hash_within [] text h = comment_within [] text h
 hash_within (b ∷ rest) text h =
     let inside = rest-tail b text h in
-    if_within text (b == 124) (Tokens _ rest) _ inside (if_within text (b == 126) _ _ (tilde_within rest text inside) (note_within (b ∷ rest) text h))
+    if_within text (b == 124) (Tokens _ rest) _ inside (if_within text (b == 126) _ _ (tilde_within rest text inside) (comment_within (b ∷ rest) text h))
 
 first_within : (rest text : List ℕ) → IsRest rest text → Within text (first_shape rest)
 unfolding first_shape
@@ -56,14 +56,14 @@ first_within (b ∷ rest) text h =
 shape_within : (text : List ℕ) → Within text (shape_of text)
 shape_within text = first_within (skip_blanks text) text (skip_blanks-rest text (whole_rest text))
 
-pub note-rest : (text : List ℕ) {kind : CommentKind} {rest : List ℕ} → shape_of text ≡ Note kind rest → IsRest rest text
-note-rest text e = subst (Within text) e (shape_within text)
+pub comment_line-rest : (text : List ℕ) {kind : CommentKind} {rest : List ℕ} → shape_of text ≡ CommentLine kind rest → IsRest rest text
+comment_line-rest text e = subst (Within text) e (shape_within text)
 
 pub tokens-rest : (text : List ℕ) {marks : Marks} {rest : List ℕ} → shape_of text ≡ Tokens marks rest → IsRest rest text
 tokens-rest text e = subst (Within text) e (shape_within text)
 
 -- a comment has a byte before its text
-comment-some : (text : List ℕ) {kind : CommentKind} {rest : List ℕ} → shape_of text ≡ Note kind rest → 0 < length text
+comment-some : (text : List ℕ) {kind : CommentKind} {rest : List ℕ} → shape_of text ≡ CommentLine kind rest → 0 < length text
 unfolding first_shape
 comment-some [] e = cc
 comment-some (b ∷ text) e = omega arith

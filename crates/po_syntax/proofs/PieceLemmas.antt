@@ -6,7 +6,7 @@ use Rattle.std.specs.List.{onto_first}
 use Rattle.po_syntax.specs.declared.item.Item.{Item}
 use Rattle.std.proofs.lemmas.List.Elements.{All-append}
 use Rattle.po_syntax.specs.CleanLine.{IsCleanLine, AreCleanLines}
-use Rattle.po_syntax.specs.ItemText.{HoldsText}
+use Rattle.po_syntax.specs.ItemContents.{HoldsText}
 use Rattle.po_syntax.specs.Line.{SpellsLine}
 use Rattle.po_syntax.specs.LinesLeft.{EndsInString, IsString, lines_of_rest}
 use Rattle.po_syntax.specs.PoText.{lines_of}

@@ -33,9 +33,9 @@ stops_plain (suc n) (b ∷ text) plain within h =
 -- the bytes before the first quote or backslash are plain
 pub plain_before : (text : List ℕ) (found : Option ℕ) → IsFirstByte (is_byte2 34 92) text found → let n = unwrap_or found (length text) in ArePlain n text × (n ≤ length text)
 plain_before text None h = (λ k less. false_from_ne_true _ (h k (omega arith) less), omega arith)
-plain_before text (Some place) h = (λ k less. false_from_ne_true _ (h.0.before k (omega arith) less), omega (arith, h.0.high))
+plain_before text (Some index) h = (λ k less. false_from_ne_true _ (h.0.before k (omega arith) less), omega (arith, h.0.high))
 
--- What stands behind a run of plain bytes: a closing quote, an escape, or the line's end.
+-- What stands after a run of plain bytes: a closing quote, an escape, or the line's end.
 pub quote_ends : (text after : List ℕ) (mark : ℕ) → text ≡ mark ∷ after → mark ≡ 34 → step_at text ≡ End after
 unfolding step_at
 quote_ends text after mark e is = rw (e, is)
@@ -105,7 +105,7 @@ unfolding step_at
 end-shorter [] e = cc
 end-shorter (b ∷ text) e = omega (arith, rest-le text (end-rest b text e))
 
--- what stands behind a quoted string is shorter than the text behind its opening quote
+-- what stands after a quoted string is shorter than the text after its opening quote
 pub quoted-shorter : {text bytes rest : List ℕ} → IsQuoted text bytes rest → length rest < length text
 quoted-shorter (ended {text = text} e) = end-shorter text e
 quoted-shorter (spelt {text = text} {next = next} e h) = omega (arith, byte-shorter text e, quoted-shorter h)

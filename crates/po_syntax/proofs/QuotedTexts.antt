@@ -112,6 +112,6 @@ quoted_utf8 bytes h =
 pub quoted_shown : (bytes : List ℕ) → All (λ b. b < 256) bytes → All (λ b. 32 ≤ b) (quoted bytes)
 quoted_shown bytes h =
     let quote = All-cons (Shown 256) 34 [] (omega arith, omega arith) (none_shown 256) in
-    let behind = All-append (Shown 256) (written_bytes bytes) (34 ∷ []) (bytes_shown bytes h) quote in
-    let all = All-cons (Shown 256) 34 (written_bytes bytes ++ 34 ∷ []) (omega arith, omega arith) behind in
+    let after = All-append (Shown 256) (written_bytes bytes) (34 ∷ []) (bytes_shown bytes h) quote in
+    let all = All-cons (Shown 256) 34 (written_bytes bytes ++ 34 ∷ []) (omega arith, omega arith) after in
     λ k d inside. (all k d inside).0

@@ -8,16 +8,16 @@ use Rattle.po_syntax.specs.QuotedString.{End, Byte, digit_count, number_step, es
 use Rattle.po_syntax.specs.Escapes.{NoDigitFirst, IsByteNumber, SpellsEscape, alert, backspace, form_feed, line_feed, carriage_return, tab, vertical_tab, backslash, quote, octal, hexadecimal, SpellsString, closed, plain, escape}
 
 -- as many digits as there are, up to so many
-pub count_front : (base most : ℕ) (digits rest : List ℕ) → AllDigits base digits → length digits ≤ most → (length digits ≡ most) ⊎ NoDigitFirst base rest → digit_count base (take most (digits ++ rest)) ≡ length digits
-count_front base zero [] rest all within end = refl
-count_front base (suc most) [] rest all within (inl full) = absurd (omega (arith, full))
-count_front base (suc most) [] [] all within (inr none) = refl
-count_front base (suc most) [] (b ∷ rest) all within (inr none) = rw (le-ltb (digit_value b) base none) refl
-count_front base zero (d ∷ digits) rest all within end = absurd (omega (arith, within))
-count_front base (suc most) (d ∷ digits) rest all within (inl full) =
-    rw (lt-ltb (digit_value d) base all.0) (omega (arith, count_front base most digits rest all.1 (omega (arith, within)) (inl (omega (arith, full)))))
-count_front base (suc most) (d ∷ digits) rest all within (inr none) =
-    rw (lt-ltb (digit_value d) base all.0) (omega (arith, count_front base most digits rest all.1 (omega (arith, within)) (inr none)))
+pub count_prefix : (base most : ℕ) (digits rest : List ℕ) → AllDigits base digits → length digits ≤ most → (length digits ≡ most) ⊎ NoDigitFirst base rest → digit_count base (take most (digits ++ rest)) ≡ length digits
+count_prefix base zero [] rest all within end = refl
+count_prefix base (suc most) [] rest all within (inl full) = absurd (omega (arith, full))
+count_prefix base (suc most) [] [] all within (inr none) = refl
+count_prefix base (suc most) [] (b ∷ rest) all within (inr none) = rw (le-ltb (digit_value b) base none) refl
+count_prefix base zero (d ∷ digits) rest all within end = absurd (omega (arith, within))
+count_prefix base (suc most) (d ∷ digits) rest all within (inl full) =
+    rw (lt-ltb (digit_value d) base all.0) (omega (arith, count_prefix base most digits rest all.1 (omega (arith, within)) (inl (omega (arith, full)))))
+count_prefix base (suc most) (d ∷ digits) rest all within (inr none) =
+    rw (lt-ltb (digit_value d) base all.0) (omega (arith, count_prefix base most digits rest all.1 (omega (arith, within)) (inr none)))
 
 -- as many digits as there are
 pub count_all : (base : ℕ) (digits rest : List ℕ) → AllDigits base digits → NoDigitFirst base rest → digit_count base (digits ++ rest) ≡ length digits
@@ -34,7 +34,7 @@ octal_read : (digits rest : List ℕ) → IsNumeral 8 digits → length digits �
 unfolding escape_at
 octal_read [] rest numeral within end small = absurd (omega (arith, numeral.0))
 octal_read (d ∷ digits) rest numeral within end small =
-    let count = count_front 8 3 (d ∷ digits) rest numeral.1 within end in
+    let count = count_prefix 8 3 (d ∷ digits) rest numeral.1 within end in
     let first = lt-ltb (digit_value d) 8 numeral.1.0 in
     rw (count, first) (number_read 8 (d ∷ digits) rest small)
 

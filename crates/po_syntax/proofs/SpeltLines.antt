@@ -9,7 +9,7 @@ use Rattle.po_syntax.specs.declared.item.CommentKind.{CommentKind}
 use Rattle.po_syntax.specs.declared.item.CommentKind.TheVariants.{Translator, Extracted, Reference, Flags}
 use Rattle.po_syntax.specs.declared.item.Marks.{Marks}
 use Rattle.po_syntax.specs.Line as line
-use Rattle.po_syntax.specs.Line.{Shape, Note, Tokens, NoShape, note_shape, obsolete_shape, tilde_shape, hash_shape, first_shape, shape_of, trim_returns, SpellsTokens, none, word, SpellsLine}
+use Rattle.po_syntax.specs.Line.{Shape, CommentLine, Tokens, NoShape, comment_shape, obsolete_shape, tilde_shape, hash_shape, first_shape, shape_of, trim_returns, SpellsTokens, none, word, SpellsLine}
 use Rattle.po_syntax.specs.Runs.{end_parts, kept_is}
 use Rattle.po_syntax.specs.Spelling.{IsBlank, HoldsTokens, end, blank, keyword, string, IsMark, dot, colon, comma, bar, tilde, SpellsComment, extracted, reference, flags, translator, IsWithoutReturns, marked, HoldsItems, indented, comment, obsolete_comment, live, previous, obsolete, obsolete_previous}
 use Rattle.po_syntax.specs.TextItem.{TextItem, Comment, Str}
@@ -92,7 +92,7 @@ is_trimmed text kept h =
 
 -- what a shape says of the line that it is read from
 abbrev ShapeSays : List ℕ → Shape → Type 0
-ShapeSays text (Note kind rest) = (number : ℕ) → HoldsItems number text (Comment kind (trim_returns rest) number ∷ [])
+ShapeSays text (CommentLine kind rest) = (number : ℕ) → HoldsItems number text (Comment kind (trim_returns rest) number ∷ [])
 ShapeSays text (Tokens marks rest) = (number : ℕ) (items : List TextItem) → HoldsTokens marks number rest items → HoldsItems number text items
 ShapeSays text NoShape = Unit {0}
 
@@ -101,14 +101,14 @@ if_says text true s t p q = p refl
 if_says text false s t p q = q refl
 
 -- what a comment's shape says of the text after its `#`
-abbrev NoteSays : List ℕ → Shape → Type 0
-NoteSays text (Note kind rest) = SpellsComment text kind rest
-NoteSays text (Tokens marks rest) = ⊥
-NoteSays text NoShape = Unit {0}
+abbrev CommentSays : List ℕ → Shape → Type 0
+CommentSays text (CommentLine kind rest) = SpellsComment text kind rest
+CommentSays text (Tokens marks rest) = ⊥
+CommentSays text NoShape = Unit {0}
 
-if_note : (text : List ℕ) (test : Bool) (s t : Shape) → (test ≡ true → NoteSays text s) → (test ≡ false → NoteSays text t) → NoteSays text (if test then s else t)
-if_note text true s t p q = p refl
-if_note text false s t p q = q refl
+if_comment : (text : List ℕ) (test : Bool) (s t : Shape) → (test ≡ true → CommentSays text s) → (test ≡ false → CommentSays text t) → CommentSays text (if test then s else t)
+if_comment text true s t p q = p refl
+if_comment text false s t p q = q refl
 
 no_mark : (b : ℕ) → (b == 46) ≡ false → (b == 58) ≡ false → (b == 44) ≡ false → (b == 124) ≡ false → (b == 126) ≡ false → IsMark b → ⊥
 no_mark b p q r s t dot = eqb-false 46 46 p refl
@@ -117,31 +117,31 @@ no_mark b p q r s t comma = eqb-false 44 44 r refl
 no_mark b p q r s t bar = eqb-false 124 124 s refl
 no_mark b p q r s t tilde = eqb-false 126 126 t refl
 
-note_says : (text : List ℕ) → NoteSays text (note_shape text)
-note_says [] = translator tt
-note_says (b ∷ rest) =
-    if_note (b ∷ rest) (b == 46) (Note Extracted rest) _ (λ e. subst (λ a. SpellsComment (a ∷ rest) Extracted rest) (sym (eqb-true b 46 e)) extracted) (λ p.
-    if_note (b ∷ rest) (b == 58) (Note Reference rest) _ (λ e. subst (λ a. SpellsComment (a ∷ rest) Reference rest) (sym (eqb-true b 58 e)) reference) (λ q.
-    if_note (b ∷ rest) (b == 44) (Note Flags rest) _ (λ e. subst (λ a. SpellsComment (a ∷ rest) Flags rest) (sym (eqb-true b 44 e)) flags) (λ r.
-    if_note (b ∷ rest) (b == 124) NoShape _ (λ _. tt) (λ s.
-    if_note (b ∷ rest) (b == 126) NoShape (Note Translator (b ∷ rest)) (λ _. tt) (λ t. translator (no_mark b p q r s t))))))
+comment_says : (text : List ℕ) → CommentSays text (comment_shape text)
+comment_says [] = translator tt
+comment_says (b ∷ rest) =
+    if_comment (b ∷ rest) (b == 46) (CommentLine Extracted rest) _ (λ e. subst (λ a. SpellsComment (a ∷ rest) Extracted rest) (sym (eqb-true b 46 e)) extracted) (λ p.
+    if_comment (b ∷ rest) (b == 58) (CommentLine Reference rest) _ (λ e. subst (λ a. SpellsComment (a ∷ rest) Reference rest) (sym (eqb-true b 58 e)) reference) (λ q.
+    if_comment (b ∷ rest) (b == 44) (CommentLine Flags rest) _ (λ e. subst (λ a. SpellsComment (a ∷ rest) Flags rest) (sym (eqb-true b 44 e)) flags) (λ r.
+    if_comment (b ∷ rest) (b == 124) NoShape _ (λ _. tt) (λ s.
+    if_comment (b ∷ rest) (b == 126) NoShape (CommentLine Translator (b ∷ rest)) (λ _. tt) (λ t. translator (no_mark b p q r s t))))))
 
-note_line : (text : List ℕ) (shape : Shape) → NoteSays text shape → ShapeSays (35 ∷ text) shape
-note_line text (Note kind rest) h = λ number. comment h (trimmed rest)
-note_line text (Tokens marks rest) h = absurd h
-note_line text NoShape h = tt
+comment_line : (text : List ℕ) (shape : Shape) → CommentSays text shape → ShapeSays (35 ∷ text) shape
+comment_line text (CommentLine kind rest) h = λ number. comment h (trimmed rest)
+comment_line text (Tokens marks rest) h = absurd h
+comment_line text NoShape h = tt
 
-obsolete_note_line : (blanks text : List ℕ) (shape : Shape) → All IsBlank blanks → NoteSays text shape → ShapeSays (35 ∷ 126 ∷ (blanks ++ 35 ∷ text)) shape
-obsolete_note_line blanks text (Note kind rest) all h = λ number. obsolete_comment blanks all h (trimmed rest)
-obsolete_note_line blanks text (Tokens marks rest) all h = absurd h
-obsolete_note_line blanks text NoShape all h = tt
+obsolete_comment_line : (blanks text : List ℕ) (shape : Shape) → All IsBlank blanks → CommentSays text shape → ShapeSays (35 ∷ 126 ∷ (blanks ++ 35 ∷ text)) shape
+obsolete_comment_line blanks text (CommentLine kind rest) all h = λ number. obsolete_comment blanks all h (trimmed rest)
+obsolete_comment_line blanks text (Tokens marks rest) all h = absurd h
+obsolete_comment_line blanks text NoShape all h = tt
 
 obsolete_says : (blanks after : List ℕ) → All IsBlank blanks → ShapeSays (35 ∷ 126 ∷ (blanks ++ after)) (obsolete_shape after)
 unfolding obsolete_shape
 obsolete_says blanks [] all = λ number items h. obsolete (after_blanks blanks [] all h)
 obsolete_says blanks (b ∷ rest) all =
     if_says (35 ∷ 126 ∷ (blanks ++ b ∷ rest)) (b == 35) _ (Tokens (marked true false) (b ∷ rest))
-    (λ e. subst (λ a. ShapeSays (35 ∷ 126 ∷ (blanks ++ a ∷ rest)) (note_shape rest)) (sym (eqb-true b 35 e)) (obsolete_note_line blanks rest (note_shape rest) all (note_says rest)))
+    (λ e. subst (λ a. ShapeSays (35 ∷ 126 ∷ (blanks ++ a ∷ rest)) (comment_shape rest)) (sym (eqb-true b 35 e)) (obsolete_comment_line blanks rest (comment_shape rest) all (comment_says rest)))
     (λ _ number items h. obsolete (after_blanks blanks (b ∷ rest) all h))
 
 obsolete_line : (text : List ℕ) → ShapeSays (35 ∷ 126 ∷ text) (obsolete_shape (skip_blanks text))
@@ -159,13 +159,13 @@ tilde_says (b ∷ rest) =
 
 hash_says : (text : List ℕ) → ShapeSays (35 ∷ text) (hash_shape text)
 unfolding hash_shape
-hash_says [] = note_line [] (note_shape []) (note_says [])
+hash_says [] = comment_line [] (comment_shape []) (comment_says [])
 hash_says (b ∷ rest) =
     if_says (35 ∷ b ∷ rest) (b == 124) (Tokens (marked false true) rest) _
     (λ e number items h. subst (λ a. HoldsItems number (35 ∷ a ∷ rest) items) (sym (eqb-true b 124 e)) (previous h)) (λ _.
     if_says (35 ∷ b ∷ rest) (b == 126) _ _
     (λ e. subst (λ a. ShapeSays (35 ∷ a ∷ rest) (tilde_shape rest)) (sym (eqb-true b 126 e)) (tilde_says rest))
-    (λ _. note_line (b ∷ rest) (note_shape (b ∷ rest)) (note_says (b ∷ rest))))
+    (λ _. comment_line (b ∷ rest) (comment_shape (b ∷ rest)) (comment_says (b ∷ rest))))
 
 shape_says : (text : List ℕ) → ShapeSays text (first_shape text)
 unfolding first_shape
@@ -189,7 +189,7 @@ line_says : (text : List ℕ) (shape : Shape) → shape_of text ≡ shape → Sh
 line_says text shape e = subst (ShapeSays (skip_blanks text)) e (shape_says (skip_blanks text))
 
 pub line_holds : {number : ℕ} {text : List ℕ} {items : List TextItem} → SpellsLine number text items → HoldsItems number text items
-line_holds {number} (line.comment {text = text} {rest = rest} {kind = kind} e) = after_indent text (line_says text (Note kind rest) e number)
+line_holds {number} (line.comment {text = text} {rest = rest} {kind = kind} e) = after_indent text (line_says text (CommentLine kind rest) e number)
 line_holds {number} (line.tokens {text = text} {rest = rest} {marks = marks} {items = items} e more) = after_indent text (line_says text (Tokens marks rest) e number items (tokens_hold more))
 
 -- a line whose shape is that of another spells the same items
@@ -197,21 +197,21 @@ same_line : {number : ℕ} {text other : List ℕ} {items : List TextItem} → s
 same_line same (line.comment e) = line.comment (same ∙ e)
 same_line same (line.tokens e more) = line.tokens (same ∙ e) more
 
-note_read : {text rest : List ℕ} {kind : CommentKind} → SpellsComment text kind rest → note_shape text ≡ Note kind rest
-note_read extracted = refl
-note_read reference = refl
-note_read flags = refl
-note_read (translator {text = []} h) = refl
-note_read (translator {text = b ∷ rest} h) =
+comment_read : {text rest : List ℕ} {kind : CommentKind} → SpellsComment text kind rest → comment_shape text ≡ CommentLine kind rest
+comment_read extracted = refl
+comment_read reference = refl
+comment_read flags = refl
+comment_read (translator {text = []} h) = refl
+comment_read (translator {text = b ∷ rest} h) =
     rw (ne_eqb b 46 (λ is. h (subst IsMark (sym is) dot)), ne_eqb b 58 (λ is. h (subst IsMark (sym is) colon)), ne_eqb b 44 (λ is. h (subst IsMark (sym is) comma)), ne_eqb b 124 (λ is. h (subst IsMark (sym is) bar)), ne_eqb b 126 (λ is. h (subst IsMark (sym is) tilde))) refl
 
-note_hash : {text rest : List ℕ} {kind : CommentKind} → SpellsComment text kind rest → hash_shape text ≡ note_shape text
+comment_hash : {text rest : List ℕ} {kind : CommentKind} → SpellsComment text kind rest → hash_shape text ≡ comment_shape text
 unfolding hash_shape
-note_hash extracted = refl
-note_hash reference = refl
-note_hash flags = refl
-note_hash (translator {text = []} h) = refl
-note_hash (translator {text = b ∷ rest} h) =
+comment_hash extracted = refl
+comment_hash reference = refl
+comment_hash flags = refl
+comment_hash (translator {text = []} h) = refl
+comment_hash (translator {text = b ∷ rest} h) =
     cond-false (b == 124) _ _ (ne_eqb b 124 (λ is. h (subst IsMark (sym is) bar))) ∙ cond-false (b == 126) _ _ (ne_eqb b 126 (λ is. h (subst IsMark (sym is) tilde)))
 
 pub hash_first : (text : List ℕ) → shape_of (35 ∷ text) ≡ hash_shape text
@@ -230,7 +230,7 @@ pub tilde_bar_first : (text : List ℕ) → tilde_shape (124 ∷ text) ≡ Token
 unfolding tilde_shape
 tilde_bar_first text = refl
 
-pub obsolete_hash : (text : List ℕ) → obsolete_shape (35 ∷ text) ≡ note_shape text
+pub obsolete_hash : (text : List ℕ) → obsolete_shape (35 ∷ text) ≡ comment_shape text
 unfolding obsolete_shape
 obsolete_hash text = refl
 
@@ -239,7 +239,7 @@ blank_no_bar {b} is = ne_eqb b 124 (λ same. bar_no_blank (subst IsBlank same is
   bar_no_blank : IsBlank 124 → ⊥
   bar_no_blank h = let t = blank_passes h in cc
 
-pub tilde_comment : (blanks text : List ℕ) → All IsBlank blanks → tilde_shape (blanks ++ 35 ∷ text) ≡ note_shape text
+pub tilde_comment : (blanks text : List ℕ) → All IsBlank blanks → tilde_shape (blanks ++ 35 ∷ text) ≡ comment_shape text
 unfolding tilde_shape
 tilde_comment [] text all = obsolete_hash text
 tilde_comment (b ∷ blanks) text all =
@@ -281,11 +281,11 @@ tilde_tokens (b ∷ text) h =
 pub hold_line : {number : ℕ} {text : List ℕ} {items : List TextItem} → HoldsItems number text items → SpellsLine number text items
 hold_line (indented {b = b} {text = text} is more) = same_line (ap first_shape (blank_skipped b text is)) (hold_line more)
 hold_line {number} (comment {kind = kind} {text = text} {rest = rest} {shown = shown} spelt without) =
-    subst (λ t. SpellsLine number (35 ∷ text) (Comment kind t number ∷ [])) (sym (is_trimmed rest shown without)) (line.comment (hash_first text ∙ note_hash spelt ∙ note_read spelt))
+    subst (λ t. SpellsLine number (35 ∷ text) (Comment kind t number ∷ [])) (sym (is_trimmed rest shown without)) (line.comment (hash_first text ∙ comment_hash spelt ∙ comment_read spelt))
 hold_line {number} (obsolete_comment blanks {kind = kind} {text = text} {rest = rest} {shown = shown} all spelt without) =
     let whole = blanks ++ 35 ∷ text in
     subst (λ t. SpellsLine number (35 ∷ 126 ∷ whole) (Comment kind t number ∷ [])) (sym (is_trimmed rest shown without))
-    (line.comment (hash_first (126 ∷ whole) ∙ tilde_first whole ∙ tilde_comment blanks text all ∙ note_read spelt))
+    (line.comment (hash_first (126 ∷ whole) ∙ tilde_first whole ∙ tilde_comment blanks text all ∙ comment_read spelt))
 hold_line (live {text = text} h) = let read = tokens_skipped (hold_tokens h) in line.tokens (live_shape (skip_blanks text) read) read
 hold_line (previous {text = text} h) = line.tokens (hash_first (124 ∷ text) ∙ bar_first text) (hold_tokens h)
 hold_line (obsolete {text = text} h) = let read = hold_tokens h in line.tokens (hash_first (126 ∷ text) ∙ tilde_first text ∙ tilde_tokens text read) (tokens_skipped read)

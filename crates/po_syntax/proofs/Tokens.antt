@@ -60,7 +60,7 @@ unfolding first_token
 first_within b text =
     if_within text (b == 34) (Open text) _ (whole_rest text) (word_within b text (is_word_byte b) refl)
 
--- the rest behind a token, and behind one byte more
+-- the rest after a token, and after one byte more
 first-key : (text : List ℕ) {keyword : Keyword} {rest : List ℕ} → first_token text ≡ Key keyword rest → IsRest rest text × (length rest < length text)
 unfolding first_token
 first-key [] e = absurd (cc)

@@ -7,7 +7,7 @@ use Rattle.std.proofs.lemmas.Bool.{cases_lt, false≢true}
 use Rattle.po_syntax.specs.declared.fault.PoFault.{PoFault}
 use Rattle.po_syntax.specs.declared.fault.PoFault.TheVariants.{NotUtf8, BadToken, ForbiddenByte, TooLarge}
 use Rattle.po_syntax.specs.declared.item.Marks.{Marks}
-use Rattle.po_syntax.specs.Line.{Shape, Note, Tokens, NoShape, shape_of, trim_returns, SpellsTokens, none, word, string, TokensStop, halt, in_string, after_word, after_string, SpellsLine, comment, tokens, LineStops, no_shape, in_tokens}
+use Rattle.po_syntax.specs.Line.{Shape, CommentLine, Tokens, NoShape, shape_of, trim_returns, SpellsTokens, none, word, string, TokensStop, halt, in_string, after_word, after_string, SpellsLine, comment, tokens, LineStops, no_shape, in_tokens}
 use Rattle.po_syntax.specs.PoText.{IsSmall, line_number, without_mark, lines_of, SpellsLines, LinesStop, SpellsText, TextFault, too_large, not_utf8, nul, stops}
 use Rattle.po_syntax.specs.QuotedString.{Step, End, Byte, Stop, step_at, IsQuoted, ended, spelt, QuotedStops, here, later}
 use Rattle.po_syntax.specs.TextItem.{TextItem, Comment, Word, Str}
@@ -15,7 +15,7 @@ use Rattle.po_syntax.specs.Token.{Token, Nothing, Open, Key, Halt, token_at}
 use Rattle.po_syntax.proofs.QuotedStrings.{byte-shorter, quoted-shorter}
 use Rattle.po_syntax.proofs.Tokens.{key-shorter, open-shorter}
 
--- behind an opening quote
+-- after an opening quote
 abbrev QuotedEnds : List ℕ → Type 0
 QuotedEnds text = ((bytes : List ℕ) × (rest : List ℕ) × IsQuoted text bytes rest) ⊎ ((fault : PoFault) × QuotedStops text fault)
 
@@ -59,7 +59,7 @@ abbrev LineEnds : ℕ → List ℕ → Type 0
 LineEnds line text = ((items : List TextItem) × SpellsLine line text items) ⊎ ((fault : PoFault) × LineStops text fault)
 
 line_step : (line : ℕ) (text : List ℕ) (shape : Shape) → shape_of text ≡ shape → LineEnds line text
-line_step line text (Note kind rest) e = inl (Comment kind (trim_returns rest) line ∷ [], comment e)
+line_step line text (CommentLine kind rest) e = inl (Comment kind (trim_returns rest) line ∷ [], comment e)
 line_step line text NoShape e = inr (BadToken, no_shape e)
 line_step line text (Tokens marks rest) e =
     elim (tokens_end marks line rest) [ inl found ↦ inl (found.0, tokens e found.1) | inr found ↦ inr (found.0, in_tokens e found.1) ]
@@ -80,7 +80,7 @@ abbrev TextEnds : List ℕ → Type 0
 TextEnds text = ((items : List TextItem) × SpellsText text items) ⊎ ((fault : PoFault) × (line : ℕ) × TextFault text fault line)
 
 text_without_nul : (text : List ℕ) → IsSmall text → IsUtf8 text → (found : Option ℕ) → position (λ b. b == 0) text ≡ found → TextEnds text
-text_without_nul text small utf8 (Some place) e = inr (ForbiddenByte, line_number text place, nul small utf8 e refl)
+text_without_nul text small utf8 (Some index) e = inr (ForbiddenByte, line_number text index, nul small utf8 e refl)
 text_without_nul text small utf8 None e =
     elim (lines_end 1 (lines_of (without_mark text))) [ inl found ↦ inl (found.0, record { small = small; utf8 = utf8; no_nul = e; lines = found.1 }) | inr found ↦ inr (found.0, found.1, stops small utf8 e found.2) ]
 

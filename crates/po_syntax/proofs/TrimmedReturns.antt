@@ -13,13 +13,13 @@ abbrev AreReturns : ℕ → List ℕ → Type 0
 AreReturns n text = (k : ℕ) → n ≤ k → k < length text → get_or text k 13 ≡ 13
 
 -- where the CRs at the end of a text begin
-pub record EndsAt (text : List ℕ) (place : ℕ) : Type 0 where
-  pub within : place ≤ length text
-  pub returns : AreReturns place text
-  pub other : 0 < place → (get_or text (place - 1) 13 == 13) ≡ false
+pub record EndsAt (text : List ℕ) (index : ℕ) : Type 0 where
+  pub within : index ≤ length text
+  pub returns : AreReturns index text
+  pub other : 0 < index → (get_or text (index - 1) 13 == 13) ≡ false
 
 abbrev HasEnd : List ℕ → Type 0
-HasEnd text = (place : ℕ) × EndsAt text place
+HasEnd text = (index : ℕ) × EndsAt text index
 
 one_more : (n : ℕ) (text : List ℕ) → get_or text n 13 ≡ 13 → AreReturns (suc n) text → AreReturns n text
 one_more n text e returns = λ k low high.
@@ -35,14 +35,14 @@ end_before : (n : ℕ) (text : List ℕ) → n ≤ length text → AreReturns n 
 end_before zero text h returns = (0, record { within = h; returns = returns; other = λ none. absurd (omega arith) })
 end_before (suc n) text h returns = last_byte n text (get_or text n 13 == 13) refl h returns (end_before n text)
 
-trimmed : (text : List ℕ) (place : ℕ) → EndsAt text place → trim_returns (take place text) ≡ take place text
+trimmed : (text : List ℕ) (index : ℕ) → EndsAt text index → trim_returns (take index text) ≡ take index text
 trimmed text zero h = refl
 trimmed text (suc n) h =
     let none = suffix_len-take_no (λ b. b == 13) text (suc n) 13 (omega arith) h.within (h.other (omega arith)) in
-    let front = take (suc n) text in
-    rw none (take_all (length front - 0) front (omega arith))
+    let prefix = take (suc n) text in
+    rw none (take_all (length prefix - 0) prefix (omega arith))
 
-pub trim_end : (text : List ℕ) → (place : ℕ) × EndsAt text place × (trim_returns text ≡ take place text)
+pub trim_end : (text : List ℕ) → (index : ℕ) × EndsAt text index × (trim_returns text ≡ take index text)
 trim_end text =
     let end = end_before (length text) text (omega arith) (λ k low high. absurd (omega arith)) in
     let n = suffix_len_is (λ b. b == 13) text end.0 13 end.1.within (λ k low high. eq-eqb _ _ (end.1.returns k low high)) end.1.other in

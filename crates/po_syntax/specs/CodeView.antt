@@ -13,20 +13,20 @@ use Rattle.po_syntax.specs.QuotedString.{Step, Byte, Stop}
 use Rattle.po_syntax.specs.TextItem.{TextItem, views}
 use Rattle.po_syntax.specs.Token as spec
 
-abbrev pub token_of : Token → spec.Token
-token_of token.End = spec.Nothing
-token_of (token.Quote rest) = spec.Open rest.now
-token_of (token.Word keyword rest) = spec.Key keyword rest.now
+abbrev pub token_view : Token → spec.Token
+token_view token.End = spec.Nothing
+token_view (token.Quote rest) = spec.Open rest.now
+token_view (token.Word keyword rest) = spec.Key keyword rest.now
 
-abbrev pub shape_seen : Shape → line.Shape
-shape_seen (shape.Comment kind text) = line.Note kind text.now
-shape_seen (shape.Tokens marks text) = line.Tokens marks text.now
+abbrev pub shape_view : Shape → line.Shape
+shape_view (shape.Comment kind text) = line.CommentLine kind text.now
+shape_view (shape.Tokens marks text) = line.Tokens marks text.now
 
--- the result is the byte of this step, with the text behind it, or its fault
+-- the result is the byte of this step, with the text after it, or its fault
 abbrev pub IsByteOf : Step → Result (ℕ × Bor (List ℕ)) PoFault → Type 0
 IsByteOf step result = MatchResult result (λ p. step ≡ Byte p.0 p.1.now) (λ fault. step ≡ Stop fault)
 
--- the result is the keyword of this token, with the text behind it, or its fault
+-- the result is the keyword of this token, with the text after it, or its fault
 abbrev pub IsKeywordOf : spec.Token → Result (Keyword × Bor (List ℕ)) PoFault → Type 0
 IsKeywordOf token result =
     MatchResult result (λ p. token ≡ spec.Key p.0 p.1.now) (λ fault. token ≡ spec.Halt fault)
@@ -34,13 +34,13 @@ IsKeywordOf token result =
 -- the result is this token, or its fault
 abbrev pub IsTokenOf : spec.Token → Result Token PoFault → Type 0
 IsTokenOf token result =
-    MatchResult result (λ read. token ≡ token_of read) (λ fault. token ≡ spec.Halt fault)
+    MatchResult result (λ read. token ≡ token_view read) (λ fault. token ≡ spec.Halt fault)
 
 -- the result is this shape, and none where it is none
 abbrev pub IsShapeOf : line.Shape → Option Shape → Type 0
 IsShapeOf shape result =
-    MatchOption result (shape ≡ line.NoShape) (λ read. shape ≡ shape_seen read)
+    MatchOption result (shape ≡ line.NoShape) (λ read. shape ≡ shape_view read)
 
--- items that are spelt were added behind the old ones
+-- items that are spelt were added after the old ones
 abbrev pub AddsItems : (List TextItem → Type 0) → List Item → List Item → Type 0
 AddsItems Spells old new = (spelt : List TextItem) × Spells spelt × (views new ≡ views old ++ spelt)

@@ -12,7 +12,7 @@ NoDigitFirst base (b ∷ text) = base ≤ digit_value b
 abbrev pub IsByteNumber : ℕ → Type 0
 IsByteNumber number = (0 < number) × (number < 256)
 
--- Behind a backslash the text spells this byte, and the rest stands behind the escape. One to three octal digits
+-- After a backslash the text spells this byte, and the rest stands after the escape. One to three octal digits
 -- number the byte, as many as there are up to three, or `x` and hex digits, all that follow.
 pub data SpellsEscape : List ℕ → ℕ → List ℕ → Type 0 where
   alert : {rest : List ℕ} → SpellsEscape (97 ∷ rest) 7 rest
@@ -29,7 +29,7 @@ pub data SpellsEscape : List ℕ → ℕ → List ℕ → Type 0 where
   hexadecimal : (digits : List ℕ) {rest : List ℕ} → IsNumeral 16 digits → NoDigitFirst 16 rest → IsByteNumber (digits_value 16 digits)
       → SpellsEscape (120 ∷ digits ++ rest) (digits_value 16 digits) rest
 
--- Behind an opening quote the text spells these bytes, and the rest stands behind the closing quote.
+-- After an opening quote the text spells these bytes, and the rest stands after the closing quote.
 pub data SpellsString : List ℕ → List ℕ → List ℕ → Type 0 where
   closed : {rest : List ℕ} → SpellsString (34 ∷ rest) [] rest
   plain : {b : ℕ} {text bytes rest : List ℕ} → b ≢ 34 → b ≢ 92 → SpellsString text bytes rest → SpellsString (b ∷ text) (b ∷ bytes) rest

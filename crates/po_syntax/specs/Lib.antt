@@ -7,7 +7,7 @@ pub mod Line
 pub mod Spelling
 pub mod LineFaults
 pub mod CodeView
-pub mod ItemText
+pub mod ItemContents
 pub mod PoText
 pub mod CleanLine
 pub mod LinesLeft

@@ -13,42 +13,42 @@ use Rattle.po_syntax.specs.Token.{Nothing, Open, Key, Halt, token_at, skip_blank
 
 -- What a line is by its first bytes: a comment with its text; tokens under marks; or neither.
 pub data Shape : Type 0 where
-  Note : CommentKind → List ℕ → Shape
+  CommentLine : CommentKind → List ℕ → Shape
   Tokens : Marks → List ℕ → Shape
   NoShape : Shape
 
--- the comment behind its `#`; `#|` and `#~` begin none
-abbrev pub note_shape : List ℕ → Shape
-note_shape [] = Note Translator []
-note_shape (b ∷ rest) =
-    if b == 46 then Note Extracted rest
-    else if b == 58 then Note Reference rest
-    else if b == 44 then Note Flags rest
+-- the comment after its `#`; `#|` and `#~` begin none
+abbrev pub comment_shape : List ℕ → Shape
+comment_shape [] = CommentLine Translator []
+comment_shape (b ∷ rest) =
+    if b == 46 then CommentLine Extracted rest
+    else if b == 58 then CommentLine Reference rest
+    else if b == 44 then CommentLine Flags rest
     else if b == 124 then NoShape
     else if b == 126 then NoShape
-    else Note Translator (b ∷ rest)
+    else CommentLine Translator (b ∷ rest)
 
--- behind `#~` and blanks: a comment, or tokens
+-- after `#~` and blanks: a comment, or tokens
 unfoldable pub obsolete_shape : List ℕ → Shape
 obsolete_shape [] = Tokens (record { obsolete = true; previous = false }) []
 obsolete_shape (b ∷ rest) =
-    if b == 35 then note_shape rest
+    if b == 35 then comment_shape rest
     else Tokens (record { obsolete = true; previous = false }) (b ∷ rest)
 
--- behind `#~`
+-- after `#~`
 unfoldable pub tilde_shape : List ℕ → Shape
 tilde_shape [] = obsolete_shape []
 tilde_shape (b ∷ rest) =
     if b == 124 then Tokens (record { obsolete = true; previous = true }) rest
     else obsolete_shape (skip_blanks (b ∷ rest))
 
--- behind `#`
+-- after `#`
 unfoldable pub hash_shape : List ℕ → Shape
-hash_shape [] = note_shape []
+hash_shape [] = comment_shape []
 hash_shape (b ∷ rest) =
     if b == 124 then Tokens (record { obsolete = false; previous = true }) rest
     else if b == 126 then tilde_shape rest
-    else note_shape (b ∷ rest)
+    else comment_shape (b ∷ rest)
 
 unfoldable pub first_shape : List ℕ → Shape
 first_shape [] = Tokens (record { obsolete = false; previous = false }) []
@@ -81,7 +81,7 @@ pub data TokensStop : List ℕ → PoFault → Type 0 where
 
 -- the line of this number spells these items
 pub data SpellsLine (line : ℕ) : List ℕ → List TextItem → Type 0 where
-  comment : {text rest : List ℕ} {kind : CommentKind} → shape_of text ≡ Note kind rest → SpellsLine line text (Comment kind (trim_returns rest) line ∷ [])
+  comment : {text rest : List ℕ} {kind : CommentKind} → shape_of text ≡ CommentLine kind rest → SpellsLine line text (Comment kind (trim_returns rest) line ∷ [])
   tokens : {text rest : List ℕ} {marks : Marks} {items : List TextItem} → shape_of text ≡ Tokens marks rest → SpellsTokens marks line rest items → SpellsLine line text items
 
 -- the line spells no items: its first fault is this one

@@ -16,9 +16,9 @@ HasNoNul text = position (λ b. b == 0) text ≡ None
 
 -- the number of the line on which this place of the text stands, counted from 1
 abbrev pub line_number : List ℕ → ℕ → ℕ
-line_number text place = 1 + count_by (λ b. b == 10) (take place text)
+line_number text index = 1 + count_by (λ b. b == 10) (take index text)
 
--- the text behind a byte order mark at its start
+-- the text after a byte order mark at its start
 abbrev pub without_mark : List ℕ → List ℕ
 without_mark text = if starts_with nat_eq text (0xEF ∷ 0xBB ∷ 0xBF ∷ []) then drop 3 text else text
 
@@ -49,5 +49,5 @@ pub record SpellsText (text : List ℕ) (items : List TextItem) : Type 0 where
 pub data TextFault : List ℕ → PoFault → ℕ → Type 0 where
   too_large : {text : List ℕ} → 2 ^ 31 ≤ length text → TextFault text TooLarge 0
   not_utf8 : {text : List ℕ} {line : ℕ} → IsSmall text → (IsUtf8 text → ⊥) → line ≡ line_number text (utf8_valid_len text) → TextFault text NotUtf8 line
-  nul : {text : List ℕ} {line place : ℕ} → IsSmall text → IsUtf8 text → position (λ b. b == 0) text ≡ Some place → line ≡ line_number text place → TextFault text ForbiddenByte line
+  nul : {text : List ℕ} {line index : ℕ} → IsSmall text → IsUtf8 text → position (λ b. b == 0) text ≡ Some index → line ≡ line_number text index → TextFault text ForbiddenByte line
   stops : {text : List ℕ} {fault : PoFault} {line : ℕ} → IsSmall text → IsUtf8 text → HasNoNul text → LinesStop 1 (lines_of (without_mark text)) fault line → TextFault text fault line

@@ -7,7 +7,7 @@ use Rattle.std.specs.Str.Parse.{digits_value}
 use Rattle.po_syntax.specs.declared.fault.PoFault.{PoFault}
 use Rattle.po_syntax.specs.declared.fault.PoFault.TheVariants.{UnterminatedString, BadEscape, ForbiddenByte}
 
--- One step inside a quoted string: its end, with the text behind it; a byte, with the text behind
+-- One step inside a quoted string: its end, with the text after it; a byte, with the text after
 -- what spells it; or a fault.
 pub data Step : Type 0 where
   End : List ℕ → Step
@@ -29,7 +29,7 @@ numbered number rest =
 abbrev pub number_step : ℕ → ℕ → List ℕ → Step
 number_step base count text = numbered (digits_value base (take count text)) (drop count text)
 
--- the byte that a letter or mark behind a backslash stands for: `a b f n r t v`, `\` and `"`
+-- the byte that a letter or mark after a backslash stands for: `a b f n r t v`, `\` and `"`
 abbrev pub letter_value : ℕ → Option ℕ
 letter_value letter =
     if letter == 97 then Some 7
@@ -47,7 +47,7 @@ abbrev pub letter_step : Option ℕ → List ℕ → Step
 letter_step None rest = Stop BadEscape
 letter_step (Some byte) rest = Byte byte rest
 
--- What stands behind a backslash: one to three octal digits, as many as there are; `x` and hex
+-- What stands after a backslash: one to three octal digits, as many as there are; `x` and hex
 -- digits, all that follow, at least one; or a letter.
 unfoldable pub escape_at : List ℕ → Step
 escape_at [] = Stop BadEscape
@@ -61,12 +61,12 @@ unfoldable pub step_at : List ℕ → Step
 step_at [] = Stop UnterminatedString
 step_at (b ∷ text) = if b == 34 then End text else if b == 92 then escape_at text else Byte b text
 
--- Behind an opening quote the text spells these bytes, and the rest stands behind the closing quote.
+-- After an opening quote the text spells these bytes, and the rest stands after the closing quote.
 pub data IsQuoted : List ℕ → List ℕ → List ℕ → Type 0 where
   ended : {text rest : List ℕ} → step_at text ≡ End rest → IsQuoted text [] rest
   spelt : {text next bytes rest : List ℕ} {b : ℕ} → step_at text ≡ Byte b next → IsQuoted next bytes rest → IsQuoted text (b ∷ bytes) rest
 
--- Behind an opening quote the first place where nothing goes on has this fault.
+-- After an opening quote the first place where nothing goes on has this fault.
 pub data QuotedStops : List ℕ → PoFault → Type 0 where
   here : {text : List ℕ} {fault : PoFault} → step_at text ≡ Stop fault → QuotedStops text fault
   later : {text next : List ℕ} {b : ℕ} {fault : PoFault} → step_at text ≡ Byte b next → QuotedStops next fault → QuotedStops text fault

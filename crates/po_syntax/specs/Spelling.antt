@@ -49,7 +49,7 @@ pub data HoldsTokens (marks : Marks) (line : ℕ) : List ℕ → List TextItem �
   keyword : {word : Keyword} {text rest : List ℕ} {items : List TextItem} → SpellsKeyword text word rest → HoldsTokens marks line rest items → HoldsTokens marks line text (Word word marks line ∷ items)
   string : {text bytes rest : List ℕ} {items : List TextItem} → SpellsString text bytes rest → HoldsTokens marks line rest items → HoldsTokens marks line (34 ∷ text) (Str bytes marks line ∷ items)
 
--- what tells another line from that of a translator's comment: one of `.:,|~`
+-- what marks another line from that of a translator's comment: one of `.:,|~`
 pub data IsMark : ℕ → Type 0 where
   dot : IsMark 46
   colon : IsMark 58

@@ -10,7 +10,7 @@ use Rattle.po_syntax.specs.declared.item.Keyword.{Keyword}
 use Rattle.po_syntax.specs.declared.item.Keyword.TheVariants.{MsgCtxt, MsgId, MsgIdPlural, MsgStr, MsgStrAt}
 use Rattle.po_syntax.specs.QuotedString.{digit_count}
 
--- The next token of a line: none, at its end; an opening quote or a keyword, with the text behind
+-- The next token of a line: none, at its end; an opening quote or a keyword, with the text after
 -- it; or a fault.
 pub data Token : Type 0 where
   Nothing : Token
@@ -29,12 +29,12 @@ skip_blanks text = drop (prefix_len is_blank text) text
 abbrev pub is_word_byte : ℕ → Bool
 is_word_byte b = is_ascii_alphanumeric b || b == 95
 
--- a closing bracket is wanted behind an index
+-- a closing bracket is wanted after an index
 abbrev pub close_token : ℕ → List ℕ → Token
 close_token index [] = Halt BadToken
 close_token index (b ∷ rest) = if b == 93 then Key (MsgStrAt index) rest else Halt BadToken
 
--- behind an opening bracket and blanks: decimal digits, blanks and the closing bracket
+-- after an opening bracket and blanks: decimal digits, blanks and the closing bracket
 unfoldable pub index_token : List ℕ → Token
 index_token text =
     let count = digit_count 10 text in
@@ -43,7 +43,7 @@ index_token text =
     else if nat_lt index (2 ^ 32) then close_token index (skip_blanks (drop count text))
     else Halt BadPluralIndex
 
--- `msgstr` alone, or with an index where an opening bracket is the next byte behind blanks
+-- `msgstr` alone, or with an index where an opening bracket is the next byte after blanks
 abbrev pub bracket_token : List ℕ → List ℕ → Token
 bracket_token rest [] = Key MsgStr rest
 bracket_token rest (b ∷ inside) = if b == 91 then index_token (skip_blanks inside) else Key MsgStr rest

@@ -48,7 +48,7 @@ fn numbered_byte(base: u32, count: usize, text: &[u8]) -> Result<(u8, &[u8]), Po
     }
 }
 
-/// The byte that a letter or mark behind a backslash stands for.
+/// The byte that a letter or mark after a backslash stands for.
 fn letter_value(letter: u8) -> Option<u8>
     ensures { result ≡ letter_value letter }
 {
@@ -66,7 +66,7 @@ fn letter_value(letter: u8) -> Option<u8>
     }
 }
 
-/// The byte that an escape stands for, read behind its backslash, and the text behind it.
+/// The byte that an escape stands for, read after its backslash, and the text after it.
 #[tactic(auto, unfolding(crate::specs::QuotedString::escape_at))]
 pub(crate) fn escape(text: &[u8]) -> Result<(u8, &[u8]), PoFault>
     ensures { IsByteOf (escape_at text.now) result }

@@ -40,7 +40,7 @@ pub enum PoFault {
     /// A text or a compiled catalogue is longer than its limit.
     #[error("too large")]
     TooLarge,
-    /// A growth was refused.
+    /// An allocation failed.
     #[error("out of memory")]
     OutOfMemory,
 }

@@ -15,7 +15,7 @@ pub enum Keyword {
     MsgStrAt(u32),
 }
 
-/// What a comment is for, by the character behind its `#`.
+/// What a comment is for, by the character after its `#`.
 #[derive(Clone, Copy, Debug, PartialEq, Eq)]
 pub enum CommentKind {
     /// `#` and any other character: a comment of the translator.
@@ -33,7 +33,7 @@ pub enum CommentKind {
 pub struct Marks {
     /// `#~`: the line belongs to an obsolete entry.
     pub obsolete: bool,
-    /// `#|` or `#~|`: the line tells a previous context or original.
+    /// `#|` or `#~|`: the line gives a previous context or original.
     pub previous: bool,
 }
 
@@ -41,7 +41,7 @@ pub struct Marks {
 /// string's bytes only where an escape makes them differ from the text's.
 #[derive(Drop)]
 pub enum Item<'a> {
-    /// A comment: its text behind the characters that tell its kind, without trailing CRs.
+    /// A comment: its text after the characters that mark its kind, without trailing CRs.
     Comment(CommentKind, &'a [u8], u32),
     /// A keyword, under the marks of its line.
     Word(Keyword, Marks, u32),

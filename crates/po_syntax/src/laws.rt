@@ -2,7 +2,7 @@
 ghost use Rattle.std.specs.Prelude.{◌≡◌, ◌≢◌, ◌↔◌, ◌⊎◌, ◌<◌, ◌≤◌, ℕ, List, ◌++◌, All, IsUtf8};
 ghost use Rattle.po_syntax.specs.declared.fault.PoFault.{PoFault};
 ghost use Rattle.po_syntax.specs.Escapes.{SpellsString};
-ghost use Rattle.po_syntax.specs.ItemText.{HoldsText};
+ghost use Rattle.po_syntax.specs.ItemContents.{HoldsText};
 ghost use Rattle.po_syntax.specs.Line.{LineStops, SpellsLine};
 ghost use Rattle.po_syntax.specs.LineFaults.{LineFault};
 ghost use Rattle.po_syntax.specs.PoText.{SpellsText, TextFault};
@@ -26,9 +26,9 @@ pub fn no_fault_where_items()
 
 /// A text has at most one first fault, on one line.
 pub fn one_fault()
-    ensures { (text : List ℕ) (fault other : PoFault) (line place : ℕ)
-        → TextFault text fault line → TextFault text other place
-        → (fault ≡ other) × (line ≡ place) }
+    ensures { (text : List ℕ) (fault other : PoFault) (line index : ℕ)
+        → TextFault text fault line → TextFault text other index
+        → (fault ≡ other) × (line ≡ index) }
 {}
 
 /// Every text either spells items or has a first fault.
@@ -44,14 +44,14 @@ pub fn no_fault_is_memory()
         → TextFault text fault line → fault ≢ PoFault.OutOfMemory }
 {}
 
-/// Behind an opening quote a text spells at most one string, which ends at one place.
+/// After an opening quote a text spells at most one string, which ends at one place.
 pub fn one_string()
     ensures { (text bytes others rest end : List ℕ)
         → IsQuoted text bytes rest → IsQuoted text others end
         → (bytes ≡ others) × (rest ≡ end) }
 {}
 
-/// Behind an opening quote a string is read, step by step, exactly where it is spelt: each of its
+/// After an opening quote a string is read, step by step, exactly where it is spelt: each of its
 /// bytes by itself or by an escape, and then the closing quote.
 pub fn strings_are_spelt()
     ensures { (text bytes rest : List ℕ)

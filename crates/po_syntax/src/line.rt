@@ -1,6 +1,6 @@
 ghost use Rattle.std.specs.Prelude.{◌≡◌, ◌≢◌, ◌≤◌, ◌==◌, length, IfErr, OnOk};
 ghost use Rattle.std.specs.List.{suffix_len};
-ghost use Rattle.po_syntax.specs.Line.{shape_of, hash_shape, tilde_shape, note_shape, trim_returns, SpellsTokens, TokensStop, SpellsLine, LineStops};
+ghost use Rattle.po_syntax.specs.Line.{shape_of, hash_shape, tilde_shape, comment_shape, trim_returns, SpellsTokens, TokensStop, SpellsLine, LineStops};
 ghost use Rattle.po_syntax.specs.CodeView.{AddsItems, IsShapeOf};
 
 use crate::fault::PoFault;
@@ -9,7 +9,7 @@ use crate::quoted_string::quoted_string;
 use crate::token::{Token, next_token, skip_blanks};
 use std::alloc::Global;
 
-/// What a line is by its first bytes, with the text behind them.
+/// What a line is by its first bytes, with the text after them.
 enum Shape<'a> {
     Comment(CommentKind, &'a [u8]),
     Tokens(Marks, &'a [u8]),
@@ -21,27 +21,27 @@ const LIVE: Marks = Marks {
     previous: false,
 };
 
-/// A line behind `#|`.
+/// A line after `#|`.
 const PREVIOUS: Marks = Marks {
     obsolete: false,
     previous: true,
 };
 
-/// A line behind `#~`.
+/// A line after `#~`.
 const OBSOLETE: Marks = Marks {
     obsolete: true,
     previous: false,
 };
 
-/// A line behind `#~|`.
+/// A line after `#~|`.
 const OBSOLETE_PREVIOUS: Marks = Marks {
     obsolete: true,
     previous: true,
 };
 
-/// The comment behind its `#`; none at `#|` and `#~`.
+/// The comment after its `#`; none at `#|` and `#~`.
 fn comment(text: &[u8]) -> Option<Shape<'_>>
-    ensures { IsShapeOf (note_shape text.now) result }
+    ensures { IsShapeOf (comment_shape text.now) result }
 {
     match text.split_first() {
         Some((b'.', rest)) => Some(Shape::Comment(CommentKind::Extracted, rest)),
@@ -52,7 +52,7 @@ fn comment(text: &[u8]) -> Option<Shape<'_>>
     }
 }
 
-/// The shape of a line, read behind `#~`.
+/// The shape of a line, read after `#~`.
 #[tactic(auto, unfolding(crate::specs::Line::tilde_shape, crate::specs::Line::obsolete_shape))]
 fn obsolete(text: &[u8]) -> Option<Shape<'_>>
     ensures { IsShapeOf (tilde_shape text.now) result }
@@ -67,7 +67,7 @@ fn obsolete(text: &[u8]) -> Option<Shape<'_>>
     }
 }
 
-/// The shape of a line, read behind its first `#`.
+/// The shape of a line, read after its first `#`.
 #[tactic(auto, unfolding(crate::specs::Line::hash_shape))]
 fn hash(text: &[u8]) -> Option<Shape<'_>>
     ensures { IsShapeOf (hash_shape text.now) result }

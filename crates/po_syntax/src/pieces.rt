@@ -1,7 +1,7 @@
 ghost use Rattle.std.specs.Prelude.{◌≡◌, ◌≢◌, ◌⊎◌, ◌+◌, ◌<◌, ◌≤◌, ◌^◌, ◌++◌, [], None, List, ℕ, All, length, vec_len, true, false, IfOk, IfErr, OnOk, OnErr};
 ghost use Rattle.po_syntax.specs.declared.fault.PoFault.{PoFault};
 ghost use Rattle.po_syntax.specs.CleanLine.{AreCleanLines};
-ghost use Rattle.po_syntax.specs.ItemText.{HoldsText};
+ghost use Rattle.po_syntax.specs.ItemContents.{HoldsText};
 ghost use Rattle.po_syntax.specs.LinesLeft.{LinesLeft, SpellsLeft, LeftStops, EndsInString, lines_of_rest, HasRoom};
 ghost use Rattle.po_syntax.specs.PoText.{SpellsText, TextFault, SpellsLines, LinesStop, lines_of};
 ghost use Rattle.po_syntax.specs.TextItem.{TextItem, views};

@@ -21,7 +21,7 @@ fn split_plain(text: &[u8]) -> (&[u8], &[u8])
     text.split_at(end)
 }
 
-/// Appends what the text spells up to the closing quote, and gives the text behind that.
+/// Appends what the text spells up to the closing quote, and gives the text after that.
 fn add_pieces<'a>(bytes: &mut Vec<u8>, text: &'a [u8]) -> Result<&'a [u8], PoFault>
     ensures found { IfOk result (λ rest. (spelt : List ℕ)
         × IsQuoted text.now spelt rest.now × (bytes.new.items ≡ bytes.old.items ++ spelt)) }
@@ -43,7 +43,7 @@ fn add_pieces<'a>(bytes: &mut Vec<u8>, text: &'a [u8]) -> Result<&'a [u8], PoFau
     }
 }
 
-/// The bytes that a quoted string spells, read behind its opening quote, and the text behind its
+/// The bytes that a quoted string spells, read after its opening quote, and the text after its
 /// closing one. They are borrowed where no escape stands among them.
 pub(crate) fn quoted_string(
     alloc: Global,

@@ -14,7 +14,7 @@ use std::alloc::Global;
 /// The longest text that is read, in bytes.
 const MAX_LEN: usize = 2_147_483_647;
 
-/// The text behind a byte order mark at its start.
+/// The text after a byte order mark at its start.
 fn without_mark(text: &[u8]) -> &[u8]
     ensures { result.now ≡ without_mark text.now }
 {
@@ -22,13 +22,13 @@ fn without_mark(text: &[u8]) -> &[u8]
 }
 
 /// The number of the line on which a place of the text stands, counted from 1.
-fn line_number(text: &[u8], place: usize) -> u32
-    requires inside { place ≤ length text.now }
+fn line_number(text: &[u8], index: usize) -> u32
+    requires inside { index ≤ length text.now }
     requires small { length text.now < 2 ^ 31 }
-    ensures { result ≡ line_number text.now place }
+    ensures { result ≡ line_number text.now index }
 {
     let feeds = text
-        .split_at(place)
+        .split_at(index)
         .0
         .iter()
         .filter(|b| **b == b'\n')
@@ -36,7 +36,7 @@ fn line_number(text: &[u8], place: usize) -> u32
     1 + feeds as u32
 }
 
-/// Cuts off the first line: its text, and what stands behind its LF, if it has one.
+/// Cuts off the first line: its text, and what stands after its LF, if it has one.
 pub(crate) fn first_line(text: &[u8]) -> (&[u8], Option<&[u8]>)
     ensures cut { MatchOption result.1 (lines_of text.now ≡ result.0.now ∷ [])
         (λ rest. lines_of text.now ≡ result.0.now ∷ lines_of rest.now) }
@@ -50,7 +50,7 @@ pub(crate) fn first_line(text: &[u8]) -> (&[u8], Option<&[u8]>)
     (line, Some(rest.split_at(1).1))
 }
 
-/// Appends the items of the line with this number, and tells its fault with the number.
+/// Appends the items of the line with this number, and reports its fault with the number.
 pub(crate) fn add_numbered_line<'a>(
     alloc: Global,
     items: &mut Vec<Item<'a>>,
@@ -85,12 +85,12 @@ fn read_lines(alloc: Global, text: &[u8]) -> Result<Vec<Item<'_>>, PoError>
     let mut rest = text;
     let mut line = 1;
     loop {
-        let (first, behind) = first_line(rest);
+        let (first, after) = first_line(rest);
         add_numbered_line(alloc, &mut items, first, line)?;
-        let Some(behind) = behind else {
+        let Some(after) = after else {
             return Ok(items);
         };
-        rest = behind;
+        rest = after;
         line += 1;
     }
 }
@@ -117,8 +117,8 @@ pub(crate) fn checked(text: &[u8]) -> Result<&[u8], PoError>
             line,
         });
     }
-    if let Some(place) = memchr(0, text) {
-        let line = line_number(text, place);
+    if let Some(index) = memchr(0, text) {
+        let line = line_number(text, index);
         return Err(PoError {
             kind: PoFault::ForbiddenByte,
             line,

@@ -7,7 +7,7 @@ use crate::escape::{digit_count, number_of};
 use crate::fault::PoFault;
 use crate::item::Keyword;
 
-/// The next token of a line, with the text behind it.
+/// The next token of a line, with the text after it.
 pub(crate) enum Token<'a> {
     /// The line's end.
     End,
@@ -43,14 +43,14 @@ fn word_len(text: &[u8]) -> usize
     text.iter().take_while(|b| is_word_byte(**b)).count()
 }
 
-/// The text behind the blanks at its start: space, TAB, VT, FF and CR.
+/// The text after the blanks at its start: space, TAB, VT, FF and CR.
 pub(crate) fn skip_blanks(text: &[u8]) -> &[u8]
     ensures { result.now ≡ skip_blanks text.now }
 {
     text.split_at(blank_count(text)).1
 }
 
-/// The keyword of a plural form, read behind the bracket and the blanks before its index.
+/// The keyword of a plural form, read after the bracket and the blanks before its index.
 #[tactic(auto, unfolding(crate::specs::Token::index_token))]
 fn plural_form(text: &[u8]) -> Result<(Keyword, &[u8]), PoFault>
     ensures { IsKeywordOf (index_token text.now) result }
@@ -69,7 +69,7 @@ fn plural_form(text: &[u8]) -> Result<(Keyword, &[u8]), PoFault>
     }
 }
 
-/// The keyword that begins with `msgstr`, read behind that word.
+/// The keyword that begins with `msgstr`, read after that word.
 fn translation(rest: &[u8]) -> Result<(Keyword, &[u8]), PoFault>
     ensures { IsKeywordOf (bracket_token rest.now (skip_blanks rest.now)) result }
 {
@@ -79,7 +79,7 @@ fn translation(rest: &[u8]) -> Result<(Keyword, &[u8]), PoFault>
     }
 }
 
-/// The keyword that a word is, and the text behind it.
+/// The keyword that a word is, and the text after it.
 #[tactic(auto, unfolding(crate::specs::Token::keyword_token))]
 fn keyword<'a>(word: &[u8], rest: &'a [u8]) -> Result<(Keyword, &'a [u8]), PoFault>
     ensures { IsKeywordOf (keyword_token word.now rest.now) result }
@@ -97,7 +97,7 @@ fn keyword<'a>(word: &[u8], rest: &'a [u8]) -> Result<(Keyword, &'a [u8]), PoFau
     }
 }
 
-/// The next token of a line, behind blanks.
+/// The next token of a line, after blanks.
 #[tactic(auto, unfolding(crate::specs::Token::first_token))]
 pub(crate) fn next_token(text: &[u8]) -> Result<Token<'_>, PoFault>
     ensures { IsTokenOf (token_at text.now) result }

@@ -1,4 +1,4 @@
--- The files that are left to open, how many catalogues a chain has, and the answers to the words.
+-- The files that are left to open, how many catalogues a chain has, and the answers to the arguments.
 use Rattle.std.proofs.Common.{◌≡◌, ◌≤◌, ◌<◌, ◌+◌, ◌||◌, ℕ, Bool, true, false, List, [], ◌∷◌, ◌++◌, drop, get_or, map, length, flat_map, refl, sym, ap, ◌∙◌, append_assoc, append-nil, drop-cons, drop_of_length-le, add-one, arith}
 use Rattle.std.proofs.lemmas.List.{length-map}
 use Rattle.std.specs.Borrow.{Bor}
@@ -12,8 +12,8 @@ use Rattle.po_tools.specs.OpensFile.{OpensFile}
 -- whatever the files from i on add completes what the files before made
 abbrev pub Completes : List ℕ → List (Bor (List ℕ) × Bor (List ℕ)) → ℕ → Opened → Type 0
 Completes tool files i done =
-    (chain : List Contents) (told : List ℕ) → Opens tool (named_files (drop i files)) chain told
-    → Opens tool (named_files files) (done.catalogs.items ++ chain) (done.messages.items ++ told)
+    (chain : List Contents) (reported : List ℕ) → Opens tool (named_files (drop i files)) chain reported
+    → Opens tool (named_files files) (done.catalogs.items ++ chain) (done.messages.items ++ reported)
 
 -- the next file stands before those that are left
 next-file : (files : List (Bor (List ℕ) × Bor (List ℕ))) (i : ℕ) (d : Bor (List ℕ) × Bor (List ℕ)) → i < length files
@@ -22,9 +22,9 @@ next-file files i d below = let next : drop i files ≡ get_or files i d ∷ dro
 
 pub Completes-next : (tool : List ℕ) (files : List (Bor (List ℕ) × Bor (List ℕ))) (i : ℕ) (d : Bor (List ℕ) × Bor (List ℕ)) (old new : Opened) → i < length files
     → OpensFile tool (named_file (get_or files i d)) old new → Completes tool files i old → Completes tool files (i + 1) new
-Completes-next tool files i d old new below file completes chain told opens =
-    rw (file.catalogs, file.messages, append_assoc old.catalogs.items file.chain chain, append_assoc old.messages.items file.told told)
-    (completes (file.chain ++ chain) (file.told ++ told) (rw (next-file files i d below) (file.opens (named_files (drop (i + 1) files)) chain told opens)))
+Completes-next tool files i d old new below file completes chain reported opens =
+    rw (file.catalogs, file.messages, append_assoc old.catalogs.items file.chain chain, append_assoc old.messages.items file.reported reported)
+    (completes (file.chain ++ chain) (file.reported ++ reported) (rw (next-file files i d below) (file.opens (named_files (drop (i + 1) files)) chain reported opens)))
 
 pub Completes-all : (tool : List ℕ) (files : List (Bor (List ℕ) × Bor (List ℕ))) (i : ℕ) (done : Opened) → length files ≤ i
     → Completes tool files i done → Opens tool (named_files files) done.catalogs.items done.messages.items
@@ -33,7 +33,7 @@ Completes-all tool files i done past completes =
     rw (append-nil done.catalogs.items, append-nil done.messages.items) at all
 
 -- each catalogue of a chain is a file
-chain-few : {tool : List ℕ} {files : List NamedFile} {chain : List Contents} {told : List ℕ} → Opens tool files chain told → length chain ≤ length files
+chain-few : {tool : List ℕ} {files : List NamedFile} {chain : List Contents} {reported : List ℕ} → Opens tool files chain reported → length chain ≤ length files
 chain-few none = omega arith
 chain-few (opened order is_catalog are_contents others) = let few = chain-few others in omega arith
 chain-few (refused fault others) = let few = chain-few others in omega arith
@@ -44,34 +44,34 @@ catalogs-few tool files done opens =
     let few : length done.catalogs.items ≤ length (named_files files) = chain-few opens in
     rw (length-map files named_file) at few
 
--- behind the first text each one stands behind the byte
+-- after the first text each one stands after the byte
 join-first : (byte : ℕ) (first : List ℕ) (others : List (List ℕ)) → join_with_byte byte (first ∷ others) ≡ first ++ flat_map (λ text. byte ∷ text) others
 join-first byte first [] = sym (append-nil first)
 join-first byte first (next ∷ others) = ap (λ l. first ++ byte ∷ l) (join-first byte next others)
 
--- what stands behind the answer to the first word: the answers to others, each behind a space
+-- what stands after the answer to the first argument: the answers to others, each after a space
 abbrev pub further : (List ℕ → List ℕ) → List (Bor (List ℕ)) → List ℕ
-further answer words = flat_map (λ text. 32 ∷ text) (map answer (map (λ word. word.now) words))
+further answer arguments = flat_map (λ text. 32 ∷ text) (map answer (map (λ argument. argument.now) arguments))
 
-pub answers-told : (answer : List ℕ → List ℕ) (words others : List (Bor (List ℕ))) (first : Bor (List ℕ)) (old begun out : List ℕ) (i : ℕ)
-    → words ≡ first ∷ others → length others ≤ i → begun ≡ old ++ answer first.now
+pub answers-reported : (answer : List ℕ → List ℕ) (arguments others : List (Bor (List ℕ))) (first : Bor (List ℕ)) (old begun out : List ℕ) (i : ℕ)
+    → arguments ≡ first ∷ others → length others ≤ i → begun ≡ old ++ answer first.now
     → out ++ further answer (drop i others) ≡ begun ++ further answer others
-    → out ≡ old ++ join_with_byte 32 (map answer (map (λ word. word.now) words))
-answers-told answer words others first old begun out i are past begins left =
+    → out ≡ old ++ join_with_byte 32 (map answer (map (λ argument. argument.now) arguments))
+answers-reported answer arguments others first old begun out i are past begins left =
     let all : out ++ [] ≡ begun ++ further answer others = rw (drop_of_length-le others past) at left in
     sym (append-nil out) ∙ all ∙ ap (λ l. l ++ further answer others) begins ∙ append_assoc old (answer first.now) (further answer others)
-    ∙ ap (λ l. old ++ l) (sym (join-first 32 (answer first.now) (map answer (map (λ word. word.now) others))))
-    ∙ ap (λ ws. old ++ join_with_byte 32 (map answer (map (λ word. word.now) ws))) (sym are)
+    ∙ ap (λ l. old ++ l) (sym (join-first 32 (answer first.now) (map answer (map (λ argument. argument.now) others))))
+    ∙ ap (λ ws. old ++ join_with_byte 32 (map answer (map (λ argument. argument.now) ws))) (sym are)
 
 or-false : (b : Bool) → (b || false) ≡ b
 or-false true = refl
 or-false false = refl
 
-pub stops-told : (p : List ℕ → Bool) (words others : List (Bor (List ℕ))) (first : Bor (List ℕ)) (begun stops : Bool) (i : ℕ)
-    → words ≡ first ∷ others → length others ≤ i → begun ≡ p first.now
-    → (stops || list_any p (map (λ word. word.now) (drop i others))) ≡ (begun || list_any p (map (λ word. word.now) others))
-    → stops ≡ list_any p (map (λ word. word.now) words)
-stops-told p words others first begun stops i are past begins left =
-    let all : (stops || false) ≡ (begun || list_any p (map (λ word. word.now) others)) = rw (drop_of_length-le others past) at left in
-    sym (or-false stops) ∙ all ∙ ap (λ b. b || list_any p (map (λ word. word.now) others)) begins
-    ∙ ap (λ ws. list_any p (map (λ word. word.now) ws)) (sym are)
+pub stops-reported : (p : List ℕ → Bool) (arguments others : List (Bor (List ℕ))) (first : Bor (List ℕ)) (begun stops : Bool) (i : ℕ)
+    → arguments ≡ first ∷ others → length others ≤ i → begun ≡ p first.now
+    → (stops || list_any p (map (λ argument. argument.now) (drop i others))) ≡ (begun || list_any p (map (λ argument. argument.now) others))
+    → stops ≡ list_any p (map (λ argument. argument.now) arguments)
+stops-reported p arguments others first begun stops i are past begins left =
+    let all : (stops || false) ≡ (begun || list_any p (map (λ argument. argument.now) others)) = rw (drop_of_length-le others past) at left in
+    sym (or-false stops) ∙ all ∙ ap (λ b. b || list_any p (map (λ argument. argument.now) others)) begins
+    ∙ ap (λ ws. list_any p (map (λ argument. argument.now) ws)) (sym are)

@@ -15,7 +15,7 @@ use Rattle.po_compile.specs.Accepted.{ReadsDistinct, IsTextFault}
 use Rattle.po_merge.specs.declared.input.MergeOptions.{MergeOptions}
 use Rattle.po_merge.specs.declared.input.Named.{Named}
 use Rattle.po_merge.specs.Inputs.{Input}
-use Rattle.po_merge.specs.InputsView.{input_of, inputs_of}
+use Rattle.po_merge.specs.InputsView.{input_view, inputs_view}
 use Rattle.po_merge.specs.Merged.{merged, IsMergeFault}
 use Rattle.po_shell.specs.declared.fault.ToolFault.{ToolFault}
 use Rattle.po_tools.specs.declared.run.Run.{Run}
@@ -41,13 +41,13 @@ read_push [] (i ∷ inputs) file input h g = absurd h
 read_push (f ∷ files) [] file input h g = absurd h
 read_push (f ∷ files) (i ∷ inputs) file input h g = (h.0, read_push files inputs file input h.1 g)
 
-pub read_more : (files : Files) (i : ℕ) (e : Bor (List ℕ) × Bor (List ℕ)) (inputs now : List Named) (n : Named) → i < length files → AreReadAs (take i (named_files files)) (inputs_of inputs) → now ≡ inputs ++ n ∷ []
-    → n.name.now ≡ (get_or files i e).0.now → ReadsDistinct (get_or files i e).1.now n.catalogue → AreReadAs (take (i + 1) (named_files files)) (inputs_of now)
+pub read_more : (files : Files) (i : ℕ) (e : Bor (List ℕ) × Bor (List ℕ)) (inputs now : List Named) (n : Named) → i < length files → AreReadAs (take i (named_files files)) (inputs_view inputs) → now ≡ inputs ++ n ∷ []
+    → n.name.now ≡ (get_or files i e).0.now → ReadsDistinct (get_or files i e).1.now n.catalogue → AreReadAs (take (i + 1) (named_files files)) (inputs_view now)
 read_more files i e inputs now n l h pushed name reads =
     let inside : i < length (named_files files) = omega (arith, l, length-map files named_file) in
-    subst (AreReadAs (take (i + 1) (named_files files))) (sym (ap inputs_of pushed ∙ map-append input_of inputs (n ∷ [])))
-    (subst (λ (fs : List NamedFile). AreReadAs fs (inputs_of inputs ++ input_of n ∷ [])) (sym (take_more (named_files files) i (named_file (get_or files i e)) inside ∙ ap (λ (f : NamedFile). take i (named_files files) ++ f ∷ []) (sym (file_at files i e l))))
-    (read_push (take i (named_files files)) (inputs_of inputs) (named_file (get_or files i e)) (input_of n) h (record { name = name; reads = reads })))
+    subst (AreReadAs (take (i + 1) (named_files files))) (sym (ap inputs_view pushed ∙ map-append input_view inputs (n ∷ [])))
+    (subst (λ (fs : List NamedFile). AreReadAs fs (inputs_view inputs ++ input_view n ∷ [])) (sym (take_more (named_files files) i (named_file (get_or files i e)) inside ∙ ap (λ (f : NamedFile). take i (named_files files) ++ f ∷ []) (sym (file_at files i e l))))
+    (read_push (take i (named_files files)) (inputs_view inputs) (named_file (get_or files i e)) (input_view n) h (record { name = name; reads = reads })))
 
 split_at : (xs : List NamedFile) (i : ℕ) (d : NamedFile) → i < length xs → (after : List NamedFile) × (xs ≡ take i xs ++ get_or xs i d ∷ after)
 split_at [] i d l = absurd (omega (arith, l))

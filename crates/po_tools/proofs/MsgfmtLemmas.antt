@@ -10,7 +10,7 @@ use Rattle.po_entry.specs.TextEntry.{TextEntry}
 use Rattle.po_catalog.specs.Joined.{joined_entries}
 use Rattle.po_catalog.specs.declared.duplicate.JoinError.{JoinError}
 use Rattle.po_compile.specs.Accepted.{AreRead, ReadsDistinct, IsCompileFault}
-use Rattle.po_compile.specs.Compiling.{IsCompiled, IsLayoutFault}
+use Rattle.po_compile.specs.Compiling.{IsCompilation, IsLayoutFault}
 use Rattle.po_compile.specs.declared.options.Compiled.{Compiled}
 use Rattle.po_compile.specs.declared.options.Options.{Options}
 use Rattle.po_tools.specs.declared.msgfmt.MsgfmtOptions.{MsgfmtOptions}
@@ -20,7 +20,7 @@ use Rattle.po_tools.specs.declared.program_fault.ProgramFault.TheVariants.{OutOf
 use Rattle.po_tools.specs.declared.run.Run.{Run}
 use Rattle.po_tools.specs.Msgfmt.{AreChecked, AreTaken, IsMsgfmtRun, IsOutside, IsRefused, check_line, compile_options, compiled_run, input_texts, join_line}
 use Rattle.po_tools.specs.NamedFile.{NamedFile, named_file, named_files}
-use Rattle.po_tools.specs.Profile.{Told}
+use Rattle.po_tools.specs.Profile.{Reported}
 use Rattle.po_tools.specs.Run.{Report, refusal, report}
 
 -- each input has its catalogue
@@ -40,57 +40,57 @@ pub run-refused : (inputs : List NamedFile) (o : MsgfmtOptions) (error : JoinErr
     → IfOk r (λ run. (error.error.kind ≢ NoMemory) × (report run ≡ refusal (join_line inputs error))) → IfOk r (λ run. IsMsgfmtRun inputs o (report run))
 run-refused inputs o error r fault =
     IfOk-weaker r (λ run. (error.error.kind ≢ NoMemory) × (report run ≡ refusal (join_line inputs error))) (λ run. IsMsgfmtRun inputs o (report run))
-    (λ run told. inl (record { error = error; fault = fault; not_memory = told.0; report = told.1 }))
+    (λ run reported. inl (record { error = error; fault = fault; not_memory = reported.0; report = reported.1 }))
 
-pub run-unfit : (inputs : List NamedFile) (o : MsgfmtOptions) (catalogues : List (List TextEntry)) (compiled : Compiled) (fault : Told) (r : Result Run ToolFault)
-    → AreRead (input_texts inputs) catalogues → IsCompiled (compile_options o) (joined_entries catalogues) compiled
+pub run-unfit : (inputs : List NamedFile) (o : MsgfmtOptions) (catalogues : List (List TextEntry)) (compiled : Compiled) (fault : Reported) (r : Result Run ToolFault)
+    → AreRead (input_texts inputs) catalogues → IsCompilation (compile_options o) (joined_entries catalogues) compiled
     → (fault ≡ (0, OutOfMemory)) ⊎ ((o.profile_check ≡ true) × AreChecked o.use_fuzzy catalogues (Some fault))
     → IfOk r (λ run. (fault.1 ≢ OutOfMemory) × (report run ≡ refusal (check_line inputs fault))) → IfOk r (λ run. IsMsgfmtRun inputs o (report run))
 run-unfit inputs o catalogues compiled fault r read is_compiled found =
     IfOk-weaker r (λ run. (fault.1 ≢ OutOfMemory) × (report run ≡ refusal (check_line inputs fault))) (λ run. IsMsgfmtRun inputs o (report run))
-    (λ run told. ⊎_elim (λ memory. absurd (told.0 (ap (λ f. f.1) memory)))
+    (λ run reported. ⊎_elim (λ memory. absurd (reported.0 (ap (λ f. f.1) memory)))
     (λ checked. inr (inl (record {
       catalogues = catalogues;
       read = read;
       compiled = compiled;
       is_compiled = is_compiled;
-      asked = checked.0;
+      gettext_view = checked.0;
       fault = fault;
       checked = checked.1;
-      report = told.1;
+      report = reported.1;
     }))) found)
 
 pub run-done : (inputs : List NamedFile) (o : MsgfmtOptions) (catalogues : List (List TextEntry)) (compiled : Compiled) (r : Result Run ToolFault)
-    → AreRead (input_texts inputs) catalogues → IsCompiled (compile_options o) (joined_entries catalogues) compiled
+    → AreRead (input_texts inputs) catalogues → IsCompilation (compile_options o) (joined_entries catalogues) compiled
     → (o.profile_check ≡ true → AreChecked o.use_fuzzy catalogues None)
     → IfOk r (λ run. report run ≡ compiled_run o compiled) → IfOk r (λ run. IsMsgfmtRun inputs o (report run))
 run-done inputs o catalogues compiled r read is_compiled checked =
     IfOk-weaker r (λ run. report run ≡ compiled_run o compiled) (λ run. IsMsgfmtRun inputs o (report run))
-    (λ run told. inr (inr (record { catalogues = catalogues; read = read; compiled = compiled; is_compiled = is_compiled; checked = checked; report = told })))
+    (λ run reported. inr (inr (record { catalogues = catalogues; read = read; compiled = compiled; is_compiled = is_compiled; checked = checked; report = reported })))
 
 -- where no check is asked for, a run of status 0 is that of inputs that are compiled
 pub taken : (inputs : List NamedFile) (o unchecked : MsgfmtOptions) (run : Report) → unchecked.profile_check ≡ false → compile_options unchecked ≡ compile_options o
     → IsMsgfmtRun inputs unchecked run → run.status ≡ 0 → AreTaken inputs o
 taken inputs o unchecked run none same (inl refused) ok = let one : run.status ≡ 1 = ap (λ r. r.status) refused.report in absurd (omega (arith, one, ok))
-taken inputs o unchecked run none same (inr (inl unfit)) ok = let wrong : true ≡ false = sym unfit.asked ∙ none in cc
+taken inputs o unchecked run none same (inr (inl unfit)) ok = let wrong : true ≡ false = sym unfit.gettext_view ∙ none in cc
 taken inputs o unchecked run none same (inr (inr done)) ok =
-    let Of : Options → Type 0 = λ options. IsCompiled options (joined_entries done.catalogues) done.compiled in
+    let Of : Options → Type 0 = λ options. IsCompilation options (joined_entries done.catalogues) done.compiled in
     inr (done.compiled, record { catalogues = done.catalogues; read = done.read; is_compiled = subst Of same done.is_compiled })
 
 -- and one of any other status is that of inputs that are refused
 pub refused : (inputs : List NamedFile) (o unchecked : MsgfmtOptions) (run : Report) → unchecked.profile_check ≡ false → compile_options unchecked ≡ compile_options o
     → IsMsgfmtRun inputs unchecked run → run.status ≢ 0 → IsRefused inputs o run
-refused inputs o unchecked run none same (inl told) bad =
-    let Of : Options → Type 0 = λ options. IsCompileFault options (input_texts inputs) told.error in
-    record { error = told.error; fault = subst Of same told.fault; not_memory = told.not_memory; report = told.report }
-refused inputs o unchecked run none same (inr (inl unfit)) bad = let wrong : true ≡ false = sym unfit.asked ∙ none in cc
+refused inputs o unchecked run none same (inl reported) bad =
+    let Of : Options → Type 0 = λ options. IsCompileFault options (input_texts inputs) reported.error in
+    record { error = reported.error; fault = subst Of same reported.fault; not_memory = reported.not_memory; report = reported.report }
+refused inputs o unchecked run none same (inr (inl unfit)) bad = let wrong : true ≡ false = sym unfit.gettext_view ∙ none in cc
 refused inputs o unchecked run none same (inr (inr done)) bad = absurd (bad (ap (λ r. r.status) done.report))
 
 -- what is reported where an input can't be read is reported of the inputs before it
-pub before-told : (r : Result Run ProgramFault) (inputs others : List NamedFile) (o : MsgfmtOptions) (given : Option ProgramFault) (fault : ProgramFault) → others ≡ inputs → given ≡ Some fault
-    → IfErr r (λ told. (told ≡ OutOfMemory') ⊎ ((told ≡ fault) × AreTaken others o))
-    → IfErr r (λ told. (told ≡ OutOfMemory') ⊎ ((told ≡ WrongArguments) × IsOutside inputs) ⊎ ((given ≡ Some told) × AreTaken inputs o))
-before-told (Ok run) inputs others o given fault same is h = tt
-before-told (Err told) inputs others o given fault same is h =
+pub before-reported : (r : Result Run ProgramFault) (inputs others : List NamedFile) (o : MsgfmtOptions) (given : Option ProgramFault) (fault : ProgramFault) → others ≡ inputs → given ≡ Some fault
+    → IfErr r (λ reported. (reported ≡ OutOfMemory') ⊎ ((reported ≡ fault) × AreTaken others o))
+    → IfErr r (λ reported. (reported ≡ OutOfMemory') ⊎ ((reported ≡ WrongArguments) × IsOutside inputs) ⊎ ((given ≡ Some reported) × AreTaken inputs o))
+before-reported (Ok run) inputs others o given fault same is h = tt
+before-reported (Err reported) inputs others o given fault same is h =
     ⊎_elim (λ memory. inl memory)
     (λ taken. inr (inr (is ∙ ap (λ (f : ProgramFault). Some f) (sym taken.0), subst (λ (list : List NamedFile). AreTaken list o) same taken.1))) h

@@ -12,17 +12,17 @@ use Rattle.po_catalog.specs.Joined.{InputEntry, joined, joined_entries}
 use Rattle.po_catalog.specs.declared.duplicate.JoinError.{JoinError}
 use Rattle.po_compile.specs.Accepted.{AreAccepted, AreRead}
 use Rattle.po_compile.specs.CompiledList.{compiled_list}
-use Rattle.po_compile.specs.Compiling.{IsCompiled}
+use Rattle.po_compile.specs.Compiling.{IsCompilation}
 use Rattle.po_compile.specs.Headline.{CataloguesAreOne, MessagesAreOne, NoFaultWhereAccepted, OneCompileFault}
 use Rattle.po_compile.specs.declared.options.Compiled.{Compiled}
 use Rattle.po_tools.specs.declared.msgfmt.MsgfmtOptions.{MsgfmtOptions}
 use Rattle.po_tools.specs.declared.profile.CheckFault.TheVariants.{NoHeader}
 use Rattle.po_tools.specs.FaultText.{fault_line, mo_text}
-use Rattle.po_tools.specs.Gettext.{Asked, AskedPlural, IsGettextRun, IsNgettextRun, Opens, answered, gettext_output, ngettext_output}
+use Rattle.po_tools.specs.Gettext.{GettextRequest, NgettextRequest, IsGettextRun, IsNgettextRun, Opens, answered, gettext_output, ngettext_output}
 use Rattle.po_tools.specs.Gettext.Opens.{none, opened, refused}
 use Rattle.po_tools.specs.Msgfmt.{AreChecked, IsRefused, check_line, compile_options, compiled_inputs, compiled_run, input_texts, join_line}
 use Rattle.po_tools.specs.NamedFile.{NamedFile}
-use Rattle.po_tools.specs.Profile.{Told, first_fault, is_header_entry}
+use Rattle.po_tools.specs.Profile.{Reported, first_fault, is_header_entry}
 use Rattle.po_tools.specs.RunLaws.{OneMsgfmtRun}
 use Rattle.po_tools.specs.Run.{Report, refusal}
 
@@ -36,50 +36,50 @@ module _ (unique : CatalogIsUnique) (no_fault : NoFaultOfCatalog) (one_fault : O
       one_rule expression_limit (header_text messages) rule other are.rule_of_header
       (subst (λ (list : List Message). IsRuleOf expression_limit (header_text list) other) (sym same) also.rule_of_header)
 
-  one_chain : (tool : List ℕ) (files : List NamedFile) (chain other : List Contents) (told also : List ℕ) → Opens tool files chain told
-      → Opens tool files other also → (chain ≡ other) × (told ≡ also)
+  one_chain : (tool : List ℕ) (files : List NamedFile) (chain other : List Contents) (reported also : List ℕ) → Opens tool files chain reported
+      → Opens tool files other also → (chain ≡ other) × (reported ≡ also)
   one_chain tool [] [] [] [] [] none none = (refl, refl)
   one_chain tool [] [] [] [] (_ ∷ _) _ opens = elim opens [ ]
   one_chain tool [] [] [] (_ ∷ _) _ opens _ = elim opens [ ]
   one_chain tool [] [] (_ ∷ _) _ _ _ opens = elim opens [ ]
   one_chain tool [] (_ ∷ _) _ _ _ opens _ = elim opens [ ]
-  one_chain tool (file ∷ files) (contents ∷ chain) (contents' ∷ chain') told told' (opened order is are opens) (opened order' is' are' opens') =
+  one_chain tool (file ∷ files) (contents ∷ chain) (contents' ∷ chain') reported reported' (opened order is are opens) (opened order' is' are' opens') =
       let messages : contents.messages ≡ contents'.messages = (unique file.bytes order order' contents.messages contents'.messages is is').1 in
       let rule : contents.rule ≡ contents'.rule = same_rule contents.messages contents'.messages contents.rule contents'.rule messages are are' in
-      let rest = one_chain tool files chain chain' told told' opens opens' in
+      let rest = one_chain tool files chain chain' reported reported' opens opens' in
       let head : contents ≡ contents' =
       ap (λ (m : List Message). record { messages = m; rule = contents.rule }) messages ∙ ap (λ (r : Meaning). record { messages = contents'.messages; rule = r }) rule in
       (ap (λ (c : Contents). c ∷ chain) head ∙ ap (λ (list : List Contents). contents' ∷ list) rest.0, rest.1)
-  one_chain tool (file ∷ files) (contents ∷ chain) chain' told _ (opened order is are opens) (refused {fault = fault} first opens') =
+  one_chain tool (file ∷ files) (contents ∷ chain) chain' reported _ (opened order is are opens) (refused {fault = fault} first opens') =
       absurd (no_fault file.bytes order contents.messages fault is first)
-  one_chain tool (file ∷ files) chain (contents ∷ chain') _ told' (refused {fault = fault} first opens) (opened order is are opens') =
+  one_chain tool (file ∷ files) chain (contents ∷ chain') _ reported' (refused {fault = fault} first opens) (opened order is are opens') =
       absurd (no_fault file.bytes order contents.messages fault is first)
-  one_chain tool (file ∷ files) chain chain' _ _ (refused {fault = fault} {told = told} first opens) (refused {fault = fault'} {told = told'} first' opens') =
+  one_chain tool (file ∷ files) chain chain' _ _ (refused {fault = fault} {reported = reported} first opens) (refused {fault = fault'} {reported = reported'} first' opens') =
       let fault_is : fault ≡ fault' = one_fault file.bytes fault fault' first first' in
-      let rest = one_chain tool files chain chain' told told' opens opens' in (
+      let rest = one_chain tool files chain chain' reported reported' opens opens' in (
         rest.0,
-        ap (λ (f : MoError). fault_line tool file.name 0 (mo_text f) ++ told) fault_is ∙ ap (λ (t : List ℕ). fault_line tool file.name 0 (mo_text fault') ++ t) rest.1,
+        ap (λ (f : MoError). fault_line tool file.name 0 (mo_text f) ++ reported) fault_is ∙ ap (λ (t : List ℕ). fault_line tool file.name 0 (mo_text fault') ++ t) rest.1,
       )
 
-  pub gettext_once : (files : List NamedFile) (o : Asked) (run other : Report) → IsGettextRun files o run → IsGettextRun files o other → run ≡ other
+  pub gettext_once : (files : List NamedFile) (o : GettextRequest) (run other : Report) → IsGettextRun files o run → IsGettextRun files o other → run ≡ other
   gettext_once files o run other is also =
-      let same = one_chain (codes "gettext") files is.chain also.chain is.told also.told is.opens also.opens in
-      is.report ∙ ap (λ (chain : List Contents). answered (gettext_output chain o) is.told) same.0
-      ∙ ap (λ (told : List ℕ). answered (gettext_output also.chain o) told) same.1 ∙ sym also.report
+      let same = one_chain (codes "gettext") files is.chain also.chain is.reported also.reported is.opens also.opens in
+      is.report ∙ ap (λ (chain : List Contents). answered (gettext_output chain o) is.reported) same.0
+      ∙ ap (λ (reported : List ℕ). answered (gettext_output also.chain o) reported) same.1 ∙ sym also.report
 
-  pub ngettext_once : (files : List NamedFile) (o : AskedPlural) (run other : Report) → IsNgettextRun files o run → IsNgettextRun files o other → run ≡ other
+  pub ngettext_once : (files : List NamedFile) (o : NgettextRequest) (run other : Report) → IsNgettextRun files o run → IsNgettextRun files o other → run ≡ other
   ngettext_once files o run other is also =
-      let same = one_chain (codes "ngettext") files is.chain also.chain is.told also.told is.opens also.opens in
-      is.report ∙ ap (λ (chain : List Contents). answered (ngettext_output chain o) is.told) same.0
-      ∙ ap (λ (told : List ℕ). answered (ngettext_output also.chain o) told) same.1 ∙ sym also.report
+      let same = one_chain (codes "ngettext") files is.chain also.chain is.reported also.reported is.opens also.opens in
+      is.report ∙ ap (λ (chain : List Contents). answered (ngettext_output chain o) is.reported) same.0
+      ∙ ap (λ (reported : List ℕ). answered (ngettext_output also.chain o) reported) same.1 ∙ sym also.report
 
 -- what a header found or not found says of the check's fault
-abbrev CheckedBy : List InputEntry → Option Told → Option InputEntry → Type 0
+abbrev CheckedBy : List InputEntry → Option Reported → Option InputEntry → Type 0
 CheckedBy entries fault found =
     MatchOption found (fault ≡ Some (0, NoHeader))
     (λ header. (rule : Meaning) × IsRuleOf expression_limit (first_form header.entry.forms) rule × (fault ≡ first_fault entries rule))
 
-check_once : OneRule → (entries : List InputEntry) (fault other : Option Told) (found : Option InputEntry) → CheckedBy entries fault found
+check_once : OneRule → (entries : List InputEntry) (fault other : Option Reported) (found : Option InputEntry) → CheckedBy entries fault found
     → CheckedBy entries other found → fault ≡ other
 check_once one_rule entries fault other None is also = is ∙ sym also
 check_once one_rule entries fault other (Some header) is also =
@@ -87,7 +87,7 @@ check_once one_rule entries fault other (Some header) is also =
     is.2 ∙ ap (λ (rule : Meaning). first_fault entries rule) rules ∙ sym also.2
 
 -- entries are compiled to one file, with one number of messages and one statistics
-same_compiled : MessagesAreOne → (o : MsgfmtOptions) (entries : List TextEntry) (a b : Compiled) → IsCompiled (compile_options o) entries a → IsCompiled (compile_options o) entries b
+same_compiled : MessagesAreOne → (o : MsgfmtOptions) (entries : List TextEntry) (a b : Compiled) → IsCompilation (compile_options o) entries a → IsCompilation (compile_options o) entries b
     → compiled_run o a ≡ compiled_run o b
 same_compiled one_list o entries a b is also =
     let messages : is.messages ≡ also.messages = one_list (compiled_list o.use_fuzzy entries) is.messages also.messages is.are_messages also.are_messages in
@@ -99,15 +99,15 @@ same_compiled one_list o entries a b is also =
 module _ (one_list : MessagesAreOne) (one_reading : CataloguesAreOne) (no_fault : NoFaultWhereAccepted) (one_fault : OneCompileFault) (one_rule : OneRule) where
   -- inputs that are refused aren't compiled
   refused_only : (inputs : List NamedFile) (o : MsgfmtOptions) (run : Report) (catalogues : List (List TextEntry)) (compiled : Compiled) → IsRefused inputs o run
-      → AreRead (input_texts inputs) catalogues → IsCompiled (compile_options o) (joined_entries catalogues) compiled → ⊥
-  refused_only inputs o run catalogues compiled told read is =
+      → AreRead (input_texts inputs) catalogues → IsCompilation (compile_options o) (joined_entries catalogues) compiled → ⊥
+  refused_only inputs o run catalogues compiled reported read is =
       let accepted : AreAccepted (compile_options o) (input_texts inputs) catalogues =
       record { read = read; layout = record { messages = is.messages; are_messages = is.are_messages; small = is.small } } in
-      let memory = no_fault (compile_options o) (input_texts inputs) catalogues told.error accepted told.fault in
-      told.not_memory (ap (λ (e : JoinError). e.error.kind) memory)
+      let memory = no_fault (compile_options o) (input_texts inputs) catalogues reported.error accepted reported.fault in
+      reported.not_memory (ap (λ (e : JoinError). e.error.kind) memory)
 
   -- the check of the one list of catalogues
-  same_check : (inputs : List NamedFile) (o : MsgfmtOptions) (some others : List (List TextEntry)) (fault other : Option Told) → AreRead (input_texts inputs) some
+  same_check : (inputs : List NamedFile) (o : MsgfmtOptions) (some others : List (List TextEntry)) (fault other : Option Reported) → AreRead (input_texts inputs) some
       → AreRead (input_texts inputs) others → AreChecked o.use_fuzzy some fault → AreChecked o.use_fuzzy others other → fault ≡ other
   same_check inputs o some others fault other read also is check =
       let catalogues : others ≡ some = one_reading (input_texts inputs) others some also read in
@@ -128,12 +128,12 @@ module _ (one_list : MessagesAreOne) (one_reading : CataloguesAreOne) (no_fault 
   msgfmt_once inputs o run other (inr (inl is)) (inr (inl also)) =
       let faults = same_check inputs o is.catalogues also.catalogues (Some is.fault) (Some also.fault) is.read also.read is.checked also.checked in
       let fault : is.fault ≡ also.fault = cc in
-      is.report ∙ ap (λ (told : Told). refusal (check_line inputs told)) fault ∙ sym also.report
+      is.report ∙ ap (λ (reported : Reported). refusal (check_line inputs reported)) fault ∙ sym also.report
   msgfmt_once inputs o run other (inr (inl is)) (inr (inr also)) =
-      let faults = same_check inputs o is.catalogues also.catalogues (Some is.fault) None is.read also.read is.checked (also.checked is.asked) in cc
+      let faults = same_check inputs o is.catalogues also.catalogues (Some is.fault) None is.read also.read is.checked (also.checked is.gettext_view) in cc
   msgfmt_once inputs o run other (inr (inr is)) (inr (inl also)) =
-      let faults = same_check inputs o is.catalogues also.catalogues None (Some also.fault) is.read also.read (is.checked also.asked) also.checked in cc
+      let faults = same_check inputs o is.catalogues also.catalogues None (Some also.fault) is.read also.read (is.checked also.gettext_view) also.checked in cc
   msgfmt_once inputs o run other (inr (inr is)) (inr (inr also)) =
       let catalogues : also.catalogues ≡ is.catalogues = one_reading (input_texts inputs) also.catalogues is.catalogues also.read is.read in
-      let again = subst (λ (list : List (List TextEntry)). IsCompiled (compile_options o) (joined_entries list) also.compiled) catalogues also.is_compiled in
+      let again = subst (λ (list : List (List TextEntry)). IsCompilation (compile_options o) (joined_entries list) also.compiled) catalogues also.is_compiled in
       is.report ∙ same_compiled one_list o (joined_entries is.catalogues) is.compiled also.compiled is.is_compiled again ∙ sym also.report

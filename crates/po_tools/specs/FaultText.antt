@@ -1,4 +1,4 @@
--- The texts of faults, and the one line on standard error that tells a fault: this project's own
+-- The texts of faults, and the one line on standard error that reports a fault: this project's own
 -- words, since the manual leaves them open.
 use Rattle.std.specs.Prelude.{ℕ, List, [], ◌∷◌, ◌++◌, codes, decimal, ◌==◌, if◌then◌else◌}
 use Rattle.mo_file.specs.declared.fault.MoError.{MoError}
@@ -36,17 +36,17 @@ mo_text (NotSorted i) = codes "string " ++ decimal i ++ codes " out of order"
 abbrev pub duplicate_text : List ℕ → ℕ → List ℕ
 duplicate_text file line = codes "duplicate of the message at " ++ file ++ 58 ∷ decimal line
 
--- the line of a fault behind its file, where it has one; line 0 is none
+-- the line of a fault after its file, where it has one; line 0 is none
 abbrev pub line_mark : ℕ → List ℕ
 line_mark line = if line == 0 then [] else 58 ∷ decimal line
 
 -- `pokit TOOL: FILE:LINE: `
-abbrev pub place : List ℕ → List ℕ → ℕ → List ℕ
-place tool file line = codes "pokit " ++ tool ++ codes ": " ++ file ++ line_mark line ++ codes ": "
+abbrev pub location : List ℕ → List ℕ → ℕ → List ℕ
+location tool file line = codes "pokit " ++ tool ++ codes ": " ++ file ++ line_mark line ++ codes ": "
 
 -- the line of a fault on standard error
 abbrev pub fault_line : List ℕ → List ℕ → ℕ → List ℕ → List ℕ
-fault_line tool file line text = place tool file line ++ text ++ 10 ∷ []
+fault_line tool file line text = location tool file line ++ text ++ 10 ∷ []
 
 -- the line of a fault of a PO text
 abbrev pub text_line : List ℕ → List ℕ → PoError → List ℕ

@@ -5,7 +5,7 @@ use Rattle.mo_file.specs.declared.byte_order.Order.{Order}
 use Rattle.mo_file.specs.declared.fault.MoError.{MoError}
 use Rattle.mo_file.specs.Catalog.{IsCatalog}
 use Rattle.mo_file.specs.Fault.{IsFirstFault}
-use Rattle.mo_lookup.specs.Chain.{chain_told}
+use Rattle.mo_lookup.specs.Chain.{chain_answered}
 use Rattle.mo_lookup.specs.Contents.{Contents, AreContents}
 use Rattle.po_shell.specs.Counts.{count_in}
 use Rattle.po_shell.specs.Escapes.{expansion, has_no_newline}
@@ -16,70 +16,70 @@ use Rattle.po_tools.specs.Run.{Report}
 -- The files that are catalogues make the chain, in order; each other one is reported by a line, in order.
 pub data Opens (tool : List ℕ) : List NamedFile → List Contents → List ℕ → Type 0 where
   none : Opens tool [] [] []
-  opened : {file : NamedFile} {files : List NamedFile} {contents : Contents} {chain : List Contents} {told : List ℕ} (order : Order)
-      → IsCatalog order file.bytes contents.messages → AreContents contents.messages contents.rule → Opens tool files chain told
-      → Opens tool (file ∷ files) (contents ∷ chain) told
-  refused : {file : NamedFile} {files : List NamedFile} {fault : MoError} {chain : List Contents} {told : List ℕ}
-      → IsFirstFault file.bytes fault → Opens tool files chain told
-      → Opens tool (file ∷ files) chain (fault_line tool file.name 0 (mo_text fault) ++ told)
+  opened : {file : NamedFile} {files : List NamedFile} {contents : Contents} {chain : List Contents} {reported : List ℕ} (order : Order)
+      → IsCatalog order file.bytes contents.messages → AreContents contents.messages contents.rule → Opens tool files chain reported
+      → Opens tool (file ∷ files) (contents ∷ chain) reported
+  refused : {file : NamedFile} {files : List NamedFile} {fault : MoError} {chain : List Contents} {reported : List ℕ}
+      → IsFirstFault file.bytes fault → Opens tool files chain reported
+      → Opens tool (file ∷ files) chain (fault_line tool file.name 0 (mo_text fault) ++ reported)
 
 -- what gettext is asked for, besides the catalogues
-pub record Asked : Type 0 where
-  pub words : List (List ℕ)
+pub record GettextRequest : Type 0 where
+  pub arguments : List (List ℕ)
   pub context : Option (List ℕ)
   pub expand : Bool
   pub no_newline : Bool
   pub shell : Bool
 
--- a word, with its escapes expanded where `-e` is given
-abbrev pub word_text : Bool → List ℕ → List ℕ
-word_text expand word = if expand then expansion word else word
+-- an argument, with its escapes expanded where `-e` is given
+abbrev pub argument_text : Bool → List ℕ → List ℕ
+argument_text expand argument = if expand then expansion argument else argument
 
 -- the answer to one MSGID
-abbrev pub word_answer : List Contents → Asked → List ℕ → List ℕ
-word_answer chain o word = (chain_told chain (record { context = o.context; id = word_text o.expand word; plural = None })).text
+abbrev pub argument_answer : List Contents → GettextRequest → List ℕ → List ℕ
+argument_answer chain o argument = (chain_answered chain (record { context = o.context; id = argument_text o.expand argument; plural = None })).text
 
 -- the answers, with a space between two
-abbrev pub answers : List Contents → Asked → List ℕ
-answers chain o = join_with_byte 32 (map (word_answer chain o) o.words)
+abbrev pub answers : List Contents → GettextRequest → List ℕ
+answers chain o = join_with_byte 32 (map (argument_answer chain o) o.arguments)
 
--- with `-e` a `\c` in a word acts as `-n`
-abbrev pub stops_line : Asked → List ℕ → Bool
-stops_line o word = o.expand && has_no_newline word
+-- with `-e` a `\c` in an argument acts as `-n`
+abbrev pub stops_line : GettextRequest → List ℕ → Bool
+stops_line o argument = o.expand && has_no_newline argument
 
--- with `-s` a newline ends the output, unless `-n` is given or a word acts as that
-abbrev pub ends_line : Asked → Bool
-ends_line o = o.shell && (not o.no_newline && not (list_any (stops_line o) o.words))
+-- with `-s` a newline ends the output, unless `-n` is given or an argument acts as that
+abbrev pub ends_line : GettextRequest → Bool
+ends_line o = o.shell && (not o.no_newline && not (list_any (stops_line o) o.arguments))
 
-abbrev pub gettext_output : List Contents → Asked → List ℕ
+abbrev pub gettext_output : List Contents → GettextRequest → List ℕ
 gettext_output chain o = answers chain o ++ (if ends_line o then 10 ∷ [] else [])
 
 -- this output, and these lines about catalogues that were refused, which don't count as a failure
 abbrev pub answered : List ℕ → List ℕ → Report
-answered output told = record { output = output; create = false; messages = told; status = 0 }
+answered output reported = record { output = output; create = false; messages = reported; status = 0 }
 
 -- what a run of gettext comes to
-pub record IsGettextRun (files : List NamedFile) (o : Asked) (run : Report) : Type 0 where
+pub record IsGettextRun (files : List NamedFile) (o : GettextRequest) (run : Report) : Type 0 where
   pub chain : List Contents
-  pub told : List ℕ
-  pub opens : Opens (codes "gettext") files chain told
-  pub report : run ≡ answered (gettext_output chain o) told
+  pub reported : List ℕ
+  pub opens : Opens (codes "gettext") files chain reported
+  pub report : run ≡ answered (gettext_output chain o) reported
 
 -- what ngettext is asked for, besides the catalogues
-pub record AskedPlural : Type 0 where
+pub record NgettextRequest : Type 0 where
   pub context : Option (List ℕ)
   pub expand : Bool
   pub id : List ℕ
   pub plural : List ℕ
   pub count : List ℕ
 
-abbrev pub ngettext_output : List Contents → AskedPlural → List ℕ
+abbrev pub ngettext_output : List Contents → NgettextRequest → List ℕ
 ngettext_output chain o =
-    (chain_told chain (record { context = o.context; id = word_text o.expand o.id; plural = Some (word_text o.expand o.plural, count_in o.count) })).text
+    (chain_answered chain (record { context = o.context; id = argument_text o.expand o.id; plural = Some (argument_text o.expand o.plural, count_in o.count) })).text
 
 -- what a run of ngettext comes to
-pub record IsNgettextRun (files : List NamedFile) (o : AskedPlural) (run : Report) : Type 0 where
+pub record IsNgettextRun (files : List NamedFile) (o : NgettextRequest) (run : Report) : Type 0 where
   pub chain : List Contents
-  pub told : List ℕ
-  pub opens : Opens (codes "ngettext") files chain told
-  pub report : run ≡ answered (ngettext_output chain o) told
+  pub reported : List ℕ
+  pub opens : Opens (codes "ngettext") files chain reported
+  pub report : run ≡ answered (ngettext_output chain o) reported

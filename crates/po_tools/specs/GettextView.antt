@@ -3,19 +3,19 @@ use Rattle.std.specs.Prelude.{map}
 use Rattle.std.specs.Option.{option_copied}
 use Rattle.po_tools.specs.declared.gettext.GettextOptions.{GettextOptions}
 use Rattle.po_tools.specs.declared.gettext.NgettextOptions.{NgettextOptions}
-use Rattle.po_tools.specs.Gettext.{Asked, AskedPlural}
+use Rattle.po_tools.specs.Gettext.{GettextRequest, NgettextRequest}
 
-abbrev pub asked : GettextOptions → Asked
-asked o = record {
-  words = map (λ word. word.now) o.messages.now;
+abbrev pub gettext_view : GettextOptions → GettextRequest
+gettext_view o = record {
+  arguments = map (λ argument. argument.now) o.messages.now;
   context = option_copied o.context;
   expand = o.expand;
   no_newline = o.no_newline;
   shell = o.shell;
 }
 
-abbrev pub asked_plural : NgettextOptions → AskedPlural
-asked_plural o = record {
+abbrev pub ngettext_view : NgettextOptions → NgettextRequest
+ngettext_view o = record {
   context = option_copied o.context;
   expand = o.expand;
   id = o.id.now;

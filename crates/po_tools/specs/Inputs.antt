@@ -14,9 +14,9 @@ pub data Reading : Type 0 where
 
 -- what an argument is read as: a file; standard input, where it isn't read yet; and no bytes, where it is
 abbrev pub ReadsAs : (List ℕ → Reading → Type 0) → (Reading → Type 0) → List ℕ → Bool → Bool → Reading → Type 0
-ReadsAs file standard word false seen reading = file word reading
-ReadsAs file standard word true false reading = standard reading
-ReadsAs file standard word true true reading = reading ≡ gives []
+ReadsAs file standard argument false seen reading = file argument reading
+ReadsAs file standard argument true false reading = standard reading
+ReadsAs file standard argument true true reading = reading ≡ gives []
 
 -- what is wrong with an input that can't be read
 abbrev pub unread_text : List ℕ → Unread → List ℕ
@@ -25,20 +25,20 @@ unread_text name ReadFault = name ++ codes ": read fault"
 unread_text name OutOfMemory = codes "out of memory"
 
 -- the only input can't be read, and this is what is wrong with it
-pub record IsUnread (file : List ℕ → Reading → Type 0) (standard : Reading → Type 0) (word : List ℕ) (text : List ℕ) : Type 0 where
+pub record IsUnread (file : List ℕ → Reading → Type 0) (standard : Reading → Type 0) (argument : List ℕ) (text : List ℕ) : Type 0 where
   pub why : Unread
-  pub reads : ReadsAs file standard word (is_standard word) false (refuses why)
-  pub text_is : text ≡ unread_text (shown_name word) why
+  pub reads : ReadsAs file standard argument (is_standard argument) false (refuses why)
+  pub text_is : text ≡ unread_text (shown_name argument) why
 
 -- The inputs that arguments name, of which `-` was seen or not: each with its bytes, up to the first that can't be read and what is wrong with it.
 pub data AreInputs (file : List ℕ → Reading → Type 0) (standard : Reading → Type 0) : Bool → List (List ℕ) → List NamedFile → Option (List ℕ) → Type 0 where
   done : {seen : Bool} → AreInputs file standard seen [] [] None
-  read : {seen : Bool} {word : List ℕ} {words : List (List ℕ)} {bytes : List ℕ} {inputs : List NamedFile} {fault : Option (List ℕ)}
-      → ReadsAs file standard word (is_standard word) seen (gives bytes) → AreInputs file standard (seen || is_standard word) words inputs fault
-      → AreInputs file standard seen (word ∷ words) (record { name = shown_name word; bytes = bytes } ∷ inputs) fault
-  unread : {seen : Bool} {word : List ℕ} {words : List (List ℕ)} (why : Unread)
-      → ReadsAs file standard word (is_standard word) seen (refuses why)
-      → AreInputs file standard seen (word ∷ words) [] (Some (unread_text (shown_name word) why))
+  read : {seen : Bool} {argument : List ℕ} {arguments : List (List ℕ)} {bytes : List ℕ} {inputs : List NamedFile} {fault : Option (List ℕ)}
+      → ReadsAs file standard argument (is_standard argument) seen (gives bytes) → AreInputs file standard (seen || is_standard argument) arguments inputs fault
+      → AreInputs file standard seen (argument ∷ arguments) (record { name = shown_name argument; bytes = bytes } ∷ inputs) fault
+  unread : {seen : Bool} {argument : List ℕ} {arguments : List (List ℕ)} (why : Unread)
+      → ReadsAs file standard argument (is_standard argument) seen (refuses why)
+      → AreInputs file standard seen (argument ∷ arguments) [] (Some (unread_text (shown_name argument) why))
 
 -- what contracts see of an input
 abbrev pub named_input : Input → NamedFile

@@ -2,8 +2,8 @@ pub mod FaultText
 pub mod NamedFile
 pub mod Run
 pub mod ProgramFaults
-pub mod Words
-pub mod WordsView
+pub mod Positional
+pub mod PositionalView
 pub mod Profile
 pub mod ProfileFaults
 pub mod Gettext

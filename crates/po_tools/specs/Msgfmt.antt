@@ -1,4 +1,4 @@
--- What msgfmt writes and tells (manual, "Invoking the msgfmt Program").
+-- What msgfmt writes and reports (manual, "Invoking the msgfmt Program").
 use Rattle.std.specs.Prelude.{◌≡◌, ◌≢◌, ◌⊎◌, ◌^◌, ◌≤◌, IfSome, length, nat_lt, ◌==◌, ℕ, Bool, true, List, [], ◌∷◌, take, map, filter, slice_get, Option, None, Some, codes, decimal, ◌++◌, if◌then◌else◌}
 use Rattle.std.specs.Io.KnownBytes.{Appends}
 use Rattle.std.specs.Option.{option_map_or}
@@ -10,7 +10,7 @@ use Rattle.po_catalog.specs.Statistics.{stats_line}
 use Rattle.po_catalog.specs.declared.duplicate.JoinError.{JoinError}
 use Rattle.po_compile.specs.Accepted.{AreCompiled, AreRead, IsCompileFault}
 use Rattle.po_compile.specs.CompiledList.{is_compiled}
-use Rattle.po_compile.specs.Compiling.{IsCompiled}
+use Rattle.po_compile.specs.Compiling.{IsCompilation}
 use Rattle.po_compile.specs.declared.options.Compiled.{Compiled}
 use Rattle.po_compile.specs.declared.options.Options.{Options}
 use Rattle.po_tools.specs.declared.msgfmt.MsgfmtOptions.{MsgfmtOptions}
@@ -18,7 +18,7 @@ use Rattle.po_tools.specs.declared.profile.CheckFault.{CheckFault}
 use Rattle.po_tools.specs.declared.profile.CheckFault.TheVariants.{NoHeader, NoRule, FormCount, LeadingNewline, TrailingNewline, Undefined, IndexOutside, OutOfMemory}
 use Rattle.po_tools.specs.FaultText.{po_text, duplicate_text, fault_line}
 use Rattle.po_tools.specs.NamedFile.{NamedFile}
-use Rattle.po_tools.specs.Profile.{IsChecked, Told}
+use Rattle.po_tools.specs.Profile.{IsChecked, Reported}
 use Rattle.po_tools.specs.Run.{Report, refusal, DeliversPrefix}
 
 abbrev pub compile_options : MsgfmtOptions → Options
@@ -40,17 +40,17 @@ abbrev pub join_text : List NamedFile → JoinError → List ℕ
 join_text inputs error =
     if error.first_input == error.input then po_text error.error.kind else across_text (input_name inputs error.first_input) error.error.kind
 
--- the line that tells why the inputs aren't compiled
+-- the line that says why the inputs aren't compiled
 abbrev pub join_line : List NamedFile → JoinError → List ℕ
 join_line inputs error = fault_line (codes "msgfmt") (input_name inputs error.input) error.error.line (join_text inputs error)
 
 -- the line at which a fault of the check is reported; 0 is none
-abbrev pub check_place : CheckFault → ℕ
-check_place (NoRule line reason) = line
-check_place (FormCount line) = line
-check_place (LeadingNewline line) = line
-check_place (TrailingNewline line) = line
-check_place fault = 0
+abbrev pub line_of_fault : CheckFault → ℕ
+line_of_fault (NoRule line reason) = line
+line_of_fault (FormCount line) = line
+line_of_fault (LeadingNewline line) = line
+line_of_fault (TrailingNewline line) = line
+line_of_fault fault = 0
 
 -- what is wrong with the messages that are compiled
 abbrev pub check_text : CheckFault → List ℕ
@@ -63,16 +63,16 @@ check_text (Undefined count) = codes "plural rule undefined for " ++ decimal cou
 check_text (IndexOutside count) = codes "plural rule too large for " ++ decimal count
 check_text OutOfMemory = codes "out of memory"
 
--- the line that tells a fault of the check
-abbrev pub check_line : List NamedFile → Told → List ℕ
-check_line inputs told = fault_line (codes "msgfmt") (input_name inputs told.0) (check_place told.1) (check_text told.1)
+-- the line that reports a fault of the check
+abbrev pub check_line : List NamedFile → Reported → List ℕ
+check_line inputs reported = fault_line (codes "msgfmt") (input_name inputs reported.0) (line_of_fault reported.1) (check_text reported.1)
 
 -- the entries of a joined list that are compiled
 abbrev pub compiled_inputs : Bool → List InputEntry → List InputEntry
 compiled_inputs use_fuzzy entries = filter (λ e. is_compiled use_fuzzy e.entry) entries
 
 -- the check of catalogues: its first fault, or none
-abbrev pub AreChecked : Bool → List (List TextEntry) → Option Told → Type 0
+abbrev pub AreChecked : Bool → List (List TextEntry) → Option Reported → Type 0
 AreChecked use_fuzzy catalogues fault = IsChecked (compiled_inputs use_fuzzy (joined catalogues)) fault
 
 -- the file where there is a message, and the statistics where they are asked for
@@ -91,23 +91,23 @@ pub record IsRefused (inputs : List NamedFile) (o : MsgfmtOptions) (run : Report
   pub not_memory : error.error.kind ≢ NoMemory
   pub report : run ≡ refusal (join_line inputs error)
 
--- the inputs are compiled, and the check that is asked for tells a fault
+-- the inputs are compiled, and the check that is asked for reports a fault
 pub record IsUnfit (inputs : List NamedFile) (o : MsgfmtOptions) (run : Report) : Type 0 where
   pub catalogues : List (List TextEntry)
   pub read : AreRead (input_texts inputs) catalogues
   pub compiled : Compiled
-  pub is_compiled : IsCompiled (compile_options o) (joined_entries catalogues) compiled
-  pub asked : o.profile_check ≡ true
-  pub fault : Told
+  pub is_compiled : IsCompilation (compile_options o) (joined_entries catalogues) compiled
+  pub gettext_view : o.profile_check ≡ true
+  pub fault : Reported
   pub checked : AreChecked o.use_fuzzy catalogues (Some fault)
   pub report : run ≡ refusal (check_line inputs fault)
 
--- the inputs are compiled, and where the check is asked for it tells no fault
+-- the inputs are compiled, and where the check is asked for it reports no fault
 pub record IsDone (inputs : List NamedFile) (o : MsgfmtOptions) (run : Report) : Type 0 where
   pub catalogues : List (List TextEntry)
   pub read : AreRead (input_texts inputs) catalogues
   pub compiled : Compiled
-  pub is_compiled : IsCompiled (compile_options o) (joined_entries catalogues) compiled
+  pub is_compiled : IsCompilation (compile_options o) (joined_entries catalogues) compiled
   pub checked : o.profile_check ≡ true → AreChecked o.use_fuzzy catalogues None
   pub report : run ≡ compiled_run o compiled
 

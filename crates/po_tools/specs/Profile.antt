@@ -16,13 +16,13 @@ use Rattle.po_tools.specs.declared.profile.CheckFault.{CheckFault}
 use Rattle.po_tools.specs.declared.profile.CheckFault.TheVariants.{NoHeader, NoRule, FormCount, LeadingNewline, TrailingNewline, Undefined, IndexOutside}
 
 -- a fault, with the input that it is reported of
-abbrev pub Told : Type 0
-Told = ℕ × CheckFault
+abbrev pub Reported : Type 0
+Reported = ℕ × CheckFault
 
 -- what f gives first of a list
-abbrev pub first_given : {A B : Type 0} → (A → Option B) → List A → Option B
-first_given f [] = None
-first_given f (x ∷ xs) = option_or (f x) (first_given f xs)
+abbrev pub first_some : {A B : Type 0} → (A → Option B) → List A → Option B
+first_some f [] = None
+first_some f (x ∷ xs) = option_or (f x) (first_some f xs)
 
 abbrev pub is_plural : InputEntry → Bool
 is_plural e = is_some e.entry.plural
@@ -31,12 +31,12 @@ abbrev pub is_header_entry : InputEntry → Bool
 is_header_entry e = is_header e.entry
 
 -- a plural form is wanted, and the header has no readable rule
-abbrev pub source_fault : Source → InputEntry → Option Told
+abbrev pub source_fault : Source → InputEntry → Option Reported
 source_fault Header e = None
 source_fault (Default reason) e = Some (e.input, NoRule e.entry.line reason)
 
 -- reported of the first entry with a plural
-abbrev pub rule_fault : Source → Option InputEntry → Option Told
+abbrev pub rule_fault : Source → Option InputEntry → Option Reported
 rule_fault source None = None
 rule_fault source (Some e) = source_fault source e
 
@@ -59,34 +59,34 @@ differs_from_msgid end entry =
     list_any (λ text. differ (has_newline end entry.id) (has_newline end text)) (option_to_list entry.plural ++ entry.forms)
 
 -- an entry but the header: as many forms as the rule has, then newlines at both ends or at neither
-abbrev pub entry_fault : ℕ → InputEntry → Option Told
-entry_fault number e =
+abbrev pub entry_fault : ℕ → InputEntry → Option Reported
+entry_fault nplurals e =
     if is_header_entry e then None
-    else if is_plural e && not (length e.entry.forms == number) then Some (e.input, FormCount e.entry.line)
+    else if is_plural e && not (length e.entry.forms == nplurals) then Some (e.input, FormCount e.entry.line)
     else if differs_from_msgid Beginning e.entry then Some (e.input, LeadingNewline e.entry.line)
     else if differs_from_msgid Ending e.entry then Some (e.input, TrailingNewline e.entry.line)
     else None
 
 -- the rule's value at a count is a form's index
-abbrev pub value_fault : ℕ → ℕ → Option ℕ → Option Told
-value_fault number count None = Some (0, Undefined count)
-value_fault number count (Some index) = if nat_lt index number then None else Some (0, IndexOutside count)
+abbrev pub value_fault : ℕ → ℕ → Option ℕ → Option Reported
+value_fault nplurals count None = Some (0, Undefined count)
+value_fault nplurals count (Some index) = if nat_lt index nplurals then None else Some (0, IndexOutside count)
 
-abbrev pub count_fault : Meaning → ℕ → Option Told
-count_fault rule count = value_fault rule.number count (value rule.tree count)
+abbrev pub count_fault : Meaning → ℕ → Option Reported
+count_fault rule count = value_fault rule.nplurals count (value rule.tree count)
 
 unfoldable pub counts_below : ℕ → List ℕ
 counts_below end = range_with_len 0 end
 
 -- the first fault of the messages that are compiled and have a header, with its rule, whose values are asked at the counts from 0 to 1,000
-abbrev pub first_fault : List InputEntry → Meaning → Option Told
+abbrev pub first_fault : List InputEntry → Meaning → Option Reported
 first_fault entries rule =
     let plural = find is_plural entries in
     option_or (rule_fault rule.source plural)
-    (option_or (first_given (entry_fault rule.number) entries) (if is_some plural then first_given (count_fault rule) (counts_below 1001) else None))
+    (option_or (first_some (entry_fault rule.nplurals) entries) (if is_some plural then first_some (count_fault rule) (counts_below 1001) else None))
 
 -- The first fault of the messages that are compiled: there is no header, or it is theirs by the rule of the header.
-abbrev pub IsChecked : List InputEntry → Option Told → Type 0
+abbrev pub IsChecked : List InputEntry → Option Reported → Type 0
 IsChecked entries fault =
     MatchOption (find is_header_entry entries) (fault ≡ Some (0, NoHeader))
     (λ header. (rule : Meaning) × IsRuleOf expression_limit (first_form header.entry.forms) rule × (fault ≡ first_fault entries rule))

@@ -12,7 +12,7 @@ use Rattle.po_tools.specs.declared.profile.End.{End}
 use Rattle.po_tools.specs.declared.profile.End.TheVariants.{Beginning, Ending}
 use Rattle.po_tools.specs.declared.profile.CheckFault.{CheckFault}
 use Rattle.po_tools.specs.declared.profile.CheckFault.TheVariants.{NoRule, FormCount, LeadingNewline, TrailingNewline, Undefined, IndexOutside}
-use Rattle.po_tools.specs.Profile.{Told}
+use Rattle.po_tools.specs.Profile.{Reported}
 
 -- the text begins, or ends, with a newline
 abbrev pub HasNewline : End → List ℕ → Type 0
@@ -29,27 +29,27 @@ DiffersAt end entry = (text : List ℕ) × Contains (option_to_list entry.plural
 
 -- the entry has a plural, and not so many forms
 abbrev pub HasOtherCount : ℕ → TextEntry → Type 0
-HasOtherCount number entry = (entry.plural ≢ None) × (length entry.forms ≢ number)
+HasOtherCount nplurals entry = (entry.plural ≢ None) × (length entry.forms ≢ nplurals)
 
 -- the fault of an entry, where the rule has so many forms: the first that holds
-pub data EntryFault (number : ℕ) (entry : TextEntry) : CheckFault → Type 0 where
-  count : HasOtherCount number entry → EntryFault number entry (FormCount entry.line)
-  leading : (HasOtherCount number entry → ⊥) → DiffersAt Beginning entry → EntryFault number entry (LeadingNewline entry.line)
-  trailing : (HasOtherCount number entry → ⊥) → (DiffersAt Beginning entry → ⊥) → DiffersAt Ending entry → EntryFault number entry (TrailingNewline entry.line)
+pub data EntryFault (nplurals : ℕ) (entry : TextEntry) : CheckFault → Type 0 where
+  count : HasOtherCount nplurals entry → EntryFault nplurals entry (FormCount entry.line)
+  leading : (HasOtherCount nplurals entry → ⊥) → DiffersAt Beginning entry → EntryFault nplurals entry (LeadingNewline entry.line)
+  trailing : (HasOtherCount nplurals entry → ⊥) → (DiffersAt Beginning entry → ⊥) → DiffersAt Ending entry → EntryFault nplurals entry (TrailingNewline entry.line)
 
 -- an entry other than the header has this fault, which is reported of its input
-pub record HasFault (number : ℕ) (e : InputEntry) (told : Told) : Type 0 where
+pub record HasFault (nplurals : ℕ) (e : InputEntry) (reported : Reported) : Type 0 where
   pub no_header : is_header e.entry ≡ false
-  pub fault : EntryFault number e.entry told.1
-  pub input : told.0 ≡ e.input
+  pub fault : EntryFault nplurals e.entry reported.1
+  pub input : reported.0 ≡ e.input
 
 abbrev pub HasNoFault : ℕ → InputEntry → Type 0
-HasNoFault number e = (told : Told) → HasFault number e told → ⊥
+HasNoFault nplurals e = (reported : Reported) → HasFault nplurals e reported → ⊥
 
 -- the fault of a rule's value at a count: it has none, or it is no index of a form
 pub data CountFault (rule : Meaning) (n : ℕ) : CheckFault → Type 0 where
   undefined : value rule.tree n ≡ None → CountFault rule n (Undefined n)
-  outside : {index : ℕ} → value rule.tree n ≡ Some index → rule.number ≤ index → CountFault rule n (IndexOutside n)
+  outside : {index : ℕ} → value rule.tree n ≡ Some index → rule.nplurals ≤ index → CountFault rule n (IndexOutside n)
 
 abbrev pub HasNoCountFault : Meaning → ℕ → Type 0
 HasNoCountFault rule n = (fault : CheckFault) → CountFault rule n fault → ⊥
@@ -70,8 +70,8 @@ abbrev pub NeedsNoOtherRule : List InputEntry → Meaning → Type 0
 NeedsNoOtherRule entries rule = (rule.source ≡ Header) ⊎ All (λ e. HasPlural e → ⊥) entries
 
 -- The first fault of messages that have a header with this rule: no readable rule where an entry has a plural; then the first entry's; then, where an entry has a plural, that of the least count up to 1,000.
-pub data FirstFault (entries : List InputEntry) (rule : Meaning) : Told → Type 0 where
+pub data FirstFault (entries : List InputEntry) (rule : Meaning) : Reported → Type 0 where
   no_rule : {e : InputEntry} {reason : Reason} → IsFirst HasPlural entries e → rule.source ≡ Default reason → FirstFault entries rule (e.input, NoRule e.entry.line reason)
-  in_entry : {e : InputEntry} {told : Told} → NeedsNoOtherRule entries rule → IsFirst (λ o. (other : Told) × HasFault rule.number o other) entries e → HasFault rule.number e told → FirstFault entries rule told
-  at_count : {e : InputEntry} {fault : CheckFault} (least : ℕ) → IsFirst HasPlural entries e → rule.source ≡ Header → All (HasNoFault rule.number) entries → least ≤ 1000
+  in_entry : {e : InputEntry} {reported : Reported} → NeedsNoOtherRule entries rule → IsFirst (λ o. (other : Reported) × HasFault rule.nplurals o other) entries e → HasFault rule.nplurals e reported → FirstFault entries rule reported
+  at_count : {e : InputEntry} {fault : CheckFault} (least : ℕ) → IsFirst HasPlural entries e → rule.source ≡ Header → All (HasNoFault rule.nplurals) entries → least ≤ 1000
       → ((n : ℕ) → n < least → HasNoCountFault rule n) → CountFault rule least fault → FirstFault entries rule (0, fault)

@@ -1,4 +1,4 @@
--- The lines on standard error that tell the faults of the program itself: this project's own words, since the manual leaves them open.
+-- The lines on standard error that report the faults of the program itself: this project's own words, since the manual leaves them open.
 use Rattle.std.specs.Prelude.{ℕ, List, [], ◌∷◌, ◌++◌, Option, Some, None, codes}
 use Rattle.std.specs.Borrow.{Bor}
 use Rattle.po_shell.specs.declared.fault.ToolFault.{ToolFault}
@@ -6,7 +6,7 @@ use Rattle.po_shell.specs.declared.fault.ToolFault.TheVariants.{ReadFault as Not
 use Rattle.po_tools.specs.declared.program_fault.ProgramFault.{ProgramFault}
 use Rattle.po_tools.specs.declared.program_fault.ProgramFault.TheVariants.{NotText, WrongArguments, CannotOpen, CannotCreate, ReadFault, WriteFault, OutOfMemory}
 
--- what is wrong, where it is something about a file behind its name
+-- what is wrong, where it is something about a file after its name
 abbrev pub program_text : ProgramFault → List ℕ
 program_text NotText = codes "arguments are not UTF-8"
 program_text WrongArguments = codes "wrong number of arguments"
@@ -30,7 +30,7 @@ input_fault NotRead name = ReadFault name
 input_fault NotWritten name = WriteFault
 input_fault NoMemory name = OutOfMemory
 
--- what a tool tells that reads standard input by itself
+-- what a tool reports that reads standard input by itself
 abbrev pub stdin_text : ToolFault → List ℕ
 stdin_text NotRead = codes "<stdin>: read fault"
 stdin_text NotWritten = codes "write fault"

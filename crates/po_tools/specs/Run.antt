@@ -1,4 +1,4 @@
--- What a run of a tool writes, tells and answers.
+-- What a run of a tool writes, reports and answers.
 use Rattle.std.specs.Prelude.{ℕ, Bool, not, ◌&&◌, if◌then◌else◌, List, [], false, Option, Some, None, codes, ◌⊎◌}
 use Rattle.std.specs.Io.KnownBytes.{Appends, Keeps}
 use Rattle.std.specs.Str.{bytes_eq}
@@ -15,7 +15,7 @@ pub record Report : Type 0 where
 abbrev pub report : Run → Report
 report run = record { output = run.output.items; create = run.create; messages = run.messages.items; status = run.status }
 
--- nothing is written, and these messages tell why
+-- nothing is written, and these messages say why
 abbrev pub refusal : List ℕ → Report
 refusal messages = record { output = []; create = false; messages = messages; status = 1 }
 
@@ -26,12 +26,12 @@ DeliversPrefix out out' err err' run =
 
 -- `-` stands for standard input and for standard output
 abbrev pub is_standard : List ℕ → Bool
-is_standard word = bytes_eq word (codes "-")
+is_standard argument = bytes_eq argument (codes "-")
 
 -- the name of an input in fault lines
 abbrev pub shown_name : List ℕ → List ℕ
-shown_name word = if is_standard word then codes "<stdin>" else word
+shown_name argument = if is_standard argument then codes "<stdin>" else argument
 
 -- the file that is made for the output
 abbrev pub output_file : Report → List ℕ → Option (List ℕ)
-output_file run word = if run.create && not (is_standard word) then Some word else None
+output_file run argument = if run.create && not (is_standard argument) then Some argument else None

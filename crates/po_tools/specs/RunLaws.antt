@@ -1,7 +1,7 @@
--- What a tool writes, tells and answers is a function of its inputs: it has one run.
+-- What a tool writes, reports and answers is a function of its inputs: it has one run.
 use Rattle.std.specs.Prelude.{◌≡◌, ℕ, List}
 use Rattle.po_tools.specs.declared.msgfmt.MsgfmtOptions.{MsgfmtOptions}
-use Rattle.po_tools.specs.Gettext.{Asked, AskedPlural, IsGettextRun, IsNgettextRun}
+use Rattle.po_tools.specs.Gettext.{GettextRequest, NgettextRequest, IsGettextRun, IsNgettextRun}
 use Rattle.po_merge.specs.declared.input.MergeOptions.{MergeOptions}
 use Rattle.po_select.specs.declared.selection.Selection.{Selection}
 use Rattle.po_tools.specs.Msgattrib.{IsMsgattribRun}
@@ -18,11 +18,11 @@ OneMsgfmtRun =
 
 -- gettext has one run over its catalogues
 abbrev pub OneGettextRun : Type 0
-OneGettextRun = (files : List NamedFile) (o : Asked) (run other : Report) → IsGettextRun files o run → IsGettextRun files o other → run ≡ other
+OneGettextRun = (files : List NamedFile) (o : GettextRequest) (run other : Report) → IsGettextRun files o run → IsGettextRun files o other → run ≡ other
 
 -- ngettext has one run over its catalogues
 abbrev pub OneNgettextRun : Type 0
-OneNgettextRun = (files : List NamedFile) (o : AskedPlural) (run other : Report) → IsNgettextRun files o run → IsNgettextRun files o other → run ≡ other
+OneNgettextRun = (files : List NamedFile) (o : NgettextRequest) (run other : Report) → IsNgettextRun files o run → IsNgettextRun files o other → run ≡ other
 
 -- msgunfmt has one run of its file
 abbrev pub OneMsgunfmtRun : Type 0

@@ -1,5 +1,5 @@
 ghost use Rattle.std.specs.Prelude.{◌≡◌, ◌++◌, ◌∷◌, ℕ, List, [], codes, decimal, OnOk};
-ghost use Rattle.po_tools.specs.FaultText.{po_text, mo_text, duplicate_text, place};
+ghost use Rattle.po_tools.specs.FaultText.{po_text, mo_text, duplicate_text, location};
 
 use itoa::Buffer;
 use mo_file::MoError;
@@ -72,13 +72,13 @@ pub(crate) fn push_mo_text(out: &mut Vec<u8>, fault: MoError) -> Result<(), Allo
 }
 
 /// Appends a fault line: `pokit TOOL: FILE:LINE: `, without `:LINE` for line 0.
-pub(crate) fn push_place(
+pub(crate) fn push_location(
     out: &mut Vec<u8>,
     tool: &str,
     file: &str,
     line: u32,
 ) -> Result<(), AllocError>
-    ensures { OnOk result (out.new.items ≡ out.old.items ++ place tool.now file.now line) }
+    ensures { OnOk result (out.new.items ≡ out.old.items ++ location tool.now file.now line) }
 {
     out.extend_from_slice(b"pokit ")?;
     out.extend_from_slice(tool.as_bytes())?;

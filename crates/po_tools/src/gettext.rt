@@ -1,25 +1,25 @@
 ghost use Rattle.std.specs.Prelude.{◌≡◌, ◌^◌, ◌<◌, ◌≤◌, ◌++◌, None, Some, length, IfOk, OnOk, OnErr, Err};
 ghost use Rattle.std.specs.List.{list_any};
 ghost use Rattle.std.specs.Option.{option_copied};
-ghost use Rattle.mo_lookup.specs.Chain.{chain_told};
+ghost use Rattle.mo_lookup.specs.Chain.{chain_answered};
 ghost use Rattle.mo_lookup.specs.Query.{given};
 ghost use Rattle.po_shell.specs.Counts.{count_in};
 ghost use Rattle.po_shell.specs.Escapes.{expansion, has_no_newline};
 ghost use Rattle.po_tools.specs.FaultText.{fault_line, mo_text};
 ghost use Rattle.po_tools.specs.Run.{report};
-ghost use Rattle.po_tools.specs.Gettext.{IsGettextRun, IsNgettextRun, Opens, answers, ngettext_output, stops_line, word_answer};
-ghost use Rattle.po_tools.specs.GettextView.{asked, asked_plural};
+ghost use Rattle.po_tools.specs.Gettext.{IsGettextRun, IsNgettextRun, Opens, answers, ngettext_output, stops_line, argument_answer};
+ghost use Rattle.po_tools.specs.GettextView.{gettext_view, ngettext_view};
 ghost use Rattle.po_tools.specs.NamedFile.{named_files};
 ghost use Rattle.po_tools.specs.OpensFile.{OpensFile};
 
-use crate::fault_text::{push_mo_text, push_place};
+use crate::fault_text::{push_location, push_mo_text};
 use crate::run::Run;
 use mo_file::{Meter, MoError};
 use mo_lookup::{Catalog, Chain};
 use po_shell::{ToolFault, count_of, expand};
 use std::alloc::{AllocError, Global};
 
-/// What `gettext` is asked for, as its words were given.
+/// What `gettext` is asked for, as its arguments were given.
 #[derive(Clone, Copy)]
 pub struct GettextOptions<'a> {
     /// The MSGIDs: one without `shell`.
@@ -34,7 +34,7 @@ pub struct GettextOptions<'a> {
     pub shell: bool,
 }
 
-/// What `ngettext` is asked for, as its words were given.
+/// What `ngettext` is asked for, as its arguments were given.
 #[derive(Clone, Copy)]
 pub struct NgettextOptions<'a> {
     /// `-c`: the context.
@@ -49,7 +49,7 @@ pub struct NgettextOptions<'a> {
     pub count: &'a str,
 }
 
-/// The catalogues of a chain, and the lines that tell of those that were refused.
+/// The catalogues of a chain, and the lines that report those that were refused.
 #[derive(Drop)]
 struct Opened<'a> {
     catalogs: Vec<Catalog<'a>>,
@@ -65,7 +65,7 @@ fn push_refusal(
 ) -> Result<(), AllocError>
     ensures { OnOk result (messages.new.items ≡ messages.old.items ++ fault_line tool.now name.now 0 (mo_text fault)) }
 {
-    push_place(messages, tool, name, 0)?;
+    push_location(messages, tool, name, 0)?;
     push_mo_text(messages, fault)?;
     messages.extend_from_slice(b"\n")
 }
@@ -122,7 +122,7 @@ fn push_text<'a, 'q>(
 ) -> Result<(), AllocError>
 where
     'a: 'q,
-    ensures { OnOk result (output.new.items ≡ output.old.items ++ (chain_told chain.now (record { context = option_copied context.entry; id = id.now; plural = given plural.entry })).text) }
+    ensures { OnOk result (output.new.items ≡ output.old.items ++ (chain_answered chain.now (record { context = option_copied context.entry; id = id.now; plural = given plural.entry })).text) }
 {
     let answer = match context {
         Some(context) => chain.look(Some(context.as_bytes()), id, plural, &mut Meter::new()),
@@ -131,60 +131,60 @@ where
     output.extend_from_slice(answer.text)
 }
 
-/// Appends the answer to a MSGID with its escapes expanded, and tells whether a `\c` is among them.
+/// Appends the answer to a MSGID with its escapes expanded, and says whether a `\c` is among them.
 fn push_expanded(
     alloc: Global,
     output: &mut Vec<u8>,
     chain: &Chain<'_, '_>,
     context: Option<&str>,
-    word: &str,
+    argument: &str,
 ) -> Result<bool, ToolFault>
-    ensures answer { OnOk result (output.new.items ≡ output.old.items ++ (chain_told chain.now (record { context = option_copied context.entry; id = expansion word.now; plural = None })).text) }
-    ensures no_newline { IfOk result (λ stops. stops ≡ has_no_newline word.now) }
+    ensures answer { OnOk result (output.new.items ≡ output.old.items ++ (chain_answered chain.now (record { context = option_copied context.entry; id = expansion argument.now; plural = None })).text) }
+    ensures no_newline { IfOk result (λ stops. stops ≡ has_no_newline argument.now) }
     ensures fault { OnErr result (result ≡ Err ToolFault.OutOfMemory) }
 {
-    let expanded = expand(alloc, word.as_bytes())?;
+    let expanded = expand(alloc, argument.as_bytes())?;
     push_text(output, chain, context, &expanded.bytes, None)?;
     Ok(expanded.no_newline)
 }
 
-/// Appends the answer to a MSGID, and tells whether a `\c` is expanded in it.
+/// Appends the answer to a MSGID, and says whether a `\c` is expanded in it.
 fn push_answer(
     alloc: Global,
     output: &mut Vec<u8>,
     chain: &Chain<'_, '_>,
     options: &GettextOptions<'_>,
-    word: &str,
+    argument: &str,
 ) -> Result<bool, ToolFault>
-    ensures answer { OnOk result (output.new.items ≡ output.old.items ++ word_answer chain.now (asked options.now) word.now) }
-    ensures no_newline { IfOk result (λ stops. stops ≡ stops_line (asked options.now) word.now) }
+    ensures answer { OnOk result (output.new.items ≡ output.old.items ++ argument_answer chain.now (gettext_view options.now) argument.now) }
+    ensures no_newline { IfOk result (λ stops. stops ≡ stops_line (gettext_view options.now) argument.now) }
     ensures fault { OnErr result (result ≡ Err ToolFault.OutOfMemory) }
 {
     if options.expand {
-        return push_expanded(alloc, output, chain, options.context, word);
+        return push_expanded(alloc, output, chain, options.context, argument);
     }
-    push_text(output, chain, options.context, word.as_bytes(), None)?;
+    push_text(output, chain, options.context, argument.as_bytes(), None)?;
     Ok(false)
 }
 
-/// Appends the answers to the MSGIDs, with a space between two, and tells whether a `\c` is expanded in one.
+/// Appends the answers to the MSGIDs, with a space between two, and says whether a `\c` is expanded in one.
 fn push_answers(
     alloc: Global,
     output: &mut Vec<u8>,
     chain: &Chain<'_, '_>,
     options: &GettextOptions<'_>,
 ) -> Result<bool, ToolFault>
-    ensures answers { OnOk result (output.new.items ≡ output.old.items ++ answers chain.now (asked options.now)) }
-    ensures no_newline { IfOk result (λ stops. stops ≡ list_any (stops_line (asked options.now)) (asked options.now).words) }
+    ensures answers { OnOk result (output.new.items ≡ output.old.items ++ answers chain.now (gettext_view options.now)) }
+    ensures no_newline { IfOk result (λ stops. stops ≡ list_any (stops_line (gettext_view options.now)) (gettext_view options.now).arguments) }
     ensures fault { OnErr result (result ≡ Err ToolFault.OutOfMemory) }
 {
     let Some((first, others)) = options.messages.split_first() else {
         return Ok(false);
     };
     let mut stops = push_answer(alloc, output, chain, options, first)?;
-    for word in others {
+    for argument in others {
         output.push(b' ')?;
-        if push_answer(alloc, output, chain, options, word)? {
+        if push_answer(alloc, output, chain, options, argument)? {
             stops = true;
         }
     }
@@ -193,14 +193,14 @@ fn push_answers(
 
 /// What `gettext` writes over the catalogues that could be read, in the order in which they are asked: the
 /// answers, each a translation or the MSGID itself; on standard error a line for each catalogue that is refused
-/// and so left out. Refused only where an allocation failed.
+/// and so omitted. Refused only where an allocation failed.
 pub fn plan_gettext(
     alloc: Global,
     catalogues: &[(&str, &[u8])],
     options: &GettextOptions<'_>,
 ) -> Result<Run, ToolFault>
     requires { length catalogues.now < 2 ^ 32 }
-    ensures run { IfOk result (λ run. IsGettextRun (named_files catalogues.now) (asked options.now) (report run)) }
+    ensures run { IfOk result (λ run. IsGettextRun (named_files catalogues.now) (gettext_view options.now) (report run)) }
     ensures fault { OnErr result (result ≡ Err ToolFault.OutOfMemory) }
 {
     let opened = open_all(alloc, "gettext", catalogues)?;
@@ -225,7 +225,7 @@ fn push_expanded_plural(
     chain: &Chain<'_, '_>,
     options: &NgettextOptions<'_>,
 ) -> Result<(), ToolFault>
-    ensures answer { OnOk result (let o = asked_plural options.now in output.new.items ≡ output.old.items ++ (chain_told chain.now (record { context = o.context; id = expansion o.id; plural = Some (expansion o.plural, count_in o.count) })).text) }
+    ensures answer { OnOk result (let o = ngettext_view options.now in output.new.items ≡ output.old.items ++ (chain_answered chain.now (record { context = o.context; id = expansion o.id; plural = Some (expansion o.plural, count_in o.count) })).text) }
     ensures fault { OnErr result (result ≡ Err ToolFault.OutOfMemory) }
 {
     let count = count_of(options.count.as_bytes());
@@ -242,7 +242,7 @@ fn push_plural_answer(
     chain: &Chain<'_, '_>,
     options: &NgettextOptions<'_>,
 ) -> Result<(), ToolFault>
-    ensures answer { OnOk result (output.new.items ≡ output.old.items ++ ngettext_output chain.now (asked_plural options.now)) }
+    ensures answer { OnOk result (output.new.items ≡ output.old.items ++ ngettext_output chain.now (ngettext_view options.now)) }
     ensures fault { OnErr result (result ≡ Err ToolFault.OutOfMemory) }
 {
     if options.expand {
@@ -262,14 +262,14 @@ fn push_plural_answer(
 
 /// What `ngettext` writes over the catalogues that could be read, in the order in which they are asked: the form
 /// of the translation for the count, or MSGID for a count of 1 and MSGID-PLURAL for any other; on standard error
-/// a line for each catalogue that is refused and so left out. Refused only where an allocation failed.
+/// a line for each catalogue that is refused and so omitted. Refused only where an allocation failed.
 pub fn plan_ngettext(
     alloc: Global,
     catalogues: &[(&str, &[u8])],
     options: &NgettextOptions<'_>,
 ) -> Result<Run, ToolFault>
     requires { length catalogues.now < 2 ^ 32 }
-    ensures run { IfOk result (λ run. IsNgettextRun (named_files catalogues.now) (asked_plural options.now) (report run)) }
+    ensures run { IfOk result (λ run. IsNgettextRun (named_files catalogues.now) (ngettext_view options.now) (report run)) }
     ensures fault { OnErr result (result ≡ Err ToolFault.OutOfMemory) }
 {
     let opened = open_all(alloc, "ngettext", catalogues)?;

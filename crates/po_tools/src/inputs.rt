@@ -60,26 +60,26 @@ pub struct Inputs<'a> {
 }
 
 impl<'a> Inputs<'a> {
-    /// Reads the file of each word, or standard input for `-`, which is empty from the second time on.
+    /// Reads the file of each argument, or standard input for `-`, which is empty from the second time on.
     /// The first that can't be read ends the inputs. Refused only where the allocation failed.
     pub fn read<S: InputSource>(
         alloc: Global,
         source: &S,
-        words: &[&'a str],
+        arguments: &[&'a str],
     ) -> Result<Inputs<'a>, AllocError>
         ensures { IfOk result (λ inputs. AreInputs (S.file source.now) (S.standard source.now) false
-            (map (λ word. word.now) words.now) (named_inputs inputs.texts.items) (option_map program_text inputs.fault)) }
+            (map (λ argument. argument.now) arguments.now) (named_inputs inputs.texts.items) (option_map program_text inputs.fault)) }
     {
         let mut texts = Vec::new(alloc);
         let mut is_stdin_read = false;
-        for word in words {
-            let standard = is_standard(word);
-            match read_word(alloc, source, word, standard, is_stdin_read) {
+        for argument in arguments {
+            let standard = is_standard(argument);
+            match read_argument(alloc, source, argument, standard, is_stdin_read) {
                 Ok(bytes) => texts.push(Input {
-                    name: shown_name(word),
+                    name: shown_name(argument),
                     bytes,
                 })?,
-                Err(why) => return ended(texts, word, why),
+                Err(why) => return ended(texts, argument, why),
             }
             is_stdin_read = is_stdin_read || standard;
         }
@@ -98,20 +98,20 @@ impl<'a> Inputs<'a> {
     }
 }
 
-/// The bytes of the only input, by the word for it.
+/// The bytes of the only input, by the argument for it.
 pub fn read_one<'a, S: InputSource>(
     alloc: Global,
     source: &S,
-    word: &'a str,
+    argument: &'a str,
 ) -> Result<Vec<u8>, ProgramFault<'a>>
     ensures bytes { IfOk result (λ bytes.
-        ReadsAs (S.file source.now) (S.standard source.now) word.now (is_standard word.now) false (gives bytes.items)) }
-    ensures fault { IfErr result (λ told. (told ≡ ProgramFault.OutOfMemory)
-        ⊎ IsUnread (S.file source.now) (S.standard source.now) word.now (program_text told)) }
+        ReadsAs (S.file source.now) (S.standard source.now) argument.now (is_standard argument.now) false (gives bytes.items)) }
+    ensures fault { IfErr result (λ reported. (reported ≡ ProgramFault.OutOfMemory)
+        ⊎ IsUnread (S.file source.now) (S.standard source.now) argument.now (program_text reported)) }
 {
-    match read_word(alloc, source, word, is_standard(word), false) {
+    match read_argument(alloc, source, argument, is_standard(argument), false) {
         Ok(bytes) => Ok(bytes),
-        Err(why) => match fault_of(shown_name(word), why) {
+        Err(why) => match fault_of(shown_name(argument), why) {
             Some(fault) => Err(fault),
             None => Err(ProgramFault::OutOfMemory),
         },
@@ -130,40 +130,44 @@ pub fn read_whole<F: Read + Drop>(alloc: Global, file: F) -> Result<Vec<u8>, Unr
     }
 }
 
-/// Whether the word stands for standard input.
-fn is_standard(word: &str) -> bool
-    ensures { result ≡ is_standard word.now }
+/// Whether the argument stands for standard input.
+fn is_standard(argument: &str) -> bool
+    ensures { result ≡ is_standard argument.now }
 {
-    word == STANDARD
+    argument == STANDARD
 }
 
-/// Reads what one word stands for.
-fn read_word<S: InputSource>(
+/// Reads what one argument stands for.
+fn read_argument<S: InputSource>(
     alloc: Global,
     source: &S,
-    word: &str,
+    argument: &str,
     standard: bool,
     is_stdin_read: bool,
 ) -> Result<Vec<u8>, Unread>
     ensures { MatchResult result
-        (λ bytes. ReadsAs (S.file source.now) (S.standard source.now) word.now standard is_stdin_read (gives bytes.items))
+        (λ bytes. ReadsAs (S.file source.now) (S.standard source.now) argument.now standard is_stdin_read (gives bytes.items))
         (λ why. (why ≡ Unread.OutOfMemory)
-        ⊎ ReadsAs (S.file source.now) (S.standard source.now) word.now standard is_stdin_read (refuses why)) }
+        ⊎ ReadsAs (S.file source.now) (S.standard source.now) argument.now standard is_stdin_read (refuses why)) }
 {
     match (standard, is_stdin_read) {
-        (false, _) => source.read_file(alloc, word),
+        (false, _) => source.read_file(alloc, argument),
         (true, false) => source.read_standard(alloc),
         (true, true) => Ok(Vec::new(alloc)),
     }
 }
 
 /// The inputs that end at one that can't be read.
-fn ended<'a>(texts: Vec<Input<'a>>, word: &'a str, why: Unread) -> Result<Inputs<'a>, AllocError>
+fn ended<'a>(
+    texts: Vec<Input<'a>>,
+    argument: &'a str,
+    why: Unread,
+) -> Result<Inputs<'a>, AllocError>
     ensures { IfOk result (λ inputs. (inputs.texts.items ≡ texts.entry.items)
-        × (option_map program_text inputs.fault ≡ Some (unread_text (shown_name word.now) why))
+        × (option_map program_text inputs.fault ≡ Some (unread_text (shown_name argument.now) why))
         × (why ≢ Unread.OutOfMemory)) }
 {
-    match fault_of(shown_name(word), why) {
+    match fault_of(shown_name(argument), why) {
         Some(fault) => Ok(Inputs {
             texts,
             fault: Some(fault),

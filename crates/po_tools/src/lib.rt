@@ -1,4 +1,4 @@
-//! The tools of pokit as functions of their inputs: what each writes, tells and answers.
+//! The tools of pokit as functions of their inputs: what each writes, reports and answers.
 #![tactic(auto)]
 
 mod arguments;
@@ -11,6 +11,7 @@ mod msgattrib;
 mod msgcat;
 mod msgfmt;
 mod msgunfmt;
+mod positional;
 mod profile;
 mod profile_laws;
 mod program_fault;
@@ -18,7 +19,6 @@ mod run;
 mod run_laws;
 mod selected_text;
 mod unread;
-mod words;
 mod written;
 
 pub use arguments::{Arguments, merge_options_of, msgfmt_options_of, selection_of};
@@ -34,13 +34,13 @@ pub use po_compile::{Compiled, Options, compile, compile_all, laws};
 pub use po_merge::{MergeOptions, Named, merge};
 pub use po_select::{Selection, select};
 pub use po_unformat::{UnformatError, laws as unformat_laws, unformat};
+pub use positional::{EnvsubstArguments, GettextArguments, NgettextArguments};
 pub use profile::CheckFault;
 pub use profile_laws::first_profile_fault;
-pub use program_fault::{ProgramFault, tell};
+pub use program_fault::{ProgramFault, report_fault};
 pub use run::{Run, STANDARD, STDIN_NAME, deliver, shown_name};
 pub use run_laws::{
     one_gettext_run, one_msgattrib_run, one_msgcat_run, one_msgfmt_run, one_msgunfmt_run,
     one_ngettext_run,
 };
 pub use unread::{plan_msgcat_of, plan_msgfmt_before, plan_msgfmt_of};
-pub use words::{EnvsubstWords, GettextWords, NgettextWords};

@@ -1,9 +1,9 @@
 ghost use Rattle.std.specs.Prelude.{◌≡◌, ◌≢◌, ◌⊎◌, All, Err, IfErr, IfOk, IfSome, List, MatchResult, OnErr};
 ghost use Rattle.po_entry.specs.Bytes.{Lacks};
 ghost use Rattle.po_merge.specs.Inputs.{Input};
-ghost use Rattle.po_merge.specs.InputsView.{inputs_of};
+ghost use Rattle.po_merge.specs.InputsView.{inputs_view};
 ghost use Rattle.po_merge.specs.Merged.{merged};
-ghost use Rattle.po_catalog.specs.Duplicate.{entry_memory};
+ghost use Rattle.po_catalog.specs.Duplicate.{out_of_memory_error};
 ghost use Rattle.po_tools.specs.Msgcat.{AreReadAs, IsFileFault, IsMergedText, IsMsgcatRun, IsUnread, first_name, keeps_all, msgcat_line};
 ghost use Rattle.po_tools.specs.NamedFile.{named_files};
 ghost use Rattle.po_tools.specs.Run.{refusal, report};
@@ -53,9 +53,9 @@ fn read_files<'a>(
     files: &[(&'a str, &[u8])],
 ) -> Result<Vec<Named<'a>>, FileFault<'a>>
     requires { All (λ file. Lacks 0 file.name) (named_files files.now) }
-    ensures read { IfOk result (λ inputs. AreReadAs (named_files files.now) (inputs_of inputs.items)) }
+    ensures read { IfOk result (λ inputs. AreReadAs (named_files files.now) (inputs_view inputs.items)) }
     ensures names { IfOk result (λ inputs. All (λ input. Lacks 0 input.name.now) inputs.items) }
-    ensures fault { IfErr result (λ fault. (fault.error ≡ entry_memory) ⊎ IsFileFault (named_files files.now) fault.name.now fault.error) }
+    ensures fault { IfErr result (λ fault. (fault.error ≡ out_of_memory_error) ⊎ IsFileFault (named_files files.now) fault.name.now fault.error) }
 {
     let mut inputs = Vec::new(alloc);
     for (name, text) in files {
@@ -160,7 +160,7 @@ pub fn plan_msgcat_before<'a>(
 ) -> Result<Run, ProgramFault<'a>>
     requires { All (λ file. Lacks 0 file.name) (named_files inputs.now) }
     ensures refused { IfOk result (λ run. IsUnread (named_files inputs.now) (report run)) }
-    ensures fault { IfErr result (λ told. (told ≡ ProgramFault.OutOfMemory) ⊎ ((told ≡ fault.entry) × ((read : List Input) × AreReadAs (named_files inputs.now) read))) }
+    ensures fault { IfErr result (λ reported. (reported ≡ ProgramFault.OutOfMemory) ⊎ ((reported ≡ fault.entry) × ((read : List Input) × AreReadAs (named_files inputs.now) read))) }
 {
     match read_files(alloc, inputs) {
         Ok(_) => Err(fault),

@@ -5,10 +5,10 @@ ghost use Rattle.po_catalog.specs.JoinedView.{input_entries};
 ghost use Rattle.po_compile.specs.Accepted.{AreRead};
 ghost use Rattle.po_tools.specs.FaultText.{duplicate_text};
 ghost use Rattle.po_tools.specs.NamedFile.{named_files};
-ghost use Rattle.po_tools.specs.Msgfmt.{AreChecked, IsMsgfmtCut, IsMsgfmtDelivered, IsMsgfmtRun, across_text, check_line, check_place, check_text, compiled_inputs, compiled_run, input_name, input_texts, join_line, join_text};
+ghost use Rattle.po_tools.specs.Msgfmt.{AreChecked, IsMsgfmtCut, IsMsgfmtDelivered, IsMsgfmtRun, across_text, check_line, line_of_fault, check_text, compiled_inputs, compiled_run, input_name, input_texts, join_line, join_text};
 ghost use Rattle.po_tools.specs.Run.{refusal, report};
 
-use crate::fault_text::{push_numbered, push_place, push_po_text};
+use crate::fault_text::{push_location, push_numbered, push_po_text};
 use crate::profile::{CheckFault, check_entries};
 use crate::run::{Run, deliver, refused};
 use mo_file::Order;
@@ -73,11 +73,11 @@ pub fn profile_check(
     use_fuzzy: bool,
 ) -> Result<(), (u32, CheckFault)>
     requires { length catalogues.now < 2 ^ 32 }
-    ensures { MatchResult result (λ _. AreChecked use_fuzzy catalogues.now None) (λ told. (told ≡ (0, CheckFault.OutOfMemory)) ⊎ AreChecked use_fuzzy catalogues.now (Some told)) }
+    ensures { MatchResult result (λ _. AreChecked use_fuzzy catalogues.now None) (λ reported. (reported ≡ (0, CheckFault.OutOfMemory)) ⊎ AreChecked use_fuzzy catalogues.now (Some reported)) }
 {
     match first_fault(alloc, catalogues, use_fuzzy) {
         Ok(None) => Ok(()),
-        Ok(Some(told)) => Err(told),
+        Ok(Some(reported)) => Err(reported),
         Err(_) => Err((0, CheckFault::OutOfMemory)),
     }
 }
@@ -90,7 +90,7 @@ fn checked(
 ) -> Result<(), (u32, CheckFault)>
     requires { length catalogues.now < 2 ^ 32 }
     ensures fit { OnOk result (options.now.profile_check ≡ true → AreChecked options.now.use_fuzzy catalogues.now None) }
-    ensures unfit { IfErr result (λ told. (told ≡ (0, CheckFault.OutOfMemory)) ⊎ ((options.now.profile_check ≡ true) × AreChecked options.now.use_fuzzy catalogues.now (Some told))) }
+    ensures unfit { IfErr result (λ reported. (reported ≡ (0, CheckFault.OutOfMemory)) ⊎ ((options.now.profile_check ≡ true) × AreChecked options.now.use_fuzzy catalogues.now (Some reported))) }
 {
     if options.profile_check {
         profile_check(alloc, catalogues, options.use_fuzzy)
@@ -164,8 +164,8 @@ fn push_join_text(
 }
 
 /// The line at which a fault of the check is reported; 0 is none.
-fn check_place(fault: CheckFault) -> u32
-    ensures { result ≡ check_place fault }
+fn line_of_fault(fault: CheckFault) -> u32
+    ensures { result ≡ line_of_fault fault }
 {
     match fault {
         CheckFault::NoRule(line, _)
@@ -206,7 +206,7 @@ fn refused_run(alloc: Global, inputs: &[(&str, &[u8])], error: JoinError) -> Res
         return Err(ToolFault::OutOfMemory);
     }
     let mut messages = Vec::new(alloc);
-    push_place(
+    push_location(
         &mut messages,
         "msgfmt",
         input_name(inputs, error.input),
@@ -231,11 +231,11 @@ fn unfit_run(
         return Err(ToolFault::OutOfMemory);
     }
     let mut messages = Vec::new(alloc);
-    push_place(
+    push_location(
         &mut messages,
         "msgfmt",
         input_name(inputs, input),
-        check_place(fault),
+        line_of_fault(fault),
     )?;
     push_check_text(&mut messages, fault)?;
     messages.extend_from_slice(b"\n")?;
@@ -322,7 +322,7 @@ fn plan_compiled(
     }
 }
 
-/// What `msgfmt` writes and tells of its inputs, each with its name: the compiled file, where it has a message, and
+/// What `msgfmt` writes and reports of its inputs, each with its name: the compiled file, where it has a message, and
 /// the statistics, where they are asked for. Inputs that aren't compiled are reported by one line, with status 1, and
 /// else a fault of the check, where it is asked for. Refused only where an allocation failed.
 pub fn plan_msgfmt(

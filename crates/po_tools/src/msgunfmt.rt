@@ -4,7 +4,7 @@ ghost use Rattle.po_unformat.specs.Unformatting.{IsUnformatted};
 ghost use Rattle.po_tools.specs.Msgunfmt.{IsMsgunfmtCut, IsMsgunfmtDelivered, IsMsgunfmtRun, unformat_line, unformat_text, unformatted_run};
 ghost use Rattle.po_tools.specs.Run.{refusal, report};
 
-use crate::fault_text::{push_mo_text, push_numbered, push_place};
+use crate::fault_text::{push_location, push_mo_text, push_numbered};
 use crate::run::{Run, deliver, refused};
 use po_shell::{ByteIn, ByteOut, ToolFault, read_input};
 use po_unformat::laws::empty_text;
@@ -38,7 +38,7 @@ fn refused_run(alloc: Global, name: &str, error: UnformatError) -> Result<Run, T
         return Err(ToolFault::OutOfMemory);
     }
     let mut messages = Vec::new(alloc);
-    push_place(&mut messages, "msgunfmt", name, 0)?;
+    push_location(&mut messages, "msgunfmt", name, 0)?;
     push_unformat_text(&mut messages, error)?;
     messages.extend_from_slice(b"\n")?;
     Ok(refused(alloc, messages))

@@ -3,7 +3,7 @@ ghost use Rattle.std.specs.List.{list_any};
 ghost use Rattle.po_entry.specs.TextEntry.{texts};
 ghost use Rattle.po_entry.specs.Header.{first_form};
 ghost use Rattle.po_catalog.specs.JoinedView.{input_entries, input_entry};
-ghost use Rattle.po_tools.specs.Profile.{IsChecked, counts_below, count_fault, differ, differs_from_msgid, end_byte, has_newline, entry_fault, first_fault, first_given, is_header_entry, is_plural, rule_fault};
+ghost use Rattle.po_tools.specs.Profile.{IsChecked, counts_below, count_fault, differ, differs_from_msgid, end_byte, has_newline, entry_fault, first_fault, first_some, is_header_entry, is_plural, rule_fault};
 
 use plural_rule::{Reason, Rule, Source};
 use po_catalog::JoinedEntry;
@@ -34,7 +34,7 @@ pub enum CheckFault {
     /// The rule's value at this count is no index of a plural form.
     #[error("plural rule too large for {0}")]
     IndexOutside(u64),
-    /// A growth was refused.
+    /// An allocation failed.
     #[error("out of memory")]
     OutOfMemory,
 }
@@ -103,14 +103,14 @@ fn differs_from_msgid(end: End, entry: &Entry) -> bool
 }
 
 /// What is wrong with an entry but the header, with its input.
-fn entry_fault(number: u64, joined: &JoinedEntry<'_>) -> Option<(u32, CheckFault)>
-    ensures { result ≡ entry_fault number (input_entry joined.now) }
+fn entry_fault(nplurals: u64, joined: &JoinedEntry<'_>) -> Option<(u32, CheckFault)>
+    ensures { result ≡ entry_fault nplurals (input_entry joined.now) }
 {
     let entry = joined.entry;
     let line = entry.line();
     let fault = if entry.is_header() {
         return None;
-    } else if is_plural(joined) && entry.forms().len() as u64 != number {
+    } else if is_plural(joined) && entry.forms().len() as u64 != nplurals {
         CheckFault::FormCount(line)
     } else if differs_from_msgid(End::Beginning, entry) {
         CheckFault::LeadingNewline(line)
@@ -134,11 +134,11 @@ fn count_fault(rule: &Rule, count: u64) -> Option<(u32, CheckFault)>
 }
 
 /// The first of the entries, but for the header, with something wrong.
-fn first_entry_fault(number: u64, entries: &[JoinedEntry<'_>]) -> Option<(u32, CheckFault)>
-    ensures { result ≡ first_given (entry_fault number) (input_entries entries.now) }
+fn first_entry_fault(nplurals: u64, entries: &[JoinedEntry<'_>]) -> Option<(u32, CheckFault)>
+    ensures { result ≡ first_some (entry_fault nplurals) (input_entries entries.now) }
 {
     for joined in entries {
-        if let Some(fault) = entry_fault(number, joined) {
+        if let Some(fault) = entry_fault(nplurals, joined) {
             return Some(fault);
         }
     }
@@ -147,7 +147,7 @@ fn first_entry_fault(number: u64, entries: &[JoinedEntry<'_>]) -> Option<(u32, C
 
 /// The first count below `end` at which a rule's value is no index.
 fn first_count_fault(rule: &Rule, end: u64) -> Option<(u32, CheckFault)>
-    ensures { result ≡ first_given (count_fault rule.now) (counts_below end) }
+    ensures { result ≡ first_some (count_fault rule.now) (counts_below end) }
 {
     for count in 0..end {
         if let Some(fault) = count_fault(rule, count) {

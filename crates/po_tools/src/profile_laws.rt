@@ -2,12 +2,12 @@
 ghost use Rattle.std.specs.Prelude.{◌≡◌, ◌↔◌, List, Some};
 ghost use Rattle.plural_rule.specs.PluralRule.{Meaning};
 ghost use Rattle.po_catalog.specs.Joined.{InputEntry};
-ghost use Rattle.po_tools.specs.Profile.{Told, first_fault};
+ghost use Rattle.po_tools.specs.Profile.{Reported, first_fault};
 ghost use Rattle.po_tools.specs.ProfileFaults.{FirstFault};
 
 /// What is found of messages that have a header with this rule is the first of their faults: no
 /// readable rule, an entry's, or that of the rule's value at a count.
 pub fn first_profile_fault()
-    ensures { (entries : List InputEntry) (rule : Meaning) (told : Told)
-        → (first_fault entries rule ≡ Some told) ↔ FirstFault entries rule told }
+    ensures { (entries : List InputEntry) (rule : Meaning) (reported : Reported)
+        → (first_fault entries rule ≡ Some reported) ↔ FirstFault entries rule reported }
 {}

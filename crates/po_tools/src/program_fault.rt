@@ -1,4 +1,4 @@
-// Faults of the program itself, and the lines that tell them.
+// Faults of the program itself, and the lines that report them.
 ghost use Rattle.std.specs.Prelude.{◌≡◌, ◌+◌, ◌^◌, ◌<◌, ◌++◌, IfOk, OnOk, OnErr, Err};
 ghost use Rattle.std.specs.Io.KnownBytes.{Appends};
 ghost use Rattle.std.specs.Option.{option_copied};
@@ -13,10 +13,10 @@ use thiserror::Error;
 /// Why a tool gave no answer of its own.
 #[derive(Clone, Copy, Debug, Error)]
 pub enum ProgramFault<'a> {
-    /// The words aren't UTF-8, so that no tool is known.
+    /// The arguments aren't UTF-8, so that no tool is known.
     #[error("arguments are not UTF-8")]
     NotText,
-    /// The words behind the options fit none of the tool's forms.
+    /// The arguments after the options fit none of the tool's forms.
     #[error("wrong number of arguments")]
     WrongArguments,
     /// The input file of this name can't be opened.
@@ -51,7 +51,7 @@ impl<'a> ProgramFault<'a> {
 
 // A tool that reads by itself reads standard input.
 impl From<ToolFault> for ProgramFault<'_> {
-    ghost from_gives = { λ fault told. program_text told ≡ stdin_text fault };
+    ghost from_gives = { λ fault reported. program_text reported ≡ stdin_text fault };
 
     fn from(fault: ToolFault) -> Self {
         ProgramFault::of_input(fault, STDIN_NAME)
@@ -59,7 +59,7 @@ impl From<ToolFault> for ProgramFault<'_> {
 }
 
 impl From<AllocError> for ProgramFault<'_> {
-    ghost from_gives = { λ _ told. told ≡ OutOfMemory };
+    ghost from_gives = { λ _ reported. reported ≡ OutOfMemory };
 
     fn from(_error: AllocError) -> Self {
         ProgramFault::OutOfMemory
@@ -67,7 +67,7 @@ impl From<AllocError> for ProgramFault<'_> {
 }
 
 impl<T: Drop> From<AllocFailed<T>> for ProgramFault<'_> {
-    ghost from_gives = { λ _ told. told ≡ OutOfMemory };
+    ghost from_gives = { λ _ reported. reported ≡ OutOfMemory };
 
     fn from(_failed: AllocFailed<T>) -> Self {
         ProgramFault::OutOfMemory
@@ -77,7 +77,7 @@ impl<T: Drop> From<AllocFailed<T>> for ProgramFault<'_> {
 /// Writes the line of a fault after `pokit TOOL: `, or after `pokit: ` where no tool is known, in one
 /// piece; part by part where the allocation failed. A `WriteFault` comes where a call of the writer
 /// failed or took no byte.
-pub fn tell<E: ByteOut>(
+pub fn report_fault<E: ByteOut>(
     alloc: Global,
     err: &mut E,
     tool: Option<&str>,
@@ -164,7 +164,7 @@ fn put_parts<E: ByteOut>(
     put_all(err, b"\n")
 }
 
-/// Writes which tool tells a fault.
+/// Writes which tool reports a fault.
 fn put_tool<E: ByteOut>(err: &mut E, tool: Option<&str>) -> Result<(), ToolFault>
     requires { E.failures err.old < 2 ^ 63 }
     ensures mark { OnOk result (Appends (E.contents err.old) (E.contents err.new) (tool_mark (option_copied tool.entry))) }

@@ -6,17 +6,21 @@ ghost use Rattle.po_tools.specs.Run.{report, output_file, refusal, shown_name, D
 use po_shell::{ByteOut, ToolFault, put_all};
 use std::alloc::Global;
 
-/// The word for standard input among the inputs, and for standard output.
+/// The argument for standard input among the inputs, and for standard output.
 pub const STANDARD: &str = "-";
 
 /// The name of standard input in fault lines.
 pub const STDIN_NAME: &str = "<stdin>";
 
-/// The name of an input in fault lines, by the word for it.
-pub fn shown_name(word: &str) -> &str
-    ensures { result.now ≡ shown_name word.now }
+/// The name of an input in fault lines, by the argument for it.
+pub fn shown_name(argument: &str) -> &str
+    ensures { result.now ≡ shown_name argument.now }
 {
-    if word == STANDARD { STDIN_NAME } else { word }
+    if argument == STANDARD {
+        STDIN_NAME
+    } else {
+        argument
+    }
 }
 
 /// What a run of a tool comes to: the bytes of its output and of its messages on standard error, whether an
@@ -27,20 +31,20 @@ pub struct Run {
     pub output: Vec<u8>,
     /// Whether there is something to write, so that an output file is made.
     pub create: bool,
-    /// What the tool tells on standard error, whole lines.
+    /// What the tool reports on standard error, whole lines.
     pub messages: Vec<u8>,
     /// The exit status: 0, or 1 for any fault.
     pub status: u8,
 }
 
 impl Run {
-    /// The file that is made for the output, by the word for it, where there is something to write
-    /// and the word isn't that for standard output.
-    pub fn output_file<'a>(&self, word: &'a str) -> Option<&'a str>
-        ensures { option_copied result ≡ output_file (report self.now) word.now }
+    /// The file that is made for the output, by the argument for it, where there is something to write
+    /// and the argument isn't that for standard output.
+    pub fn output_file<'a>(&self, argument: &'a str) -> Option<&'a str>
+        ensures { option_copied result ≡ output_file (report self.now) argument.now }
     {
-        if self.create && word != STANDARD {
-            Some(word)
+        if self.create && argument != STANDARD {
+            Some(argument)
         } else {
             None
         }

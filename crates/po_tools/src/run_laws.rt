@@ -21,7 +21,7 @@ pub fn one_msgfmt_run()
     one_rule();
 }
 
-/// Catalogues and words of `gettext` have one run.
+/// Catalogues and arguments of `gettext` have one run.
 pub fn one_gettext_run()
     ensures { OneGettextRun }
 {
@@ -31,7 +31,7 @@ pub fn one_gettext_run()
     one_rule();
 }
 
-/// Catalogues and words of `ngettext` have one run.
+/// Catalogues and arguments of `ngettext` have one run.
 pub fn one_ngettext_run()
     ensures { OneNgettextRun }
 {

@@ -18,7 +18,7 @@ use crate::run::Run;
 use po_merge::MergeOptions;
 use std::alloc::Global;
 
-/// What `msgfmt` comes to where the input behind these can't be read: the refusal of these, or where
+/// What `msgfmt` comes to where the input after these can't be read: the refusal of these, or where
 /// they are accepted that input's fault. The check of the profile speaks of all inputs together, so
 /// it isn't asked of some. `OutOfMemory` may come in place of any answer.
 pub fn plan_msgfmt_before<'a>(
@@ -29,7 +29,7 @@ pub fn plan_msgfmt_before<'a>(
 ) -> Result<Run, ProgramFault<'a>>
     requires { length inputs.now < 2 ^ 32 }
     ensures refused { IfOk result (λ run. IsRefused (named_files inputs.now) options.now (report run)) }
-    ensures fault { IfErr result (λ told. (told ≡ ProgramFault.OutOfMemory) ⊎ ((told ≡ fault.entry) × AreTaken (named_files inputs.now) options.now)) }
+    ensures fault { IfErr result (λ reported. (reported ≡ ProgramFault.OutOfMemory) ⊎ ((reported ≡ fault.entry) × AreTaken (named_files inputs.now) options.now)) }
 {
     if inputs.is_empty() {
         return Err(fault);
@@ -56,9 +56,9 @@ pub fn plan_msgfmt_of<'a>(
         → IfOk result (λ run. IsMsgfmtRun (named_inputs inputs.now.texts.items) options.now (report run)) }
     ensures refused { inputs.now.fault ≢ None
         → IfOk result (λ run. IsRefused (named_inputs inputs.now.texts.items) options.now (report run)) }
-    ensures fault { IfErr result (λ told. (told ≡ ProgramFault.OutOfMemory)
-        ⊎ ((told ≡ ProgramFault.WrongArguments) × IsOutside (named_inputs inputs.now.texts.items))
-        ⊎ ((inputs.now.fault ≡ Some told) × AreTaken (named_inputs inputs.now.texts.items) options.now)) }
+    ensures fault { IfErr result (λ reported. (reported ≡ ProgramFault.OutOfMemory)
+        ⊎ ((reported ≡ ProgramFault.WrongArguments) × IsOutside (named_inputs inputs.now.texts.items))
+        ⊎ ((inputs.now.fault ≡ Some reported) × AreTaken (named_inputs inputs.now.texts.items) options.now)) }
 {
     let texts = inputs.lent(alloc)?;
     if texts.len() > u32::MAX as usize {
@@ -78,8 +78,8 @@ fn plan_all<'a>(
 ) -> Result<Run, ProgramFault<'a>>
     requires { length inputs.now < 2 ^ 32 }
     ensures run { IfOk result (λ run. IsMsgfmtRun (named_files inputs.now) options.now (report run)) }
-    ensures fault { IfErr result (λ told. (told ≡ ProgramFault.OutOfMemory)
-        ⊎ ((told ≡ ProgramFault.WrongArguments) × (named_files inputs.now ≡ []))) }
+    ensures fault { IfErr result (λ reported. (reported ≡ ProgramFault.OutOfMemory)
+        ⊎ ((reported ≡ ProgramFault.WrongArguments) × (named_files inputs.now ≡ []))) }
 {
     if inputs.is_empty() {
         return Err(ProgramFault::WrongArguments);
@@ -101,9 +101,9 @@ pub fn plan_msgcat_of<'a>(
         → IfOk result (λ run. IsMsgcatRun (named_inputs inputs.now.texts.items) options.now (report run)) }
     ensures refused { inputs.now.fault ≢ None
         → IfOk result (λ run. IsUnread (named_inputs inputs.now.texts.items) (report run)) }
-    ensures fault { IfErr result (λ told. (told ≡ ProgramFault.OutOfMemory)
-        ⊎ (HasNulName (named_inputs inputs.now.texts.items) (program_text told))
-        ⊎ ((inputs.now.fault ≡ Some told) × ((read : List merge.Input) × AreReadAs (named_inputs inputs.now.texts.items) read))) }
+    ensures fault { IfErr result (λ reported. (reported ≡ ProgramFault.OutOfMemory)
+        ⊎ (HasNulName (named_inputs inputs.now.texts.items) (program_text reported))
+        ⊎ ((inputs.now.fault ≡ Some reported) × ((read : List merge.Input) × AreReadAs (named_inputs inputs.now.texts.items) read))) }
 {
     if let Some(name) = name_with_nul(&inputs.texts) {
         return Err(ProgramFault::CannotOpen(name));

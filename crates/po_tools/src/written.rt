@@ -7,7 +7,7 @@ ghost use Rattle.po_tools.specs.Run.{refusal, report};
 ghost use Rattle.po_tools.specs.Written.{written_run};
 ghost use Rattle.po_writer.specs.WrittenText.{written_text};
 
-use crate::fault_text::{push_place, push_po_text};
+use crate::fault_text::{push_location, push_po_text};
 use crate::run::{Run, refused};
 use po_catalog::{Catalogue, write};
 use po_shell::ToolFault;
@@ -29,7 +29,7 @@ pub(crate) fn refused_text(
         return Err(ToolFault::OutOfMemory);
     }
     let mut messages = Vec::new(alloc);
-    push_place(&mut messages, tool, name, error.line)?;
+    push_location(&mut messages, tool, name, error.line)?;
     push_po_text(&mut messages, error.kind)?;
     messages.extend_from_slice(b"\n")?;
     Ok(refused(alloc, messages))

@@ -45,9 +45,9 @@ module _ (byte : ℕ) where
 
     pub after_is : after_first is whole ≡ after
     after_is =
-        let front = before ++ byte ∷ [] in
+        let prefix = before ++ byte ∷ [] in
         ap (λ n. drop (n + 1) whole) place ∙ ap (drop (length before + 1)) (sym (append_assoc before (byte ∷ []) after))
-        ∙ drop_at front after (length before + 1) (length-append before (byte ∷ []))
+        ∙ drop_at prefix after (length before + 1) (length-append before (byte ∷ []))
 
     pub some_such : list_any is whole ≡ true
     some_such = list_any_at is whole (length before) 0 inside at_place

@@ -25,7 +25,7 @@ use Rattle.po_catalog.specs.Statistics.{has_translation}
 use Rattle.po_compile.specs.Accepted.{ReadsDistinct}
 use Rattle.po_compile.specs.CompiledList.{compiled_list, is_compiled}
 use Rattle.po_compile.specs.CompiledMessages.{AreMessagesOf, message_of, messages_of_entries, original_of, translation_of}
-use Rattle.po_compile.specs.Compiling.{IsCompiled}
+use Rattle.po_compile.specs.Compiling.{IsCompilation}
 use Rattle.po_compile.specs.Headline.{MessagesAreOne}
 use Rattle.po_compile.specs.Parts.{HasParts, JoinedEntriesCanStand, MessagesDiffer, MessagesHaveParts, OneTextIsRead}
 use Rattle.po_compile.specs.declared.options.Compiled.{Compiled}
@@ -198,7 +198,7 @@ one_catalogue one text read (c ∷ d ∷ catalogues) reads each = absurd each.1
 
 module _ (parts : MessagesHaveParts) (differ : MessagesDiffer) (joined_stand : JoinedEntriesCanStand) (one_text : OneTextIsRead) (one_list : MessagesAreOne)
     (one_reading : OneReading) (stand : EntriesCanStand) (reads : WrittenTextReads) (stay : LiveEntriesStay) where
-  module _ (options : Options) (list : List TextEntry) (compiled' : Compiled) (is : IsCompiled options list compiled') (all : All IsReturned is.messages) where
+  module _ (options : Options) (list : List TextEntry) (compiled' : Compiled) (is : IsCompilation options list compiled') (all : All IsReturned is.messages) where
     abbrev text : List ℕ
     text = written_text (unformatted is.messages)
 

@@ -4,7 +4,7 @@ use Rattle.std.specs.List.{list_any, before_first, after_first, slice_split}
 use Rattle.mo_file.specs.Key.{is_nul, key_of}
 use Rattle.mo_file.specs.Message.{Message}
 use Rattle.mo_lookup.specs.Contents.{forms}
-use Rattle.po_entry.specs.TextEntry.{TextEntry, message_of}
+use Rattle.po_entry.specs.TextEntry.{TextEntry, plain_entry}
 
 abbrev pub is_eot : ℕ → Bool
 is_eot byte = byte == 4
@@ -29,7 +29,7 @@ taken_forms (Some plural) pieces = pieces
 -- a live entry without comments: the texts of a message
 abbrev pub entry_of_message : Message → TextEntry
 entry_of_message m =
-    message_of (context_of (key_of m.original)) (id_of (key_of m.original)) (plural_of m.original)
+    plain_entry (context_of (key_of m.original)) (id_of (key_of m.original)) (plural_of m.original)
     (taken_forms (plural_of m.original) (forms m.translation))
 
 -- the entries of the messages, in the order of the file

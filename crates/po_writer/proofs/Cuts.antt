@@ -43,7 +43,7 @@ two_or_more line [] = refl
 two_or_more line (b ∷ rest) =
     rw (ne_eqb (length (b ∷ rest)) 0 (λ e. omega (arith, e))) (sym (lt-ltb 1 (length (line ∷ cut (b ∷ rest))) (omega (arith, cut_some b rest))))
 
--- a text has more pieces than one where something stands behind the first
+-- a text has more pieces than one where something stands after the first
 pub several : (text line rest : List ℕ) → (0 < length text → cut text ≡ line ∷ cut rest) → (text ≡ [] → rest ≡ []) → not (length rest == 0) ≡ nat_lt 1 (length (cut text))
 several [] line rest pieces empty = rw (empty refl) refl
 several (b ∷ text) line rest pieces empty = rw (pieces (omega arith)) (two_or_more line rest)

@@ -11,34 +11,34 @@ use Rattle.po_entry.specs.Bytes.{Lacks, AreDistinct}
 use Rattle.po_entry.specs.TextEntry.{TextEntry, TextPrevious, with_line, previous_texts}
 use Rattle.po_entry.specs.Validity.{IsText, IsComment, IsTranslatorComment, IsReference, IsFlag, IsEntry}
 use Rattle.po_entry.specs.Strings.{own_marks}
-use Rattle.po_entry.specs.Notes.{comments_of, extracted_of, references_of, flag_words_of, fuzzy_of, flags_of, words_of, flag_words, is_fuzzy_word, with_flag, is_comma}
-use Rattle.po_entry.specs.Head.{Note}
+use Rattle.po_entry.specs.Comments.{comments_of, extracted_of, references_of, all_listed_flags, fuzzy_of, flags_of, listed_references, listed_flags, is_fuzzy_flag, with_flag, is_comma}
+use Rattle.po_entry.specs.Head.{CommentText}
 use Rattle.po_entry.specs.Body.{Body}
 use Rattle.po_entry.specs.Descent.{Reads, entry}
 use Rattle.po_entry.specs.Spelling.{entry_from, previous_marks}
-use Rattle.po_writer.specs.WrittenText.{comment_lines, words_line, all_flags, previous_prefix, own_prefix, previous_lines, own_lines, entry_lines}
+use Rattle.po_writer.specs.WrittenText.{comment_lines, elements_line, all_flags, previous_prefix, own_prefix, previous_lines, own_lines, entry_lines}
 use Rattle.po_writer.proofs.Utf8.{IsLine, is_plain, line-append, line-empty, plain_line}
 use Rattle.po_writer.proofs.Spelling.{Block, two_blocks}
 use Rattle.po_writer.proofs.Tokens.{no_prefix, previous_live, previous_obsolete, own_obsolete}
 use Rattle.po_writer.proofs.KeywordTexts.{IsLinePrefix, IsQuotable}
-use Rattle.po_writer.proofs.Heads.{IsFresh, HeadPart, two_parts, remarks, IsMarked, comments_block, translator_shape, extracted_shape, reference_shape, flags_shape}
-use Rattle.po_writer.proofs.Words.{IsWord, IsEnded, word_ended, IsFlagWord, flag_ended}
-use Rattle.po_writer.proofs.Fields.{words_text, all_remarks, comments_kept, extracted_kept, reference_texts, flag_texts, references_kept, flag_words_kept, fuzzy_kept, flags_kept, words_block}
-use Rattle.po_writer.proofs.Bodies.{WordsWritten, BodyPart, HasForms, body_block, all_previous, previous_kept, previous_lines_block}
+use Rattle.po_writer.proofs.Heads.{IsFresh, HeadPart, two_parts, head_comments, IsMarked, comments_block, translator_shape, extracted_shape, reference_shape, flags_shape}
+use Rattle.po_writer.proofs.WrittenElements.{IsElement, IsEnded, element_ended, IsFlagElement, flag_ended}
+use Rattle.po_writer.proofs.Fields.{elements_text, all_comments, comments_kept, extracted_kept, reference_texts, flag_texts, references_kept, flag_elements_kept, fuzzy_kept, flags_kept, elements_block}
+use Rattle.po_writer.proofs.Bodies.{KeywordsWritten, BodyPart, HasForms, body_block, all_previous, previous_kept, previous_lines_block}
 
--- behind whatever stands before, the items read as this entry, and then what stands behind them
+-- after whatever stands before, the items read as this entry, and then what stands after them
 abbrev pub EntryPart : TextEntry → List TextItem → Type 0
 EntryPart e here =
     (later : List TextItem) (read : List TextEntry) → IsFresh later → Reads later read → IsFresh (here ++ later) × ((line : ℕ) × Reads (here ++ later) (with_line line e ∷ read))
 
 -- the comments that an entry is written with
-abbrev pub entry_remarks : TextEntry → List Note
-entry_remarks e = all_remarks e.comments e.extracted (words_text (32 ∷ []) e.references) (words_text (44 ∷ 32 ∷ []) (all_flags e.fuzzy e.flags))
+abbrev pub entry_comments : TextEntry → List CommentText
+entry_comments e = all_comments e.comments e.extracted (elements_text (32 ∷ []) e.references) (elements_text (44 ∷ 32 ∷ []) (all_flags e.fuzzy e.flags))
 
--- what makes the words of an entry come back
-pub record HasWords (e : TextEntry) : Type 0 where
-  pub references : All IsWord e.references
-  pub flags : All IsFlagWord (all_flags e.fuzzy e.flags)
+-- what makes the elements of an entry come back
+pub record HasElements (e : TextEntry) : Type 0 where
+  pub references : All IsElement e.references
+  pub flags : All IsFlagElement (all_flags e.fuzzy e.flags)
   pub not_fuzzy : All (λ flag. flag ≡ codes "fuzzy" → ⊥) e.flags
   pub distinct : AreDistinct e.flags
 
@@ -66,23 +66,23 @@ same_entry : (e : TextEntry) (line : ℕ) (comments extracted references flags :
     → comments ≡ e.comments → extracted ≡ e.extracted → references ≡ e.references → fuzzy ≡ e.fuzzy → flags ≡ e.flags → texts ≡ e.previous → made comments extracted references fuzzy flags texts e line ≡ with_line line e
 same_entry e line comments extracted references flags fuzzy texts a b c d f p = rw (a, b, c, d, f, p) refl
 
-entry_back : (e : TextEntry) (line : ℕ) → HasWords e → entry_from (entry_remarks e) (all_previous e.previous) (body_of e line) ≡ with_line line e
+entry_back : (e : TextEntry) (line : ℕ) → HasElements e → entry_from (entry_comments e) (all_previous e.previous) (body_of e line) ≡ with_line line e
 entry_back e line h =
-    let R = words_text (32 ∷ []) e.references in
-    let F = words_text (44 ∷ 32 ∷ []) (all_flags e.fuzzy e.flags) in
-    let words : flag_words_of (entry_remarks e) ≡ all_flags e.fuzzy e.flags = ap (flat_map flag_words) (flag_texts e.comments e.extracted R F) ∙ flag_words_kept (all_flags e.fuzzy e.flags) h.flags in
-    let comments : comments_of (entry_remarks e) ≡ e.comments = comments_kept e.comments e.extracted R F in
-    let extracted : extracted_of (entry_remarks e) ≡ e.extracted = extracted_kept e.comments e.extracted R F in
-    let references : references_of (entry_remarks e) ≡ e.references = ap (flat_map words_of) (reference_texts e.comments e.extracted R F) ∙ references_kept e.references h.references in
-    let fuzzy : fuzzy_of (entry_remarks e) ≡ e.fuzzy = ap (list_any is_fuzzy_word) words ∙ fuzzy_kept e.fuzzy e.flags h.not_fuzzy in
-    let flags : flags_of (entry_remarks e) ≡ e.flags = ap (fold with_flag []) words ∙ flags_kept e.fuzzy e.flags h.not_fuzzy h.distinct in
+    let R = elements_text (32 ∷ []) e.references in
+    let F = elements_text (44 ∷ 32 ∷ []) (all_flags e.fuzzy e.flags) in
+    let written : all_listed_flags (entry_comments e) ≡ all_flags e.fuzzy e.flags = ap (flat_map listed_flags) (flag_texts e.comments e.extracted R F) ∙ flag_elements_kept (all_flags e.fuzzy e.flags) h.flags in
+    let comments : comments_of (entry_comments e) ≡ e.comments = comments_kept e.comments e.extracted R F in
+    let extracted : extracted_of (entry_comments e) ≡ e.extracted = extracted_kept e.comments e.extracted R F in
+    let references : references_of (entry_comments e) ≡ e.references = ap (flat_map listed_references) (reference_texts e.comments e.extracted R F) ∙ references_kept e.references h.references in
+    let fuzzy : fuzzy_of (entry_comments e) ≡ e.fuzzy = ap (list_any is_fuzzy_flag) written ∙ fuzzy_kept e.fuzzy e.flags h.not_fuzzy in
+    let flags : flags_of (entry_comments e) ≡ e.flags = ap (fold with_flag []) written ∙ flags_kept e.fuzzy e.flags h.not_fuzzy h.distinct in
     same_entry e line _ _ _ _ _ _ comments extracted references fuzzy flags (previous_kept e.previous)
 
-entry_part : (e : TextEntry) (head own : List TextItem) → HasWords e → HeadPart 0 3 (entry_remarks e ++ []) (all_previous e.previous) head → BodyPart e.obsolete e.context e.id e.plural e.forms own → EntryPart e (head ++ own)
-entry_part e head own words h g = λ later read fresh reads.
+entry_part : (e : TextEntry) (head own : List TextItem) → HasElements e → HeadPart 0 3 (entry_comments e ++ []) (all_previous e.previous) head → BodyPart e.obsolete e.context e.id e.plural e.forms own → EntryPart e (head ++ own)
+entry_part e head own written h g = λ later read fresh reads.
     let body = g later fresh in
-    let front = h (own ++ later) (own ++ later) [] [] body.2 in
-    rw (append_assoc head own later) (front.1, (body.0, subst (λ x. Reads (head ++ (own ++ later)) (x ∷ read)) (entry_back e body.0 words) (entry (rw (append-nil (entry_remarks e ++ []), append-nil (entry_remarks e), append-nil (all_previous e.previous)) at (front.0 0 (omega arith))) body.1 reads)))
+    let prefix = h (own ++ later) (own ++ later) [] [] body.2 in
+    rw (append_assoc head own later) (prefix.1, (body.0, subst (λ x. Reads (head ++ (own ++ later)) (x ∷ read)) (entry_back e body.0 written) (entry (rw (append-nil (entry_comments e ++ []), append-nil (entry_comments e), append-nil (all_previous e.previous)) at (prefix.0 0 (omega arith))) body.1 reads)))
 
 All-both : {X : Type 0} (P Q R : X → Type 0) (xs : List X) → ((x : X) → P x → Q x → R x) → All P xs → All Q xs → All R xs
 All-both P Q R xs both h g = λ k d inside. both (slice_index_or xs k d) (h k d inside) (g k d inside)
@@ -106,16 +106,16 @@ some_text : (text : List ℕ) → text ≢ [] → 0 < length text
 some_text [] h = absurd (h refl)
 some_text (b ∷ text) h = omega arith
 
-reference_word : (text : List ℕ) → IsReference text → IsWord text
-reference_word text h = (some_text text h.some_byte, h.no_blank)
+reference_element : (text : List ℕ) → IsReference text → IsElement text
+reference_element text h = (some_text text h.some_byte, h.no_blank)
 
 no_comma : (b : ℕ) → b ≢ 44 → is_comma b ≡ false
 no_comma b h = ne_eqb b 44 h
 
-flag_word : (text : List ℕ) → IsFlag text → IsFlagWord text
-flag_word text h = record { some = some_text text h.some_byte; no_blank_ends = h.no_blank_ends; no_comma = All-weaker (λ b. b ≢ 44) (λ b. is_comma b ≡ false) no_comma text h.no_comma }
+flag_element : (text : List ℕ) → IsFlag text → IsFlagElement text
+flag_element text h = record { some = some_text text h.some_byte; no_blank_ends = h.no_blank_ends; no_comma = All-weaker (λ b. b ≢ 44) (λ b. is_comma b ≡ false) no_comma text h.no_comma }
 
--- the list with one more in front, where the test passes
+-- the list with one more at the beginning, where the test passes
 all_with : (P : List ℕ → Type 0) (fuzzy : Bool) (flags : List (List ℕ)) → P (codes "fuzzy") → All P flags → All P (all_flags fuzzy flags)
 all_with P true flags h g = All-cons P (codes "fuzzy") flags h g
 all_with P false flags h g = g
@@ -125,13 +125,13 @@ five_bytes =
     let P : ℕ → Type 0 = λ b. is_comma b ≡ false in
     All-cons P 102 (codes "uzzy") refl (All-cons P 117 (codes "zzy") refl (All-cons P 122 (codes "zy") refl (All-cons P 122 (codes "y") refl (All-cons P 121 [] refl (All-nil P)))))
 
-fuzzy_word : IsFlagWord (codes "fuzzy")
-fuzzy_word = record { some = omega arith; no_blank_ends = refl; no_comma = five_bytes }
+fuzzy_element : IsFlagElement (codes "fuzzy")
+fuzzy_element = record { some = omega arith; no_blank_ends = refl; no_comma = five_bytes }
 
-words_of_entry : (e : TextEntry) → IsEntry e → HasWords e
-words_of_entry e h = record {
-  references = All-weaker IsReference IsWord reference_word e.references h.references;
-  flags = all_with IsFlagWord e.fuzzy e.flags fuzzy_word (All-weaker IsFlag IsFlagWord flag_word e.flags h.flags);
+elements_of_entry : (e : TextEntry) → IsEntry e → HasElements e
+elements_of_entry e h = record {
+  references = All-weaker IsReference IsElement reference_element e.references h.references;
+  flags = all_with IsFlagElement e.fuzzy e.flags fuzzy_element (All-weaker IsFlag IsFlagElement flag_element e.flags h.flags);
   not_fuzzy = All-weaker IsFlag (λ flag. flag ≡ codes "fuzzy" → ⊥) (λ flag g. g.not_fuzzy) e.flags h.flags;
   distinct = h.distinct_flags;
 }
@@ -162,17 +162,17 @@ entry_forms : (e : TextEntry) → IsEntry e → IsShort e → All IsText e.forms
 entry_forms e h short forms plural = record { some = h.some_form; one = h.one_form; few = short; quotable = All-weaker IsText IsQuotable text_quotable e.forms forms; plural_text = optional_quotable e.plural plural }
 
 -- an entry's lines
-pub entry_block : WordsWritten → (e : TextEntry) → IsEntry e → IsShort e → Block (EntryPart e) (entry_lines e)
-entry_block words e h short =
+pub entry_block : KeywordsWritten → (e : TextEntry) → IsEntry e → IsShort e → Block (EntryPart e) (entry_lines e)
+entry_block written e h short =
     let cs = e.comments in
     let es = e.extracted in
     let rs = e.references in
     let fs = all_flags e.fuzzy e.flags in
-    let T = remarks Translator cs in
-    let E = remarks Extracted es in
-    let R = remarks Reference (words_text (32 ∷ []) rs) in
-    let F = remarks Flags (words_text (44 ∷ 32 ∷ []) fs) in
-    let has_words = words_of_entry e h in
+    let T = head_comments Translator cs in
+    let E = head_comments Extracted es in
+    let R = head_comments Reference (elements_text (32 ∷ []) rs) in
+    let F = head_comments Flags (elements_text (44 ∷ 32 ∷ []) fs) in
+    let has_elements = elements_of_entry e h in
     let clean_flags = all_with IsLine e.fuzzy e.flags (plain_line (codes "fuzzy") refl) (All-weaker IsFlag IsLine (λ t g. text_line t g.valid g.one_line) e.flags h.flags) in
     let clean_references = All-weaker IsReference IsLine (λ t g. text_line t g.valid g.one_line) rs h.references in
     let previous = e.previous in
@@ -190,12 +190,12 @@ entry_block words e h short =
     let before_two = All-left IsText (option_to_list previous.context ++ option_to_list previous.id) (option_to_list previous.plural) before in
     let comments = comments_block 0 Translator (codes "#") cs (All-weaker IsTranslatorComment (IsMarked Translator (codes "#")) translator_marked cs h.comments) in
     let extracted = comments_block 0 Extracted (codes "#.") es (All-weaker IsComment (IsMarked Extracted (codes "#.")) extracted_marked es h.extracted) in
-    let references = words_block Reference (codes "#: ") (codes " ") rs (λ t. reference_shape (32 ∷ t)) (plain_line (codes "#: ") refl) (λ t. omega arith) (plain_line (codes " ") refl) clean_references (All-weaker IsWord IsEnded word_ended rs has_words.references) in
-    let flags = words_block Flags (codes "#, ") (codes ", ") fs (λ t. flags_shape (32 ∷ t)) (plain_line (codes "#, ") refl) (λ t. omega arith) (plain_line (codes ", ") refl) clean_flags (All-weaker IsFlagWord IsEnded flag_ended fs has_words.flags) in
-    let head = previous_lines_block words (previous_prefix e.obsolete) e.obsolete previous (previous_prefix_line e.obsolete) (optional_quotable previous.context (All-left IsText (option_to_list previous.context) (option_to_list previous.id) before_two)) (optional_quotable previous.id (All-right IsText (option_to_list previous.context) (option_to_list previous.id) before_two)) (optional_quotable previous.plural before_plural) in
-    let own = body_block words (own_prefix e.obsolete) e.obsolete e.context e.id e.plural e.forms (own_prefix_line e.obsolete) (optional_quotable e.context context) (text_quotable e.id id) (entry_forms e h short forms plural) in
+    let references = elements_block Reference (codes "#: ") (codes " ") rs (λ t. reference_shape (32 ∷ t)) (plain_line (codes "#: ") refl) (λ t. omega arith) (plain_line (codes " ") refl) clean_references (All-weaker IsElement IsEnded element_ended rs has_elements.references) in
+    let flags = elements_block Flags (codes "#, ") (codes ", ") fs (λ t. flags_shape (32 ∷ t)) (plain_line (codes "#, ") refl) (λ t. omega arith) (plain_line (codes ", ") refl) clean_flags (All-weaker IsFlagElement IsEnded flag_ended fs has_elements.flags) in
+    let head = previous_lines_block written (previous_prefix e.obsolete) e.obsolete previous (previous_prefix_line e.obsolete) (optional_quotable previous.context (All-left IsText (option_to_list previous.context) (option_to_list previous.id) before_two)) (optional_quotable previous.id (All-right IsText (option_to_list previous.context) (option_to_list previous.id) before_two)) (optional_quotable previous.plural before_plural) in
+    let own = body_block written (own_prefix e.obsolete) e.obsolete e.context e.id e.plural e.forms (own_prefix_line e.obsolete) (optional_quotable e.context context) (text_quotable e.id id) (entry_forms e h short forms plural) in
     let two = two_blocks (HeadPart 0 0 T []) (HeadPart 0 0 E []) (HeadPart 0 0 (T ++ E) []) (comment_lines (codes "#") cs) (comment_lines (codes "#.") es) (λ a b g i. two_parts 0 0 0 T E [] [] a b g i) comments extracted in
-    let three = two_blocks (HeadPart 0 0 (T ++ E) []) (HeadPart 0 0 R []) (HeadPart 0 0 ((T ++ E) ++ R) []) _ (words_line (codes "#: ") (codes " ") rs) (λ a b g i. two_parts 0 0 0 (T ++ E) R [] [] a b g i) two references in
-    let four = two_blocks (HeadPart 0 0 ((T ++ E) ++ R) []) (HeadPart 0 0 F []) (HeadPart 0 0 (((T ++ E) ++ R) ++ F) []) _ (words_line (codes "#, ") (codes ", ") fs) (λ a b g i. two_parts 0 0 0 ((T ++ E) ++ R) F [] [] a b g i) three flags in
-    let all = two_blocks (HeadPart 0 0 (entry_remarks e) []) (HeadPart 0 3 [] (all_previous previous)) (HeadPart 0 3 (entry_remarks e ++ []) (all_previous previous)) _ (previous_lines (previous_prefix e.obsolete) previous) (λ a b g i. two_parts 0 0 3 (entry_remarks e) [] [] (all_previous previous) a b g i) four head in
-    two_blocks (HeadPart 0 3 (entry_remarks e ++ []) (all_previous previous)) (BodyPart e.obsolete e.context e.id e.plural e.forms) (EntryPart e) _ (own_lines (own_prefix e.obsolete) e) (λ a b g i. entry_part e a b has_words g i) all own
+    let three = two_blocks (HeadPart 0 0 (T ++ E) []) (HeadPart 0 0 R []) (HeadPart 0 0 ((T ++ E) ++ R) []) _ (elements_line (codes "#: ") (codes " ") rs) (λ a b g i. two_parts 0 0 0 (T ++ E) R [] [] a b g i) two references in
+    let four = two_blocks (HeadPart 0 0 ((T ++ E) ++ R) []) (HeadPart 0 0 F []) (HeadPart 0 0 (((T ++ E) ++ R) ++ F) []) _ (elements_line (codes "#, ") (codes ", ") fs) (λ a b g i. two_parts 0 0 0 ((T ++ E) ++ R) F [] [] a b g i) three flags in
+    let all = two_blocks (HeadPart 0 0 (entry_comments e) []) (HeadPart 0 3 [] (all_previous previous)) (HeadPart 0 3 (entry_comments e ++ []) (all_previous previous)) _ (previous_lines (previous_prefix e.obsolete) previous) (λ a b g i. two_parts 0 0 3 (entry_comments e) [] [] (all_previous previous) a b g i) four head in
+    two_blocks (HeadPart 0 3 (entry_comments e ++ []) (all_previous previous)) (BodyPart e.obsolete e.context e.id e.plural e.forms) (EntryPart e) _ (own_lines (own_prefix e.obsolete) e) (λ a b g i. entry_part e a b has_elements g i) all own

@@ -22,7 +22,7 @@ use Rattle.po_writer.proofs.Tokens.{QuotedFormsSpell, IsPrefix, IsKeyword, strin
 abbrev pub StringsPart : Marks → List ℕ → List TextItem → Type 0
 StringsPart marks text here = (later : List TextItem) → (begins_string later ≡ false → IsStrings marks (here ++ later) text later) × (begins_string (here ++ later) ≡ true)
 
--- the items are a word with the strings of its text
+-- the items are a keyword with the strings of its text
 abbrev pub TextPart : Keyword → Marks → List ℕ → List TextItem → Type 0
 TextPart keyword marks text here = (number : ℕ) × (strings : List TextItem) × (here ≡ Word keyword marks number ∷ strings) × StringsPart marks text strings
 
@@ -70,7 +70,7 @@ strings_block law prefix marks piece [] p h =
 strings_block law prefix marks piece (next ∷ pieces) p h =
     let rest = strings_block law prefix marks next pieces p (All-tail IsQuotable piece (next ∷ pieces) h) in
     two_blocks (OneString marks piece) (StringsPart marks (joined (next ∷ pieces))) (StringsPart marks (joined (piece ∷ next ∷ pieces))) (string_line prefix piece) (flat_map (string_line prefix) (next ∷ pieces))
-    (λ front later g i. rw g.1 (first_string marks g.0 piece (joined (next ∷ pieces)) later i)) (one_string law prefix marks piece p (All-head IsQuotable piece (next ∷ pieces) h)) rest
+    (λ before later g i. rw g.1 (first_string marks g.0 piece (joined (next ∷ pieces)) later i)) (one_string law prefix marks piece p (All-head IsQuotable piece (next ∷ pieces) h)) rest
 
 onto_joined : (b : ℕ) (pieces : List (List ℕ)) → joined (onto_first b pieces) ≡ b ∷ joined pieces
 onto_joined b [] = refl
@@ -95,7 +95,7 @@ pub record IsLineKeyword (spelling : List ℕ) (keyword : Keyword) : Type 0 wher
   pub line : IsLine spelling
   pub low : BeginsLow spelling
 
--- a word and one string on its line
+-- a keyword and one string on its line
 abbrev OneLine : Keyword → Marks → List ℕ → List TextItem → Type 0
 OneLine keyword marks text items = (number : ℕ) × (items ≡ Word keyword marks number ∷ Str text marks number ∷ [])
 
@@ -115,11 +115,11 @@ several_lines : QuotedFormsSpell → (prefix spelling : List ℕ) (keyword : Key
     → 1 < length pieces → All IsQuotable pieces → joined pieces ≡ text → Block (TextPart keyword marks text) ((prefix ++ spelling) ++ 32 ∷ (string_line [] [] ++ flat_map (string_line prefix) pieces))
 several_lines law prefix spelling keyword marks text [] p k many h e = absurd (omega (arith, many))
 several_lines law prefix spelling keyword marks text (piece ∷ pieces) p k many h e =
-    let front = keyword_line law prefix spelling keyword marks [] p k (record { utf8 = IsUtf8-nil; no_nul = All-nil (λ b. b ≢ 0) }) in
+    let before = keyword_line law prefix spelling keyword marks [] p k (record { utf8 = IsUtf8-nil; no_nul = All-nil (λ b. b ≢ 0) }) in
     let strings = strings_block law prefix marks piece pieces p h in
     let all = flat_map (string_line prefix) (piece ∷ pieces) in
     let both = two_blocks (OneLine keyword marks []) (StringsPart marks (joined (piece ∷ pieces))) (TextPart keyword marks (joined (piece ∷ pieces))) ((prefix ++ spelling) ++ 32 ∷ string_line [] []) all
-    (λ here later g i. (g.0, Str [] marks g.0 ∷ later, ap (λ t. t ++ later) g.1, first_string marks g.0 [] (joined (piece ∷ pieces)) later i)) front strings in
+    (λ here later g i. (g.0, Str [] marks g.0 ∷ later, ap (λ t. t ++ later) g.1, first_string marks g.0 [] (joined (piece ∷ pieces)) later i)) before strings in
     subst (λ t. Block (TextPart keyword marks t) ((prefix ++ spelling) ++ 32 ∷ (string_line [] [] ++ all))) e (subst (Block (TextPart keyword marks (joined (piece ∷ pieces)))) (append_assoc (prefix ++ spelling) (32 ∷ string_line [] []) all) both)
 
 one_line : QuotedFormsSpell → (prefix spelling : List ℕ) (keyword : Keyword) (marks : Marks) (text : List ℕ) → IsLinePrefix prefix marks → IsLineKeyword spelling keyword → IsQuotable text

@@ -4,7 +4,7 @@ pub mod Utf8
 pub mod Spelling
 pub mod Tokens
 pub mod Heads
-pub mod Words
+pub mod WrittenElements
 pub mod KeywordTexts
 pub mod Bodies
 pub mod Numbered

@@ -1,4 +1,4 @@
--- The word of a plural form, with its index.
+-- The keyword of a plural form, with its index.
 use Rattle.std.proofs.Common.{◌≡◌, ◌^◌, refl, ℕ, ◌<◌, ◌≤◌, false, List, [], ◌∷◌, ◌++◌, append_assoc, length, codes, decimal, arith}
 use Rattle.std.specs.Char.{digit_value}
 use Rattle.std.specs.Str.Parse.{AllDigits, IsNumeral, digits_value}

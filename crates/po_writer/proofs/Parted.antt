@@ -6,7 +6,7 @@ use Rattle.std.proofs.lemmas.List.Elements.{filter-append, filter_agree}
 use Rattle.std.proofs.lemmas.List.Sums.{fold-append}
 use Rattle.std.proofs.lemmas.Bool.{eqb-true, eqb-false}
 use Rattle.po_entry.specs.TextEntry.{TextEntry}
-use Rattle.po_writer.specs.Separated.{with_entry, with_obsolete}
+use Rattle.po_writer.specs.Separated.{with_entry, entries_marked}
 use Rattle.po_writer.specs.TextParts.{AreParts}
 use Rattle.po_writer.specs.WrittenText.{entry_lines, in_order, written_text}
 use Rattle.po_writer.specs.declared.parts.TextParts.{TextParts}
@@ -18,29 +18,29 @@ grown before entries =
     ap (λ text. fold with_entry text entries) (sym (joined before)) ∙ sym (fold-append with_entry [] before entries) ∙ joined (before ++ entries)
 
 pub live_grown : (before entries : List TextEntry)
-    → fold with_entry (in_order (filter (λ e. not e.obsolete) before)) (with_obsolete false entries) ≡ in_order (filter (λ e. not e.obsolete) (before ++ entries))
+    → fold with_entry (in_order (filter (λ e. not e.obsolete) before)) (entries_marked false entries) ≡ in_order (filter (λ e. not e.obsolete) (before ++ entries))
 live_grown before entries =
     rw (filter_agree _ _ (λ (e : TextEntry). not_marked e.obsolete) entries, filter-append (λ (e : TextEntry). not e.obsolete) before entries)
     (grown (filter (λ e. not e.obsolete) before) (filter (λ e. not e.obsolete) entries))
 
 pub obsolete_grown : (before entries : List TextEntry)
-    → fold with_entry (in_order (filter (λ e. e.obsolete) before)) (with_obsolete true entries) ≡ in_order (filter (λ e. e.obsolete) (before ++ entries))
+    → fold with_entry (in_order (filter (λ e. e.obsolete) before)) (entries_marked true entries) ≡ in_order (filter (λ e. e.obsolete) (before ++ entries))
 obsolete_grown before entries =
     rw (filter_agree _ _ (λ (e : TextEntry). marked e.obsolete) entries, filter-append (λ (e : TextEntry). e.obsolete) before entries)
     (grown (filter (λ e. e.obsolete) before) (filter (λ e. e.obsolete) entries))
 
-none_behind : (front behind : List TextEntry) → length (in_order behind) ≡ 0 → in_order front ≡ in_order (front ++ behind)
-none_behind front [] none = ap in_order (sym (append-nil front))
-none_behind front (entry ∷ entries) none = absurd (omega (arith, none, some_text (entry ∷ entries) (omega arith)))
+none_after : (prefix after : List TextEntry) → length (in_order after) ≡ 0 → in_order prefix ≡ in_order (prefix ++ after)
+none_after prefix [] none = ap in_order (sym (append-nil prefix))
+none_after prefix (entry ∷ entries) none = absurd (omega (arith, none, some_text (entry ∷ entries) (omega arith)))
 
-none_before : (front behind : List TextEntry) → length (in_order front) ≡ 0 → in_order behind ≡ in_order (front ++ behind)
-none_before [] behind none = refl
-none_before (entry ∷ entries) behind none = absurd (omega (arith, none, some_text (entry ∷ entries) (omega arith)))
+none_before : (prefix after : List TextEntry) → length (in_order prefix) ≡ 0 → in_order after ≡ in_order (prefix ++ after)
+none_before [] after none = refl
+none_before (entry ∷ entries) after none = absurd (omega (arith, none, some_text (entry ∷ entries) (omega arith)))
 
-some_both : (front behind : List TextEntry) → 0 < length (in_order front) → 0 < length (in_order behind) → (in_order front ++ 10 ∷ []) ++ in_order behind ≡ in_order (front ++ behind)
-some_both front [] some more = absurd (omega (arith, more))
-some_both front (entry ∷ entries) some more =
-    append_assoc (in_order front) (10 ∷ []) (in_order (entry ∷ entries)) ∙ sym (further (in_order front) (entry ∷ entries) some) ∙ grown front (entry ∷ entries)
+some_both : (prefix after : List TextEntry) → 0 < length (in_order prefix) → 0 < length (in_order after) → (in_order prefix ++ 10 ∷ []) ++ in_order after ≡ in_order (prefix ++ after)
+some_both prefix [] some more = absurd (omega (arith, more))
+some_both prefix (entry ∷ entries) some more =
+    append_assoc (in_order prefix) (10 ∷ []) (in_order (entry ∷ entries)) ∙ sym (further (in_order prefix) (entry ∷ entries) some) ∙ grown prefix (entry ∷ entries)
 
 abbrev pub live_of : List TextEntry → List TextEntry
 live_of entries = filter (λ e. not e.obsolete) entries
@@ -50,7 +50,7 @@ obsolete_of entries = filter (λ e. e.obsolete) entries
 
 -- the text is the live part, where the other is empty
 pub live_alone : (parts : TextParts) (entries : List TextEntry) → AreParts entries parts → (vec_len parts.obsolete == 0) ≡ true → parts.live.items ≡ written_text entries
-live_alone parts entries are none = are.live ∙ none_behind (live_of entries) (obsolete_of entries) (sym (ap length are.obsolete) ∙ sym parts.obsolete.ok.0 ∙ eqb-true _ _ none)
+live_alone parts entries are none = are.live ∙ none_after (live_of entries) (obsolete_of entries) (sym (ap length are.obsolete) ∙ sym parts.obsolete.ok.0 ∙ eqb-true _ _ none)
 
 -- the text is the obsolete part, where the other is empty
 pub obsolete_alone : (parts : TextParts) (entries : List TextEntry) → AreParts entries parts → (vec_len parts.live == 0) ≡ true → parts.obsolete.items ≡ written_text entries

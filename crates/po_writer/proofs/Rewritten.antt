@@ -59,11 +59,11 @@ arranged_again : (entries : List TextEntry) → arranged (arranged entries) ≡ 
 arranged_again entries =
     let live = kept not entries in
     let obsolete = kept (λ b. b) entries in
-    let front : kept not (live ++ obsolete) ≡ live =
+    let prefix : kept not (live ++ obsolete) ≡ live =
     filter-append (λ e. not e.obsolete) live obsolete ∙ rw (kept_again not entries, kept_other (λ b. b) not entries not_true) (append-nil live) in
     let back : kept (λ b. b) (live ++ obsolete) ≡ obsolete =
     filter-append (λ e. e.obsolete) live obsolete ∙ rw (kept_again (λ b. b) entries, kept_other not (λ b. b) entries not_not_true) refl in
-    rw (front, back) refl
+    rw (prefix, back) refl
 
 arranged_same : (entries : List TextEntry) → arranged (unnumbered entries) ≡ unnumbered (arranged entries)
 arranged_same entries =

@@ -13,7 +13,7 @@ use Rattle.po_writer.proofs.Utf8.{IsLine, is_plain, ascii_utf8}
 abbrev pub Spells : ℕ → List ℕ → List TextItem → Type 0
 Spells number text items = SpellsLines number (lines_of text) items
 
--- whole lines that spell such items before whatever stands behind them
+-- whole lines that spell such items before whatever stands after them
 pub record Spelling (P : List TextItem → Type 0) (text : List ℕ) (number : ℕ) : Type 0 where
   pub items : List TextItem
   pub holds : P items

@@ -22,7 +22,7 @@ use Rattle.po_writer.proofs.Spelling.{Spells, Block, BeginsLow, empty_block, two
 use Rattle.po_writer.proofs.Tokens.{QuotedFormsSpell, context_keyword, id_keyword, plural_keyword, single_keyword}
 use Rattle.po_writer.proofs.Numbered.{numbered}
 use Rattle.po_writer.proofs.Heads.{IsFresh}
-use Rattle.po_writer.proofs.Bodies.{WordsWritten}
+use Rattle.po_writer.proofs.Bodies.{KeywordsWritten}
 use Rattle.po_writer.proofs.Entries.{EntryPart, IsShort, entry_block}
 use Rattle.po_writer.proofs.Utf8.{plain_line}
 
@@ -46,18 +46,18 @@ one_more e entries here later h g =
 no_entries : ListPart [] []
 no_entries = ((refl, refl), [], comments tt, refl)
 
-further_block : WordsWritten → (entries : List TextEntry) → All IsEntry entries → All IsShort entries → Block (ListPart entries) (flat_map (λ e. (10 ∷ []) ++ entry_lines e) entries)
-further_block words [] h short = empty_block (ListPart []) no_entries
-further_block words (e ∷ entries) h short =
+further_block : KeywordsWritten → (entries : List TextEntry) → All IsEntry entries → All IsShort entries → Block (ListPart entries) (flat_map (λ e. (10 ∷ []) ++ entry_lines e) entries)
+further_block keywords [] h short = empty_block (ListPart []) no_entries
+further_block keywords (e ∷ entries) h short =
     two_blocks (EntryPart e) (ListPart entries) (ListPart (e ∷ entries)) ((10 ∷ []) ++ entry_lines e) (flat_map (λ x. (10 ∷ []) ++ entry_lines x) entries) (one_more e entries)
-    (two_blocks (λ here. here ≡ []) (EntryPart e) (EntryPart e) (10 ∷ []) (entry_lines e) (λ here later g i. rw g i) empty_line (entry_block words e (All-head IsEntry e entries h) (All-head IsShort e entries short)))
-    (further_block words entries (All-tail IsEntry e entries h) (All-tail IsShort e entries short))
+    (two_blocks (λ here. here ≡ []) (EntryPart e) (EntryPart e) (10 ∷ []) (entry_lines e) (λ here later g i. rw g i) empty_line (entry_block keywords e (All-head IsEntry e entries h) (All-head IsShort e entries short)))
+    (further_block keywords entries (All-tail IsEntry e entries h) (All-tail IsShort e entries short))
 
-list_block : WordsWritten → (entries : List TextEntry) → All IsEntry entries → All IsShort entries → Block (ListPart entries) (join_by entry_lines (10 ∷ []) entries)
-list_block words [] h short = empty_block (ListPart []) no_entries
-list_block words (e ∷ entries) h short =
+list_block : KeywordsWritten → (entries : List TextEntry) → All IsEntry entries → All IsShort entries → Block (ListPart entries) (join_by entry_lines (10 ∷ []) entries)
+list_block keywords [] h short = empty_block (ListPart []) no_entries
+list_block keywords (e ∷ entries) h short =
     two_blocks (EntryPart e) (ListPart entries) (ListPart (e ∷ entries)) (entry_lines e) (flat_map (λ x. (10 ∷ []) ++ entry_lines x) entries) (one_more e entries)
-    (entry_block words e (All-head IsEntry e entries h) (All-head IsShort e entries short)) (further_block words entries (All-tail IsEntry e entries h) (All-tail IsShort e entries short))
+    (entry_block keywords e (All-head IsEntry e entries h) (All-head IsShort e entries short)) (further_block keywords entries (All-tail IsEntry e entries h) (All-tail IsShort e entries short))
 
 -- each form takes a byte
 few_forms : (prefix : List ℕ) (index : ℕ) (forms : List (List ℕ)) → length forms ≤ length (form_lines prefix index forms)
@@ -76,13 +76,13 @@ few_translations prefix None forms = few_singles prefix forms
 few_translations prefix (Some plural) forms =
     omega (arith, length-append (keyword_lines prefix (codes "msgid_plural") plural) (form_lines prefix 0 forms), few_forms prefix 0 forms)
 
-behind_length : (xs ys : List ℕ) (n : ℕ) → n ≤ length ys → n ≤ length (xs ++ ys)
-behind_length xs ys n h = omega (arith, h, length-append xs ys)
+after_length : (xs ys : List ℕ) (n : ℕ) → n ≤ length ys → n ≤ length (xs ++ ys)
+after_length xs ys n h = omega (arith, h, length-append xs ys)
 
 few_in_entry : (e : TextEntry) → length e.forms ≤ length (entry_lines e)
 few_in_entry e =
     let prefix = own_prefix e.obsolete in
-    behind_length _ (own_lines prefix e) (length e.forms) (behind_length _ (translation_lines prefix e.plural e.forms) (length e.forms) (few_translations prefix e.plural e.forms))
+    after_length _ (own_lines prefix e) (length e.forms) (after_length _ (translation_lines prefix e.plural e.forms) (length e.forms) (few_translations prefix e.plural e.forms))
 
 -- an entry's text stands in the whole
 abbrev FitsIn : ℕ → TextEntry → Type 0
@@ -139,8 +139,8 @@ numbered_same : (entries read : List TextEntry) → IsNumbered entries read → 
 numbered_same [] read same = rw same refl
 numbered_same (e ∷ entries) read same = rw same.2 (ap (λ t. with_line 0 e ∷ t) (numbered_same entries same.1 same.3))
 
-words_written : QuotedFormsSpell → WordsWritten
-words_written law = record {
+keywords_written : QuotedFormsSpell → KeywordsWritten
+keywords_written law = record {
   law = law;
   context = record { token = context_keyword; line = plain_line (codes "msgctxt") refl; low = omega arith };
   id = record { token = id_keyword; line = plain_line (codes "msgid") refl; low = omega arith };
@@ -158,7 +158,7 @@ pub written_reads : QuotedFormsSpell → (entries : List TextEntry) → All IsCa
     → (read : List TextEntry) × ReadsText (written_text entries) read × (map (with_line 0) read ≡ map (with_line 0) (arranged entries))
 written_reads law entries h small =
     let all = all_arranged entries h in
-    let block = list_block (words_written law) (arranged entries) (All-weaker IsCatalogueEntry IsEntry (λ e g. g.valid) (arranged entries) all) (short_entries (arranged entries) small) in
+    let block = list_block (keywords_written law) (arranged entries) (All-weaker IsCatalogueEntry IsEntry (λ e g. g.valid) (arranged entries) all) (short_entries (arranged entries) small) in
     let spelt = spelt_text (ListPart (arranged entries)) (written_text entries) block small in
     let read = spelt.1.1 in (
       read,

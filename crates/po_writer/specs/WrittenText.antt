@@ -13,7 +13,7 @@ cut (b ∷ text) = if b == 10 then (10 ∷ []) ∷ cut text else onto_first b (c
 abbrev pub string_line : List ℕ → List ℕ → List ℕ
 string_line prefix piece = prefix ++ quoted piece ++ 10 ∷ []
 
--- What stands behind a keyword: the text as one string; or where a LF stands before its last byte, an empty string and then one string a line.
+-- What stands after a keyword: the text as one string; or where a LF stands before its last byte, an empty string and then one string a line.
 abbrev pub text_lines : List ℕ → List ℕ → List ℕ
 text_lines prefix text =
     if nat_lt 1 (length (cut text)) then string_line [] [] ++ flat_map (string_line prefix) (cut text)
@@ -28,14 +28,14 @@ abbrev pub optional_lines : List ℕ → List ℕ → Option (List ℕ) → List
 optional_lines prefix keyword None = []
 optional_lines prefix keyword (Some text) = keyword_lines prefix keyword text
 
--- one line for each comment, behind the mark of its kind
+-- one line for each comment, after the mark of its kind
 abbrev pub comment_lines : List ℕ → List (List ℕ) → List ℕ
 comment_lines mark texts = flat_map (λ text. mark ++ text ++ 10 ∷ []) texts
 
--- one line for all words, with a separator between them, where there are any
-abbrev pub words_line : List ℕ → List ℕ → List (List ℕ) → List ℕ
-words_line mark separator [] = []
-words_line mark separator (word ∷ words) = mark ++ join_by (λ w. w) separator (word ∷ words) ++ 10 ∷ []
+-- one line for all elements, with a separator between them, where there are any
+abbrev pub elements_line : List ℕ → List ℕ → List (List ℕ) → List ℕ
+elements_line mark separator [] = []
+elements_line mark separator (element ∷ elements) = mark ++ join_by (λ w. w) separator (element ∷ elements) ++ 10 ∷ []
 
 -- the flags, `fuzzy` first
 abbrev pub all_flags : Bool → List (List ℕ) → List (List ℕ)
@@ -74,7 +74,7 @@ own_lines prefix entry =
 abbrev pub entry_lines : TextEntry → List ℕ
 entry_lines entry =
     comment_lines (codes "#") entry.comments ++ comment_lines (codes "#.") entry.extracted
-    ++ words_line (codes "#: ") (codes " ") entry.references ++ words_line (codes "#, ") (codes ", ") (all_flags entry.fuzzy entry.flags)
+    ++ elements_line (codes "#: ") (codes " ") entry.references ++ elements_line (codes "#, ") (codes ", ") (all_flags entry.fuzzy entry.flags)
     ++ previous_lines (previous_prefix entry.obsolete) entry.previous ++ own_lines (own_prefix entry.obsolete) entry
 
 -- the live entries in order, then the obsolete ones in order

@@ -2,13 +2,13 @@ ghost use Rattle.std.specs.Prelude.{◌≡◌, ◌++◌, OnOk, IfErr, codes, opt
 ghost use Rattle.std.specs.List.{flat_map};
 ghost use Rattle.po_entry.specs.TextEntry.{texts};
 ghost use Rattle.po_entry.specs.Validity.{out_of_memory};
-ghost use Rattle.po_writer.specs.WrittenText.{all_flags, comment_lines, entry_lines, form_lines, keyword_lines, own_lines, own_prefix, previous_lines, previous_prefix, translation_lines, words_line};
+ghost use Rattle.po_writer.specs.WrittenText.{all_flags, comment_lines, entry_lines, form_lines, keyword_lines, own_lines, own_prefix, previous_lines, previous_prefix, translation_lines, elements_line};
 
 use crate::keyword_lines::{push_form, push_keyword, push_optional};
 use po_entry::{Entry, Previous};
 use po_syntax::PoError;
 
-/// Appends a line for each comment, behind the mark of its kind.
+/// Appends a line for each comment, after the mark of its kind.
 pub(crate) fn push_comments(
     out: &mut Vec<u8>,
     mark: &[u8],
@@ -25,29 +25,29 @@ pub(crate) fn push_comments(
     Ok(())
 }
 
-/// Appends words, with a separator before each.
-fn push_further(out: &mut Vec<u8>, separator: &[u8], words: &[Vec<u8>]) -> Result<(), PoError>
-    ensures appended { OnOk result (out.new.items ≡ out.old.items ++ flat_map (λ word. separator.now ++ word) (texts words.now)) }
+/// Appends elements, with a separator before each.
+fn push_further(out: &mut Vec<u8>, separator: &[u8], elements: &[Vec<u8>]) -> Result<(), PoError>
+    ensures appended { OnOk result (out.new.items ≡ out.old.items ++ flat_map (λ element. separator.now ++ element) (texts elements.now)) }
     ensures memory { IfErr result (λ e. e ≡ out_of_memory) }
 {
-    for word in words {
+    for element in elements {
         out.extend_from_slice(separator)?;
-        out.extend_from_slice(word)?;
+        out.extend_from_slice(element)?;
     }
     Ok(())
 }
 
-/// Appends a line of words, where there are any.
-pub(crate) fn push_words(
+/// Appends a line of elements, where there are any.
+pub(crate) fn push_elements(
     out: &mut Vec<u8>,
     mark: &[u8],
     separator: &[u8],
-    words: &[Vec<u8>],
+    elements: &[Vec<u8>],
 ) -> Result<(), PoError>
-    ensures appended { OnOk result (out.new.items ≡ out.old.items ++ words_line mark.now separator.now (texts words.now)) }
+    ensures appended { OnOk result (out.new.items ≡ out.old.items ++ elements_line mark.now separator.now (texts elements.now)) }
     ensures memory { IfErr result (λ e. e ≡ out_of_memory) }
 {
-    let Some((first, others)) = words.split_first() else {
+    let Some((first, others)) = elements.split_first() else {
         return Ok(());
     };
     out.extend_from_slice(mark)?;
@@ -59,11 +59,11 @@ pub(crate) fn push_words(
 
 /// Appends the line of flags, `fuzzy` first, where there are any.
 pub(crate) fn push_flags(out: &mut Vec<u8>, fuzzy: bool, flags: &[Vec<u8>]) -> Result<(), PoError>
-    ensures appended { OnOk result (out.new.items ≡ out.old.items ++ words_line (codes "#, ") (codes ", ") (all_flags fuzzy (texts flags.now))) }
+    ensures appended { OnOk result (out.new.items ≡ out.old.items ++ elements_line (codes "#, ") (codes ", ") (all_flags fuzzy (texts flags.now))) }
     ensures memory { IfErr result (λ e. e ≡ out_of_memory) }
 {
     if !fuzzy {
-        return push_words(out, b"#, ", b", ", flags);
+        return push_elements(out, b"#, ", b", ", flags);
     }
     out.extend_from_slice(b"#, fuzzy")?;
     push_further(out, b", ", flags)?;
@@ -155,7 +155,7 @@ pub(crate) fn push_entry(out: &mut Vec<u8>, entry: &Entry) -> Result<(), PoError
 {
     push_comments(out, b"#", entry.comments())?;
     push_comments(out, b"#.", entry.extracted())?;
-    push_words(out, b"#: ", b" ", entry.references())?;
+    push_elements(out, b"#: ", b" ", entry.references())?;
     push_flags(out, entry.fuzzy(), entry.flags())?;
     push_previous(out, previous_prefix(entry.obsolete()), entry.previous())?;
     push_own(out, own_prefix(entry.obsolete()), entry)

@@ -7,7 +7,7 @@ use itoa::Buffer;
 use memchr::memchr;
 use po_syntax::{PoError, quote};
 
-/// Splits a text behind its first LF, or at its end where it has none.
+/// Splits a text after its first LF, or at its end where it has none.
 fn split_line(text: &[u8]) -> (&[u8], &[u8])
     ensures cut { 0 < length text.now → cut text.now ≡ result.0.now ∷ cut result.1.now }
     ensures shorter { 0 < length text.now → length result.1.now < length text.now }
@@ -44,14 +44,14 @@ fn push_strings(out: &mut Vec<u8>, prefix: &[u8], text: &[u8]) -> Result<(), PoE
 {
     let mut rest = text;
     while !rest.is_empty() {
-        let (line, behind) = split_line(rest);
+        let (line, after) = split_line(rest);
         push_string(out, prefix, line)?;
-        rest = behind;
+        rest = after;
     }
     Ok(())
 }
 
-/// Appends what stands behind a keyword: its text, as one string or one a line.
+/// Appends what stands after a keyword: its text, as one string or one a line.
 fn push_text(out: &mut Vec<u8>, prefix: &[u8], text: &[u8]) -> Result<(), PoError>
     ensures appended { OnOk result (out.new.items ≡ out.old.items ++ text_lines prefix.now text.now) }
     ensures memory { IfErr result (λ e. e ≡ out_of_memory) }

@@ -1,7 +1,7 @@
 ghost use Rattle.std.specs.Prelude.{◌≡◌, ◌++◌, ◌∷◌, List, [], All, OnOk, IfOk, IfErr, false, fold};
 ghost use Rattle.po_entry.specs.TextEntry.{TextEntry};
 ghost use Rattle.po_entry.specs.Validity.{out_of_memory};
-ghost use Rattle.po_writer.specs.Separated.{with_entry, with_obsolete};
+ghost use Rattle.po_writer.specs.Separated.{with_entry, entries_marked};
 ghost use Rattle.po_writer.specs.WrittenText.{written_text};
 
 use crate::entry_lines::push_entry;
@@ -9,7 +9,7 @@ use po_entry::{Catalogue, Entry};
 use po_syntax::PoError;
 use std::alloc::Global;
 
-/// Appends an entry, behind an empty line if it isn't the first.
+/// Appends an entry, after an empty line if it isn't the first.
 fn push_separated(out: &mut Vec<u8>, entry: &Entry) -> Result<(), PoError>
     ensures appended { OnOk result (out.new.items ≡ with_entry out.old.items entry.now) }
     ensures memory { IfErr result (λ e. e ≡ out_of_memory) }
@@ -26,7 +26,7 @@ pub(crate) fn push_entries(
     entries: &[Entry],
     obsolete: bool,
 ) -> Result<(), PoError>
-    ensures appended { OnOk result (out.new.items ≡ fold with_entry out.old.items (with_obsolete obsolete entries.now)) }
+    ensures appended { OnOk result (out.new.items ≡ fold with_entry out.old.items (entries_marked obsolete entries.now)) }
     ensures memory { IfErr result (λ e. e ≡ out_of_memory) }
 {
     for entry in entries {

@@ -8,18 +8,18 @@ use std::env::Env;
 use std::io::Input;
 use std::rt::Files;
 
-/// The catalogues of the text domain, given by a word or by an option, in the order in which the
+/// The catalogues of the text domain, given by an argument or by an option, in the order in which the
 /// environment asks for them: those whose files can be read.
 pub(crate) fn find<'a, R: Files + Env + Input>(
     alloc: Global,
     rt: &R,
-    word: Option<&str>,
+    argument: Option<&str>,
     option: Option<&str>,
 ) -> Result<Vec<CatalogueFile>, ProgramFault<'a>> {
     let variables = Variables::read(alloc, rt)?;
     let paths = catalogue_paths(
         alloc,
-        bytes_of(word),
+        bytes_of(argument),
         bytes_of(option),
         &variables.environment(),
     )?;

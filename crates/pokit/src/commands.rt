@@ -4,7 +4,7 @@ use clap::{Arg, ArgAction, Command, value_parser};
 use po_tools::STANDARD;
 use std::alloc::{AllocError, Global};
 
-/// The MO file that msgfmt writes where the words name none.
+/// The MO file that msgfmt writes where the arguments name none.
 pub(crate) const DEFAULT_OUTPUT: &str = "messages.mo";
 
 static BYTE_ORDERS: [&str; 2] = ["little", "big"];
@@ -19,12 +19,12 @@ static TOOLS: [&str; 7] = [
     "envsubst",
 ];
 
-/// The tool that a word names, where it names one.
-pub(crate) fn tool_of(word: &str) -> Option<&'static str> {
-    TOOLS.iter().copied().find(|tool| *tool == word)
+/// The tool that an argument names, where it names one.
+pub(crate) fn tool_of(argument: &str) -> Option<&'static str> {
+    TOOLS.iter().copied().find(|tool| *tool == argument)
 }
 
-/// The whole program. Where the first word names a tool, that one alone is built.
+/// The whole program. Where the first argument names a tool, that one alone is built.
 pub(crate) fn program<'a>(alloc: Global, first: Option<&str>) -> Result<Command<'a>, AllocError> {
     let program = Command::new(alloc, "pokit")
         .about("Compiles message catalogues and looks messages up in them")

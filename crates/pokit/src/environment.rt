@@ -62,8 +62,8 @@ fn variable(alloc: Global, env: &impl Env, name: &str) -> Result<Option<Vec<u8>>
 /// All entries of the environment in order, each `NAME=value`.
 pub(crate) fn entries(alloc: Global, env: &impl Env) -> Result<Vec<Vec<u8>>, AllocError> {
     let mut entries = Vec::new(alloc);
-    for place in 0..usize::MAX {
-        match ask(alloc, env, Query::Entry(place))? {
+    for index in 0..usize::MAX {
+        match ask(alloc, env, Query::Entry(index))? {
             Some(entry) => entries.push(entry)?,
             None => break,
         }
@@ -79,8 +79,8 @@ pub(crate) fn arguments(
 ) -> Result<Vec<String>, ProgramFault<'static>> {
     let mut arguments = Vec::new(alloc);
     arguments.push(String::from_str(alloc, PROGRAM)?)?;
-    for place in 1..usize::MAX {
-        let Some(argument) = ask(alloc, env, Query::Argument(place))? else {
+    for index in 1..usize::MAX {
+        let Some(argument) = ask(alloc, env, Query::Argument(index))? else {
             break;
         };
         match String::from_utf8(argument) {
@@ -118,7 +118,7 @@ fn ask(alloc: Global, env: &impl Env, query: Query<'_>) -> Result<Option<Vec<u8>
 fn fill(env: &impl Env, query: Query<'_>, room: &mut [u8]) -> Result<usize, FillError> {
     match query {
         Query::Variable(name) => env.var(name, room),
-        Query::Entry(place) => env.var_at(place, room),
-        Query::Argument(place) => env.arg(place, room),
+        Query::Entry(index) => env.var_at(index, room),
+        Query::Argument(index) => env.arg(index, room),
     }
 }

@@ -19,31 +19,33 @@ use std::process::ExitCode;
 
 fn main(rt: HostRuntime) -> ExitCode {
     if streams::hold_closed(&rt).is_err() {
-        return tell(&rt, None, ProgramFault::CannotOpen(streams::HELD));
+        return report_fault(&rt, None, ProgramFault::CannotOpen(streams::HELD));
     }
     match environment::arguments(rt.alloc(), &rt) {
-        Ok(words) => match usage::spelled_out(rt.alloc(), words.as_slice()) {
-            Ok(words) => run(&rt, words.as_slice()),
-            Err(_) => tell(&rt, None, ProgramFault::OutOfMemory),
+        Ok(arguments) => match usage::spelled_out(rt.alloc(), arguments.as_slice()) {
+            Ok(arguments) => run(&rt, arguments.as_slice()),
+            Err(_) => report_fault(&rt, None, ProgramFault::OutOfMemory),
         },
-        Err(fault) => tell(&rt, None, fault),
+        Err(fault) => report_fault(&rt, None, fault),
     }
 }
 
-fn run(rt: &HostRuntime, words: &[&str]) -> ExitCode {
-    let first = words.get(1).and_then(|word| commands::tool_of(*word));
+fn run(rt: &HostRuntime, arguments: &[&str]) -> ExitCode {
+    let first = arguments
+        .get(1)
+        .and_then(|argument| commands::tool_of(*argument));
     let parsed = match commands::program(rt.alloc(), first) {
-        Ok(command) => command.try_get_matches_from(words),
-        Err(_) => return tell(rt, first, ProgramFault::OutOfMemory),
+        Ok(command) => command.try_get_matches_from(arguments),
+        Err(_) => return report_fault(rt, first, ProgramFault::OutOfMemory),
     };
     match parsed {
         Ok(matches) => run_tool(rt, &matches),
         Err(error) if error.kind() == ErrorKind::OutOfMemory => {
-            tell(rt, first, ProgramFault::OutOfMemory)
+            report_fault(rt, first, ProgramFault::OutOfMemory)
         }
         Err(error) if error.use_stderr() => {
             let Ok(text) = usage::text_of(rt.alloc(), first, &error) else {
-                return tell(rt, first, ProgramFault::OutOfMemory);
+                return report_fault(rt, first, ProgramFault::OutOfMemory);
             };
             let _ = rt.eprint(&text);
             ExitCode::FAILURE
@@ -68,14 +70,14 @@ fn run_tool(rt: &HostRuntime, matches: &ArgMatches<'_>) -> ExitCode {
     };
     match outcome {
         Ok(status) => exit_code(status == 0),
-        Err(fault) => tell(rt, Some(tool), fault),
+        Err(fault) => report_fault(rt, Some(tool), fault),
     }
 }
 
 // Reports a fault. Where that fails too, the status alone reports it.
-fn tell(rt: &HostRuntime, tool: Option<&str>, fault: ProgramFault<'_>) -> ExitCode {
+fn report_fault(rt: &HostRuntime, tool: Option<&str>, fault: ProgramFault<'_>) -> ExitCode {
     let mut errors = Counted::new(rt.stderr());
-    let _ = po_tools::tell(rt.alloc(), &mut errors, tool, fault);
+    let _ = po_tools::report_fault(rt.alloc(), &mut errors, tool, fault);
     ExitCode::FAILURE
 }
 

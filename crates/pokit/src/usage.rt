@@ -1,4 +1,4 @@
-// Faults of the command line, in clap's words, with the advice that fits the tool.
+// Faults of the command line, in clap's arguments, with the advice that fits the tool.
 use clap::Error;
 use std::alloc::{AllocError, Global};
 
@@ -24,11 +24,14 @@ const CHECK_TIP: &str =
 ";
 
 /// The command line, where `help TOOL` is spelled out as `TOOL --help`, and `help` as `--help`.
-pub(crate) fn spelled_out(alloc: Global, words: &[String]) -> Result<Vec<&str>, AllocError> {
-    let mut spelled = Vec::with_capacity(alloc, words.len())?;
-    let is_help = words.len() <= 3 && words.get(1).is_some_and(|word| word.as_str() == "help");
-    for word in words {
-        spelled.push(word.as_str())?;
+pub(crate) fn spelled_out(alloc: Global, arguments: &[String]) -> Result<Vec<&str>, AllocError> {
+    let mut spelled = Vec::with_capacity(alloc, arguments.len())?;
+    let is_help = arguments.len() <= 3
+        && arguments
+            .get(1)
+            .is_some_and(|argument| argument.as_str() == "help");
+    for argument in arguments {
+        spelled.push(argument.as_str())?;
     }
     if is_help {
         spelled.remove(1);
@@ -37,7 +40,7 @@ pub(crate) fn spelled_out(alloc: Global, words: &[String]) -> Result<Vec<&str>, 
     Ok(spelled)
 }
 
-/// The text of a fault of the command line. A tool whose arguments are files isn't told to take an
+/// The text of a fault of the command line. A tool whose arguments are files isn't reported to take an
 /// unknown option for one.
 pub(crate) fn text_of(
     alloc: Global,

@@ -13,6 +13,6 @@ pub struct PokitCatalog<'a> {
     pub nplurals: u64,
     /// How many nodes the plural expression has.
     pub used: u32,
-    /// The nodes of the plural expression, and behind them nodes without a meaning.
+    /// The nodes of the plural expression, and after them nodes without a meaning.
     pub nodes: [Node; 4096],
 }

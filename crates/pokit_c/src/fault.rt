@@ -1,7 +1,7 @@
 //! The faults of a file as C sees them: a number, and the message that a fault names.
 
 ghost use Rattle.std.specs.Prelude.{◌≡◌};
-ghost use Rattle.mo_file.specs.Fault.{kind, place};
+ghost use Rattle.mo_file.specs.Fault.{kind, index};
 
 use mo_file::MoError;
 
@@ -21,8 +21,8 @@ pub(crate) fn number(fault: MoError) -> u32
 }
 
 /// The message that a fault names, counted from 0, or 0 where it names none.
-pub(crate) fn place(fault: MoError) -> u32
-    ensures { result ≡ place fault }
+pub(crate) fn index(fault: MoError) -> u32
+    ensures { result ≡ index fault }
 {
     match fault {
         MoError::StringOutside(i) | MoError::NoTerminator(i) | MoError::NotSorted(i) => i,

@@ -3,9 +3,9 @@
 ghost use Rattle.std.specs.Prelude.{◌≡◌, ◌≤◌, length, false};
 ghost use Rattle.plural_rule.specs.Expression.{nodes};
 ghost use Rattle.mo_lookup.specs.Bound.{search_bound};
-ghost use Rattle.mo_lookup.specs.Contents.{Contents, told};
+ghost use Rattle.mo_lookup.specs.Contents.{Contents, answered};
 ghost use Rattle.mo_lookup.specs.Query.{is_clean_key};
-ghost use Rattle.pokit_c.specs.Asked.{asked, outcome};
+ghost use Rattle.pokit_c.specs.QueryView.{query_view, answer_view};
 ghost use Rattle.pokit_c.specs.Opened.{IsOpened};
 
 use crate::catalog::PokitCatalog;
@@ -24,10 +24,10 @@ pub extern "C" fn pokit_catalog_look<'a, 'q>(
 where
     'a: 'q,
     requires { (contents : Contents) × IsOpened catalog.now contents }
-    ensures told { (contents : Contents) → IsOpened catalog.now contents → outcome answer.new ≡ told contents (asked query.now) }
+    ensures answered { (contents : Contents) → IsOpened catalog.now contents → answer_view answer.new ≡ answered contents (query_view query.now) }
     ensures bound { (contents : Contents) → IsOpened catalog.now contents
         → answer.new.comparisons ≤ search_bound (length contents.messages) }
-    ensures unclean { is_clean_key (asked query.now).context query.now.id.now ≡ false → answer.new.comparisons ≡ 0 }
+    ensures unclean { is_clean_key (query_view query.now).context query.now.id.now ≡ false → answer.new.comparisons ≡ 0 }
     ensures nodes { (contents : Contents) → IsOpened catalog.now contents → answer.new.steps ≤ nodes contents.rule.tree }
 {
     let view = MoView::reopen(catalog.bytes);

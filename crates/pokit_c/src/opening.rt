@@ -4,13 +4,13 @@ ghost use Rattle.std.specs.Prelude.{◌≡◌, ◌<◌, List, length};
 ghost use Rattle.mo_file.specs.declared.byte_order.Order.{Order};
 ghost use Rattle.mo_file.specs.declared.fault.MoError.{MoError};
 ghost use Rattle.mo_file.specs.Catalog.{IsCatalog};
-ghost use Rattle.mo_file.specs.Fault.{IsFirstFault, kind, place};
+ghost use Rattle.mo_file.specs.Fault.{IsFirstFault, kind, index};
 ghost use Rattle.mo_file.specs.Message.{Message};
 ghost use Rattle.mo_lookup.specs.Contents.{Contents};
 ghost use Rattle.pokit_c.specs.Opened.{IsOpened};
 
 use crate::catalog::PokitCatalog;
-use crate::fault::{number, place};
+use crate::fault::{index, number};
 use mo_file::{Meter, MoView};
 use mo_lookup::Catalog;
 
@@ -25,7 +25,7 @@ pub extern "C" fn pokit_catalog_open<'a>(
 ) -> u32
     ensures opened { result ≡ 0 → (contents : Contents) × IsOpened room.new contents }
     ensures same { result ≡ 0 → room.new.bytes.now ≡ bytes.now }
-    ensures fault { 0 < result → (fault : MoError) × (result ≡ kind fault) × (message.new ≡ place fault) × IsFirstFault bytes.now fault }
+    ensures fault { 0 < result → (fault : MoError) × (result ≡ kind fault) × (message.new ≡ index fault) × IsFirstFault bytes.now fault }
     ensures unchanged { 0 < result → room.new ≡ room.old }
     ensures only { (order : Order) (messages : List Message) → IsCatalog order bytes.now messages → result ≡ 0 }
 {
@@ -41,7 +41,7 @@ pub extern "C" fn pokit_catalog_open<'a>(
             0
         }
         Err(fault) => {
-            *message = place(fault);
+            *message = index(fault);
             number(fault)
         }
     }

@@ -1,7 +1,7 @@
 //! What C asks of a catalogue, and what it is answered.
 
 ghost use Rattle.std.specs.Prelude.{◌≡◌};
-ghost use Rattle.pokit_c.specs.Asked.{asked};
+ghost use Rattle.pokit_c.specs.QueryView.{query_view};
 ghost use Rattle.mo_lookup.specs.Query.{given};
 ghost use Rattle.std.specs.Option.{option_copied};
 
@@ -40,7 +40,7 @@ pub struct PokitAnswer<'q> {
 impl<'q> PokitQuery<'q> {
     /// The context, where one is given.
     pub(crate) fn context(&self) -> Option<&'q [u8]>
-        ensures { option_copied result ≡ (asked self.now).context }
+        ensures { option_copied result ≡ (query_view self.now).context }
     {
         if self.has_context {
             Some(self.context)
@@ -51,7 +51,7 @@ impl<'q> PokitQuery<'q> {
 
     /// The plural and the count, where they are given.
     pub(crate) fn plural(&self) -> Option<(&'q [u8], u64)>
-        ensures { given result ≡ (asked self.now).plural }
+        ensures { given result ≡ (query_view self.now).plural }
     {
         if self.has_plural {
             Some((self.plural, self.count))

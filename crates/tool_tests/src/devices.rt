@@ -77,41 +77,41 @@ fn is_read(alloc: Global, failing_call: u64, wanted: Option<&[u8]>) -> bool {
     }
 }
 
-/// Whether envsubst over this reader tells this, and this has gone out.
+/// Whether envsubst over this reader reports this, and this has gone out.
 fn substitutes(
     alloc: Global,
     reader: Failing<&[u8]>,
     vars: &[(&[u8], &[u8])],
-    told: Result<(), ToolFault>,
+    reported: Result<(), ToolFault>,
     written: &[u8],
 ) -> bool {
     let mut writer = Counted::new(Vec::new(alloc));
     let outcome = run_envsubst(&mut Counted::new(reader), &mut writer, vars, None);
     let gone_out = writer.into_inner();
-    outcome == told && gone_out.as_slice() == written
+    outcome == reported && gone_out.as_slice() == written
 }
 
-/// Whether `ab` put to such a writer tells this, and this has gone out.
+/// Whether `ab` put to such a writer reports this, and this has gone out.
 fn puts(
     alloc: Global,
     failing_call: u64,
     most: usize,
-    told: Result<(), ToolFault>,
+    reported: Result<(), ToolFault>,
     written: &[u8],
 ) -> bool {
     let mut writer = Counted::new(Failing::new(Vec::new(alloc), failing_call, most));
     let outcome = put_all(&mut writer, b"ab");
     let gone_out = writer.into_inner().into_inner();
-    outcome == told && gone_out.as_slice() == written
+    outcome == reported && gone_out.as_slice() == written
 }
 
-/// Whether a run with the output `ab` and the message `c`, delivered to such writers, tells this, and this has gone
+/// Whether a run with the output `ab` and the message `c`, delivered to such writers, reports this, and this has gone
 /// out to each.
 fn delivers(
     alloc: Global,
     out: Failing<Vec<u8>>,
     err: Failing<Vec<u8>>,
-    told: Result<(), ToolFault>,
+    reported: Result<(), ToolFault>,
     output: &[u8],
     messages: &[u8],
 ) -> bool {
@@ -129,16 +129,16 @@ fn delivers(
     let gone_out = out.into_inner().into_inner();
     let gone_to_err = err.into_inner().into_inner();
     has_room
-        && outcome == told
+        && outcome == reported
         && gone_out.as_slice() == output
         && gone_to_err.as_slice() == messages
 }
 
-/// Whether msgfmt over a reader of one message tells this, and this has gone out.
+/// Whether msgfmt over a reader of one message reports this, and this has gone out.
 fn compiles(
     alloc: Global,
     failing_call: u64,
-    told: Result<u8, ToolFault>,
+    reported: Result<u8, ToolFault>,
     output: &[u8],
     messages: &[u8],
 ) -> bool {
@@ -155,11 +155,11 @@ fn compiles(
     );
     let gone_out = out.into_inner();
     let gone_to_err = err.into_inner();
-    outcome == told && gone_out.as_slice() == output && gone_to_err.as_slice() == messages
+    outcome == reported && gone_out.as_slice() == output && gone_to_err.as_slice() == messages
 }
 
 #[test]
-fn tells_a_reader_that_fails(rt: HostRuntime) {
+fn reports_a_reader_that_fails(rt: HostRuntime) {
     for call in 1..5 {
         assert!(rt; is_read(rt.alloc(), call, None), "at call {call}");
     }
@@ -168,20 +168,20 @@ fn tells_a_reader_that_fails(rt: HostRuntime) {
 
 #[test]
 fn runs_over_a_reader_up_to_its_fault(rt: HostRuntime) {
-    for (call, most, text, vars, told, written) in READS {
+    for (call, most, text, vars, reported, written) in READS {
         let reader = Failing::new(*text, *call, *most);
         assert!(rt;
-            substitutes(rt.alloc(), reader, vars, *told, written),
+            substitutes(rt.alloc(), reader, vars, *reported, written),
             "at call {call}, in pieces of {most}"
         );
     }
 }
 
 #[test]
-fn tells_a_writer_that_fails(rt: HostRuntime) {
-    for (call, most, told, written) in WRITES {
+fn reports_a_writer_that_fails(rt: HostRuntime) {
+    for (call, most, reported, written) in WRITES {
         assert!(rt;
-            puts(rt.alloc(), *call, *most, *told, written),
+            puts(rt.alloc(), *call, *most, *reported, written),
             "at call {call}, {most} a call"
         );
     }
@@ -195,20 +195,20 @@ fn substituted(alloc: Global, read: u64, write: u64) -> (Result<(), ToolFault>, 
     (outcome, writer.into_inner().into_inner())
 }
 
-/// Whether envsubst with its output in blocks, over a writer that takes so many bytes a call, tells this; where it
-/// tells no fault, all has gone out.
+/// Whether envsubst with its output in blocks, over a writer that takes so many bytes a call, reports this; where it
+/// reports no fault, all has gone out.
 fn substitutes_in_blocks(
     alloc: Global,
     read: u64,
     write: u64,
     most: usize,
-    told: Result<(), ToolFault>,
+    reported: Result<(), ToolFault>,
 ) -> bool {
     let mut reader = Counted::new(Failing::new(REFERENCES, read, 1));
     let writer = Failing::new(Vec::new(alloc), write, most);
     match run_envsubst_in_blocks(alloc, &mut reader, writer, VARIABLES, None) {
-        Ok(written) => told.is_ok() && written.into_inner().as_slice() == REPLACED,
-        Err(fault) => told == Err(fault),
+        Ok(written) => reported.is_ok() && written.into_inner().as_slice() == REPLACED,
+        Err(fault) => reported == Err(fault),
     }
 }
 
@@ -259,11 +259,11 @@ fn writes_nothing_after_a_write_fault(rt: HostRuntime) {
 
 #[test]
 fn delivers_up_to_a_write_fault(rt: HostRuntime) {
-    for (out_call, err_call, most, told, output, messages) in DELIVERIES {
+    for (out_call, err_call, most, reported, output, messages) in DELIVERIES {
         let out = Failing::new(Vec::new(rt.alloc()), *out_call, *most);
         let err = Failing::new(Vec::new(rt.alloc()), *err_call, *most);
         assert!(rt;
-            delivers(rt.alloc(), out, err, *told, output, messages),
+            delivers(rt.alloc(), out, err, *reported, output, messages),
             "at calls {out_call} and {err_call}, {most} a call"
         );
     }

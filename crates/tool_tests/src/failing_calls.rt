@@ -183,7 +183,7 @@ fn leaves(
     let mut out = Counted::new(Failing::new(Vec::new(alloc), calls.output, calls.most));
     let mut err = Counted::new(Failing::new(Vec::new(alloc), calls.messages, calls.most));
     let name = "<stdin>";
-    let told = match row.tool {
+    let reported = match row.tool {
         Tool::Msgfmt => run_msgfmt(alloc, &mut reader, &mut out, &mut err, name, &STATISTICS),
         Tool::Msgunfmt => run_msgunfmt(alloc, &mut reader, &mut out, &mut err, name),
         Tool::Msgattrib => {
@@ -199,11 +199,11 @@ fn leaves(
     };
     let gone_out = out.into_inner().into_inner();
     let gone_to_err = err.into_inner().into_inner();
-    told == outcome && gone_out.as_slice() == output && gone_to_err.as_slice() == messages
+    reported == outcome && gone_out.as_slice() == output && gone_to_err.as_slice() == messages
 }
 
 /// The first call of the reader at which a row doesn't leave what it should, where one does: a read fault and nothing
-/// written, up to the call that finds the end, and behind it the whole run.
+/// written, up to the call that finds the end, and after it the whole run.
 fn wrong_read(alloc: Global, row: &Row) -> Option<u64> {
     let last = row.input.len() as u64 + 1;
     for input in 1..=last {

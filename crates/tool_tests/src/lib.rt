@@ -7,6 +7,8 @@
 #[cfg(test)]
 mod answers;
 #[cfg(test)]
+mod arguments;
+#[cfg(test)]
 mod damaged_files;
 #[cfg(test)]
 mod devices;
@@ -16,5 +18,3 @@ mod failing_calls;
 mod locales;
 #[cfg(test)]
 mod substitution;
-#[cfg(test)]
-mod words;

@@ -90,7 +90,7 @@ const IN_THE_DEFAULT_FOLDER: Names = &[
     b"/usr/share/locale/de/LC_MESSAGES/w.mo",
 ];
 
-/// The text domain as a word, of the option, and TEXTDOMAIN; TEXTDOMAINDIR; and the catalogues for de_AT.
+/// The text domain as an argument, of the option, and TEXTDOMAIN; TEXTDOMAINDIR; and the catalogues for de_AT.
 const DOMAINS: &[(Variable, Variable, Variable, Variable, Names)] = &[
     (Some(b"w"), Some(b"o"), Some(b"v"), Some(b"/d"), OF_W),
     (Some(b"w"), None, None, Some(b"/d"), OF_W),
@@ -147,14 +147,14 @@ fn lists_the_candidates_of_locales(rt: HostRuntime) {
 
 #[test]
 fn places_the_catalogues_of_a_domain(rt: HostRuntime) {
-    for (word, option, textdomain, textdomaindir, wanted) in DOMAINS {
+    for (argument, option, textdomain, textdomaindir, wanted) in DOMAINS {
         let environment = Environment {
             lang: Some(b"de_AT"),
             textdomain: *textdomain,
             textdomaindir: *textdomaindir,
             ..UNSET
         };
-        let paths = catalogue_paths(rt.alloc(), *word, *option, &environment);
+        let paths = catalogue_paths(rt.alloc(), *argument, *option, &environment);
         assert!(rt; are_listed(paths, wanted), "{wanted:?}, of {word:?}");
     }
 }

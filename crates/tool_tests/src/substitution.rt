@@ -24,18 +24,18 @@ const TEXTS: &[(Variables, &[u8], &[u8])] = &[
 /// The length of a name, and whether it is one.
 const LENGTHS: &[(usize, bool)] = &[(255, true), (256, false)];
 
-/// An entry of the environment, and what stands before and behind its first equals sign.
+/// An entry of the environment, and what stands before and after its first equals sign.
 const ENTRIES: &[(&[u8], Option<(&[u8], &[u8])>)] = &[
     (b"A=b=c", Some((b"A", b"b=c"))),
     (b"=x", Some((b"", b"x"))),
     (b"A", None),
 ];
 
-/// What a text becomes. It is fed whole, or cut behind this front, or in pieces of this size.
+/// What a text becomes. It is fed whole, or cut after this prefix, or in pieces of this size.
 fn substituted(
     alloc: Global,
     text: &[u8],
-    front: usize,
+    prefix: usize,
     size: usize,
     vars: &[(&[u8], &[u8])],
     only: Option<&[&[u8]]>,
@@ -43,8 +43,8 @@ fn substituted(
     let mut writer = Counted::new(Vec::new(alloc));
     let mut substituter = Substituter::new(vars, only);
     let mut rest = text;
-    if front < text.len() {
-        let (piece, others) = text.split_at(front);
+    if prefix < text.len() {
+        let (piece, others) = text.split_at(prefix);
         substituter.feed(piece, &mut writer)?;
         rest = others;
     }
@@ -62,12 +62,12 @@ fn substituted(
 fn becomes(
     alloc: Global,
     text: &[u8],
-    front: usize,
+    prefix: usize,
     size: usize,
     vars: &[(&[u8], &[u8])],
     wanted: &[u8],
 ) -> bool {
-    match substituted(alloc, text, front, size, vars, None) {
+    match substituted(alloc, text, prefix, size, vars, None) {
         Ok(output) => output.as_slice() == wanted,
         Err(_) => false,
     }
@@ -80,8 +80,8 @@ fn becomes_however_cut(alloc: Global, text: &[u8], vars: &[(&[u8], &[u8])], want
             return false;
         }
     }
-    for front in 0..text.len() {
-        if !becomes(alloc, text, front, 0, vars, wanted) {
+    for prefix in 0..text.len() {
+        if !becomes(alloc, text, prefix, 0, vars, wanted) {
             return false;
         }
     }

@@ -1,5 +1,5 @@
 //! Makes one call that allocates, in a row of values worked out by hand, so that a script can let each of its
-//! allocations fail. The status tells what came of it:
+//! allocations fail. The status reports what came of it:
 //!
 //! - 0: the call answered, and rightly;
 //! - 3: it answered that memory is out, and left its arguments as they were;

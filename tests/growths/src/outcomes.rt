@@ -20,8 +20,8 @@ pub(crate) fn is_memory(error: PoError) -> bool {
 }
 
 /// What comes of a call that answers bytes.
-pub(crate) fn of_bytes(told: Result<Vec<u8>, PoError>, wanted: &[u8]) -> Outcome {
-    match told {
+pub(crate) fn of_bytes(reported: Result<Vec<u8>, PoError>, wanted: &[u8]) -> Outcome {
+    match reported {
         Ok(bytes) => Outcome::Answered(bytes.as_slice() == wanted),
         Err(error) => Outcome::OutOfMemory(is_memory(error)),
     }

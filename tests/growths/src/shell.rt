@@ -38,16 +38,16 @@ pub(crate) fn outcome(alloc: Global, row: &str) -> Outcome {
 }
 
 /// What comes of a call that answers bytes.
-fn of_bytes(told: Result<Vec<u8>, ToolFault>, wanted: &[u8]) -> Outcome {
-    match told {
+fn of_bytes(reported: Result<Vec<u8>, ToolFault>, wanted: &[u8]) -> Outcome {
+    match reported {
         Ok(bytes) => Outcome::Answered(bytes.as_slice() == wanted),
         Err(fault) => Outcome::OutOfMemory(fault == ToolFault::OutOfMemory),
     }
 }
 
 /// What comes of a call that answers a list of one.
-fn of_list(told: Result<Vec<Vec<u8>>, ToolFault>, wanted: &[u8]) -> Outcome {
-    match told {
+fn of_list(reported: Result<Vec<Vec<u8>>, ToolFault>, wanted: &[u8]) -> Outcome {
+    match reported {
         Ok(list) => match list.as_slice() {
             [one] => Outcome::Answered(one.as_slice() == wanted),
             _ => Outcome::Answered(false),

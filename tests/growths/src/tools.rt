@@ -111,14 +111,14 @@ fn delivered(alloc: Global, row: &str) -> Outcome {
     };
     let mut reader = Counted::new(input);
     let name = "<stdin>";
-    let told = match row {
+    let reported = match row {
         "run_msgfmt" => run_msgfmt(alloc, &mut reader, &mut out, &mut err, name, &STATISTICS),
         "run_msgunfmt" => run_msgunfmt(alloc, &mut reader, &mut out, &mut err, name),
         _ => run_msgattrib(alloc, &mut reader, &mut out, &mut err, name, &ONLY_FUZZY),
     };
     let out = out.into_inner();
     let err = err.into_inner();
-    match told {
+    match reported {
         Ok(status) => Outcome::Answered(status == 0 && out.as_slice() == wanted),
         Err(fault) => Outcome::OutOfMemory(
             fault == ToolFault::OutOfMemory && out.is_empty() && err.is_empty(),

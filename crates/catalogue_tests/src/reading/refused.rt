@@ -15,8 +15,8 @@ pub(super) fn check(rt: &impl Abort, alloc: Global, rows: &[Refused]) {
             kind: *kind,
             line: *line,
         };
-        let told = read(alloc, text).err();
-        assert_eq!(rt; told, Some(wanted), "at {}", text.escape_ascii());
+        let reported = read(alloc, text).err();
+        assert_eq!(rt; reported, Some(wanted), "at {}", text.escape_ascii());
     }
 }
 

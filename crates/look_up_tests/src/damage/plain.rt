@@ -79,7 +79,7 @@ impl<'a> Plain<'a> {
         None
     }
 
-    /// The first fault behind the magic number.
+    /// The first fault after the magic number.
     fn fault(&self) -> Option<MoError> {
         let length = self.bytes.len() as u64;
         let count = self.count();
@@ -130,7 +130,7 @@ fn before_nul(bytes: &[u8]) -> &[u8] {
     }
 }
 
-/// The context and the msgid of a key: what stands before and behind the first EOT.
+/// The context and the msgid of a key: what stands before and after the first EOT.
 pub(super) fn parts(key: &[u8]) -> (Option<&[u8]>, &[u8]) {
     match place_of(key, 4) {
         Some(end) => (

@@ -2,7 +2,7 @@
 use super::is_named;
 use plural_rule::Rule;
 
-/// Which form a count takes, told without an expression.
+/// Which form a count takes, given without an expression.
 #[derive(Clone, Copy, Drop)]
 enum Family {
     One,
@@ -365,11 +365,11 @@ fn first_wrong(rule: &Rule, family: Family) -> u64 {
 
 #[test]
 fn languages(rt: HostRuntime) {
-    for (language, header, number, family) in LANGUAGES {
+    for (language, header, nplurals, family) in LANGUAGES {
         let rule = Rule::parse(header.as_bytes());
         let wrong = first_wrong(&rule, *family);
         assert!(rt;
-            is_named(&rule, *number) && wrong == 201,
+            is_named(&rule, *nplurals) && wrong == 201,
             "{language} at {wrong}"
         );
     }

@@ -4,7 +4,7 @@ use clap::ArgMatches;
 use po_shell::{
     Counted, ToolFault, name_lines, names, put_all, run_envsubst_in_blocks, variables_in,
 };
-use po_tools::{EnvsubstWords, ProgramFault};
+use po_tools::{EnvsubstArguments, ProgramFault};
 use std::alloc::Global;
 use std::env::Env;
 use std::io::{self, Input, Print};
@@ -15,14 +15,14 @@ pub(crate) fn run<'a, R: Env + Input + Print>(
     rt: &R,
     matches: &ArgMatches<'a>,
 ) -> Result<u8, ProgramFault<'a>> {
-    let words = matches.get_strs("SHELL-FORMAT").unwrap_or(&[]);
-    let words = EnvsubstWords::of(matches.get_flag("variables"), words).ok_or(
+    let arguments = matches.get_strs("SHELL-FORMAT").unwrap_or(&[]);
+    let arguments = EnvsubstArguments::of(matches.get_flag("variables"), arguments).ok_or(
         ProgramFault::WrongArguments,
     )?;
-    match words {
-        EnvsubstWords::Names(format) => print_names(alloc, rt, format)?,
-        EnvsubstWords::Replaced(None) => substitute(alloc, rt, None)?,
-        EnvsubstWords::Replaced(Some(format)) => {
+    match arguments {
+        EnvsubstArguments::Names(format) => print_names(alloc, rt, format)?,
+        EnvsubstArguments::Replaced(None) => substitute(alloc, rt, None)?,
+        EnvsubstArguments::Replaced(Some(format)) => {
             let only = names(alloc, format.as_bytes())?;
             substitute(alloc, rt, Some(only.as_slice()))?;
         }

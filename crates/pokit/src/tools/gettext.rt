@@ -3,7 +3,7 @@ use crate::catalogues;
 use crate::files::write_run;
 use clap::ArgMatches;
 use po_tools::{
-    GettextOptions, GettextWords, ProgramFault, STANDARD, lent_catalogues, plan_gettext,
+    GettextArguments, GettextOptions, ProgramFault, STANDARD, lent_catalogues, plan_gettext,
 };
 use std::alloc::Global;
 use std::env::Env;
@@ -18,11 +18,11 @@ pub(crate) fn run<'a, R: Files + Env + Input + Print, E: Write + Drop>(
     matches: &ArgMatches<'a>,
 ) -> Result<u8, ProgramFault<'a>> {
     let shell = matches.get_flag("shell");
-    let words = matches.get_strs("MSGID").unwrap_or(&[]);
-    let words = GettextWords::of(shell, words).ok_or(ProgramFault::WrongArguments)?;
-    let found = catalogues::find(alloc, rt, words.domain, matches.get_str("domain"))?;
+    let arguments = matches.get_strs("MSGID").unwrap_or(&[]);
+    let arguments = GettextArguments::of(shell, arguments).ok_or(ProgramFault::WrongArguments)?;
+    let found = catalogues::find(alloc, rt, arguments.domain, matches.get_str("domain"))?;
     let options = GettextOptions {
-        messages: words.messages,
+        messages: arguments.messages,
         context: matches.get_str("context"),
         expand: matches.get_flag("expand"),
         no_newline: matches.get_flag("no-newline"),

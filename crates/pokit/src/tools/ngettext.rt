@@ -3,7 +3,7 @@ use crate::catalogues;
 use crate::files::write_run;
 use clap::ArgMatches;
 use po_tools::{
-    NgettextOptions, NgettextWords, ProgramFault, STANDARD, lent_catalogues, plan_ngettext,
+    NgettextArguments, NgettextOptions, ProgramFault, STANDARD, lent_catalogues, plan_ngettext,
 };
 use std::alloc::Global;
 use std::env::Env;
@@ -17,15 +17,15 @@ pub(crate) fn run<'a, R: Files + Env + Input + Print, E: Write + Drop>(
     errors: E,
     matches: &ArgMatches<'a>,
 ) -> Result<u8, ProgramFault<'a>> {
-    let words = matches.get_strs("MSGID").unwrap_or(&[]);
-    let words = NgettextWords::of(words).ok_or(ProgramFault::WrongArguments)?;
-    let found = catalogues::find(alloc, rt, words.domain, matches.get_str("domain"))?;
+    let arguments = matches.get_strs("MSGID").unwrap_or(&[]);
+    let arguments = NgettextArguments::of(arguments).ok_or(ProgramFault::WrongArguments)?;
+    let found = catalogues::find(alloc, rt, arguments.domain, matches.get_str("domain"))?;
     let options = NgettextOptions {
         context: matches.get_str("context"),
         expand: matches.get_flag("expand"),
-        id: words.id,
-        plural: words.plural,
-        count: words.count,
+        id: arguments.id,
+        plural: arguments.plural,
+        count: arguments.count,
     };
     let lent = lent_catalogues(alloc, found.as_slice())?;
     let run = plan_ngettext(alloc, lent.as_slice(), &options)?;

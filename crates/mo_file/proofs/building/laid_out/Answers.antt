@@ -8,8 +8,8 @@ overflow_cast-count c = let len = length-layout-strings c.args.order c.args.pair
 pub push_header-requires : goal.push_header-requires
 push_header-requires c = let len = length-layout-strings c.args.order c.args.pairs.now in omega arith
 
-pub originals_place-originals-requires : goal.originals_place-originals-requires
-originals_place-originals-requires c = let len = length-layout-strings c.args.order c.args.pairs.now in omega arith
+pub originals_offset-originals-requires : goal.originals_offset-originals-requires
+originals_offset-originals-requires c = let len = length-layout-strings c.args.order c.args.pairs.now in omega arith
 
 pub push_table-requires : goal.push_table-requires
 push_table-requires c = let len = length-layout-strings c.args.order c.args.pairs.now in omega arith
@@ -17,9 +17,9 @@ push_table-requires c = let len = length-layout-strings c.args.order c.args.pair
 pub push_table-requires-2 : goal.push_table-requires-2
 push_table-requires-2 c =
     let len = length-layout-strings c.args.order c.args.pairs.now in
-    omega (arith, c.in_ok-translations.ensures.place)
+    omega (arith, c.in_ok-translations.ensures.offset)
 
--- the parts are written one behind the other
+-- the parts are written one after the other
 pub returns : goal.returns
 returns c =
     rw (layout-pairs c.args.order c.args.pairs.now) (c.in_ok-push_strings-2.ensures
@@ -27,8 +27,8 @@ returns c =
       c.in_ok-push_strings.ensures,
       c.in_ok-push_table.ensures.entries,
       c.in_ok-translations.ensures.entries,
-      c.in_ok-translations.ensures.place,
-      c.originals_place-originals.ensures,
+      c.in_ok-translations.ensures.offset,
+      c.originals_offset-originals.ensures,
       c.in_ok-push_header.ensures,
       c.in_ok-out.ensures.items,
     ))

@@ -6,7 +6,7 @@ use Rattle.mo_lookup.proofs.catalog.header_text.Goals as goal
 
 pub returns-in-Equal-clause-text : goal.returns-in-Equal-clause-text
 returns-in-Equal-clause-text c =
-    c.first_form.ensures
+    c.before_nul.ensures
     ∙ sym
     (
     header-first c.args.view.now c.translation.result.now c.len.ensures.rising

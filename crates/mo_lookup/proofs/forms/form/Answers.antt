@@ -4,5 +4,5 @@ use Rattle.mo_lookup.proofs.forms.form.Goals as goal
 
 pub returns : goal.returns
 returns c =
-    ap (λ text. Some text) c.first_form.ensures
+    ap (λ text. Some text) c.before_nul.ensures
     ∙ sym (form-zero c.loop.rest.now (c.args.index - c.loop.counter) (omega arith)) ∙ c.loop.invariant

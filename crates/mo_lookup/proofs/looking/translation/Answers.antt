@@ -5,8 +5,8 @@ use Rattle.mo_lookup.proofs.looking.translation.Goals as goal
 pub returns-clause-found : goal.returns-clause-found
 returns-clause-found c =
     sym c.translation.ensures
-    ∙ sym (under-searched _ _ (Some c.in_ok-place.place) c.len-rising.ensures.rising c.in_ok-place.ensures.place)
+    ∙ sym (under-searched _ _ (Some c.in_ok-index.index) c.len-rising.ensures.rising c.in_ok-index.ensures.index)
 
-pub returns-in_err-place-clause-found : goal.returns-in_err-place-clause-found
-returns-in_err-place-clause-found c =
-    rw c.from_residual.ensures (sym (under-searched _ _ None c.len-rising.ensures.rising c.in_err-place.ensures.place))
+pub returns-in_err-index-clause-found : goal.returns-in_err-index-clause-found
+returns-in_err-index-clause-found c =
+    rw c.from_residual.ensures (sym (under-searched _ _ None c.len-rising.ensures.rising c.in_err-index.ensures.index))

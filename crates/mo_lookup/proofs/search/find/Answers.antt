@@ -8,8 +8,8 @@ compare-requires-clause-room g c =
     let began = c.requires in
     omega (arith, counted.small)
 
-pub returns-in-Equal-clause-place : goal.returns-in-Equal-clause-place
-returns-in-Equal-clause-place g c = IsSearch-found _ _ _ _ _ _ _ _ c.halving.invariant.1 (omega arith) c.in-Equal.ensures.order
+pub returns-in-Equal-clause-index : goal.returns-in-Equal-clause-index
+returns-in-Equal-clause-index g c = IsSearch-found _ _ _ _ _ _ _ _ c.halving.invariant.1 (omega arith) c.in-Equal.ensures.order
 
 pub returns-in-Equal-clause-cost : goal.returns-in-Equal-clause-cost
 returns-in-Equal-clause-cost g c =

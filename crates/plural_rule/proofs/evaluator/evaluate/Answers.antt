@@ -1,12 +1,12 @@
 use Rattle.std.proofs.Common.{◌≡◌, List, length, ap, ◌∙◌, arith}
 use Rattle.plural_rule.specs.declared.node.Node.{Node}
 use Rattle.plural_rule.specs.Expression.{nodes}
-use Rattle.plural_rule.specs.PostOrder.{layout, tree_of}
-use Rattle.plural_rule.proofs.ParserSteps.{length-layout}
+use Rattle.plural_rule.specs.PostOrder.{post_order, tree_of}
+use Rattle.plural_rule.proofs.ParserSteps.{length-post_order}
 use Rattle.plural_rule.proofs.evaluator.evaluate.Goals as goal
 
-count : (table : List Node) → table ≡ layout 0 (tree_of table) → length table ≡ nodes (tree_of table)
-count table laid = ap length laid ∙ length-layout (tree_of table) 0
+count : (table : List Node) → table ≡ post_order 0 (tree_of table) → length table ≡ nodes (tree_of table)
+count table laid = ap length laid ∙ length-post_order (tree_of table) 0
 
 pub evaluate_within-requires-clause-limit : goal.evaluate_within-requires-clause-limit
 evaluate_within-requires-clause-limit c = omega (arith, count c.args.table.now c.requires.laid, c.requires.limit)

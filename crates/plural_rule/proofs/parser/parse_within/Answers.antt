@@ -1,6 +1,6 @@
 use Rattle.std.proofs.Common.{◌≡◌, ◌≢◌, ℕ, ◌<◌, List, [], ◌∷◌, length, refl, ap, arith, rules, take, drop, length-drop, Some, ◌-◌}
 use Rattle.std.proofs.lemmas.List.{take_all}
-use Rattle.plural_rule.proofs.ParserRun.{Reached, reached-start, reached-token, reached-end, no-token, no-place}
+use Rattle.plural_rule.proofs.ParserRun.{Reached, reached-start, reached-token, reached-end, no-token, no-index}
 use Rattle.plural_rule.proofs.parser.parse_within.Goals as goal
 
 nonempty : (text : List ℕ) → 0 < length text → text ≢ []
@@ -27,7 +27,7 @@ returns-in_default g c =
 pub returns-in_default-take : goal.returns-in_default-take
 returns-in_default-take g c =
     let r = c.loop-rest.invariant.reached in
-    no-place c.args.text.now c.loop-rest.rest.now c.in-Some.token c.in-Some.len _ _ _ _ _ r c.in-Some.ensures (c.in_default-take.ensures.step r.state r.represents)
+    no-index c.args.text.now c.loop-rest.rest.now c.in-Some.token c.in-Some.len _ _ _ _ _ r c.in-Some.ensures (c.in_default-take.ensures.step r.state r.represents)
 
 pub loop-rest-preserved : goal.loop-rest-preserved
 loop-rest-preserved g c =

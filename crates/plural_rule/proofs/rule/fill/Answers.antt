@@ -4,7 +4,7 @@ use Rattle.plural_rule.proofs.rule.fill.Goals as goal
 
 pub returns-in-Ok-clause-rule : goal.returns-in-Ok-clause-rule
 returns-in-Ok-clause-rule c =
-    from-header expression_limit c.args.header.now c.in-Ok.number c.read.new.table.items c.in-Ok.ensures
+    from-header expression_limit c.args.header.now c.in-Ok.nplurals c.read.new.table.items c.in-Ok.ensures
 
 pub returns-in-Ok-clause-laid : goal.returns-in-Ok-clause-laid
 returns-in-Ok-clause-laid c = laid c.read.new.table.items c.in-Ok.ensures.tree c.in-Ok.ensures.table_is

@@ -2,7 +2,7 @@ use Rattle.std.proofs.Common.{subst, sym, ap, ◌∙◌, ◌++◌, map}
 use Rattle.po_catalog.specs.Joined.{in_input, entries_of}
 use Rattle.po_catalog.specs.JoinedView.{input_entries}
 use Rattle.po_catalog.specs.Duplicate.{HasNoDuplicate}
-use Rattle.po_catalog.proofs.DuplicateLemmas.{distinct_wants_memory, entries_of_input}
+use Rattle.po_catalog.proofs.DuplicateLemmas.{distinct_needs_memory, entries_of_input}
 use Rattle.po_catalog.proofs.duplicate.duplicates.Goals as goal
 
 pub returns-in-Ok-clause-exact : goal.returns-in-Ok-clause-exact
@@ -16,4 +16,4 @@ returns-clause-only c =
     let same = ap input_entries c.deref.ensures.value ∙ c.in_ok-add_entries.ensures
     ∙ ap (λ items. input_entries items ++ map (in_input 0) c.entries.result.now) c.new-entries.ensures.items in
     let list = ap entries_of same ∙ entries_of_input 0 c.entries.result.now ∙ c.entries.ensures.entries in
-    λ none. ap (λ e. e.error) (distinct_wants_memory (input_entries c.deref.result.now) c.in-Err.error (subst HasNoDuplicate (sym list) none) c.in-Err.ensures.exact)
+    λ none. ap (λ e. e.error) (distinct_needs_memory (input_entries c.deref.result.now) c.in-Err.error (subst HasNoDuplicate (sym list) none) c.in-Err.ensures.exact)

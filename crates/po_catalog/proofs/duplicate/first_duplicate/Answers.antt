@@ -33,7 +33,7 @@ loop-joined-preserved c =
     let looked = sym c.in_ok-first_input.ensures.old ∙ c.in_default.is in
     let line : (c.joined-item.result.input, c.line.result) ≡ (c.joined-item.result.input, c.joined-item.result.entry.now.line) = ap (λ (n : ℕ). (c.joined-item.result.input, n)) c.line.ensures in
     IsSeen-more _ _ _ (input_entry c.joined-item.result) inside here c.loop-joined.invariant (sym c.if-not-is_live.ensures) _ key looked _
-    (λ q. c.in_ok-first_input.ensures.updates.0 q ∙ ap (λ place. cond (is_at (message_cmp (c.context.result, c.id.result)) q) (Some place) (get message_cmp c.loop-joined.seen q)) line)
+    (λ q. c.in_ok-first_input.ensures.updates.0 q ∙ ap (λ location. cond (is_at (message_cmp (c.context.result, c.id.result)) q) (Some location) (get message_cmp c.loop-joined.seen q)) line)
 
 pub returns : goal.returns
 returns c = record { exact = IsSeen-all _ _ c.loop-joined.joined-index (omega (arith, length-map c.args.entries.now input_entry)) c.loop-joined.invariant }

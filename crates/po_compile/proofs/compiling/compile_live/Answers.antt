@@ -3,7 +3,7 @@ use Rattle.po_syntax.specs.declared.fault.PoError.{PoError}
 use Rattle.po_entry.specs.TextEntry.{TextEntry}
 use Rattle.po_compile.specs.Accepted.{fault_of_only_input}
 use Rattle.po_compile.specs.Collected.{HoldsEntries}
-use Rattle.po_compile.specs.Compiling.{IsCompiled, HasLargeLayout}
+use Rattle.po_compile.specs.Compiling.{IsCompilation, HasLargeLayout}
 use Rattle.po_compile.proofs.ReadingLemmas.{only_read, only_refused, joined_one}
 use Rattle.po_compile.proofs.compiling.compile_live.Goals as goal
 
@@ -20,7 +20,7 @@ returns-in-Ok-Some c =
     record {
       catalogues = entries ∷ [];
       read = only_read c.args.text.now entries (record { reads = c.requires.reads; distinct = compiled.0 });
-      is_compiled = subst (λ (es : List TextEntry). IsCompiled c.args.options es c.in-Ok-Some.compiled) (sym (joined_one entries)) compiled.1;
+      is_compiled = subst (λ (es : List TextEntry). IsCompilation c.args.options es c.in-Ok-Some.compiled) (sym (joined_one entries)) compiled.1;
     }
 
 pub returns-in-Err : goal.returns-in-Err

@@ -1,10 +1,10 @@
 use Rattle.std.proofs.Common.{◌≡◌, ap, ap₂, sym, ◌∙◌, false, ◌++◌, ◌∷◌, [], take, drop, map, get_or, arith, length}
 use Rattle.std.proofs.lemmas.List.{map_push}
 use Rattle.mo_file.specs.Key.{query_key}
-use Rattle.po_compile.specs.Collected.{live_message, row_seen}
+use Rattle.po_compile.specs.Collected.{live_message, row_view}
 use Rattle.po_compile.specs.CompiledMessages.{original_of, translation_of}
 use Rattle.po_compile.specs.declared.collecting.Lengths.{Lengths}
-use Rattle.po_compile.proofs.RowsMean.{row_at, row_seen_is}
+use Rattle.po_compile.proofs.RowsMean.{row_at, row_view_is}
 use Rattle.po_compile.proofs.rows.rows_of.Goals as goal
 
 pub loop-parts-preserved : goal.loop-parts-preserved
@@ -19,8 +19,8 @@ loop-parts-preserved c = λ use_fuzzy live bytes lengths.
     let after : c.cut.result.1.now ≡ drop parts.original c.loop-parts.rest.now = c.cut.ensures.rest in
     let translation : c.cut-in-loop-parts.result.0.now ≡ translation_of row.0 = c.cut-in-loop-parts.ensures.first ∙ ap (take parts.translation) after ∙ made.translation in
     let key : c.cut-in-loop-parts-2.result.0.now ≡ query_key row.0.context row.0.id = c.cut-in-loop-parts-2.ensures.first ∙ ap (take parts.key) original ∙ made.key in
-    let seen = row_seen_is use_fuzzy row.0 c.row_of.result (c.row_of.ensures.key ∙ key) (c.row_of.ensures.original ∙ original) (c.row_of.ensures.translation ∙ translation) (c.row_of.ensures.compiled ∙ made.compiled) in (
-      ap (map row_seen) c.in_ok-push.ensures.items ∙ map_push row_seen c.loop-parts.rows.items _ ∙ ap₂ (λ a b. a ++ b ∷ []) so_far.0 seen
+    let seen = row_view_is use_fuzzy row.0 c.row_of.result (c.row_of.ensures.key ∙ key) (c.row_of.ensures.original ∙ original) (c.row_of.ensures.translation ∙ translation) (c.row_of.ensures.compiled ∙ made.compiled) in (
+      ap (map row_view) c.in_ok-push.ensures.items ∙ map_push row_view c.loop-parts.rows.items _ ∙ ap₂ (λ a b. a ++ b ∷ []) so_far.0 seen
           ∙ sym (ap (map (live_message use_fuzzy)) row.1 ∙ map_push (live_message use_fuzzy) (take i live) row.0),
       c.cut-in-loop-parts.ensures.rest ∙ ap (drop parts.translation) after ∙ made.rest,
     )

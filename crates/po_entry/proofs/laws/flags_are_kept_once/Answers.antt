@@ -1,4 +1,4 @@
-use Rattle.po_entry.proofs.ListedWords.{flags_kept}
+use Rattle.po_entry.proofs.ListedElements.{flags_kept}
 use Rattle.po_entry.proofs.laws.flags_are_kept_once.Goals as goal
 
 pub returns : goal.returns

@@ -1,4 +1,4 @@
-use Rattle.po_entry.proofs.ListedWords.{flags_listed}
+use Rattle.po_entry.proofs.ListedElements.{flags_listed}
 use Rattle.po_entry.proofs.laws.flags_are_listed.Goals as goal
 
 pub returns : goal.returns

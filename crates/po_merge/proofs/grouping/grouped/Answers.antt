@@ -3,7 +3,7 @@ use Rattle.std.specs.Prelude.{All}
 use Rattle.std.proofs.lemmas.List.Elements.{All-nil}
 use Rattle.po_entry.specs.Bytes.{Lacks}
 use Rattle.po_merge.specs.Inputs.{all_entries}
-use Rattle.po_merge.specs.InputsView.{inputs_of}
+use Rattle.po_merge.specs.InputsView.{inputs_view}
 use Rattle.po_merge.specs.Grouping.{IsGrouped, IsDefinition}
 use Rattle.po_merge.proofs.Inputs.{entries_more, definitions_more}
 use Rattle.po_merge.proofs.grouping.grouped.Goals as goal
@@ -16,7 +16,7 @@ add_all-requires c = (_, c.loop-input.invariant.are_grouped)
 
 pub loop-input-preserved : goal.loop-input-preserved
 loop-input-preserved c =
-    let before = all_entries (inputs_of (take c.loop-input.input-index c.args.inputs.now)) in
+    let before = all_entries (inputs_view (take c.loop-input.input-index c.args.inputs.now)) in
     let more = entries_more c.args.inputs.now c.loop-input.input-index c.input-item.result c.entries.result.now c.loop-input-test.true c.input-item.is c.entries.ensures.entries in
     let no_nul = subst (λ x. Lacks 0 x.name.now) (sym c.input-item.is) (c.requires c.loop-input.input-index c.input-item.result c.loop-input-test.true) in
     record {

@@ -4,8 +4,8 @@ use Rattle.std.proofs.lemmas.List.{append-nil, map_push}
 use Rattle.po_entry.specs.Descent.Reads.{comments, entry}
 use Rattle.po_entry.specs.TextEntry.{TextEntry}
 use Rattle.po_entry.specs.Spelling.{entry_from}
-use Rattle.po_reader.specs.Bare.{kept_notes, kept_entry}
-use Rattle.po_reader.specs.Seen.{body_seen}
+use Rattle.po_reader.specs.Bare.{kept_comments, kept_entry}
+use Rattle.po_reader.specs.ReaderView.{body_view}
 use Rattle.po_reader.proofs.Kept.{kept_from}
 use Rattle.po_reader.specs.Stops.EntriesStop.{in_head, in_body, later}
 use Rattle.po_reader.proofs.HeadEnds.{head_over, over_cases, head_at_end}
@@ -38,8 +38,8 @@ returns-in_err-body-clause-fault c =
 pub loop-drafts-preserved : goal.loop-drafts-preserved
 loop-drafts-preserved c =
     let head = c.in_ok-head.ensures.found in
-    let body = body_seen c.in_ok-body.body in
-    let made = c.in_ok-fields_of.ensures (kept_notes c.args.all head.0) head.1 head.3 ∙ kept_from c.args.all head.0 head.1 body in
+    let body = body_view c.in_ok-body.body in
+    let made = c.in_ok-fields_of.ensures (kept_comments c.args.all head.0) head.1 head.3 ∙ kept_from c.args.all head.0 head.1 body in
     let spelt = c.loop-drafts.invariant.spelt in
     let first : TextEntry = entry_from head.0 head.1 body in
     record {

@@ -2,7 +2,7 @@ use Rattle.std.proofs.Common.{◌≡◌, ℕ, List, ◌++◌, ◌-◌, ◌≤◌
 use Rattle.po_syntax.specs.declared.fault.PoFault.{PoFault}
 use Rattle.po_syntax.specs.TextItem.{views}
 use Rattle.po_entry.specs.TextEntry.{TextEntry}
-use Rattle.po_entry.specs.EntryText.{entry_of}
+use Rattle.po_entry.specs.EntryView.{entry_view}
 use Rattle.po_entry.specs.Descent.{Reads}
 use Rattle.po_reader.specs.Bare.{kept_entry}
 use Rattle.po_reader.specs.Stops.{EntriesStop}
@@ -11,7 +11,7 @@ use Rattle.po_reader.proofs.drafts.drafts_of.Given as goal
 abbrev pub invariant-loop-drafts : goal.invariant-loop-drafts
 invariant-loop-drafts l = record {
   spelt : (entries : List TextEntry) × ((more : List TextEntry) → Reads (views (drop l.at l.items)) more → Reads (views l.items) (entries ++ more))
-      × (map entry_of l.drafts.items ≡ map (kept_entry l.all) entries);
+      × (map entry_view l.drafts.items ≡ map (kept_entry l.all) entries);
   stops : (fault : PoFault) (line : ℕ) → EntriesStop l.end (views (drop l.at l.items)) fault line → EntriesStop l.end (views l.items) fault line;
   within : l.at ≤ length l.items;
 }

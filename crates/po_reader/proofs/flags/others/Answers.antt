@@ -7,7 +7,7 @@ use Rattle.std.specs.BTreeMap.{is_at}
 use Rattle.std.proofs.lemmas.Bool.{not-true}
 use Rattle.std.proofs.lemmas.List.{map-append}
 use Rattle.po_entry.specs.TextEntry.{texts}
-use Rattle.po_entry.specs.Notes.{is_fuzzy_word}
+use Rattle.po_entry.specs.Comments.{is_fuzzy_flag}
 use Rattle.po_reader.specs.MetFlags.{HasFlags}
 use Rattle.po_reader.proofs.MetFlags.{one_flag_more, flags_more}
 use Rattle.po_reader.proofs.flags.others.Goals as goal
@@ -25,14 +25,14 @@ loop-word-preserved c =
     let here = c.as_slice.ensures.value in
     let unmet : list_any (bytes_eq c.as_slice.result.now) flags ≡ false =
     sym (inv.met c.as_slice.result) ∙ not-true _ (sym c.in_ok-insert.ensures.added ∙ c.if-not-branch.false) in
-    let other : is_fuzzy_word c.as_slice.result.now ≡ false = ap is_fuzzy_word (here ∙ sym c.deref.ensures.value) ∙ sym c.if-is_fuzzy_word.ensures in
-    let fresh : (is_fuzzy_word c.as_slice.result.now || list_any (bytes_eq c.as_slice.result.now) flags) ≡ false = rw (other, unmet) refl in
+    let other : is_fuzzy_flag c.as_slice.result.now ≡ false = ap is_fuzzy_flag (here ∙ sym c.deref.ensures.value) ∙ sym c.if-is_fuzzy_flag.ensures in
+    let fresh : (is_fuzzy_flag c.as_slice.result.now || list_any (bytes_eq c.as_slice.result.now) flags) ≡ false = rw (other, unmet) refl in
     let same = c.in_ok-to_vec.ensures.items_if_clones_equal (λ x y e. e) ∙ c.as_slice-in-loop-word.ensures.value ∙ sym here in
     let pushed : texts c.push.new.self.items ≡ flags ++ c.as_slice.result.now ∷ [] =
     ap texts c.in_ok-push.ensures.items ∙ map-append (λ v. v.items) c.loop-word.kept.items (c.in_ok-to_vec.field-0 ∷ []) ∙ ap (λ n. flags ++ n ∷ []) same in
     record {
       are_kept = pushed ∙ ap (λ n. flags ++ n ∷ []) here
-          ∙ flags_more c.args.words.now c.loop-word.word-index c.word-item.result flags false c.loop-word-test.true c.word-item.is inv.are_kept
-          (ap (λ n. is_fuzzy_word n || list_any (bytes_eq n) flags) (sym here) ∙ fresh);
+          ∙ flags_more c.args.keywords.now c.loop-word.word-index c.word-item.result flags false c.loop-word-test.true c.word-item.is inv.are_kept
+          (ap (λ n. is_fuzzy_flag n || list_any (bytes_eq n) flags) (sym here) ∙ fresh);
       met = subst (HasFlags c.insert.new.self) (sym pushed) (one_flag_more c.loop-word.met c.insert.new.self c.as_slice.result flags inv.met c.in_ok-insert.ensures.updates.0);
     }

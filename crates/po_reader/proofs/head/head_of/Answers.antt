@@ -1,10 +1,10 @@
 use Rattle.std.proofs.Common.{◌++◌, ◌∷◌, [], ◌∙◌, append_assoc, arith}
 use Rattle.std.proofs.lemmas.Result.{err_from_is_err_and}
 use Rattle.std.proofs.lemmas.List.{append-nil}
-use Rattle.po_entry.specs.Head.{Note, PreviousText}
-use Rattle.po_entry.specs.Head.IsHead.{over, remark, previous}
-use Rattle.po_reader.specs.Stops.HeadStops.{refused, in_previous, behind_remark, behind_previous}
-use Rattle.po_reader.specs.Bare.{kept_notes}
+use Rattle.po_entry.specs.Head.{CommentText, PreviousText}
+use Rattle.po_entry.specs.Head.IsHead.{over, head_comment, previous}
+use Rattle.po_reader.specs.Stops.HeadStops.{refused, in_previous, after_comment, after_previous}
+use Rattle.po_reader.specs.Bare.{kept_comments}
 use Rattle.po_reader.proofs.Heads.{holds_nothing, holds_previous}
 use Rattle.po_reader.proofs.Kept.{kept_nothing}
 use Rattle.po_reader.proofs.head.head_of.Goals as goal
@@ -14,7 +14,7 @@ loop-kind-init c = record {
   spelt = ([], [], rw (kept_nothing c.args.all) (holds_nothing _ c.new.ensures.items c.new-2.ensures.items c.new-3.ensures.items c.new-4.ensures.items c.none.ensures), λ more others rest h. h);
   stops = λ fault line h. h;
   within = c.requires;
-  behind = omega arith;
+  after = omega arith;
 }
 
 pub returns-in-Err-clause-fault : goal.returns-in-Err-clause-fault
@@ -28,22 +28,22 @@ returns-in-Ok-Over-clause-found c =
     let whole = spelt.3 [] [] _ (over step) in
     (spelt.0, spelt.1, rw (append-nil, append-nil) at whole, spelt.2)
 
-pub loop-kind-preserved-in-Ok-Remark : goal.loop-kind-preserved-in-Ok-Remark
-loop-kind-preserved-in-Ok-Remark c =
+pub loop-kind-preserved-in-Ok-HeadComment : goal.loop-kind-preserved-in-Ok-HeadComment
+loop-kind-preserved-in-Ok-HeadComment c =
     let spelt = c.loop-kind.invariant.spelt in
-    let step = rw c.in-Ok-Remark.field-0-is at c.in-Ok-Remark.ensures.step in
-    let within = rw c.in-Ok-Remark.field-0-is at c.in-Ok-Remark.ensures.within in
-    let note : Note = record { kind = c.in-Ok-Remark.kind; text = c.in-Ok-Remark.text.now } in
+    let step = rw c.in-Ok-HeadComment.field-0-is at c.in-Ok-HeadComment.ensures.step in
+    let within = rw c.in-Ok-HeadComment.field-0-is at c.in-Ok-HeadComment.ensures.within in
+    let comment_text : CommentText = record { kind = c.in-Ok-HeadComment.kind; text = c.in-Ok-HeadComment.text.now } in
     record {
       spelt = (
-        spelt.0 ++ note ∷ [],
+        spelt.0 ++ comment_text ∷ [],
         spelt.1,
-        record { remarks = c.in_ok-add_note-in-Ok-Remark.ensures.notes spelt.0 spelt.2.remarks; texts = c.in_ok-add_note-in-Ok-Remark.ensures.previous ∙ spelt.2.texts },
-        λ more others rest h. rw append_assoc (spelt.3 (note ∷ more) others rest (remark step h)),
+        record { head_comments = c.in_ok-add_comment-in-Ok-HeadComment.ensures.comment_texts spelt.0 spelt.2.head_comments; texts = c.in_ok-add_comment-in-Ok-HeadComment.ensures.previous ∙ spelt.2.texts },
+        λ more others rest h. rw append_assoc (spelt.3 (comment_text ∷ more) others rest (head_comment step h)),
       );
-      stops = λ fault line h. c.loop-kind.invariant.stops _ _ (behind_remark step h);
+      stops = λ fault line h. c.loop-kind.invariant.stops _ _ (after_comment step h);
       within = omega (arith, within (λ e. cc));
-      behind = omega arith;
+      after = omega arith;
     }
 
 pub returns-in_err-text-in-Ok-Previous-clause-fault : goal.returns-in_err-text-in-Ok-Previous-clause-fault
@@ -62,10 +62,10 @@ loop-kind-preserved c =
       spelt = (
         spelt.0,
         spelt.1 ++ text ∷ [],
-        holds_previous c.loop-kind.head c.set_previous.new.previous (kept_notes c.args.all spelt.0) spelt.1 text spelt.2 c.set_previous.ensures,
+        holds_previous c.loop-kind.head c.set_previous.new.previous (kept_comments c.args.all spelt.0) spelt.1 text spelt.2 c.set_previous.ensures,
         λ more others rest h. rw append_assoc (spelt.3 more (text ∷ others) rest (previous step strings (rw c.rank-above.ensures at h))),
       );
-      stops = λ fault line h. c.loop-kind.invariant.stops _ _ (behind_previous step strings (rw c.rank-above.ensures at h));
+      stops = λ fault line h. c.loop-kind.invariant.stops _ _ (after_previous step strings (rw c.rank-above.ensures at h));
       within = c.in_ok-text-in-Ok-Previous.ensures.within;
-      behind = omega (arith, c.in_ok-text-in-Ok-Previous.ensures.further);
+      after = omega (arith, c.in_ok-text-in-Ok-Previous.ensures.further);
     }

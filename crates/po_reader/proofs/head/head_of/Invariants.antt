@@ -1,19 +1,19 @@
 use Rattle.std.proofs.Common.{ℕ, List, ◌++◌, ◌-◌, ◌≤◌, drop, length}
 use Rattle.po_syntax.specs.declared.fault.PoFault.{PoFault}
 use Rattle.po_syntax.specs.TextItem.{TextItem, views}
-use Rattle.po_entry.specs.Head.{Note, PreviousText, IsHead}
+use Rattle.po_entry.specs.Head.{CommentText, PreviousText, IsHead}
 use Rattle.po_reader.specs.Stops.{HeadStops}
 use Rattle.po_reader.specs.Heads.{HoldsHead}
-use Rattle.po_reader.specs.Bare.{kept_notes}
+use Rattle.po_reader.specs.Bare.{kept_comments}
 use Rattle.po_reader.proofs.head.head_of.Given as goal
 
 abbrev pub invariant-loop-kind : goal.invariant-loop-kind
 invariant-loop-kind l = record {
-  spelt : (notes : List Note) × (previous : List PreviousText) × HoldsHead l.head (kept_notes l.all notes) previous
-      × ((more : List Note) (others : List PreviousText) (rest : List TextItem) → IsHead l.above (views (drop l.at l.items)) more others rest → IsHead 0 (views (drop l.from l.items)) (notes ++ more) (previous ++ others) rest);
+  spelt : (comment_texts : List CommentText) × (previous : List PreviousText) × HoldsHead l.head (kept_comments l.all comment_texts) previous
+      × ((more : List CommentText) (others : List PreviousText) (rest : List TextItem) → IsHead l.above (views (drop l.at l.items)) more others rest → IsHead 0 (views (drop l.from l.items)) (comment_texts ++ more) (previous ++ others) rest);
   stops : (fault : PoFault) (line : ℕ) → HeadStops l.end l.above (views (drop l.at l.items)) fault line → HeadStops l.end 0 (views (drop l.from l.items)) fault line;
   within : l.at ≤ length l.items;
-  behind : l.from ≤ l.at;
+  after : l.from ≤ l.at;
 }
 
 abbrev pub decreases-loop-kind : goal.decreases-loop-kind

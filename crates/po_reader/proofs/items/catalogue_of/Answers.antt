@@ -4,7 +4,7 @@ use Rattle.std.proofs.lemmas.List.Elements.{All-map}
 use Rattle.std.proofs.lemmas.Iterator.Consumers.{YieldsList-turn, YieldsList-end}
 use Rattle.std.proofs.lemmas.Iterator.Adapters.{YieldsList-from_vec}
 use Rattle.po_syntax.specs.declared.fault.PoError.{PoError}
-use Rattle.po_entry.specs.EntryText.{entry_of}
+use Rattle.po_entry.specs.EntryView.{entry_view}
 use Rattle.po_entry.specs.Header.{HasAdmittedCharset}
 use Rattle.po_reader.specs.Faults.CharsetStops.{here, later}
 use Rattle.po_reader.proofs.Loops.{drop_here, take_here, asked_more, asked_all}
@@ -19,8 +19,8 @@ loop-draft-preserved c =
     let admitted = rw c.of.ensures at c.in_default.ensures.admitted in
     let taken = take_here c.args.drafts.items (length c.loop-draft.yielded) c.in-Some.draft turn.0 turn.1 in
     record {
-      built = rw (count, c.in_default.ensures.ok, c.of.ensures, taken, map_push) (ap (λ es. es ++ entry_of c.in-Some.draft ∷ []) c.loop-draft.invariant.built);
-      admitted = rw count (asked_more (λ draft. HasAdmittedCharset (entry_of draft)) _ _ _ turn.0 turn.1 c.loop-draft.invariant.admitted admitted);
+      built = rw (count, c.in_default.ensures.ok, c.of.ensures, taken, map_push) (ap (λ es. es ++ entry_view c.in-Some.draft ∷ []) c.loop-draft.invariant.built);
+      admitted = rw count (asked_more (λ draft. HasAdmittedCharset (entry_view draft)) _ _ _ turn.0 turn.1 c.loop-draft.invariant.admitted admitted);
       stops = λ line h. c.loop-draft.invariant.stops _ (rw (drop_here _ _ _ turn.0 turn.1) (later admitted (rw count at h)));
     }
 
@@ -44,4 +44,4 @@ returns-clause-charsets c =
     let list = YieldsList-from_vec {s = c.into_iter-draft-iterator.result} c.args.drafts.items given.0 (given.1 ∙ c.args.drafts.ok.0) in
     let ended = YieldsList-end list c.loop-draft.yielded c.loop-draft.draft-iterator c.loop-draft.yielded_by c.next.result c.next.new.self c.in-None.is c.next.ensures.steps in
     let past : length c.args.drafts.items ≤ length c.loop-draft.yielded = omega (arith, ended.1) in
-    All-map HasAdmittedCharset entry_of c.args.drafts.items (asked_all (λ draft. HasAdmittedCharset (entry_of draft)) c.args.drafts.items (length c.loop-draft.yielded) past c.loop-draft.invariant.admitted)
+    All-map HasAdmittedCharset entry_view c.args.drafts.items (asked_all (λ draft. HasAdmittedCharset (entry_view draft)) c.args.drafts.items (length c.loop-draft.yielded) past c.loop-draft.invariant.admitted)

@@ -1,13 +1,13 @@
 use Rattle.std.proofs.Common.{◌≡◌, ℕ, drop, take, map, length}
 use Rattle.std.specs.Prelude.{All}
-use Rattle.po_entry.specs.EntryText.{entry_of}
+use Rattle.po_entry.specs.EntryView.{entry_view}
 use Rattle.po_entry.specs.Header.{HasAdmittedCharset}
 use Rattle.po_reader.specs.Faults.{CharsetStops}
 use Rattle.po_reader.proofs.items.catalogue_of.Given as goal
 
 abbrev pub invariant-loop-draft : goal.invariant-loop-draft
 invariant-loop-draft l = record {
-  built : l.catalogue ≡ map entry_of (take (length l.yielded) l.fn.drafts.items);
-  admitted : All (λ draft. HasAdmittedCharset (entry_of draft)) (take (length l.yielded) l.fn.drafts.items);
-  stops : (line : ℕ) → CharsetStops (map entry_of (drop (length l.yielded) l.fn.drafts.items)) line → CharsetStops (map entry_of l.fn.drafts.items) line;
+  built : l.catalogue ≡ map entry_view (take (length l.yielded) l.fn.drafts.items);
+  admitted : All (λ draft. HasAdmittedCharset (entry_view draft)) (take (length l.yielded) l.fn.drafts.items);
+  stops : (line : ℕ) → CharsetStops (map entry_view (drop (length l.yielded) l.fn.drafts.items)) line → CharsetStops (map entry_view l.fn.drafts.items) line;
 }

@@ -1,7 +1,7 @@
 use Rattle.std.proofs.Common.{◌∷◌, ◌++◌, sym, ap, ◌∙◌, length, arith}
 use Rattle.std.proofs.lemmas.Bool.{ne_eqb}
-use Rattle.po_shell.specs.References.{reference_behind}
-use Rattle.po_shell.specs.Holding.{behind_dollar}
+use Rattle.po_shell.specs.References.{reference_after}
+use Rattle.po_shell.specs.Holding.{after_dollar}
 use Rattle.po_shell.proofs.ReferenceLemmas.{begun-undecided, begun-more, brace-undecided, not-begun, not-short, ends, closes, not-closed, nil-from_length, some-from_length, letter-name_byte}
 use Rattle.po_shell.proofs.holding.decide.Goals as goal
 
@@ -39,11 +39,11 @@ returns-then-next-eq125 c =
     let name = c.args.name.now in (
       c.if-not-is_braced-2.false,
       λ rest.
-          ap (λ b. reference_behind (123 ∷ (name ++ b ∷ rest))) c.if-next-eq125.true ∙ closes name rest c.requires (some-from_length _ (sym c.if-is_empty.ensures)),
+          ap (λ b. reference_after (123 ∷ (name ++ b ∷ rest))) c.if-next-eq125.true ∙ closes name rest c.requires (some-from_length _ (sym c.if-is_empty.ensures)),
     )
 
 pub returns-else-next-eq125 : goal.returns-else-next-eq125
 returns-else-next-eq125 c =
     let name = c.args.name.now in λ rest.
-    ap (λ b. reference_behind (behind_dollar b (name ++ c.args.next ∷ rest))) c.if-not-is_braced-2.false
+    ap (λ b. reference_after (after_dollar b (name ++ c.args.next ∷ rest))) c.if-not-is_braced-2.false
     ∙ not-closed name c.args.next rest c.requires (sym c.if-is_name_byte.ensures) (ne_eqb _ _ c.if-next-eq125.false)

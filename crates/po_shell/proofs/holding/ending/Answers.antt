@@ -1,5 +1,5 @@
 use Rattle.std.proofs.Common.{◌∷◌, inl, inr, sym, ap, ◌∙◌}
-use Rattle.po_shell.specs.Holding.{behind_dollar}
+use Rattle.po_shell.specs.Holding.{after_dollar}
 use Rattle.po_shell.proofs.ReferenceLemmas.{nil-from_length, some-from_length}
 use Rattle.po_shell.proofs.SubstitutionLemmas.{ends-empty, ends-copied, ends-name}
 use Rattle.po_shell.proofs.holding.ending.Goals as goal
@@ -18,5 +18,5 @@ returns-then-is_empty-2 c =
 pub returns : goal.returns
 returns c =
     let name = c.begun-is_braced.result.1.now in
-    let bare = c.begun-is_braced.ensures.bytes ∙ ap (λ b. 36 ∷ behind_dollar b name) c.if-is_braced.false in
+    let bare = c.begun-is_braced.ensures.bytes ∙ ap (λ b. 36 ∷ after_dollar b name) c.if-is_braced.false in
     ends-name _ _ name _ bare c.begun-is_braced.ensures.name (some-from_length name (sym c.if-is_empty-2.ensures)) c.replacement.ensures

@@ -8,18 +8,18 @@ use Rattle.po_shell.proofs.locale.add_languages.Goals as goal
 
 pub returns-then-is_untranslated-clause-added : goal.returns-then-is_untranslated-clause-added
 returns-then-is_untranslated-clause-added c =
-    names-stop _ _ _ c.loop-part.invariant (split-stop c.loop-part.rest.now _ c.split_at.result.1.now c.len_before.result c.split_at.ensures.front c.len_before.ensures.place c.len_before.ensures.bound (sym c.if-is_untranslated.ensures))
+    names-stop _ _ _ c.loop-part.invariant (split-stop c.loop-part.rest.now _ c.split_at.result.1.now c.len_before.result c.split_at.ensures.front c.len_before.ensures.index c.len_before.ensures.bound (sym c.if-is_untranslated.ensures))
 
 pub returns-then-is_empty-clause-added : goal.returns-then-is_empty-clause-added
 returns-then-is_empty-clause-added c =
-    names-last _ _ _ _ _ c.loop-part.invariant (split-end c.loop-part.rest.now _ _ c.len_before.result c.split_at.ensures.front c.split_at.ensures.back c.len_before.ensures.place c.len_before.ensures.bound (sym c.if-is_untranslated.ensures) (sym c.if-is_empty.ensures))
+    names-last _ _ _ _ _ c.loop-part.invariant (split-end c.loop-part.rest.now _ _ c.len_before.result c.split_at.ensures.front c.split_at.ensures.back c.len_before.ensures.index c.len_before.ensures.bound (sym c.if-is_untranslated.ensures) (sym c.if-is_empty.ensures))
     c.in_ok-add_language.ensures.added
 
 pub loop-part-preserved : goal.loop-part-preserved
 loop-part-preserved c =
     let part = c.split_at.result.0.now in
-    let behind = c.split_at.result.1.now in
+    let after = c.split_at.result.1.now in
     simp take_rest
-    (names-next _ _ _ (variants_in part) (flat_map variants (language_parts (drop 1 behind))) _ c.loop-part.invariant
-    (split-more c.loop-part.rest.now _ _ c.len_before.result c.split_at.ensures.front c.split_at.ensures.back c.len_before.ensures.place (sym c.if-is_untranslated.ensures) (sym c.if-is_empty.ensures))
+    (names-next _ _ _ (variants_in part) (flat_map variants (language_parts (drop 1 after))) _ c.loop-part.invariant
+    (split-more c.loop-part.rest.now _ _ c.len_before.result c.split_at.ensures.front c.split_at.ensures.back c.len_before.ensures.index (sym c.if-is_untranslated.ensures) (sym c.if-is_empty.ensures))
     c.in_ok-add_language.ensures.added)

@@ -1,7 +1,7 @@
 use Rattle.std.proofs.Common.{refl, inl, inr, map, ap, sym, ◌∙◌}
 use Rattle.std.specs.List.{flat_map}
 use Rattle.std.specs.Option.{option_map}
-use Rattle.po_shell.specs.Locales.{given, languages, variants, distinct}
+use Rattle.po_shell.specs.Locales.{non_empty, languages, variants, distinct}
 use Rattle.po_shell.proofs.LocaleLemmas.{candidates-none, candidates-barred, candidates-some}
 use Rattle.po_shell.proofs.locale.locale_candidates.Goals as goal
 
@@ -24,4 +24,4 @@ returns-clause-candidates c =
     c.in_ok-distinct.ensures.names
     ∙ ap (λ names. distinct (map (λ v. v.items) names)) c.deref.ensures.value
     ∙ ap distinct c.in_ok-names.ensures.names
-    ∙ sym (candidates-some c.args.environment.now c.in-Some.locale.now (given c.args.environment.now.language) (sym c.locale_of.ensures ∙ ap (option_map (λ v. v.now)) c.in-Some.is) (sym c.if-is_untranslated.ensures) (sym c.if-has_slash.ensures) refl)
+    ∙ sym (candidates-some c.args.environment.now c.in-Some.locale.now (non_empty c.args.environment.now.language) (sym c.locale_of.ensures ∙ ap (option_map (λ v. v.now)) c.in-Some.is) (sym c.if-is_untranslated.ensures) (sym c.if-has_slash.ensures) refl)

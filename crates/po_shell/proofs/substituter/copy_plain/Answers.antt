@@ -13,7 +13,7 @@ pub returns-in_err-put_all-clause-stops : goal.returns-in_err-put_all-clause-sto
 returns-in_err-put_all-clause-stops g c =
     let n = c.len_before-plain.result in
     let piece = c.args.piece.now in
-    let stops = λ (values : Values). Stops-out values piece (drop n piece) (take n piece) _ _ (plain-out values n piece c.len_before-plain.ensures.place) c.in_err-put_all.ensures.prefix in
+    let stops = λ (values : Values). Stops-out values piece (drop n piece) (take n piece) _ _ (plain-out values n piece c.len_before-plain.ensures.index) c.in_err-put_all.ensures.prefix in
     on-err _ _ stops
 
 pub returns-then-plain-piece-clause-undecided : goal.returns-then-plain-piece-clause-undecided
@@ -21,7 +21,7 @@ returns-then-plain-piece-clause-undecided g c = ap is_undecided c.requires.none_
 
 pub returns-then-plain-piece-clause-ok : goal.returns-then-plain-piece-clause-ok
 returns-then-plain-piece-clause-ok g c = λ values.
-    plain-advances values c.len_before-plain.result _ c.args.piece.now _ _ c.len_before-plain.ensures.place c.requires.none_held c.in_ok-put_all.ensures.ok
+    plain-advances values c.len_before-plain.result _ c.args.piece.now _ _ c.len_before-plain.ensures.index c.requires.none_held c.in_ok-put_all.ensures.ok
 
 pub returns-clause-undecided : goal.returns-clause-undecided
 returns-clause-undecided g c =
@@ -29,5 +29,5 @@ returns-clause-undecided g c =
 
 pub returns-clause-ok : goal.returns-clause-ok
 returns-clause-ok g c = λ values.
-    dollar-advances values c.len_before-plain.result _ c.args.piece.now _ _ c.len_before-plain.ensures.place (omega (arith, c.len_before-plain.ensures.bound, c.if-plain-piece.false))
+    dollar-advances values c.len_before-plain.result _ c.args.piece.now _ _ c.len_before-plain.ensures.index (omega (arith, c.len_before-plain.ensures.bound, c.if-plain-piece.false))
     (c.push.ensures.items ∙ ap (λ l. l ++ 36 ∷ []) c.requires.none_held) c.in_ok-put_all.ensures.ok

@@ -2,7 +2,7 @@ use Rattle.std.proofs.Common.{ℕ, ◌+◌, ◌≤◌, ◌^◌, ◌++◌, List, 
 use Rattle.std.specs.Prelude.{All}
 use Rattle.po_syntax.specs.declared.fault.PoFault.{PoFault}
 use Rattle.po_syntax.specs.CleanLine.{AreCleanLines}
-use Rattle.po_syntax.specs.ItemText.{HoldsText}
+use Rattle.po_syntax.specs.ItemContents.{HoldsText}
 use Rattle.po_syntax.specs.PoText.{SpellsLines, LinesStop, lines_of}
 use Rattle.po_syntax.specs.TextItem.{TextItem, views}
 use Rattle.po_syntax.proofs.pieces.read_piece.Given as goal

@@ -2,7 +2,7 @@ use Rattle.std.proofs.Common.{[], refl, sym, subst, inl, inr}
 use Rattle.std.specs.Prelude.{All}
 use Rattle.std.proofs.lemmas.List.Elements.{All-push}
 use Rattle.po_entry.specs.Bytes.{Lacks}
-use Rattle.po_merge.specs.InputsView.{inputs_of}
+use Rattle.po_merge.specs.InputsView.{inputs_view}
 use Rattle.po_tools.proofs.MsgcatLemmas.{read_more, file_fault, name_lacks}
 use Rattle.po_tools.proofs.msgcat.read_files.Goals as goal
 
@@ -10,7 +10,7 @@ pub returns-in-Err-clause-fault : goal.returns-in-Err-clause-fault
 returns-in-Err-clause-fault c =
     elim c.in-Err.ensures [
       | inl memory ↦ inl memory
-      | inr fault ↦ inr (file_fault c.args.files.now c.loop-name.name-index (record { ref_ptr = (0, 0); now = [] }, record { ref_ptr = (0, 0); now = [] }) (inputs_of c.loop-name.inputs.items) c.in-Err.error c.loop-name-test.true c.loop-name.invariant.read fault.1)
+      | inr fault ↦ inr (file_fault c.args.files.now c.loop-name.name-index (record { ref_ptr = (0, 0); now = [] }, record { ref_ptr = (0, 0); now = [] }) (inputs_view c.loop-name.inputs.items) c.in-Err.error c.loop-name-test.true c.loop-name.invariant.read fault.1)
     ]
 
 pub loop-name-preserved : goal.loop-name-preserved

@@ -7,7 +7,7 @@ pub returns-in-Ok-clause-run : goal.returns-in-Ok-clause-run
 returns-in-Ok-clause-run c =
     let compiled = rw c.requires.texts at c.in-Ok.ensures in
     run-done (named_files c.args.inputs.now) c.args.options.now compiled.catalogues c.in-Ok.compiled c.compiled_run.result compiled.read compiled.is_compiled
-    (λ asked. absurd (let no : true ≡ false = sym asked ∙ c.requires.unchecked in cc)) c.compiled_run.ensures.run
+    (λ gettext_view. absurd (let no : true ≡ false = sym gettext_view ∙ c.requires.unchecked in cc)) c.compiled_run.ensures.run
 
 pub returns-in-Err-clause-run : goal.returns-in-Err-clause-run
 returns-in-Err-clause-run c =

@@ -1,23 +1,23 @@
 use Rattle.std.proofs.Common.{◌≡◌, List, sym, ap, ◌∙◌}
 use Rattle.plural_rule.specs.declared.node.Node.{Node}
 use Rattle.plural_rule.specs.Expression.{Tree}
-use Rattle.plural_rule.specs.PostOrder.{layout, tree_of, tree_of-layout}
+use Rattle.plural_rule.specs.PostOrder.{post_order, tree_of, tree_of-post_order}
 use Rattle.pokit_c.proofs.looking.pokit_catalog_look.Goals as goal
 
-tree_held : (table : List Node) (tree : Tree) → table ≡ layout 0 tree → tree_of table ≡ tree
-tree_held table tree laid = ap tree_of laid ∙ tree_of-layout tree 0
+tree_held : (table : List Node) (tree : Tree) → table ≡ post_order 0 tree → tree_of table ≡ tree
+tree_held table tree laid = ap tree_of laid ∙ tree_of-post_order tree 0
 
 pub look-found-requires-clause-laid : goal.look-found-requires-clause-laid
 look-found-requires-clause-laid c =
     let laid = c.requires.1.nodes in
-    laid ∙ ap (layout 0) (sym (tree_held _ c.requires.0.rule.tree laid))
+    laid ∙ ap (post_order 0) (sym (tree_held _ c.requires.0.rule.tree laid))
 
-pub returns-clause-told : goal.returns-clause-told
-returns-clause-told c contents opened =
+pub returns-clause-reported : goal.returns-clause-reported
+returns-clause-reported c contents opened =
     let messages = c.reopen-view.ensures opened.file.0 contents.messages opened.file.1 in
     let tree = tree_held _ contents.rule.tree opened.nodes in
-    let told = c.look-found.ensures.told contents.rule.source in
-    rw (messages, opened.nplurals, tree, c.context.ensures, c.plural.ensures) at told
+    let reported = c.look-found.ensures.reported contents.rule.source in
+    rw (messages, opened.nplurals, tree, c.context.ensures, c.plural.ensures) at reported
 
 pub returns-clause-nodes : goal.returns-clause-nodes
 returns-clause-nodes c contents opened = let steps = c.look-found.ensures.nodes in rw (tree_held _ contents.rule.tree opened.nodes) at steps

@@ -1,15 +1,15 @@
 use Rattle.std.proofs.Common.{sym, ◌∙◌}
 use Rattle.mo_lookup.specs.Query.{query}
-use Rattle.mo_lookup.proofs.ChainLemmas.{Answers-nodes, Answers-told, chain-found, chain-none, chain_told-none}
+use Rattle.mo_lookup.proofs.ChainLemmas.{Answers-nodes, Answers-answered, chain-found, chain-none, chain_answered-none}
 use Rattle.mo_lookup.proofs.chain.Chain.look.Goals as goal
 
-pub returns-clause-told : goal.returns-clause-told
-returns-clause-told c =
+pub returns-clause-answered : goal.returns-clause-answered
+returns-clause-answered c =
     let asked = query c.args.context c.args.id.now c.args.plural in
     let clean = sym c.is_clean_key.ensures ∙ c.if-not-is_clean_key.false in
     rw (← c.self.view_is)
     (
-    Answers-told _ asked _ _ _ _ _ (chain-found _ asked _ _ _ clean c.in-Some.ensures.found) c.form-steps.ensures.text
+    Answers-answered _ asked _ _ _ _ _ (chain-found _ asked _ _ _ clean c.in-Some.ensures.found) c.form-steps.ensures.text
     c.form-steps.ensures.steps
     )
 
@@ -26,9 +26,9 @@ returns-clause-nodes c =
     rw (← c.self.view_is)
     (Answers-nodes _ asked _ _ _ _ (chain-found _ asked _ _ _ clean c.in-Some.ensures.found) c.form-steps.ensures.nodes)
 
-pub returns-in_default-clause-told : goal.returns-in_default-clause-told
-returns-in_default-clause-told c =
+pub returns-in_default-clause-answered : goal.returns-in_default-clause-answered
+returns-in_default-clause-answered c =
     let asked = query c.args.context c.args.id.now c.args.plural in
     let clean = sym c.is_clean_key.ensures ∙ c.if-not-is_clean_key.false in
     rw (← c.self.view_is)
-    (chain_told-none _ asked _ (chain-none _ asked clean c.in_default.ensures.found).0 c.untranslated_text-in_default.ensures)
+    (chain_answered-none _ asked _ (chain-none _ asked clean c.in_default.ensures.found).0 c.untranslated_text-in_default.ensures)

@@ -6,13 +6,13 @@ use Rattle.po_merge.proofs.grouping.Groups.add.Goals as goal
 
 pub index_mut-requires : goal.index_mut-requires
 index_mut-requires c =
-    let within = place_within c.args.self.now c.requires.0 (c.context.result, c.id.result) c.in-Some.place c.requires.1 (c.in-Some.ensures ∙ c.get.ensures.value) in
+    let within = place_within c.args.self.now c.requires.0 (c.context.result, c.id.result) c.in-Some.index c.requires.1 (c.in-Some.ensures ∙ c.get.ensures.value) in
     omega (arith, within, c.args.self.now.groups.ok.0)
 
 pub returns-in-Some : goal.returns-in-Some
 returns-in-Some c = λ entries h.
     let is_message : IsMessage (c.context.result, c.id.result) (named_entry c.args.definition) = record { context = c.context.ensures; id = c.id.ensures } in
-    grown_grouped c.args.self.now _ entries (c.context.result, c.id.result) c.args.definition c.in-Some.place c.push.new.self c.index_mut.result.now is_message h (c.in-Some.ensures ∙ c.get.ensures.value) refl refl c.in_ok-push.ensures.items
+    grown_grouped c.args.self.now _ entries (c.context.result, c.id.result) c.args.definition c.in-Some.index c.push.new.self c.index_mut.result.now is_message h (c.in-Some.ensures ∙ c.get.ensures.value) refl refl c.in_ok-push.ensures.items
     (sym c.index_mut.ensures.value)
 
 pub returns : goal.returns

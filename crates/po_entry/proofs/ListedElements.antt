@@ -1,0 +1,274 @@
+-- The references and flags that are found in comment lines are those that the lines list.
+use Rattle.std.proofs.Common.{◌≡◌, ◌≢◌, inl, inr, ◌∙◌, refl, sym, ap, subst, ℕ, Bool, true, false, not, ◌||◌, ◌==◌, cond, List, [], ◌∷◌, ◌++◌, append_assoc, append-nil, length, take, drop, map, filter, fold, codes, bytes_eq, All, arith}
+use Rattle.std.specs.Prelude.{◌↔◌, Contains}
+use Rattle.std.specs.List.{list_any, prefix_len}
+use Rattle.std.proofs.lemmas.Bool.{cases_Bool, or_from, or_left, or_right, cond-true, cond-false, eqb-true, eqb-false, ne_eqb, both_ways, false_from_ne_true}
+use Rattle.std.proofs.Math.Seq.{drop-append_seam}
+use Rattle.std.proofs.lemmas.List.Elements.{All-append, All-cons, All-nil, Contains-append_left, Contains-push, Contains-push_cases}
+use Rattle.std.proofs.lemmas.List.Folds.{list_any_at}
+use Rattle.std.proofs.lemmas.List.Splits.{slice_split_none, slice_split_at, slice_split-cons_yes}
+use Rattle.std.proofs.lemmas.List.Sums.{fold_push}
+use Rattle.std.proofs.lemmas.Map.Views.{Contains-from_any}
+use Rattle.std.proofs.lemmas.Slice.Eq.{bytes_eq-Decides}
+use Rattle.po_syntax.specs.Runs.{FailsFirst, parts_of, run_length, end_parts, kept_is, from_end}
+use Rattle.po_syntax.specs.Spelling.{IsBlank, space, tab, vertical_tab, form_feed, carriage_return}
+use Rattle.po_syntax.specs.Token.{is_blank, skip_blanks}
+use Rattle.po_entry.specs.Bytes.{Lacks, without_end_blanks, trimmed}
+use Rattle.po_entry.specs.Head.{CommentText}
+use Rattle.po_entry.specs.Comments.{is_not_empty, listed_references, is_comma, listed_flags, all_listed_flags, is_fuzzy_flag, with_flag, flags_of}
+use Rattle.po_entry.specs.Listed.{EndsReference, ListsReferences, no_text, blank, reference, IsWithoutBlanks, NamesFlag, no_flag, flag, ListsFlags, last, more, KeepsFlags, none, first, fuzzy, repeated}
+
+or_step : {P : Type 0} (x y : Bool) → (x ≡ true → P) → (y ≡ true → P) → (x || y) ≡ true → P
+or_step true y p q e = p refl
+or_step false y p q e = q e
+
+blank_says : (b : ℕ) → is_blank b ≡ true → IsBlank b
+blank_says b e =
+    or_step (b == 32 || b == 9 || b == 11 || b == 12) (b == 13) (or_step (b == 32 || b == 9 || b == 11) (b == 12) (or_step (b == 32 || b == 9) (b == 11) (or_step (b == 32) (b == 9)
+    (λ h. subst IsBlank (sym (eqb-true b 32 h)) space) (λ h. subst IsBlank (sym (eqb-true b 9 h)) tab)) (λ h. subst IsBlank (sym (eqb-true b 11 h)) vertical_tab))
+    (λ h. subst IsBlank (sym (eqb-true b 12 h)) form_feed)) (λ h. subst IsBlank (sym (eqb-true b 13 h)) carriage_return) e
+
+blank_passes : {b : ℕ} → IsBlank b → is_blank b ≡ true
+blank_passes space = refl
+blank_passes tab = refl
+blank_passes vertical_tab = refl
+blank_passes form_feed = refl
+blank_passes carriage_return = refl
+
+no_blank : (b : ℕ) → is_blank b ≡ false → IsBlank b → ⊥
+no_blank b e h = both_ways (is_blank b) e (blank_passes h)
+
+blank_fails : (b : ℕ) → (IsBlank b → ⊥) → is_blank b ≡ false
+blank_fails b h = false_from_ne_true (is_blank b) (λ e. h (blank_says b e))
+
+-- a part of a list that was cut is among the elements unless it is empty
+abbrev kept : List ℕ → List (List ℕ) → List (List ℕ)
+kept element elements = cond (is_not_empty element) (element ∷ elements) elements
+
+some_kept : (b : ℕ) (element : List ℕ) (elements : List (List ℕ)) → kept (b ∷ element) elements ≡ (b ∷ element) ∷ elements
+some_kept b element elements = cond-true (is_not_empty (b ∷ element)) ((b ∷ element) ∷ elements) elements (ap not (ne_eqb (length (b ∷ element)) 0 (λ e. omega (arith, e))))
+
+-- references
+
+some_element : (b : ℕ) (element : List ℕ) → (b ∷ element) ≡ [] → ⊥
+some_element b element e = cc
+
+before_end : (prefix : List ℕ) → All (λ b. is_blank b ≡ false) prefix → ListsReferences prefix (kept prefix [])
+before_end [] all = no_text
+before_end (b ∷ prefix) all =
+    subst (ListsReferences (b ∷ prefix)) (sym (some_kept b prefix [])) (subst (λ t. ListsReferences t ((b ∷ prefix) ∷ [])) (append-nil (b ∷ prefix)) (reference (some_element b prefix) (λ k d below. no_blank _ (all k d below)) tt no_text))
+
+before_blank : (prefix : List ℕ) (b : ℕ) (text : List ℕ) (elements : List (List ℕ)) → All (λ b. is_blank b ≡ false) prefix → is_blank b ≡ true → ListsReferences text elements → ListsReferences (prefix ++ b ∷ text) (kept prefix elements)
+before_blank [] b text elements all e later = blank (blank_says b e) later
+before_blank (a ∷ prefix) b text elements all e later =
+    subst (ListsReferences ((a ∷ prefix) ++ b ∷ text)) (sym (some_kept a prefix elements)) (reference (some_element a prefix) (λ k d below. no_blank _ (all k d below)) (blank_says b e) (blank (blank_says b e) later))
+
+lists : (text prefix : List ℕ) → All (λ b. is_blank b ≡ false) prefix → ListsReferences (prefix ++ text) (listed_references (prefix ++ text))
+lists [] prefix all =
+    let text : prefix ++ [] ≡ prefix = append-nil prefix in
+    let cut = slice_split_none is_blank prefix all in
+    subst (λ t. ListsReferences t (listed_references t)) (sym text) (subst (λ l. ListsReferences prefix (filter is_not_empty l)) (sym cut) (before_end prefix all))
+lists (b ∷ text) prefix all =
+    elim (cases_Bool (is_blank b)) [
+      | inl e ↦ subst (λ l. ListsReferences (prefix ++ b ∷ text) (filter is_not_empty l)) (sym (slice_split_at is_blank prefix b text all e))
+          (before_blank prefix b text (listed_references text) all e (lists text [] (All-nil (λ c. is_blank c ≡ false))))
+      | inr e ↦ let longer = All-append (λ c. is_blank c ≡ false) prefix (b ∷ []) all (All-cons (λ c. is_blank c ≡ false) b [] e (All-nil (λ c. is_blank c ≡ false))) in
+          subst (λ t. ListsReferences t (listed_references t)) (append_assoc prefix (b ∷ []) text) (lists text (prefix ++ b ∷ []) longer)
+    ]
+
+elements_prefix : (element : List ℕ) → element ≢ [] → (elements : List (List ℕ)) → kept element elements ≡ element ∷ elements
+elements_prefix [] some elements = absurd (some refl)
+elements_prefix (b ∷ element) some elements = some_kept b element elements
+
+element_then : (element rest : List ℕ) → element ≢ [] → All (λ b. IsBlank b → ⊥) element → EndsReference rest → listed_references (element ++ rest) ≡ element ∷ listed_references rest
+element_then element [] some all ends =
+    let fails : All (λ b. is_blank b ≡ false) element = λ k d below. blank_fails _ (all k d below) in
+    ap listed_references (append-nil element) ∙ ap (filter is_not_empty) (slice_split_none is_blank element fails) ∙ elements_prefix element some []
+element_then element (b ∷ rest) some all ends =
+    let fails : All (λ b. is_blank b ≡ false) element = λ k d below. blank_fails _ (all k d below) in
+    ap (filter is_not_empty) (slice_split_at is_blank element b rest fails (blank_passes ends)) ∙ elements_prefix element some (listed_references rest)
+    ∙ ap (λ l. element ∷ l) (sym (ap (filter is_not_empty) (slice_split-cons_yes is_blank b rest (blank_passes ends))))
+
+are_elements : {text : List ℕ} {elements : List (List ℕ)} → ListsReferences text elements → elements ≡ listed_references text
+are_elements no_text = refl
+are_elements (blank {b = b} {text = text} is later) = are_elements later ∙ sym (ap (filter is_not_empty) (slice_split-cons_yes is_blank b text (blank_passes is)))
+are_elements (reference {element = element} {rest = rest} some all ends later) = ap (λ l. element ∷ l) (are_elements later) ∙ sym (element_then element rest some all ends)
+
+pub references_listed : (text : List ℕ) (references : List (List ℕ)) → (references ≡ listed_references text) ↔ ListsReferences text references
+references_listed text references = (λ e. subst (ListsReferences text) (sym e) (lists text [] (All-nil (λ c. is_blank c ≡ false))), λ h. are_elements h)
+
+-- texts without the blanks at their ends
+
+skip_prefix : (blanks rest : List ℕ) → All IsBlank blanks → FailsFirst is_blank rest → skip_blanks (blanks ++ rest) ≡ rest
+skip_prefix blanks rest all other =
+    let passes : All (λ b. is_blank b ≡ true) blanks = λ k d below. blank_passes (all k d below) in
+    ap (λ n. drop n (blanks ++ rest)) (run_length is_blank blanks rest passes other) ∙ drop-append_seam blanks rest
+
+no_first_blank : (text : List ℕ) → FailsFirst is_blank text → (b : ℕ) (rest : List ℕ) → text ≡ b ∷ rest → IsBlank b → ⊥
+no_first_blank [] fails b rest e is = cc
+no_first_blank (a ∷ text) fails b rest e is = let same : a ≡ b = cc in no_blank a fails (subst IsBlank (sym same) is)
+
+first_kept : (kept end : List ℕ) → FailsFirst is_blank (kept ++ end) → FailsFirst is_blank kept
+first_kept [] end h = tt
+first_kept (b ∷ kept) end h = h
+
+trimmed_is : (text : List ℕ) → IsWithoutBlanks text (trimmed text)
+trimmed_is text =
+    let start = parts_of is_blank text in
+    let end = end_parts is_blank (skip_blanks text) in record {
+      before = take (prefix_len is_blank text) text;
+      after = end.end;
+      whole = sym start.whole ∙ ap (λ l. take (prefix_len is_blank text) text ++ l) end.whole;
+      before_blank = λ k d below. blank_says _ (start.passes k d below);
+      after_blank = λ k d below. blank_says _ (end.passes k d below);
+      no_first = no_first_blank (trimmed text) (first_kept (trimmed text) end.end (subst (FailsFirst is_blank) end.whole start.ends));
+      no_last = λ prefix b e is. no_blank b (end.fails prefix b e) is;
+    }
+
+-- a text of blanks alone
+all_blank : (text : List ℕ) → All IsBlank text → trimmed text ≡ []
+all_blank text all =
+    let nothing : skip_blanks text ≡ [] = ap skip_blanks (sym (append-nil text)) ∙ skip_prefix text [] all tt in
+    ap without_end_blanks nothing
+
+is_trimmed : (text kept : List ℕ) → IsWithoutBlanks text kept → trimmed text ≡ kept
+is_trimmed text [] h = ap trimmed h.whole ∙ all_blank (h.before ++ h.after) (All-append IsBlank h.before h.after h.before_blank h.after_blank)
+is_trimmed text (b ∷ kept) h =
+    let after_passes : All (λ c. is_blank c ≡ true) h.after = λ k d below. blank_passes (h.after_blank k d below) in
+    let start = skip_prefix h.before ((b ∷ kept) ++ h.after) h.before_blank (blank_fails b (h.no_first b kept refl)) in
+    ap trimmed h.whole ∙ ap without_end_blanks start ∙ kept_is is_blank (b ∷ kept) (λ prefix c e. blank_fails c (h.no_last prefix c e)) h.after after_passes
+
+-- flags
+
+names : (text : List ℕ) → NamesFlag text (kept (trimmed text) [])
+names text = at (trimmed text) (trimmed_is text) where
+  at : (element : List ℕ) → IsWithoutBlanks text element → NamesFlag text (kept element [])
+  at [] h = no_flag h
+  at (b ∷ element) h = subst (NamesFlag text) (sym (some_kept b element [])) (flag (some_element b element) h)
+
+kept_append : (element : List ℕ) (elements : List (List ℕ)) → kept element [] ++ elements ≡ kept element elements
+kept_append [] elements = refl
+kept_append (b ∷ element) elements = ap (λ l. l ++ elements) (some_kept b element []) ∙ sym (some_kept b element elements)
+
+comma_says : (b : ℕ) → is_comma b ≡ true → b ≡ 44
+comma_says b e = eqb-true b 44 e
+
+lacks_comma : (text : List ℕ) → All (λ b. is_comma b ≡ false) text → Lacks 44 text
+lacks_comma text all = λ k d below e. eqb-false _ 44 (all k d below) e
+
+no_comma : (text : List ℕ) → Lacks 44 text → All (λ b. is_comma b ≡ false) text
+no_comma text lacks = λ k d below. ne_eqb _ 44 (lacks k d below)
+
+abbrev flags_in : List (List ℕ) → List (List ℕ)
+flags_in texts = filter is_not_empty (map trimmed texts)
+
+list_flags : (text prefix : List ℕ) → All (λ b. is_comma b ≡ false) prefix → ListsFlags (prefix ++ text) (listed_flags (prefix ++ text))
+list_flags [] prefix all =
+    let text : prefix ++ [] ≡ prefix = append-nil prefix in
+    let cut = slice_split_none is_comma prefix all in
+    subst (λ t. ListsFlags t (listed_flags t)) (sym text) (subst (λ l. ListsFlags prefix (flags_in l)) (sym cut) (last (lacks_comma prefix all) (names prefix)))
+list_flags (b ∷ text) prefix all =
+    elim (cases_Bool (is_comma b)) [
+      | inl e ↦ let later = list_flags text [] (All-nil (λ c. is_comma c ≡ false)) in
+          let here = more (lacks_comma prefix all) (names prefix) later in
+          subst (λ l. ListsFlags (prefix ++ b ∷ text) (flags_in l)) (sym (slice_split_at is_comma prefix b text all e))
+          (subst (λ a. ListsFlags (prefix ++ a ∷ text) (kept (trimmed prefix) (listed_flags text))) (sym (comma_says b e)) (subst (ListsFlags (prefix ++ 44 ∷ text)) (kept_append (trimmed prefix) (listed_flags text)) here))
+      | inr e ↦ let longer = All-append (λ c. is_comma c ≡ false) prefix (b ∷ []) all (All-cons (λ c. is_comma c ≡ false) b [] e (All-nil (λ c. is_comma c ≡ false))) in
+          subst (λ t. ListsFlags t (listed_flags t)) (append_assoc prefix (b ∷ []) text) (list_flags text (prefix ++ b ∷ []) longer)
+    ]
+
+named_is : {text : List ℕ} {here : List (List ℕ)} → NamesFlag text here → here ≡ kept (trimmed text) []
+named_is (no_flag {text = text} h) = ap (λ w. kept w []) (sym (is_trimmed text [] h))
+named_is (flag {text = text} {kept = element} some h) = sym (elements_prefix element some []) ∙ ap (λ w. kept w []) (sym (is_trimmed text element h))
+
+are_flags : {text : List ℕ} {flags : List (List ℕ)} → ListsFlags text flags → flags ≡ listed_flags text
+are_flags (last {text = text} lacks here) = named_is here ∙ sym (ap flags_in (slice_split_none is_comma text (no_comma text lacks)))
+are_flags (more {text = text} {rest = rest} {here = here} {later = later} lacks named others) =
+    ap (λ l. l ++ later) (named_is named) ∙ kept_append (trimmed text) later ∙ ap (kept (trimmed text)) (are_flags others)
+    ∙ sym (ap flags_in (slice_split_at is_comma text 44 rest (no_comma text lacks) refl))
+
+pub flags_listed : (text : List ℕ) (flags : List (List ℕ)) → (flags ≡ listed_flags text) ↔ ListsFlags text flags
+flags_listed text flags = (λ e. subst (ListsFlags text) (sym e) (list_flags text [] (All-nil (λ c. is_comma c ≡ false))), λ h. are_flags h)
+
+-- the flags that are kept
+
+among_says : (flags : List (List ℕ)) (element : List ℕ) → list_any (bytes_eq element) flags ≡ true → Contains flags element
+among_says flags element e = Contains-from_any {eq = bytes_eq} (λ x y same. (bytes_eq-Decides x y).0 same) element flags e
+
+among_passes : (flags : List (List ℕ)) (element : List ℕ) → Contains flags element → list_any (bytes_eq element) flags ≡ true
+among_passes flags element h = list_any_at (bytes_eq element) flags h.0 element h.1 ((bytes_eq-Decides element _).1 (sym h.2))
+
+-- a flag is kept exactly where it is named and isn't `fuzzy`
+abbrev AreNamed : List (List ℕ) → List (List ℕ) → Type 0
+AreNamed named flags = (element : List ℕ) → (Contains flags element → Contains named element) × (Contains named element → element ≢ codes "fuzzy" → Contains flags element)
+
+nothing_contained : (element : List ℕ) → Contains {X = List ℕ} [] element → ⊥
+nothing_contained element h = let below = h.1 in omega (arith, below)
+
+are_named : {named flags : List (List ℕ)} → KeepsFlags named flags → AreNamed named flags
+are_named none = λ element. (λ h. absurd (nothing_contained element h), λ h _. absurd (nothing_contained element h))
+are_named (first {named = named} {kept = flags} {flag = new} before other absent) = λ element. (
+  λ h. elim (Contains-push_cases flags new element h) [
+    | inl old ↦ Contains-append_left named (new ∷ []) element ((are_named before element).0 old)
+    | inr is ↦ subst (Contains (named ++ new ∷ [])) is (Contains-push named new)
+  ],
+  λ h not_fuzzy. elim (Contains-push_cases named new element h) [
+    | inl old ↦ Contains-append_left flags (new ∷ []) element ((are_named before element).1 old not_fuzzy)
+    | inr is ↦ subst (Contains (flags ++ new ∷ [])) is (Contains-push flags new)
+  ],
+)
+are_named (fuzzy {named = named} {kept = flags} before) = λ element. (
+  λ h. Contains-append_left named (codes "fuzzy" ∷ []) element ((are_named before element).0 h),
+  λ h not_fuzzy. elim (Contains-push_cases named (codes "fuzzy") element h) [
+    | inl old ↦ (are_named before element).1 old not_fuzzy
+    | inr is ↦ absurd (not_fuzzy (sym is))
+  ],
+)
+are_named (repeated {named = named} {kept = flags} {flag = new} before there) = λ element. (
+  λ h. Contains-append_left named (new ∷ []) element ((are_named before element).0 h),
+  λ h not_fuzzy. elim (Contains-push_cases named new element h) [
+    | inl old ↦ (are_named before element).1 old not_fuzzy
+    | inr is ↦ (are_named before element).1 (subst (Contains named) is there) not_fuzzy
+  ],
+)
+
+abbrev keep : List (List ℕ) → List (List ℕ)
+keep named = fold with_flag [] named
+
+one_more : (named flags : List (List ℕ)) (element : List ℕ) → KeepsFlags named flags → KeepsFlags (named ++ element ∷ []) (with_flag flags element)
+one_more named flags element before =
+    elim (cases_Bool (is_fuzzy_flag element)) [
+      | inl e ↦ let is = (bytes_eq-Decides element (codes "fuzzy")).0 e in
+          subst (KeepsFlags (named ++ element ∷ [])) (sym (cond-true (is_fuzzy_flag element || list_any (bytes_eq element) flags) flags (flags ++ element ∷ []) (or_left _ _ e)))
+          (subst (λ w. KeepsFlags (named ++ w ∷ []) flags) (sym is) (fuzzy before))
+      | inr other ↦ elim (cases_Bool (list_any (bytes_eq element) flags)) [
+        | inl e ↦ subst (KeepsFlags (named ++ element ∷ [])) (sym (cond-true (is_fuzzy_flag element || list_any (bytes_eq element) flags) flags (flags ++ element ∷ []) (or_right _ _ e)))
+            (repeated before ((are_named before element).0 (among_says flags element e)))
+        | inr absent ↦ let not_fuzzy : element ≢ codes "fuzzy" = λ is. both_ways (is_fuzzy_flag element) other ((bytes_eq-Decides element (codes "fuzzy")).1 is) in
+            subst (KeepsFlags (named ++ element ∷ [])) (sym (cond-false (is_fuzzy_flag element || list_any (bytes_eq element) flags) flags (flags ++ element ∷ []) (or_from _ _ other absent)))
+            (first before not_fuzzy (λ there. both_ways (list_any (bytes_eq element) flags) absent (among_passes flags element ((are_named before element).1 there not_fuzzy))))
+      ]
+    ]
+
+keeps : (named : List (List ℕ)) → KeepsFlags named (keep named)
+keeps =
+    from_end (λ named. KeepsFlags named (keep named)) none
+    (λ named element before. subst (KeepsFlags (named ++ element ∷ [])) (sym (fold_push with_flag [] named element)) (one_more named (keep named) element before))
+
+kept_once : {named flags : List (List ℕ)} → KeepsFlags named flags → flags ≡ keep named
+kept_once none = refl
+kept_once (first {named = named} {kept = flags} {flag = element} before other absent) =
+    let fails = or_from (is_fuzzy_flag element) (list_any (bytes_eq element) flags) (false_from_ne_true _ (λ e. other ((bytes_eq-Decides element (codes "fuzzy")).0 e)))
+    (false_from_ne_true _ (λ e. absent ((are_named before element).0 (among_says flags element e)))) in
+    sym (cond-false (is_fuzzy_flag element || list_any (bytes_eq element) flags) flags (flags ++ element ∷ []) fails) ∙ ap (λ l. with_flag l element) (kept_once before) ∙ sym (fold_push with_flag [] named element)
+kept_once (fuzzy {named = named} {kept = flags} before) =
+    sym (cond-true (is_fuzzy_flag (codes "fuzzy") || list_any (bytes_eq (codes "fuzzy")) flags) flags (flags ++ codes "fuzzy" ∷ []) refl) ∙ ap (λ l. with_flag l (codes "fuzzy")) (kept_once before) ∙ sym (fold_push with_flag [] named (codes "fuzzy"))
+kept_once (repeated {named = named} {kept = flags} {flag = element} before there) =
+    let passes : (is_fuzzy_flag element || list_any (bytes_eq element) flags) ≡ true = elim (cases_Bool (is_fuzzy_flag element)) [
+      | inl e ↦ or_left _ _ e
+      | inr other ↦ or_right _ _ (among_passes flags element ((are_named before element).1 there (λ is. both_ways (is_fuzzy_flag element) other ((bytes_eq-Decides element (codes "fuzzy")).1 is))))
+    ] in
+    sym (cond-true (is_fuzzy_flag element || list_any (bytes_eq element) flags) flags (flags ++ element ∷ []) passes) ∙ ap (λ l. with_flag l element) (kept_once before) ∙ sym (fold_push with_flag [] named element)
+
+pub flags_kept : (comment_texts : List CommentText) (flags : List (List ℕ)) → (flags ≡ flags_of comment_texts) ↔ KeepsFlags (all_listed_flags comment_texts) flags
+flags_kept comment_texts flags = (λ e. subst (KeepsFlags (all_listed_flags comment_texts)) (sym e) (keeps (all_listed_flags comment_texts)), λ h. kept_once h)

@@ -1,0 +1,82 @@
+-- The fields that an entry's comments and previous texts make (manual, "The Format of PO Files").
+use Rattle.std.specs.Prelude.{ℕ, Bool, true, false, ◌||◌, ◌==◌, not, List, [], ◌∷◌, ◌++◌, Some, map, filter, flat_map, fold, bytes_eq, codes, length, if◌then◌else◌}
+use Rattle.std.specs.List.{slice_split, list_any}
+use Rattle.po_syntax.specs.declared.item.CommentKind.{CommentKind}
+use Rattle.po_syntax.specs.declared.item.CommentKind.TheVariants.{Translator, Extracted, Reference, Flags}
+use Rattle.po_entry.specs.TextEntry.{TextPrevious, no_previous}
+use Rattle.po_syntax.specs.Token.{is_blank}
+use Rattle.po_entry.specs.Bytes.{trimmed}
+use Rattle.po_entry.specs.Head.{CommentText, PreviousText, rank}
+
+abbrev pub same_kind : CommentKind → CommentKind → Bool
+same_kind Translator Translator = true
+same_kind Translator Extracted = false
+same_kind Translator Reference = false
+same_kind Translator Flags = false
+same_kind Extracted Translator = false
+same_kind Extracted Extracted = true
+same_kind Extracted Reference = false
+same_kind Extracted Flags = false
+same_kind Reference Translator = false
+same_kind Reference Extracted = false
+same_kind Reference Reference = true
+same_kind Reference Flags = false
+same_kind Flags Translator = false
+same_kind Flags Extracted = false
+same_kind Flags Reference = false
+same_kind Flags Flags = true
+
+-- the texts of the comments of a kind
+abbrev pub texts_of : CommentKind → List CommentText → List (List ℕ)
+texts_of kind comment_texts = map (λ (comment_text : CommentText). comment_text.text) (filter (λ (comment_text : CommentText). same_kind kind comment_text.kind) comment_texts)
+
+abbrev pub is_not_empty : List ℕ → Bool
+is_not_empty text = not (length text == 0)
+
+-- the elements of a text, between blanks
+abbrev pub listed_references : List ℕ → List (List ℕ)
+listed_references text = filter is_not_empty (slice_split is_blank text)
+
+abbrev pub is_comma : ℕ → Bool
+is_comma b = b == 44
+
+-- the elements of a text, between commas and without blanks at their ends
+abbrev pub listed_flags : List ℕ → List (List ℕ)
+listed_flags text = filter is_not_empty (map trimmed (slice_split is_comma text))
+
+abbrev pub comments_of : List CommentText → List (List ℕ)
+comments_of comment_texts = texts_of Translator comment_texts
+
+abbrev pub extracted_of : List CommentText → List (List ℕ)
+extracted_of comment_texts = texts_of Extracted comment_texts
+
+abbrev pub references_of : List CommentText → List (List ℕ)
+references_of comment_texts = flat_map listed_references (texts_of Reference comment_texts)
+
+-- the elements of all flag lines, in order
+abbrev pub all_listed_flags : List CommentText → List (List ℕ)
+all_listed_flags comment_texts = flat_map listed_flags (texts_of Flags comment_texts)
+
+abbrev pub is_fuzzy_flag : List ℕ → Bool
+is_fuzzy_flag flag = bytes_eq flag (codes "fuzzy")
+
+abbrev pub fuzzy_of : List CommentText → Bool
+fuzzy_of comment_texts = list_any is_fuzzy_flag (all_listed_flags comment_texts)
+
+-- flags with one more, unless it is `fuzzy`, or among them
+abbrev pub with_flag : List (List ℕ) → List ℕ → List (List ℕ)
+with_flag flags flag = if is_fuzzy_flag flag || list_any (bytes_eq flag) flags then flags else flags ++ flag ∷ []
+
+abbrev pub flags_of : List CommentText → List (List ℕ)
+flags_of comment_texts = fold with_flag [] (all_listed_flags comment_texts)
+
+-- the previous texts with one more, in its field
+abbrev pub with_previous : TextPrevious → PreviousText → TextPrevious
+with_previous fields previous =
+    if rank previous.keyword == 1 then record { context = Some previous.text; id = fields.id; plural = fields.plural }
+    else if rank previous.keyword == 2 then record { context = fields.context; id = Some previous.text; plural = fields.plural }
+    else record { context = fields.context; id = fields.id; plural = Some previous.text }
+
+-- each previous text in its field
+abbrev pub previous_of : List PreviousText → TextPrevious
+previous_of previous = fold with_previous no_previous previous

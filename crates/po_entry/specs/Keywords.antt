@@ -1,0 +1,66 @@
+-- The words of an entry's own lines, each with its text (manual, "The Format of PO Files").
+use Rattle.std.specs.Prelude.{◌≡◌, ℕ, Bool, true, false, ◌==◌, List, [], ◌∷◌, if◌then◌else◌}
+use Rattle.po_syntax.specs.declared.fault.PoFault.{PoFault}
+use Rattle.po_syntax.specs.declared.fault.PoFault.TheVariants.{BadOrder, BadPluralIndex, MixedObsolete}
+use Rattle.po_syntax.specs.declared.item.Keyword.{Keyword}
+use Rattle.po_syntax.specs.declared.item.Keyword.TheVariants.{MsgCtxt, MsgId, MsgIdPlural, MsgStr, MsgStrAt}
+use Rattle.po_syntax.specs.declared.item.Marks.{Marks}
+use Rattle.po_syntax.specs.TextItem.{TextItem, Comment, Word, Str}
+use Rattle.po_entry.specs.Strings.{IsStrings, own_marks, same_bool}
+
+-- What is wanted next of an entry: `msgid`, after a context; a translation, `msgstr` or first a `msgid_plural`, after a msgid; or the plural form of this index.
+pub data Wanted : Type 0 where
+  Id : Wanted
+  Translation : Wanted
+  Form : ℕ → Wanted
+
+abbrev pub is_wanted : Wanted → Keyword → Bool
+is_wanted Id MsgCtxt = false
+is_wanted Id MsgId = true
+is_wanted Id MsgIdPlural = false
+is_wanted Id MsgStr = false
+is_wanted Id (MsgStrAt index) = false
+is_wanted Translation MsgCtxt = false
+is_wanted Translation MsgId = false
+is_wanted Translation MsgIdPlural = true
+is_wanted Translation MsgStr = true
+is_wanted Translation (MsgStrAt index) = false
+is_wanted (Form wanted) MsgCtxt = false
+is_wanted (Form wanted) MsgId = false
+is_wanted (Form wanted) MsgIdPlural = false
+is_wanted (Form wanted) MsgStr = false
+is_wanted (Form wanted) (MsgStrAt index) = index == wanted
+
+-- a plural form is wanted, and the keyword is one
+abbrev pub is_wrong_form : Wanted → Keyword → Bool
+is_wrong_form (Form wanted) (MsgStrAt index) = true
+is_wrong_form (Form wanted) MsgCtxt = false
+is_wrong_form (Form wanted) MsgId = false
+is_wrong_form (Form wanted) MsgIdPlural = false
+is_wrong_form (Form wanted) MsgStr = false
+is_wrong_form Id keyword = false
+is_wrong_form Translation keyword = false
+
+-- What stands where a keyword is wanted: the keyword with its line and the items after it, or a fault.
+pub data KeywordStep : Type 0 where
+  Take : Keyword → ℕ → List TextItem → KeywordStep
+  Refuse : PoFault → KeywordStep
+
+-- A keyword of an entry whose own lines bear this obsolete mark: the wanted one, under that mark. A form of another index is reported first, then a keyword out of order, then mixed lines.
+abbrev pub keyword_step : Wanted → Bool → Keyword → Marks → ℕ → List TextItem → KeywordStep
+keyword_step wanted obsolete keyword marks line rest =
+    if marks.previous then Refuse BadOrder
+    else if is_wanted wanted keyword then (if same_bool obsolete marks.obsolete then Take keyword line rest else Refuse MixedObsolete)
+    else if is_wrong_form wanted keyword then Refuse BadPluralIndex
+    else Refuse BadOrder
+
+abbrev pub next_keyword : Wanted → Bool → List TextItem → KeywordStep
+next_keyword wanted obsolete [] = Refuse BadOrder
+next_keyword wanted obsolete (Comment kind text line ∷ rest) = Refuse BadOrder
+next_keyword wanted obsolete (Word keyword marks line ∷ rest) = keyword_step wanted obsolete keyword marks line rest
+next_keyword wanted obsolete (Str bytes marks line ∷ rest) = Refuse BadOrder
+
+-- these items begin with a wanted keyword, which has this line and text, and go on with the rest
+pub data IsKeywordText (wanted : Wanted) (obsolete : Bool) : List TextItem → Keyword → ℕ → List ℕ → List TextItem → Type 0 where
+  keyword_text : {items text rest : List TextItem} {keyword : Keyword} {line : ℕ} {bytes : List ℕ} → next_keyword wanted obsolete items ≡ Take keyword line text → IsStrings (own_marks obsolete) text bytes rest
+      → IsKeywordText wanted obsolete items keyword line bytes rest

@@ -1,0 +1,24 @@
+use Rattle.std.proofs.Common.{sym, ap, ◌∙◌, ◌++◌, ◌∷◌, [], append_assoc, append-nil, subst, take}
+use Rattle.std.proofs.lemmas.List.{take_all}
+use Rattle.po_entry.specs.TextEntry.{texts}
+use Rattle.po_merge.specs.Sets.{HoldsTexts}
+use Rattle.po_merge.proofs.Sets.{one_text_more}
+use Rattle.po_merge.proofs.Steps.{texts_more}
+use Rattle.po_merge.proofs.collecting.comment_texts.Goals as goal
+
+pub loop-text-init : goal.loop-text-init
+loop-text-init c = λ done h. subst (HoldsTexts c.args.seen.now) (sym (append-nil done)) h
+
+pub loop-text-preserved : goal.loop-text-preserved
+loop-text-preserved c = λ done h.
+    let i = c.loop-text.text-index in
+    let others = c.args.others.now in
+    let x = c.text-item.result in
+    let more = one_text_more c.loop-text.seen c.insert.new.self c.as_slice.result (done ++ texts (take i others)) (c.loop-text.invariant done h) c.in_ok-insert.ensures.updates.0 in
+    subst (HoldsTexts c.insert.new.self)
+    (append_assoc done (texts (take i others)) (c.as_slice.result.now ∷ []) ∙ ap (λ l. done ++ l) (ap (λ t. texts (take i others) ++ t ∷ []) c.as_slice.ensures.value ∙ sym (texts_more others i x c.loop-text-test.true c.text-item.is))) more
+
+pub returns : goal.returns
+returns c = λ done h.
+    let past = c.loop-text-test.false in
+    rw take_all at (c.loop-text.invariant done h)

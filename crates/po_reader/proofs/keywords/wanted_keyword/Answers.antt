@@ -1,0 +1,16 @@
+use Rattle.std.proofs.lemmas.Result.{err_from_is_err_and}
+use Rattle.po_entry.specs.Keywords.{keyword_text}
+use Rattle.po_reader.specs.Stops.KeywordTextStops.{refused, in_text}
+use Rattle.po_reader.proofs.keywords.wanted_keyword.Goals as goal
+
+pub returns-clause-found : goal.returns-clause-found
+returns-clause-found c = keyword_text c.in-Ok.ensures.step c.in_ok-text.ensures.found
+
+pub returns-in-Err-clause-fault : goal.returns-in-Err-clause-fault
+returns-in-Err-clause-fault c =
+    λ other. rw c.refusal.ensures.kind (refused c.in-Err.ensures.step c.refusal.ensures.line)
+
+pub returns-in_err-text-clause-fault : goal.returns-in_err-text-clause-fault
+returns-in_err-text-clause-fault c =
+    let p = err_from_is_err_and c.from_residual.result c.from_residual.ensures.1 in
+    rw (p.1, p.2) (λ other. in_text c.in-Ok.ensures.step (c.in_err-text.ensures.fault other))

@@ -1,0 +1,123 @@
+ghost use Rattle.std.specs.Prelude.{◌≡◌, ◌≢◌, ◌+◌, ◌<◌, ◌≤◌, drop, length, IfOk, IfErr, MatchResult, MatchOption, ℕ, List};
+ghost use Rattle.po_syntax.specs.TextItem.{TextItem, view, views};
+ghost use Rattle.po_entry.specs.Keywords.{IsKeywordText, next_keyword, keyword_step, is_wanted, is_wrong_form};
+ghost use Rattle.po_entry.specs.Keywords as spec;
+ghost use Rattle.po_reader.specs.ReaderView.{wanted_of};
+ghost use Rattle.po_reader.specs.Stops.{KeywordTextStops};
+
+use crate::index::{item_at, refusal};
+use crate::strings::strings_of;
+use po_syntax::{Item, Keyword, Marks, PoError, PoFault};
+use std::alloc::Global;
+
+/// What is wanted next of an entry.
+#[derive(Clone, Copy)]
+pub(crate) enum Wanted {
+    /// `msgid`, after a context.
+    Id,
+    /// `msgstr`, or first a `msgid_plural`, after a msgid.
+    Translation,
+    /// The plural form with this index.
+    Form(u32),
+}
+
+fn is_wanted(wanted: Wanted, keyword: Keyword) -> bool
+    ensures { result ≡ is_wanted (wanted_of wanted) keyword }
+{
+    match (wanted, keyword) {
+        (Wanted::Id, Keyword::MsgId) => true,
+        (Wanted::Translation, Keyword::MsgIdPlural | Keyword::MsgStr) => true,
+        (Wanted::Form(index), Keyword::MsgStrAt(found)) => found == index,
+        _ => false,
+    }
+}
+
+fn is_wrong_form(wanted: Wanted, keyword: Keyword) -> bool
+    ensures { result ≡ is_wrong_form (wanted_of wanted) keyword }
+{
+    matches!((wanted, keyword), (Wanted::Form(_), Keyword::MsgStrAt(_)))
+}
+
+/// Why a keyword is not the wanted one under the mark of its entry, if it is not.
+fn keyword_fault(wanted: Wanted, obsolete: bool, keyword: Keyword, marks: Marks) -> Option<PoFault>
+    ensures { (line : ℕ) (rest : List TextItem) → MatchOption result (keyword_step (wanted_of wanted) obsolete keyword marks line rest ≡ spec.Take keyword line rest) (λ fault. keyword_step (wanted_of wanted) obsolete keyword marks line rest ≡ spec.Refuse fault) }
+{
+    if marks.previous {
+        Some(PoFault::BadOrder)
+    } else if is_wanted(wanted, keyword) {
+        if marks.obsolete == obsolete {
+            None
+        } else {
+            Some(PoFault::MixedObsolete)
+        }
+    } else if is_wrong_form(wanted, keyword) {
+        Some(PoFault::BadPluralIndex)
+    } else {
+        Some(PoFault::BadOrder)
+    }
+}
+
+/// The wanted keyword at a place, with its line.
+fn keyword_at(
+    items: &[Item<'_>],
+    at: usize,
+    wanted: Wanted,
+    obsolete: bool,
+) -> Result<(Keyword, u32), PoFault>
+    requires { at ≤ length items.now }
+    ensures step { MatchResult result (λ p. next_keyword (wanted_of wanted) obsolete (views (drop at items.now)) ≡ spec.Take p.0 p.1 (views (drop (at + 1) items.now))) (λ fault. next_keyword (wanted_of wanted) obsolete (views (drop at items.now)) ≡ spec.Refuse fault) }
+    ensures within { IfOk result (λ _. at < length items.now) }
+{
+    match item_at(items, at) {
+        Some(Item::Word(keyword, marks, line)) => {
+            match keyword_fault(wanted, obsolete, *keyword, *marks) {
+                None => Ok((*keyword, *line)),
+                Some(fault) => Err(fault),
+            }
+        }
+        _ => Err(PoFault::BadOrder),
+    }
+}
+
+/// A keyword of an entry's own lines, with its text.
+#[derive(Drop)]
+pub(crate) struct KeywordText {
+    pub(crate) keyword: Keyword,
+    pub(crate) line: u32,
+    pub(crate) text: Vec<u8>,
+    /// The place of the item after the text.
+    pub(crate) after: usize,
+}
+
+/// The wanted keyword at a place, with its text.
+pub(crate) fn wanted_keyword(
+    alloc: Global,
+    items: &[Item<'_>],
+    at: usize,
+    wanted: Wanted,
+    obsolete: bool,
+    end: u32,
+) -> Result<KeywordText, PoError>
+    requires { at ≤ length items.now }
+    ensures found { IfOk result (λ w. IsKeywordText (wanted_of wanted) obsolete (views (drop at items.now)) w.keyword w.line w.text.items (views (drop w.after items.now))) }
+    ensures within { IfOk result (λ w. w.after ≤ length items.now) }
+    ensures further { IfOk result (λ w. at < w.after) }
+    ensures fault { IfErr result (λ e. e.kind ≢ PoFault.OutOfMemory → KeywordTextStops end (wanted_of wanted) obsolete (views (drop at items.now)) e.kind e.line) }
+    ensures memory { IfErr result (λ e. e.kind ≡ PoFault.OutOfMemory → e.line ≡ 0) }
+{
+    let (keyword, line) = match keyword_at(items, at, wanted, obsolete) {
+        Ok(word) => word,
+        Err(kind) => return Err(refusal(items, at, end, kind)),
+    };
+    let marks = Marks {
+        obsolete,
+        previous: false,
+    };
+    let (text, after) = strings_of(alloc, items, at + 1, marks, end)?;
+    Ok(KeywordText {
+        keyword,
+        line,
+        text,
+        after,
+    })
+}

@@ -1,0 +1,18 @@
+-- What contracts see of the arguments of gettext, ngettext and envsubst.
+use Rattle.std.specs.Prelude.{map}
+use Rattle.std.specs.Option.{option_copied}
+use Rattle.po_tools.specs.declared.positional.EnvsubstArguments.{EnvsubstArguments}
+use Rattle.po_tools.specs.declared.positional.EnvsubstArguments.TheVariants.{Names, Replaced}
+use Rattle.po_tools.specs.declared.positional.GettextArguments.{GettextArguments}
+use Rattle.po_tools.specs.declared.positional.NgettextArguments.{NgettextArguments}
+use Rattle.po_tools.specs.Positional.{GettextForm, NgettextForm, EnvsubstForm, names, replaced}
+
+abbrev pub gettext_arguments : GettextArguments → GettextForm
+gettext_arguments w = record { domain = option_copied w.domain; messages = map (λ argument. argument.now) w.messages.now }
+
+abbrev pub ngettext_arguments : NgettextArguments → NgettextForm
+ngettext_arguments w = record { domain = option_copied w.domain; id = w.id.now; plural = w.plural.now; count = w.count.now }
+
+abbrev pub envsubst_arguments : EnvsubstArguments → EnvsubstForm
+envsubst_arguments (Names format) = names format.now
+envsubst_arguments (Replaced format) = replaced (option_copied format)

@@ -1,0 +1,18 @@
+-- What C asks, and what it is answered, in the words of mo_lookup.
+use Rattle.std.specs.Prelude.{Some, None, if◌then◌else◌}
+use Rattle.mo_lookup.specs.Answer.{Outcome}
+use Rattle.mo_lookup.specs.Query.{Query}
+use Rattle.pokit_c.specs.declared.query.PokitAnswer.{PokitAnswer}
+use Rattle.pokit_c.specs.declared.query.PokitQuery.{PokitQuery}
+
+-- the query that C makes
+abbrev pub query_view : PokitQuery → Query
+query_view query = record {
+  context = if query.has_context then Some query.context.now else None;
+  id = query.id.now;
+  plural = if query.has_plural then Some (query.plural.now, query.count) else None;
+}
+
+-- what an answer says
+abbrev pub answer_view : PokitAnswer → Outcome
+answer_view answer = record { text = answer.text.now; found = answer.found; steps = answer.steps }
