@@ -30,18 +30,19 @@ pub(crate) fn spelled_out(alloc: Global, arguments: &[String]) -> Result<Vec<&st
         && arguments
             .get(1)
             .is_some_and(|argument| argument.as_str() == "help");
-    for argument in arguments {
-        spelled.push(argument.as_str())?;
+    for (index, argument) in arguments.iter().enumerate() {
+        if !is_help || index != 1 {
+            spelled.push(argument.as_str())?;
+        }
     }
     if is_help {
-        spelled.remove(1);
         spelled.push("--help")?;
     }
     Ok(spelled)
 }
 
-/// The text of a fault of the command line. A tool whose arguments are files isn't reported to take an
-/// unknown option for one.
+/// The text of a fault of the command line, without the advice to give a tool of files an unknown
+/// option as a file.
 pub(crate) fn text_of(
     alloc: Global,
     tool: Option<&str>,
