@@ -9,7 +9,7 @@ use Rattle.std.proofs.lemmas.List.Sums.{take_while-cons}
 use Rattle.po_shell.specs.References.{Reference, is_letter, is_name_byte, is_name, name_run, begins_with, bare_reference, braced_reference, reference_after}
 use Rattle.po_shell.specs.Holding.{is_begun_name}
 use Rattle.po_shell.specs.Replacing.{BeginsName, upper, lower, underscore, IsInName, begins, digit, IsName, NoNameGoesOn, SpellsReference, bare, braced}
-use Rattle.po_shell.proofs.ReferenceLemmas.{ends, closes, ending-some, following-closed, letter-name_byte}
+use Rattle.po_shell.proofs.ReferenceLemmas.{ends, closes, ending-some, after-closed, letter-name_byte}
 
 range_says : (low high b : ℕ) → is_in_range low high b ≡ true → (low ≤ b) × (b ≤ high)
 range_says low high b e = let p = and_parts _ _ e in (leb-true low b p.0, leb-true b high p.1)
@@ -107,7 +107,7 @@ reference_read (braced {name = name} {rest = rest} h) = record {
   size = length name + 2;
   dollar = refl;
   read = closes name rest (name_begun name h) (name_some name h);
-  after = following-closed name 125 rest;
+  after = after-closed name 125 rest;
 }
 
 -- a text is the longest run of name bytes, and a rest

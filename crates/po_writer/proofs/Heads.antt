@@ -6,7 +6,7 @@ use Rattle.po_syntax.specs.declared.item.CommentKind.{CommentKind}
 use Rattle.po_syntax.specs.declared.item.CommentKind.TheVariants.{Translator, Extracted, Reference, Flags}
 use Rattle.po_syntax.specs.Line.{CommentLine, shape_of, first_shape, hash_shape, trim_returns, SpellsLine, comment}
 use Rattle.po_syntax.specs.TextItem.{TextItem, Comment}
-use Rattle.po_entry.specs.Head.{CommentLine as HeadComment, PreviousText, IsHead, head_comment}
+use Rattle.po_entry.specs.Head.{CommentText as HeadComment, PreviousText, IsHead, head_comment}
 use Rattle.po_entry.specs.Strings.{begins_string}
 use Rattle.po_entry.specs.Body.{begins_form}
 use Rattle.po_entry.specs.Validity.{IsTranslatorComment}

@@ -12,12 +12,12 @@ look-found-requires-clause-laid c =
     let laid = c.requires.1.nodes in
     laid ∙ ap (post_order 0) (sym (tree_held _ c.requires.0.rule.tree laid))
 
-pub returns-clause-reported : goal.returns-clause-reported
-returns-clause-reported c contents opened =
+pub returns-clause-answered : goal.returns-clause-answered
+returns-clause-answered c contents opened =
     let messages = c.reopen-view.ensures opened.file.0 contents.messages opened.file.1 in
     let tree = tree_held _ contents.rule.tree opened.nodes in
-    let reported = c.look-found.ensures.reported contents.rule.source in
-    rw (messages, opened.nplurals, tree, c.context.ensures, c.plural.ensures) at reported
+    let answered = c.look-found.ensures.answered contents.rule.source in
+    rw (messages, opened.nplurals, tree, c.context.ensures, c.plural.ensures) at answered
 
 pub returns-clause-nodes : goal.returns-clause-nodes
 returns-clause-nodes c contents opened = let steps = c.look-found.ensures.nodes in rw (tree_held _ contents.rule.tree opened.nodes) at steps
