@@ -133,7 +133,7 @@ pub strings_cut : {marks : Marks} {items rest : List TextItem} {a : List ℕ} �
 strings_cut {marks} (string.last {items = items} {rest = rest} {bytes = bytes} e f) =
     let step = string_cut marks items rest bytes e in
     record { own = step.own; split = step.split; look = f; again = λ other q. string.last (step.again other tt) q }
-strings_cut {marks} (string.more {items = items} {following = following} {bytes = bytes} e f s) =
+strings_cut {marks} (string.more {items = items} {after = following} {bytes = bytes} e f s) =
     joined (string_cut marks items following bytes e) (strings_cut s) (λ x y q. tt) (λ x y z p q. string.more p (strings_look q) q)
 
 pub keyword_text_cut : {wanted : word.Wanted} {obsolete : Bool} {items rest : List TextItem} {k : Keyword} {l : ℕ} {a : List ℕ} → word.IsKeywordText wanted obsolete items k l a rest
@@ -165,7 +165,7 @@ body_cut (body.with_context {obsolete = obsolete} {items = items} {text = text} 
 pub head_cut : {above : ℕ} {items rest : List TextItem} {comment_texts : List head.CommentText} {previous : List head.PreviousText} → head.IsHead above items comment_texts previous rest → Starts rest
     → Cut (λ x y. head.IsHead above x comment_texts previous y) Starts items rest
 head_cut (head.over {above = above} e) starts = record { own = []; split = refl; look = starts; again = λ other q. head.over (q above) }
-head_cut (head.head_comment {above = above} {kind = kind} {text = text} {items = items} {following = following} e h) starts =
+head_cut (head.head_comment {above = above} {kind = kind} {text = text} {items = items} {after = following} e h) starts =
     joined (comment_cut above items following kind text e) (head_cut h starts) (λ x y q. tt) (λ x y z p q. head.head_comment p q)
 head_cut (head.previous {above = above} {keyword = keyword} {marks = marks} {items = items} {text = text} e s h) starts =
     joined (previous_cut above items text keyword marks e) (followed (strings_cut s) (head_cut h starts) (λ x y q. (head_look q).0)) (λ x y q. tt) (λ x y z p q. head.previous p q.1 q.2)

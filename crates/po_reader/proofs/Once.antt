@@ -14,7 +14,7 @@ pub strings_once : {marks : Marks} {items rest others : List TextItem} {a b : Li
 strings_once (string.last e f) (string.last g h) = (cc, cc)
 strings_once (string.last e f) (string.more g h s) = cc
 strings_once (string.more e f s) (string.last g h) = cc
-strings_once {marks} (string.more {following = following} {rest = rest} {bytes = bytes} {others = more} e f s) (string.more {following = here} {rest = others} {bytes = first} {others = again} g h t) =
+strings_once {marks} (string.more {after = following} {rest = rest} {bytes = bytes} {others = more} e f s) (string.more {after = here} {rest = others} {bytes = first} {others = again} g h t) =
     let same : following ≡ here = cc in
     let same_bytes : bytes ≡ first = cc in
     let next = strings_once s (subst (λ (i : List TextItem). string.IsStrings marks i again others) (sym same) t) in
@@ -25,7 +25,7 @@ pub strings_or_stop : {end line : ℕ} {marks : Marks} {fault : PoFault} {items 
 strings_or_stop (string.last e f) (stop.refused g l) = cc
 strings_or_stop (string.last e f) (stop.later g h s) = cc
 strings_or_stop (string.more e f s) (stop.refused g l) = cc
-strings_or_stop {end} {line} {marks} {fault} (string.more {following = following} e f s) (stop.later {following = here} g h t) =
+strings_or_stop {end} {line} {marks} {fault} (string.more {after = following} e f s) (stop.later {after = here} g h t) =
     let same : following ≡ here = cc in
     strings_or_stop s (subst (λ (i : List TextItem). stop.StringsStop end marks i fault line) (sym same) t)
 
@@ -80,7 +80,7 @@ translation_or_stop {end} {line} {obsolete} {fault} (body.plural w f) (stop.in_f
     forms_or_stop f (subst (λ (i : List TextItem). stop.FormsStop end obsolete 0 i fault line) (sym same.3) s)
 
 pub body_once : {items rest others : List TextItem} {a b : body.Body} → body.IsBody items a rest → body.IsBody items b others → (a ≡ b) × (rest ≡ others)
-body_once (body.without_context {obsolete = o} {line = m} {text = text} {following = after} {id = id} e s t) (body.without_context {obsolete = p} {line = n} {text = here} {following = following} {rest = others} {id = name} {plural = plural} {forms = forms} g u v) =
+body_once (body.without_context {obsolete = o} {line = m} {text = text} {after = after} {id = id} e s t) (body.without_context {obsolete = p} {line = n} {text = here} {after = following} {rest = others} {id = name} {plural = plural} {forms = forms} g u v) =
     let same : text ≡ here = cc in
     let mark : o ≡ p = cc in
     let line : m ≡ n = cc in
@@ -92,7 +92,7 @@ body_once (body.without_context {obsolete = o} {line = m} {text = text} {followi
     (cc, later.2)
 body_once (body.without_context e s t) (body.with_context g u w v) = cc
 body_once (body.with_context e s w t) (body.without_context g u v) = cc
-body_once (body.with_context {obsolete = o} {text = text} {middle = inner} {following = after} {context = context} e s w t) (body.with_context {obsolete = p} {keyword = keyword} {line = n} {text = here} {middle = middle} {following = following} {rest = others} {context = first} {id = name} {plural = plural} {forms = forms} g u x v) =
+body_once (body.with_context {obsolete = o} {text = text} {middle = inner} {after = after} {context = context} e s w t) (body.with_context {obsolete = p} {keyword = keyword} {line = n} {text = here} {middle = middle} {after = following} {rest = others} {context = first} {id = name} {plural = plural} {forms = forms} g u x v) =
     let same : text ≡ here = cc in
     let mark : o ≡ p = cc in
     let strings = strings_once s (subst (λ (q : Bool). string.IsStrings (string.own_marks q) text first middle) (sym mark) (subst (λ (i : List TextItem). string.IsStrings (string.own_marks p) i first middle) (sym same) u)) in
@@ -109,27 +109,27 @@ pub body_or_stop : {end line : ℕ} {fault : PoFault} {items rest : List TextIte
 body_or_stop (body.without_context e s t) (stop.in_context g u) = cc
 body_or_stop (body.without_context e s t) (stop.at_id g u v) = cc
 body_or_stop (body.without_context e s t) (stop.after_context g u v w) = cc
-body_or_stop {end} {line} {fault} (body.without_context {obsolete = o} {text = text} {following = after} e s t) (stop.in_id {obsolete = p} {text = here} g u) =
+body_or_stop {end} {line} {fault} (body.without_context {obsolete = o} {text = text} {after = after} e s t) (stop.in_id {obsolete = p} {text = here} g u) =
     let same : text ≡ here = cc in
     let mark : o ≡ p = cc in
     strings_or_stop s (subst (λ (q : Bool). stop.StringsStop end (string.own_marks q) text fault line) (sym mark) (subst (λ (i : List TextItem). stop.StringsStop end (string.own_marks p) i fault line) (sym same) u))
-body_or_stop {end} {line} {fault} (body.without_context {obsolete = o} {text = text} {following = after} e s t) (stop.after_id {obsolete = p} {text = here} {following = following} {id = name} g u v) =
+body_or_stop {end} {line} {fault} (body.without_context {obsolete = o} {text = text} {after = after} e s t) (stop.after_id {obsolete = p} {text = here} {after = following} {id = name} g u v) =
     let same : text ≡ here = cc in
     let mark : o ≡ p = cc in
     let strings = strings_once s (subst (λ (q : Bool). string.IsStrings (string.own_marks q) text name following) (sym mark) (subst (λ (i : List TextItem). string.IsStrings (string.own_marks p) i name following) (sym same) u)) in
     translation_or_stop t (subst (λ (q : Bool). stop.TranslationStops end q after fault line) (sym mark) (subst (λ (i : List TextItem). stop.TranslationStops end p i fault line) (sym strings.1) v))
 body_or_stop (body.with_context e s w t) (stop.in_id g u) = cc
 body_or_stop (body.with_context e s w t) (stop.after_id g u v) = cc
-body_or_stop {end} {line} {fault} (body.with_context {obsolete = o} {text = text} {middle = inner} {following = after} e s w t) (stop.in_context {obsolete = p} {text = here} g u) =
+body_or_stop {end} {line} {fault} (body.with_context {obsolete = o} {text = text} {middle = inner} {after = after} e s w t) (stop.in_context {obsolete = p} {text = here} g u) =
     let same : text ≡ here = cc in
     let mark : o ≡ p = cc in
     strings_or_stop s (subst (λ (q : Bool). stop.StringsStop end (string.own_marks q) text fault line) (sym mark) (subst (λ (i : List TextItem). stop.StringsStop end (string.own_marks p) i fault line) (sym same) u))
-body_or_stop {end} {line} {fault} (body.with_context {obsolete = o} {text = text} {middle = inner} {following = after} e s w t) (stop.at_id {obsolete = p} {text = here} {following = middle} {context = first} g u v) =
+body_or_stop {end} {line} {fault} (body.with_context {obsolete = o} {text = text} {middle = inner} {after = after} e s w t) (stop.at_id {obsolete = p} {text = here} {after = middle} {context = first} g u v) =
     let same : text ≡ here = cc in
     let mark : o ≡ p = cc in
     let strings = strings_once s (subst (λ (q : Bool). string.IsStrings (string.own_marks q) text first middle) (sym mark) (subst (λ (i : List TextItem). string.IsStrings (string.own_marks p) i first middle) (sym same) u)) in
     keyword_text_or_stop w (subst (λ (q : Bool). stop.KeywordTextStops end word.Id q inner fault line) (sym mark) (subst (λ (i : List TextItem). stop.KeywordTextStops end word.Id p i fault line) (sym strings.1) v))
-body_or_stop {end} {line} {fault} (body.with_context {obsolete = o} {text = text} {middle = inner} {following = after} e s w t) (stop.after_context {obsolete = p} {keyword = keyword} {at = n} {text = here} {middle = middle} {following = following} {context = first} {id = name} g u x v) =
+body_or_stop {end} {line} {fault} (body.with_context {obsolete = o} {text = text} {middle = inner} {after = after} e s w t) (stop.after_context {obsolete = p} {keyword = keyword} {at = n} {text = here} {middle = middle} {after = following} {context = first} {id = name} g u x v) =
     let same : text ≡ here = cc in
     let mark : o ≡ p = cc in
     let strings = strings_once s (subst (λ (q : Bool). string.IsStrings (string.own_marks q) text first middle) (sym mark) (subst (λ (i : List TextItem). string.IsStrings (string.own_marks p) i first middle) (sym same) u)) in
@@ -144,14 +144,14 @@ head_once (head.head_comment e h) (head.over g) = cc
 head_once (head.head_comment e h) (head.previous g s k) = cc
 head_once (head.previous e s h) (head.over g) = cc
 head_once (head.previous e s h) (head.head_comment g k) = cc
-head_once {above} (head.head_comment {kind = kind} {text = text} {following = following} {comment_texts = comment_texts} e h) (head.head_comment {kind = sort} {text = content} {following = here} {rest = others} {comment_texts = head_comments} {previous = q} g k) =
+head_once {above} (head.head_comment {kind = kind} {text = text} {after = following} {comment_texts = comment_texts} e h) (head.head_comment {kind = sort} {text = content} {after = here} {rest = others} {comment_texts = head_comments} {previous = q} g k) =
     let same : following ≡ here = cc in
     let kinds : kind ≡ sort = cc in
     let texts : text ≡ content = cc in
     let next = head_once h (subst (λ (i : List TextItem). head.IsHead above i head_comments q others) (sym same) k) in
     let later = next.0 in
     (cc, next.1, next.2)
-head_once {above} (head.previous {keyword = keyword} {marks = marks} {bytes = bytes} {text = text} {following = following} {others = more} e s h) (head.previous {keyword = word} {marks = found} {bytes = first} {text = here} {following = after} {rest = others} {comment_texts = head_comments} {others = again} g u k) =
+head_once {above} (head.previous {keyword = keyword} {marks = marks} {bytes = bytes} {text = text} {after = following} {others = more} e s h) (head.previous {keyword = word} {marks = found} {bytes = first} {text = here} {after = after} {rest = others} {comment_texts = head_comments} {others = again} g u k) =
     let same : text ≡ here = cc in
     let mark : marks ≡ found = cc in
     let keywords : keyword ≡ word = cc in
@@ -169,7 +169,7 @@ head_or_stop (head.over e) (stop.after_previous g u k) = cc
 head_or_stop (head.head_comment e h) (stop.refused g l) = cc
 head_or_stop (head.head_comment e h) (stop.in_previous g u) = cc
 head_or_stop (head.head_comment e h) (stop.after_previous g u k) = cc
-head_or_stop {end} {line} {above} {fault} (head.head_comment {following = following} e h) (stop.after_comment {following = here} g k) =
+head_or_stop {end} {line} {above} {fault} (head.head_comment {after = following} e h) (stop.after_comment {after = here} g k) =
     let same : following ≡ here = cc in
     head_or_stop h (subst (λ (i : List TextItem). stop.HeadStops end above i fault line) (sym same) k)
 head_or_stop (head.previous e s h) (stop.refused g l) = cc
@@ -178,7 +178,7 @@ head_or_stop {end} {line} {above} {fault} (head.previous {marks = marks} {text =
     let same : text ≡ here = cc in
     let mark : marks ≡ found = cc in
     strings_or_stop s (subst (λ (m : Marks). stop.StringsStop end m text fault line) (sym mark) (subst (λ (i : List TextItem). stop.StringsStop end found i fault line) (sym same) u))
-head_or_stop {end} {line} {above} {fault} (head.previous {keyword = keyword} {marks = marks} {text = text} {following = following} e s h) (stop.after_previous {keyword = word} {marks = found} {bytes = first} {text = here} {following = after} g u k) =
+head_or_stop {end} {line} {above} {fault} (head.previous {keyword = keyword} {marks = marks} {text = text} {after = following} e s h) (stop.after_previous {keyword = word} {marks = found} {bytes = first} {text = here} {after = after} g u k) =
     let same : text ≡ here = cc in
     let mark : marks ≡ found = cc in
     let keywords : keyword ≡ word = cc in

@@ -21,6 +21,7 @@ static CHECKS: [&str; 8] = [
 const CHECK_TIP: &str =
     "  tip: '--profile-check' checks headers, plural forms and newlines; the msgfmt that
        'make install' puts into libexec/pokit takes GNU's '-c', '--check' and '--version'
+
 ";
 
 /// The command line, where `help TOOL` is spelled out as `TOOL --help`, and `help` as `--help`.
@@ -56,10 +57,15 @@ pub(crate) fn text_of(
     let mut text = String::with_capacity(alloc, whole.len())?;
     let mut is_blank = false;
     for line in whole.as_str().split_inclusive('\n') {
-        let is_tip = line.starts_with(AS_A_VALUE);
-        if is_tip && is_check {
+        if is_check && line.starts_with("Usage: ") {
             text.push_str(CHECK_TIP)?;
-        } else if !is_tip && !(is_blank && line == "\n") {
+        }
+        let is_left_out = if is_check {
+            line.starts_with("  tip: ")
+        } else {
+            line.starts_with(AS_A_VALUE)
+        };
+        if !is_left_out && !(is_blank && line == "\n") {
             text.push_str(line)?;
             is_blank = line == "\n";
         }
