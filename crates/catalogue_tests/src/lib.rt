@@ -1,6 +1,9 @@
-//! Tests of the crates that read, write and compile catalogues, through their public calls: texts and
-//! answers that were worked out by hand, and a sweep over damaged texts. They stand in a crate of their
-//! own, since the gate proves a crate once more together with the tests in it.
+//! Tests of the crates that read, write and compile catalogues, through their public calls: texts
+//! and answers that were worked out by hand, and a sweep over damaged texts. They stand in a crate
+//! of their own, since the gate proves a crate once more together with the tests in it.
+//!
+//! `texts` and `summary` serve the others, which are in reading order: `items`, `reading`,
+//! `built_entries`, `writing`, `catalogues`, `compiling`, `damaged`, `documented`.
 
 #![tactic(auto)]
 

@@ -1,6 +1,8 @@
 //! Tests of the MO file, the plural rule and look-up, through their public calls: files, rules and
-//! answers that were worked out by hand, and sweeps over damaged files. They stand in a crate of their
-//! own, since the gate proves a crate once more together with the tests in it.
+//! answers that were worked out by hand, and sweeps over damaged files. They stand in a crate of
+//! their own, since the gate proves a crate once more together with the tests in it.
+//!
+//! The modules in reading order: `samples`, `files`, `rules`, `look_ups`, `damage`.
 
 #![tactic(auto)]
 

@@ -1,3 +1,6 @@
+//! Laws of MO files, each the contract of a function that does nothing: a call brings the law into
+//! a proof.
+
 ghost use Rattle.mo_file.specs.Laws.{CatalogIsUnique, CatalogOrFault, LayoutIsCatalog, NoFaultOfCatalog, OneFirstFault};
 
 /// A law of the format, which a call makes known: what is laid out in the order of its keys is a valid

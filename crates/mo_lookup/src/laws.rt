@@ -1,4 +1,5 @@
-//! Laws of the definitions, each carried by a function without a body: a call of it brings the law into a proof.
+//! Laws of look-up, each the contract of a function that does nothing: a call brings the law into a
+//! proof.
 
 ghost use Rattle.mo_lookup.specs.Bound.{BoundHalves, BoundIsLogarithm};
 ghost use Rattle.mo_lookup.specs.Laws.{EachKeyFindsItsTranslation, OtherKeysFindNone};

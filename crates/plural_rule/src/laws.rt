@@ -1,4 +1,5 @@
-//! Laws of the definitions, each carried by a function that does nothing.
+//! Laws of plural rules, each the contract of a function that does nothing: a call brings the law
+//! into a proof.
 ghost use Rattle.std.specs.Prelude.{◌≡◌, ◌≤◌, ◌↔◌, ℕ, List};
 ghost use Rattle.plural_rule.specs.Expression.{Tree, visited, nodes};
 ghost use Rattle.plural_rule.specs.Grammar.{Spelt};

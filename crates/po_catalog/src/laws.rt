@@ -1,5 +1,5 @@
-//! Laws of catalogues, each on a function that does nothing: a crate that rests on one calls it. Those of the crates
-//! below are passed on.
+//! Laws of catalogues, each the contract of a function that does nothing: a call brings the law
+//! into a proof. Those of the crates below are passed on.
 ghost use Rattle.std.specs.Prelude.{◌≡◌, ◌⊎◌, List, All, map};
 ghost use Rattle.po_syntax.specs.PoText.{IsSmall};
 ghost use Rattle.po_entry.specs.TextEntry.{TextEntry, with_line};

@@ -1,5 +1,12 @@
-//! Catalogues of PO entries: their duplicates, their statistics, and the list that several of them join to
-//! (GNU gettext manual, "The Format of PO Files" and "Invoking the msgfmt Program").
+//! Catalogues of PO entries: their duplicates, their statistics, and the list that several of them
+//! join to (GNU gettext manual, "The Format of PO Files" and "Invoking the msgfmt Program").
+//!
+//! [`joined`] lists the entries of several inputs, [`duplicates`] finds the first message that
+//! stands twice, and [`statistics`] counts what is translated. The types, the reader and the writer
+//! are passed on from the crates below.
+//!
+//! The modules in reading order: `joining`, `duplicate`, `stats`, `laws`.
+
 #![tactic(auto)]
 
 mod duplicate;

@@ -1,4 +1,5 @@
-//! Laws of compiling, each of which a call makes known.
+//! Laws of compiling, each the contract of a function that does nothing: a call brings the law into
+//! a proof.
 
 ghost use Rattle.po_compile.specs.Headline.{AcceptedOrFault, CataloguesAreOne, LookUpMeansEntries, MessagesAreOne, MessagesMeanEntries, NoFaultWhereAccepted, NoFaultWhereDistinct, OneCompileFault, OneTextFault};
 ghost use Rattle.po_compile.specs.Parts.{JoinedEntriesCanStand, MessagesDiffer, MessagesHaveParts, OneTextIsRead};

@@ -1,4 +1,12 @@
 //! Compiling PO catalogues to MO files (GNU gettext manual, "Invoking the msgfmt Program").
+//!
+//! [`compile`] compiles one text, [`compile_all`] several, and [`compile_catalogues`] catalogues
+//! that were read before. A text alone is compiled without a catalogue of it: its messages are
+//! collected in one buffer and sorted there.
+//!
+//! The modules in reading order: `options`, `compiling`, `reading`, `messages`; for a text alone
+//! `collecting`, `prefix`, `row`, `rows`, `sorting`; then `laws`.
+
 #![tactic(auto)]
 
 mod collecting;

@@ -1,4 +1,5 @@
-//! Laws of the definitions, each on an empty function: a crate that rests on one calls it.
+//! Laws of entries, each the contract of a function that does nothing: a call brings the law into a
+//! proof.
 ghost use Rattle.std.specs.Prelude.{◌≡◌, ◌↔◌, ◌++◌, ℕ, List, Decides};
 ghost use Rattle.po_syntax.specs.LinesLeft.{EndsInString};
 ghost use Rattle.po_syntax.specs.TextItem.{TextItem};

@@ -1,5 +1,13 @@
 //! The entries of a PO catalogue, and the catalogue that holds them (GNU gettext manual, "The
 //! Format of PO Files").
+//!
+//! [`Fields`] are the parts of an entry as a reader finds them. An [`Entry`] has only texts that
+//! [`check_texts`] admits, and a [`Catalogue`] only headers whose charset is admitted. What a text
+//! means is defined here too, in the specs: which entries its items read as.
+//!
+//! The modules in reading order: `previous`, `fields`, `copies`, `texts`, `entry`, `equality`,
+//! `charset`, `catalogue`, `laws`.
+
 #![tactic(auto)]
 
 mod catalogue;

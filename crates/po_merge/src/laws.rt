@@ -1,4 +1,5 @@
-//! Laws of merging, each on a function that does nothing: a crate that rests on one calls it.
+//! Laws of merging, each the contract of a function that does nothing: a call brings the law into a
+//! proof.
 ghost use Rattle.std.specs.Prelude.{ℕ, Bool, List, Option};
 ghost use Rattle.po_merge.specs.declared.input.MergeOptions.{MergeOptions};
 ghost use Rattle.po_merge.specs.Inputs.{Input, NamedEntry};

@@ -1,4 +1,12 @@
-//! Several catalogues as one, message by message (GNU gettext manual, "Invoking the msgcat Program").
+//! Several catalogues as one, message by message (GNU gettext manual, "Invoking the msgcat
+//! Program").
+//!
+//! [`merge`] groups the definitions of each message, keeps the groups that [`MergeOptions`] ask
+//! for, and makes one entry of each.
+//!
+//! The modules in reading order: `input`, `definition`, `grouping`, `joining`, `collecting`,
+//! `merging`, `laws`.
+
 #![tactic(auto)]
 
 mod collecting;

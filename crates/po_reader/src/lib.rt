@@ -1,5 +1,12 @@
 //! The reader of PO catalogues (GNU gettext manual, "The Format of PO Files"): a descent over the
 //! items of a text, one function for each level of an entry.
+//!
+//! [`read`] reads a text piece by piece, and [`read_whole`] as one. A caller that keeps no
+//! catalogue takes the pieces one by one: [`next_catalogue`] and [`next_messages`].
+//!
+//! The modules in reading order: `index`, `strings`, `keywords`, `body`, `comment_texts`, `head`,
+//! `flags`, `drafts`, `items`, `piecewise`, `reading`, `laws`.
+
 #![tactic(auto)]
 
 mod body;

@@ -1,4 +1,5 @@
-//! Laws of the selection, each on a function that does nothing: a crate that rests on one calls it.
+//! Laws of selecting, each the contract of a function that does nothing: a call brings the law into
+//! a proof.
 ghost use Rattle.std.specs.Prelude.{◌≡◌, List, All, true};
 ghost use Rattle.po_catalog.specs.Joined.{is_live_header};
 ghost use Rattle.po_entry.specs.TextEntry.{TextEntry};

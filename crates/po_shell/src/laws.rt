@@ -1,4 +1,5 @@
-//! Laws on substitution and on escapes, each carried by a function that does nothing: call one to use its law.
+//! Laws of substitution and escapes, each the contract of a function that does nothing: a call
+//! brings the law into a proof.
 ghost use Rattle.std.specs.Prelude.{◌≡◌, ◌↔◌, ℕ, Bool, List, Option, Some};
 ghost use Rattle.po_shell.specs.Escapes.{expansion, has_no_newline};
 ghost use Rattle.po_shell.specs.Expanding.{Expands};

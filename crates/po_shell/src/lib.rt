@@ -1,5 +1,10 @@
-//! What the shell tools of a catalogue stand on: readers and writers that count their failures,
-//! the locales to look for, escapes, counts, and the substitution of variables.
+//! What the shell tools of a catalogue stand on: readers and writers that count their failures, the
+//! locales to look for, escapes, counts, and the substitution of variables.
+//!
+//! Devices: `fault`, `device`, `input`, `delivery`, and `failing` for tests. Catalogues to look in:
+//! `search`, `locale`, `catalogue`. Arguments: `count`, `escape`. Substitution: `variable`,
+//! `reference`, `holding`, `substituter`, `envsubst`. Then `laws`.
+
 #![tactic(auto)]
 
 mod catalogue;

@@ -1,4 +1,5 @@
-//! Laws of the definitions, each on an empty function: a crate that rests on one calls it.
+//! Laws of PO texts, each the contract of a function that does nothing: a call brings the law into
+//! a proof.
 ghost use Rattle.std.specs.Prelude.{◌≡◌, ◌≢◌, ◌↔◌, ◌⊎◌, ◌<◌, ◌≤◌, ℕ, List, ◌++◌, All, IsUtf8};
 ghost use Rattle.po_syntax.specs.declared.fault.PoFault.{PoFault};
 ghost use Rattle.po_syntax.specs.Escapes.{SpellsString};

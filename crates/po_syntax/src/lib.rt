@@ -1,5 +1,13 @@
-//! The items of a PO text, its words, strings and comments, and the quoted form of a text
-//! (GNU gettext manual, "The Format of PO Files").
+//! The items of a PO text, which are its comments, keywords and strings, and the quoted form of a
+//! text (GNU gettext manual, "The Format of PO Files").
+//!
+//! [`items`] reads all items of a text, and [`Pieces`] those of one piece after another. [`quote`]
+//! writes a text as strings that read back. A refused text has a [`PoError`]: the first fault, and
+//! its line.
+//!
+//! The modules in reading order: `item`, `fault`, `token`, `escape`, `quoted_string`, `line`,
+//! `text`, `pieces`, `quoting`, `laws`.
+
 #![tactic(auto)]
 
 mod escape;

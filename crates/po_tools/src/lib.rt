@@ -1,4 +1,13 @@
 //! The tools of pokit as functions of their inputs: what each writes, reports and answers.
+//!
+//! A tool has two steps. A plan (`plan_msgfmt`, ..) computes a [`Run`] of values: the output, the
+//! messages and the status. [`deliver`] writes it. `run_msgfmt` and its like read one input, plan
+//! and deliver.
+//!
+//! What the tools share: `run`, `program_fault`, `fault_text`, `inputs`, `arguments`, `positional`.
+//! The tools: `profile`, `msgfmt`, `msgunfmt`, `written`, `digests`, `selected_text`, `msgattrib`,
+//! `msgcat`, `unread`, `catalogues`, `gettext`. Then `profile_laws` and `run_laws`.
+
 #![tactic(auto)]
 
 mod arguments;

@@ -1,4 +1,5 @@
-//! The law of the profile's check, on a function that does nothing.
+//! Laws of the profile's check, each the contract of a function that does nothing: a call brings
+//! the law into a proof.
 ghost use Rattle.std.specs.Prelude.{◌≡◌, ◌↔◌, List, Some};
 ghost use Rattle.plural_rule.specs.PluralRule.{Meaning};
 ghost use Rattle.po_catalog.specs.Joined.{InputEntry};

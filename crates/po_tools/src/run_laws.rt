@@ -1,4 +1,5 @@
-// Laws of what a run of a tool comes to, each of which a call makes known.
+//! Laws of the runs of the tools, each the contract of a function that does nothing: a call brings
+//! the law into a proof.
 ghost use Rattle.po_tools.specs.RunLaws.{OneGettextRun, OneMsgattribRun, OneMsgcatRun, OneMsgfmtRun, OneMsgunfmtRun, OneNgettextRun};
 
 use mo_file::{catalog_is_unique, no_fault_of_catalog, one_first_fault};

@@ -1,4 +1,5 @@
-//! Laws of the definitions, each of which a call makes known.
+//! Laws of msgunfmt, each the contract of a function that does nothing: a call brings the law into
+//! a proof.
 
 ghost use Rattle.po_unformat.specs.RoundTrip.{EmptyText, NoFaultWhereUnformatted, OneText, OneUnformatFault, TextOrFault, UnformatThenCompile};
 

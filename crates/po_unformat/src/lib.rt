@@ -1,4 +1,10 @@
 //! PO texts of MO files (GNU gettext manual, "Invoking the msgunfmt Program").
+//!
+//! [`unformat`] makes an entry of each message and appends it to the text, so that no catalogue is
+//! kept. What was compiled comes back from the text as the same bytes.
+//!
+//! The modules in reading order: `fault`, `parts`, `entries`, `unformatting`, `laws`.
+
 #![tactic(auto)]
 
 mod entries;

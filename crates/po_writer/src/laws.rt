@@ -1,5 +1,5 @@
-//! Laws of the written text, each on a function that does nothing: a crate that rests on one
-//! calls it.
+//! Laws of the written text, each the contract of a function that does nothing: a call brings the
+//! law into a proof.
 ghost use Rattle.std.specs.Prelude.{◌≡◌, List, [], All, false, map};
 ghost use Rattle.po_syntax.specs.PoText.{IsSmall};
 ghost use Rattle.po_entry.specs.TextEntry.{TextEntry, with_line};

@@ -1,4 +1,10 @@
 //! Catalogues as PO texts that read back (GNU gettext manual, "The Format of PO Files").
+//!
+//! [`write`] writes a catalogue, and [`append`] one entry after a text. [`TextParts`] collects the
+//! live and the obsolete entries of a text that is written piece by piece.
+//!
+//! The modules in reading order: `text`, `entry_lines`, `keyword_lines`, `parts`, `laws`.
+
 #![tactic(auto)]
 
 mod entry_lines;

@@ -1,6 +1,9 @@
 //! Tests of the tools and of what they stand on, through their public calls: rows that were worked
 //! out by hand, and devices that fail. They stand in a crate of their own, since the gate proves a
 //! crate once more together with the tests in it.
+//!
+//! The modules in reading order: `arguments`, `locales`, `substitution`, `answers`, `devices`,
+//! `failing_calls`, `damaged_files`.
 
 #![tactic(auto)]
 
