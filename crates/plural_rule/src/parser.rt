@@ -1,5 +1,18 @@
 //! Reads an expression by operator precedence.
 //!
+//! The grammar is C's, as the GNU gettext manual has it in "Plural forms", with the loosest operators first:
+//!
+//! ```text
+//! expression     = or | or "?" expression ":" expression
+//! or             = and            | or "||" and
+//! and            = equality       | and "&&" equality
+//! equality       = comparison     | equality ("==" | "!=") comparison
+//! comparison     = sum            | comparison ("<" | ">" | "<=" | ">=") sum
+//! sum            = product        | sum ("+" | "-") product
+//! product        = unary          | product ("*" | "/" | "%") unary
+//! unary          = "!" unary | "(" expression ")" | "n" | numeral
+//! ```
+//!
 //! What waits for an operand stands in a stack of fixed size, so the machine's stack doesn't grow with
 //! the expression. Each operand that is complete stands at the end of the table.
 ghost use Rattle.std.specs.Prelude.{◌≡◌, ◌+◌, ◌-◌, ◌<◌, ◌≤◌, List, [], Some, None, true, length, MatchBool};

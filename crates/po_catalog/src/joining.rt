@@ -88,14 +88,14 @@ pub(crate) fn add_entries<'a>(
     Ok(())
 }
 
-/// Whether an entry is a live header.
+/// Whether one of the entries is a live header.
 fn has_live_header(entries: &[Entry]) -> bool
     ensures { result ≡ list_any is_live_header entries.now }
 {
     entries.iter().any(|entry| is_live_header(entry))
 }
 
-/// Whether the entry is a header that is not obsolete.
+/// Whether the entry is a live header: one that is not obsolete.
 fn is_live_header(entry: &Entry) -> bool
     ensures { result ≡ is_live_header entry.now }
 {

@@ -1,5 +1,5 @@
-// The locales whose catalogues are looked for ("Locale Environment Variables" and "Specifying a
-// Priority List of Languages" of the GNU gettext manual).
+//! The locales whose catalogues are looked for ("Locale Environment Variables" and "Specifying a
+//! Priority List of Languages" of the GNU gettext manual).
 ghost use Rattle.std.specs.Prelude.{◌≡◌, ◌++◌, ◌∷◌, [], map, fold, IfOk, OnOk, OnErr, Err};
 ghost use Rattle.std.specs.List.{flat_map};
 ghost use Rattle.std.specs.Option.{option_map};
@@ -51,7 +51,7 @@ pub fn locale_candidates(
     Ok(distinct(alloc, &names)?)
 }
 
-// The names of the languages that are asked for, with repeats: those of LANGUAGE, or the locale.
+/// The names of the languages that are asked for, with repeats: those of LANGUAGE, or the locale.
 fn names_of(
     alloc: Global,
     locale: &[u8],
@@ -69,8 +69,8 @@ fn names_of(
     Ok(names)
 }
 
-// Each name where it first stands. A tree finds the names that were met, so that no choice of names
-// makes this slow.
+/// Each name where it first stands. A tree finds the names that were met, so that no choice of names
+/// makes this slow.
 fn distinct(alloc: Global, names: &[Vec<u8>]) -> Result<Vec<Vec<u8>>, ToolFault>
     ensures names { IfOk result (λ v. map (λ name. name.items) v.items
         ≡ distinct (map (λ name. name.items) names.now)) }
@@ -97,7 +97,7 @@ pub(crate) fn non_empty(variable: Option<&[u8]>) -> Option<&[u8]>
     }
 }
 
-// The first of LC_ALL, LC_MESSAGES and LANG that is given.
+/// The first of LC_ALL, LC_MESSAGES and LANG that is given.
 fn locale_of<'a>(environment: &Environment<'a>) -> Option<&'a [u8]>
     ensures { option_map (λ value. value.now) result ≡ locale_of environment.now }
 {
@@ -110,6 +110,7 @@ fn locale_of<'a>(environment: &Environment<'a>) -> Option<&'a [u8]>
     non_empty(environment.lang)
 }
 
+/// Whether the locale is `C` or `POSIX`, whose messages are the msgids.
 #[tactic(auto, unfolding(crate::specs::Locales::is_untranslated))]
 fn is_untranslated(name: &[u8]) -> bool
     ensures { result ≡ is_untranslated name.now }
@@ -117,6 +118,7 @@ fn is_untranslated(name: &[u8]) -> bool
     name == b"C".as_slice() || name == b"POSIX".as_slice()
 }
 
+/// Whether the name has a slash, and so can't be a part of a path.
 fn has_slash(name: &[u8]) -> bool
     ensures { result ≡ has_slash name.now }
 {
@@ -130,7 +132,7 @@ pub(crate) fn is_path_part(name: &[u8]) -> bool
     !name.is_empty() && !has_slash(name)
 }
 
-// Adds the candidates of the parts of LANGUAGE.
+/// Adds the candidates of the parts of LANGUAGE.
 fn add_languages(alloc: Global, names: &mut Vec<Vec<u8>>, languages: &[u8]) -> Result<(), ToolFault>
     ensures added { OnOk result (map (λ name. name.items) names.new.items
         ≡ map (λ name. name.items) names.old.items ++ flat_map variants (language_parts languages.now)) }
@@ -150,7 +152,7 @@ fn add_languages(alloc: Global, names: &mut Vec<Vec<u8>>, languages: &[u8]) -> R
     }
 }
 
-// Adds the candidates of one part of LANGUAGE, if it counts.
+/// Adds the candidates of one part of LANGUAGE, if it counts.
 fn add_language(alloc: Global, names: &mut Vec<Vec<u8>>, part: &[u8]) -> Result<(), ToolFault>
     ensures added { OnOk result (map (λ name. name.items) names.new.items
         ≡ map (λ name. name.items) names.old.items ++ variants_in part.now) }
@@ -163,7 +165,9 @@ fn add_language(alloc: Global, names: &mut Vec<Vec<u8>>, part: &[u8]) -> Result<
     }
 }
 
-// Adds the candidates of a name L[_T][.C][@M].
+/// Adds the candidates of a name `L[_T][.C][@M]`, the most exact first: the name itself, `L[_T][@M]`, `L[@M]`,
+/// `L[_T]` and `L`. For `sr_RS.UTF-8@latin` they are `sr_RS.UTF-8@latin`, `sr_RS@latin`, `sr@latin`, `sr_RS` and `sr`.
+/// Those that are equal are dropped later, by `distinct`.
 fn add_variants(alloc: Global, names: &mut Vec<Vec<u8>>, name: &[u8]) -> Result<(), ToolFault>
     ensures added { OnOk result (map (λ name. name.items) names.new.items
         ≡ map (λ name. name.items) names.old.items ++ variants name.now) }
@@ -180,7 +184,7 @@ fn add_variants(alloc: Global, names: &mut Vec<Vec<u8>>, name: &[u8]) -> Result<
     Ok(())
 }
 
-// What stands before the first `byte`, or all.
+/// What stands before the first `byte`, or all.
 #[tactic(auto, unfolding(crate::specs::Locales::before))]
 fn before(byte: u8, name: &[u8]) -> &[u8]
     ensures { result.now ≡ before byte name.now }
@@ -188,7 +192,7 @@ fn before(byte: u8, name: &[u8]) -> &[u8]
     &name[..len_before(byte, name)]
 }
 
-// What stands from the first `byte` on, or nothing.
+/// What stands from the first `byte` on, or nothing.
 #[tactic(auto, unfolding(crate::specs::Locales::from_first))]
 fn from_first(byte: u8, name: &[u8]) -> &[u8]
     ensures { result.now ≡ from_first byte name.now }
@@ -196,7 +200,7 @@ fn from_first(byte: u8, name: &[u8]) -> &[u8]
     &name[len_before(byte, name)..]
 }
 
-// Adds a name in two parts.
+/// Adds the name that two parts make.
 fn add_name(
     alloc: Global,
     names: &mut Vec<Vec<u8>>,

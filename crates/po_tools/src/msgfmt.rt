@@ -325,6 +325,9 @@ fn plan_compiled(
 /// What `msgfmt` writes and reports of its inputs, each with its name: the compiled file, where it has a message, and
 /// the statistics, where they are asked for. Inputs that aren't compiled are reported by one line, with status 1, and
 /// else a fault of the check, where it is asked for. Refused only where an allocation failed.
+///
+/// The check comes first, since compiling takes the catalogues and moves their texts into the messages; its fault is
+/// kept, and reported only where the inputs are compiled.
 pub fn plan_msgfmt(
     alloc: Global,
     inputs: &[(&str, &[u8])],
