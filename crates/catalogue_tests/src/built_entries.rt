@@ -13,7 +13,7 @@ fn is_summary(alloc: Global, entry: &Entry, wanted: &[u8]) -> Result<bool, Fail>
     Ok(line.as_slice() == wanted)
 }
 
-// A built entry has just its texts; it is copied and marked.
+/// A built entry has just its texts; it is copied and marked.
 #[test]
 fn built_entry(rt: HostRuntime) -> Result<(), Fail> {
     let mut entry = Entry::message(rt.alloc(), None, b"a", Some(b"as"), &[b"b", b""])?;

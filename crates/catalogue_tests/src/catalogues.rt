@@ -117,7 +117,7 @@ fn entries_of_two_inputs(rt: HostRuntime) -> Result<(), Fail> {
     Ok(())
 }
 
-// What does not repeat the message `a`: one under another context, and an obsolete one.
+/// What does not repeat the message `a`: one under another context, and an obsolete one.
 #[test]
 fn no_duplicate(rt: HostRuntime) -> Result<(), Fail> {
     for text in [

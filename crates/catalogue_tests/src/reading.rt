@@ -175,7 +175,7 @@ fn equals_built(alloc: Global, entry: &Entry, form: &[u8]) -> Result<bool, Fail>
     Ok(*entry == built)
 }
 
-// An entry that was built equals the one that was read, whose line is left aside.
+/// An entry that was built equals the one that was read, whose line is left aside.
 #[test]
 fn built_entry(rt: HostRuntime) -> Result<(), Fail> {
     let catalogue = read(rt.alloc(), b"\nmsgid \"a\"\nmsgstr \"b\"\n")?;

@@ -111,7 +111,7 @@ fn obsolete_entry(alloc: Global) -> Result<Entry, Fail> {
     Ok(entry)
 }
 
-// An obsolete entry that stands first comes last, and each of its lines has the prefix.
+/// An obsolete entry that stands first comes last, and each of its lines has the prefix.
 #[test]
 fn arranged_entries(rt: HostRuntime) -> Result<(), Fail> {
     let mut catalogue = Catalogue::new(rt.alloc());

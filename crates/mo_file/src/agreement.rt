@@ -71,6 +71,7 @@ fn agreement_at<const LANES: usize>(stop: u8, first: &[u8], second: &[u8], at: u
     first_set(parts.to_bitmask(), LANES)
 }
 
+/// The index of the first lane that is set in the mask, or the number of lanes where none is.
 #[inline(always)]
 fn first_set(mask: u64, lanes: usize) -> usize
     ensures { result ≡ first_set mask lanes }

@@ -34,6 +34,7 @@ pub(crate) fn check_strings(header: Header, bytes: &[u8]) -> Result<(), MoError>
     }
 }
 
+/// Whether there is a byte at this offset and it is NUL.
 fn is_nul(bytes: &[u8], at: usize) -> bool
     ensures { IsTrue result ↔ (slice_get bytes.now at ≡ Some 0) }
 {

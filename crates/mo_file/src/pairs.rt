@@ -37,6 +37,7 @@ pub struct LentPair<'a> {
 impl<'a> LentPair<'a> {
     ghost use Rattle.mo_file.specs.Pairs.{string_of};
 
+    /// The string of the pair that this part is.
     pub(crate) fn string(&self, part: Part) -> &'a [u8]
         ensures { result.now ≡ string_of part self.now }
     {

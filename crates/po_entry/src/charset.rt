@@ -17,9 +17,11 @@ pub fn has_admitted_charset(entry: &Entry) -> bool
     }
 }
 
+/// Whether a charset of this name is admitted: UTF-8, ASCII, the template's `CHARSET`, or none.
 fn is_admitted_name(name: &[u8]) -> bool
     ensures { IsTrue result ↔ IsAdmittedName name.now }
 {
+    // `|` and not `||`: a value without branches, which the proof joins operand by operand.
     name.is_empty()
         | name.eq_ignore_ascii_case(b"UTF-8")
         | name.eq_ignore_ascii_case(b"UTF8")
@@ -40,18 +42,21 @@ fn charset_of(header: &[u8]) -> &[u8]
     }
 }
 
+/// How long the name at the beginning is, where something ends it.
 fn name_len(name: &[u8]) -> Option<usize>
     ensures { result ≡ position ends_name name.now }
 {
     name.iter().position(|b| ends_name(*b))
 }
 
+/// Whether the byte ends the name of a charset.
 fn ends_name(b: u8) -> bool
     ensures { result ≡ ends_name b }
 {
     matches!(b, b' ' | b'\t' | b'\r' | b'\n' | b';')
 }
 
+/// What follows the first `charset=`, or nothing.
 fn after_charset(header: &[u8]) -> &[u8]
     ensures { result.now ≡ after_charset header.now }
 {

@@ -24,6 +24,7 @@ pub fn copy_texts(alloc: Global, list: &[Vec<u8>]) -> Result<Vec<Vec<u8>>, Alloc
     Ok(copy)
 }
 
+/// A copy of a list of slices as owned texts.
 pub(crate) fn copy_slices(alloc: Global, list: &[&[u8]]) -> Result<Vec<Vec<u8>>, AllocError>
     ensures { IfOk result (λ copy. texts copy.items ≡ slice_texts list.now) }
 {
@@ -34,6 +35,7 @@ pub(crate) fn copy_slices(alloc: Global, list: &[&[u8]]) -> Result<Vec<Vec<u8>>,
     Ok(copy)
 }
 
+/// Empties each text; the list keeps its length.
 pub(crate) fn empty_texts(list: &mut [Vec<u8>])
     ensures { texts list.new ≡ map (λ _. []) (texts list.old) }
 {

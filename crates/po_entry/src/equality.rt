@@ -6,12 +6,14 @@ ghost use Rattle.po_entry.specs.EntryView.{entry_view};
 use crate::fields::Fields;
 use crate::previous::Previous;
 
+/// Whether two lists have the same texts in the same order.
 fn same_texts(a: &[Vec<u8>], b: &[Vec<u8>]) -> bool
     ensures { result ≡ texts_eq (texts a.now) (texts b.now) }
 {
     a == b
 }
 
+/// Whether both texts are missing, or both are there and equal.
 fn same_optional(a: Option<&[u8]>, b: Option<&[u8]>) -> bool
     ensures { result ≡ optional_eq (option_copied a.entry) (option_copied b.entry) }
 {
@@ -22,6 +24,7 @@ fn same_optional(a: Option<&[u8]>, b: Option<&[u8]>) -> bool
     }
 }
 
+/// Whether the previous texts are the same.
 pub(crate) fn same_previous(a: &Previous, b: &Previous) -> bool
     ensures { result ≡ previous_eq a.now b.now }
 {
@@ -30,6 +33,7 @@ pub(crate) fn same_previous(a: &Previous, b: &Previous) -> bool
         && same_optional(a.plural.as_deref(), b.plural.as_deref())
 }
 
+/// Whether the comments, references and flags are the same.
 pub(crate) fn same_comments(a: &Fields, b: &Fields) -> bool
     ensures { result ≡ comments_eq (entry_view a.now) (entry_view b.now) }
 {
@@ -40,6 +44,7 @@ pub(crate) fn same_comments(a: &Fields, b: &Fields) -> bool
         && same_texts(&a.flags, &b.flags)
 }
 
+/// Whether the context, msgid, plural, forms and the obsolete mark are the same.
 pub(crate) fn same_message(a: &Fields, b: &Fields) -> bool
     ensures { result ≡ messages_eq (entry_view a.now) (entry_view b.now) }
 {

@@ -35,6 +35,7 @@ pub struct Fields {
 }
 
 impl Fields {
+    /// A copy of all parts; refused only where an allocation failed.
     pub(crate) fn copy(&self, alloc: Global) -> Result<Fields, AllocError>
         ensures { IfOk result (λ copy. entry_view copy ≡ entry_view self.now) }
     {

@@ -28,9 +28,11 @@ pub fn check_texts(fields: &Fields) -> Result<(), PoFault>
     Ok(())
 }
 
+/// Whether all texts of quoted strings are UTF-8.
 fn are_utf8(fields: &Fields) -> bool
     ensures { IsTrue result ↔ All IsUtf8 (quoted_texts (entry_view fields.now)) }
 {
+    // `&` here and below: a value without branches, which the proof joins operand by operand.
     previous_is_utf8(&fields.previous)
         & optional_is_utf8(fields.context.as_deref())
         & is_utf8(&fields.id)
@@ -38,6 +40,7 @@ fn are_utf8(fields: &Fields) -> bool
         & all_utf8(&fields.forms)
 }
 
+/// Whether the previous texts are UTF-8.
 fn previous_is_utf8(previous: &Previous) -> bool
     ensures { IsTrue result ↔ All IsUtf8 (previous_texts previous.now) }
 {
@@ -46,6 +49,7 @@ fn previous_is_utf8(previous: &Previous) -> bool
         & optional_is_utf8(previous.plural.as_deref())
 }
 
+/// Whether the text is UTF-8, where there is one.
 fn optional_is_utf8(text: Option<&[u8]>) -> bool
     ensures { IsTrue result ↔ All IsUtf8 (option_to_list (option_copied text.entry)) }
 {
@@ -55,6 +59,7 @@ fn optional_is_utf8(text: Option<&[u8]>) -> bool
     }
 }
 
+/// Whether each text of the list is UTF-8.
 fn all_utf8(list: &[Vec<u8>]) -> bool
     ensures { IsTrue result ↔ All IsUtf8 (texts list.now) }
 {
@@ -66,6 +71,7 @@ fn all_utf8(list: &[Vec<u8>]) -> bool
     true
 }
 
+/// Whether no quoted text has a NUL, and neither context nor msgid an EOT.
 fn are_clean(fields: &Fields) -> bool
     ensures { IsTrue result ↔ IsClean (entry_view fields.now) }
 {
@@ -74,6 +80,7 @@ fn are_clean(fields: &Fields) -> bool
         & lacks(EOT, &fields.id)
 }
 
+/// Whether no text of a quoted string has the byte.
 fn quoted_lack(byte: u8, fields: &Fields) -> bool
     ensures { IsTrue result ↔ All (Lacks byte) (quoted_texts (entry_view fields.now)) }
 {
@@ -84,6 +91,7 @@ fn quoted_lack(byte: u8, fields: &Fields) -> bool
         & all_lack(byte, &fields.forms)
 }
 
+/// Whether no previous text has the byte.
 fn previous_lacks(byte: u8, previous: &Previous) -> bool
     ensures { IsTrue result ↔ All (Lacks byte) (previous_texts previous.now) }
 {
@@ -92,6 +100,7 @@ fn previous_lacks(byte: u8, previous: &Previous) -> bool
         & optional_lacks(byte, previous.plural.as_deref())
 }
 
+/// Whether the text lacks the byte, where there is one.
 fn optional_lacks(byte: u8, text: Option<&[u8]>) -> bool
     ensures { IsTrue result ↔ All (Lacks byte) (option_to_list (option_copied text.entry)) }
 {
@@ -101,6 +110,7 @@ fn optional_lacks(byte: u8, text: Option<&[u8]>) -> bool
     }
 }
 
+/// Whether each text of the list lacks the byte.
 fn all_lack(byte: u8, list: &[Vec<u8>]) -> bool
     ensures { IsTrue result ↔ All (Lacks byte) (texts list.now) }
 {
@@ -112,6 +122,7 @@ fn all_lack(byte: u8, list: &[Vec<u8>]) -> bool
     true
 }
 
+/// Whether the byte isn't in the text.
 fn lacks(byte: u8, text: &[u8]) -> bool
     ensures { IsTrue result ↔ Lacks byte text.now }
 {

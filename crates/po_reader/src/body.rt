@@ -12,6 +12,7 @@ use crate::strings::strings_of;
 use po_syntax::{Item, Keyword, Marks, PoError, PoFault};
 use std::alloc::Global;
 
+/// Whether a `msgstr[i]` stands at the index, and not one of a previous text.
 fn begins_form(items: &[Item<'_>], at: usize) -> bool
     requires { at ≤ length items.now }
     ensures { result ≡ begins_form (views (drop at items.now)) }
@@ -61,6 +62,7 @@ pub(crate) struct Translation {
     pub(crate) after: usize,
 }
 
+/// The translation at the index: a msgstr, or a plural and its forms.
 fn translation_of(
     alloc: Global,
     items: &[Item<'_>],
@@ -119,6 +121,7 @@ enum Start {
     WithoutContext(bool, u32),
 }
 
+/// How a body begins at the index, or `None` where none does.
 fn start_at(items: &[Item<'_>], at: usize) -> Option<Start>
     requires { at ≤ length items.now }
     ensures start { MatchOption result (body_start (views (drop at items.now)) ≡ spec.NoStart) (λ start. body_start (views (drop at items.now)) ≡ start_view start (views (drop (at + 1) items.now))) }

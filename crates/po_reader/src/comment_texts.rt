@@ -7,12 +7,14 @@ ghost use Rattle.po_entry.specs.Comments.{is_comma, listed_references, listed_fl
 
 use std::alloc::{AllocError, Global};
 
+/// Whether the byte is a blank: a space, a tab, VT, FF or CR.
 fn is_blank(byte: u8) -> bool
     ensures { result ≡ is_blank byte }
 {
     matches!(byte, b' ' | b'\t' | 11 | 12 | b'\r')
 }
 
+/// Whether the byte is a comma.
 fn is_comma(byte: u8) -> bool
     ensures { result ≡ is_comma byte }
 {
@@ -27,6 +29,7 @@ fn trimmed(text: &[u8]) -> &[u8]
     rest.split_at(rest.len() - blanks_after(rest)).0
 }
 
+/// How many blanks the text begins with.
 fn blanks_before(text: &[u8]) -> usize
     ensures count { result ≡ prefix_len is_blank text.now }
     ensures within { result ≤ length text.now }
@@ -34,6 +37,7 @@ fn blanks_before(text: &[u8]) -> usize
     text.iter().take_while(|b| is_blank(**b)).count()
 }
 
+/// How many blanks the text ends with.
 fn blanks_after(text: &[u8]) -> usize
     ensures count { result ≡ suffix_len is_blank text.now }
     ensures within { result ≤ length text.now }
@@ -41,12 +45,14 @@ fn blanks_after(text: &[u8]) -> usize
     text.iter().rev().take_while(|b| is_blank(**b)).count()
 }
 
+/// The index of the first blank.
 fn first_blank(text: &[u8]) -> Option<usize>
     ensures { result ≡ position is_blank text.now }
 {
     text.iter().position(|b| is_blank(*b))
 }
 
+/// The index of the first comma.
 fn first_comma(text: &[u8]) -> Option<usize>
     ensures { result ≡ position is_comma text.now }
 {

@@ -17,6 +17,7 @@ use po_entry::Fields;
 use po_syntax::{Item, PoError, PoFault};
 use std::alloc::{AllocError, Global};
 
+/// The parts of an entry, from its head and its body.
 fn fields_of(alloc: Global, head: Head, body: Body) -> Result<Fields, AllocError>
     ensures { IfOk result (λ fields. (comment_texts : List CommentText) (previous : List PreviousText) → HoldsHead head comment_texts previous → entry_view fields ≡ entry_from comment_texts previous (body_view body)) }
 {

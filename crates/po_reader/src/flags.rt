@@ -1,4 +1,4 @@
-// The flags that an entry keeps (manual, "The Format of PO Files").
+//! The flags that an entry keeps (manual, "The Format of PO Files").
 ghost use Rattle.std.specs.Prelude.{◌≡◌, [], fold, IfOk};
 ghost use Rattle.std.specs.List.{list_any};
 ghost use Rattle.po_entry.specs.TextEntry.{texts};
@@ -15,12 +15,14 @@ pub(crate) struct Flags {
     pub(crate) others: Vec<Vec<u8>>,
 }
 
+/// Whether the flag is `fuzzy`.
 fn is_fuzzy_flag(word: &[u8]) -> bool
     ensures { result ≡ is_fuzzy_flag word.now }
 {
     word == b"fuzzy".as_slice()
 }
 
+/// Whether `fuzzy` is among the flags.
 fn has_fuzzy(keywords: &[Vec<u8>]) -> bool
     ensures { result ≡ list_any (λ word. is_fuzzy_flag word.items) keywords.now }
 {

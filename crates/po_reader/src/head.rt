@@ -49,12 +49,14 @@ fn rank(keyword: Keyword) -> u32
     }
 }
 
+/// Whether a body begins with the keyword.
 fn begins_body(keyword: Keyword) -> bool
     ensures { result ≡ begins_body keyword }
 {
     matches!(keyword, Keyword::MsgCtxt | Keyword::MsgId)
 }
 
+/// What the item at the index is to a head, after a previous text of rank `above`, or 0.
 fn step_at<'i>(items: &'i [Item<'_>], at: usize, above: u32) -> Result<Step<'i>, PoFault>
     requires { at ≤ length items.now }
     ensures step { MatchResult result (λ step. head_step above (views (drop at items.now)) ≡ head_view step (views (drop (at + 1) items.now))) (λ fault. head_step above (views (drop at items.now)) ≡ spec.Refuse fault) }
@@ -127,6 +129,7 @@ fn add_kept_comment(
     Ok(())
 }
 
+/// Sets the previous text of this keyword.
 fn set_previous(previous: &mut Previous, keyword: Keyword, text: Vec<u8>)
     requires { 0 < rank keyword }
     ensures { previous.new ≡ with_previous previous.old (record { keyword = keyword; text = text.items }) }

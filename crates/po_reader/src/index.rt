@@ -13,6 +13,7 @@ pub(crate) fn item_at<'i, 'a>(items: &'i [Item<'a>], at: usize) -> Option<&'i It
     items.get(at)
 }
 
+/// The line on which the item stands.
 pub(crate) fn line_of(item: &Item<'_>) -> u32
     ensures { result ≡ line_of (view item.now) }
 {

@@ -44,6 +44,7 @@ pub(crate) fn messages_of_items(alloc: Global, items: Vec<Item<'_>>) -> Result<C
     catalogue_of(alloc, drafts)
 }
 
+/// The line of the last item, and 0 where there is none.
 fn last_line(items: &[Item<'_>]) -> u32
     ensures { result ≡ last_line (views items.now) }
 {

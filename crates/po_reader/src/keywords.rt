@@ -21,6 +21,7 @@ pub(crate) enum Wanted {
     Form(u32),
 }
 
+/// Whether the keyword is one that can stand here.
 fn is_wanted(wanted: Wanted, keyword: Keyword) -> bool
     ensures { result ≡ is_wanted (wanted_of wanted) keyword }
 {
@@ -32,6 +33,7 @@ fn is_wanted(wanted: Wanted, keyword: Keyword) -> bool
     }
 }
 
+/// Whether a form stands where one is wanted; its index is another if it isn't wanted.
 fn is_wrong_form(wanted: Wanted, keyword: Keyword) -> bool
     ensures { result ≡ is_wrong_form (wanted_of wanted) keyword }
 {

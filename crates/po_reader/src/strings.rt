@@ -20,6 +20,7 @@ fn stray_string(wanted: Marks, found: Marks) -> PoFault
     }
 }
 
+/// Whether both have the same marks.
 fn same_marks(a: Marks, b: Marks) -> bool
     ensures { result ≡ spec.same_marks a b }
 {
@@ -44,6 +45,7 @@ fn string_at<'i>(items: &'i [Item<'_>], at: usize, marks: Marks) -> Result<&'i [
     }
 }
 
+/// Whether a string stands at the index.
 fn begins_string(items: &[Item<'_>], at: usize) -> bool
     requires { at ≤ length items.now }
     ensures { result ≡ begins_string (views (drop at items.now)) }

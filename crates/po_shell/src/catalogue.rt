@@ -1,5 +1,5 @@
-// Where the catalogues of a text domain lie ("Invoking the gettext program" and "Locating Message
-// Catalog Files" of the GNU gettext manual).
+//! Where the catalogues of a text domain lie ("Invoking the gettext program" and "Locating Message
+//! Catalog Files" of the GNU gettext manual).
 ghost use Rattle.std.specs.Prelude.{◌≡◌, map, IfOk, OnErr, Err};
 ghost use Rattle.std.specs.Option.{option_copied};
 ghost use Rattle.po_shell.specs.Locales.{candidates_of};
@@ -52,7 +52,7 @@ pub fn catalogue_path(
     Ok(path)
 }
 
-// The paths of the catalogues of a domain that can stand in one.
+/// The paths of the catalogues of a domain that can stand in one.
 fn domain_paths(
     alloc: Global,
     domain: &[u8],
@@ -73,6 +73,7 @@ fn domain_paths(
     Ok(paths)
 }
 
+/// The folder that the catalogues lie below: TEXTDOMAINDIR, or the default.
 fn folder_of<'a>(environment: &Environment<'a>) -> &'a [u8]
     ensures { result.now ≡ folder_of environment.now }
 {

@@ -1,4 +1,4 @@
-// The COUNT of ngettext ("Invoking the ngettext program" of the GNU gettext manual).
+//! The COUNT of ngettext ("Invoking the ngettext program" of the GNU gettext manual).
 ghost use Rattle.std.specs.Prelude.{◌≡◌};
 ghost use Rattle.po_shell.specs.Counts.{count_in};
 ghost use Rattle.po_shell.specs.CountSteps.{count_from};
@@ -17,7 +17,7 @@ pub fn count_of(text: &[u8]) -> u64
     }
 }
 
-// The number that decimal digits write, where nothing else stands there and it is below 2^64.
+/// The number that decimal digits write, where nothing else stands there and it is below 2^64.
 fn decimal(digits: &[u8]) -> Option<u64>
     ensures { result ≡ count_from 0 digits.now }
 {

@@ -1,4 +1,4 @@
-// Writing a whole piece.
+//! Writing a whole piece.
 ghost use Rattle.std.specs.Prelude.{◌≡◌, ◌+◌, ◌-◌, ◌^◌, ◌<◌, OnOk, OnErr, Err};
 ghost use Rattle.std.specs.Io.KnownBytes.{Appends};
 ghost use Rattle.po_shell.specs.Device.{AppendsPrefix};

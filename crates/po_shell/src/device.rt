@@ -1,4 +1,4 @@
-// Readers and writers that count their calls and failures.
+//! Readers and writers that count their calls and failures.
 ghost use Rattle.std.specs.Prelude.{◌≡◌, ℕ, ◌+◌, ◌-◌, ◌^◌, ◌<◌, List};
 ghost use Rattle.std.specs.Prelude.{Option};
 ghost use Rattle.std.specs.Io.{ReadsAtMost, WritesAtMost};

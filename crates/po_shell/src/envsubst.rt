@@ -1,4 +1,4 @@
-// Substitution of a whole input ("Invoking the envsubst program" of the GNU gettext manual).
+//! Substitution of a whole input ("Invoking the envsubst program" of the GNU gettext manual).
 ghost use Rattle.std.specs.Prelude.{◌≡◌, ◌+◌, ◌^◌, ◌<◌, ◌≤◌, ◌⊎◌, ◌≢◌, IfOk, OnOk, OnErr, IsErrOf, Err};
 ghost use Rattle.std.specs.Io.Buffered.{writer_contents};
 ghost use Rattle.std.specs.Io.KnownBytes.{Keeps};
@@ -113,7 +113,7 @@ pub fn run_envsubst_in_blocks<R: ByteIn, W: Write + Drop>(
     }
 }
 
-// Writes what is still gathered. Where that fails, nothing more is written.
+/// Writes what is still gathered. Where that fails, nothing more is written.
 fn written_out<W: Write + Drop>(output: BufWriter<W>) -> Result<W, ToolFault>
     ensures ok { IfOk result (λ written. Keeps (writer_contents W.contents output) (W.contents written)) }
     ensures fault { OnErr result (result ≡ Err ToolFault.WriteFault) }

@@ -1,4 +1,4 @@
-// The escapes that `gettext -e` expands ("Invoking the gettext program" of the GNU gettext manual).
+//! The escapes that `gettext -e` expands ("Invoking the gettext program" of the GNU gettext manual).
 ghost use Rattle.std.specs.Prelude.{◌≡◌, ◌≤◌, length, IfSome, IfOk, OnErr, Err};
 ghost use Rattle.po_shell.specs.Escapes.{expansion, has_no_newline, is_octal, octal_run, octal_value, letter, letter_escape, escape_after};
 
@@ -15,8 +15,8 @@ pub struct Expanded {
     pub no_newline: bool,
 }
 
-// What an escape gives, which with `\c` is no byte, and how many bytes it takes after its
-// backslash.
+/// What an escape gives, which with `\c` is no byte, and how many bytes it takes after its
+/// backslash.
 #[derive(Clone, Copy)]
 struct Escape {
     byte: Option<u8>,
@@ -53,7 +53,7 @@ pub fn expand(alloc: Global, text: &[u8]) -> Result<Expanded, ToolFault>
     }
 }
 
-// The escape that a backslash begins, by the bytes after it.
+/// The escape that a backslash begins, by the bytes after it.
 fn escape_after(after: &[u8]) -> Option<Escape>
     ensures escape { result ≡ escape_after after.now }
     ensures within { IfSome result (λ escape. escape.size ≤ length after.now) }
@@ -71,13 +71,14 @@ fn escape_after(after: &[u8]) -> Option<Escape>
     })
 }
 
+/// Whether the byte is an octal digit.
 fn is_octal(byte: u8) -> bool
     ensures { result ≡ is_octal byte }
 {
     matches!(byte, b'0'..=b'7')
 }
 
-// Up to three octal digits at the beginning.
+/// Up to three octal digits at the beginning.
 fn octal_run(bytes: &[u8]) -> &[u8]
     ensures run { result.now ≡ octal_run bytes.now }
     ensures within { length result.now ≤ length bytes.now }
@@ -91,7 +92,7 @@ fn octal_run(bytes: &[u8]) -> &[u8]
     prefix
 }
 
-// The byte that octal digits give, modulo 256.
+/// The byte that octal digits give, modulo 256.
 fn octal_value(digits: &[u8]) -> u8
     ensures { result ≡ octal_value digits.now }
 {
@@ -102,7 +103,7 @@ fn octal_value(digits: &[u8]) -> u8
     value as u8
 }
 
-// An escape of one letter.
+/// An escape of one letter.
 #[tactic(auto, unfolding(crate::specs::Escapes::letter_escape))]
 fn letter_escape(letter: u8) -> Option<Escape>
     ensures escape { result ≡ letter_escape letter }
@@ -122,6 +123,7 @@ fn letter_escape(letter: u8) -> Option<Escape>
     }
 }
 
+/// An escape of one letter that gives this byte, or none.
 fn of_letter(byte: Option<u8>) -> Option<Escape>
     ensures { result ≡ letter byte }
 {

@@ -1,4 +1,4 @@
-// A device over memory that fails as a test wants it to.
+//! A device over memory that fails as a test wants it to.
 ghost use Rattle.std.specs.Prelude.{◌≡◌, ◌≢◌, ◌↔◌, ◌-◌, ◌==◌, IsTrue, IfOk, IfErr, IsErr, Ok, Some, length, min, max, if◌then◌else◌};
 ghost use Rattle.std.specs.Io.{ReadsAtMost, WritesAtMost};
 ghost use Rattle.std.specs.Io.KnownBytes.{ReadConsumes, WriteAppends};
@@ -40,7 +40,7 @@ impl<D> Failing<D> {
         self.inner
     }
 
-    // Counts a call, and says whether it is the one that fails.
+    /// Counts a call, and says whether it is the one that fails.
     fn fails_now(&mut self) -> bool
         ensures now { IsTrue result ↔ (failing_calls_before self.old ≡ Some 0) }
         ensures counts { failing_calls_before self.new ≡ calls_after (failing_calls_before self.old) }

@@ -1,4 +1,4 @@
-// The ways in which a tool can be refused by its surroundings.
+//! The ways in which a tool can be refused by its surroundings.
 ghost use Rattle.std.specs.Prelude.{◌≡◌};
 ghost use Rattle.po_shell.specs.declared.fault.ToolFault.TheVariants.{OutOfMemory};
 

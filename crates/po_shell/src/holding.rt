@@ -1,4 +1,4 @@
-// The bytes that may begin a reference, held back until the next ones decide.
+//! The bytes that may begin a reference, held back until the next ones decide.
 ghost use Rattle.std.specs.Prelude.{◌≡◌, ◌<◌, true, false, ◌∷◌, [], length};
 ghost use Rattle.po_shell.specs.Holding.{Decides, ComesOut, Replaces, Ending, is_undecided, is_begun_name, after_dollar};
 ghost use Rattle.po_shell.specs.Substitution.{values_given};
@@ -92,7 +92,7 @@ pub(crate) fn effect_of<'a>(
     }
 }
 
-// What becomes of a reference to this name, which takes so many further bytes.
+/// What becomes of a reference to this name, which takes so many further bytes.
 fn replace<'a>(
     vars: &[(&'a [u8], &'a [u8])],
     only: Option<&[&[u8]]>,

@@ -1,4 +1,4 @@
-// Reading a whole input.
+//! Reading a whole input.
 ghost use Rattle.std.specs.Prelude.{◌≡◌, ◌≢◌, ◌+◌, ◌^◌, ◌<◌, ◌≤◌, take, IfOk, OnOk, IfSome, IsErrOf, Err};
 ghost use Rattle.std.specs.Io.KnownBytes.{Consumes};
 

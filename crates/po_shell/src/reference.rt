@@ -1,4 +1,4 @@
-// Names and references ("Invoking the envsubst program" of the GNU gettext manual).
+//! Names and references ("Invoking the envsubst program" of the GNU gettext manual).
 ghost use Rattle.std.specs.Prelude.{◌≡◌, ◌<◌, ◌≤◌, [], map, length, IfNone, IfSome, IfOk, OnErr, Err};
 ghost use Rattle.std.specs.Option.{option_map};
 ghost use Rattle.std.specs.List.{cons_option};
@@ -45,7 +45,7 @@ pub(crate) fn begins_with(byte: u8, text: &[u8]) -> bool
     text.first() == Some(&byte)
 }
 
-// The longest run of name bytes at the beginning.
+/// The longest run of name bytes at the beginning.
 fn name_run(bytes: &[u8]) -> &[u8]
     ensures { result.now ≡ name_run bytes.now }
 {
@@ -57,7 +57,7 @@ fn name_run(bytes: &[u8]) -> &[u8]
     bytes
 }
 
-// The name of the reference that a `$` begins, by the bytes after it.
+/// The name of the reference that a `$` begins, by the bytes after it.
 #[tactic(auto, unfolding(crate::specs::References::reference_after, crate::specs::References::braced_reference, crate::specs::References::bare_reference))]
 fn reference_name(after: &[u8]) -> Option<&[u8]>
     ensures { option_map (λ name. name.now) result
@@ -74,7 +74,7 @@ fn reference_name(after: &[u8]) -> Option<&[u8]>
     }
 }
 
-// What stands after the first `$`.
+/// What stands after the first `$`.
 fn after_dollar(text: &[u8]) -> Option<&[u8]>
     ensures none { IfNone result (names_in text.now ≡ []) }
     ensures names { IfSome result (λ after. names_in text.now

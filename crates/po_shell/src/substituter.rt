@@ -1,5 +1,5 @@
-// Substitution in one pass, whatever the pieces ("Invoking the envsubst program" of the GNU gettext
-// manual).
+//! Substitution in one pass, whatever the pieces ("Invoking the envsubst program" of the GNU gettext
+//! manual).
 ghost use Rattle.std.specs.Prelude.{◌≡◌, ◌+◌, ◌-◌, ◌*◌, ◌^◌, ◌<◌, ◌≤◌, min, true, false, [], ◌++◌, drop, length, if◌then◌else◌, is_err, IsErr, IfOk, OnOk, OnErr, Err};
 ghost use Rattle.std.specs.Io.KnownBytes.{Appends, Keeps};
 ghost use Rattle.po_shell.specs.Device.{AppendsPrefix};
@@ -16,7 +16,7 @@ use crate::search::len_before;
 use arrayvec::ArrayVec;
 use std::marker::Model;
 
-// Room for `${` and the longest name.
+/// Room for `${` and the longest name.
 type Held = ArrayVec<u8, 257>;
 
 /// Replaces the references `$NAME` and `${NAME}` of a text that comes in pieces. It holds back the
@@ -117,7 +117,7 @@ impl<'a> Substituter<'a> {
     }
 }
 
-// Takes the whole piece.
+/// Takes the whole piece.
 fn pass<W: ByteOut>(
     vars: &[(&[u8], &[u8])],
     only: Option<&[&[u8]]>,
@@ -143,7 +143,7 @@ fn pass<W: ByteOut>(
     Ok(())
 }
 
-// Takes some bytes of a piece, or lets go those that are held. Answers how many were taken.
+/// Takes some bytes of a piece, or lets go those that are held. Answers how many were taken.
 fn advance<W: ByteOut>(
     vars: &[(&[u8], &[u8])],
     only: Option<&[&[u8]]>,
@@ -188,7 +188,7 @@ fn advance<W: ByteOut>(
     }
 }
 
-// Writes the bytes before the first `$`, and holds that one back.
+/// Writes the bytes before the first `$`, and holds that one back.
 fn copy_plain<W: ByteOut>(held: &mut Held, piece: &[u8], writer: &mut W) -> Result<usize, ToolFault>
     requires some { 0 < length piece.now }
     requires none_held { held.old.items ≡ [] }

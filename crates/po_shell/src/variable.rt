@@ -1,5 +1,5 @@
-// Variables, and what the references to a name become ("Invoking the envsubst program" of the GNU
-// gettext manual).
+//! Variables, and what the references to a name become ("Invoking the envsubst program" of the GNU
+//! gettext manual).
 ghost use Rattle.std.specs.Prelude.{◌≡◌, ◌≢◌, ◌==◌, ◌+◌, ◌<◌, ◌++◌, ◌∷◌, All, IfOk, IfSome, IsNone, length, take, drop, position, map};
 ghost use Rattle.std.specs.Option.{option_map};
 ghost use Rattle.po_shell.specs.Substitution.{value_of, is_replaced, values_given, pairs_in, names_given};
@@ -20,7 +20,7 @@ pub fn name_and_value(entry: &[u8]) -> Option<(&[u8], &[u8])>
     Some((&entry[..at], &entry[at + 1..]))
 }
 
-// Where the first `=` stands.
+/// Where the first `=` stands.
 fn first_equals(entry: &[u8]) -> Option<usize>
     ensures index { result ≡ position (λ b. b == 61) entry.now }
     ensures bound { IfSome result (λ at. at < length entry.now) }
@@ -44,7 +44,7 @@ pub fn variables_in(alloc: Global, entries: &[Vec<u8>]) -> Result<Vec<(&[u8], &[
     Ok(variables)
 }
 
-// The value of the first variable of that name, and nothing where it is unset.
+/// The value of the first variable of that name, and nothing where it is unset.
 fn value_of<'a>(vars: &[(&'a [u8], &'a [u8])], name: &[u8]) -> &'a [u8]
     ensures { result.now ≡ value_of (pairs_in vars.now) name.now }
 {
@@ -56,8 +56,8 @@ fn value_of<'a>(vars: &[(&'a [u8], &'a [u8])], name: &[u8]) -> &'a [u8]
     &[]
 }
 
-// Whether references to this name are replaced: all are, but for those whose name isn't among
-// the names that are given.
+/// Whether references to this name are replaced: all are, but for those whose name isn't among
+/// the names that are given.
 #[tactic(auto, unfolding(crate::specs::Substitution::is_replaced))]
 fn is_replaced(only: Option<&[&[u8]]>, name: &[u8]) -> bool
     ensures { result ≡ is_replaced (names_given only.entry) name.now }

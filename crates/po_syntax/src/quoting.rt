@@ -13,6 +13,7 @@ fn is_raw(byte: u8) -> bool
     byte >= 32 && byte != b'"' && byte != b'\\' && byte != 127
 }
 
+/// How many bytes at the beginning stand in a quoted string as they are.
 fn raw_count(bytes: &[u8]) -> usize
     ensures count { result ≡ prefix_len is_raw bytes.now }
     ensures within { result ≤ length bytes.now }

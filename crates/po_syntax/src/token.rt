@@ -17,18 +17,21 @@ pub(crate) enum Token<'a> {
     Word(Keyword, &'a [u8]),
 }
 
+/// Whether the byte is a blank: a space, a tab, VT, FF or CR.
 fn is_blank(byte: u8) -> bool
     ensures { result ≡ is_blank byte }
 {
     matches!(byte, b' ' | b'\t' | 11 | 12 | b'\r')
 }
 
+/// Whether the byte can stand in a word: a letter, a digit or `_`.
 fn is_word_byte(byte: u8) -> bool
     ensures { result ≡ is_word_byte byte }
 {
     byte.is_ascii_alphanumeric() || byte == b'_'
 }
 
+/// How many blanks the text begins with.
 fn blank_count(text: &[u8]) -> usize
     ensures count { result ≡ prefix_len is_blank text.now }
     ensures within { result ≤ length text.now }
@@ -36,6 +39,7 @@ fn blank_count(text: &[u8]) -> usize
     text.iter().take_while(|b| is_blank(**b)).count()
 }
 
+/// How long the word at the beginning is.
 fn word_len(text: &[u8]) -> usize
     ensures count { result ≡ prefix_len is_word_byte text.now }
     ensures within { result ≤ length text.now }

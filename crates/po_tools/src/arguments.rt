@@ -1,4 +1,4 @@
-// What the options of a command line mean for each tool.
+//! What the options of a command line mean for each tool.
 ghost use Rattle.std.specs.Prelude.{◌≡◌, ◌||◌, ℕ, List, Bool, Option};
 ghost use Rattle.std.specs.Option.{option_copied};
 ghost use Rattle.po_tools.specs.Arguments.{IsSelection, AreMergeOptions, AreMsgfmtOptions, order_of};
@@ -54,6 +54,7 @@ pub fn selection_of<A: Arguments>(arguments: &A) -> Selection
     }
 }
 
+/// Whether one of two options is given.
 fn either(one: bool, other: bool) -> bool
     ensures { result ≡ (one || other) }
 {

@@ -1,4 +1,4 @@
-// The compiled catalogues of a text domain.
+//! The compiled catalogues of a text domain.
 ghost use Rattle.std.specs.Prelude.{◌≡◌, ◌-◌, ◌^◌, ◌<◌, IfOk, length, map, option_map, take};
 ghost use Rattle.po_tools.specs.Catalogues.{AreCatalogues, IsCatalogueAt, catalogue_file, catalogue_files};
 ghost use Rattle.po_tools.specs.NamedFile.{named_files};

@@ -1,4 +1,4 @@
-// The inputs of a tool, read in the order of the command line.
+//! The inputs of a tool, read in the order of the command line.
 ghost use Rattle.std.specs.Prelude.{◌≡◌, ◌≢◌, ◌⊎◌, ◌^◌, ℕ, List, take, Err, IfErr, IfSome, map, option_map, false, Some, MatchOption, MatchResult, IfOk};
 ghost use Rattle.po_tools.specs.Inputs.{AreInputs, IsUnread, ReadsAs, Reading, gives, refuses, named_inputs, unread_text};
 ghost use Rattle.po_tools.specs.NamedFile.{named_files};

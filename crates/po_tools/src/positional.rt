@@ -1,4 +1,4 @@
-// The arguments of the tools after their options.
+//! The arguments of the tools after their options.
 ghost use Rattle.std.specs.Prelude.{◌≡◌, map, option_map};
 ghost use Rattle.po_tools.specs.Positional.{envsubst_form, gettext_form, ngettext_form};
 ghost use Rattle.po_tools.specs.PositionalView.{envsubst_arguments, gettext_arguments, ngettext_arguments};

@@ -1,4 +1,4 @@
-// What msgfmt and msgcat come to of the inputs of a command line, of which one can't be read.
+//! What msgfmt and msgcat come to of the inputs of a command line, of which one can't be read.
 ghost use Rattle.std.specs.Prelude.{◌≡◌, ◌≢◌, ◌⊎◌, ◌^◌, ◌<◌, ◌==◌, List, [], All, MatchOption, None, Some, length, IfOk, IfErr};
 ghost use Rattle.std.specs.List.{list_any};
 ghost use Rattle.po_entry.specs.Bytes.{Lacks};
@@ -131,6 +131,7 @@ fn name_with_nul<'a>(inputs: &[Input<'a>]) -> Option<&'a str>
     None
 }
 
+/// Whether the name has a NUL, so that no file can have it.
 fn has_nul(name: &str) -> bool
     ensures { result ≡ list_any (λ b. b == 0) name.now }
 {

@@ -1,4 +1,4 @@
-// What a tool comes to that reads PO texts and writes one.
+//! What a tool comes to that reads PO texts and writes one.
 ghost use Rattle.std.specs.Prelude.{◌≡◌, ◌≢◌, All, Err, IfOk, List, OnErr, OnOk};
 ghost use Rattle.po_entry.specs.TextEntry.{TextEntry};
 ghost use Rattle.po_entry.specs.Validity.{IsCatalogueEntry};

@@ -136,12 +136,14 @@ fn push_own(out: &mut Vec<u8>, prefix: &[u8], entry: &Entry) -> Result<(), PoErr
     push_translation(out, prefix, entry.plural(), entry.forms())
 }
 
+/// What a line of a previous text begins with.
 fn previous_prefix(obsolete: bool) -> &'static [u8]
     ensures { result.now ≡ previous_prefix obsolete }
 {
     if obsolete { b"#~| " } else { b"#| " }
 }
 
+/// What a line of the body begins with.
 fn own_prefix(obsolete: bool) -> &'static [u8]
     ensures { result.now ≡ own_prefix obsolete }
 {

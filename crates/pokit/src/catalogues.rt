@@ -1,4 +1,4 @@
-// The compiled catalogues of a text domain.
+//! The compiled catalogues of a text domain.
 use crate::environment::Variables;
 use crate::files::System;
 use po_shell::catalogue_paths;
@@ -26,6 +26,7 @@ pub(crate) fn find<'a, R: Files + Env + Input>(
     Ok(read_catalogues(alloc, &System(rt), paths.as_slice())?)
 }
 
+/// The bytes of the text, where there is one.
 fn bytes_of(text: Option<&str>) -> Option<&[u8]> {
     match text {
         Some(text) => Some(text.as_bytes()),

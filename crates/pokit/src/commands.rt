@@ -1,4 +1,4 @@
-// The arguments that each tool takes, as `clap` commands.
+//! The arguments that each tool takes, as `clap` commands.
 use crate::help;
 use clap::{Arg, ArgAction, Command, value_parser};
 use po_tools::STANDARD;
@@ -51,6 +51,7 @@ pub(crate) fn program<'a>(alloc: Global, first: Option<&str>) -> Result<Command<
     }
 }
 
+/// The command `msgfmt` with its options and arguments.
 fn msgfmt<'a>(alloc: Global) -> Result<Command<'a>, AllocError> {
     Command::new(alloc, "msgfmt")
         .about("Compiles PO texts to one MO file")
@@ -88,6 +89,7 @@ fn msgfmt<'a>(alloc: Global) -> Result<Command<'a>, AllocError> {
         ))
 }
 
+/// The command `msgunfmt` with its options and arguments.
 fn msgunfmt<'a>(alloc: Global) -> Result<Command<'a>, AllocError> {
     Command::new(alloc, "msgunfmt")
         .about("Writes the PO text of an MO file")
@@ -107,6 +109,7 @@ fn msgunfmt<'a>(alloc: Global) -> Result<Command<'a>, AllocError> {
         ))
 }
 
+/// The command `msgattrib` with its options and arguments.
 fn msgattrib<'a>(alloc: Global) -> Result<Command<'a>, AllocError> {
     let command = Command::new(alloc, "msgattrib")
         .about("Selects entries of a PO text and changes them")
@@ -127,7 +130,7 @@ fn msgattrib<'a>(alloc: Global) -> Result<Command<'a>, AllocError> {
     changes(alloc, conditions(alloc, command)?)
 }
 
-// The options of msgattrib that say which entries are kept.
+/// The options of msgattrib that say which entries are kept.
 fn conditions<'a>(alloc: Global, command: Command<'a>) -> Result<Command<'a>, AllocError> {
     command
         .arg(flag(alloc, "translated", "Keep translated messages"))?
@@ -138,7 +141,7 @@ fn conditions<'a>(alloc: Global, command: Command<'a>) -> Result<Command<'a>, Al
         .arg(flag(alloc, "only-obsolete", "Keep obsolete messages"))
 }
 
-// The options of msgattrib that say how the entries that are kept are changed.
+/// The options of msgattrib that say how the entries that are kept are changed.
 fn changes<'a>(alloc: Global, command: Command<'a>) -> Result<Command<'a>, AllocError> {
     command
         .arg(flag(alloc, "set-fuzzy", "Make all messages fuzzy"))?
@@ -159,6 +162,7 @@ fn changes<'a>(alloc: Global, command: Command<'a>) -> Result<Command<'a>, Alloc
         ))
 }
 
+/// The command `msgcat` with its options and arguments.
 fn msgcat<'a>(alloc: Global) -> Result<Command<'a>, AllocError> {
     Command::new(alloc, "msgcat")
         .about("Merges PO texts, message by message")
@@ -197,6 +201,7 @@ fn msgcat<'a>(alloc: Global) -> Result<Command<'a>, AllocError> {
         .arg(flag(alloc, "use-first", "Take the first translation"))
 }
 
+/// The command `gettext` with its options and arguments.
 fn gettext<'a>(alloc: Global) -> Result<Command<'a>, AllocError> {
     look_up(alloc, "gettext", "Prints the translation of a message")?
         .after_help(help::GETTEXT)
@@ -213,6 +218,7 @@ fn gettext<'a>(alloc: Global) -> Result<Command<'a>, AllocError> {
         ))
 }
 
+/// The command `ngettext` with its options and arguments.
 fn ngettext<'a>(alloc: Global) -> Result<Command<'a>, AllocError> {
     look_up(
         alloc,
@@ -224,6 +230,7 @@ fn ngettext<'a>(alloc: Global) -> Result<Command<'a>, AllocError> {
     .arg(forms(alloc, "MSGID"))
 }
 
+/// The command `envsubst` with its options and arguments.
 fn envsubst<'a>(alloc: Global) -> Result<Command<'a>, AllocError> {
     Command::new(alloc, "envsubst")
         .about("Puts the values of variables into standard input")
@@ -238,7 +245,7 @@ fn envsubst<'a>(alloc: Global) -> Result<Command<'a>, AllocError> {
         .short('v'))
 }
 
-// What gettext and ngettext share.
+/// What gettext and ngettext share.
 fn look_up<'a>(alloc: Global, name: &'a str, about: &'a str) -> Result<Command<'a>, AllocError> {
     Command::new(alloc, name)
         .about(about)
@@ -258,7 +265,7 @@ fn look_up<'a>(alloc: Global, name: &'a str, about: &'a str) -> Result<Command<'
         ))
 }
 
-// The files of a tool that takes one or more.
+/// The files of a tool that takes one or more.
 fn files<'a>(alloc: Global, help: &'a str) -> Arg<'a> {
     Arg::new(alloc, "FILE")
         .help(help)
@@ -267,7 +274,7 @@ fn files<'a>(alloc: Global, help: &'a str) -> Arg<'a> {
         .required(true)
 }
 
-// The arguments of a tool that takes them in several forms, which the end of its help lists.
+/// The arguments of a tool that takes them in several forms, which the end of its help lists.
 fn forms<'a>(alloc: Global, id: &'a str) -> Arg<'a> {
     Arg::new(alloc, id)
         .action(ArgAction::Append)
@@ -275,7 +282,7 @@ fn forms<'a>(alloc: Global, id: &'a str) -> Arg<'a> {
         .hide(true)
 }
 
-// An option `--id NAME`.
+/// An option `--id NAME`.
 fn value<'a>(alloc: Global, id: &'a str, name: &'a str, help: &'a str) -> Arg<'a> {
     Arg::new(alloc, id)
         .long(id)
@@ -284,7 +291,7 @@ fn value<'a>(alloc: Global, id: &'a str, name: &'a str, help: &'a str) -> Arg<'a
         .action(ArgAction::Set)
 }
 
-// An option `--id` without a value.
+/// An option `--id` without a value.
 fn flag<'a>(alloc: Global, id: &'a str, help: &'a str) -> Arg<'a> {
     Arg::new(alloc, id)
         .long(id)
@@ -292,7 +299,7 @@ fn flag<'a>(alloc: Global, id: &'a str, help: &'a str) -> Arg<'a> {
         .action(ArgAction::SetTrue)
 }
 
-// An option of one letter, without a long name.
+/// An option of one letter, without a long name.
 fn switch<'a>(alloc: Global, id: &'a str, letter: char, help: &'a str) -> Arg<'a> {
     Arg::new(alloc, id)
         .short(letter)

@@ -1,11 +1,11 @@
-// The arguments, which are text, and the environment's variables, whose values are bytes and needn't
-// be text.
+//! The arguments, which are text, and the environment's variables, whose values are bytes and needn't
+//! be text.
 use po_shell::Environment;
 use po_tools::ProgramFault;
 use std::alloc::{AllocError, Global};
 use std::env::{Env, FillError};
 
-// What of the environment is asked for.
+/// What of the environment is asked for.
 #[derive(Clone, Copy)]
 enum Query<'a> {
     Variable(&'a str),
@@ -54,7 +54,7 @@ impl Variables {
     }
 }
 
-// The value of the variable of this name, where it is set.
+/// The value of the variable of this name, where it is set.
 fn variable(alloc: Global, env: &impl Env, name: &str) -> Result<Option<Vec<u8>>, AllocError> {
     ask(alloc, env, Query::Variable(name))
 }
@@ -91,6 +91,7 @@ pub(crate) fn arguments(
     Ok(arguments)
 }
 
+/// The bytes of the variable, lent, where it is set.
 fn bytes(value: &Option<Vec<u8>>) -> Option<&[u8]> {
     match value {
         Some(value) => Some(value.as_slice()),
@@ -98,7 +99,7 @@ fn bytes(value: &Option<Vec<u8>>) -> Option<&[u8]> {
     }
 }
 
-// Doubles the room until the answer fits.
+/// Doubles the room until the answer fits.
 fn ask(alloc: Global, env: &impl Env, query: Query<'_>) -> Result<Option<Vec<u8>>, AllocError> {
     let mut capacity = FIRST_CAPACITY;
     for _ in 0..usize::BITS {
@@ -115,6 +116,7 @@ fn ask(alloc: Global, env: &impl Env, query: Query<'_>) -> Result<Option<Vec<u8>
     Err(AllocError)
 }
 
+/// Puts the answer into the room, and returns its length.
 fn fill(env: &impl Env, query: Query<'_>, room: &mut [u8]) -> Result<usize, FillError> {
     match query {
         Query::Variable(name) => env.var(name, room),

@@ -1,4 +1,4 @@
-// Inputs by their names, and outputs.
+//! Inputs by their names, and outputs.
 use po_shell::Counted;
 use po_tools::{InputSource, ProgramFault, Run, Unread, deliver, read_whole};
 use std::alloc::Global;

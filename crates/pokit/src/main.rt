@@ -1,4 +1,9 @@
 //! `pokit`: the GNU gettext catalogue tools in one program, a subcommand for each.
+//!
+//! Only this crate touches arguments, files, streams and the environment; what a tool does stands
+//! in po_tools. The modules in reading order: `streams`, `environment`, `commands`, `help`,
+//! `usage`, `options`, `files`, `catalogues`, `tools`.
+
 #![tactic(auto)]
 
 mod catalogues;
@@ -30,6 +35,7 @@ fn main(rt: HostRuntime) -> ExitCode {
     }
 }
 
+/// Parses the arguments and runs the tool; help and usage faults are written here.
 fn run(rt: &HostRuntime, arguments: &[&str]) -> ExitCode {
     let first = arguments
         .get(1)
@@ -54,6 +60,7 @@ fn run(rt: &HostRuntime, arguments: &[&str]) -> ExitCode {
     }
 }
 
+/// Runs the tool that the first argument names.
 fn run_tool(rt: &HostRuntime, matches: &ArgMatches<'_>) -> ExitCode {
     let Some((tool, matches)) = matches.subcommand() else {
         return ExitCode::FAILURE;
@@ -74,13 +81,14 @@ fn run_tool(rt: &HostRuntime, matches: &ArgMatches<'_>) -> ExitCode {
     }
 }
 
-// Reports a fault. Where that fails too, the status alone reports it.
+/// Reports a fault. Where that fails too, the status alone reports it.
 fn report_fault(rt: &HostRuntime, tool: Option<&str>, fault: ProgramFault<'_>) -> ExitCode {
     let mut errors = Counted::new(rt.stderr());
     let _ = po_tools::report_fault(rt.alloc(), &mut errors, tool, fault);
     ExitCode::FAILURE
 }
 
+/// Status 0 if it is well, else 1.
 fn exit_code(is_well: bool) -> ExitCode {
     if is_well {
         ExitCode::SUCCESS

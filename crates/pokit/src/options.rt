@@ -1,4 +1,4 @@
-// The options of a command line, as `clap` has parsed them.
+//! The options of a command line, as `clap` has parsed them.
 use clap::ArgMatches;
 use po_tools::Arguments;
 

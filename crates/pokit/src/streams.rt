@@ -1,5 +1,5 @@
-// Standard streams that are closed. The next file to be opened would get the number of one, and
-// what is meant for the stream would go into the file.
+//! Standard streams that are closed. The next file to be opened would get the number of one, and
+//! what is meant for the stream would go into the file.
 use std::os::fd::{AsFd, AsRawFd, IntoRawFd};
 use std::{fs, io};
 
@@ -24,6 +24,7 @@ pub(crate) fn hold_closed(rt: &HostRuntime) -> io::Result<()> {
     Ok(())
 }
 
+/// Whether the stream is open: only then can its number be duplicated.
 fn is_open(stream: &impl AsFd) -> bool {
     stream.as_fd().try_clone_to_owned().is_ok()
 }

@@ -1,4 +1,4 @@
-// Faults of the command line, in clap's arguments, with the advice that fits the tool.
+//! Faults of the command line, in clap's arguments, with the advice that fits the tool.
 use clap::Error;
 use std::alloc::{AllocError, Global};
 
@@ -6,7 +6,7 @@ const UNKNOWN: &str = "error: unexpected argument '";
 
 const AS_A_VALUE: &str = "  tip: to pass '";
 
-// Options of GNU's msgfmt that check a text, or show its version.
+/// Options of GNU's msgfmt that check a text, or show its version.
 static CHECKS: [&str; 8] = [
     "-c'",
     "-C'",
@@ -73,10 +73,12 @@ pub(crate) fn text_of(
     Ok(text)
 }
 
+/// Whether the arguments of the tool are files.
 fn takes_files(tool: &str) -> bool {
     matches!(tool, "msgfmt" | "msgunfmt" | "msgattrib" | "msgcat")
 }
 
+/// Whether the fault is of an option of GNU's that checks a text or shows the version.
 fn asks_for_check(text: &str) -> bool {
     match text.strip_prefix(UNKNOWN) {
         Some(option) => CHECKS.iter().any(|check| option.starts_with(*check)),

@@ -186,7 +186,7 @@ fn refused_entries(rt: HostRuntime) -> Result<(), Fail> {
     Ok(())
 }
 
-// A text of 2^31 bytes is refused before any of its bytes is looked at.
+/// A text of 2^31 bytes is refused before any of its bytes is looked at.
 #[test]
 fn too_large(rt: HostRuntime) -> Result<(), Fail> {
     let zeros = vec![in rt.alloc(); 0u8; 1 << 16]?;

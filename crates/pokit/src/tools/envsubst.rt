@@ -1,4 +1,4 @@
-// Puts the values of variables into a text.
+//! Puts the values of variables into a text.
 use crate::environment::entries;
 use clap::ArgMatches;
 use po_shell::{
@@ -30,11 +30,13 @@ pub(crate) fn run<'a, R: Env + Input + Print>(
     Ok(0)
 }
 
+/// Prints the names of the variables in a SHELL-FORMAT.
 fn print_names(alloc: Global, rt: &impl Print, format: &str) -> Result<(), ToolFault> {
     let lines = name_lines(alloc, format.as_bytes())?;
     put_all(&mut Counted::new(io::writer(rt)), lines.as_slice())
 }
 
+/// Copies standard input to standard output, with the values of variables.
 fn substitute<R: Env + Input + Print>(
     alloc: Global,
     rt: &R,

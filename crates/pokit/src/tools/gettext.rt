@@ -1,4 +1,4 @@
-// Looks messages up.
+//! Looks messages up.
 use crate::catalogues;
 use crate::files::write_run;
 use clap::ArgMatches;

@@ -1,4 +1,4 @@
-// Selects entries of a PO text and changes them.
+//! Selects entries of a PO text and changes them.
 use crate::files::{read_one, write_run};
 use crate::options::Options;
 use clap::ArgMatches;

@@ -1,4 +1,4 @@
-// Merges PO texts.
+//! Merges PO texts.
 use crate::files::{System, write_run};
 use crate::options::Options;
 use clap::ArgMatches;

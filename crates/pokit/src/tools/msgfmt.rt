@@ -1,4 +1,4 @@
-// Compiles PO texts.
+//! Compiles PO texts.
 use crate::commands::DEFAULT_OUTPUT;
 use crate::files::{System, write_run};
 use crate::options::Options;

@@ -1,4 +1,4 @@
-// Looks up a message with a count.
+//! Looks up a message with a count.
 use crate::catalogues;
 use crate::files::write_run;
 use clap::ArgMatches;
