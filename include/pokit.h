@@ -210,7 +210,7 @@ static inline const char *pokit_gettext(const pokit_catalog *catalog, const char
     return pokit_npgettext(catalog, NULL, msgid, NULL, 1);
 }
 
-/* The words for a fault. */
+/* The text of a fault. */
 static inline const char *pokit_error_text(enum pokit_error error)
 {
     switch (error) {

@@ -217,7 +217,7 @@ static void damaged(int big)
             exit(2);
         memcpy(bytes, whole.bytes, len);
         error = pokit_open(&other, bytes, len, NULL);
-        check(error >= POKIT_TOO_SHORT && error <= POKIT_NOT_SORTED, "a front of a file");
+        check(error >= POKIT_TOO_SHORT && error <= POKIT_NOT_SORTED, "a prefix of a file");
         free(bytes);
     }
     /* a byte changed anywhere: refused, or answered within the file */
