@@ -1,6 +1,6 @@
 //! Every truncation of some texts, and every change of one byte to one that the format gives a meaning to. The first
-//! fault of the items is reported, and what is accepted is written so that it reads back: the live entries in order, then
-//! the obsolete ones.
+//! fault of the items is reported, and what is accepted is written so that it reads back: the live entries in order,
+//! then the obsolete ones.
 
 mod first_fault;
 
@@ -15,7 +15,7 @@ use std::test::Fail;
 /// The bytes that a change puts in a byte's place.
 const CHANGES: &[u8] = b"\"\\#\n\0\xff";
 
-/// Whether entries, from this place of a catalogue on, are those of a list with this obsolete mark.
+/// Whether entries, from this index of a catalogue on, are those of a list with this obsolete mark.
 fn stand_from(place: usize, catalogue: &[Entry], list: &[Entry], obsolete: bool) -> Option<usize> {
     let mut at = place;
     for entry in list {

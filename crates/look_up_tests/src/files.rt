@@ -124,7 +124,7 @@ fn reports_the_byte_order(rt: HostRuntime) {
     }
 }
 
-/// A place in the file of one message, the bytes that are put there, and how many messages it has then or its fault.
+/// An offset in the file of one message, the bytes that are put there, and how many messages it has then or its fault.
 const CHANGES: &[(usize, &[u8], Result<u32, MoError>)] = &[
     (48, &[], Ok(1)),
     (0, &[0xdf, 0x12, 0x04, 0x95], Err(MoError::BadMagic)),

@@ -40,7 +40,7 @@ type Query = (
 /// How many messages a file has, the most comparisons of opening it, the source of its rule, and queries to it.
 type Opened = (u32, u64, Source, &'static [Query]);
 
-/// The place of the first query that isn't answered as it says, or their number where the file isn't as it should be.
+/// The index of the first query that isn't answered as it says, or their number where the file isn't as it should be.
 fn first_wrong(bytes: &[u8], (count, most, source, queries): Opened) -> Option<usize> {
     let mut meter = Meter::new();
     let Ok(catalog) = Catalog::open(bytes, &mut meter) else {
@@ -115,7 +115,7 @@ const LETTERS: &[(&[u8], &[u8])] = &[
     (b"p", b"p"),
 ];
 
-/// The place of a letter among so many keys.
+/// The index of a letter among so many keys.
 fn place_of(letter: u8, count: usize) -> Option<u32> {
     let place = letter.saturating_sub(b'b') / 2;
     if letter % 2 == 0 && usize::from(place) < count {
@@ -212,7 +212,7 @@ type ChainQuery = (
     u32,
 );
 
-/// The place of the first query that the chain doesn't answer as it says.
+/// The index of the first query that the chain doesn't answer as it says.
 fn first_wrong_of_chain(members: &[Catalog<'_>], queries: &[ChainQuery]) -> Option<usize>
     requires { length members.now < 2 ^ 32 }
 {

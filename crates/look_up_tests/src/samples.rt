@@ -33,7 +33,7 @@ pub(crate) const CONTEXTS: [u8; 91] = [
     0, b'1', 0, b'2', 0, b'3', 0,
 ];
 
-/// Writes bytes into a file, from a place on.
+/// Writes bytes into a file, from an offset on.
 pub(crate) fn put(file: &mut [u8], at: usize, bytes: &[u8]) {
     for (i, byte) in bytes.iter().enumerate() {
         if let Some(place) = file.get_mut(at.saturating_add(i)) {

@@ -56,7 +56,7 @@ less_settled Less = inr (λ other. other refl)
 less_settled Equal = inl (λ e. cc)
 less_settled Greater = inl (λ e. cc)
 
--- the first place below n at which P holds, or none
+-- the first index below n at which P holds, or none
 abbrev FirstBelow : (ℕ → Type 0) → ℕ → Type 0
 FirstBelow P n = ((k : ℕ) → k < n → P k → ⊥) ⊎ ((i : ℕ) × (i < n) × P i × ((k : ℕ) → k < i → P k → ⊥))
 
@@ -74,7 +74,7 @@ first_below P each (suc n) = elim (first_below P each n) [
   ]
 ]
 
--- the fault of a kind at a place
+-- the fault of a kind at an index
 abbrev fault_of : ℕ → ℕ → MoError
 fault_of k i =
     cond (k == 1) TooShort (cond (k == 2) BadMagic (cond (k == 3) BadRevision (cond (k == 4) TableOutside

@@ -13,7 +13,7 @@ use Rattle.mo_file.specs.StringTable.{end_at, offset_at, string_at}
 use Rattle.mo_file.specs.Layout.{table, terminated}
 use Rattle.mo_file.proofs.BuildLemmas.{length-word_bytes, length-table}
 
--- a part of a file stands at a place
+-- a part of a file stands at an offset
 pub record StandsAt (bytes : List ℕ) (offset : ℕ) (part : List ℕ) : Type 0 where
   pub prefix : List ℕ
   pub rest : List ℕ
@@ -30,7 +30,7 @@ StandsAt-part prefix part rest stands is after = record {
   after = omega (arith, length-append stands.prefix prefix, stands.after);
 }
 
--- what stands at a place is found there
+-- what stands at an offset is found there
 drop-StandsAt : {bytes part : List ℕ} {offset : ℕ} (stands : StandsAt bytes offset part) →
     drop offset bytes ≡ part ++ stands.rest
 drop-StandsAt {offset = offset} stands = rw stands.is (drop_at stands.prefix _ offset stands.after)

@@ -20,7 +20,7 @@ use Rattle.mo_file.proofs.FaultLemmas.{faultless}
 use Rattle.mo_file.proofs.LayoutLemmas.{IsString, IsString-laid, StandsAt, word_at-StandsAt}
 use Rattle.mo_file.proofs.ViewLemmas.{keys-at, length-keys-messages_of, length-messages_of, messages_of-at}
 
--- two lists with the same message at each place
+-- two lists with the same message at each index
 same_at_each : (xs ys : List Message) → ((i : ℕ) → slice_get xs i ≡ slice_get ys i) → xs ≡ ys
 same_at_each [] [] same = refl
 same_at_each [] (y ∷ ys) same = let first = same 0 in cc

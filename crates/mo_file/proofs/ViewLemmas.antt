@@ -1,4 +1,4 @@
--- The messages of a file: how many they are, what stands at a place, and that their keys rise.
+-- The messages of a file: how many they are, what stands at an index, and that their keys rise.
 use Rattle.std.proofs.Common.{◌≡◌, ◌≢◌, ℕ, ◌+◌, ◌<◌, List, [], length, map, Some, refl, ◌∙◌, ap, arith}
 use Rattle.std.specs.List.{slice_get}
 use Rattle.std.specs.Option.{option_map}
@@ -33,7 +33,7 @@ module _ (order : Order) (bytes : List ℕ) where
       ∙ ap Some (get_or-map-range_with_len (message_at order bytes) 0 (message_count order bytes) i i (message_at order bytes i) lt (omega arith))
 
   module _ {A : Type 0} (f : Message → A) where
-    -- what is read of each message, at a place
+    -- what is read of each message, at an index
     pub map-messages_of-at : (i : ℕ) → i < message_count order bytes →
         slice_get (map f (messages_of order bytes)) i ≡ Some (f (message_at order bytes i))
     map-messages_of-at i lt = slice_get-map f (messages_of order bytes) i ∙ ap (option_map f) (messages_of-at i lt)

@@ -25,7 +25,7 @@ pub record HasStrings (order : Order) (bytes : List ℕ) : Type 0 where
 abbrev pub IsSortedBelow : Order → List ℕ → ℕ → Type 0
 IsSortedBelow order bytes n = (i : ℕ) → i + 1 < n → ¬ IsUnsorted order bytes i
 
--- the first place below n at which P holds
+-- the first index below n at which P holds
 abbrev pub IsFirstBelow : (ℕ → Type 0) → ℕ → Option ℕ → Type 0
 IsFirstBelow P n None = (k : ℕ) → k < n → ¬ P k
 IsFirstBelow P n (Some i) = (i < n) × P i × ((k : ℕ) → k < i → ¬ P k)

@@ -28,7 +28,7 @@ key_cmp x y = slice_cmp nat_cmp x y
 abbrev pub keys : List Message → List (List ℕ)
 keys messages = map (λ m. key_of m.original) messages
 
--- the key at a place
+-- the key at an index
 abbrev pub key_at : List (List ℕ) → ℕ → List ℕ
 key_at ks i = slice_index_or ks i []
 

@@ -11,12 +11,12 @@ abbrev pub terminated : List (List ℕ) → List ℕ
 terminated [] = []
 terminated (s ∷ ss) = (s ++ 0 ∷ []) ++ terminated ss
 
--- the lengths and offsets of strings of which the first stands at this place
+-- the lengths and offsets of strings of which the first stands at this offset
 abbrev pub table : Order → ℕ → List (List ℕ) → List ℕ
 table order at [] = []
 table order at (s ∷ ss) = (word_bytes order (length s) ++ word_bytes order at) ++ table order (at + length s + 1) ss
 
--- revision 0, the number of messages, the places of the two tables, and a hash table of no entries
+-- revision 0, the number of messages, the offsets of the two tables, and a hash table of no entries
 -- where the strings begin
 abbrev pub header : Order → ℕ → List ℕ
 header order count =

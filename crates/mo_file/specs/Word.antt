@@ -4,7 +4,7 @@ use Rattle.byteorder.specs.Endian.{big_bytes, big_number, little_bytes, little_n
 use Rattle.mo_file.specs.declared.byte_order.Order.{Order}
 use Rattle.mo_file.specs.declared.byte_order.Order.TheVariants.{Little, Big}
 
--- the word that stands at a place
+-- the word that stands at an offset
 unfoldable pub word_at : Order → List ℕ → ℕ → ℕ
 word_at Little bytes at = little_number 4 (drop at bytes)
 word_at Big bytes at = big_number 4 (drop at bytes)

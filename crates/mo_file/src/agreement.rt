@@ -57,7 +57,7 @@ fn agreement_within<const LANES: usize>(stop: u8, first: &[u8], second: &[u8], l
     last + agreement_at::<LANES>(stop, first, second, last)
 }
 
-/// How many of the `LANES` bytes from a place are the same in both texts, up to the first that is `stop`.
+/// How many of the `LANES` bytes from an index on are the same in both texts, up to the first that is `stop`.
 #[inline(always)]
 fn agreement_at<const LANES: usize>(stop: u8, first: &[u8], second: &[u8], at: usize) -> usize
     requires lanes { LANES ≤ 64 }
@@ -83,7 +83,7 @@ fn first_set(mask: u64, lanes: usize) -> usize
     }
 }
 
-/// The byte at a place of a text, or 0 after its end, as where a NUL ends it.
+/// The byte at an index of a text, or 0 after its end, as where a NUL ends it.
 #[inline(always)]
 pub(crate) fn byte_at(text: &[u8], at: usize) -> u8
     ensures { result ≡ slice_index text.now at }
@@ -91,7 +91,7 @@ pub(crate) fn byte_at(text: &[u8], at: usize) -> u8
     text.get(at).copied().unwrap_or(0)
 }
 
-/// The place of the first byte of a text that is this one. A text agrees with itself up to there.
+/// The index of the first byte of a text that is this one. A text agrees with itself up to there.
 #[inline(always)]
 pub fn find_byte(byte: u8, text: &[u8]) -> Option<usize>
     ensures { IsFirstByte (is_byte byte) text.now result }

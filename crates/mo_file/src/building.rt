@@ -23,7 +23,7 @@ pub enum BuildError {
     /// The keys of the pairs don't rise strictly by unsigned bytes, a prefix before what is longer.
     #[error("not sorted by key")]
     NotSorted,
-    /// There is no memory for the file.
+    /// An allocation failed.
     #[error("out of memory")]
     OutOfMemory,
 }
@@ -59,7 +59,7 @@ pub fn build(alloc: Global, order: Order, pairs: &[Pair]) -> Result<Vec<u8>, Bui
     Ok(laid_out(alloc, order, &lent, len as u32)?)
 }
 
-/// The MO file of pairs whose keys rise, as [`build`] lays it out. It asks nothing of the keys again,
+/// The MO file of pairs whose keys rise, as [`build`] lays it out. It doesn't check the keys again,
 /// and reads each string once.
 pub fn build_sorted(
     alloc: Global,

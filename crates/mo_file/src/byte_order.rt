@@ -51,7 +51,7 @@ impl Order {
     }
 }
 
-/// The word at a place.
+/// The word at an offset.
 #[tactic(auto, unfolding(crate::specs::Word::word_at))]
 pub(crate) fn word(order: Order, bytes: &[u8], at: usize) -> u32
     requires { at + 4 ≤ length bytes.now }

@@ -33,7 +33,7 @@ pub(crate) fn push_header(out: &mut Vec<u8>, order: Order, count: u32) -> Result
     push_word(out, order, originals_offset(count))
 }
 
-/// Appends the table of strings of which the first is to stand at a place, and gives the place after
+/// Appends the table of strings of which the first is to stand at an offset, and gives the offset after
 /// the NUL of the last.
 pub(crate) fn push_table(
     out: &mut Vec<u8>,

@@ -13,14 +13,14 @@ use Rattle.mo_lookup.specs.Answer.{answer, translated, untranslated, untranslate
 use Rattle.mo_lookup.specs.Contents.{Contents, forms, forms_found, answered, translation_under}
 use Rattle.mo_lookup.specs.Chain.{answering_nodes, asked, chain_bound, chain_answered, has_key, IsFirstWith, translates}
 
--- the catalogues before a place don't have the key, and were asked within their bounds
+-- the catalogues before an index don't have the key, and were asked within their bounds
 pub record HaveNot (key : List ℕ) (chain : List Contents) (index began counted : ℕ) : Type 0 where
   pub first : index + position_or_len (has_key key) (drop index chain) ≡ position_or_len (has_key key) chain
   pub rises : began ≤ counted
   pub bound : counted ≤ began + chain_bound (take index chain)
   pub small : counted ≤ began + 32 * index
 
--- where the test holds of the element at a place, and of none before, that place is the first
+-- where the test holds of the element at an index, and of none before, that index is the first
 first-at : (test : Contents → Bool) (chain : List Contents) (index : ℕ) (contents : Contents) →
     index + position_or_len test (drop index chain) ≡ position_or_len test chain → index < length chain →
     contents ≡ get_or chain index contents → test contents ≡ true → index ≡ position_or_len test chain

@@ -1,4 +1,4 @@
--- The translation under a key, by the place of the key among rising keys.
+-- The translation under a key, by the index of the key among rising keys.
 use Rattle.std.proofs.Common.{◌≡◌, ◌≢◌, ℕ, ◌<◌, true, false, List, [], ◌∷◌, Option, None, Some, length, subst, get_or, slice_get, sym, ◌∙◌, ap, inl, inr, arith}
 use Rattle.std.specs.declared.cmp.Ordering.TheVariants.{Less, Equal}
 use Rattle.std.specs.List.{position_or_len}
@@ -39,7 +39,7 @@ tested-same messages key i inside same =
     let decides = bytes_eq-Decides (key_of (get_or messages i no_message).original) key in
     decides.1 (sym (key_at-original messages i inside) ∙ same)
 
--- what is found is the message at the place of the first key that is the one
+-- what is found is the message at the index of the first key that is the one
 under-index : (messages : List Message) (key : List ℕ) (index : ℕ) → position_or_len (λ m. bytes_eq (key_of m.original) key) messages ≡ index →
     translation_under key messages ≡ slice_get (translations messages) index
 under-index messages key index first =

@@ -39,7 +39,7 @@ answering_nodes chain query = option_map_or (λ contents. nodes contents.rule.tr
 abbrev pub has_key : List ℕ → Contents → Bool
 has_key key contents = is_some (translation_under key contents.messages)
 
--- internal: the first catalogue of a chain that has a key, its place, and its translation under the key
+-- internal: the first catalogue of a chain that has a key, its index, and its translation under the key
 pub record IsFirstWith (key : List ℕ) (chain : List Contents) (index : ℕ) (contents : Contents) (translation : List ℕ) : Type 0 where
   pub first : index ≡ position_or_len (has_key key) chain
   pub there : slice_get chain index ≡ Some contents

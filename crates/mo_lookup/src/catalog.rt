@@ -66,7 +66,7 @@ fn header_text<'a>(view: &MoView<'a>, meter: &mut Meter) -> &'a [u8]
 impl<'a> Catalog<'a> {
     /// Opens the bytes of an MO file in either byte order. They are checked whole, and refused with the first fault
     /// in the order of `MoError` exactly where they are no valid file. The meter rises by at most the number of
-    /// messages; where a key is out of order, by at most the place of the message that is reported; else where the
+    /// messages; where a key is out of order, by at most the index of the message that is reported; else where the
     /// bytes are refused, not at all. Before the call its count is below 2^63.
     #[inline(always)]
     pub fn open(bytes: &'a [u8], meter: &mut Meter) -> Result<Catalog<'a>, MoError>

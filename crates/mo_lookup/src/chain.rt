@@ -23,7 +23,7 @@ pub struct ChainAnswer<'q> {
     pub comparisons: u64,
     /// How many nodes of the answering catalogue's plural expression were evaluated.
     pub steps: u32,
-    /// How many catalogues were asked: with a translation, the place of the one that has it, counted from 1.
+    /// How many catalogues were asked: with a translation, the number of the one that has it, counted from 1.
     pub asked: u32,
 }
 
@@ -108,7 +108,7 @@ impl<'c, 'a> Chain<'c, 'a> {
     }
 }
 
-/// The first catalogue that has a key, its place counted from 0, and its translation under the key.
+/// The first catalogue that has a key, its index counted from 0, and its translation under the key.
 #[derive(Drop)]
 struct First<'c, 'a> {
     index: u32,

@@ -38,7 +38,7 @@ pub trait Keys {
         ensures { result ≡ counted self.now };
 }
 
-/// The place of the key of `context` and `id`, found by halves, or None where no key is it. It makes at most one
+/// The index of the key of `context` and `id`, found by halves, or None where no key is it. It makes at most one
 /// comparison for each time that the number of keys can be halved.
 pub fn find<K: Keys>(keys: &mut K, context: Option<&[u8]>, id: &[u8]) -> Option<u32>
     requires { K.counted keys.old < 2 ^ 63 }

@@ -1,4 +1,4 @@
--- The first place of a name in a text.
+-- The first occurrence of a name in a text.
 use Rattle.std.proofs.Common.{◌≡◌, ℕ, zero, suc, ◌+◌, ◌-◌, ◌<◌, Bool, true, false, not, nat_eq, inl, inr, List, [], ◌∷◌, length, take, drop, Some, None, refl, ap, ◌∙◌, arith, length-append, length-drop}
 use Rattle.std.specs.List.{starts_with, before_first}
 use Rattle.std.proofs.Math.Seq.{take-append_seam}
@@ -54,7 +54,7 @@ after_first-some name (c ∷ rest) (suc k) some h none =
           ∙ ap (λ n. Some (drop n (c ∷ rest))) sum)
     ]
 
--- the part of a text from a place on
+-- the part of a text from an index on
 pub rest_from : (text : List ℕ) (n : ℕ) → take (length text - n) (drop n text) ≡ drop n text
 rest_from text n = take_all _ _ (omega (arith, length-drop n text))
 

@@ -4,7 +4,7 @@ use Rattle.std.specs.Prelude.{ℕ, Bool, ◌||◌, ◌==◌, nat_eq, List, [], �
 use Rattle.std.specs.List.{starts_with, prefix_len, before_first}
 use Rattle.plural_rule.specs.Tokens.{is_blank, is_digit, decimal_value}
 
--- what stands after the first place of a name in a text
+-- what stands after the first occurrence of a name in a text
 abbrev pub after_first : List ℕ → List ℕ → Option (List ℕ)
 after_first name [] = None
 after_first name (c ∷ rest) = if starts_with nat_eq (c ∷ rest) name then Some (drop (length name) (c ∷ rest)) else after_first name rest

@@ -81,7 +81,7 @@ with_nodes-post_order (Conditional a b c) base trees rest =
     ∙ ap (with_nodes (b ∷ a ∷ trees)) (append_assoc third (last ∷ []) rest)
     ∙ with_nodes-post_order c (base + nodes a + nodes b) (b ∷ a ∷ trees) (last ∷ rest)
 
--- a table holds the one tree of which it is the layout
+-- a table holds the one tree of which it is the post-order
 pub tree_of-post_order : (t : Tree) (base : ℕ) → tree_of (post_order base t) ≡ t
 unfolding tree_of
 tree_of-post_order t base =

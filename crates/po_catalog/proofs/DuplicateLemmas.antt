@@ -21,7 +21,7 @@ use Rattle.po_catalog.specs.Duplicate.{IsSameMessage, AllDiffer, HasNoDuplicate,
 use Rattle.po_catalog.specs.declared.duplicate.JoinError.{JoinError}
 use Rattle.po_syntax.specs.declared.fault.PoFault.TheVariants.{Duplicate}
 
--- a duplicate at these places
+-- a duplicate at these indices
 abbrev error_at : ℕ → ℕ → ℕ → ℕ → JoinError
 error_at input first_input line at = record { input = input; first_input = first_input; error = record { kind = Duplicate line; line = at } }
 

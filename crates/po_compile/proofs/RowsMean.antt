@@ -44,7 +44,7 @@ row_in use_fuzzy (first ∷ live) (suc i) d bytes inside e =
     let later = row_in use_fuzzy live i d bytes (omega (arith, inside)) e in
     (later.0, rw add-one (rw add-one at (ap (λ es. first ∷ es) later.1)), rw add-one (rw add-one at later.2))
 
--- the row of the entry at a place
+-- the row of the entry at an index
 pub row_at : (use_fuzzy : Bool) (live : List TextEntry) (all : List Lengths) (i : ℕ) (d : Lengths) (bytes : List ℕ) → all ≡ map (lengths_of use_fuzzy) live → i < length all → bytes ≡ flat_map message_bytes (drop i live)
     → (entry : TextEntry) × (take (i + 1) live ≡ take i live ++ entry ∷ []) × RowMade use_fuzzy (get_or all i d) bytes (flat_map message_bytes (drop (i + 1) live)) entry
 row_at use_fuzzy live all i d bytes is inside e =

@@ -3,7 +3,7 @@ ghost use Rattle.po_compile.specs.Prefix.{prefix_of, second_of};
 
 const PREFIX_LEN: usize = 16;
 
-/// The byte at a place, and 0 after the last.
+/// The byte at an index, and 0 after the last.
 fn byte_at(text: &[u8], place: usize) -> u8
     ensures { result ≡ slice_index_or text.now place 0 }
 {

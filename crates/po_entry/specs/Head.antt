@@ -19,7 +19,7 @@ pub record PreviousText : Type 0 where
   pub keyword : Keyword
   pub text : List ℕ
 
--- The place of a keyword among the previous texts: each stands at most once, and in this order. The others, of rank 0, are no previous texts.
+-- The rank of a keyword among the previous texts: each stands at most once, and in this order. The others, of rank 0, are no previous texts.
 abbrev pub rank : Keyword → ℕ
 rank MsgCtxt = 1
 rank MsgId = 2

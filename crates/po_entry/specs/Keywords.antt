@@ -1,4 +1,4 @@
--- The words of an entry's own lines, each with its text (manual, "The Format of PO Files").
+-- The keywords of an entry's own lines, each with its text (manual, "The Format of PO Files").
 use Rattle.std.specs.Prelude.{◌≡◌, ℕ, Bool, true, false, ◌==◌, List, [], ◌∷◌, if◌then◌else◌}
 use Rattle.po_syntax.specs.declared.fault.PoFault.{PoFault}
 use Rattle.po_syntax.specs.declared.fault.PoFault.TheVariants.{BadOrder, BadPluralIndex, MixedObsolete}

@@ -86,7 +86,7 @@ impl Catalogue {
         }
     }
 
-    /// Moves the entries of another catalogue after its own. Where memory is out, it stays as it was.
+    /// Moves the entries of another catalogue after its own. Where an allocation fails, it stays as it was.
     pub fn append(&mut self, mut other: Catalogue) -> Result<(), AllocError>
         ensures ok { OnOk result (self.new ≡ self.old ++ other) }
         ensures unchanged { OnErr result (self.new ≡ self.old) }

@@ -47,7 +47,7 @@ groups_valid es h = All-map IsGroup (group_of same_message es) F (λ k d below. 
     valid = All-filter (λ e. same_message e f) IsDefinition es h;
   }
 
--- the group at a place
+-- the group at an index
 pub group_at : (gs : List (Vec Definition)) (i : ℕ) (g : Vec Definition) → i < length gs → g ≡ get_or gs i g → All IsGroup (group_entries gs) → IsGroup (named_entries g.items)
 group_at gs i g below at all =
     let f : Vec Definition → List NamedEntry = λ v. named_entries v.items in

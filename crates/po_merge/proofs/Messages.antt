@@ -54,7 +54,7 @@ option_or_none : (r : Option ℕ) → option_or r None ≡ r
 option_or_none None = refl
 option_or_none (Some i) = refl
 
--- the places, with that of one more message after the others
+-- the indices, with that of one more message after the others
 pub places_more : (old new : Message → Option ℕ) (m : Message) (e : NamedEntry) (fs : List NamedEntry) → IsMessage m e
     → ((q : Message) → old q ≡ index (is_message_of q) fs) → old m ≡ None
     → ((q : Message) → new q ≡ cond (is_at (message_cmp m) q) (Some (length fs)) (old q))

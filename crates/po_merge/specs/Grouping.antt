@@ -46,7 +46,7 @@ index test (x ∷ xs) = cond (test x) (Some 0) (option_map suc (index test xs))
 abbrev pub group_entries : List (Vec Definition) → List (List NamedEntry)
 group_entries all = map (λ group. named_entries group.items) all
 
--- these are the groups of the entries, and each message has the place of its group
+-- these are the groups of the entries, and each message has the index of its group
 pub record IsGrouped (grouped : Grouped) (entries : List NamedEntry) : Type 0 where
   pub are_groups : group_entries grouped.groups.items ≡ groups entries
   pub are_places : (m : Message) → get message_cmp grouped.indices m ≡ index (is_message_of m) (first_ones same_message entries)

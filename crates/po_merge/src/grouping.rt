@@ -14,10 +14,10 @@ use std::collections::BTreeMap;
 /// The context and the msgid of a message.
 type Message<'a> = (Option<&'a [u8]>, &'a [u8]);
 
-/// Entries, grouped by their messages. The places are found by comparing, so that no choice of msgids makes them slow.
+/// Entries, grouped by their messages. The groups are found by comparing, so that no choice of msgids makes them slow.
 #[derive(Drop)]
 pub(crate) struct Groups<'a> {
-    /// The place of each message among the groups.
+    /// The index of each message's group.
     indices: BTreeMap<Message<'a>, usize>,
     /// The entries of each message, in the order in which the messages first appear.
     groups: Vec<Vec<Definition<'a>>>,

@@ -1,4 +1,4 @@
--- What is kept of the notes of entries, and of the entries.
+-- What is kept of the comments of entries, and of the entries.
 use Rattle.std.proofs.Common.{◌≡◌, ℕ, Bool, true, false, cond, List, [], ◌∷◌, filter, map, refl, sym, subst, ap, ◌∙◌}
 use Rattle.std.specs.Prelude.{All, flat_map, fold}
 use Rattle.std.specs.List.{list_any}
@@ -65,7 +65,7 @@ entry_with previous body comments extracted references flags = record {
   line = body.line;
 }
 
--- the entry that is made of the notes that are kept
+-- the entry that is made of the comments that are kept
 pub kept_from : (all : Bool) (comment_texts : List CommentText) (previous : List PreviousText) (body : Body) → entry_from (kept_comments all comment_texts) previous body ≡ kept_entry all (entry_from comment_texts previous body)
 kept_from true comment_texts previous body = refl
 kept_from false comment_texts previous body =

@@ -11,11 +11,11 @@ use Rattle.po_reader.specs.Viable.{last_line}
 pub drop_here : {X : Type 0} (xs : List X) (i : ℕ) (x : X) → i < length xs → x ≡ get_or xs i x → drop i xs ≡ x ∷ drop (i + 1) xs
 drop_here xs i x below is = rw add-one (drop-cons xs i x below ∙ ap (λ y. y ∷ drop (suc i) xs) (sym is))
 
--- one more element that was asked
+-- one more element that was checked
 pub asked_more : {X : Type 0} (P : X → Type 0) (xs : List X) (i : ℕ) (x : X) → i < length xs → x ≡ get_or xs i x → All P (take i xs) → P x → All P (take (i + 1) xs)
 asked_more P xs i x below is so_far here = All-more P xs i x below so_far (subst P is here)
 
--- all elements were asked
+-- all elements were checked
 pub asked_all : {X : Type 0} (P : X → Type 0) (xs : List X) (i : ℕ) → length xs ≤ i → All P (take i xs) → All P xs
 asked_all P xs i past so_far = rw take_all at so_far
 

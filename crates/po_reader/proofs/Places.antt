@@ -1,4 +1,4 @@
--- The items after a place.
+-- The items after an index.
 use Rattle.std.proofs.Common.{◌≡◌, ℕ, ◌-◌, ◌<◌, List, [], ◌∷◌, length, drop, refl, ap, arith, length-drop}
 use Rattle.std.proofs.lemmas.List.{length-map}
 use Rattle.po_syntax.specs.declared.item.Item.{Item}

@@ -106,7 +106,7 @@ pub stops_readable : {entries : List TextEntry} {fault : PoFault} {line : ℕ} �
 stops_readable (drafts.here {entry = spelt} {entries = entries} {fault = fault} f e) h = faults.here (fault_readable spelt fault (All-head SoundEntry spelt entries h) f) e
 stops_readable (drafts.later {entry = spelt} {entries = entries} t more) h = faults.later (texts_readable spelt t) (stops_readable more (All-tail SoundEntry spelt entries h))
 
--- the entries of drafts whose texts were asked
+-- the entries of drafts whose texts were checked
 pub drafts_valid : (made : List Fields) → All SoundEntry (map entry_view made) → All (λ draft. HasTexts (entry_view draft)) made → All (λ draft. IsEntry (entry_view draft)) made
 drafts_valid [] h t = All-nil (λ draft. IsEntry (entry_view draft))
 drafts_valid (draft ∷ made) h t =

@@ -15,7 +15,7 @@ abbrev pub kept_entry : Bool → TextEntry → TextEntry
 kept_entry true entry = entry
 kept_entry false entry = without_comments entry
 
--- all notes, or the flags alone
+-- all comments, or the flags alone
 abbrev pub kept_comments : Bool → List CommentText → List CommentText
 kept_comments true comment_texts = comment_texts
 kept_comments false comment_texts = filter (λ (comment_text : CommentText). same_kind Flags comment_text.kind) comment_texts

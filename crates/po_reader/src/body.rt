@@ -23,7 +23,7 @@ fn begins_form(items: &[Item<'_>], at: usize) -> bool
     }
 }
 
-/// The plural forms from index 0 on, and the place after them.
+/// The plural forms from index 0 on, and the index after them.
 fn forms_of(
     alloc: Global,
     items: &[Item<'_>],
@@ -58,7 +58,7 @@ fn forms_of(
 pub(crate) struct Translation {
     pub(crate) plural: Option<Vec<u8>>,
     pub(crate) forms: Vec<Vec<u8>>,
-    /// The place of the item after them.
+    /// The index of the item after them.
     pub(crate) after: usize,
 }
 
@@ -138,7 +138,7 @@ fn start_at(items: &[Item<'_>], at: usize) -> Option<Start>
     }
 }
 
-/// The own lines of an entry whose context and msgid stand before a place.
+/// The own lines of an entry whose context and msgid stand before an index.
 fn body_after(
     alloc: Global,
     items: &[Item<'_>],
@@ -164,7 +164,7 @@ fn body_after(
     }
 }
 
-/// The own lines of an entry from a place on, where they begin.
+/// The own lines of an entry from an index on, where they begin.
 pub(crate) fn body_of(
     alloc: Global,
     items: &[Item<'_>],

@@ -37,7 +37,7 @@ enum Step<'i> {
     Over,
 }
 
-/// The place of a keyword among the previous texts; 0 where it is none of theirs.
+/// The rank of a keyword among the previous texts; 0 where it is none of theirs.
 fn rank(keyword: Keyword) -> u32
     ensures { result ≡ rank keyword }
 {
@@ -142,8 +142,8 @@ fn set_previous(previous: &mut Previous, keyword: Keyword, text: Vec<u8>)
     }
 }
 
-/// What stands before an entry's own lines from a place on, all of it or without comments other than
-/// flags; and the place of those lines, or of the end of the items.
+/// What stands before an entry's own lines from an index on, all of it or without comments other than
+/// flags; and the index of those lines, or of the end of the items.
 pub(crate) fn head_of(
     alloc: Global,
     items: &[Item<'_>],

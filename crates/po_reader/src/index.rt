@@ -4,7 +4,7 @@ ghost use Rattle.po_reader.specs.Stops.{line_at};
 
 use po_syntax::{Item, PoError, PoFault};
 
-/// The item at a place, which may be the end of the items.
+/// The item at an index, which may be the end of the items.
 pub(crate) fn item_at<'i, 'a>(items: &'i [Item<'a>], at: usize) -> Option<&'i Item<'a>>
     requires { at ≤ length items.now }
     ensures item { MatchOption result (views (drop at items.now) ≡ []) (λ item. views (drop at items.now) ≡ view item.now ∷ views (drop (at + 1) items.now)) }
@@ -22,7 +22,7 @@ pub(crate) fn line_of(item: &Item<'_>) -> u32
     }
 }
 
-/// The line of the item at a place; at the end of the items `end`, the line of the last one.
+/// The line of the item at an index; at the end of the items `end`, the line of the last one.
 pub(crate) fn line_at(items: &[Item<'_>], at: usize, end: u32) -> u32
     requires { at ≤ length items.now }
     ensures { result ≡ line_at end (views (drop at items.now)) }
@@ -33,7 +33,7 @@ pub(crate) fn line_at(items: &[Item<'_>], at: usize, end: u32) -> u32
     }
 }
 
-/// The fault of the item at a place.
+/// The fault of the item at an index.
 pub(crate) fn refusal(items: &[Item<'_>], at: usize, end: u32, kind: PoFault) -> PoError
     requires { at ≤ length items.now }
     ensures kind { result.kind ≡ kind }

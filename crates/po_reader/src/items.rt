@@ -54,7 +54,7 @@ fn last_line(items: &[Item<'_>]) -> u32
     }
 }
 
-/// Whether entries can have the texts that were read for them, asked in their order.
+/// Whether entries can have the texts that were read for them, checked in their order.
 fn check_drafts(drafts: &[Fields]) -> Result<(), PoError>
     ensures ok { OnOk result (All (λ draft. HasTexts (entry_view draft)) drafts.now) }
     ensures fault { IfErr result (λ e. DraftsStop (map entry_view drafts.now) e.kind e.line) }
@@ -70,7 +70,7 @@ fn check_drafts(drafts: &[Fields]) -> Result<(), PoError>
     Ok(())
 }
 
-/// The catalogue of the entries that were read, whose headers' charsets are asked in their order.
+/// The catalogue of the entries that were read, whose headers' charsets are checked in their order.
 fn catalogue_of(alloc: Global, drafts: Vec<Fields>) -> Result<Catalogue, PoError>
     requires { All (λ draft. IsEntry (entry_view draft)) drafts.items }
     ensures entries { IfOk result (λ c. c ≡ map entry_view drafts.items) }

@@ -59,7 +59,7 @@ fn keyword_fault(wanted: Wanted, obsolete: bool, keyword: Keyword, marks: Marks)
     }
 }
 
-/// The wanted keyword at a place, with its line.
+/// The wanted keyword at an index, with its line.
 fn keyword_at(
     items: &[Item<'_>],
     at: usize,
@@ -87,11 +87,11 @@ pub(crate) struct KeywordText {
     pub(crate) keyword: Keyword,
     pub(crate) line: u32,
     pub(crate) text: Vec<u8>,
-    /// The place of the item after the text.
+    /// The index of the item after the text.
     pub(crate) after: usize,
 }
 
-/// The wanted keyword at a place, with its text.
+/// The wanted keyword at an index, with its text.
 pub(crate) fn wanted_keyword(
     alloc: Global,
     items: &[Item<'_>],

@@ -15,7 +15,7 @@ pub const PIECE: usize = 16_384;
 
 /// Reads a PO text as a catalogue (GNU gettext manual, "The Format of PO Files").
 ///
-/// Told is the first of these that holds: `TooLarge`, without a line, above 2,147,483,647 bytes;
+/// Reported is the first of these that holds: `TooLarge`, without a line, above 2,147,483,647 bytes;
 /// `NotUtf8` at the first byte that is not; `ForbiddenByte` at the first NUL; the leftmost fault of
 /// an item's spelling; at the item after the longest prefix of items that some continuation would
 /// complete, `BadPluralIndex` where another index could stand there, `MixedObsolete` where the item

@@ -27,7 +27,7 @@ fn same_marks(a: Marks, b: Marks) -> bool
     a.obsolete == b.obsolete && a.previous == b.previous
 }
 
-/// The string at a place, which stands under these marks.
+/// The string at an index, which stands under these marks.
 fn string_at<'i>(items: &'i [Item<'_>], at: usize, marks: Marks) -> Result<&'i [u8], PoFault>
     requires { at ≤ length items.now }
     ensures step { MatchResult result (λ bytes. string_step marks (views (drop at items.now)) ≡ spec.Take bytes.now (views (drop (at + 1) items.now))) (λ fault. string_step marks (views (drop at items.now)) ≡ spec.Refuse fault) }
@@ -53,7 +53,7 @@ fn begins_string(items: &[Item<'_>], at: usize) -> bool
     matches!(item_at(items, at), Some(Item::Str(..)))
 }
 
-/// The text of the strings from a place on, under these marks, and the place after them.
+/// The text of the strings from an index on, under these marks, and the index after them.
 pub(crate) fn strings_of(
     alloc: Global,
     items: &[Item<'_>],

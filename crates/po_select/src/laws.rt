@@ -12,7 +12,7 @@ pub fn nothing_given_selects_all()
     ensures { (entries : List TextEntry) → selected every_entry entries ≡ entries }
 {}
 
-/// Conditions alone select the same entries when they are asked again.
+/// Conditions alone select the same entries when they are applied again.
 pub fn conditions_select_once()
     ensures { (selection : Selection) (entries : List TextEntry) → ChangesNothing selection
         → selected selection (selected selection entries) ≡ selected selection entries }

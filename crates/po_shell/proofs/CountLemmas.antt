@@ -34,7 +34,7 @@ count-end : (n : ℕ) → n < 18446744073709551616 → count_from n [] ≡ Some 
 unfolding count_from
 count-end n small = cond-true (ltb n 18446744073709551616) _ _ (lt-ltb _ _ small)
 
--- the same at a place of a text
+-- the same at an index of a text
 pub step-digit : (n i : ℕ) (text : List ℕ) → i < length text → is_ascii_digit (get_or text i 0) ≡ true → count_from n (drop i text) ≡ count_from (with_digit n (get_or text i 0)) (drop (i + 1) text)
 step-digit n i text l is = ap (count_from n) (drop_more text i 0 l) ∙ count-digit n _ _ is
 

@@ -1,11 +1,11 @@
--- Lemmas on the first place of a byte in a text.
+-- Lemmas on the first index of a byte in a text.
 use Rattle.std.proofs.Common.{◌≡◌, ℕ, suc, ◌+◌, ◌<◌, true, false, not, cond, eqb, inl, inr, List, [], ◌∷◌, length, drop, Option, Some, None, unwrap_or, sym, ap, subst, ◌∙◌, arith}
 use Rattle.std.specs.List.{position_or_len}
 use Rattle.std.proofs.lemmas.Bool.{cases_Bool, eqb-true, false_from_ne_true}
 use Rattle.std.proofs.lemmas.List.Sums.{position_or_len_is}
 use Rattle.memchr.specs.Find.{IsFirstByte, is_byte}
 
--- what a search finds is the place of the first one, or the end
+-- what a search finds is the index of the first one, or the end
 pub first-or_len : (a : ℕ) (bs : List ℕ) (r : Option ℕ) → IsFirstByte (is_byte a) bs r → unwrap_or r (length bs) ≡ position_or_len (is_byte a) bs
 first-or_len a bs None none =
     sym (position_or_len_is (is_byte a) bs (length bs) 0 (omega arith) (λ k l. false_from_ne_true _ (none k (omega arith) l)) (λ l. absurd (omega arith)))
@@ -21,7 +21,7 @@ byte-later a b bs e = ap (λ t. cond (not t) (1 + position_or_len (is_byte a) bs
 next-suc : (n : ℕ) → suc (n + 1) ≡ suc n + 1
 next-suc n = omega arith
 
--- at its first place the byte stands
+-- at its first index the byte stands
 pub byte-next : (a : ℕ) (bs : List ℕ) → position_or_len (is_byte a) bs < length bs → drop (position_or_len (is_byte a) bs) bs ≡ a ∷ drop (position_or_len (is_byte a) bs + 1) bs
 byte-next a [] l = absurd (omega arith)
 byte-next a (b ∷ bs) l = elim (cases_Bool (eqb b a)) [
@@ -30,6 +30,6 @@ byte-next a (b ∷ bs) l = elim (cases_Bool (eqb b a)) [
       (byte-next a bs (omega (arith, byte-later a b bs e)) ∙ ap (λ (n : ℕ). a ∷ drop n (b ∷ bs)) (next-suc (position_or_len (is_byte a) bs)))
 ]
 
--- the place as a number of its own
+-- the index as a number of its own
 pub byte-at : (a : ℕ) (bs : List ℕ) (n : ℕ) → n ≡ position_or_len (is_byte a) bs → n < length bs → drop n bs ≡ a ∷ drop (n + 1) bs
 byte-at a bs n index l = subst (λ m. drop m bs ≡ a ∷ drop (m + 1) bs) (sym index) (byte-next a bs (omega (arith, index)))

@@ -6,7 +6,7 @@ use Rattle.std.specs.Str.{bytes_eq}
 use Rattle.std.proofs.lemmas.List.{drop_more}
 use Rattle.po_shell.specs.Substitution.{value_of, pairs_in}
 
--- the variable at a place, and those after it
+-- the variable at an index, and those after it
 pub value_of-next : (vars : List (Bor (List ℕ) × Bor (List ℕ))) (name : List ℕ) (i : ℕ) (d : Bor (List ℕ) × Bor (List ℕ)) → i < length vars
     → value_of (pairs_in (drop i vars)) name ≡ cond (bytes_eq (get_or vars i d).0.now name) (get_or vars i d).1.now (value_of (pairs_in (drop (i + 1) vars)) name)
 unfolding value_of

@@ -11,7 +11,7 @@ use crate::substituter::Substituter;
 use std::alloc::Global;
 use std::io::{BufWriter, Write};
 
-/// How often a reader is asked at most for a piece of an input: 4,294,967,296 times.
+/// How often a reader is called at most for a piece of an input: 4,294,967,296 times.
 pub const MOST_READS: u64 = 1 << 32;
 
 const PIECE: usize = 1 << 16;

@@ -8,7 +8,7 @@ use thiserror::Error;
 /// Why a tool gave up, whatever its input says.
 #[derive(Clone, Copy, Debug, PartialEq, Eq, Error)]
 pub enum ToolFault {
-    /// A read failed, or a reader was asked as often as it may be and had no end.
+    /// A read failed, or a reader was called as often as it may be and had no end.
     #[error("read fault")]
     ReadFault,
     /// A write failed, or took no byte of a piece that isn't empty.

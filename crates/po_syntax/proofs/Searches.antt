@@ -1,4 +1,4 @@
--- What a search for a byte finds, in the words of lists.
+-- What a search for a byte finds, in terms of lists.
 use Rattle.std.proofs.Common.{◌≡◌, ℕ, ◌<◌, Bool, List, [], ◌∷◌, length, take, drop, Option, Some, None, unwrap_or, position, arith}
 use Rattle.std.specs.List.{position_or_len}
 use Rattle.std.proofs.lemmas.List.Sums.{position_or_len_is}
@@ -9,7 +9,7 @@ use Rattle.std.proofs.lemmas.List.{drop-drop}
 use Rattle.memchr.specs.Find.{IsFirstByte, is_byte}
 use Rattle.po_syntax.specs.PoText.{lines_of}
 
--- the place found, or the length where none is
+-- the index found, or the length where none is
 pub found_or_len : (test : ℕ → Bool) (text : List ℕ) (found : Option ℕ) → IsFirstByte test text found → position_or_len test text ≡ unwrap_or found (length text)
 found_or_len test text None h =
     position_or_len_is test text (length text) 0 (omega arith) (λ k inside. false_from_ne_true _ (h k (omega arith) inside)) (λ beyond. absurd (omega arith))
@@ -17,7 +17,7 @@ found_or_len test text (Some index) h =
     let inside : index < length text = omega (arith, h.0.high) in
     position_or_len_is test text index 0 (omega arith) (λ k before. false_from_ne_true _ (h.0.before k (omega arith) before)) (λ _. h.1)
 
--- the place found is the first position that passes
+-- the index found is the first position that passes
 pub position_found : (test : ℕ → Bool) (text : List ℕ) (found : Option ℕ) → IsFirstByte test text found → position test text ≡ found
 position_found test text None h =
     rw (found_or_len test text None h) (cond-false _ _ _ (le-ltb (length text) (length text) (omega arith)))

@@ -8,7 +8,7 @@ use Rattle.std.proofs.lemmas.List.Sums.{suffix_len_is, suffix_len-take_no}
 use Rattle.std.proofs.lemmas.Str.{IsUtf8-take}
 use Rattle.po_syntax.specs.Line.{trim_returns}
 
--- from this place on the text holds CRs alone
+-- from this index on the text holds CRs alone
 abbrev AreReturns : ℕ → List ℕ → Type 0
 AreReturns n text = (k : ℕ) → n ≤ k → k < length text → get_or text k 13 ≡ 13
 

@@ -14,7 +14,7 @@ IsSmall text = length text < 2 ^ 31
 abbrev pub HasNoNul : List ℕ → Type 0
 HasNoNul text = position (λ b. b == 0) text ≡ None
 
--- the number of the line on which this place of the text stands, counted from 1
+-- the number of the line on which this index of the text stands, counted from 1
 abbrev pub line_number : List ℕ → ℕ → ℕ
 line_number text index = 1 + count_by (λ b. b == 10) (take index text)
 

@@ -28,7 +28,7 @@ pub enum CommentKind {
     Flags,
 }
 
-/// The marks of a line, which its words and strings bear.
+/// The marks of a line, which its keywords and strings bear.
 #[derive(Clone, Copy, Debug, PartialEq, Eq)]
 pub struct Marks {
     /// `#~`: the line belongs to an obsolete entry.

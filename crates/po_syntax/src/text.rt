@@ -21,7 +21,7 @@ fn without_mark(text: &[u8]) -> &[u8]
     text.strip_prefix(b"\xef\xbb\xbf").unwrap_or(text)
 }
 
-/// The number of the line on which a place of the text stands, counted from 1.
+/// The number of the line on which an index of the text stands, counted from 1.
 fn line_number(text: &[u8], index: usize) -> u32
     requires inside { index ≤ length text.now }
     requires small { length text.now < 2 ^ 31 }

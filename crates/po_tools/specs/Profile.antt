@@ -78,7 +78,7 @@ count_fault rule count = value_fault rule.nplurals count (value rule.tree count)
 unfoldable pub counts_below : ℕ → List ℕ
 counts_below end = range_with_len 0 end
 
--- the first fault of the messages that are compiled and have a header, with its rule, whose values are asked at the counts from 0 to 1,000
+-- the first fault of the messages that are compiled and have a header, with its rule, whose values are checked at the counts from 0 to 1,000
 abbrev pub first_fault : List InputEntry → Meaning → Option Reported
 first_fault entries rule =
     let plural = find is_plural entries in

@@ -10,7 +10,7 @@ use po_select::Selection;
 
 /// The options of a command line, by their names.
 pub trait Arguments {
-    // What it may come to to ask whether an option is given.
+    // What may be answered where it is asked whether an option is given.
     ghost flag: { Self → List ℕ → Bool → Type 0 };
 
     // What it may come to to ask for the text of an option.

@@ -59,7 +59,7 @@ fn unformatted_run(alloc: Global, text: Vec<u8>) -> Run
 }
 
 /// What `msgunfmt` writes and reports of a file with this name: its PO text, where it has a message. A file that has no
-/// text is reported by one line, with status 1. Refused only where memory ran out.
+/// text is reported by one line, with status 1. Refused only where an allocation failed.
 pub fn plan_msgunfmt(alloc: Global, bytes: &[u8], name: &str) -> Result<Run, ToolFault>
     ensures run { IfOk result (λ run. IsMsgunfmtRun (record { name = name.now; bytes = bytes.now }) (report run)) }
     ensures memory { OnErr result (result ≡ Err ToolFault.OutOfMemory) }
@@ -71,8 +71,8 @@ pub fn plan_msgunfmt(alloc: Global, bytes: &[u8], name: &str) -> Result<Run, Too
 }
 
 /// Reads a file, plans as `plan_msgunfmt` does under this name, and writes what the run comes to: its output and then
-/// its messages. The answer is the run's status. After a `ReadFault`, or where memory ran out, nothing is written;
-/// after a `WriteFault` a prefix is, as `deliver` says.
+/// its messages. The answer is the run's status. After a `ReadFault`, or out of memory, nothing is written; after a
+/// `WriteFault` a prefix is, as `deliver` says.
 pub fn run_msgunfmt<R: ByteIn, O: ByteOut, E: ByteOut>(
     alloc: Global,
     reader: &mut R,

@@ -39,7 +39,7 @@ pub enum CheckFault {
     OutOfMemory,
 }
 
-/// How many counts, from 0 on, a rule's values are asked at.
+/// At how many counts, from 0 on, a rule's values are checked.
 const CHECKED_COUNTS: u64 = 1001;
 
 /// Whether the entry has a plural.

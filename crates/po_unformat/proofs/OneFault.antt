@@ -1,4 +1,4 @@
--- A file has one fault at most, beside that memory ran out.
+-- A file has one fault at most, beside out of memory.
 use Rattle.std.proofs.Common.{◌≡◌, ℕ, ◌<◌, ◌≤◌, List, Some, arith, ap, refl, sym, ◌∙◌, subst, get_or, take, length, inl, inr}
 use Rattle.std.specs.Prelude.{slice_get}
 use Rattle.std.proofs.lemmas.Bool.{cases_lt}

@@ -23,7 +23,7 @@ UnformatThenCompile =
     → (text : List ℕ) × IsUnformatted compiled.bytes.items text
     × (IsSmall text → (use_fuzzy : Bool) → CompilesTo (record { use_fuzzy = use_fuzzy; order = options.order }) text compiled.bytes.items)
 
--- bytes that have a PO text have no fault; what may be reported in place of the text is that memory ran out
+-- bytes that have a PO text have no fault; what may be reported in place of the text is out of memory alone
 abbrev pub NoFaultWhereUnformatted : Type 0
 NoFaultWhereUnformatted =
     (bytes text : List ℕ) (error : UnformatError) → IsUnformatted bytes text → IsUnformatFault bytes error → error ≡ OutOfMemory
@@ -36,12 +36,12 @@ OneText = (bytes text other : List ℕ) → IsUnformatted bytes text → IsUnfor
 abbrev pub EmptyText : Type 0
 EmptyText = (bytes text : List ℕ) (file : IsUnformatted bytes text) → (text ≡ []) ↔ (file.messages ≡ [])
 
--- all bytes have a PO text or a fault other than that memory ran out
+-- all bytes have a PO text or a fault other than out of memory
 abbrev pub TextOrFault : Type 0
 TextOrFault =
     (bytes : List ℕ) → ((text : List ℕ) × IsUnformatted bytes text) ⊎ ((error : UnformatError) × IsUnformatFault bytes error × (error ≢ OutOfMemory))
 
--- bytes have at most one fault, beside that memory ran out
+-- bytes have at most one fault, beside out of memory
 abbrev pub OneUnformatFault : Type 0
 OneUnformatFault =
     (bytes : List ℕ) (error other : UnformatError) → IsUnformatFault bytes error → IsUnformatFault bytes other

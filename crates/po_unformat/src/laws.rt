@@ -26,7 +26,7 @@ pub fn unformat_then_compile()
     live_entries_stay();
 }
 
-/// Bytes that have a PO text have no fault, so that `unformat` answers the text, or that memory ran out.
+/// Bytes that have a PO text have no fault, so that `unformat` answers the text, or out of memory.
 pub fn no_fault_where_unformatted()
     ensures { NoFaultWhereUnformatted }
 {
@@ -40,7 +40,7 @@ pub fn one_text()
     catalog_is_unique();
 }
 
-/// Bytes have at most one fault, beside that memory ran out.
+/// Bytes have at most one fault, beside out of memory.
 pub fn one_unformat_fault()
     ensures { OneUnformatFault }
 {
@@ -55,7 +55,7 @@ pub fn empty_text()
     some_entry_is_written();
 }
 
-/// All bytes have a PO text or a fault other than that memory ran out.
+/// All bytes have a PO text or a fault other than out of memory.
 pub fn text_or_fault()
     ensures { TextOrFault }
 {

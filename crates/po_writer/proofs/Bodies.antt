@@ -98,7 +98,7 @@ pub record HasForms (plural : Option (List ℕ)) (forms : List (List ℕ)) : Typ
   pub quotable : All IsQuotable forms
   pub plural_text : (text : List ℕ) → plural ≡ Some text → IsQuotable text
 
--- the words of an entry's lines can be written
+-- the keywords of an entry's lines can be written
 pub record KeywordsWritten : Type 0 where
   pub law : QuotedFormsSpell
   pub context : IsLineKeyword (codes "msgctxt") MsgCtxt

@@ -37,8 +37,8 @@ pub(crate) fn push_entries(
     Ok(())
 }
 
-/// Appends a live entry to the text of live entries, after an empty line if it isn't the first. That
-/// memory ran out is the only refusal; then the text may end within the entry.
+/// Appends a live entry to the text of live entries, after an empty line if it isn't the first. Refused
+/// only where an allocation failed; then the text may end within the entry.
 pub fn append(text: &mut Vec<u8>, entry: &Entry) -> Result<(), PoError>
     requires { entry.now.obsolete ≡ false }
     ensures appended { OnOk result ((entries : List TextEntry) → All (λ e. e.obsolete ≡ false) entries

@@ -66,7 +66,7 @@ fn wrong_truncation(alloc: Global, file: &[u8]) -> Option<usize> {
     None
 }
 
-/// The first place of a file, and the byte put there, that give what isn't taken as it should be.
+/// The first offset of a file, and the byte put there, that give what isn't taken as it should be.
 fn wrong_change(alloc: Global, file: &[u8], bytes: &mut [u8]) -> Option<(usize, u8)> {
     for (place, was) in file.iter().enumerate() {
         for byte in 0..=255 {

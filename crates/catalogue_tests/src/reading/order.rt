@@ -4,7 +4,7 @@ use super::refused::{Refused, check};
 use po_syntax::PoFault;
 use std::test::Fail;
 
-/// Previous texts: their words, in which order, and their strings.
+/// Previous texts: their keywords, in which order, and their strings.
 const PREVIOUS: &[Refused] = &[
     (
         b"#| msgid \"a\"\n#| msgctxt \"c\"\nmsgid \"b\"\nmsgstr \"c\"\n",

@@ -91,7 +91,7 @@ const LEFTMOST: &[Refused] = &[
     ),
 ];
 
-/// The joined texts of entries, asked in the order of the entries once all items are in order.
+/// The joined texts of entries, checked in the order of the entries once all items are in order.
 const TEXTS: &[Refused] = &[
     (b"msgid \"a\"\nmsgstr \"\\xff\"\n", PoFault::NotUtf8, 1),
     (

@@ -26,7 +26,7 @@ impl<'a> Plain<'a> {
         }
     }
 
-    /// The word at a place, 0 where the file ends before its end.
+    /// The word at an offset, 0 where the file ends before its end.
     fn word(&self, place: u64) -> u32 {
         let mut word = 0;
         for i in 0..4 {
@@ -46,14 +46,14 @@ impl<'a> Plain<'a> {
         self.word(8)
     }
 
-    /// Where string `i` of the table whose place stands at `table` begins and ends.
+    /// Where string `i` of the table whose offset stands at `table` begins and ends.
     fn range(&self, table: u64, i: u32) -> (u64, u64) {
         let entry = u64::from(self.word(table)) + 8 * u64::from(i);
         let start = u64::from(self.word(entry + 4));
         (start, start + u64::from(self.word(entry)))
     }
 
-    /// String `i` of the table whose place stands at `table`, empty where it isn't inside the file.
+    /// String `i` of the table whose offset stands at `table`, empty where it isn't inside the file.
     fn string(&self, table: u64, i: u32) -> &'a [u8] {
         let (start, end) = self.range(table, i);
         self.bytes.get(start as usize..end as usize).unwrap_or(b"")
@@ -112,7 +112,7 @@ impl<'a> Plain<'a> {
     }
 }
 
-/// The first place of a byte.
+/// The first index of a byte.
 pub(super) fn place_of(bytes: &[u8], wanted: u8) -> Option<usize> {
     for (place, byte) in bytes.iter().enumerate() {
         if *byte == wanted {
