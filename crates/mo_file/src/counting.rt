@@ -31,7 +31,7 @@ impl Meter {
         self.ticks
     }
 
-    /// Counts one look at an original.
+    /// Counts one more.
     pub(crate) fn add_one(&mut self)
         requires { self.old < 2 ^ 64 - 1 }
         ensures { self.new ≡ self.old + 1 }

@@ -5,7 +5,8 @@
 //! expression at most once. A [`Chain`] asks one catalogue after the other. None of them takes memory: texts are
 //! slices of the file or of the query. [`find`] is the search over any list of [`Keys`], which it sees by comparing alone.
 //!
-//! The modules in reading order: `query`, `search`, `view_keys`, `forms`, `answer`, `looking`, `catalog`, `chain`, `laws`.
+//! The modules in reading order: `query`, `search`, `view_keys`, `forms`, `answer`, `looking`, `catalog`, `chain`,
+//! `laws`.
 
 #![tactic(auto)]
 

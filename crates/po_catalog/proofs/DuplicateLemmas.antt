@@ -95,7 +95,7 @@ keys_tie : (a b : MessageKey) → same_key a b ≡ is_at (message_cmp a) b
 keys_tie a b =
     both_tied _ _ (option_cmp (λ x y. slice_cmp nat_cmp x.now y.now) a.0 b.0) (slice_cmp nat_cmp a.1.now b.1.now) (contexts_tie a.0 b.0) (texts_ties a.1.now b.1.now)
 
--- the map reports the live ones of these entries, no two of which are of one message
+-- the map holds the live ones of these entries, no two of which are of one message
 pub record IsSeen (seen : ReaderView) (entries : List InputEntry) : Type 0 where
   pub found : (key : MessageKey) (entry : TextEntry) (location : ℕ × ℕ) → IsKeyOf key entry → get message_cmp seen key ≡ Some location → IsFoundAt (live_entries entries) entry location
   pub absent : (key : MessageKey) (entry : TextEntry) → IsKeyOf key entry → get message_cmp seen key ≡ None → All (λ e. ¬ IsSameMessage e.entry entry) (live_entries entries)

@@ -38,7 +38,7 @@ one_flag_more old new k flags h updated q =
     updated q ∙ cond_or (is_at (λ y. slice_cmp nat_cmp k.now y.now) q) (bytes_eq q.now k.now) (contains (λ x y. slice_cmp nat_cmp x.now y.now) old q) (sym (texts_ties k.now q.now) ∙ nat_list_eq_equiv.symm k.now q.now)
     ∙ ap₂ (λ (s t : Bool). s || t) (h q) (sym (or_false (bytes_eq q.now k.now))) ∙ sym (list_any-append (bytes_eq q.now) flags (k.now ∷ []))
 
--- the keywords up to the next one, of which flags are kept
+-- the elements up to the next one, of which flags are kept
 pub flags_more : (keywords : List (Vec ℕ)) (i : ℕ) (x : Vec ℕ) (flags : List (List ℕ)) (b : Bool) → i < length keywords → x ≡ get_or keywords i x
     → flags ≡ fold with_flag [] (texts (take i keywords)) → (is_fuzzy_flag x.items || list_any (bytes_eq x.items) flags) ≡ b
     → cond b flags (flags ++ x.items ∷ []) ≡ fold with_flag [] (texts (take (i + 1) keywords))

@@ -29,7 +29,7 @@ fn has_fuzzy(keywords: &[Vec<u8>]) -> bool
     keywords.iter().any(|word| is_fuzzy_flag(word))
 }
 
-/// The keywords other than `fuzzy`, each where it first stands. A tree finds the keywords that were met,
+/// The flags other than `fuzzy`, each where it first stands. A tree finds the flags that were met,
 /// so that no choice of flags makes this slow.
 fn others(alloc: Global, keywords: &[Vec<u8>]) -> Result<Vec<Vec<u8>>, AllocError>
     ensures { IfOk result (λ kept. texts kept.items ≡ fold with_flag [] (texts keywords.now)) }
@@ -48,7 +48,7 @@ fn others(alloc: Global, keywords: &[Vec<u8>]) -> Result<Vec<Vec<u8>>, AllocErro
     Ok(kept)
 }
 
-/// The flags of an entry, by the keywords of all its flag comments.
+/// The flags of an entry, by the elements of all its flag comments.
 pub(crate) fn flags_of(alloc: Global, keywords: Vec<Vec<u8>>) -> Result<Flags, AllocError>
     ensures fuzzy { IfOk result (λ flags. flags.fuzzy ≡ list_any is_fuzzy_flag (texts keywords.items)) }
     ensures others { IfOk result (λ flags. texts flags.others.items ≡ fold with_flag [] (texts keywords.items)) }

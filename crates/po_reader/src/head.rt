@@ -56,7 +56,7 @@ fn begins_body(keyword: Keyword) -> bool
     matches!(keyword, Keyword::MsgCtxt | Keyword::MsgId)
 }
 
-/// What the item at the index is to a head, after a previous text of rank `above`, or 0.
+/// What the item at the index is to a head; `above` is the rank of the last previous text, or 0.
 fn step_at<'i>(items: &'i [Item<'_>], at: usize, above: u32) -> Result<Step<'i>, PoFault>
     requires { at ≤ length items.now }
     ensures step { MatchResult result (λ step. head_step above (views (drop at items.now)) ≡ head_view step (views (drop (at + 1) items.now))) (λ fault. head_step above (views (drop at items.now)) ≡ spec.Refuse fault) }

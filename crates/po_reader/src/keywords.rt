@@ -33,7 +33,7 @@ fn is_wanted(wanted: Wanted, keyword: Keyword) -> bool
     }
 }
 
-/// Whether a form stands where one is wanted; its index is another if it isn't wanted.
+/// Whether a plural form stands where one is wanted: if the keyword isn't wanted, its index is wrong.
 fn is_wrong_form(wanted: Wanted, keyword: Keyword) -> bool
     ensures { result ≡ is_wrong_form (wanted_of wanted) keyword }
 {

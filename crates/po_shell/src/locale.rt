@@ -110,7 +110,7 @@ fn locale_of<'a>(environment: &Environment<'a>) -> Option<&'a [u8]>
     non_empty(environment.lang)
 }
 
-/// Whether the locale is `C` or `POSIX`, whose messages are the msgids.
+/// Whether the name is `C` or `POSIX`, in which the messages are the msgids.
 #[tactic(auto, unfolding(crate::specs::Locales::is_untranslated))]
 fn is_untranslated(name: &[u8]) -> bool
     ensures { result ≡ is_untranslated name.now }

@@ -6,7 +6,7 @@ use Rattle.po_syntax.specs.Line.{trim_returns}
 use Rattle.po_syntax.specs.TextItem.{TextItem, Comment, Word, Str}
 
 -- A comment's text is UTF-8 on one line, without NUL and without CRs at its end. A translator's
--- comment begins with none of the characters that report another kind of line.
+-- comment begins with none of the characters that mark another kind of line.
 pub record IsCommentText (kind : CommentKind) (text : List ℕ) : Type 0 where
   pub utf8 : IsUtf8 text
   pub no_nul : All (λ b. b ≢ 0) text

@@ -143,7 +143,7 @@ fn previous_prefix(obsolete: bool) -> &'static [u8]
     if obsolete { b"#~| " } else { b"#| " }
 }
 
-/// What a line of the body begins with.
+/// What a line of the entry's own begins with: `#~ ` in an obsolete entry.
 fn own_prefix(obsolete: bool) -> &'static [u8]
     ensures { result.now ≡ own_prefix obsolete }
 {

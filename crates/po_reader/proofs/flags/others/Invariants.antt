@@ -5,7 +5,7 @@ use Rattle.po_entry.specs.Comments.{with_flag}
 use Rattle.po_reader.specs.MetFlags.{HasFlags}
 use Rattle.po_reader.proofs.flags.others.Given as goal
 
--- the flags of the keywords so far are kept, and the tree has them
+-- the flags among the elements so far are kept, and the tree has them
 abbrev pub invariant-loop-word : goal.invariant-loop-word
 invariant-loop-word l = record {
   are_kept : texts l.kept.items ≡ fold with_flag [] (texts (take l.word-index l.keywords));
