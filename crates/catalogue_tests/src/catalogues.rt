@@ -8,6 +8,7 @@ use std::alloc::Global;
 use std::process::Abort;
 use std::test::Fail;
 
+/// The catalogue of a text that has no fault.
 fn catalogue(rt: &impl Abort, alloc: Global, text: &[u8]) -> Catalogue {
     match read(alloc, text) {
         Ok(catalogue) => catalogue,

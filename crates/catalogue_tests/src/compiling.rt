@@ -43,6 +43,7 @@ const FIRST_HEADER: &[u8] = b"msgid \"\"\nmsgstr \"X: first\\n\"\n\nmsgid \"a\"\
 
 const SECOND_HEADER: &[u8] = b"msgid \"\"\nmsgstr \"X: second\\n\"\n\nmsgid \"c\"\nmsgstr \"d\"\n";
 
+/// What a text without a fault is compiled to.
 fn compiled(rt: &impl Abort, alloc: Global, text: &[u8], options: Options) -> Compiled {
     match compile(alloc, text, options) {
         Ok(compiled) => compiled,
@@ -244,6 +245,7 @@ fn refused(rt: HostRuntime) {
     }
 }
 
+/// What texts without a fault are compiled to, joined.
 fn joined(rt: &impl Abort, alloc: Global, texts: &[&[u8]]) -> Compiled
     requires { length texts.now < 2 ^ 32 }
 {

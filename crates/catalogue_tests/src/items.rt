@@ -35,6 +35,7 @@ fn show(alloc: Global, text: &[u8]) -> Result<String, Fail> {
     Ok(shown)
 }
 
+/// The bytes that stand for these marks.
 fn mark_bytes(marks: Marks) -> &'static [u8] {
     if marks.obsolete {
         if marks.previous { b"~|" } else { b"~" }

@@ -3,6 +3,7 @@
 use po_entry::Entry;
 use std::test::Fail;
 
+/// Appends pieces, one after another.
 fn push_pieces(line: &mut Vec<u8>, pieces: &[&[u8]]) -> Result<(), Fail> {
     for piece in pieces {
         line.extend_from_slice(piece)?;

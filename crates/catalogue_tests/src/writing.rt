@@ -104,6 +104,7 @@ msgstr[1] \"w\\n\"
 #~ msgstr \"\\001\\177\\\\\"
 ";
 
+/// An entry that is obsolete and fuzzy.
 fn obsolete_entry(alloc: Global) -> Result<Entry, Fail> {
     let mut entry = Entry::message(alloc, Some(b"c"), b"o\np", None, &[b"\x01\x7f\\"])?;
     entry.set_obsolete(true);

@@ -12,7 +12,7 @@ pub struct Fields {
     pub comments: Vec<Vec<u8>>,
     /// The comments extracted from the program, each without its `#.`.
     pub extracted: Vec<Vec<u8>>,
-    /// The elements of the `#:` lines.
+    /// The references, on `#:` lines.
     pub references: Vec<Vec<u8>>,
     /// Whether the flag `fuzzy` is there.
     pub fuzzy: bool,

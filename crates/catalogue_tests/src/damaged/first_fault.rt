@@ -50,6 +50,7 @@ pub(super) fn first_fault(text: &[u8]) -> Option<PoError> {
     }
 }
 
+/// The fault with the line on which this index of the text stands.
 fn fault_at(text: &[u8], place: usize, kind: PoFault) -> PoError {
     let mut line: u32 = 1;
     for (at, byte) in text.iter().enumerate() {
@@ -86,6 +87,7 @@ fn settle(state: State, text: &[u8], place: usize, byte: u8) -> Result<State, Po
     }
 }
 
+/// The state after `msgstr` and a byte: a bracket may still follow blanks.
 fn settle_bracket(byte: u8) -> State {
     if byte == b'[' || is_blank(byte) {
         State::Bracket
@@ -94,6 +96,7 @@ fn settle_bracket(byte: u8) -> State {
     }
 }
 
+/// The state after an escape of this value, or its fault.
 fn settle_number(number: u64) -> Result<State, PoFault> {
     match number {
         0 => Err(PoFault::ForbiddenByte),
@@ -102,6 +105,7 @@ fn settle_number(number: u64) -> Result<State, PoFault> {
     }
 }
 
+/// The state after one more byte, or its fault.
 fn step(state: State, place: usize, byte: u8) -> Result<State, PoFault> {
     if byte == b'\n' {
         return match state {
@@ -164,6 +168,7 @@ fn text_step(state: State, byte: u8) -> Result<State, PoFault> {
     }
 }
 
+/// The state after the first byte of a token, or after a blank.
 fn token(place: usize, byte: u8) -> Result<State, PoFault> {
     match byte {
         b'"' => Ok(State::Text),
@@ -173,15 +178,18 @@ fn token(place: usize, byte: u8) -> Result<State, PoFault> {
     }
 }
 
+/// The number with one more digit.
 fn joined(number: u64, base: u64, digit: u8) -> u64 {
     let digit = (digit as char).to_digit(16).unwrap_or(0);
     number.saturating_mul(base).saturating_add(u64::from(digit))
 }
 
+/// Whether the byte is a blank.
 fn is_blank(byte: u8) -> bool {
     matches!(byte, b' ' | 9 | 11 | 12 | 13)
 }
 
+/// Whether the byte can stand in a word.
 fn is_word_byte(byte: u8) -> bool {
     matches!(byte, b'0'..=b'9' | b'A'..=b'Z' | b'a'..=b'z' | b'_')
 }

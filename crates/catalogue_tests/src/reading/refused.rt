@@ -9,6 +9,7 @@ use std::test::Fail;
 /// A text with the fault that is reported first, and its line.
 pub(super) type Refused = (&'static [u8], PoFault, u32);
 
+/// Reads each text, and compares the fault that is reported.
 pub(super) fn check(rt: &impl Abort, alloc: Global, rows: &[Refused]) {
     for (text, kind, line) in rows {
         let wanted = PoError {
