@@ -15,9 +15,9 @@ use Rattle.po_entry.specs.TextEntry.{texts}
 use Rattle.po_entry.specs.Comments.{is_fuzzy_flag, with_flag}
 use Rattle.po_reader.specs.MetFlags.{HasFlags}
 
-pub list_any-texts : (p : List ℕ → Bool) (keywords : List (Vec ℕ)) → list_any (λ word. p word.items) keywords ≡ list_any p (texts keywords)
+pub list_any-texts : (p : List ℕ → Bool) (elements : List (Vec ℕ)) → list_any (λ flag. p flag.items) elements ≡ list_any p (texts elements)
 list_any-texts p [] = refl
-list_any-texts p (word ∷ keywords) = ap (λ b. p word.items || b) (list_any-texts p keywords)
+list_any-texts p (flag ∷ elements) = ap (λ b. p flag.items || b) (list_any-texts p elements)
 
 or_false : (b : Bool) → (b || false) ≡ b
 or_false true = refl
@@ -39,9 +39,9 @@ one_flag_more old new k flags h updated q =
     ∙ ap₂ (λ (s t : Bool). s || t) (h q) (sym (or_false (bytes_eq q.now k.now))) ∙ sym (list_any-append (bytes_eq q.now) flags (k.now ∷ []))
 
 -- the elements up to the next one, of which flags are kept
-pub flags_more : (keywords : List (Vec ℕ)) (i : ℕ) (x : Vec ℕ) (flags : List (List ℕ)) (b : Bool) → i < length keywords → x ≡ get_or keywords i x
-    → flags ≡ fold with_flag [] (texts (take i keywords)) → (is_fuzzy_flag x.items || list_any (bytes_eq x.items) flags) ≡ b
-    → cond b flags (flags ++ x.items ∷ []) ≡ fold with_flag [] (texts (take (i + 1) keywords))
-flags_more keywords i x flags b below at is known =
-    sym (ap (fold with_flag []) (ap texts (take_more keywords i x below ∙ ap (λ (v : Vec ℕ). take i keywords ++ v ∷ []) (sym at)) ∙ map-append (λ (v : Vec ℕ). v.items) (take i keywords) (x ∷ []))
-    ∙ fold_push with_flag [] (texts (take i keywords)) x.items ∙ ap (λ l. with_flag l x.items) (sym is) ∙ ap (λ t. cond t flags (flags ++ x.items ∷ [])) known)
+pub flags_more : (elements : List (Vec ℕ)) (i : ℕ) (x : Vec ℕ) (flags : List (List ℕ)) (b : Bool) → i < length elements → x ≡ get_or elements i x
+    → flags ≡ fold with_flag [] (texts (take i elements)) → (is_fuzzy_flag x.items || list_any (bytes_eq x.items) flags) ≡ b
+    → cond b flags (flags ++ x.items ∷ []) ≡ fold with_flag [] (texts (take (i + 1) elements))
+flags_more elements i x flags b below at is known =
+    sym (ap (fold with_flag []) (ap texts (take_more elements i x below ∙ ap (λ (v : Vec ℕ). take i elements ++ v ∷ []) (sym at)) ∙ map-append (λ (v : Vec ℕ). v.items) (take i elements) (x ∷ []))
+    ∙ fold_push with_flag [] (texts (take i elements)) x.items ∙ ap (λ l. with_flag l x.items) (sym is) ∙ ap (λ t. cond t flags (flags ++ x.items ∷ [])) known)

@@ -16,51 +16,51 @@ pub(crate) struct Flags {
 }
 
 /// Whether the flag is `fuzzy`.
-fn is_fuzzy_flag(word: &[u8]) -> bool
-    ensures { result ≡ is_fuzzy_flag word.now }
+fn is_fuzzy_flag(flag: &[u8]) -> bool
+    ensures { result ≡ is_fuzzy_flag flag.now }
 {
-    word == b"fuzzy".as_slice()
+    flag == b"fuzzy".as_slice()
 }
 
 /// Whether `fuzzy` is among the flags.
-fn has_fuzzy(keywords: &[Vec<u8>]) -> bool
-    ensures { result ≡ list_any (λ word. is_fuzzy_flag word.items) keywords.now }
+fn has_fuzzy(elements: &[Vec<u8>]) -> bool
+    ensures { result ≡ list_any (λ flag. is_fuzzy_flag flag.items) elements.now }
 {
-    keywords.iter().any(|word| is_fuzzy_flag(word))
+    elements.iter().any(|flag| is_fuzzy_flag(flag))
 }
 
 /// The flags other than `fuzzy`, each where it first stands. A tree finds the flags that were met,
 /// so that no choice of flags makes this slow.
-fn others(alloc: Global, keywords: &[Vec<u8>]) -> Result<Vec<Vec<u8>>, AllocError>
-    ensures { IfOk result (λ kept. texts kept.items ≡ fold with_flag [] (texts keywords.now)) }
+fn others(alloc: Global, elements: &[Vec<u8>]) -> Result<Vec<Vec<u8>>, AllocError>
+    ensures { IfOk result (λ kept. texts kept.items ≡ fold with_flag [] (texts elements.now)) }
 {
     let mut met = BTreeSet::new(alloc);
     let mut kept = Vec::new(alloc);
-    for word in keywords {
-        if is_fuzzy_flag(word) {
+    for flag in elements {
+        if is_fuzzy_flag(flag) {
             continue;
         }
-        if !met.insert(word.as_slice())? {
+        if !met.insert(flag.as_slice())? {
             continue;
         }
-        kept.push(word.as_slice().to_vec(alloc)?)?;
+        kept.push(flag.as_slice().to_vec(alloc)?)?;
     }
     Ok(kept)
 }
 
 /// The flags of an entry, by the elements of all its flag comments.
-pub(crate) fn flags_of(alloc: Global, keywords: Vec<Vec<u8>>) -> Result<Flags, AllocError>
-    ensures fuzzy { IfOk result (λ flags. flags.fuzzy ≡ list_any is_fuzzy_flag (texts keywords.items)) }
-    ensures others { IfOk result (λ flags. texts flags.others.items ≡ fold with_flag [] (texts keywords.items)) }
+pub(crate) fn flags_of(alloc: Global, elements: Vec<Vec<u8>>) -> Result<Flags, AllocError>
+    ensures fuzzy { IfOk result (λ flags. flags.fuzzy ≡ list_any is_fuzzy_flag (texts elements.items)) }
+    ensures others { IfOk result (λ flags. texts flags.others.items ≡ fold with_flag [] (texts elements.items)) }
 {
-    if keywords.is_empty() {
+    if elements.is_empty() {
         return Ok(Flags {
             fuzzy: false,
-            others: keywords,
+            others: elements,
         });
     }
     Ok(Flags {
-        fuzzy: has_fuzzy(&keywords),
-        others: others(alloc, &keywords)?,
+        fuzzy: has_fuzzy(&elements),
+        others: others(alloc, &elements)?,
     })
 }

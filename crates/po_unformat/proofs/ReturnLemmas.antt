@@ -12,7 +12,7 @@ use Rattle.mo_file.specs.Layout.{layout}
 use Rattle.mo_file.specs.Message.{Message}
 use Rattle.mo_lookup.specs.Contents.{forms}
 use Rattle.po_syntax.specs.PoText.{IsSmall}
-use Rattle.po_entry.specs.TextEntry.{TextEntry, previous_texts, with_line, message_of as bare_entry}
+use Rattle.po_entry.specs.TextEntry.{TextEntry, previous_texts, with_line, plain_entry as bare_entry}
 use Rattle.po_entry.specs.Bytes.{Lacks}
 use Rattle.po_entry.specs.Halves.{All-left, All-right}
 use Rattle.po_entry.specs.Header.{is_header}

@@ -6,4 +6,4 @@ use Rattle.po_reader.proofs.flags.flags_of.Goals as goal
 
 pub returns-clause-fuzzy : goal.returns-clause-fuzzy
 returns-clause-fuzzy c =
-    c.has_fuzzy.ensures ∙ ap (list_any (λ word. is_fuzzy_flag word.items)) c.deref.ensures.value ∙ list_any-texts is_fuzzy_flag c.args.keywords.items
+    c.has_fuzzy.ensures ∙ ap (list_any (λ flag. is_fuzzy_flag flag.items)) c.deref.ensures.value ∙ list_any-texts is_fuzzy_flag c.args.elements.items

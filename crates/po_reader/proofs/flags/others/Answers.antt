@@ -12,27 +12,27 @@ use Rattle.po_reader.specs.MetFlags.{HasFlags}
 use Rattle.po_reader.proofs.MetFlags.{one_flag_more, flags_more}
 use Rattle.po_reader.proofs.flags.others.Goals as goal
 
-pub loop-word-init : goal.loop-word-init
-loop-word-init c = record {
+pub loop-flag-init : goal.loop-flag-init
+loop-flag-init c = record {
   are_kept = ap texts c.new-kept.ensures.items;
   met = λ q. ap (list_any (is_at (λ y. slice_cmp nat_cmp q.now y.now))) c.new-met.ensures.empty ∙ sym (ap (λ items. list_any (bytes_eq q.now) (texts items)) c.new-kept.ensures.items);
 }
 
-pub loop-word-preserved : goal.loop-word-preserved
-loop-word-preserved c =
-    let inv = c.loop-word.invariant in
-    let flags = texts c.loop-word.kept.items in
+pub loop-flag-preserved : goal.loop-flag-preserved
+loop-flag-preserved c =
+    let inv = c.loop-flag.invariant in
+    let flags = texts c.loop-flag.kept.items in
     let here = c.as_slice.ensures.value in
     let unmet : list_any (bytes_eq c.as_slice.result.now) flags ≡ false =
     sym (inv.met c.as_slice.result) ∙ not-true _ (sym c.in_ok-insert.ensures.added ∙ c.if-not-branch.false) in
     let other : is_fuzzy_flag c.as_slice.result.now ≡ false = ap is_fuzzy_flag (here ∙ sym c.deref.ensures.value) ∙ sym c.if-is_fuzzy_flag.ensures in
     let fresh : (is_fuzzy_flag c.as_slice.result.now || list_any (bytes_eq c.as_slice.result.now) flags) ≡ false = rw (other, unmet) refl in
-    let same = c.in_ok-to_vec.ensures.items_if_clones_equal (λ x y e. e) ∙ c.as_slice-in-loop-word.ensures.value ∙ sym here in
+    let same = c.in_ok-to_vec.ensures.items_if_clones_equal (λ x y e. e) ∙ c.as_slice-in-loop-flag.ensures.value ∙ sym here in
     let pushed : texts c.push.new.self.items ≡ flags ++ c.as_slice.result.now ∷ [] =
-    ap texts c.in_ok-push.ensures.items ∙ map-append (λ v. v.items) c.loop-word.kept.items (c.in_ok-to_vec.field-0 ∷ []) ∙ ap (λ n. flags ++ n ∷ []) same in
+    ap texts c.in_ok-push.ensures.items ∙ map-append (λ v. v.items) c.loop-flag.kept.items (c.in_ok-to_vec.field-0 ∷ []) ∙ ap (λ n. flags ++ n ∷ []) same in
     record {
       are_kept = pushed ∙ ap (λ n. flags ++ n ∷ []) here
-          ∙ flags_more c.args.keywords.now c.loop-word.word-index c.word-item.result flags false c.loop-word-test.true c.word-item.is inv.are_kept
+          ∙ flags_more c.args.elements.now c.loop-flag.flag-index c.flag-item.result flags false c.loop-flag-test.true c.flag-item.is inv.are_kept
           (ap (λ n. is_fuzzy_flag n || list_any (bytes_eq n) flags) (sym here) ∙ fresh);
-      met = subst (HasFlags c.insert.new.self) (sym pushed) (one_flag_more c.loop-word.met c.insert.new.self c.as_slice.result flags inv.met c.in_ok-insert.ensures.updates.0);
+      met = subst (HasFlags c.insert.new.self) (sym pushed) (one_flag_more c.loop-flag.met c.insert.new.self c.as_slice.result flags inv.met c.in_ok-insert.ensures.updates.0);
     }

@@ -6,8 +6,8 @@ use Rattle.po_reader.specs.MetFlags.{HasFlags}
 use Rattle.po_reader.proofs.flags.others.Given as goal
 
 -- the flags among the elements so far are kept, and the tree has them
-abbrev pub invariant-loop-word : goal.invariant-loop-word
-invariant-loop-word l = record {
-  are_kept : texts l.kept.items ≡ fold with_flag [] (texts (take l.word-index l.keywords));
+abbrev pub invariant-loop-flag : goal.invariant-loop-flag
+invariant-loop-flag l = record {
+  are_kept : texts l.kept.items ≡ fold with_flag [] (texts (take l.flag-index l.elements));
   met : HasFlags l.met (texts l.kept.items);
 }
