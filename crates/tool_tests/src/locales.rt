@@ -155,7 +155,7 @@ fn places_the_catalogues_of_a_domain(rt: HostRuntime) {
             ..UNSET
         };
         let paths = catalogue_paths(rt.alloc(), *argument, *option, &environment);
-        assert!(rt; are_listed(paths, wanted), "{wanted:?}, of {word:?}");
+        assert!(rt; are_listed(paths, wanted), "{wanted:?}, of {argument:?}");
     }
 }
 
