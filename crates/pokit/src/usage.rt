@@ -1,4 +1,4 @@
-//! Faults of the command line, in clap's arguments, with the advice that fits the tool.
+//! Faults of the command line, as clap words them, with the advice that fits the tool.
 use clap::Error;
 use std::alloc::{AllocError, Global};
 
