@@ -6,7 +6,7 @@ use Rattle.std.proofs.lemmas.List.Elements.{All-nil, All-append, All-filter}
 use Rattle.mo_file.specs.Layout.{layout}
 use Rattle.mo_file.specs.Laws.{LayoutIsCatalog}
 use Rattle.po_entry.specs.TextEntry.{TextEntry}
-use Rattle.po_entry.specs.Reads.{ReadsText}
+use Rattle.po_entry.specs.ReadsText.{ReadsText}
 use Rattle.po_entry.specs.Validity.{IsCatalogueEntry}
 use Rattle.po_catalog.specs.Joined.{InputEntry, in_input, is_live_header, kept_entries, joined_from, joined_entries, entries_of}
 use Rattle.po_compile.specs.Accepted.{ReadsDistinct}

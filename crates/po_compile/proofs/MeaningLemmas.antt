@@ -17,7 +17,8 @@ use Rattle.po_entry.specs.TextEntry.{TextEntry, quoted_texts, previous_texts}
 use Rattle.po_entry.specs.Bytes.{Lacks}
 use Rattle.po_entry.specs.Halves.{All-left, All-right}
 use Rattle.po_entry.specs.Header.{first_form}
-use Rattle.po_entry.specs.Validity.{IsEntry, IsText}
+use Rattle.po_entry.specs.Validity.{IsEntry}
+use Rattle.po_syntax.specs.ItemContents.{IsText}
 use Rattle.po_compile.specs.CompiledMessages.{original_of, translation_of, message_of, messages_of_entries, AreMessagesOf}
 use Rattle.po_compile.specs.Meaning.{is_message, header_of}
 use Rattle.po_compile.specs.Headline.{MessagesMeanEntries}

@@ -8,7 +8,7 @@ use Rattle.po_syntax.specs.declared.fault.PoError.{PoError}
 use Rattle.po_syntax.specs.declared.fault.PoFault.{PoFault}
 use Rattle.po_syntax.specs.declared.fault.PoFault.TheVariants.{OutOfMemory}
 use Rattle.po_entry.specs.TextEntry.{TextEntry}
-use Rattle.po_entry.specs.Reads.{ReadsText}
+use Rattle.po_entry.specs.ReadsText.{ReadsText}
 use Rattle.po_reader.specs.Faults.{IsReadFault}
 use Rattle.po_catalog.specs.Joined.{InputEntry, in_input, joined, joined_entries}
 use Rattle.po_catalog.specs.Duplicate.{HasNoDuplicate, IsFirstDuplicate, duplicate_error, join_out_of_memory}

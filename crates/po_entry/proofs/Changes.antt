@@ -5,7 +5,8 @@ use Rattle.std.proofs.lemmas.List.Elements.{All-nil, All-cons, All-append}
 use Rattle.std.proofs.lemmas.List.{length-map}
 use Rattle.std.proofs.lemmas.Str.{IsUtf8-nil}
 use Rattle.po_entry.specs.TextEntry.{TextEntry, quoted_texts, previous_texts, no_previous}
-use Rattle.po_entry.specs.Validity.{IsEntry, IsText}
+use Rattle.po_entry.specs.Validity.{IsEntry}
+use Rattle.po_syntax.specs.ItemContents.{IsText}
 use Rattle.po_entry.specs.Halves.{All-left, All-right}
 
 -- the texts of the quoted strings but the forms

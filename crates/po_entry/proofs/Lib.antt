@@ -3,10 +3,6 @@ pub mod Changes
 pub mod Checks
 pub mod Headers
 pub mod SameTexts
-pub mod SameMarks
-pub mod PreviousOrder
-pub mod Spelt
-pub mod SpeltReads
 pub mod CharsetNames
 pub mod ListedElements
 pub mod JoinedPieces

@@ -14,7 +14,7 @@ use Rattle.po_syntax.specs.Runs.{FailsFirst, parts_of, run_length, end_parts, ke
 use Rattle.po_syntax.specs.Spelling.{IsBlank, space, tab, vertical_tab, form_feed, carriage_return}
 use Rattle.po_syntax.specs.Token.{is_blank, skip_blanks}
 use Rattle.po_entry.specs.Bytes.{Lacks, without_end_blanks, trimmed}
-use Rattle.po_entry.specs.Head.{CommentText}
+use Rattle.po_entry.specs.Parts.{CommentText}
 use Rattle.po_entry.specs.Comments.{is_not_empty, listed_references, is_comma, listed_flags, all_listed_flags, is_fuzzy_flag, with_flag, flags_of}
 use Rattle.po_entry.specs.Listed.{EndsReference, ListsReferences, no_text, blank, reference, IsWithoutBlanks, NamesFlag, no_flag, flag, ListsFlags, last, more, KeepsFlags, none, first, fuzzy, repeated}
 

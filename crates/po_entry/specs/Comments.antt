@@ -6,7 +6,7 @@ use Rattle.po_syntax.specs.declared.item.CommentKind.TheVariants.{Translator, Ex
 use Rattle.po_entry.specs.TextEntry.{TextPrevious, no_previous}
 use Rattle.po_syntax.specs.Token.{is_blank}
 use Rattle.po_entry.specs.Bytes.{trimmed}
-use Rattle.po_entry.specs.Head.{CommentText, PreviousText, rank}
+use Rattle.po_entry.specs.Parts.{CommentText, PreviousText, rank}
 
 abbrev pub same_kind : CommentKind → CommentKind → Bool
 same_kind Translator Translator = true

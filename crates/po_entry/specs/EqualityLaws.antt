@@ -1,11 +1,11 @@
 -- Equality of entries decides that they are the same but for their lines, so it is an equivalence.
 use Rattle.std.proofs.Common.{◌≡◌, ℕ, Bool, true, false, ◌&&◌, List, Option, Some, None, refl, sym, ap, ◌∙◌}
 use Rattle.std.specs.Prelude.{Decides}
-use Rattle.std.specs.Cmp.{IsPartialEquivalence}
+use Rattle.std.specs.Cmp.{IsPartialEquivalence, booleans_Decides}
 use Rattle.std.proofs.lemmas.Bool.{false≢true}
 use Rattle.std.proofs.lemmas.Slice.Eq.{bytes_eq-Decides, slice_eq-Decides}
 use Rattle.po_entry.specs.TextEntry.{TextEntry, TextPrevious, SameButLine}
-use Rattle.po_entry.specs.Equality.{texts_eq, optional_eq, bool_eq, previous_eq, entry_eq}
+use Rattle.po_entry.specs.Equality.{texts_eq, optional_eq, previous_eq, entry_eq}
 
 both_decide : {P Q : Type 0} (a b : Bool) → Decides a P → Decides b Q → Decides (a && b) (P × Q)
 both_decide true true p q = (λ _. (p.0 refl, q.0 refl), λ _. refl)
@@ -21,12 +21,6 @@ optional_decide None (Some b) = (λ t. absurd (false≢true t), λ e. cc)
 optional_decide (Some a) None = (λ t. absurd (false≢true t), λ e. cc)
 optional_decide (Some a) (Some b) = (λ t. ap (λ (x : List ℕ). Some x) ((bytes_eq-Decides a b).0 t), λ e. let same : a ≡ b = cc in (bytes_eq-Decides a b).1 same)
 
-bool_decide : (a b : Bool) → Decides (bool_eq a b) (a ≡ b)
-bool_decide true true = (λ _. refl, λ _. refl)
-bool_decide true false = (λ t. absurd (false≢true t), λ e. absurd (false≢true (sym e)))
-bool_decide false true = (λ t. absurd (false≢true t), λ e. absurd (false≢true e))
-bool_decide false false = (λ _. refl, λ _. refl)
-
 abbrev rebuilt : TextPrevious → TextPrevious
 rebuilt p = record { context = p.context; id = p.id; plural = p.plural }
 
@@ -39,8 +33,8 @@ previous_decide a b =
 
 pub entry_decide : (a b : TextEntry) → Decides (entry_eq a b) (SameButLine a b)
 entry_decide a b =
-    let comments = both_decide _ _ (both_decide _ _ (both_decide _ _ (both_decide _ _ (texts_decide a.comments b.comments) (texts_decide a.extracted b.extracted)) (texts_decide a.references b.references)) (bool_decide a.fuzzy b.fuzzy)) (texts_decide a.flags b.flags) in
-    let messages = both_decide _ _ (both_decide _ _ (both_decide _ _ (both_decide _ _ (optional_decide a.context b.context) (bytes_eq-Decides a.id b.id)) (optional_decide a.plural b.plural)) (texts_decide a.forms b.forms)) (bool_decide a.obsolete b.obsolete) in
+    let comments = both_decide _ _ (both_decide _ _ (both_decide _ _ (both_decide _ _ (texts_decide a.comments b.comments) (texts_decide a.extracted b.extracted)) (texts_decide a.references b.references)) (booleans_Decides a.fuzzy b.fuzzy)) (texts_decide a.flags b.flags) in
+    let messages = both_decide _ _ (both_decide _ _ (both_decide _ _ (both_decide _ _ (optional_decide a.context b.context) (bytes_eq-Decides a.id b.id)) (optional_decide a.plural b.plural)) (texts_decide a.forms b.forms)) (booleans_Decides a.obsolete b.obsolete) in
     let all = both_decide _ _ (both_decide _ _ comments (previous_decide a.previous b.previous)) messages in (
       λ t.
           let h = all.0 t in

@@ -5,14 +5,10 @@ pub mod Halves
 pub mod Header
 pub mod Charset
 pub mod Validity
-pub mod Strings
-pub mod Keywords
-pub mod Body
-pub mod Head
+pub mod Parts
 pub mod Comments
 pub mod Listed
 pub mod Spelling
-pub mod Reads
-pub mod Descent
+pub mod ReadsText
 pub mod Equality
 pub mod EqualityLaws

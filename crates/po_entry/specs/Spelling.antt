@@ -1,14 +1,12 @@
 -- What spells the entries of a PO text (manual, "The Format of PO Files"): their spellings, joined, and then comments alone.
-use Rattle.std.specs.Prelude.{ℕ, ◌+◌, Bool, true, List, [], ◌∷◌, ◌++◌, map, Option, Some, None}
+use Rattle.std.specs.Prelude.{ℕ, ◌+◌, Bool, true, false, List, [], ◌∷◌, ◌++◌, map, Option, Some, None}
 use Rattle.po_syntax.specs.declared.item.CommentKind.{CommentKind}
 use Rattle.po_syntax.specs.declared.item.Keyword.{Keyword}
 use Rattle.po_syntax.specs.declared.item.Keyword.TheVariants.{MsgCtxt, MsgId, MsgIdPlural, MsgStr, MsgStrAt}
 use Rattle.po_syntax.specs.declared.item.Marks.{Marks}
 use Rattle.po_syntax.specs.TextItem.{TextItem, Comment, Word, Str}
 use Rattle.po_entry.specs.TextEntry.{TextEntry}
-use Rattle.po_entry.specs.Strings.{own_marks}
-use Rattle.po_entry.specs.Head.{CommentText, PreviousText}
-use Rattle.po_entry.specs.Body.{Body}
+use Rattle.po_entry.specs.Parts.{CommentText, PreviousText, Body}
 use Rattle.po_entry.specs.Comments.{comments_of, extracted_of, references_of, fuzzy_of, flags_of, previous_of}
 
 -- one string or more, all under these marks: their bytes, joined
@@ -19,6 +17,10 @@ pub data SpellsStrings (marks : Marks) : List TextItem → List ℕ → Type 0 w
 -- a keyword on this line, and after it the strings of its text, under the keyword's marks
 pub data SpellsKeywordText (keyword : Keyword) (marks : Marks) (line : ℕ) : List TextItem → List ℕ → Type 0 where
   keyword_text : {strings : List TextItem} {text : List ℕ} → SpellsStrings marks strings text → SpellsKeywordText keyword marks line (Word keyword marks line ∷ strings) text
+
+-- the marks of an entry's own lines
+abbrev pub own_marks : Bool → Marks
+own_marks obsolete = record { obsolete = obsolete; previous = false }
 
 -- the marks of previous texts, whose lines begin with `#|` or `#~|`
 abbrev pub previous_marks : Bool → Marks

@@ -1,29 +1,18 @@
 -- What holds of every entry, and of every entry of a catalogue (manual, "The Format of PO Files").
-use Rattle.std.specs.Prelude.{◌≡◌, ◌≢◌, ◌⊎◌, ℕ, ◌<◌, false, List, [], ◌∷◌, None, All, Contains, IfSome, IsUtf8, length, codes}
+use Rattle.std.specs.Prelude.{◌≡◌, ◌≢◌, ◌⊎◌, ℕ, ◌<◌, false, List, [], None, All, IfSome, IsUtf8, length, codes}
 use Rattle.po_entry.specs.TextEntry.{TextEntry, quoted_texts}
 use Rattle.po_entry.specs.Bytes.{Lacks, trimmed, AreDistinct}
 use Rattle.po_syntax.specs.Token.{is_blank}
-use Rattle.po_syntax.specs.Line.{trim_returns}
+use Rattle.po_syntax.specs.ItemContents.{IsText, IsComment, IsCommentOf}
+use Rattle.po_syntax.specs.declared.item.CommentKind.TheVariants.{Translator}
 use Rattle.po_syntax.specs.declared.fault.PoFault.{PoFault}
 use Rattle.po_syntax.specs.declared.fault.PoError.{PoError}
 use Rattle.po_syntax.specs.declared.fault.PoFault.TheVariants.{NotUtf8, ForbiddenByte, ForeignCharset, OutOfMemory}
 use Rattle.po_entry.specs.Header.{HasAdmittedCharset}
 
--- a text that an entry may hold
-pub record IsText (text : List ℕ) : Type 0 where
-  pub utf8 : IsUtf8 text
-  pub no_nul : Lacks 0 text
-
--- the text of a comment is the rest of a line without CRs at its end
-pub record IsComment (text : List ℕ) : Type 0 where
-  pub valid : IsText text
-  pub one_line : Lacks 10 text
-  pub no_final_return : trim_returns text ≡ text
-
--- A translator's comment begins with no character that marks another kind of line: none of `.:,|~`.
-pub record IsTranslatorComment (text : List ℕ) : Type 0 where
-  pub comment : IsComment text
-  pub plain : (rest : List ℕ) (b : ℕ) → text ≡ b ∷ rest → Contains (codes ".:,|~") b → ⊥
+-- a translator's comment, which begins with no character that marks another kind of line
+abbrev pub IsTranslatorComment : List ℕ → Type 0
+IsTranslatorComment text = IsCommentOf Translator text
 
 -- a reference is an element between blanks, on one line
 pub record IsReference (text : List ℕ) : Type 0 where

@@ -3,7 +3,7 @@
 //!
 //! [`Fields`] are the parts of an entry as a reader finds them. An [`Entry`] has only texts that
 //! [`check_texts`] admits, and a [`Catalogue`] only headers whose charset is admitted. What a text
-//! means is defined here too, in the specs: which entries its items read as.
+//! means is defined here too, in the specs: which entries its items spell.
 //!
 //! The modules in reading order: `previous`, `fields`, `copies`, `texts`, `entry`, `equality`,
 //! `charset`, `catalogue`, `laws`.

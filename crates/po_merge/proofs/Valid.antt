@@ -16,7 +16,8 @@ use Rattle.po_syntax.specs.declared.item.CommentKind.TheVariants.{Translator, Ex
 use Rattle.po_entry.specs.Bytes.{Lacks, AreDistinct}
 use Rattle.po_entry.specs.Halves.{All-left, All-right}
 use Rattle.po_entry.specs.TextEntry.{TextEntry, previous_texts}
-use Rattle.po_entry.specs.Validity.{IsText, IsEntry, IsComment, IsTranslatorComment, IsReference, IsFlag}
+use Rattle.po_syntax.specs.ItemContents.{IsText, IsComment}
+use Rattle.po_entry.specs.Validity.{IsEntry, IsTranslatorComment, IsReference, IsFlag}
 use Rattle.po_catalog.specs.Statistics.{has_translation}
 use Rattle.po_merge.specs.declared.input.MergeOptions.{MergeOptions}
 use Rattle.po_merge.specs.Inputs.{NamedEntry}

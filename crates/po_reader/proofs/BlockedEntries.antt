@@ -3,10 +3,11 @@ use Rattle.std.proofs.Common.{ℕ, false, List, [], ◌∷◌, ◌++◌, refl, s
 use Rattle.po_syntax.specs.declared.fault.PoFault.{PoFault}
 use Rattle.po_syntax.specs.TextItem.{TextItem}
 use Rattle.po_entry.specs.TextEntry.{TextEntry}
-use Rattle.po_entry.specs.Head as head
-use Rattle.po_entry.specs.Descent.{Reads, comments, entry}
+use Rattle.po_reader.specs.Head as head
+use Rattle.po_reader.specs.Reads.{Reads, comments, entry}
 use Rattle.po_entry.specs.Spelling.{SpellsEntries}
-use Rattle.po_entry.proofs.Spelt.{reads_spelt}
+use Rattle.po_entry.specs.Parts.{CommentText, PreviousText, rank}
+use Rattle.po_reader.proofs.Spelt.{reads_spelt}
 use Rattle.po_reader.specs.Stops as stop
 use Rattle.po_reader.specs.Viable.{IsViable}
 use Rattle.po_reader.proofs.OneReading.{spelt_or_stop}
@@ -17,7 +18,7 @@ use Rattle.po_reader.proofs.BlockedParts.{AreBody, empty_message, message_empty,
 
 -- an entry, from within its head on
 abbrev IsEntry : ℕ → List TextItem → Type 0
-IsEntry above items = (comment_texts : List head.CommentText) × (previous : List head.PreviousText) × (own : List TextItem) × head.IsHead above items comment_texts previous own × AreBody own
+IsEntry above items = (comment_texts : List CommentText) × (previous : List PreviousText) × (own : List TextItem) × head.IsHead above items comment_texts previous own × AreBody own
 
 abbrev AreEntries : List TextItem → Type 0
 AreEntries items = (entries : List TextEntry) × Reads items entries
@@ -45,7 +46,7 @@ head_blocked context (stop.in_previous {above = above} {keyword = keyword} {mark
     (deeper context (previous_cut above items text keyword marks e) (λ others fault line alike stopped. (tt, λ start p. stop.in_previous p stopped))
     (λ others part.
     let after = empty_message false in
-    let own = entry_empty (head.rank keyword) in
+    let own = entry_empty (rank keyword) in
     (others ++ after, (after, refl), tt, λ start p. (own.0, _, own.2, head.previous p (extended (strings_cut part.1) after refl) own.3, own.4))))
     s
 head_blocked context (stop.after_comment {above = above} {kind = kind} {text = text} {items = items} {after = after} e s) =

@@ -5,9 +5,11 @@ use Rattle.po_syntax.specs.declared.item.Keyword.{Keyword}
 use Rattle.po_syntax.specs.declared.item.Keyword.TheVariants.{MsgCtxt, MsgId, MsgIdPlural, MsgStr, MsgStrAt}
 use Rattle.po_syntax.specs.declared.item.Marks.{Marks}
 use Rattle.po_syntax.specs.TextItem.{TextItem, Word, Str}
-use Rattle.po_entry.specs.Strings as string
-use Rattle.po_entry.specs.Keywords as word
-use Rattle.po_entry.specs.Body as body
+use Rattle.po_entry.specs.Spelling.{own_marks}
+use Rattle.po_entry.specs.Parts.{Body}
+use Rattle.po_reader.specs.Strings as string
+use Rattle.po_reader.specs.Keywords as word
+use Rattle.po_reader.specs.Body as body
 use Rattle.po_reader.specs.Stops as stop
 use Rattle.po_reader.specs.Viable.{IsViable}
 use Rattle.po_reader.proofs.Looks.{strings_look, keyword_text_look, keyword_text_wanted, forms_look, translation_look}
@@ -27,11 +29,11 @@ abbrev AreTranslated : Bool → List TextItem → Type 0
 AreTranslated obsolete items = (plural : Option (List ℕ)) × (forms : List (List ℕ)) × body.IsTranslation obsolete items plural forms []
 
 abbrev pub AreBody : List TextItem → Type 0
-AreBody items = (own : body.Body) × body.IsBody items own []
+AreBody items = (own : Body) × body.IsBody items own []
 
 -- a keyword of own lines with an empty text
 abbrev pub empty_text : Keyword → Bool → List TextItem → List TextItem
-empty_text keyword obsolete rest = Word keyword (string.own_marks obsolete) 0 ∷ Str [] (string.own_marks obsolete) 0 ∷ rest
+empty_text keyword obsolete rest = Word keyword (own_marks obsolete) 0 ∷ Str [] (own_marks obsolete) 0 ∷ rest
 
 abbrev empty_translation : Bool → List TextItem
 empty_translation obsolete = empty_text MsgStr obsolete []
@@ -43,14 +45,14 @@ empty_message obsolete = empty_text MsgId obsolete (empty_translation obsolete)
 abbrev empty_form : Bool → List TextItem
 empty_form obsolete = empty_text (MsgStrAt 0) obsolete []
 
-empty_strings : (obsolete : Bool) (rest : List TextItem) → string.begins_string rest ≡ false → string.IsStrings (string.own_marks obsolete) (Str [] (string.own_marks obsolete) 0 ∷ rest) [] rest
+empty_strings : (obsolete : Bool) (rest : List TextItem) → string.begins_string rest ≡ false → string.IsStrings (own_marks obsolete) (Str [] (own_marks obsolete) 0 ∷ rest) [] rest
 empty_strings true rest e = string.last refl e
 empty_strings false rest e = string.last refl e
 
 empty_keyword_text : (wanted : word.Wanted) (keyword : Keyword) (obsolete : Bool) (rest : List TextItem) → word.is_wanted wanted keyword ≡ true → string.begins_string rest ≡ false
     → word.IsKeywordText wanted obsolete (empty_text keyword obsolete rest) keyword 0 [] rest
 empty_keyword_text wanted keyword obsolete rest e look = word.keyword_text (step obsolete e) (empty_strings obsolete rest look) where
-  step : (o : Bool) → word.is_wanted wanted keyword ≡ true → word.next_keyword wanted o (empty_text keyword o rest) ≡ word.Take keyword 0 (Str [] (string.own_marks o) 0 ∷ rest)
+  step : (o : Bool) → word.is_wanted wanted keyword ≡ true → word.next_keyword wanted o (empty_text keyword o rest) ≡ word.Take keyword 0 (Str [] (own_marks o) 0 ∷ rest)
   step true q = rw q refl
   step false q = rw q refl
 
@@ -91,7 +93,7 @@ keyword_text_blocked {end} {wanted = wanted} {obsolete = obsolete} context (stop
   placed = index;
   unread = λ others other alike refused. context.unread others other (stop.line_at end others) alike (stop.refused refused refl);
   viable = λ item accepted.
-      let text = Str [] (string.own_marks obsolete) 0 in
+      let text = Str [] (own_marks obsolete) 0 in
       let complete = context.viable (item ∷ text ∷ []) (accepted.0, accepted.1, [], word.keyword_text (accepted.2 (text ∷ [])) (empty_strings obsolete [] refl)) in
       shorter (context.own ++ item ∷ []) (text ∷ []) (subst IsViable (sym (append_assoc context.own (item ∷ []) (text ∷ []))) complete);
 }

@@ -6,10 +6,11 @@ use Rattle.po_syntax.specs.declared.item.CommentKind.{CommentKind}
 use Rattle.po_syntax.specs.declared.item.Keyword.{Keyword}
 use Rattle.po_syntax.specs.declared.item.Marks.{Marks}
 use Rattle.po_syntax.specs.TextItem.{TextItem}
-use Rattle.po_entry.specs.Strings as string
-use Rattle.po_entry.specs.Keywords as word
-use Rattle.po_entry.specs.Body as body
-use Rattle.po_entry.specs.Head as head
+use Rattle.po_entry.specs.Parts.{CommentText, PreviousText, Body}
+use Rattle.po_reader.specs.Strings as string
+use Rattle.po_reader.specs.Keywords as word
+use Rattle.po_reader.specs.Body as body
+use Rattle.po_reader.specs.Head as head
 use Rattle.po_reader.proofs.Steps.{string_item, keyword_item, start_item, StartDoes, head_item, HeadDoes}
 use Rattle.po_reader.proofs.Looks.{Starts, FormsEnd, strings_look, keyword_text_look, forms_look, translation_look, head_look}
 
@@ -155,14 +156,14 @@ translation_cut (body.single w) =
     record { own = cut.own; split = cut.split; look = (cut.look, tt); again = λ other q. body.single (cut.again other q.0) }
 translation_cut (body.plural w f) = joined (keyword_text_cut w) (forms_cut f) (λ x y q. (forms_look q).0) (λ x y z p q. body.plural p q)
 
-pub body_cut : {items rest : List TextItem} {a : body.Body} → body.IsBody items a rest → Cut (λ x y. body.IsBody x a y) (λ y. (string.begins_string y ≡ false) × FormsEnd a.plural (body.begins_form y)) items rest
+pub body_cut : {items rest : List TextItem} {a : Body} → body.IsBody items a rest → Cut (λ x y. body.IsBody x a y) (λ y. (string.begins_string y ≡ false) × FormsEnd a.plural (body.begins_form y)) items rest
 body_cut (body.without_context {obsolete = obsolete} {line = line} {items = items} {text = text} e s t) =
     joined (id_cut obsolete line items text e) (followed (strings_cut s) (translation_cut t) (λ x y q. translation_look q)) (λ x y q. tt) (λ x y z p q. body.without_context p q.1 q.2)
 body_cut (body.with_context {obsolete = obsolete} {items = items} {text = text} e s w t) =
     joined (context_cut obsolete items text e) (followed (strings_cut s) (followed (keyword_text_cut w) (translation_cut t) (λ x y q. translation_look q)) (λ x y q. keyword_text_look q.1)) (λ x y q. tt)
     (λ x y z p q. body.with_context p q.1 q.2.1 q.2.2)
 
-pub head_cut : {above : ℕ} {items rest : List TextItem} {comment_texts : List head.CommentText} {previous : List head.PreviousText} → head.IsHead above items comment_texts previous rest → Starts rest
+pub head_cut : {above : ℕ} {items rest : List TextItem} {comment_texts : List CommentText} {previous : List PreviousText} → head.IsHead above items comment_texts previous rest → Starts rest
     → Cut (λ x y. head.IsHead above x comment_texts previous y) Starts items rest
 head_cut (head.over {above = above} e) starts = record { own = []; split = refl; look = starts; again = λ other q. head.over (q above) }
 head_cut (head.head_comment {above = above} {kind = kind} {text = text} {items = items} {after = following} e h) starts =

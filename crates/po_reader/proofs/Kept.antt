@@ -7,14 +7,13 @@ use Rattle.po_syntax.specs.declared.item.CommentKind.{CommentKind}
 use Rattle.po_syntax.specs.declared.item.CommentKind.TheVariants.{Translator, Extracted, Reference, Flags}
 use Rattle.po_syntax.specs.TextItem.{TextItem}
 use Rattle.po_entry.specs.TextEntry.{TextEntry}
-use Rattle.po_entry.specs.Body.{Body}
-use Rattle.po_entry.specs.Descent.{Reads}
-use Rattle.po_entry.specs.Head.{CommentText, PreviousText}
+use Rattle.po_entry.specs.Parts.{Body, CommentText, PreviousText}
+use Rattle.po_reader.specs.Reads.{Reads}
 use Rattle.po_entry.specs.Header.{HasAdmittedCharset}
 use Rattle.po_entry.specs.Comments.{same_kind, texts_of, listed_references, listed_flags, is_fuzzy_flag, with_flag, previous_of}
-use Rattle.po_entry.specs.Reads.{HasReadableTexts}
+use Rattle.po_entry.specs.Validity.{HasTexts, IsTranslatorComment, IsReference}
 use Rattle.po_entry.specs.Spelling.{entry_from}
-use Rattle.po_entry.specs.Validity.{IsComment, IsTranslatorComment, IsReference}
+use Rattle.po_syntax.specs.ItemContents.{IsComment}
 use Rattle.po_reader.specs.Bare.{kept_comments, kept_entry, without_comments}
 use Rattle.po_reader.proofs.SoundCatalogue.{SoundEntry}
 
@@ -94,18 +93,17 @@ bare_sound (entry ∷ entries) h =
       references = All-nil IsReference;
       flags = first.flags;
       distinct_flags = first.distinct_flags;
-      quoted_lack = first.quoted_lack;
       some_form = first.some_form;
       one_form = first.one_form;
     }) (bare_sound entries (All-tail SoundEntry entry entries h))
 
--- entries whose texts can be read without their comments
-pub bare_readable : (entries : List TextEntry) → All HasReadableTexts (map without_comments entries) → All HasReadableTexts entries
-bare_readable [] h = All-nil HasReadableTexts
-bare_readable (entry ∷ entries) h =
-    let first : HasReadableTexts (without_comments entry) = All-head HasReadableTexts (without_comments entry) (map without_comments entries) h in
-    All-cons HasReadableTexts entry entries (record { utf8 = first.utf8; no_eot = record { context = first.no_eot.context; id = first.no_eot.id } })
-    (bare_readable entries (All-tail HasReadableTexts (without_comments entry) (map without_comments entries) h))
+-- entries that can have their texts without their comments
+pub bare_texts : (entries : List TextEntry) → All HasTexts (map without_comments entries) → All HasTexts entries
+bare_texts [] h = All-nil HasTexts
+bare_texts (entry ∷ entries) h =
+    let first : HasTexts (without_comments entry) = All-head HasTexts (without_comments entry) (map without_comments entries) h in
+    All-cons HasTexts entry entries (record { utf8 = first.utf8; clean = record { no_nul = first.clean.no_nul; context = first.clean.context; id = first.clean.id } })
+    (bare_texts entries (All-tail HasTexts (without_comments entry) (map without_comments entries) h))
 
 -- headers whose charsets are admitted without their comments
 pub bare_admitted : (entries : List TextEntry) → All HasAdmittedCharset (map without_comments entries) → All HasAdmittedCharset entries

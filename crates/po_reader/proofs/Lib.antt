@@ -1,3 +1,7 @@
+pub mod SameMarks
+pub mod PreviousOrder
+pub mod Spelt
+pub mod SpeltReads
 pub mod TakenKeywords
 pub mod Results
 pub mod Splits
@@ -10,7 +14,6 @@ pub mod SoundEntries
 pub mod SoundFields
 pub mod SoundCatalogue
 pub mod Loops
-pub mod SoundItems
 pub mod Once
 pub mod OneReading
 pub mod OneFault

@@ -1,6 +1,7 @@
 -- What the items look like that some part of an entry is read from.
 use Rattle.std.proofs.Common.{◌≡◌, ℕ, Bool, true, false, not, nat_lt, List, [], ◌∷◌, Option, Some, None, refl, sym, subst}
 use Rattle.std.specs.Prelude.{if◌then◌else◌}
+use Rattle.std.specs.Bool.{beq}
 use Rattle.po_syntax.specs.declared.fault.PoFault.{PoFault}
 use Rattle.po_syntax.specs.declared.fault.PoFault.TheVariants.{BadOrder}
 use Rattle.po_syntax.specs.declared.item.Keyword.{Keyword}
@@ -8,12 +9,13 @@ use Rattle.po_syntax.specs.declared.item.Keyword.TheVariants.{MsgCtxt, MsgId, Ms
 use Rattle.po_syntax.specs.declared.item.Marks.{Marks}
 use Rattle.po_syntax.specs.TextItem.{TextItem, Comment, Word, Str}
 use Rattle.po_entry.specs.TextEntry.{TextEntry}
-use Rattle.po_entry.specs.Strings as string
-use Rattle.po_entry.specs.Keywords as word
-use Rattle.po_entry.specs.Body as body
-use Rattle.po_entry.specs.Head as head
-use Rattle.po_entry.specs.Descent.{Reads, comments, entry}
-use Rattle.po_entry.specs.Spelling.{AreComments}
+use Rattle.po_reader.specs.Strings as string
+use Rattle.po_reader.specs.Keywords as word
+use Rattle.po_reader.specs.Body as body
+use Rattle.po_reader.specs.Head as head
+use Rattle.po_reader.specs.Reads.{Reads, comments, entry}
+use Rattle.po_entry.specs.Spelling.{AreComments, own_marks}
+use Rattle.po_entry.specs.Parts.{CommentText, PreviousText, Body}
 use Rattle.po_reader.specs.Stops as stop
 use Rattle.po_reader.proofs.Steps.{keyword_reported}
 
@@ -45,7 +47,7 @@ wanted_keyword : (wanted : word.Wanted) (obsolete : Bool) (items rest : List Tex
 wanted_keyword wanted obsolete [] rest keyword line e = cc
 wanted_keyword wanted obsolete (Comment kind text l ∷ items) rest keyword line e = cc
 wanted_keyword wanted obsolete (Str text found l ∷ items) rest keyword line e = cc
-wanted_keyword wanted obsolete (Word found marks l ∷ items) rest keyword line e = (refl, chosen marks.previous (word.is_wanted wanted found) refl (string.same_bool obsolete marks.obsolete) (word.is_wrong_form wanted found) e) where
+wanted_keyword wanted obsolete (Word found marks l ∷ items) rest keyword line e = (refl, chosen marks.previous (word.is_wanted wanted found) refl (beq obsolete marks.obsolete) (word.is_wrong_form wanted found) e) where
   chosen : (p w : Bool) → word.is_wanted wanted found ≡ w → (s f : Bool)
       → keyword_reported p w s f found l items ≡ word.Take keyword line rest
       → word.is_wanted wanted keyword ≡ true
@@ -75,7 +77,7 @@ form_taken index obsolete (Word MsgId marks l ∷ items) rest keyword line e = a
 form_taken index obsolete (Word MsgIdPlural marks l ∷ items) rest keyword line e = absurd (never_taken marks.previous e)
 form_taken index obsolete (Word MsgStr marks l ∷ items) rest keyword line e = absurd (never_taken marks.previous e)
 form_taken index obsolete (Word (MsgStrAt found) marks l ∷ items) rest keyword line e = chosen marks.previous e where
-  chosen : (p : Bool) → (if p then word.Refuse BadOrder else word.keyword_step (word.Form index) obsolete (MsgStrAt found) (string.own_marks marks.obsolete) l items) ≡ word.Take keyword line rest → not p ≡ true
+  chosen : (p : Bool) → (if p then word.Refuse BadOrder else word.keyword_step (word.Form index) obsolete (MsgStrAt found) (own_marks marks.obsolete) l items) ≡ word.Take keyword line rest → not p ≡ true
   chosen true q = cc
   chosen false q = refl
 
@@ -113,7 +115,7 @@ head_apart above (Word (MsgStrAt index) marks line ∷ items) h = (refl, chosen 
   chosen true q = refl
   chosen false q = absurd q
 
-pub head_look : {above : ℕ} {items rest : List TextItem} {comment_texts : List head.CommentText} {previous : List head.PreviousText} → head.IsHead above items comment_texts previous rest → IsApart items
+pub head_look : {above : ℕ} {items rest : List TextItem} {comment_texts : List CommentText} {previous : List PreviousText} → head.IsHead above items comment_texts previous rest → IsApart items
 head_look (head.over {above = above} {items = items} e) = head_apart above items (subst GoesOn (sym e) tt)
 head_look (head.head_comment {above = above} {items = items} e h) = head_apart above items (subst GoesOn (sym e) tt)
 head_look (head.previous {above = above} {items = items} e s h) = head_apart above items (subst GoesOn (sym e) tt)
@@ -151,7 +153,7 @@ started (Word MsgIdPlural marks line ∷ items) h = absurd h
 started (Word MsgStr marks line ∷ items) h = absurd h
 started (Word (MsgStrAt index) marks line ∷ items) h = absurd h
 
-pub body_starts : {items rest : List TextItem} {a : body.Body} → body.IsBody items a rest → Starts items
+pub body_starts : {items rest : List TextItem} {a : Body} → body.IsBody items a rest → Starts items
 body_starts (body.without_context {items = items} e s t) = started items (subst IsStart (sym e) tt)
 body_starts (body.with_context {items = items} e s w t) = started items (subst IsStart (sym e) tt)
 

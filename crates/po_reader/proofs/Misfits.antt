@@ -2,6 +2,8 @@
 use Rattle.std.proofs.Common.{◌≡◌, ◌≢◌, ℕ, Bool, true, false, not, ◌&&◌, ◌||◌, nat_lt, List, [], ◌∷◌, ◌++◌, refl, sym, ap, subst, ◌∙◌, true≢false}
 use Rattle.std.specs.Prelude.{if◌then◌else◌}
 use Rattle.std.proofs.lemmas.Bool.{eqb-true, eqb-false, eq-eqb, ne_eqb}
+use Rattle.std.specs.Bool.{beq}
+use Rattle.std.specs.Cmp.{bool_eq_equiv}
 use Rattle.po_syntax.specs.declared.fault.PoFault.{PoFault}
 use Rattle.po_syntax.specs.declared.fault.PoFault.TheVariants.{BadOrder, BadPluralIndex, MixedObsolete}
 use Rattle.po_syntax.specs.declared.item.CommentKind.TheVariants.{Translator}
@@ -9,9 +11,11 @@ use Rattle.po_syntax.specs.declared.item.Keyword.{Keyword}
 use Rattle.po_syntax.specs.declared.item.Keyword.TheVariants.{MsgCtxt, MsgId, MsgIdPlural, MsgStr, MsgStrAt}
 use Rattle.po_syntax.specs.declared.item.Marks.{Marks}
 use Rattle.po_syntax.specs.TextItem.{TextItem, Comment, Word, Str}
-use Rattle.po_entry.specs.Strings as string
-use Rattle.po_entry.specs.Keywords as word
-use Rattle.po_entry.specs.Head as head
+use Rattle.po_entry.specs.Spelling.{own_marks}
+use Rattle.po_entry.specs.Parts.{rank}
+use Rattle.po_reader.specs.Strings as string
+use Rattle.po_reader.specs.Keywords as word
+use Rattle.po_reader.specs.Head as head
 use Rattle.po_reader.specs.Viable.{IsViable, IsOwn, IsWrongIndex, IsMixed, with_obsolete, Misfit, index, mixed, order}
 use Rattle.po_reader.proofs.Steps.{keyword_reported, head_reported}
 use Rattle.po_reader.proofs.Blocked.{Point, AtString, AtKeyword, AtHead, Refuses, Accepts, Alike}
@@ -41,7 +45,7 @@ not_mixed : (prefix : List TextItem) (point : Point) (item : TextItem) → Never
 not_mixed prefix point item never shuns w = never (with_obsolete w.1.0 item) (obsolete_alike w.1.0 item) (shuns w.1.0 w.0) w.1.1
 
 not_index : (prefix : List TextItem) (point : Point) (item : TextItem) → NeverAfter prefix point item
-    → ((found other : ℕ) (obsolete : Bool) (marks : Marks) (line : ℕ) → item ≡ Word (MsgStrAt found) marks line → other ≢ found → Shuns point (Word (MsgStrAt other) (string.own_marks obsolete) line)) → IsWrongIndex prefix item → ⊥
+    → ((found other : ℕ) (obsolete : Bool) (marks : Marks) (line : ℕ) → item ≡ Word (MsgStrAt found) marks line → other ≢ found → Shuns point (Word (MsgStrAt other) (own_marks obsolete) line)) → IsWrongIndex prefix item → ⊥
 not_index prefix point (Comment kind text line) never shuns w = w
 not_index prefix point (Str bytes marks line) never shuns w = w
 not_index prefix point (Word MsgCtxt marks line) never shuns w = w
@@ -49,7 +53,7 @@ not_index prefix point (Word MsgId marks line) never shuns w = w
 not_index prefix point (Word MsgIdPlural marks line) never shuns w = w
 not_index prefix point (Word MsgStr marks line) never shuns w = w
 not_index prefix point (Word (MsgStrAt found) marks line) never shuns w =
-    never (Word (MsgStrAt w.1) (string.own_marks w.2) line) (refl, ap not w.0) (shuns found w.1 w.2 marks line refl w.3) w.4
+    never (Word (MsgStrAt w.1) (own_marks w.2) line) (refl, ap not w.0) (shuns found w.1 w.2 marks line refl w.3) w.4
 
 index_own : (prefix : List TextItem) (item : TextItem) → IsWrongIndex prefix item → IsOwn item
 index_own prefix (Comment kind text line) w = absurd w
@@ -67,13 +71,13 @@ foreign prefix item not_own = order (λ w. not_own (index_own prefix item w)) (�
 not_both : {p : Bool} → p ≡ true → p ≡ false → ⊥
 not_both t f = true≢false (sym t ∙ f)
 
-unlike : (a p q : Bool) → p ≡ true → q ≡ false → (a && string.same_bool p q) ≡ false
+unlike : (a p q : Bool) → p ≡ true → q ≡ false → (a && beq p q) ≡ false
 unlike true true false e f = refl
 unlike false true false e f = refl
 unlike a false q e f = cc
 unlike a true true e f = cc
 
-like : (a p q : Bool) → p ≡ false → q ≡ false → (string.same_bool a a && string.same_bool p q) ≡ true
+like : (a p q : Bool) → p ≡ false → q ≡ false → (beq a a && beq p q) ≡ true
 like true false false e f = refl
 like false false false e f = refl
 like a true q e f = cc
@@ -89,7 +93,7 @@ string_misfit prefix marks found bytes line rest fault never could e = chosen (s
     either false = refl
   kind true false e f =
       order (λ w. w)
-      (not_mixed prefix (AtString marks) (Str bytes found line) never (λ obsolete own. (_, λ others. ap (λ (s : Bool). if s then string.Take bytes others else string.Refuse (string.stray_string marks (record { obsolete = obsolete; previous = found.previous }))) (unlike (string.same_bool marks.obsolete obsolete) marks.previous found.previous e f))))
+      (not_mixed prefix (AtString marks) (Str bytes found line) never (λ obsolete own. (_, λ others. ap (λ (s : Bool). if s then string.Take bytes others else string.Refuse (string.stray_string marks (record { obsolete = obsolete; previous = found.previous }))) (unlike (beq marks.obsolete obsolete) marks.previous found.previous e f))))
   kind false false e f =
       mixed (λ w. w)
       (f, (marks.obsolete, could (with_obsolete marks.obsolete (Str bytes found line)) (bytes, λ others. ap (λ (s : Bool). if s then string.Take bytes others else string.Refuse (string.stray_string marks (record { obsolete = marks.obsolete; previous = found.previous }))) (like marks.obsolete marks.previous found.previous e f))))
@@ -98,12 +102,8 @@ string_misfit prefix marks found bytes line rest fault never could e = chosen (s
   chosen true q = absurd cc
   chosen false q = let same : string.stray_string marks found ≡ fault = cc in subst (λ (f : PoFault). Misfit prefix (Str bytes found line) f) same (kind marks.previous found.previous refl refl)
 
-same_itself : (a : Bool) → string.same_bool a a ≡ true
-same_itself true = refl
-same_itself false = refl
-
 keyword_accepted : (wanted : word.Wanted) (obsolete : Bool) (keyword : Keyword) (marks : Marks) (line : ℕ) → marks.obsolete ≡ obsolete → marks.previous ≡ false → word.is_wanted wanted keyword ≡ true → Accepts (AtKeyword wanted obsolete) (Word keyword marks line)
-keyword_accepted wanted obsolete keyword marks line o p w = (keyword, line, λ rest. reported rest marks.previous (word.is_wanted wanted keyword) (string.same_bool obsolete marks.obsolete) p w (ap (string.same_bool obsolete) o ∙ same_itself obsolete)) where
+keyword_accepted wanted obsolete keyword marks line o p w = (keyword, line, λ rest. reported rest marks.previous (word.is_wanted wanted keyword) (beq obsolete marks.obsolete) p w (ap (beq obsolete) o ∙ bool_eq_equiv.refl obsolete)) where
   reported : (rest : List TextItem) (p w s : Bool) → p ≡ false → w ≡ true → s ≡ true → keyword_reported p w s (word.is_wrong_form wanted keyword) keyword line rest ≡ word.Take keyword line rest
   reported rest true w s p q r = cc
   reported rest false true true p q r = refl
@@ -112,7 +112,7 @@ keyword_accepted wanted obsolete keyword marks line o p w = (keyword, line, λ r
 
 keyword_shunned : (wanted : word.Wanted) (obsolete : Bool) (keyword : Keyword) (marks : Marks) (line : ℕ) → word.is_wanted wanted keyword ≡ false → Shuns (AtKeyword wanted obsolete) (Word keyword marks line)
 keyword_shunned wanted obsolete keyword marks line w = reported marks.previous (word.is_wanted wanted keyword) (word.is_wrong_form wanted keyword) w where
-  reported : (p w f : Bool) → w ≡ false → (fault : PoFault) × ((rest : List TextItem) → keyword_reported p w (string.same_bool obsolete marks.obsolete) f keyword line rest ≡ word.Refuse fault)
+  reported : (p w f : Bool) → w ≡ false → (fault : PoFault) × ((rest : List TextItem) → keyword_reported p w (beq obsolete marks.obsolete) f keyword line rest ≡ word.Refuse fault)
   reported true w f q = (BadOrder, λ rest. refl)
   reported false true f q = cc
   reported false false true q = (BadPluralIndex, λ rest. refl)
@@ -134,7 +134,7 @@ no_index (word.Form n) found other f = cc
 other_index : (prefix : List TextItem) (wanted : word.Wanted) (obsolete : Bool) (keyword : Keyword) (marks : Marks) (line : ℕ) → CouldFollow prefix (AtKeyword wanted obsolete) → marks.previous ≡ false → word.is_wanted wanted keyword ≡ false
     → word.is_wrong_form wanted keyword ≡ true → IsWrongIndex prefix (Word keyword marks line)
 other_index prefix (word.Form n) obsolete (MsgStrAt found) marks line could p w f =
-    (p, n, obsolete, λ e. eqb-false found n w (sym e), could (Word (MsgStrAt n) (string.own_marks obsolete) line) (keyword_accepted (word.Form n) obsolete (MsgStrAt n) (string.own_marks obsolete) line refl refl (eq-eqb n n refl)))
+    (p, n, obsolete, λ e. eqb-false found n w (sym e), could (Word (MsgStrAt n) (own_marks obsolete) line) (keyword_accepted (word.Form n) obsolete (MsgStrAt n) (own_marks obsolete) line refl refl (eq-eqb n n refl)))
 other_index prefix word.Id obsolete keyword marks line could p w f = absurd cc
 other_index prefix word.Translation obsolete keyword marks line could p w f = absurd cc
 other_index prefix (word.Form n) obsolete MsgCtxt marks line could p w f = absurd cc
@@ -150,7 +150,7 @@ keyword_of (Str bytes marks line) other = other
 keyword_misfit : (prefix : List TextItem) (wanted : word.Wanted) (obsolete : Bool) (keyword : Keyword) (marks : Marks) (line : ℕ) (rest : List TextItem) (fault : PoFault) → NeverAfter prefix (AtKeyword wanted obsolete) (Word keyword marks line)
     → CouldFollow prefix (AtKeyword wanted obsolete) → word.next_keyword wanted obsolete (Word keyword marks line ∷ rest) ≡ word.Refuse fault → Misfit prefix (Word keyword marks line) fault
 keyword_misfit prefix wanted obsolete keyword marks line rest fault never could e =
-    chosen marks.previous refl (word.is_wanted wanted keyword) refl (string.same_bool obsolete marks.obsolete) (word.is_wrong_form wanted keyword) refl e where
+    chosen marks.previous refl (word.is_wanted wanted keyword) refl (beq obsolete marks.obsolete) (word.is_wrong_form wanted keyword) refl e where
       reported : {other : PoFault} → word.Refuse other ≡ word.Refuse fault → Misfit prefix (Word keyword marks line) other → Misfit prefix (Word keyword marks line) fault
       reported {other} q misfit = let same : other ≡ fault = cc in subst (λ (f : PoFault). Misfit prefix (Word keyword marks line) f) same misfit
 
@@ -159,22 +159,22 @@ keyword_misfit prefix wanted obsolete keyword marks line rest fault never could 
       chosen false p true w true f g q = absurd cc
       chosen false p true w false f g q =
           reported q
-          (mixed (not_index prefix (AtKeyword wanted obsolete) (Word keyword marks line) never (λ found other o m l same ne. keyword_shunned wanted obsolete (MsgStrAt other) (string.own_marks o) l (only_index wanted found other (subst (λ (i : TextItem). word.is_wanted wanted (keyword_of i keyword) ≡ true) same w) ne)))
+          (mixed (not_index prefix (AtKeyword wanted obsolete) (Word keyword marks line) never (λ found other o m l same ne. keyword_shunned wanted obsolete (MsgStrAt other) (own_marks o) l (only_index wanted found other (subst (λ (i : TextItem). word.is_wanted wanted (keyword_of i keyword) ≡ true) same w) ne)))
           (p, (obsolete, could (with_obsolete obsolete (Word keyword marks line)) (keyword_accepted wanted obsolete keyword (record { obsolete = obsolete; previous = marks.previous }) line refl p w))))
       chosen false p false w s true g q = reported q (index (other_index prefix wanted obsolete keyword marks line could p w g))
       chosen false p false w s false g q =
           reported q
-          (order (not_index prefix (AtKeyword wanted obsolete) (Word keyword marks line) never (λ found other o m l same ne. keyword_shunned wanted obsolete (MsgStrAt other) (string.own_marks o) l (no_index wanted found other (subst (λ (i : TextItem). word.is_wrong_form wanted (keyword_of i keyword) ≡ false) same g))))
+          (order (not_index prefix (AtKeyword wanted obsolete) (Word keyword marks line) never (λ found other o m l same ne. keyword_shunned wanted obsolete (MsgStrAt other) (own_marks o) l (no_index wanted found other (subst (λ (i : TextItem). word.is_wrong_form wanted (keyword_of i keyword) ≡ false) same g))))
           (not_mixed prefix (AtKeyword wanted obsolete) (Word keyword marks line) never (λ o own. keyword_shunned wanted obsolete keyword (record { obsolete = o; previous = marks.previous }) line w)))
 
 head_misfit : (prefix : List TextItem) (above : ℕ) (keyword : Keyword) (marks : Marks) (line : ℕ) (rest : List TextItem) (fault : PoFault) → NeverAfter prefix (AtHead above) (Word keyword marks line)
     → head.head_step above (Word keyword marks line ∷ rest) ≡ head.Refuse fault → Misfit prefix (Word keyword marks line) fault
-head_misfit prefix above keyword marks line rest fault never e = chosen marks.previous refl (nat_lt above (head.rank keyword)) (head.begins_body keyword) refl e where
+head_misfit prefix above keyword marks line rest fault never e = chosen marks.previous refl (nat_lt above (rank keyword)) (head.begins_body keyword) refl e where
   reported : head.Refuse BadOrder ≡ head.Refuse fault → Misfit prefix (Word keyword marks line) BadOrder → Misfit prefix (Word keyword marks line) fault
   reported q misfit = let same : BadOrder ≡ fault = cc in subst (λ (f : PoFault). Misfit prefix (Word keyword marks line) f) same misfit
 
   shunned : (p b : Bool) → p ≡ false → b ≡ false → (m : Marks) (others : List TextItem)
-      → head_reported p (nat_lt above (head.rank keyword)) b keyword m others ≡ head.Refuse BadOrder
+      → head_reported p (nat_lt above (rank keyword)) b keyword m others ≡ head.Refuse BadOrder
   shunned true b p q m others = cc
   shunned false true p q m others = cc
   shunned false false p q m others = refl
@@ -191,7 +191,7 @@ head_misfit prefix above keyword marks line rest fault never e = chosen marks.pr
 
 -- an item that is out of order wherever it stands
 stray : (prefix : List TextItem) (point : Point) (item : TextItem) (fault : PoFault) → BadOrder ≡ fault → NeverAfter prefix point item
-    → ((found other : ℕ) (obsolete : Bool) (marks : Marks) (line : ℕ) → item ≡ Word (MsgStrAt found) marks line → other ≢ found → Shuns point (Word (MsgStrAt other) (string.own_marks obsolete) line))
+    → ((found other : ℕ) (obsolete : Bool) (marks : Marks) (line : ℕ) → item ≡ Word (MsgStrAt found) marks line → other ≢ found → Shuns point (Word (MsgStrAt other) (own_marks obsolete) line))
     → ((obsolete : Bool) → IsOwn item → Shuns point (with_obsolete obsolete item)) → Misfit prefix item fault
 stray prefix point item fault e never other obsolete = subst (λ (f : PoFault). Misfit prefix item f) e (order (not_index prefix point item never other) (not_mixed prefix point item never obsolete))
 
@@ -209,11 +209,11 @@ misfit_at prefix (AtHead above) (Str bytes marks line) rest fault never could e 
 -- some item may stand at any place
 pub stands : (point : Point) → (item : TextItem) × Accepts point item
 stands (AtString marks) =
-    (Str [] marks 0, ([], λ rest. ap (λ (s : Bool). if s then string.Take [] rest else string.Refuse (string.stray_string marks marks)) (both (string.same_bool marks.obsolete marks.obsolete) (string.same_bool marks.previous marks.previous) (same_itself marks.obsolete) (same_itself marks.previous)))) where
+    (Str [] marks 0, ([], λ rest. ap (λ (s : Bool). if s then string.Take [] rest else string.Refuse (string.stray_string marks marks)) (both (beq marks.obsolete marks.obsolete) (beq marks.previous marks.previous) (bool_eq_equiv.refl marks.obsolete) (bool_eq_equiv.refl marks.previous)))) where
       both : (a b : Bool) → a ≡ true → b ≡ true → (a && b) ≡ true
       both true b e f = f
       both false b e f = e
-stands (AtKeyword word.Id obsolete) = (Word MsgId (string.own_marks obsolete) 0, keyword_accepted word.Id obsolete MsgId (string.own_marks obsolete) 0 refl refl refl)
-stands (AtKeyword word.Translation obsolete) = (Word MsgStr (string.own_marks obsolete) 0, keyword_accepted word.Translation obsolete MsgStr (string.own_marks obsolete) 0 refl refl refl)
-stands (AtKeyword (word.Form n) obsolete) = (Word (MsgStrAt n) (string.own_marks obsolete) 0, keyword_accepted (word.Form n) obsolete (MsgStrAt n) (string.own_marks obsolete) 0 refl refl (eq-eqb n n refl))
+stands (AtKeyword word.Id obsolete) = (Word MsgId (own_marks obsolete) 0, keyword_accepted word.Id obsolete MsgId (own_marks obsolete) 0 refl refl refl)
+stands (AtKeyword word.Translation obsolete) = (Word MsgStr (own_marks obsolete) 0, keyword_accepted word.Translation obsolete MsgStr (own_marks obsolete) 0 refl refl refl)
+stands (AtKeyword (word.Form n) obsolete) = (Word (MsgStrAt n) (own_marks obsolete) 0, keyword_accepted (word.Form n) obsolete (MsgStrAt n) (own_marks obsolete) 0 refl refl (eq-eqb n n refl))
 stands (AtHead above) = (Comment Translator [] 0, (Translator, [], λ rest. refl))

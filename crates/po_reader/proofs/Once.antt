@@ -4,10 +4,12 @@ use Rattle.po_syntax.specs.declared.fault.PoFault.{PoFault}
 use Rattle.po_syntax.specs.declared.item.Keyword.{Keyword}
 use Rattle.po_syntax.specs.declared.item.Marks.{Marks}
 use Rattle.po_syntax.specs.TextItem.{TextItem}
-use Rattle.po_entry.specs.Strings as string
-use Rattle.po_entry.specs.Keywords as word
-use Rattle.po_entry.specs.Body as body
-use Rattle.po_entry.specs.Head as head
+use Rattle.po_entry.specs.Spelling.{own_marks}
+use Rattle.po_entry.specs.Parts.{CommentText, PreviousText, Body, rank}
+use Rattle.po_reader.specs.Strings as string
+use Rattle.po_reader.specs.Keywords as word
+use Rattle.po_reader.specs.Body as body
+use Rattle.po_reader.specs.Head as head
 use Rattle.po_reader.specs.Stops as stop
 
 pub strings_once : {marks : Marks} {items rest others : List TextItem} {a b : List ℕ} → string.IsStrings marks items a rest → string.IsStrings marks items b others → (a ≡ b) × (rest ≡ others)
@@ -33,14 +35,14 @@ pub keyword_text_once : {wanted : word.Wanted} {obsolete : Bool} {items rest oth
     → (k ≡ l) × (m ≡ n) × (a ≡ b) × (rest ≡ others)
 keyword_text_once {wanted} {obsolete} (word.keyword_text {text = text} {rest = rest} {bytes = a} e s) (word.keyword_text {text = here} {rest = others} {bytes = b} g t) =
     let same : text ≡ here = cc in
-    let strings = strings_once s (subst (λ (i : List TextItem). string.IsStrings (string.own_marks obsolete) i b others) (sym same) t) in
+    let strings = strings_once s (subst (λ (i : List TextItem). string.IsStrings (own_marks obsolete) i b others) (sym same) t) in
     (cc, cc, strings.0, strings.1)
 
 pub keyword_text_or_stop : {end line m : ℕ} {wanted : word.Wanted} {obsolete : Bool} {fault : PoFault} {items rest : List TextItem} {k : Keyword} {a : List ℕ} → word.IsKeywordText wanted obsolete items k m a rest → stop.KeywordTextStops end wanted obsolete items fault line → ⊥
 keyword_text_or_stop (word.keyword_text e s) (stop.refused g l) = cc
 keyword_text_or_stop {end} {line} {m} {wanted} {obsolete} {fault} (word.keyword_text {text = text} e s) (stop.in_text {text = here} g t) =
     let same : text ≡ here = cc in
-    strings_or_stop s (subst (λ (i : List TextItem). stop.StringsStop end (string.own_marks obsolete) i fault line) (sym same) t)
+    strings_or_stop s (subst (λ (i : List TextItem). stop.StringsStop end (own_marks obsolete) i fault line) (sym same) t)
 
 pub forms_once : {obsolete : Bool} {index : ℕ} {items rest others : List TextItem} {a b : List (List ℕ)} → body.IsForms obsolete index items a rest → body.IsForms obsolete index items b others → (a ≡ b) × (rest ≡ others)
 forms_once (body.last w f) (body.last v g) = let same = keyword_text_once w v in (ap (λ (x : List ℕ). x ∷ []) same.2, same.3)
@@ -79,12 +81,12 @@ translation_or_stop {end} {line} {obsolete} {fault} (body.plural w f) (stop.in_f
     let same = keyword_text_once w v in
     forms_or_stop f (subst (λ (i : List TextItem). stop.FormsStop end obsolete 0 i fault line) (sym same.3) s)
 
-pub body_once : {items rest others : List TextItem} {a b : body.Body} → body.IsBody items a rest → body.IsBody items b others → (a ≡ b) × (rest ≡ others)
+pub body_once : {items rest others : List TextItem} {a b : Body} → body.IsBody items a rest → body.IsBody items b others → (a ≡ b) × (rest ≡ others)
 body_once (body.without_context {obsolete = o} {line = m} {text = text} {after = after} {id = id} e s t) (body.without_context {obsolete = p} {line = n} {text = here} {after = following} {rest = others} {id = name} {plural = plural} {forms = forms} g u v) =
     let same : text ≡ here = cc in
     let mark : o ≡ p = cc in
     let line : m ≡ n = cc in
-    let strings = strings_once s (subst (λ (q : Bool). string.IsStrings (string.own_marks q) text name following) (sym mark) (subst (λ (i : List TextItem). string.IsStrings (string.own_marks p) i name following) (sym same) u)) in
+    let strings = strings_once s (subst (λ (q : Bool). string.IsStrings (own_marks q) text name following) (sym mark) (subst (λ (i : List TextItem). string.IsStrings (own_marks p) i name following) (sym same) u)) in
     let later = translation_once t (subst (λ (q : Bool). body.IsTranslation q after plural forms others) (sym mark) (subst (λ (i : List TextItem). body.IsTranslation p i plural forms others) (sym strings.1) v)) in
     let ids = strings.0 in
     let plurals = later.0 in
@@ -95,7 +97,7 @@ body_once (body.with_context e s w t) (body.without_context g u v) = cc
 body_once (body.with_context {obsolete = o} {text = text} {middle = inner} {after = after} {context = context} e s w t) (body.with_context {obsolete = p} {keyword = keyword} {line = n} {text = here} {middle = middle} {after = following} {rest = others} {context = first} {id = name} {plural = plural} {forms = forms} g u x v) =
     let same : text ≡ here = cc in
     let mark : o ≡ p = cc in
-    let strings = strings_once s (subst (λ (q : Bool). string.IsStrings (string.own_marks q) text first middle) (sym mark) (subst (λ (i : List TextItem). string.IsStrings (string.own_marks p) i first middle) (sym same) u)) in
+    let strings = strings_once s (subst (λ (q : Bool). string.IsStrings (own_marks q) text first middle) (sym mark) (subst (λ (i : List TextItem). string.IsStrings (own_marks p) i first middle) (sym same) u)) in
     let content = keyword_text_once w (subst (λ (q : Bool). word.IsKeywordText word.Id q inner keyword n name following) (sym mark) (subst (λ (i : List TextItem). word.IsKeywordText word.Id p i keyword n name following) (sym strings.1) x)) in
     let later = translation_once t (subst (λ (q : Bool). body.IsTranslation q after plural forms others) (sym mark) (subst (λ (i : List TextItem). body.IsTranslation p i plural forms others) (sym content.3) v)) in
     let contexts = strings.0 in
@@ -105,38 +107,38 @@ body_once (body.with_context {obsolete = o} {text = text} {middle = inner} {afte
     let forms_same = later.1 in
     (cc, later.2)
 
-pub body_or_stop : {end line : ℕ} {fault : PoFault} {items rest : List TextItem} {a : body.Body} → body.IsBody items a rest → stop.BodyStops end items fault line → ⊥
+pub body_or_stop : {end line : ℕ} {fault : PoFault} {items rest : List TextItem} {a : Body} → body.IsBody items a rest → stop.BodyStops end items fault line → ⊥
 body_or_stop (body.without_context e s t) (stop.in_context g u) = cc
 body_or_stop (body.without_context e s t) (stop.at_id g u v) = cc
 body_or_stop (body.without_context e s t) (stop.after_context g u v w) = cc
 body_or_stop {end} {line} {fault} (body.without_context {obsolete = o} {text = text} {after = after} e s t) (stop.in_id {obsolete = p} {text = here} g u) =
     let same : text ≡ here = cc in
     let mark : o ≡ p = cc in
-    strings_or_stop s (subst (λ (q : Bool). stop.StringsStop end (string.own_marks q) text fault line) (sym mark) (subst (λ (i : List TextItem). stop.StringsStop end (string.own_marks p) i fault line) (sym same) u))
+    strings_or_stop s (subst (λ (q : Bool). stop.StringsStop end (own_marks q) text fault line) (sym mark) (subst (λ (i : List TextItem). stop.StringsStop end (own_marks p) i fault line) (sym same) u))
 body_or_stop {end} {line} {fault} (body.without_context {obsolete = o} {text = text} {after = after} e s t) (stop.after_id {obsolete = p} {text = here} {after = following} {id = name} g u v) =
     let same : text ≡ here = cc in
     let mark : o ≡ p = cc in
-    let strings = strings_once s (subst (λ (q : Bool). string.IsStrings (string.own_marks q) text name following) (sym mark) (subst (λ (i : List TextItem). string.IsStrings (string.own_marks p) i name following) (sym same) u)) in
+    let strings = strings_once s (subst (λ (q : Bool). string.IsStrings (own_marks q) text name following) (sym mark) (subst (λ (i : List TextItem). string.IsStrings (own_marks p) i name following) (sym same) u)) in
     translation_or_stop t (subst (λ (q : Bool). stop.TranslationStops end q after fault line) (sym mark) (subst (λ (i : List TextItem). stop.TranslationStops end p i fault line) (sym strings.1) v))
 body_or_stop (body.with_context e s w t) (stop.in_id g u) = cc
 body_or_stop (body.with_context e s w t) (stop.after_id g u v) = cc
 body_or_stop {end} {line} {fault} (body.with_context {obsolete = o} {text = text} {middle = inner} {after = after} e s w t) (stop.in_context {obsolete = p} {text = here} g u) =
     let same : text ≡ here = cc in
     let mark : o ≡ p = cc in
-    strings_or_stop s (subst (λ (q : Bool). stop.StringsStop end (string.own_marks q) text fault line) (sym mark) (subst (λ (i : List TextItem). stop.StringsStop end (string.own_marks p) i fault line) (sym same) u))
+    strings_or_stop s (subst (λ (q : Bool). stop.StringsStop end (own_marks q) text fault line) (sym mark) (subst (λ (i : List TextItem). stop.StringsStop end (own_marks p) i fault line) (sym same) u))
 body_or_stop {end} {line} {fault} (body.with_context {obsolete = o} {text = text} {middle = inner} {after = after} e s w t) (stop.at_id {obsolete = p} {text = here} {after = middle} {context = first} g u v) =
     let same : text ≡ here = cc in
     let mark : o ≡ p = cc in
-    let strings = strings_once s (subst (λ (q : Bool). string.IsStrings (string.own_marks q) text first middle) (sym mark) (subst (λ (i : List TextItem). string.IsStrings (string.own_marks p) i first middle) (sym same) u)) in
+    let strings = strings_once s (subst (λ (q : Bool). string.IsStrings (own_marks q) text first middle) (sym mark) (subst (λ (i : List TextItem). string.IsStrings (own_marks p) i first middle) (sym same) u)) in
     keyword_text_or_stop w (subst (λ (q : Bool). stop.KeywordTextStops end word.Id q inner fault line) (sym mark) (subst (λ (i : List TextItem). stop.KeywordTextStops end word.Id p i fault line) (sym strings.1) v))
 body_or_stop {end} {line} {fault} (body.with_context {obsolete = o} {text = text} {middle = inner} {after = after} e s w t) (stop.after_context {obsolete = p} {keyword = keyword} {at = n} {text = here} {middle = middle} {after = following} {context = first} {id = name} g u x v) =
     let same : text ≡ here = cc in
     let mark : o ≡ p = cc in
-    let strings = strings_once s (subst (λ (q : Bool). string.IsStrings (string.own_marks q) text first middle) (sym mark) (subst (λ (i : List TextItem). string.IsStrings (string.own_marks p) i first middle) (sym same) u)) in
+    let strings = strings_once s (subst (λ (q : Bool). string.IsStrings (own_marks q) text first middle) (sym mark) (subst (λ (i : List TextItem). string.IsStrings (own_marks p) i first middle) (sym same) u)) in
     let content = keyword_text_once w (subst (λ (q : Bool). word.IsKeywordText word.Id q inner keyword n name following) (sym mark) (subst (λ (i : List TextItem). word.IsKeywordText word.Id p i keyword n name following) (sym strings.1) x)) in
     translation_or_stop t (subst (λ (q : Bool). stop.TranslationStops end q after fault line) (sym mark) (subst (λ (i : List TextItem). stop.TranslationStops end p i fault line) (sym content.3) v))
 
-pub head_once : {above : ℕ} {items rest others : List TextItem} {a b : List head.CommentText} {p q : List head.PreviousText} → head.IsHead above items a p rest → head.IsHead above items b q others → (a ≡ b) × (p ≡ q) × (rest ≡ others)
+pub head_once : {above : ℕ} {items rest others : List TextItem} {a b : List CommentText} {p q : List PreviousText} → head.IsHead above items a p rest → head.IsHead above items b q others → (a ≡ b) × (p ≡ q) × (rest ≡ others)
 head_once (head.over e) (head.over g) = (refl, refl, refl)
 head_once (head.over e) (head.head_comment g k) = cc
 head_once (head.over e) (head.previous g s k) = cc
@@ -156,12 +158,12 @@ head_once {above} (head.previous {keyword = keyword} {marks = marks} {bytes = by
     let mark : marks ≡ found = cc in
     let keywords : keyword ≡ word = cc in
     let strings = strings_once s (subst (λ (m : Marks). string.IsStrings m text first after) (sym mark) (subst (λ (i : List TextItem). string.IsStrings found i first after) (sym same) u)) in
-    let next = head_once h (subst (λ (w : Keyword). head.IsHead (head.rank w) following head_comments again others) (sym keywords) (subst (λ (i : List TextItem). head.IsHead (head.rank word) i head_comments again others) (sym strings.1) k)) in
+    let next = head_once h (subst (λ (w : Keyword). head.IsHead (rank w) following head_comments again others) (sym keywords) (subst (λ (i : List TextItem). head.IsHead (rank word) i head_comments again others) (sym strings.1) k)) in
     let texts = strings.0 in
     let later = next.1 in
     (next.0, cc, next.2)
 
-pub head_or_stop : {end line above : ℕ} {fault : PoFault} {items rest : List TextItem} {a : List head.CommentText} {p : List head.PreviousText} → head.IsHead above items a p rest → stop.HeadStops end above items fault line → ⊥
+pub head_or_stop : {end line above : ℕ} {fault : PoFault} {items rest : List TextItem} {a : List CommentText} {p : List PreviousText} → head.IsHead above items a p rest → stop.HeadStops end above items fault line → ⊥
 head_or_stop (head.over e) (stop.refused g l) = cc
 head_or_stop (head.over e) (stop.in_previous g u) = cc
 head_or_stop (head.over e) (stop.after_comment g k) = cc
@@ -183,4 +185,4 @@ head_or_stop {end} {line} {above} {fault} (head.previous {keyword = keyword} {ma
     let mark : marks ≡ found = cc in
     let keywords : keyword ≡ word = cc in
     let strings = strings_once s (subst (λ (m : Marks). string.IsStrings m text first after) (sym mark) (subst (λ (i : List TextItem). string.IsStrings found i first after) (sym same) u)) in
-    head_or_stop h (subst (λ (w : Keyword). stop.HeadStops end (head.rank w) following fault line) (sym keywords) (subst (λ (i : List TextItem). stop.HeadStops end (head.rank word) i fault line) (sym strings.1) k))
+    head_or_stop h (subst (λ (w : Keyword). stop.HeadStops end (rank w) following fault line) (sym keywords) (subst (λ (i : List TextItem). stop.HeadStops end (rank word) i fault line) (sym strings.1) k))

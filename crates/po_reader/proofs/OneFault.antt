@@ -5,7 +5,7 @@ use Rattle.po_syntax.specs.declared.fault.PoFault.{PoFault}
 use Rattle.po_syntax.specs.TextItem.{TextItem}
 use Rattle.po_syntax.specs.PoText.{SpellsText, TextFault}
 use Rattle.po_entry.specs.TextEntry.{TextEntry}
-use Rattle.po_entry.specs.Reads.{HasReadableTexts}
+use Rattle.po_entry.specs.Validity.{HasTexts, TextsFault, not_utf8, forbidden}
 use Rattle.po_entry.specs.Spelling.{SpellsEntries}
 use Rattle.po_reader.specs.Faults as fault
 use Rattle.po_reader.specs.Viable.{ItemsFault}
@@ -16,11 +16,11 @@ use Rattle.po_reader.proofs.OneReading.{spelt_once, texts_go_on, unreadable}
 abbrev Same : PoFault → PoFault → ℕ → ℕ → Type 0
 Same f g m n = (f ≡ g) × (m ≡ n)
 
-unreadable_once : {f g : PoFault} {read : TextEntry} → fault.UnreadableTexts read f → fault.UnreadableTexts read g → f ≡ g
-unreadable_once (fault.not_utf8 some) (fault.not_utf8 other) = refl
-unreadable_once (fault.not_utf8 some) (fault.forbidden utf8 other) = absurd (some utf8)
-unreadable_once (fault.forbidden utf8 some) (fault.not_utf8 other) = absurd (other utf8)
-unreadable_once (fault.forbidden utf8 some) (fault.forbidden also other) = refl
+unreadable_once : {f g : PoFault} {read : TextEntry} → TextsFault read f → TextsFault read g → f ≡ g
+unreadable_once (not_utf8 some) (not_utf8 other) = refl
+unreadable_once (not_utf8 some) (forbidden utf8 other) = absurd (some utf8)
+unreadable_once (forbidden utf8 some) (not_utf8 other) = absurd (other utf8)
+unreadable_once (forbidden utf8 some) (forbidden also other) = refl
 
 texts_stop_once : {m n : ℕ} {f g : PoFault} {entries : List TextEntry} → fault.TextsStop entries f m → fault.TextsStop entries g n → Same f g m n
 texts_stop_once (fault.TextsStop.here u l) (fault.TextsStop.here v k) = (unreadable_once u v, l ∙ sym k)
@@ -67,11 +67,11 @@ text_fault_once items_once no_fault fault_once text kind other line index (fault
 text_fault_once items_once no_fault fault_once text kind other line index (fault.in_texts {items = items} {entries = entries} s r t) (fault.in_charset {items = others} {entries = again} k q u v) =
     let same = items_once text items others s k in
     let read = spelt_once r (subst (λ (i : List TextItem). SpellsEntries i again) (sym same) q) in
-    absurd (texts_go_on t (subst (All HasReadableTexts) (sym read) u))
+    absurd (texts_go_on t (subst (All HasTexts) (sym read) u))
 text_fault_once items_once no_fault fault_once text kind other line index (fault.in_charset {items = items} {entries = entries} s r u t) (fault.in_texts {items = others} {entries = again} k q v) =
     let same = items_once text items others s k in
     let read = spelt_once r (subst (λ (i : List TextItem). SpellsEntries i again) (sym same) q) in
-    absurd (texts_go_on v (subst (All HasReadableTexts) read u))
+    absurd (texts_go_on v (subst (All HasTexts) read u))
 text_fault_once items_once no_fault fault_once text kind other line index (fault.in_charset {items = items} {entries = entries} s r u t) (fault.in_charset {items = others} {entries = again} k q w v) =
     let same = items_once text items others s k in
     let read = spelt_once r (subst (λ (i : List TextItem). SpellsEntries i again) (sym same) q) in

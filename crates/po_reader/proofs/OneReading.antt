@@ -11,12 +11,14 @@ use Rattle.po_syntax.specs.TextItem.{TextItem, Comment, Word, Str}
 use Rattle.po_syntax.specs.PoText.{SpellsText, TextFault}
 use Rattle.po_entry.specs.TextEntry.{TextEntry}
 use Rattle.po_entry.specs.Header.{HasAdmittedCharset}
-use Rattle.po_entry.specs.Body as body
-use Rattle.po_entry.specs.Head as head
-use Rattle.po_entry.specs.Descent.{Reads, comments, entry}
-use Rattle.po_entry.specs.Reads.{ReadsText, HasReadableTexts}
+use Rattle.po_reader.specs.Body as body
+use Rattle.po_reader.specs.Head as head
+use Rattle.po_reader.specs.Reads.{Reads, comments, entry}
+use Rattle.po_entry.specs.ReadsText.{ReadsText}
+use Rattle.po_entry.specs.Validity.{HasTexts, TextsFault, not_utf8, forbidden}
 use Rattle.po_entry.specs.Spelling.{AreComments, SpellsEntries}
-use Rattle.po_entry.proofs.SpeltReads.{spelt_reads}
+use Rattle.po_entry.specs.Parts.{CommentText, PreviousText, Body}
+use Rattle.po_reader.proofs.SpeltReads.{spelt_reads}
 use Rattle.po_reader.specs.Stops as stop
 use Rattle.po_reader.specs.Faults as fault
 use Rattle.po_reader.proofs.ItemsFaults.{fault_unread}
@@ -49,7 +51,7 @@ over_end above (Word k m l ∷ items) e only = absurd only.0
 over_end above (Str b m l ∷ items) e only = absurd only.0
 
 -- comments alone are a head up to the end
-comments_end : {above : ℕ} {items rest : List TextItem} {a : List head.CommentText} {p : List head.PreviousText} → head.IsHead above items a p rest → AreComments items → rest ≡ []
+comments_end : {above : ℕ} {items rest : List TextItem} {a : List CommentText} {p : List PreviousText} → head.IsHead above items a p rest → AreComments items → rest ≡ []
 comments_end (head.over {above = above} {items = items} e) only = over_end above items e only
 comments_end (head.head_comment {above = above} {kind = kind} {text = text} {items = items} {after = after} e h) only = comments_end h (comment_after above items after kind text e only)
 comments_end (head.previous {above = above} {keyword = keyword} {marks = marks} {items = items} {text = text} e s h) only = absurd (no_previous_text above items text keyword marks e only)
@@ -66,7 +68,7 @@ comments_go_on (stop.in_previous {above = above} {keyword = keyword} {marks = ma
 comments_go_on (stop.after_comment {above = above} {kind = kind} {text = text} {items = items} {after = after} e h) zero only = comments_go_on h zero (comment_after above items after kind text e only)
 comments_go_on (stop.after_previous {above = above} {keyword = keyword} {marks = marks} {items = items} {text = text} e s h) zero only = no_previous_text above items text keyword marks e only
 
-body_somewhere : {items rest : List TextItem} {a : body.Body} → body.IsBody items a rest → items ≡ [] → ⊥
+body_somewhere : {items rest : List TextItem} {a : Body} → body.IsBody items a rest → items ≡ [] → ⊥
 body_somewhere (body.without_context {items = items} e s t) none = let start : body.body_start items ≡ body.NoStart = ap body.body_start none in cc
 body_somewhere (body.with_context {items = items} e s w t) none = let start : body.body_start items ≡ body.NoStart = ap body.body_start none in cc
 
@@ -109,13 +111,13 @@ spelt_once h k = reads_once (spelt_reads h) (spelt_reads k)
 pub spelt_or_stop : {end line : ℕ} {kind : PoFault} {items : List TextItem} {a : List TextEntry} → SpellsEntries items a → stop.EntriesStop end items kind line → ⊥
 spelt_or_stop h s = reads_or_stop (spelt_reads h) s
 
-pub unreadable : (read : TextEntry) (kind : PoFault) → HasReadableTexts read → fault.UnreadableTexts read kind → ⊥
-unreadable read kind h (fault.not_utf8 some) = some h.utf8
-unreadable read kind h (fault.forbidden utf8 some) = some h.no_eot
+pub unreadable : (read : TextEntry) (kind : PoFault) → HasTexts read → TextsFault read kind → ⊥
+unreadable read kind h (not_utf8 some) = some h.utf8
+unreadable read kind h (forbidden utf8 some) = some h.clean
 
-pub texts_go_on : {kind : PoFault} {line : ℕ} {entries : List TextEntry} → fault.TextsStop entries kind line → All HasReadableTexts entries → ⊥
-texts_go_on {kind} (fault.TextsStop.here {entry = read} {entries = entries} f l) h = unreadable read kind (All-head HasReadableTexts read entries h) f
-texts_go_on (fault.TextsStop.later {entry = read} {entries = entries} r s) h = texts_go_on s (All-tail HasReadableTexts read entries h)
+pub texts_go_on : {kind : PoFault} {line : ℕ} {entries : List TextEntry} → fault.TextsStop entries kind line → All HasTexts entries → ⊥
+texts_go_on {kind} (fault.TextsStop.here {entry = read} {entries = entries} f l) h = unreadable read kind (All-head HasTexts read entries h) f
+texts_go_on (fault.TextsStop.later {entry = read} {entries = entries} r s) h = texts_go_on s (All-tail HasTexts read entries h)
 
 pub charsets_go_on : {line : ℕ} {entries : List TextEntry} → fault.CharsetStops entries line → All HasAdmittedCharset entries → ⊥
 charsets_go_on (fault.CharsetStops.here {entry = read} {entries = entries} f l) h = f (All-head HasAdmittedCharset read entries h)
@@ -136,7 +138,7 @@ text_or_fault items_once no_fault text a kind line h (fault.in_items {items = it
 text_or_fault items_once no_fault text a kind line h (fault.in_texts {items = items} {entries = entries} spelt reads s) =
     let same = items_once text h.items items h.spelt spelt in
     let entries_same = spelt_once (subst (λ (i : List TextItem). SpellsEntries i a) same h.reads) reads in
-    texts_go_on s (subst (All HasReadableTexts) entries_same h.texts)
+    texts_go_on s (subst (All HasTexts) entries_same h.texts)
 text_or_fault items_once no_fault text a kind line h (fault.in_charset {items = items} {entries = entries} spelt reads readable s) =
     let same = items_once text h.items items h.spelt spelt in
     let entries_same = spelt_once (subst (λ (i : List TextItem). SpellsEntries i a) same h.reads) reads in

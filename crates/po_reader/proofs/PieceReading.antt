@@ -7,7 +7,8 @@ use Rattle.po_syntax.specs.PoText.{SpellsText, SpellsLines, TextFault}
 use Rattle.po_syntax.specs.TextItem.{TextItem}
 use Rattle.po_entry.specs.TextEntry.{TextEntry}
 use Rattle.po_entry.specs.Header.{HasAdmittedCharset}
-use Rattle.po_entry.specs.Reads.{HasReadableTexts, ReadsText, ReadsLeft}
+use Rattle.po_entry.specs.Validity.{HasTexts}
+use Rattle.po_entry.specs.ReadsText.{ReadsText, ReadsLeft}
 use Rattle.po_entry.specs.Spelling.{SpellsEntries}
 use Rattle.po_entry.specs.Spelling as spelling
 use Rattle.po_entry.proofs.JoinedPieces.{entries_joined}
@@ -27,7 +28,7 @@ left_over left none = record {
   items = [];
   spelt = subst (λ (lines : List (List ℕ)). SpellsLines left.number lines []) (sym none) refl;
   reads = spelling.comments tt;
-  texts = All-nil HasReadableTexts;
+  texts = All-nil HasTexts;
   charsets = All-nil HasAdmittedCharset;
 }
 
@@ -46,7 +47,7 @@ piece_joined old new items entries spelt (inr ends) read more left = record {
   items = items ++ left.items;
   spelt = spelt left.items left.spelt;
   reads = entries_joined read.reads ends left.reads;
-  texts = All-append HasReadableTexts entries more read.texts left.texts;
+  texts = All-append HasTexts entries more read.texts left.texts;
   charsets = All-append HasAdmittedCharset entries more read.charsets left.charsets;
 }
 piece_joined old new items entries spelt (inl none) read more left =

@@ -1,4 +1,4 @@
--- Entries have texts that can be read, or a first one whose texts can't; and charsets that are admitted, or a first one that isn't.
+-- Entries can have their texts, or a first one can't; and their charsets are admitted, or a first one isn't.
 use Rattle.std.proofs.Common.{◌≢◌, ℕ, List, [], ◌∷◌, Option, Some, None, map, IsUtf8, inl, inr, ◌⊎◌, refl, sym, ◌∙◌, arith}
 use Rattle.std.specs.Prelude.{All, Contains, IfSome, bytes_eq}
 use Rattle.std.specs.Str.{is_utf8}
@@ -12,7 +12,7 @@ use Rattle.po_syntax.specs.declared.fault.PoFault.TheVariants.{NotUtf8, Forbidde
 use Rattle.po_entry.specs.TextEntry.{TextEntry, quoted_texts}
 use Rattle.po_entry.specs.Bytes.{Lacks}
 use Rattle.po_entry.specs.Header.{HasAdmittedCharset, admitted_names, charset_of, first_form, is_header}
-use Rattle.po_entry.specs.Reads.{HasReadableTexts}
+use Rattle.po_entry.specs.Validity.{HasTexts, IsClean, TextsFault, not_utf8, forbidden}
 use Rattle.po_reader.specs.Faults as fault
 
 -- the claim holds, or it doesn't
@@ -53,22 +53,25 @@ contains_settled (first ∷ texts) text = elim (cases_Bool (bytes_eq first text)
   ]
 ]
 
-readable_or_fault : (read : TextEntry) → HasReadableTexts read ⊎ ((kind : PoFault) × fault.UnreadableTexts read kind)
-readable_or_fault read = elim (all_settled IsUtf8 utf8_settled (quoted_texts read)) [
-  | inl utf8 ↦ elim (some_settled (Lacks 4) (lacks_settled 4) read.context) [
-    | inl context ↦ elim (lacks_settled 4 read.id) [
-      | inl id ↦ inl (record { utf8 = utf8; no_eot = record { context = context; id = id } })
-      | inr never ↦ inr (ForbiddenByte, fault.forbidden utf8 (λ h. never h.id))
-    ]
-    | inr never ↦ inr (ForbiddenByte, fault.forbidden utf8 (λ h. never h.context))
+clean_settled : (read : TextEntry) → Settled (IsClean read)
+clean_settled read = elim (all_settled (Lacks 0) (lacks_settled 0) (quoted_texts read)) [
+  | inl no_nul ↦ elim (some_settled (Lacks 4) (lacks_settled 4) read.context) [
+    | inl context ↦ elim (lacks_settled 4 read.id) [ inl id ↦ inl (record { no_nul = no_nul; context = context; id = id }) | inr never ↦ inr (λ h. never h.id) ]
+    | inr never ↦ inr (λ h. never h.context)
   ]
-  | inr never ↦ inr (NotUtf8, fault.not_utf8 never)
+  | inr never ↦ inr (λ h. never h.no_nul)
 ]
 
-pub texts_end : (entries : List TextEntry) → All HasReadableTexts entries ⊎ ((kind : PoFault) × (line : ℕ) × fault.TextsStop entries kind line)
-texts_end [] = inl (All-nil HasReadableTexts)
-texts_end (read ∷ entries) = elim (readable_or_fault read) [
-  | inl here ↦ elim (texts_end entries) [ inl later ↦ inl (All-cons HasReadableTexts read entries here later) | inr found ↦ inr (found.0, found.1, fault.TextsStop.later here found.2) ]
+texts_or_fault : (read : TextEntry) → HasTexts read ⊎ ((kind : PoFault) × TextsFault read kind)
+texts_or_fault read = elim (all_settled IsUtf8 utf8_settled (quoted_texts read)) [
+  | inl utf8 ↦ elim (clean_settled read) [ inl clean ↦ inl (record { utf8 = utf8; clean = clean }) | inr never ↦ inr (ForbiddenByte, forbidden utf8 never) ]
+  | inr never ↦ inr (NotUtf8, not_utf8 never)
+]
+
+pub texts_end : (entries : List TextEntry) → All HasTexts entries ⊎ ((kind : PoFault) × (line : ℕ) × fault.TextsStop entries kind line)
+texts_end [] = inl (All-nil HasTexts)
+texts_end (read ∷ entries) = elim (texts_or_fault read) [
+  | inl here ↦ elim (texts_end entries) [ inl later ↦ inl (All-cons HasTexts read entries here later) | inr found ↦ inr (found.0, found.1, fault.TextsStop.later here found.2) ]
   | inr found ↦ inr (found.0, read.line, fault.TextsStop.here found.1 refl)
 ]
 

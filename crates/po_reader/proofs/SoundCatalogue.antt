@@ -1,30 +1,26 @@
--- The entries that the items of a text spell are entries, once their texts are UTF-8 and without forbidden bytes.
-use Rattle.std.proofs.Common.{◌≡◌, ℕ, ◌<◌, List, [], ◌∷◌, ◌++◌, None, length, map, refl}
-use Rattle.std.specs.Prelude.{All, IsUtf8, option_to_list}
-use Rattle.std.proofs.lemmas.List.Elements.{All-nil, All-cons, All-head, All-tail, All-append, All-weaker}
+-- The entries that the items of a text spell are entries, if they can have their texts.
+use Rattle.std.proofs.Common.{◌≡◌, ℕ, ◌<◌, List, [], ◌∷◌, None, length, map}
+use Rattle.std.specs.Prelude.{All, IsUtf8}
+use Rattle.std.proofs.lemmas.List.Elements.{All-nil, All-cons, All-head, All-tail, All-weaker}
 use Rattle.po_syntax.specs.declared.item.CommentKind.TheVariants.{Translator, Extracted, Reference, Flags}
 use Rattle.po_syntax.specs.declared.fault.PoFault.{PoFault}
 use Rattle.po_syntax.specs.declared.fault.PoFault.TheVariants.{OutOfMemory}
 use Rattle.po_entry.specs.declared.fields.Fields.{Fields}
 use Rattle.po_entry.specs.EntryView.{entry_view}
 use Rattle.po_syntax.specs.TextItem.{TextItem}
-use Rattle.po_entry.specs.TextEntry.{TextEntry, quoted_texts, previous_texts}
+use Rattle.po_entry.specs.TextEntry.{TextEntry, quoted_texts}
 use Rattle.po_entry.specs.Bytes.{Lacks, AreDistinct}
-use Rattle.po_entry.specs.Body.{Body}
-use Rattle.po_entry.specs.Head.{CommentText, PreviousText}
-use Rattle.po_entry.specs.Comments.{texts_of, comments_of, extracted_of, references_of, all_listed_flags, flags_of, previous_of}
-use Rattle.po_entry.specs.Descent.{Reads, comments, entry}
-use Rattle.po_entry.specs.Reads.{HasReadableTexts, HasNoEot}
+use Rattle.po_entry.specs.Parts.{Body, CommentText, PreviousText}
+use Rattle.po_entry.specs.Comments.{texts_of, comments_of, extracted_of, references_of, all_listed_flags, flags_of}
+use Rattle.po_reader.specs.Reads.{Reads, comments, entry}
+use Rattle.po_entry.specs.Validity.{HasTexts, IsEntry, IsTranslatorComment, IsReference, IsFlag, TextsFault}
 use Rattle.po_entry.specs.Spelling.{entry_from}
 use Rattle.po_entry.specs.Validity as validity
-use Rattle.po_entry.specs.Validity.{IsEntry, IsText, IsComment, IsTranslatorComment, IsReference, IsFlag, HasTexts, IsClean, TextsFault}
-use Rattle.po_reader.specs.Drafts.{DraftsStop}
-use Rattle.po_reader.specs.Drafts as drafts
-use Rattle.po_reader.specs.Faults.{TextsStop, UnreadableTexts}
+use Rattle.po_syntax.specs.ItemContents.{IsText, IsComment, IsCommentOf, HoldsText}
+use Rattle.po_reader.specs.Faults.{TextsStop}
 use Rattle.po_reader.specs.Faults as faults
-use Rattle.po_reader.proofs.SoundItems.{SoundItem, SoundComment}
-use Rattle.po_reader.proofs.SoundEntries.{SoundCommentText, SoundPrevious, SoundBody, body_sound, head_sound}
-use Rattle.po_reader.proofs.SoundFields.{SoundFlagElement, SoundFlags, kind_sound, references_sound, all_flag_elements_sound, flags_sound, previous_lacks}
+use Rattle.po_reader.proofs.SoundEntries.{SoundCommentText, SoundBody, body_sound, head_sound}
+use Rattle.po_reader.proofs.SoundFields.{SoundFlagElement, SoundFlags, kind_sound, references_sound, all_flag_elements_sound, flags_sound}
 
 -- an entry that sound items spell, but for what its texts must be
 pub record SoundEntry (spelt : TextEntry) : Type 0 where
@@ -33,45 +29,33 @@ pub record SoundEntry (spelt : TextEntry) : Type 0 where
   pub references : All IsReference spelt.references
   pub flags : All IsFlag spelt.flags
   pub distinct_flags : AreDistinct spelt.flags
-  pub quoted_lack : All (Lacks 0) (quoted_texts spelt)
   pub some_form : 0 < length spelt.forms
   pub one_form : spelt.plural ≡ None → length spelt.forms ≡ 1
 
-translator_sound : (text : List ℕ) → SoundComment Translator text → IsTranslatorComment text
-translator_sound text h = record { comment = h.comment; plain = h.plain refl }
-
-entry_sound : (comment_texts : List CommentText) (previous : List PreviousText) (own : Body) (rest : List TextItem) → All SoundCommentText comment_texts → All SoundPrevious previous → SoundBody own rest → SoundEntry (entry_from comment_texts previous own)
-entry_sound comment_texts previous own rest n p b =
-    let translator : All (SoundComment Translator) (comments_of comment_texts) = kind_sound Translator comment_texts n in
-    let extracted : All (SoundComment Extracted) (extracted_of comment_texts) = kind_sound Extracted comment_texts n in
+entry_sound : (comment_texts : List CommentText) (previous : List PreviousText) (own : Body) (rest : List TextItem) → All SoundCommentText comment_texts → SoundBody own rest → SoundEntry (entry_from comment_texts previous own)
+entry_sound comment_texts previous own rest n b =
+    let translator : All (IsCommentOf Translator) (comments_of comment_texts) = kind_sound Translator comment_texts n in
+    let extracted : All (IsCommentOf Extracted) (extracted_of comment_texts) = kind_sound Extracted comment_texts n in
     let references : All IsReference (references_of comment_texts) = references_sound (texts_of Reference comment_texts) (kind_sound Reference comment_texts n) in
     let keywords : All SoundFlagElement (all_listed_flags comment_texts) = all_flag_elements_sound (texts_of Flags comment_texts) (kind_sound Flags comment_texts n) in
     let flags : SoundFlags (flags_of comment_texts) = flags_sound (all_listed_flags comment_texts) [] (record { all = All-nil IsFlag; distinct = tt }) keywords in
     record {
-      comments = All-weaker (SoundComment Translator) IsTranslatorComment translator_sound (comments_of comment_texts) translator;
-      extracted = All-weaker (SoundComment Extracted) IsComment (λ text h. h.comment) (extracted_of comment_texts) extracted;
+      comments = translator;
+      extracted = All-weaker (IsCommentOf Extracted) IsComment (λ text h. h.comment) (extracted_of comment_texts) extracted;
       references = references;
       flags = flags.all;
       distinct_flags = flags.distinct;
-      quoted_lack =
-          All-append (Lacks 0) (previous_texts (previous_of previous) ++ option_to_list own.context ++ (own.id ∷ []) ++ option_to_list own.plural) own.forms
-          (All-append (Lacks 0) (previous_texts (previous_of previous) ++ option_to_list own.context ++ (own.id ∷ [])) (option_to_list own.plural)
-          (All-append (Lacks 0) (previous_texts (previous_of previous) ++ option_to_list own.context) (own.id ∷ [])
-          (All-append (Lacks 0) (previous_texts (previous_of previous)) (option_to_list own.context) (previous_lacks previous p) b.context_lacks)
-          (All-cons (Lacks 0) own.id [] b.id_lacks (All-nil (Lacks 0))))
-          b.plural_lacks)
-          b.forms_lack;
       some_form = b.some_form;
       one_form = b.one_form;
     }
 
 -- every entry that sound items spell
-pub entries_sound : {items : List TextItem} {entries : List TextEntry} → Reads items entries → All SoundItem items → All SoundEntry entries
+pub entries_sound : {items : List TextItem} {entries : List TextEntry} → Reads items entries → All HoldsText items → All SoundEntry entries
 entries_sound (comments only) h = All-nil SoundEntry
 entries_sound (entry {rest = rest} {comment_texts = comment_texts} {previous = previous} {body = own} {entries = entries} head body more) h =
     let before = head_sound head h in
     let own_lines = body_sound body before.after in
-    All-cons SoundEntry (entry_from comment_texts previous own) entries (entry_sound comment_texts previous own rest before.comments_sound before.previous_sound own_lines) (entries_sound more own_lines.after)
+    All-cons SoundEntry (entry_from comment_texts previous own) entries (entry_sound comment_texts previous own rest before.comments_sound own_lines) (entries_sound more own_lines.after)
 
 both_texts : (texts : List (List ℕ)) → All IsUtf8 texts → All (Lacks 0) texts → All IsText texts
 both_texts [] a b = All-nil IsText
@@ -81,7 +65,7 @@ both_texts (text ∷ texts) a b =
 -- with texts that it can have, it is an entry
 pub entry_valid : (spelt : TextEntry) → SoundEntry spelt → HasTexts spelt → IsEntry spelt
 entry_valid spelt h t = record {
-  quoted_texts = both_texts (quoted_texts spelt) t.utf8 h.quoted_lack;
+  quoted_texts = both_texts (quoted_texts spelt) t.utf8 t.clean.no_nul;
   comments = h.comments;
   extracted = h.extracted;
   references = h.references;
@@ -93,19 +77,6 @@ entry_valid spelt h t = record {
   one_form = h.one_form;
 }
 
-pub texts_readable : (spelt : TextEntry) → HasTexts spelt → HasReadableTexts spelt
-texts_readable spelt t = record { utf8 = t.utf8; no_eot = record { context = t.clean.context; id = t.clean.id } }
-
-fault_readable : (spelt : TextEntry) (fault : PoFault) → SoundEntry spelt → TextsFault spelt fault → UnreadableTexts spelt fault
-fault_readable spelt fault h (validity.not_utf8 some) = faults.not_utf8 some
-fault_readable spelt fault h (validity.forbidden utf8 unclean) =
-    faults.forbidden utf8 (λ (no_eot : HasNoEot spelt). unclean (record { no_nul = h.quoted_lack; context = no_eot.context; id = no_eot.id }))
-
--- the first entry that can't have its texts is the first one whose texts can't be read
-pub stops_readable : {entries : List TextEntry} {fault : PoFault} {line : ℕ} → DraftsStop entries fault line → All SoundEntry entries → TextsStop entries fault line
-stops_readable (drafts.here {entry = spelt} {entries = entries} {fault = fault} f e) h = faults.here (fault_readable spelt fault (All-head SoundEntry spelt entries h) f) e
-stops_readable (drafts.later {entry = spelt} {entries = entries} t more) h = faults.later (texts_readable spelt t) (stops_readable more (All-tail SoundEntry spelt entries h))
-
 -- the entries of drafts whose texts were checked
 pub drafts_valid : (made : List Fields) → All SoundEntry (map entry_view made) → All (λ draft. HasTexts (entry_view draft)) made → All (λ draft. IsEntry (entry_view draft)) made
 drafts_valid [] h t = All-nil (λ draft. IsEntry (entry_view draft))
@@ -114,16 +85,11 @@ drafts_valid (draft ∷ made) h t =
     (entry_valid (entry_view draft) (All-head SoundEntry (entry_view draft) (map entry_view made) h) (All-head (λ d. HasTexts (entry_view d)) draft made t))
     (drafts_valid made (All-tail SoundEntry (entry_view draft) (map entry_view made) h) (All-tail (λ d. HasTexts (entry_view d)) draft made t))
 
-pub all_readable : (made : List Fields) → All (λ draft. HasTexts (entry_view draft)) made → All HasReadableTexts (map entry_view made)
-all_readable [] t = All-nil HasReadableTexts
-all_readable (draft ∷ made) t =
-    All-cons HasReadableTexts (entry_view draft) (map entry_view made) (texts_readable (entry_view draft) (All-head (λ d. HasTexts (entry_view d)) draft made t)) (all_readable made (All-tail (λ d. HasTexts (entry_view d)) draft made t))
-
 fault_kind : (spelt : TextEntry) (fault : PoFault) → TextsFault spelt fault → fault ≡ OutOfMemory → ⊥
 fault_kind spelt fault (validity.not_utf8 some) e = cc
 fault_kind spelt fault (validity.forbidden utf8 unclean) e = cc
 
 -- out of memory is no fault of texts
-pub draft_kind : {entries : List TextEntry} {fault : PoFault} {line : ℕ} → DraftsStop entries fault line → fault ≡ OutOfMemory → ⊥
-draft_kind (drafts.here {entry = spelt} {fault = fault} f at) e = fault_kind spelt fault f e
-draft_kind (drafts.later t more) e = draft_kind more e
+pub draft_kind : {entries : List TextEntry} {fault : PoFault} {line : ℕ} → TextsStop entries fault line → fault ≡ OutOfMemory → ⊥
+draft_kind (faults.TextsStop.here {entry = spelt} {fault = fault} f at) e = fault_kind spelt fault f e
+draft_kind (faults.TextsStop.later t more) e = draft_kind more e

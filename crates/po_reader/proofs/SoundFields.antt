@@ -1,6 +1,6 @@
--- The fields that sound comments and previous texts make.
-use Rattle.std.proofs.Common.{◌≡◌, ◌≢◌, ℕ, ◌<◌, Bool, true, false, cond, ◌||◌, ◌==◌, List, [], ◌∷◌, ◌++◌, Some, length, map, refl, sym, ap, ◌∙◌, subst, arith, codes, inl, inr, suc, lit<}
-use Rattle.std.specs.Prelude.{All, Contains, IsUtf8, if◌then◌else◌, filter, flat_map, fold, option_to_list, bytes_eq}
+-- The fields that the comments of a text make.
+use Rattle.std.proofs.Common.{◌≡◌, ◌≢◌, ℕ, ◌<◌, Bool, true, false, cond, ◌||◌, List, [], ◌∷◌, ◌++◌, length, map, refl, sym, ap, ◌∙◌, subst, arith, codes, inl, inr, suc, lit<}
+use Rattle.std.specs.Prelude.{All, Contains, IsUtf8, if◌then◌else◌, filter, flat_map, fold, bytes_eq}
 use Rattle.std.specs.List.{slice_split, list_any}
 use Rattle.std.proofs.lemmas.List.Elements.{All-nil, All-cons, All-head, All-tail, All-append, All-push, All-weaker, Contains-push_cases}
 use Rattle.std.proofs.lemmas.List.Folds.{list_any_at}
@@ -9,16 +9,21 @@ use Rattle.std.proofs.lemmas.Slice.Eq.{bytes_eq-Decides}
 use Rattle.po_syntax.specs.declared.item.CommentKind.{CommentKind}
 use Rattle.po_syntax.specs.declared.item.CommentKind.TheVariants.{Translator, Extracted, Reference, Flags}
 use Rattle.po_syntax.specs.Token.{is_blank, skip_blanks}
-use Rattle.po_entry.specs.TextEntry.{TextPrevious, previous_texts, no_previous}
 use Rattle.po_entry.specs.Bytes.{Lacks, trimmed, AreDistinct}
 use Rattle.po_entry.specs.Halves.{All-left}
-use Rattle.po_entry.specs.Head.{CommentText, PreviousText, rank}
-use Rattle.po_entry.specs.Comments.{same_kind, texts_of, is_not_empty, is_comma, listed_references, listed_flags, is_fuzzy_flag, with_flag, with_previous, previous_of}
-use Rattle.po_entry.specs.Validity.{IsText, IsReference, IsFlag}
-use Rattle.po_reader.proofs.SoundItems.{SoundComment, IsLineText}
-use Rattle.po_reader.proofs.SoundEntries.{SoundCommentText, SoundPrevious}
+use Rattle.po_entry.specs.Parts.{CommentText}
+use Rattle.po_entry.specs.Comments.{same_kind, texts_of, is_not_empty, is_comma, listed_references, listed_flags, is_fuzzy_flag, with_flag}
+use Rattle.po_syntax.specs.ItemContents.{IsText, IsCommentOf}
+use Rattle.po_entry.specs.Validity.{IsReference, IsFlag}
+use Rattle.po_reader.proofs.SoundEntries.{SoundCommentText}
 use Rattle.po_reader.proofs.Pieces.{utf8_after, utf8_before, utf8_parts, all_parts, parts_fail, blank_is_ascii}
 use Rattle.po_reader.proofs.Trims.{end_keeps, start_keeps, ends_once}
+
+-- what stands on a line of a text
+record IsLineText (line : List ℕ) : Type 0 where
+  utf8 : IsUtf8 line
+  no_nul : Lacks 0 line
+  one_line : Lacks 10 line
 
 same_kinds : (a b : CommentKind) → same_kind a b ≡ true → b ≡ a
 same_kinds Translator Translator e = refl
@@ -38,14 +43,14 @@ same_kinds Flags Extracted e = cc
 same_kinds Flags Reference e = cc
 same_kinds Flags Flags e = refl
 
-pub kind_sound : (kind : CommentKind) (comment_texts : List CommentText) → All SoundCommentText comment_texts → All (SoundComment kind) (texts_of kind comment_texts)
-kind_sound kind [] h = All-nil (SoundComment kind)
+pub kind_sound : (kind : CommentKind) (comment_texts : List CommentText) → All SoundCommentText comment_texts → All (IsCommentOf kind) (texts_of kind comment_texts)
+kind_sound kind [] h = All-nil (IsCommentOf kind)
 kind_sound kind (comment_text ∷ comment_texts) h = found (same_kind kind comment_text.kind) refl (kind_sound kind comment_texts (All-tail SoundCommentText comment_text comment_texts h)) where
-  found : (t : Bool) → same_kind kind comment_text.kind ≡ t → All (SoundComment kind) (texts_of kind comment_texts) → All (SoundComment kind) (map (λ (n : CommentText). n.text) (cond t (comment_text ∷ filter (λ (n : CommentText). same_kind kind n.kind) comment_texts) (filter (λ (n : CommentText). same_kind kind n.kind) comment_texts)))
-  found true t more = All-cons (SoundComment kind) comment_text.text (texts_of kind comment_texts) (subst (λ k. SoundComment k comment_text.text) (same_kinds kind comment_text.kind t) (All-head SoundCommentText comment_text comment_texts h)) more
+  found : (t : Bool) → same_kind kind comment_text.kind ≡ t → All (IsCommentOf kind) (texts_of kind comment_texts) → All (IsCommentOf kind) (map (λ (n : CommentText). n.text) (cond t (comment_text ∷ filter (λ (n : CommentText). same_kind kind n.kind) comment_texts) (filter (λ (n : CommentText). same_kind kind n.kind) comment_texts)))
+  found true t more = All-cons (IsCommentOf kind) comment_text.text (texts_of kind comment_texts) (subst (λ k. IsCommentOf k comment_text.text) (same_kinds kind comment_text.kind t) (All-head SoundCommentText comment_text comment_texts h)) more
   found false t more = more
 
-line_text : (kind : CommentKind) (text : List ℕ) → SoundComment kind text → IsLineText text
+line_text : (kind : CommentKind) (text : List ℕ) → IsCommentOf kind text → IsLineText text
 line_text kind text h = record { utf8 = h.comment.valid.utf8; no_nul = h.comment.valid.no_nul; one_line = h.comment.one_line }
 
 -- the parts of a line's text that is cut at ASCII bytes
@@ -79,11 +84,11 @@ elements_sound text h = kept (slice_split is_blank text) (line_parts is_blank bl
         All-cons IsReference part (filter is_not_empty parts) here more
     found false t more = more
 
-pub references_sound : (texts : List (List ℕ)) → All (SoundComment Reference) texts → All IsReference (flat_map listed_references texts)
+pub references_sound : (texts : List (List ℕ)) → All (IsCommentOf Reference) texts → All IsReference (flat_map listed_references texts)
 references_sound [] h = All-nil IsReference
 references_sound (text ∷ texts) h =
-    All-append IsReference (listed_references text) (flat_map listed_references texts) (elements_sound text (line_text Reference text (All-head (SoundComment Reference) text texts h)))
-    (references_sound texts (All-tail (SoundComment Reference) text texts h))
+    All-append IsReference (listed_references text) (flat_map listed_references texts) (elements_sound text (line_text Reference text (All-head (IsCommentOf Reference) text texts h)))
+    (references_sound texts (All-tail (IsCommentOf Reference) text texts h))
 
 -- an element of a flag line
 pub record SoundFlagElement (word : List ℕ) : Type 0 where
@@ -140,11 +145,11 @@ flag_elements_sound text h = kept (slice_split is_comma text) (line_parts is_com
         All-cons SoundFlagElement (trimmed part) (filter is_not_empty (map trimmed parts)) here more
     found false t more = more
 
-pub all_flag_elements_sound : (texts : List (List ℕ)) → All (SoundComment Flags) texts → All SoundFlagElement (flat_map listed_flags texts)
+pub all_flag_elements_sound : (texts : List (List ℕ)) → All (IsCommentOf Flags) texts → All SoundFlagElement (flat_map listed_flags texts)
 all_flag_elements_sound [] h = All-nil SoundFlagElement
 all_flag_elements_sound (text ∷ texts) h =
-    All-append SoundFlagElement (listed_flags text) (flat_map listed_flags texts) (flag_elements_sound text (line_text Flags text (All-head (SoundComment Flags) text texts h)))
-    (all_flag_elements_sound texts (All-tail (SoundComment Flags) text texts h))
+    All-append SoundFlagElement (listed_flags text) (flat_map listed_flags texts) (flag_elements_sound text (line_text Flags text (All-head (IsCommentOf Flags) text texts h)))
+    (all_flag_elements_sound texts (All-tail (IsCommentOf Flags) text texts h))
 
 -- flags that can stand in an entry
 pub record SoundFlags (flags : List (List ℕ)) : Type 0 where
@@ -181,34 +186,3 @@ pub flags_sound : (keywords : List (List ℕ)) (flags : List (List ℕ)) → Sou
 flags_sound [] flags h w = h
 flags_sound (word ∷ keywords) flags h w =
     flags_sound keywords (with_flag flags word) (flag_added flags word h (All-head SoundFlagElement word keywords w)) (All-tail SoundFlagElement word keywords w)
-
--- previous texts
-
-record PreviousLacks (fields : TextPrevious) : Type 0 where
-  context : All (Lacks 0) (option_to_list fields.context)
-  id : All (Lacks 0) (option_to_list fields.id)
-  plural : All (Lacks 0) (option_to_list fields.plural)
-
-one_lacks : (text : List ℕ) → Lacks 0 text → All (Lacks 0) (text ∷ [])
-one_lacks text h = All-cons (Lacks 0) text [] h (All-nil (Lacks 0))
-
-previous_added : (fields : TextPrevious) (previous : PreviousText) → PreviousLacks fields → Lacks 0 previous.text → PreviousLacks (with_previous fields previous)
-previous_added fields previous h new = found (rank previous.keyword == 1) (rank previous.keyword == 2) where
-  found : (a b : Bool) → PreviousLacks (if a then record { context = Some previous.text; id = fields.id; plural = fields.plural }
-      else if b then record { context = fields.context; id = Some previous.text; plural = fields.plural }
-      else record { context = fields.context; id = fields.id; plural = Some previous.text })
-  found true b = record { context = one_lacks previous.text new; id = h.id; plural = h.plural }
-  found false true = record { context = h.context; id = one_lacks previous.text new; plural = h.plural }
-  found false false = record { context = h.context; id = h.id; plural = one_lacks previous.text new }
-
-previous_folded : (previous : List PreviousText) (fields : TextPrevious) → PreviousLacks fields → All SoundPrevious previous → PreviousLacks (fold with_previous fields previous)
-previous_folded [] fields h p = h
-previous_folded (text ∷ previous) fields h p =
-    previous_folded previous (with_previous fields text) (previous_added fields text h (All-head SoundPrevious text previous p)) (All-tail SoundPrevious text previous p)
-
-pub previous_lacks : (previous : List PreviousText) → All SoundPrevious previous → All (Lacks 0) (previous_texts (previous_of previous))
-previous_lacks previous p =
-    let h = previous_folded previous no_previous (record { context = All-nil (Lacks 0); id = All-nil (Lacks 0); plural = All-nil (Lacks 0) }) p in
-    let fields = previous_of previous in
-    All-append (Lacks 0) (option_to_list fields.context ++ option_to_list fields.id) (option_to_list fields.plural)
-    (All-append (Lacks 0) (option_to_list fields.context) (option_to_list fields.id) h.context h.id) h.plural

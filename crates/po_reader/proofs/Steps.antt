@@ -1,6 +1,7 @@
 -- What a step makes of an item hangs on the item alone, whatever stands after it.
 use Rattle.std.proofs.Common.{◌≡◌, ℕ, Bool, true, false, nat_lt, List, ◌∷◌, refl, inl, inr, ◌⊎◌}
 use Rattle.std.specs.Prelude.{if◌then◌else◌}
+use Rattle.std.specs.Bool.{beq}
 use Rattle.po_syntax.specs.declared.fault.PoFault.{PoFault}
 use Rattle.po_syntax.specs.declared.fault.PoFault.TheVariants.{BadOrder, BadPluralIndex, MixedObsolete}
 use Rattle.po_syntax.specs.declared.item.CommentKind.{CommentKind}
@@ -8,10 +9,11 @@ use Rattle.po_syntax.specs.declared.item.Keyword.{Keyword}
 use Rattle.po_syntax.specs.declared.item.Keyword.TheVariants.{MsgCtxt, MsgId, MsgIdPlural, MsgStr, MsgStrAt}
 use Rattle.po_syntax.specs.declared.item.Marks.{Marks}
 use Rattle.po_syntax.specs.TextItem.{TextItem, Comment, Word, Str}
-use Rattle.po_entry.specs.Strings as string
-use Rattle.po_entry.specs.Keywords as word
-use Rattle.po_entry.specs.Body as body
-use Rattle.po_entry.specs.Head as head
+use Rattle.po_entry.specs.Parts.{rank}
+use Rattle.po_reader.specs.Strings as string
+use Rattle.po_reader.specs.Keywords as word
+use Rattle.po_reader.specs.Body as body
+use Rattle.po_reader.specs.Head as head
 
 abbrev StringDoes : (List TextItem → string.StringStep) → Type 0
 StringDoes step = ((bytes : List ℕ) × ((rest : List TextItem) → step rest ≡ string.Take bytes rest)) ⊎ ((fault : PoFault) × ((rest : List TextItem) → step rest ≡ string.Refuse fault))
@@ -35,7 +37,7 @@ KeywordDoes step =
 pub keyword_item : (wanted : word.Wanted) (obsolete : Bool) (item : TextItem) → KeywordDoes (λ rest. word.next_keyword wanted obsolete (item ∷ rest))
 keyword_item wanted obsolete (Comment kind text line) = inr (BadOrder, λ rest. refl)
 keyword_item wanted obsolete (Str bytes marks line) = inr (BadOrder, λ rest. refl)
-keyword_item wanted obsolete (Word keyword marks line) = chosen marks.previous (word.is_wanted wanted keyword) (string.same_bool obsolete marks.obsolete) (word.is_wrong_form wanted keyword) where
+keyword_item wanted obsolete (Word keyword marks line) = chosen marks.previous (word.is_wanted wanted keyword) (beq obsolete marks.obsolete) (word.is_wrong_form wanted keyword) where
   chosen : (p w s f : Bool)
       → KeywordDoes (λ rest. keyword_reported p w s f keyword line rest)
   chosen true w s f = inr (BadOrder, λ rest. refl)
@@ -77,7 +79,7 @@ head_reported p r b keyword marks rest = if p then (if r then head.Previous keyw
 pub head_item : (above : ℕ) (item : TextItem) → HeadDoes (λ rest. head.head_step above (item ∷ rest))
 head_item above (Comment kind text line) = HeadDoes.head_comments kind text (λ rest. refl)
 head_item above (Str bytes marks line) = HeadDoes.refuses BadOrder (λ rest. refl)
-head_item above (Word keyword marks line) = chosen marks.previous (nat_lt above (head.rank keyword)) (head.begins_body keyword) where
+head_item above (Word keyword marks line) = chosen marks.previous (nat_lt above (rank keyword)) (head.begins_body keyword) where
   chosen : (p r b : Bool) → HeadDoes (λ rest. head_reported p r b keyword marks rest)
   chosen true true b = HeadDoes.texts keyword marks (λ rest. refl)
   chosen true false b = HeadDoes.refuses BadOrder (λ rest. refl)

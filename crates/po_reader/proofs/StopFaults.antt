@@ -4,9 +4,9 @@ use Rattle.std.specs.Prelude.{if◌then◌else◌}
 use Rattle.po_syntax.specs.declared.fault.PoFault.{PoFault}
 use Rattle.po_syntax.specs.declared.fault.PoFault.TheVariants.{BadOrder}
 use Rattle.po_syntax.specs.TextItem.{TextItem}
-use Rattle.po_entry.specs.Strings as string
-use Rattle.po_entry.specs.Keywords as word
-use Rattle.po_entry.specs.Head as head
+use Rattle.po_reader.specs.Strings as string
+use Rattle.po_reader.specs.Keywords as word
+use Rattle.po_reader.specs.Head as head
 use Rattle.po_entry.specs.Spelling.{SpellsEntries}
 use Rattle.po_reader.specs.Stops.{EntriesStop, line_at}
 use Rattle.po_reader.specs.Viable.{IsViable, ItemsFault, at, at_end, last_line}

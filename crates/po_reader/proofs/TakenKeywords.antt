@@ -1,18 +1,18 @@
 -- What a keyword can be where it was taken as the wanted one.
 use Rattle.std.proofs.Common.{◌≡◌, ℕ, Bool, true, false, List, [], ◌∷◌, inl, inr, ◌⊎◌, subst}
 use Rattle.std.specs.Prelude.{if◌then◌else◌}
+use Rattle.std.specs.Bool.{beq}
 use Rattle.po_syntax.specs.declared.item.Keyword.{Keyword}
 use Rattle.po_syntax.specs.declared.item.Keyword.TheVariants.{MsgCtxt, MsgId, MsgIdPlural, MsgStr, MsgStrAt}
 use Rattle.po_syntax.specs.TextItem.{TextItem, Comment, Word, Str}
-use Rattle.po_entry.specs.Strings.{same_bool}
-use Rattle.po_entry.specs.Keywords.{Translation, Take, Refuse, IsKeywordText, keyword_text, next_keyword, is_wanted, is_wrong_form}
+use Rattle.po_reader.specs.Keywords.{Translation, Take, Refuse, IsKeywordText, keyword_text, next_keyword, is_wanted, is_wrong_form}
 use Rattle.po_syntax.specs.declared.fault.PoFault.TheVariants.{BadOrder, BadPluralIndex, MixedObsolete}
 
 taken_keyword : (obsolete : Bool) (items text : List TextItem) (keyword : Keyword) (line : ℕ) → next_keyword Translation obsolete items ≡ Take keyword line text → (keyword ≡ MsgIdPlural) ⊎ (keyword ≡ MsgStr)
 taken_keyword obsolete [] text keyword line e = cc
 taken_keyword obsolete (Comment k t l ∷ rest) text keyword line e = cc
 taken_keyword obsolete (Str b m l ∷ rest) text keyword line e = cc
-taken_keyword obsolete (Word found marks at ∷ rest) text keyword line e = step marks.previous found (same_bool obsolete marks.obsolete) e where
+taken_keyword obsolete (Word found marks at ∷ rest) text keyword line e = step marks.previous found (beq obsolete marks.obsolete) e where
   step : (previous : Bool) (found : Keyword) (same : Bool)
       → (if previous then Refuse BadOrder
       else if is_wanted Translation found then (if same then Take found at rest else Refuse MixedObsolete)

@@ -5,8 +5,8 @@ use Rattle.po_syntax.specs.declared.fault.PoFault.TheVariants.{ForeignCharset}
 use Rattle.po_syntax.specs.TextItem.{TextItem}
 use Rattle.po_syntax.specs.PoText.{SpellsText, TextFault}
 use Rattle.po_entry.specs.TextEntry.{TextEntry}
-use Rattle.po_entry.specs.Reads.{ReadsText}
-use Rattle.po_entry.proofs.Spelt.{reads_spelt}
+use Rattle.po_entry.specs.ReadsText.{ReadsText}
+use Rattle.po_reader.proofs.Spelt.{reads_spelt}
 use Rattle.po_reader.specs.Faults as fault
 use Rattle.po_reader.specs.Viable.{last_line}
 use Rattle.po_reader.proofs.StopFaults.{items_fault}

@@ -7,12 +7,13 @@ use Rattle.po_syntax.specs.declared.item.Keyword.{Keyword}
 use Rattle.po_syntax.specs.declared.item.Marks.{Marks}
 use Rattle.po_syntax.specs.TextItem.{TextItem, line_of}
 use Rattle.po_entry.specs.TextEntry.{TextEntry}
-use Rattle.po_entry.specs.Strings as string
-use Rattle.po_entry.specs.Keywords as word
-use Rattle.po_entry.specs.Body as body
-use Rattle.po_entry.specs.Head as head
-use Rattle.po_entry.specs.Descent.{Reads, comments, entry}
-use Rattle.po_entry.specs.Spelling.{entry_from}
+use Rattle.po_reader.specs.Strings as string
+use Rattle.po_reader.specs.Keywords as word
+use Rattle.po_reader.specs.Body as body
+use Rattle.po_reader.specs.Head as head
+use Rattle.po_reader.specs.Reads.{Reads, comments, entry}
+use Rattle.po_entry.specs.Spelling.{entry_from, own_marks}
+use Rattle.po_entry.specs.Parts.{CommentText, PreviousText, Body, rank}
 use Rattle.po_reader.specs.Stops as stop
 use Rattle.po_reader.proofs.Steps.{string_item, keyword_item, start_item, StartDoes, head_item, HeadDoes}
 use Rattle.po_reader.proofs.TakenKeywords.{translation_keyword}
@@ -48,7 +49,7 @@ KeywordTextEnds end wanted obsolete items =
 keyword_text_end : (end : ℕ) (wanted : word.Wanted) (obsolete : Bool) (items : List TextItem) → KeywordTextEnds end wanted obsolete items
 keyword_text_end end wanted obsolete [] = inr (BadOrder, end, stop.KeywordTextStops.refused refl refl)
 keyword_text_end end wanted obsolete (item ∷ items) = elim (keyword_item wanted obsolete item) [
-  | inl taken ↦ elim (strings_end end (string.own_marks obsolete) items) [
+  | inl taken ↦ elim (strings_end end (own_marks obsolete) items) [
     | inl found ↦ inl (taken.0, taken.1, found.0, found.1, word.keyword_text (taken.2 items) found.2, omega (arith, found.3))
     | inr found ↦ inr (found.0, found.1, stop.in_text (taken.2 items) found.2)
   ]
@@ -99,11 +100,11 @@ translation_end end obsolete items = elim (keyword_text_end end word.Translation
 -- an entry's own lines
 abbrev BodyEnds : ℕ → List TextItem → Type 0
 BodyEnds end items =
-    ((own : body.Body) × (rest : List TextItem) × body.IsBody items own rest × (length rest < length items))
+    ((own : Body) × (rest : List TextItem) × body.IsBody items own rest × (length rest < length items))
     ⊎ ((fault : PoFault) × (line : ℕ) × stop.BodyStops end items fault line)
 
 after_id : (end line : ℕ) (obsolete : Bool) (item : TextItem) (items : List TextItem) → body.body_start (item ∷ items) ≡ body.WithoutContext obsolete line items → BodyEnds end (item ∷ items)
-after_id end line obsolete item items start = elim (strings_end end (string.own_marks obsolete) items) [
+after_id end line obsolete item items start = elim (strings_end end (own_marks obsolete) items) [
   | inl id ↦ elim (translation_end end obsolete id.1) [
     | inl found ↦ inl (
       record { context = None; id = id.0; plural = found.0; forms = found.1; obsolete = obsolete; line = line },
@@ -117,7 +118,7 @@ after_id end line obsolete item items start = elim (strings_end end (string.own_
 ]
 
 after_context : (end : ℕ) (obsolete : Bool) (item : TextItem) (items : List TextItem) → body.body_start (item ∷ items) ≡ body.WithContext obsolete items → BodyEnds end (item ∷ items)
-after_context end obsolete item items start = elim (strings_end end (string.own_marks obsolete) items) [
+after_context end obsolete item items start = elim (strings_end end (own_marks obsolete) items) [
   | inl context ↦ elim (keyword_text_end end word.Id obsolete context.1) [
     | inl id ↦ elim (translation_end end obsolete id.3) [
       | inl found ↦ inl (
@@ -144,7 +145,7 @@ body_end end (item ∷ items) starts = elim (start_item item) [
 -- what stands before an entry's own lines
 abbrev HeadEnds : ℕ → ℕ → List TextItem → Type 0
 HeadEnds end above items =
-    ((comment_texts : List head.CommentText) × (previous : List head.PreviousText) × (rest : List TextItem) × head.IsHead above items comment_texts previous rest × (length rest ≤ length items))
+    ((comment_texts : List CommentText) × (previous : List PreviousText) × (rest : List TextItem) × head.IsHead above items comment_texts previous rest × (length rest ≤ length items))
     ⊎ ((fault : PoFault) × (line : ℕ) × stop.HeadStops end above items fault line)
 
 head_at : (end above : ℕ) (at_start : Bool) → (above == 0) ≡ at_start → HeadEnds end above []
@@ -166,7 +167,7 @@ head_below end (suc n) above (item ∷ items) h = elim (head_item above item) [
     | inr found ↦ inr (found.0, found.1, stop.after_comment (step items) found.2)
   ]
   | HeadDoes.texts keyword marks step ↦ elim (strings_end end marks items) [
-    | inl text ↦ elim (head_below end n (head.rank keyword) text.1 (omega (arith, text.3))) [
+    | inl text ↦ elim (head_below end n (rank keyword) text.1 (omega (arith, text.3))) [
       | inl found ↦ inl (found.0, record { keyword = keyword; text = text.0 } ∷ found.1, found.2, head.previous (step items) text.2 found.3, omega (arith, text.3, found.4))
       | inr found ↦ inr (found.0, found.1, stop.after_previous (step items) text.2 found.2)
     ]

@@ -5,7 +5,7 @@ use Rattle.po_syntax.specs.declared.fault.PoFault.TheVariants.{ForeignCharset}
 use Rattle.po_syntax.specs.TextItem.{TextItem}
 use Rattle.po_entry.specs.TextEntry.{TextEntry}
 use Rattle.po_entry.specs.Header.{HasAdmittedCharset}
-use Rattle.po_entry.specs.Reads.{HasReadableTexts}
+use Rattle.po_entry.specs.Validity.{HasTexts}
 use Rattle.po_entry.specs.Spelling.{SpellsEntries}
 use Rattle.po_reader.specs.Faults.{TextsStop, CharsetStops}
 use Rattle.po_reader.specs.Stops.{EntriesStop}
@@ -14,11 +14,11 @@ use Rattle.po_reader.specs.Viable.{last_line}
 -- the items read as these entries
 pub record ReadsItems (items : List TextItem) (entries : List TextEntry) : Type 0 where
   pub reads : SpellsEntries items entries
-  pub texts : All HasReadableTexts entries
+  pub texts : All HasTexts entries
   pub charsets : All HasAdmittedCharset entries
 
 -- the first fault of items that don't read, with its line
 pub data ItemsStop (items : List TextItem) : PoFault → ℕ → Type 0 where
   in_items : {fault : PoFault} {line : ℕ} → EntriesStop (last_line items) items fault line → ItemsStop items fault line
   in_texts : {entries : List TextEntry} {fault : PoFault} {line : ℕ} → SpellsEntries items entries → TextsStop entries fault line → ItemsStop items fault line
-  in_charset : {entries : List TextEntry} {line : ℕ} → SpellsEntries items entries → All HasReadableTexts entries → CharsetStops entries line → ItemsStop items ForeignCharset line
+  in_charset : {entries : List TextEntry} {line : ℕ} → SpellsEntries items entries → All HasTexts entries → CharsetStops entries line → ItemsStop items ForeignCharset line

@@ -1,10 +1,14 @@
+pub mod Strings
+pub mod Keywords
+pub mod Body
+pub mod Head
+pub mod Reads
 pub mod Stops
 pub mod Viable
 pub mod ReaderView
-pub mod Heads
+pub mod HeadView
 pub mod Faults
 pub mod Bare
-pub mod Drafts
 pub mod ItemsRead
 pub mod Refusals
 pub mod MetFlags

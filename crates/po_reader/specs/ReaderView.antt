@@ -8,22 +8,23 @@ use Rattle.po_reader.specs.declared.body.Body.{Body}
 use Rattle.po_reader.specs.declared.head.Step.{Step}
 use Rattle.po_reader.specs.declared.head.Step.TheVariants as step
 use Rattle.po_syntax.specs.TextItem.{TextItem}
-use Rattle.po_entry.specs.Head as head
+use Rattle.po_entry.specs.Parts as parts
 use Rattle.po_entry.specs.TextEntry.{texts, optional_text}
-use Rattle.po_entry.specs.Keywords as spec
-use Rattle.po_entry.specs.Body as body
+use Rattle.po_reader.specs.Keywords as spec
+use Rattle.po_reader.specs.Body as body
+use Rattle.po_reader.specs.Head as head
 
-abbrev pub wanted_of : Wanted → spec.Wanted
-wanted_of code.Id = spec.Id
-wanted_of code.Translation = spec.Translation
-wanted_of (code.Form index) = spec.Form index
+abbrev pub wanted_view : Wanted → spec.Wanted
+wanted_view code.Id = spec.Id
+wanted_view code.Translation = spec.Translation
+wanted_view (code.Form index) = spec.Form index
 
 -- the start with the items after its keyword
 abbrev pub start_view : Start → List TextItem → body.Start
 start_view (start.WithContext obsolete) rest = body.WithContext obsolete rest
 start_view (start.WithoutContext obsolete line) rest = body.WithoutContext obsolete line rest
 
-abbrev pub body_view : Body → body.Body
+abbrev pub body_view : Body → parts.Body
 body_view own = record {
   context = optional_text own.original.context;
   id = own.original.id.items;

@@ -7,13 +7,15 @@ use Rattle.po_syntax.specs.declared.item.Keyword.{Keyword}
 use Rattle.po_syntax.specs.declared.item.Keyword.TheVariants.{MsgIdPlural}
 use Rattle.po_syntax.specs.declared.item.Marks.{Marks}
 use Rattle.po_syntax.specs.TextItem.{TextItem, line_of}
-use Rattle.po_entry.specs.Strings.{IsStrings, string_step, begins_string, own_marks}
-use Rattle.po_entry.specs.Strings as string
-use Rattle.po_entry.specs.Keywords.{Wanted, Id, Translation, Form, IsKeywordText, next_keyword}
-use Rattle.po_entry.specs.Keywords as word
-use Rattle.po_entry.specs.Body.{Body, IsBody, begins_form, body_start, WithContext, WithoutContext}
-use Rattle.po_entry.specs.Head.{CommentText, PreviousText, IsHead, head_step, rank}
-use Rattle.po_entry.specs.Head as head
+use Rattle.po_reader.specs.Strings.{IsStrings, string_step, begins_string}
+use Rattle.po_entry.specs.Spelling.{own_marks}
+use Rattle.po_reader.specs.Strings as string
+use Rattle.po_reader.specs.Keywords.{Wanted, Id, Translation, Form, IsKeywordText, next_keyword}
+use Rattle.po_reader.specs.Keywords as word
+use Rattle.po_entry.specs.Parts.{Body, CommentText, PreviousText, rank}
+use Rattle.po_reader.specs.Body.{IsBody, begins_form, body_start, WithContext, WithoutContext}
+use Rattle.po_reader.specs.Head.{IsHead, head_step}
+use Rattle.po_reader.specs.Head as head
 
 -- the line of the first item, or of the text's last one where the items end
 abbrev pub line_at : ℕ → List TextItem → ℕ

@@ -4,7 +4,7 @@ use Rattle.po_syntax.specs.declared.fault.PoFault.{PoFault}
 use Rattle.po_syntax.specs.declared.fault.PoFault.TheVariants.{BadOrder, BadPluralIndex, MixedObsolete}
 use Rattle.po_syntax.specs.declared.item.Keyword.TheVariants.{MsgCtxt, MsgId, MsgIdPlural, MsgStr, MsgStrAt}
 use Rattle.po_syntax.specs.TextItem.{TextItem, Comment, Word, Str, line_of}
-use Rattle.po_entry.specs.Strings.{own_marks}
+use Rattle.po_entry.specs.Spelling.{own_marks}
 use Rattle.po_entry.specs.TextEntry.{TextEntry}
 use Rattle.po_entry.specs.Spelling.{SpellsEntries}
 

@@ -1,7 +1,7 @@
 ghost use Rattle.std.specs.Prelude.{◌≡◌, ◌≢◌, ◌+◌, ◌<◌, ◌≤◌, drop, length, IfOk, IfErr, IfSome, MatchOption, ◌^◌};
 ghost use Rattle.po_syntax.specs.TextItem.{view, views};
-ghost use Rattle.po_entry.specs.Body.{begins_form, body_start, IsForms, IsTranslation, IsBody};
-ghost use Rattle.po_entry.specs.Body as spec;
+ghost use Rattle.po_reader.specs.Body.{begins_form, body_start, IsForms, IsTranslation, IsBody};
+ghost use Rattle.po_reader.specs.Body as spec;
 ghost use Rattle.po_entry.specs.TextEntry.{texts, optional_text};
 ghost use Rattle.po_reader.specs.Stops.{FormsStop, TranslationStops, BodyStops};
 ghost use Rattle.po_reader.specs.ReaderView.{start_view, body_view};

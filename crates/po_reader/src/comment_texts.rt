@@ -1,18 +1,12 @@
-ghost use Rattle.std.specs.Prelude.{◌≡◌, ◌<◌, ◌≤◌, ◌++◌, ◌∷◌, [], length, position, IfSome, MatchOption, OnOk};
-ghost use Rattle.std.specs.List.{slice_split, suffix_len, prefix_len};
-ghost use Rattle.po_syntax.specs.Token.{is_blank, skip_blanks};
+ghost use Rattle.std.specs.Prelude.{◌≡◌, ◌<◌, ◌≤◌, ◌++◌, ◌∷◌, [], ℕ, Bool, length, position, IfSome, MatchOption, OnOk};
+ghost use Rattle.std.specs.List.{slice_split, suffix_len};
+ghost use Rattle.po_syntax.specs.Token.{is_blank};
 ghost use Rattle.po_entry.specs.Bytes.{trimmed, without_end_blanks};
 ghost use Rattle.po_entry.specs.TextEntry.{texts};
 ghost use Rattle.po_entry.specs.Comments.{is_comma, listed_references, listed_flags};
 
+use po_syntax::{is_blank, skip_blanks};
 use std::alloc::{AllocError, Global};
-
-/// Whether the byte is a blank: a space, a tab, VT, FF or CR.
-fn is_blank(byte: u8) -> bool
-    ensures { result ≡ is_blank byte }
-{
-    matches!(byte, b' ' | b'\t' | 11 | 12 | b'\r')
-}
 
 /// Whether the byte is a comma.
 fn is_comma(byte: u8) -> bool
@@ -25,16 +19,8 @@ fn is_comma(byte: u8) -> bool
 fn trimmed(text: &[u8]) -> &[u8]
     ensures { result.now ≡ trimmed text.now }
 {
-    let rest = text.split_at(blanks_before(text)).1;
+    let rest = skip_blanks(text);
     rest.split_at(rest.len() - blanks_after(rest)).0
-}
-
-/// How many blanks the text begins with.
-fn blanks_before(text: &[u8]) -> usize
-    ensures count { result ≡ prefix_len is_blank text.now }
-    ensures within { result ≤ length text.now }
-{
-    text.iter().take_while(|b| is_blank(**b)).count()
 }
 
 /// How many blanks the text ends with.
@@ -47,36 +33,28 @@ fn blanks_after(text: &[u8]) -> usize
 
 /// The index of the first blank.
 fn first_blank(text: &[u8]) -> Option<usize>
-    ensures { result ≡ position is_blank text.now }
+    ensures first { result ≡ position is_blank text.now }
+    ensures within { IfSome result (λ i. i < length text.now) }
 {
     text.iter().position(|b| is_blank(*b))
 }
 
 /// The index of the first comma.
 fn first_comma(text: &[u8]) -> Option<usize>
-    ensures { result ≡ position is_comma text.now }
+    ensures first { result ≡ position is_comma text.now }
+    ensures within { IfSome result (λ i. i < length text.now) }
 {
     text.iter().position(|b| is_comma(*b))
 }
 
-/// Cuts off what stands before the first blank, if there is one.
-fn cut_at_blank(text: &[u8]) -> (&[u8], Option<&[u8]>)
-    ensures cut { MatchOption result.1 (slice_split is_blank text.now ≡ result.0.now ∷ []) (λ rest. slice_split is_blank text.now ≡ result.0.now ∷ slice_split is_blank rest.now) }
+/// The text before an index, and that after the byte there; where there is none, all of the text.
+fn cut(text: &[u8], at: Option<usize>) -> (&[u8], Option<&[u8]>)
+    requires { IfSome at (λ i. i < length text.now) }
+    ensures cut { (ends : ℕ → Bool) → at ≡ position ends text.now
+        → MatchOption result.1 (slice_split ends text.now ≡ result.0.now ∷ []) (λ rest. slice_split ends text.now ≡ result.0.now ∷ slice_split ends rest.now) }
     ensures less { IfSome result.1 (λ rest. length rest.now < length text.now) }
 {
-    let Some(end) = first_blank(text) else {
-        return (text, None);
-    };
-    let (element, rest) = text.split_at(end);
-    (element, Some(rest.split_at(1).1))
-}
-
-/// Cuts off what stands before the first comma, if there is one.
-fn cut_at_comma(text: &[u8]) -> (&[u8], Option<&[u8]>)
-    ensures cut { MatchOption result.1 (slice_split is_comma text.now ≡ result.0.now ∷ []) (λ rest. slice_split is_comma text.now ≡ result.0.now ∷ slice_split is_comma rest.now) }
-    ensures less { IfSome result.1 (λ rest. length rest.now < length text.now) }
-{
-    let Some(end) = first_comma(text) else {
+    let Some(end) = at else {
         return (text, None);
     };
     let (element, rest) = text.split_at(end);
@@ -104,7 +82,7 @@ pub(crate) fn add_references(
 {
     let mut rest = text;
     loop {
-        let (element, after) = cut_at_blank(rest);
+        let (element, after) = cut(rest, first_blank(rest));
         if !element.is_empty() {
             add_element(elements, element.to_vec(alloc)?)?;
         }
@@ -125,7 +103,7 @@ pub(crate) fn add_flags(
 {
     let mut rest = text;
     loop {
-        let (piece, after) = cut_at_comma(rest);
+        let (piece, after) = cut(rest, first_comma(rest));
         let element = trimmed(piece);
         if !element.is_empty() {
             add_element(flags, element.to_vec(alloc)?)?;

@@ -1,12 +1,12 @@
 ghost use Rattle.std.specs.Prelude.{◌≡◌, ◌≢◌, ◌<◌, ◌^◌, ℕ, List, map, length, IfOk, IfErr};
 ghost use Rattle.po_syntax.specs.TextItem.{views};
 ghost use Rattle.po_entry.specs.EntryView.{entry_view};
-ghost use Rattle.po_entry.specs.Head.{CommentText, PreviousText};
-ghost use Rattle.po_entry.specs.Descent.{Reads};
+ghost use Rattle.po_entry.specs.Parts.{CommentText, PreviousText};
+ghost use Rattle.po_reader.specs.Reads.{Reads};
 ghost use Rattle.po_entry.specs.Spelling.{entry_from};
 ghost use Rattle.po_entry.specs.TextEntry.{TextEntry};
 ghost use Rattle.po_reader.specs.Bare.{kept_entry};
-ghost use Rattle.po_reader.specs.Heads.{HoldsHead};
+ghost use Rattle.po_reader.specs.HeadView.{HoldsHead};
 ghost use Rattle.po_reader.specs.ReaderView.{body_view};
 ghost use Rattle.po_reader.specs.Stops.{EntriesStop};
 

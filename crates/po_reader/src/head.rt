@@ -1,13 +1,14 @@
 ghost use Rattle.std.specs.Prelude.{◌≡◌, ◌≢◌, ◌+◌, ◌<◌, ◌≤◌, ◌++◌, ◌∷◌, [], Some, ℕ, List, drop, length, IfOk, IfErr, OnOk, OnErr, IfSome, MatchResult, ◌||◌};
 ghost use Rattle.po_syntax.specs.TextItem.{view, views};
-ghost use Rattle.po_entry.specs.Head.{CommentText, PreviousText, IsHead, head_step, rank, begins_body};
-ghost use Rattle.po_entry.specs.Head as spec;
+ghost use Rattle.po_entry.specs.Parts.{CommentText, PreviousText, rank};
+ghost use Rattle.po_reader.specs.Head.{IsHead, head_step, begins_body};
+ghost use Rattle.po_reader.specs.Head as spec;
 ghost use Rattle.po_entry.specs.Comments.{same_kind, with_previous};
 ghost use Rattle.po_syntax.specs.declared.item.CommentKind.TheVariants.{Flags};
 ghost use Rattle.po_reader.specs.Bare.{kept_comments};
 ghost use Rattle.po_reader.specs.Stops.{HeadStops};
 ghost use Rattle.po_reader.specs.ReaderView.{head_view};
-ghost use Rattle.po_reader.specs.Heads.{HoldsHead, HoldsComments};
+ghost use Rattle.po_reader.specs.HeadView.{HoldsHead, HoldsComments};
 
 use crate::comment_texts::{add_flags, add_references};
 use crate::index::{item_at, refusal};

@@ -6,7 +6,7 @@ ghost use Rattle.po_entry.specs.Header.{HasAdmittedCharset};
 ghost use Rattle.po_entry.specs.Validity.{IsEntry, HasTexts};
 ghost use Rattle.po_entry.specs.TextEntry.{TextEntry};
 ghost use Rattle.po_reader.specs.Bare.{without_comments};
-ghost use Rattle.po_reader.specs.Drafts.{DraftsStop};
+ghost use Rattle.po_reader.specs.Faults.{TextsStop};
 ghost use Rattle.po_reader.specs.Faults.{CharsetStops};
 ghost use Rattle.po_reader.specs.ItemsRead.{ReadsItems, ItemsStop};
 ghost use Rattle.po_reader.specs.Viable.{last_line};
@@ -57,7 +57,7 @@ fn last_line(items: &[Item<'_>]) -> u32
 /// Whether entries can have the texts that were read for them, checked in their order.
 fn check_drafts(drafts: &[Fields]) -> Result<(), PoError>
     ensures ok { OnOk result (All (λ draft. HasTexts (entry_view draft)) drafts.now) }
-    ensures fault { IfErr result (λ e. DraftsStop (map entry_view drafts.now) e.kind e.line) }
+    ensures fault { IfErr result (λ e. TextsStop (map entry_view drafts.now) e.kind e.line) }
 {
     for draft in drafts {
         if let Err(kind) = check_texts(draft) {

@@ -1,13 +1,23 @@
 //! Laws of reading, each the contract of a function that does nothing: a call brings the law into a
 //! proof.
-ghost use Rattle.std.specs.Prelude.{◌≡◌, ◌≢◌, ◌⊎◌, ℕ, List, All};
+ghost use Rattle.std.specs.Prelude.{◌≡◌, ◌≢◌, ◌⊎◌, ◌↔◌, ℕ, List, All};
 ghost use Rattle.po_syntax.specs.declared.fault.PoFault.{PoFault};
+ghost use Rattle.po_syntax.specs.TextItem.{TextItem};
 ghost use Rattle.po_entry.specs.TextEntry.{TextEntry};
-ghost use Rattle.po_entry.specs.Reads.{ReadsText};
+ghost use Rattle.po_entry.specs.ReadsText.{ReadsText};
 ghost use Rattle.po_entry.specs.Validity.{IsCatalogueEntry};
+ghost use Rattle.po_entry.specs.Spelling.{SpellsEntries};
 ghost use Rattle.po_reader.specs.Faults.{IsReadFault};
+ghost use Rattle.po_reader.specs.Reads.{Reads};
 
 use po_syntax::laws as syntax;
+
+/// The reader's way through the items finds entries exactly where the items are a spelling for each
+/// of these entries, joined, and then comments alone.
+pub fn entries_are_spelt()
+    ensures { (items : List TextItem) (entries : List TextEntry)
+        → Reads items entries ↔ SpellsEntries items entries }
+{}
 
 /// A text reads as at most one list of entries.
 pub fn one_reading()

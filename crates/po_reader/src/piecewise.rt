@@ -2,7 +2,7 @@ ghost use Rattle.std.specs.Prelude.{◌≡◌, ◌≢◌, ◌<◌, ◌++◌, [],
 ghost use Rattle.po_syntax.specs.declared.fault.PoFault.{PoFault};
 ghost use Rattle.po_syntax.specs.LinesLeft.{LinesLeft, LeftStops};
 ghost use Rattle.po_entry.specs.TextEntry.{TextEntry};
-ghost use Rattle.po_entry.specs.Reads.{ReadsLeft, ReadsText};
+ghost use Rattle.po_entry.specs.ReadsText.{ReadsLeft, ReadsText};
 ghost use Rattle.po_reader.specs.Bare.{without_comments};
 ghost use Rattle.po_reader.specs.Refusals.{IsLeftRefusal, IsTextRefusal};
 

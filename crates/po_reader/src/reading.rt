@@ -1,5 +1,5 @@
 ghost use Rattle.std.specs.Prelude.{◌≡◌, ◌≢◌, IfOk, IfErr};
-ghost use Rattle.po_entry.specs.Reads.{ReadsText};
+ghost use Rattle.po_entry.specs.ReadsText.{ReadsText};
 ghost use Rattle.po_reader.specs.Faults.{IsReadFault};
 
 use crate::items::catalogue_of_items;

@@ -1,7 +1,8 @@
 ghost use Rattle.std.specs.Prelude.{◌≡◌, ◌≢◌, ◌+◌, ◌<◌, ◌≤◌, drop, length, IfOk, IfErr, MatchResult};
 ghost use Rattle.po_syntax.specs.TextItem.{view, views};
-ghost use Rattle.po_entry.specs.Strings.{IsStrings, string_step, begins_string, own_marks};
-ghost use Rattle.po_entry.specs.Strings as spec;
+ghost use Rattle.po_reader.specs.Strings.{IsStrings, string_step, begins_string};
+ghost use Rattle.po_entry.specs.Spelling.{own_marks};
+ghost use Rattle.po_reader.specs.Strings as spec;
 ghost use Rattle.po_reader.specs.Stops.{StringsStop, line_at};
 
 use crate::index::{item_at, refusal};

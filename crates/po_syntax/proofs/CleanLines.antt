@@ -9,7 +9,7 @@ use Rattle.std.proofs.lemmas.List.Sums.{prefix_len_passes, prefix_len_stops}
 use Rattle.std.proofs.lemmas.Slice.Eq.{bytes_eq-Decides}
 use Rattle.std.proofs.lemmas.Str.{IsUtf8-take, IsUtf8-drop, IsUtf8-past_char, IsCharBoundary-after_ascii}
 use lib.Utf8.{encode}
-use Rattle.po_syntax.specs.CleanLine.{IsCleanLine, AreCleanLines}
+use Rattle.po_syntax.specs.CleanLine.{AreCleanLines}
 use Rattle.po_syntax.specs.PoText.{HasNoNul, lines_of, without_mark}
 
 abbrev is_feed : ℕ → Bool

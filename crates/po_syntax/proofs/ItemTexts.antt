@@ -10,7 +10,7 @@ use Rattle.po_syntax.specs.declared.item.Marks.{Marks}
 use Rattle.po_syntax.specs.declared.item.CommentKind.{CommentKind}
 use Rattle.po_syntax.specs.declared.item.CommentKind.TheVariants.{Translator, Extracted, Reference, Flags}
 use Rattle.po_syntax.specs.declared.fault.PoFault.TheVariants.{BadEscape}
-use Rattle.po_syntax.specs.ItemContents.{IsCommentText, HoldsText}
+use Rattle.po_syntax.specs.ItemContents.{IsCommentOf, HoldsText}
 use Rattle.po_syntax.specs.Line.{Shape, CommentLine, Tokens, NoShape, comment_shape, obsolete_shape, tilde_shape, hash_shape, first_shape, shape_of, trim_returns, SpellsTokens, none, word, string, SpellsLine, comment, tokens}
 use Rattle.po_syntax.specs.PoText.{SpellsLines, SpellsText}
 use Rattle.po_syntax.specs.QuotedString.{Step, End, Byte, Stop, digit_count, number_step, letter_value, letter_step, escape_at, step_at, IsQuoted, ended, spelt}
@@ -112,14 +112,18 @@ rest_utf8 prefix rest text ascii h utf8 =
     rw after (IsUtf8-drop text (h.0 + 1) utf8 (IsCharBoundary-after_ascii text h.0 utf8 inside (omega arith)))
 
 -- the text of a comment on a clean line
-comment_text : (line : List ℕ) (kind : CommentKind) (rest : List ℕ) → IsCleanLine line → IsCommentLine line kind rest → IsCommentText kind (trim_returns rest)
+comment_text : (line : List ℕ) (kind : CommentKind) (rest : List ℕ) → IsCleanLine line → IsCommentLine line kind rest → IsCommentOf kind (trim_returns rest)
 comment_text line kind rest clean comment_line =
     let after = rest-tail comment_line.prefix line comment_line.after in
     let end = trim_end rest in record {
-      utf8 = trim_returns-utf8 rest (rest_utf8 comment_line.prefix rest line comment_line.ascii comment_line.after clean.utf8);
-      no_nul = rw end.2 (All-take (λ b. b ≢ 0) end.0 rest (All-rest (λ b. b ≢ 0) line clean.no_nul after));
-      one_line = rw end.2 (All-take (λ b. b ≢ 10) end.0 rest (All-rest (λ b. b ≢ 10) line clean.one_line after));
-      no_final_return = trim_returns-twice rest;
+      comment = record {
+        valid = record {
+          utf8 = trim_returns-utf8 rest (rest_utf8 comment_line.prefix rest line comment_line.ascii comment_line.after clean.utf8);
+          no_nul = rw end.2 (All-take (λ b. b ≢ 0) end.0 rest (All-rest (λ b. b ≢ 0) line clean.no_nul after));
+        };
+        one_line = rw end.2 (All-take (λ b. b ≢ 10) end.0 rest (All-rest (λ b. b ≢ 10) line clean.one_line after));
+        no_final_return = trim_returns-twice rest;
+      };
       plain = λ is b more e among. let first = take_first end.0 rest b more (sym end.2 ∙ e) in not_among b among.0 (comment_line.plain is b first.0 first.1) among.1 among.2;
     }
 

@@ -1,11 +1,11 @@
 -- What a piece of a text holds.
-use Rattle.std.proofs.Common.{◌≡◌, ◌≢◌, ◌==◌, refl, subst, ℕ, zero, suc, ◌+◌, ◌<◌, ◌≤◌, ◌^◌, Bool, true, false, cond, List, [], ◌∷◌, ◌++◌, length, length-append, All, Option, Some, None, ◌-◌, arith}
+use Rattle.std.proofs.Common.{◌≡◌, ◌≢◌, ◌==◌, refl, subst, ℕ, zero, suc, ◌+◌, ◌≤◌, Bool, true, false, cond, List, [], ◌∷◌, ◌++◌, length, length-append, All, Option, Some, None, ◌-◌, arith}
 use Rattle.std.specs.Borrow.{Bor}
 use Rattle.std.specs.Prelude.{is_some, slice_get}
 use Rattle.std.specs.List.{onto_first}
 use Rattle.po_syntax.specs.declared.item.Item.{Item}
 use Rattle.std.proofs.lemmas.List.Elements.{All-append}
-use Rattle.po_syntax.specs.CleanLine.{IsCleanLine, AreCleanLines}
+use Rattle.po_syntax.specs.CleanLine.{IsCleanLine}
 use Rattle.po_syntax.specs.ItemContents.{HoldsText}
 use Rattle.po_syntax.specs.Line.{SpellsLine}
 use Rattle.po_syntax.specs.LinesLeft.{EndsInString, IsString, lines_of_rest}

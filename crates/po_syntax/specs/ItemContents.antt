@@ -5,17 +5,24 @@ use Rattle.po_syntax.specs.declared.item.CommentKind.TheVariants.{Translator}
 use Rattle.po_syntax.specs.Line.{trim_returns}
 use Rattle.po_syntax.specs.TextItem.{TextItem, Comment, Word, Str}
 
--- A comment's text is UTF-8 on one line, without NUL and without CRs at its end. A translator's
--- comment begins with none of the characters that mark another kind of line.
-pub record IsCommentText (kind : CommentKind) (text : List ℕ) : Type 0 where
+-- a text that an entry may hold
+pub record IsText (text : List ℕ) : Type 0 where
   pub utf8 : IsUtf8 text
   pub no_nul : All (λ b. b ≢ 0) text
+
+-- the text of a comment is the rest of a line without CRs at its end
+pub record IsComment (text : List ℕ) : Type 0 where
+  pub valid : IsText text
   pub one_line : All (λ b. b ≢ 10) text
   pub no_final_return : trim_returns text ≡ text
+
+-- A comment of this kind. A translator's begins with no character that marks another kind of line: none of `.:,|~`.
+pub record IsCommentOf (kind : CommentKind) (text : List ℕ) : Type 0 where
+  pub comment : IsComment text
   pub plain : kind ≡ Translator → (b : ℕ) (rest : List ℕ) → text ≡ b ∷ rest → Contains (codes ".:,|~") b → ⊥
 
--- the bytes of a string hold no NUL
+-- a comment is one of its kind, and the bytes of a string hold no NUL
 abbrev pub HoldsText : TextItem → Type 0
-HoldsText (Comment kind text line) = IsCommentText kind text
+HoldsText (Comment kind text line) = IsCommentOf kind text
 HoldsText (Word keyword marks line) = Unit {0}
 HoldsText (Str bytes marks line) = All (λ b. b ≢ 0) bytes

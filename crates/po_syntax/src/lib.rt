@@ -3,7 +3,7 @@
 //!
 //! [`items`] reads all items of a text, and [`Pieces`] those of one piece after another. [`quote`]
 //! writes a text as strings that read back. A refused text has a [`PoError`]: the first fault, and
-//! its line.
+//! its line. [`is_blank`] and [`skip_blanks`] say what a blank is.
 //!
 //! The modules in reading order: `item`, `fault`, `token`, `escape`, `quoted_string`, `line`,
 //! `text`, `pieces`, `quoting`, `laws`.
@@ -26,3 +26,4 @@ pub use crate::item::{CommentKind, Item, Keyword, Marks};
 pub use crate::pieces::Pieces;
 pub use crate::quoting::quote;
 pub use crate::text::items;
+pub use crate::token::{is_blank, skip_blanks};

@@ -17,8 +17,9 @@ pub(crate) enum Token<'a> {
     Word(Keyword, &'a [u8]),
 }
 
-/// Whether the byte is a blank: a space, a tab, VT, FF or CR.
-fn is_blank(byte: u8) -> bool
+/// Whether the byte is a blank: a space, a tab, VT, FF or CR (GNU gettext manual, "The Format of PO
+/// Files").
+pub fn is_blank(byte: u8) -> bool
     ensures { result ≡ is_blank byte }
 {
     matches!(byte, b' ' | b'\t' | 11 | 12 | b'\r')
@@ -47,8 +48,8 @@ fn word_len(text: &[u8]) -> usize
     text.iter().take_while(|b| is_word_byte(**b)).count()
 }
 
-/// The text after the blanks at its start: space, TAB, VT, FF and CR.
-pub(crate) fn skip_blanks(text: &[u8]) -> &[u8]
+/// The text after the blanks at its start (GNU gettext manual, "The Format of PO Files").
+pub fn skip_blanks(text: &[u8]) -> &[u8]
     ensures { result.now ≡ skip_blanks text.now }
 {
     text.split_at(blank_count(text)).1

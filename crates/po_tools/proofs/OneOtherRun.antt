@@ -6,7 +6,7 @@ use Rattle.mo_file.specs.Message.{Message}
 use Rattle.po_syntax.specs.declared.fault.PoError.{PoError}
 use Rattle.po_syntax.specs.declared.fault.PoFault.TheVariants.{Duplicate}
 use Rattle.po_entry.specs.TextEntry.{TextEntry}
-use Rattle.po_entry.specs.Reads.{ReadsText}
+use Rattle.po_entry.specs.ReadsText.{ReadsText}
 use Rattle.po_entry.specs.Header.{HasAdmittedCharset}
 use Rattle.po_catalog.specs.Joined.{InputEntry, in_input, entries_of}
 use Rattle.po_catalog.specs.Duplicate.{HasNoDuplicate, IsFirstDuplicate}

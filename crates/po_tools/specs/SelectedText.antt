@@ -1,6 +1,6 @@
 -- A text whose entries are selected piece by piece. Internal to this crate.
 use Rattle.std.specs.Prelude.{◌≡◌, ℕ, List, map}
-use Rattle.po_entry.specs.Reads.{ReadsText}
+use Rattle.po_entry.specs.ReadsText.{ReadsText}
 use Rattle.po_entry.specs.TextEntry.{TextEntry}
 use Rattle.po_catalog.specs.Duplicate.{AllDiffer}
 use Rattle.po_select.specs.declared.selection.Selection.{Selection}

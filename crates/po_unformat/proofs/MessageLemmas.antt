@@ -10,7 +10,8 @@ use Rattle.po_syntax.specs.declared.fault.PoFault.TheVariants.{OutOfMemory as No
 use Rattle.po_entry.specs.TextEntry.{TextEntry, quoted_texts}
 use Rattle.po_entry.specs.Bytes.{Lacks}
 use Rattle.po_entry.specs.Header.{HasAdmittedCharset}
-use Rattle.po_entry.specs.Validity.{HasTexts, IsCatalogueEntry, IsEntry, IsText, TextsFault}
+use Rattle.po_entry.specs.Validity.{HasTexts, IsCatalogueEntry, IsEntry, TextsFault}
+use Rattle.po_syntax.specs.ItemContents.{IsText}
 use Rattle.po_entry.specs.Validity.TextsFault.{not_utf8, forbidden}
 use Rattle.po_unformat.specs.declared.fault.UnformatError.{UnformatError}
 use Rattle.po_unformat.specs.declared.fault.UnformatError.TheVariants.{Mo, NotUtf8, ForbiddenByte, ForeignCharset, OutOfMemory}

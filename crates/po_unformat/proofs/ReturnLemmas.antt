@@ -16,8 +16,9 @@ use Rattle.po_entry.specs.TextEntry.{TextEntry, previous_texts, with_line, plain
 use Rattle.po_entry.specs.Bytes.{Lacks}
 use Rattle.po_entry.specs.Halves.{All-left, All-right}
 use Rattle.po_entry.specs.Header.{is_header}
-use Rattle.po_entry.specs.Reads.{ReadsText}
-use Rattle.po_entry.specs.Validity.{IsCatalogueEntry, IsComment, IsEntry, IsFlag, IsReference, IsText, IsTranslatorComment}
+use Rattle.po_entry.specs.ReadsText.{ReadsText}
+use Rattle.po_entry.specs.Validity.{IsCatalogueEntry, IsEntry, IsFlag, IsReference, IsTranslatorComment}
+use Rattle.po_syntax.specs.ItemContents.{IsComment, IsText}
 use Rattle.po_writer.specs.WrittenText.{arranged, written_text}
 use Rattle.po_catalog.specs.Duplicate.{AllDiffer, HasNoDuplicate}
 use Rattle.po_catalog.specs.Joined.{is_live, joined_entries}

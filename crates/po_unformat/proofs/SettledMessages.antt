@@ -18,7 +18,8 @@ use Rattle.po_syntax.specs.declared.fault.PoFault.TheVariants.{NotUtf8 as BadTex
 use Rattle.po_entry.specs.TextEntry.{TextEntry, quoted_texts}
 use Rattle.po_entry.specs.Bytes.{Lacks}
 use Rattle.po_entry.specs.Header.{HasAdmittedCharset, IsAdmittedName, admitted_names, charset_of, first_form, is_header}
-use Rattle.po_entry.specs.Validity.{HasTexts, IsClean, IsComment, IsEntry, IsFlag, IsReference, IsTranslatorComment, TextsFault}
+use Rattle.po_entry.specs.Validity.{HasTexts, IsClean, IsEntry, IsFlag, IsReference, IsTranslatorComment, TextsFault}
+use Rattle.po_syntax.specs.ItemContents.{IsComment}
 use Rattle.po_entry.specs.Validity.TextsFault.{not_utf8, forbidden}
 use Rattle.po_writer.specs.WrittenText.{written_text}
 use Rattle.po_unformat.specs.declared.fault.UnformatError.{UnformatError}

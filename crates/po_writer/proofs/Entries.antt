@@ -1,5 +1,5 @@
 -- A written entry reads as the entry, but for its line.
-use Rattle.std.proofs.Common.{◌≡◌, ◌≢◌, ◌∙◌, ◌^◌, refl, ap, subst, ℕ, ◌<◌, ◌≤◌, Bool, true, false, List, [], ◌∷◌, ◌++◌, append_assoc, length, fold, codes, Option, Some, None, All, option_to_list, unwrap_or, slice_index_or, arith}
+use Rattle.std.proofs.Common.{◌≡◌, ◌≢◌, ◌∙◌, ◌^◌, refl, ap, subst, ℕ, ◌<◌, ◌≤◌, Bool, true, false, List, [], ◌∷◌, ◌++◌, length, fold, codes, Option, Some, None, All, option_to_list, unwrap_or, slice_index_or, arith}
 use Rattle.std.specs.List.{flat_map, list_any}
 use Rattle.std.proofs.lemmas.List.{append-nil}
 use Rattle.std.proofs.lemmas.List.Elements.{All-nil, All-cons, All-head, All-weaker}
@@ -9,27 +9,24 @@ use Rattle.po_syntax.specs.declared.item.CommentKind.TheVariants.{Translator, Ex
 use Rattle.po_syntax.specs.TextItem.{TextItem}
 use Rattle.po_entry.specs.Bytes.{Lacks, AreDistinct}
 use Rattle.po_entry.specs.TextEntry.{TextEntry, TextPrevious, with_line, previous_texts}
-use Rattle.po_entry.specs.Validity.{IsText, IsComment, IsTranslatorComment, IsReference, IsFlag, IsEntry}
-use Rattle.po_entry.specs.Strings.{own_marks}
+use Rattle.po_syntax.specs.ItemContents.{IsText, IsComment}
+use Rattle.po_entry.specs.Validity.{IsTranslatorComment, IsReference, IsFlag, IsEntry}
 use Rattle.po_entry.specs.Comments.{comments_of, extracted_of, references_of, all_listed_flags, fuzzy_of, flags_of, listed_references, listed_flags, is_fuzzy_flag, with_flag, is_comma}
-use Rattle.po_entry.specs.Head.{CommentText}
-use Rattle.po_entry.specs.Body.{Body}
-use Rattle.po_entry.specs.Descent.{Reads, entry}
-use Rattle.po_entry.specs.Spelling.{entry_from, previous_marks}
+use Rattle.po_entry.specs.Parts.{CommentText, Body}
+use Rattle.po_entry.specs.Spelling.{own_marks, previous_marks, entry_from, SpellsHead, SpellsEntry, entry}
 use Rattle.po_writer.specs.WrittenText.{comment_lines, elements_line, all_flags, previous_prefix, own_prefix, previous_lines, own_lines, entry_lines}
 use Rattle.po_writer.proofs.Utf8.{IsLine, is_plain, line-append, line-empty, plain_line}
-use Rattle.po_writer.proofs.Spelling.{Block, two_blocks}
+use Rattle.po_writer.proofs.Blocks.{Block, two_blocks}
 use Rattle.po_writer.proofs.Tokens.{no_prefix, previous_live, previous_obsolete, own_obsolete}
 use Rattle.po_writer.proofs.KeywordTexts.{IsLinePrefix, IsQuotable}
-use Rattle.po_writer.proofs.Heads.{IsFresh, HeadPart, two_parts, head_comments, IsMarked, comments_block, translator_shape, extracted_shape, reference_shape, flags_shape}
+use Rattle.po_writer.proofs.Heads.{HeadPart, two_parts, head_comments, IsMarked, comments_block, translator_shape, extracted_shape, reference_shape, flags_shape}
 use Rattle.po_writer.proofs.WrittenElements.{IsElement, IsEnded, element_ended, IsFlagElement, flag_ended}
 use Rattle.po_writer.proofs.Fields.{elements_text, all_comments, comments_kept, extracted_kept, reference_texts, flag_texts, references_kept, flag_elements_kept, fuzzy_kept, flags_kept, elements_block}
-use Rattle.po_writer.proofs.Bodies.{KeywordsWritten, BodyPart, HasForms, body_block, all_previous, previous_kept, previous_lines_block}
+use Rattle.po_writer.proofs.Bodies.{KeywordsWritten, BodyPart, HasForms, body_block, all_previous, previous_kept, previous_in_order, previous_lines_block}
 
--- after whatever stands before, the items read as this entry, and then what stands after them
+-- the items are this entry, but for its line
 abbrev pub EntryPart : TextEntry → List TextItem → Type 0
-EntryPart e here =
-    (later : List TextItem) (read : List TextEntry) → IsFresh later → Reads later read → IsFresh (here ++ later) × ((line : ℕ) × Reads (here ++ later) (with_line line e ∷ read))
+EntryPart e here = (line : ℕ) × SpellsEntry here (with_line line e)
 
 -- the comments that an entry is written with
 abbrev pub entry_comments : TextEntry → List CommentText
@@ -78,11 +75,8 @@ entry_back e line h =
     let flags : flags_of (entry_comments e) ≡ e.flags = ap (fold with_flag []) written ∙ flags_kept e.fuzzy e.flags h.not_fuzzy h.distinct in
     same_entry e line _ _ _ _ _ _ comments extracted references fuzzy flags (previous_kept e.previous)
 
-entry_part : (e : TextEntry) (head own : List TextItem) → HasElements e → HeadPart 0 3 (entry_comments e ++ []) (all_previous e.previous) head → BodyPart e.obsolete e.context e.id e.plural e.forms own → EntryPart e (head ++ own)
-entry_part e head own written h g = λ later read fresh reads.
-    let body = g later fresh in
-    let prefix = h (own ++ later) (own ++ later) [] [] body.2 in
-    rw (append_assoc head own later) (prefix.1, (body.0, subst (λ x. Reads (head ++ (own ++ later)) (x ∷ read)) (entry_back e body.0 written) (entry (rw (append-nil (entry_comments e ++ []), append-nil (entry_comments e), append-nil (all_previous e.previous)) at (prefix.0 0 (omega arith))) body.1 reads)))
+entry_part : (e : TextEntry) (head own : List TextItem) → HasElements e → HeadPart (entry_comments e) (all_previous e.previous) head → BodyPart e.obsolete e.context e.id e.plural e.forms own → EntryPart e (head ++ own)
+entry_part e head own written h g = (g.0, subst (λ x. SpellsEntry (head ++ own) x) (entry_back e g.0 written) (entry h (previous_in_order e.previous) g.1))
 
 All-both : {X : Type 0} (P Q R : X → Type 0) (xs : List X) → ((x : X) → P x → Q x → R x) → All P xs → All Q xs → All R xs
 All-both P Q R xs both h g = λ k d inside. both (slice_index_or xs k d) (h k d inside) (g k d inside)
@@ -188,14 +182,15 @@ entry_block written e h short =
     let before = All-left IsText P C (All-left IsText (P ++ C) (e.id ∷ []) no_plural) in
     let before_plural = All-right IsText (option_to_list previous.context ++ option_to_list previous.id) (option_to_list previous.plural) before in
     let before_two = All-left IsText (option_to_list previous.context ++ option_to_list previous.id) (option_to_list previous.plural) before in
-    let comments = comments_block 0 Translator (codes "#") cs (All-weaker IsTranslatorComment (IsMarked Translator (codes "#")) translator_marked cs h.comments) in
-    let extracted = comments_block 0 Extracted (codes "#.") es (All-weaker IsComment (IsMarked Extracted (codes "#.")) extracted_marked es h.extracted) in
+    let comments = comments_block Translator (codes "#") cs (All-weaker IsTranslatorComment (IsMarked Translator (codes "#")) translator_marked cs h.comments) in
+    let extracted = comments_block Extracted (codes "#.") es (All-weaker IsComment (IsMarked Extracted (codes "#.")) extracted_marked es h.extracted) in
     let references = elements_block Reference (codes "#: ") (codes " ") rs (λ t. reference_shape (32 ∷ t)) (plain_line (codes "#: ") refl) (λ t. omega arith) (plain_line (codes " ") refl) clean_references (All-weaker IsElement IsEnded element_ended rs has_elements.references) in
     let flags = elements_block Flags (codes "#, ") (codes ", ") fs (λ t. flags_shape (32 ∷ t)) (plain_line (codes "#, ") refl) (λ t. omega arith) (plain_line (codes ", ") refl) clean_flags (All-weaker IsFlagElement IsEnded flag_ended fs has_elements.flags) in
     let head = previous_lines_block written (previous_prefix e.obsolete) e.obsolete previous (previous_prefix_line e.obsolete) (optional_quotable previous.context (All-left IsText (option_to_list previous.context) (option_to_list previous.id) before_two)) (optional_quotable previous.id (All-right IsText (option_to_list previous.context) (option_to_list previous.id) before_two)) (optional_quotable previous.plural before_plural) in
     let own = body_block written (own_prefix e.obsolete) e.obsolete e.context e.id e.plural e.forms (own_prefix_line e.obsolete) (optional_quotable e.context context) (text_quotable e.id id) (entry_forms e h short forms plural) in
-    let two = two_blocks (HeadPart 0 0 T []) (HeadPart 0 0 E []) (HeadPart 0 0 (T ++ E) []) (comment_lines (codes "#") cs) (comment_lines (codes "#.") es) (λ a b g i. two_parts 0 0 0 T E [] [] a b g i) comments extracted in
-    let three = two_blocks (HeadPart 0 0 (T ++ E) []) (HeadPart 0 0 R []) (HeadPart 0 0 ((T ++ E) ++ R) []) _ (elements_line (codes "#: ") (codes " ") rs) (λ a b g i. two_parts 0 0 0 (T ++ E) R [] [] a b g i) two references in
-    let four = two_blocks (HeadPart 0 0 ((T ++ E) ++ R) []) (HeadPart 0 0 F []) (HeadPart 0 0 (((T ++ E) ++ R) ++ F) []) _ (elements_line (codes "#, ") (codes ", ") fs) (λ a b g i. two_parts 0 0 0 ((T ++ E) ++ R) F [] [] a b g i) three flags in
-    let all = two_blocks (HeadPart 0 0 (entry_comments e) []) (HeadPart 0 3 [] (all_previous previous)) (HeadPart 0 3 (entry_comments e ++ []) (all_previous previous)) _ (previous_lines (previous_prefix e.obsolete) previous) (λ a b g i. two_parts 0 0 3 (entry_comments e) [] [] (all_previous previous) a b g i) four head in
-    two_blocks (HeadPart 0 3 (entry_comments e ++ []) (all_previous previous)) (BodyPart e.obsolete e.context e.id e.plural e.forms) (EntryPart e) _ (own_lines (own_prefix e.obsolete) e) (λ a b g i. entry_part e a b has_elements g i) all own
+    let two = two_blocks (HeadPart T []) (HeadPart E []) (HeadPart (T ++ E) []) (comment_lines (codes "#") cs) (comment_lines (codes "#.") es) (λ a b g i. two_parts g i) comments extracted in
+    let three = two_blocks (HeadPart (T ++ E) []) (HeadPart R []) (HeadPart ((T ++ E) ++ R) []) _ (elements_line (codes "#: ") (codes " ") rs) (λ a b g i. two_parts g i) two references in
+    let four = two_blocks (HeadPart ((T ++ E) ++ R) []) (HeadPart F []) (HeadPart (((T ++ E) ++ R) ++ F) []) _ (elements_line (codes "#, ") (codes ", ") fs) (λ a b g i. two_parts g i) three flags in
+    let all = two_blocks (HeadPart (entry_comments e) []) (HeadPart [] (all_previous previous)) (HeadPart (entry_comments e) (all_previous previous)) _ (previous_lines (previous_prefix e.obsolete) previous)
+    (λ a b g i. subst (λ c. SpellsHead (a ++ b) c (all_previous previous)) (append-nil (entry_comments e)) (two_parts g i)) four head in
+    two_blocks (HeadPart (entry_comments e) (all_previous previous)) (BodyPart e.obsolete e.context e.id e.plural e.forms) (EntryPart e) _ (own_lines (own_prefix e.obsolete) e) (λ a b g i. entry_part e a b has_elements g i) all own

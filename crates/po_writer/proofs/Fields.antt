@@ -7,14 +7,15 @@ use Rattle.std.proofs.lemmas.Slice.Eq.{bytes_eq-Decides}
 use Rattle.po_syntax.specs.declared.item.CommentKind.{CommentKind}
 use Rattle.po_syntax.specs.declared.item.CommentKind.TheVariants.{Translator, Extracted, Reference, Flags}
 use Rattle.po_entry.specs.Bytes.{AreDistinct}
-use Rattle.po_entry.specs.Head.{CommentText}
+use Rattle.po_entry.specs.Parts.{CommentText}
 use Rattle.po_entry.specs.Comments.{same_kind, texts_of, listed_flags, listed_references, is_fuzzy_flag, with_flag}
+use Rattle.po_entry.specs.Spelling.{nothing}
 use Rattle.po_writer.specs.WrittenText.{elements_line, all_flags}
 use Rattle.po_syntax.specs.Line as line
 use Rattle.po_syntax.specs.Line.{shape_of}
 use Rattle.po_writer.proofs.Utf8.{IsLine, line-append, line-empty}
-use Rattle.po_writer.proofs.Spelling.{Block, BeginsLow, empty_block}
-use Rattle.po_writer.proofs.Heads.{HeadPart, no_part, head_comments, comment_block}
+use Rattle.po_writer.proofs.Blocks.{Block, BeginsLow, empty_block}
+use Rattle.po_writer.proofs.Heads.{HeadPart, head_comments, comment_block}
 use Rattle.po_writer.proofs.WrittenElements.{following, IsEnded, elements_kept, IsElement, references_cut, IsFlagElement, flags_cut}
 
 -- the text of the comment that holds these elements, where there are any
@@ -129,9 +130,9 @@ following_line separator (element ∷ elements) s h =
 
 -- a line of elements after the mark of its kind
 pub elements_block : (kind : CommentKind) (mark separator : List ℕ) (elements : List (List ℕ)) → ((text : List ℕ) → shape_of (mark ++ text) ≡ line.CommentLine kind (32 ∷ text)) → IsLine mark → ((text : List ℕ) → BeginsLow (mark ++ text)) → IsLine separator → All IsLine elements → All IsEnded elements
-    → Block (HeadPart 0 0 (head_comments kind (elements_text separator elements)) []) (elements_line mark separator elements)
-elements_block kind mark separator [] shape m low s h g = empty_block (HeadPart 0 0 [] []) (no_part 0)
+    → Block (HeadPart (head_comments kind (elements_text separator elements)) []) (elements_line mark separator elements)
+elements_block kind mark separator [] shape m low s h g = empty_block (HeadPart [] []) nothing
 elements_block kind mark separator (element ∷ elements) shape m low s h g =
     let text = element ++ following separator elements in
     let clean = line-append element (following separator elements) (All-head IsLine element elements h) (following_line separator elements s (All-tail IsLine element elements h)) in
-    comment_block 0 kind (mark ++ text) (32 ∷ text) (line-append mark text m clean) (low text) (shape text) (elements_kept separator (32 ∷ []) element elements (All-head IsEnded element elements g) (All-tail IsEnded element elements g))
+    comment_block kind (mark ++ text) (32 ∷ text) (line-append mark text m clean) (low text) (shape text) (elements_kept separator (32 ∷ []) element elements (All-head IsEnded element elements g) (All-tail IsEnded element elements g))

@@ -11,27 +11,19 @@ use Rattle.po_syntax.specs.declared.item.Keyword.{Keyword}
 use Rattle.po_syntax.specs.declared.item.Marks.{Marks}
 use Rattle.po_syntax.specs.QuotedForm.{quoted}
 use Rattle.po_syntax.specs.TextItem.{TextItem, Word, Str}
-use Rattle.po_entry.specs.Strings.{IsStrings, last, more, begins_string}
-use Rattle.po_entry.proofs.SameMarks.{same_marks-refl}
+use Rattle.po_entry.specs.Spelling.{SpellsStrings, last, more, SpellsKeywordText, keyword_text}
 use Rattle.po_writer.specs.WrittenText.{cut, string_line, keyword_lines}
 use Rattle.po_writer.proofs.Utf8.{IsLine, line-append, quoted_line, text_some, pieces_utf8, line-ascii, plain_one, no_text}
-use Rattle.po_writer.proofs.Spelling.{Block, BeginsLow, low-append, two_blocks, weaker_block, line_block}
+use Rattle.po_writer.proofs.Blocks.{Block, BeginsLow, low-append, two_blocks, weaker_block, line_block}
 use Rattle.po_writer.proofs.Tokens.{QuotedFormsSpell, IsPrefix, IsKeyword, string_spells, keyword_spells}
 
 -- the items are strings of this text under these marks
 abbrev pub StringsPart : Marks → List ℕ → List TextItem → Type 0
-StringsPart marks text here = (later : List TextItem) → (begins_string later ≡ false → IsStrings marks (here ++ later) text later) × (begins_string (here ++ later) ≡ true)
+StringsPart marks text here = SpellsStrings marks here text
 
 -- the items are a keyword with the strings of its text
 abbrev pub TextPart : Keyword → Marks → List ℕ → List TextItem → Type 0
-TextPart keyword marks text here = (number : ℕ) × (strings : List TextItem) × (here ≡ Word keyword marks number ∷ strings) × StringsPart marks text strings
-
-last_string : (marks : Marks) (number : ℕ) (text : List ℕ) → StringsPart marks text (Str text marks number ∷ [])
-last_string marks number text later = (λ ends. last (rw (same_marks-refl marks) refl) ends, refl)
-
-first_string : (marks : Marks) (number : ℕ) (text others : List ℕ) (strings : List TextItem) → StringsPart marks others strings → StringsPart marks (text ++ others) (Str text marks number ∷ strings)
-first_string marks number text others strings h later =
-    (λ ends. more (rw (same_marks-refl marks) refl) (h later).1 ((h later).0 ends), refl)
+TextPart keyword marks text here = (number : ℕ) × SpellsKeywordText keyword marks number here text
 
 -- a prefix of written lines
 pub record IsLinePrefix (prefix : List ℕ) (marks : Marks) : Type 0 where
@@ -55,7 +47,7 @@ one_string law prefix marks text p h =
 
 string_block : QuotedFormsSpell → (prefix : List ℕ) (marks : Marks) (text : List ℕ) → IsLinePrefix prefix marks → IsQuotable text → Block (StringsPart marks text) (string_line prefix text)
 string_block law prefix marks text p h =
-    weaker_block (OneString marks text) (StringsPart marks text) (string_line prefix text) (λ items g. rw g.1 (last_string marks g.0 text)) (one_string law prefix marks text p h)
+    weaker_block (OneString marks text) (StringsPart marks text) (string_line prefix text) (λ items g. rw g.1 last) (one_string law prefix marks text p h)
 
 -- the pieces one after the other
 abbrev pub joined : List (List ℕ) → List ℕ
@@ -70,7 +62,7 @@ strings_block law prefix marks piece [] p h =
 strings_block law prefix marks piece (next ∷ pieces) p h =
     let rest = strings_block law prefix marks next pieces p (All-tail IsQuotable piece (next ∷ pieces) h) in
     two_blocks (OneString marks piece) (StringsPart marks (joined (next ∷ pieces))) (StringsPart marks (joined (piece ∷ next ∷ pieces))) (string_line prefix piece) (flat_map (string_line prefix) (next ∷ pieces))
-    (λ before later g i. rw g.1 (first_string marks g.0 piece (joined (next ∷ pieces)) later i)) (one_string law prefix marks piece p (All-head IsQuotable piece (next ∷ pieces) h)) rest
+    (λ before later g i. rw g.1 (more i)) (one_string law prefix marks piece p (All-head IsQuotable piece (next ∷ pieces) h)) rest
 
 onto_joined : (b : ℕ) (pieces : List (List ℕ)) → joined (onto_first b pieces) ≡ b ∷ joined pieces
 onto_joined b [] = refl
@@ -119,13 +111,13 @@ several_lines law prefix spelling keyword marks text (piece ∷ pieces) p k many
     let strings = strings_block law prefix marks piece pieces p h in
     let all = flat_map (string_line prefix) (piece ∷ pieces) in
     let both = two_blocks (OneLine keyword marks []) (StringsPart marks (joined (piece ∷ pieces))) (TextPart keyword marks (joined (piece ∷ pieces))) ((prefix ++ spelling) ++ 32 ∷ string_line [] []) all
-    (λ here later g i. (g.0, Str [] marks g.0 ∷ later, ap (λ t. t ++ later) g.1, first_string marks g.0 [] (joined (piece ∷ pieces)) later i)) before strings in
+    (λ here later g i. (g.0, rw g.1 (keyword_text (more i)))) before strings in
     subst (λ t. Block (TextPart keyword marks t) ((prefix ++ spelling) ++ 32 ∷ (string_line [] [] ++ all))) e (subst (Block (TextPart keyword marks (joined (piece ∷ pieces)))) (append_assoc (prefix ++ spelling) (32 ∷ string_line [] []) all) both)
 
 one_line : QuotedFormsSpell → (prefix spelling : List ℕ) (keyword : Keyword) (marks : Marks) (text : List ℕ) → IsLinePrefix prefix marks → IsLineKeyword spelling keyword → IsQuotable text
     → Block (TextPart keyword marks text) ((prefix ++ spelling) ++ 32 ∷ string_line [] text)
 one_line law prefix spelling keyword marks text p k h =
-    weaker_block (OneLine keyword marks text) (TextPart keyword marks text) ((prefix ++ spelling) ++ 32 ∷ string_line [] text) (λ items g. (g.0, Str text marks g.0 ∷ [], g.1, last_string marks g.0 text)) (keyword_line law prefix spelling keyword marks text p k h)
+    weaker_block (OneLine keyword marks text) (TextPart keyword marks text) ((prefix ++ spelling) ++ 32 ∷ string_line [] text) (λ items g. (g.0, rw g.1 (keyword_text last))) (keyword_line law prefix spelling keyword marks text p k h)
 
 text_cases : QuotedFormsSpell → (prefix spelling : List ℕ) (keyword : Keyword) (marks : Marks) (text : List ℕ) (several : Bool) → nat_lt 1 (length (cut text)) ≡ several → IsLinePrefix prefix marks → IsLineKeyword spelling keyword → IsQuotable text
     → Block (TextPart keyword marks text) ((prefix ++ spelling) ++ 32 ∷ (if several then string_line [] [] ++ flat_map (string_line prefix) (cut text) else string_line [] text))

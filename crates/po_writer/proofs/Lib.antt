@@ -1,7 +1,7 @@
 pub mod Cuts
 pub mod Separated
 pub mod Utf8
-pub mod Spelling
+pub mod Blocks
 pub mod Tokens
 pub mod Heads
 pub mod WrittenElements

@@ -1,14 +1,13 @@
 -- A written text in two parts.
-use Rattle.std.proofs.Common.{◌≡◌, ◌∙◌, refl, sym, ap, ℕ, ◌<◌, ◌==◌, List, [], ◌∷◌, ◌++◌, Bool, true, false, not, filter, length, append-nil, append_assoc, arith, vec_len}
+use Rattle.std.proofs.Common.{◌≡◌, ◌∙◌, refl, sym, ap, ◌<◌, ◌==◌, List, [], ◌∷◌, ◌++◌, true, false, not, filter, length, append-nil, append_assoc, arith, vec_len}
 use Rattle.std.specs.Prelude.{fold}
-use Rattle.std.specs.List.{flat_map}
 use Rattle.std.proofs.lemmas.List.Elements.{filter-append, filter_agree}
 use Rattle.std.proofs.lemmas.List.Sums.{fold-append}
 use Rattle.std.proofs.lemmas.Bool.{eqb-true, eqb-false}
 use Rattle.po_entry.specs.TextEntry.{TextEntry}
 use Rattle.po_writer.specs.Separated.{with_entry, entries_marked}
 use Rattle.po_writer.specs.TextParts.{AreParts}
-use Rattle.po_writer.specs.WrittenText.{entry_lines, in_order, written_text}
+use Rattle.po_writer.specs.WrittenText.{in_order, written_text}
 use Rattle.po_writer.specs.declared.parts.TextParts.{TextParts}
 use Rattle.po_writer.proofs.Separated.{further, joined, marked, not_marked, some_text}
 

@@ -9,19 +9,19 @@ use Rattle.po_syntax.specs.Line.{first_shape, tokens, none}
 use Rattle.po_syntax.specs.PoText.{IsSmall, HasNoNul, SpellsText, without_mark}
 use Rattle.po_syntax.specs.TextItem.{TextItem}
 use Rattle.po_syntax.specs.Token.{first_token}
+use Rattle.po_entry.specs.Bytes.{Lacks}
 use Rattle.po_entry.specs.TextEntry.{TextEntry, with_line, quoted_texts}
 use Rattle.po_entry.specs.Header.{HasAdmittedCharset}
-use Rattle.po_entry.specs.Validity.{IsText, IsEntry, IsCatalogueEntry}
-use Rattle.po_entry.specs.Descent.{Reads, comments}
-use Rattle.po_entry.specs.Reads.{HasReadableTexts, ReadsText}
-use Rattle.po_entry.proofs.Spelt.{reads_spelt}
+use Rattle.po_syntax.specs.ItemContents.{IsText}
+use Rattle.po_entry.specs.Validity.{IsEntry, IsCatalogueEntry, HasTexts}
+use Rattle.po_entry.specs.Spelling.{SpellsEntries, comments, entries as joined_entries}
+use Rattle.po_entry.specs.ReadsText.{ReadsText}
 use Rattle.po_writer.specs.WrittenText.{keyword_lines, form_lines, translation_lines, own_lines, own_prefix, entry_lines, arranged, written_text}
 use Rattle.po_writer.proofs.Separated.{keyword_some}
 use Rattle.po_writer.proofs.Utf8.{line-empty}
-use Rattle.po_writer.proofs.Spelling.{Spells, Block, BeginsLow, empty_block, two_blocks, line_block}
+use Rattle.po_writer.proofs.Blocks.{Spells, Block, BeginsLow, empty_block, two_blocks, line_block}
 use Rattle.po_writer.proofs.Tokens.{QuotedFormsSpell, context_keyword, id_keyword, plural_keyword, single_keyword}
 use Rattle.po_writer.proofs.Numbered.{numbered}
-use Rattle.po_writer.proofs.Heads.{IsFresh}
 use Rattle.po_writer.proofs.Bodies.{KeywordsWritten}
 use Rattle.po_writer.proofs.Entries.{EntryPart, IsShort, entry_block}
 use Rattle.po_writer.proofs.Utf8.{plain_line}
@@ -33,18 +33,17 @@ IsNumbered (e ∷ entries) read = (line : ℕ) × (more : List TextEntry) × (re
 
 -- the items are these entries, up to the end of the text
 abbrev ListPart : List TextEntry → List TextItem → Type 0
-ListPart entries here = IsFresh here × (read : List TextEntry) × Reads here read × IsNumbered entries read
+ListPart entries here = (read : List TextEntry) × SpellsEntries here read × IsNumbered entries read
 
 empty_line : Block (λ here. here ≡ []) (10 ∷ [])
 unfolding first_shape first_token
 empty_line = line_block (λ here. here ≡ []) [] line-empty tt (λ number. ([], refl, tokens refl (none refl)))
 
 one_more : (e : TextEntry) (entries : List TextEntry) (here later : List TextItem) → EntryPart e here → ListPart entries later → ListPart (e ∷ entries) (here ++ later)
-one_more e entries here later h g =
-    let found = h later g.1 g.0 g.2 in (found.0, with_line found.1.0 e ∷ g.1, found.1.1, (found.1.0, g.1, refl, g.3))
+one_more e entries here later h g = (with_line h.0 e ∷ g.0, joined_entries h.1 g.1, (h.0, g.0, refl, g.2))
 
 no_entries : ListPart [] []
-no_entries = ((refl, refl), [], comments tt, refl)
+no_entries = ([], comments tt, refl)
 
 further_block : KeywordsWritten → (entries : List TextEntry) → All IsEntry entries → All IsShort entries → Block (ListPart entries) (flat_map (λ e. (10 ∷ []) ++ entry_lines e) entries)
 further_block keywords [] h short = empty_block (ListPart []) no_entries
@@ -132,8 +131,11 @@ numbered_all P Q [] read each same h = rw same (All-nil Q)
 numbered_all P Q (e ∷ entries) read each same h =
     rw same.2 (All-cons Q (with_line same.0 e) same.1 (each e same.0 (All-head P e entries h)) (numbered_all P Q entries same.1 each same.3 (All-tail P e entries h)))
 
-readable : (e : TextEntry) (line : ℕ) → IsCatalogueEntry e → HasReadableTexts (with_line line e)
-readable e line h = record { utf8 = All-weaker IsText IsUtf8 (λ text g. g.utf8) (quoted_texts e) h.valid.quoted_texts; no_eot = record { context = h.valid.context; id = h.valid.id } }
+has_texts : (e : TextEntry) (line : ℕ) → IsCatalogueEntry e → HasTexts (with_line line e)
+has_texts e line h = record {
+  utf8 = All-weaker IsText IsUtf8 (λ text g. g.utf8) (quoted_texts e) h.valid.quoted_texts;
+  clean = record { no_nul = All-weaker IsText (Lacks 0) (λ text g. g.no_nul) (quoted_texts e) h.valid.quoted_texts; context = h.valid.context; id = h.valid.id };
+}
 
 numbered_same : (entries read : List TextEntry) → IsNumbered entries read → map (with_line 0) read ≡ map (with_line 0) entries
 numbered_same [] read same = rw same refl
@@ -160,14 +162,14 @@ written_reads law entries h small =
     let all = all_arranged entries h in
     let block = list_block (keywords_written law) (arranged entries) (All-weaker IsCatalogueEntry IsEntry (λ e g. g.valid) (arranged entries) all) (short_entries (arranged entries) small) in
     let spelt = spelt_text (ListPart (arranged entries)) (written_text entries) block small in
-    let read = spelt.1.1 in (
+    let read = spelt.1.0 in (
       read,
       record {
         items = spelt.0;
         spelt = spelt.2;
-        reads = reads_spelt spelt.1.2;
-        texts = numbered_all IsCatalogueEntry HasReadableTexts (arranged entries) read readable spelt.1.3 all;
-        charsets = numbered_all IsCatalogueEntry HasAdmittedCharset (arranged entries) read (λ e line g. g.charset) spelt.1.3 all;
+        reads = spelt.1.1;
+        texts = numbered_all IsCatalogueEntry HasTexts (arranged entries) read has_texts spelt.1.2 all;
+        charsets = numbered_all IsCatalogueEntry HasAdmittedCharset (arranged entries) read (λ e line g. g.charset) spelt.1.2 all;
       },
-      numbered_same (arranged entries) read spelt.1.3,
+      numbered_same (arranged entries) read spelt.1.2,
     )

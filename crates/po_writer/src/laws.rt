@@ -4,7 +4,7 @@ ghost use Rattle.std.specs.Prelude.{◌≡◌, List, [], All, false, map};
 ghost use Rattle.po_syntax.specs.PoText.{IsSmall};
 ghost use Rattle.po_entry.specs.TextEntry.{TextEntry, with_line};
 ghost use Rattle.po_entry.specs.Validity.{IsCatalogueEntry};
-ghost use Rattle.po_entry.specs.Reads.{ReadsText};
+ghost use Rattle.po_entry.specs.ReadsText.{ReadsText};
 ghost use Rattle.po_writer.specs.WrittenText.{arranged, written_text};
 
 use po_syntax::laws::quoted_form_spells;

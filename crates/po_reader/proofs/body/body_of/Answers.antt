@@ -1,5 +1,5 @@
 use Rattle.std.proofs.lemmas.Result.{err_from_is_err_and}
-use Rattle.po_entry.specs.Body.IsBody.{without_context, with_context}
+use Rattle.po_reader.specs.Body.IsBody.{without_context, with_context}
 use Rattle.po_reader.specs.Stops.BodyStops.{in_context, at_id, in_id, after_context, after_id}
 use Rattle.po_reader.proofs.Results.{ok_both, err_step}
 use Rattle.po_reader.proofs.body.body_of.Goals as goal

@@ -2,7 +2,7 @@ use Rattle.std.proofs.Common.{ℕ, List, ◌+◌, ◌++◌, ◌-◌, ◌≤◌, 
 use Rattle.po_syntax.specs.declared.fault.PoFault.{PoFault}
 use Rattle.po_syntax.specs.TextItem.{TextItem, views}
 use Rattle.po_entry.specs.TextEntry.{texts}
-use Rattle.po_entry.specs.Body.{IsForms}
+use Rattle.po_reader.specs.Body.{IsForms}
 use Rattle.po_reader.specs.Stops.{FormsStop}
 use Rattle.po_reader.proofs.body.forms_of.Given as goal
 

@@ -1,6 +1,6 @@
 use Rattle.std.proofs.lemmas.Result.{err_from_is_err_and}
 use Rattle.po_reader.proofs.TakenKeywords.{translation_alone}
-use Rattle.po_entry.specs.Body.IsTranslation.{single, plural}
+use Rattle.po_reader.specs.Body.IsTranslation.{single, plural}
 use Rattle.po_reader.specs.Stops.TranslationStops.{here, in_forms}
 use Rattle.po_reader.proofs.body.translation_of.Goals as goal
 

@@ -1,7 +1,7 @@
 use Rattle.std.proofs.Common.{◌<◌, [], ◌∷◌, ◌++◌, ◌∙◌, ap, length, append_assoc, arith, inl, inr}
 use Rattle.std.proofs.lemmas.Result.{err_from_is_err_and}
 use Rattle.std.proofs.lemmas.List.{append-nil, map_push}
-use Rattle.po_entry.specs.Descent.Reads.{comments, entry}
+use Rattle.po_reader.specs.Reads.Reads.{comments, entry}
 use Rattle.po_entry.specs.TextEntry.{TextEntry}
 use Rattle.po_entry.specs.Spelling.{entry_from}
 use Rattle.po_reader.specs.Bare.{kept_comments, kept_entry}

@@ -1,8 +1,8 @@
 use Rattle.std.proofs.Common.{◌++◌, ◌∷◌, [], ◌∙◌, append_assoc, arith}
 use Rattle.std.proofs.lemmas.Result.{err_from_is_err_and}
 use Rattle.std.proofs.lemmas.List.{append-nil}
-use Rattle.po_entry.specs.Head.{CommentText, PreviousText}
-use Rattle.po_entry.specs.Head.IsHead.{over, head_comment, previous}
+use Rattle.po_entry.specs.Parts.{CommentText, PreviousText}
+use Rattle.po_reader.specs.Head.IsHead.{over, head_comment, previous}
 use Rattle.po_reader.specs.Stops.HeadStops.{refused, in_previous, after_comment, after_previous}
 use Rattle.po_reader.specs.Bare.{kept_comments}
 use Rattle.po_reader.proofs.Heads.{holds_nothing, holds_previous}

@@ -1,9 +1,10 @@
 use Rattle.std.proofs.Common.{ℕ, List, ◌++◌, ◌-◌, ◌≤◌, drop, length}
 use Rattle.po_syntax.specs.declared.fault.PoFault.{PoFault}
 use Rattle.po_syntax.specs.TextItem.{TextItem, views}
-use Rattle.po_entry.specs.Head.{CommentText, PreviousText, IsHead}
+use Rattle.po_entry.specs.Parts.{CommentText, PreviousText}
+use Rattle.po_reader.specs.Head.{IsHead}
 use Rattle.po_reader.specs.Stops.{HeadStops}
-use Rattle.po_reader.specs.Heads.{HoldsHead}
+use Rattle.po_reader.specs.HeadView.{HoldsHead}
 use Rattle.po_reader.specs.Bare.{kept_comments}
 use Rattle.po_reader.proofs.head.head_of.Given as goal
 

@@ -3,11 +3,11 @@ use Rattle.std.specs.Prelude.{All}
 use Rattle.po_syntax.specs.declared.fault.PoFault.{PoFault}
 use Rattle.po_entry.specs.EntryView.{entry_view}
 use Rattle.po_entry.specs.Validity.{HasTexts}
-use Rattle.po_reader.specs.Drafts.{DraftsStop}
+use Rattle.po_reader.specs.Faults.{TextsStop}
 use Rattle.po_reader.proofs.items.check_drafts.Given as goal
 
 abbrev pub invariant-loop-draft : goal.invariant-loop-draft
 invariant-loop-draft l = record {
   passed : All (λ draft. HasTexts (entry_view draft)) (take l.draft-index l.drafts);
-  stops : (fault : PoFault) (line : ℕ) → DraftsStop (map entry_view (drop l.draft-index l.drafts)) fault line → DraftsStop (map entry_view l.drafts) fault line;
+  stops : (fault : PoFault) (line : ℕ) → TextsStop (map entry_view (drop l.draft-index l.drafts)) fault line → TextsStop (map entry_view l.drafts) fault line;
 }

@@ -1,5 +1,5 @@
 use Rattle.std.proofs.lemmas.Result.{err_from_is_err_and}
-use Rattle.po_entry.specs.Keywords.{keyword_text}
+use Rattle.po_reader.specs.Keywords.{keyword_text}
 use Rattle.po_reader.specs.Stops.KeywordTextStops.{refused, in_text}
 use Rattle.po_reader.proofs.keywords.wanted_keyword.Goals as goal
 

@@ -3,7 +3,7 @@ use Rattle.po_syntax.specs.declared.fault.PoFault.{PoFault}
 use Rattle.po_syntax.specs.LinesLeft.{LeftStops}
 use Rattle.po_syntax.specs.PoText.{TextFault}
 use Rattle.po_entry.specs.TextEntry.{TextEntry}
-use Rattle.po_entry.specs.Reads.{ReadsLeft, ReadsText}
+use Rattle.po_entry.specs.ReadsText.{ReadsLeft, ReadsText}
 use Rattle.po_reader.proofs.piecewise.read_pieces.Given as goal
 
 abbrev pub invariant-loop-pieces : goal.invariant-loop-pieces

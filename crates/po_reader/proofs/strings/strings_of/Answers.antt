@@ -1,5 +1,5 @@
 use Rattle.std.proofs.Common.{sym, ◌∙◌, append_assoc, arith}
-use Rattle.po_entry.specs.Strings.IsStrings.{last, more}
+use Rattle.po_reader.specs.Strings.IsStrings.{last, more}
 use Rattle.po_reader.specs.Stops.StringsStop.{refused, later}
 use Rattle.po_reader.proofs.strings.strings_of.Goals as goal
 

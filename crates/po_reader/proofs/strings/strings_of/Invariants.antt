@@ -1,7 +1,7 @@
 use Rattle.std.proofs.Common.{ℕ, List, ◌++◌, ◌-◌, ◌≤◌, drop, length}
 use Rattle.po_syntax.specs.declared.fault.PoFault.{PoFault}
 use Rattle.po_syntax.specs.TextItem.{TextItem, views}
-use Rattle.po_entry.specs.Strings.{IsStrings}
+use Rattle.po_reader.specs.Strings.{IsStrings}
 use Rattle.po_reader.specs.Stops.{StringsStop}
 use Rattle.po_reader.proofs.strings.strings_of.Given as goal
 

@@ -1,4 +1,4 @@
-use Rattle.std.proofs.Common.{◌≡◌, sym, subst, length, ◌-◌}
+use Rattle.std.proofs.Common.{sym, subst, length, ◌-◌}
 use Rattle.po_syntax.specs.declared.item.Item.{Item}
 use Rattle.po_syntax.specs.LinesLeft.{IsString}
 use Rattle.po_syntax.specs.TextItem.{view}

@@ -1,6 +1,6 @@
 use Rattle.std.proofs.Common.{List, ◌++◌, length}
 use Rattle.po_entry.specs.TextEntry.{TextEntry}
-use Rattle.po_entry.specs.Reads.{ReadsLeft, ReadsText}
+use Rattle.po_entry.specs.ReadsText.{ReadsLeft, ReadsText}
 use Rattle.po_tools.specs.SelectedText.{HavePassed}
 use Rattle.po_tools.proofs.selected_text.pass_text.Given as goal
 

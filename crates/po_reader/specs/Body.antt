@@ -1,10 +1,12 @@
--- The own lines of an entry, from its context or msgid to its last form (manual, "The Format of PO Files").
+-- The reader's steps through an entry's own lines, from its context or msgid to its last form. Internal to this crate.
 use Rattle.std.specs.Prelude.{◌≡◌, ℕ, ◌+◌, Bool, true, false, not, List, [], ◌∷◌, Option, Some, None, if◌then◌else◌}
 use Rattle.po_syntax.specs.declared.item.Keyword.{Keyword}
 use Rattle.po_syntax.specs.declared.item.Keyword.TheVariants.{MsgCtxt, MsgId, MsgIdPlural, MsgStr, MsgStrAt}
 use Rattle.po_syntax.specs.TextItem.{TextItem, Comment, Word, Str}
-use Rattle.po_entry.specs.Strings.{IsStrings, own_marks}
-use Rattle.po_entry.specs.Keywords.{Id, Translation, Form, IsKeywordText}
+use Rattle.po_entry.specs.Parts.{Body}
+use Rattle.po_entry.specs.Spelling.{own_marks}
+use Rattle.po_reader.specs.Strings.{IsStrings}
+use Rattle.po_reader.specs.Keywords.{Id, Translation, Form, IsKeywordText}
 
 -- an own `msgstr` with an index stands here
 abbrev pub begins_form : List TextItem → Bool
@@ -28,15 +30,6 @@ pub data IsTranslation (obsolete : Bool) : List TextItem → Option (List ℕ) �
   single : {line : ℕ} {items rest : List TextItem} {form : List ℕ} → IsKeywordText Translation obsolete items MsgStr line form rest → IsTranslation obsolete items None (form ∷ []) rest
   plural : {line : ℕ} {items after rest : List TextItem} {plural : List ℕ} {forms : List (List ℕ)} → IsKeywordText Translation obsolete items MsgIdPlural line plural after → IsForms obsolete 0 after forms rest
       → IsTranslation obsolete items (Some plural) forms rest
-
--- what an entry's own lines say
-pub record Body : Type 0 where
-  pub context : Option (List ℕ)
-  pub id : List ℕ
-  pub plural : Option (List ℕ)
-  pub forms : List (List ℕ)
-  pub obsolete : Bool
-  pub line : ℕ
 
 -- What stands where an entry's own lines may begin: `msgctxt`, or `msgid` with its line; or something else. The first keyword's obsolete mark is the entry's.
 pub data Start : Type 0 where

@@ -1,4 +1,4 @@
--- What stands before an entry's own lines: comments, and previous texts among them (manual, "The Format of PO Files").
+-- The reader's steps before an entry's own lines: comments, and previous texts among them. Internal to this crate.
 use Rattle.std.specs.Prelude.{◌≡◌, ℕ, Bool, true, false, ◌==◌, nat_lt, List, [], ◌∷◌, if◌then◌else◌}
 use Rattle.po_syntax.specs.declared.fault.PoFault.{PoFault}
 use Rattle.po_syntax.specs.declared.fault.PoFault.TheVariants.{BadOrder}
@@ -7,25 +7,8 @@ use Rattle.po_syntax.specs.declared.item.Keyword.{Keyword}
 use Rattle.po_syntax.specs.declared.item.Keyword.TheVariants.{MsgCtxt, MsgId, MsgIdPlural, MsgStr, MsgStrAt}
 use Rattle.po_syntax.specs.declared.item.Marks.{Marks}
 use Rattle.po_syntax.specs.TextItem.{TextItem, Comment, Word, Str}
-use Rattle.po_entry.specs.Strings.{IsStrings}
-
--- a comment, with its kind
-pub record CommentText : Type 0 where
-  pub kind : CommentKind
-  pub text : List ℕ
-
--- a previous text, with its keyword
-pub record PreviousText : Type 0 where
-  pub keyword : Keyword
-  pub text : List ℕ
-
--- The rank of a keyword among the previous texts: each stands at most once, and in this order. The others, of rank 0, are no previous texts.
-abbrev pub rank : Keyword → ℕ
-rank MsgCtxt = 1
-rank MsgId = 2
-rank MsgIdPlural = 3
-rank MsgStr = 0
-rank (MsgStrAt index) = 0
+use Rattle.po_entry.specs.Parts.{CommentText, PreviousText, rank}
+use Rattle.po_reader.specs.Strings.{IsStrings}
 
 -- an entry's own lines may begin with this keyword
 abbrev pub begins_body : Keyword → Bool

@@ -1,6 +1,8 @@
 -- What reads from some items to a rest is a spelling before that rest.
 use Rattle.std.proofs.Common.{◌≡◌, ◌==◌, ℕ, ◌<◌, nat_lt, Bool, true, false, List, [], ◌∷◌, ◌++◌, Option, Some, None, append_assoc, refl, sym, ap, ap₂, subst, ◌∙◌}
 use Rattle.std.specs.Prelude.{if◌then◌else◌}
+use Rattle.std.specs.Bool.{beq}
+use Rattle.std.specs.Cmp.{booleans_Decides}
 use Rattle.std.proofs.lemmas.Bool.{ltb-true, eqb-true}
 use Rattle.po_syntax.specs.declared.fault.PoFault.TheVariants.{BadOrder, BadPluralIndex, MixedObsolete}
 use Rattle.po_syntax.specs.declared.item.CommentKind.{CommentKind}
@@ -9,14 +11,17 @@ use Rattle.po_syntax.specs.declared.item.Keyword.TheVariants.{MsgCtxt, MsgId, Ms
 use Rattle.po_syntax.specs.declared.item.Marks.{Marks}
 use Rattle.po_syntax.specs.TextItem.{TextItem, Comment, Word, Str}
 use Rattle.po_entry.specs.TextEntry.{TextEntry}
-use Rattle.po_entry.specs.Strings as string
-use Rattle.po_entry.specs.Keywords as word
-use Rattle.po_entry.specs.Body as body
-use Rattle.po_entry.specs.Head as head
-use Rattle.po_entry.specs.Descent as read
+use Rattle.po_reader.specs.Strings as string
+use Rattle.po_reader.specs.Keywords as word
+use Rattle.po_reader.specs.Body as body
+use Rattle.po_reader.specs.Head as head
+use Rattle.po_reader.specs.Reads as read
 use Rattle.po_entry.specs.Spelling as spell
-use Rattle.po_entry.proofs.SameMarks.{same_bool_true, same_marks_true, marks_of}
-use Rattle.po_entry.proofs.PreviousOrder.{Rise, keywords, rise_order}
+use Rattle.po_entry.specs.Spelling.{own_marks}
+use Rattle.po_entry.specs.Parts.{CommentText, PreviousText, Body, rank}
+use Rattle.po_syntax.specs.Spelling.{marked}
+use Rattle.po_reader.proofs.SameMarks.{same_marks_true}
+use Rattle.po_reader.proofs.PreviousOrder.{Rise, keywords, rise_order}
 
 -- the items are a spelling before the rest
 abbrev Prefix : (List TextItem → Type 0) → List TextItem → List TextItem → Type 0
@@ -45,29 +50,29 @@ strings_prefix {marks} (string.more {items = items} {after = after} {rest = rest
 
 -- a keyword that is taken is wanted, and bears the marks of the entry's own lines
 keyword_taken : (wanted : word.Wanted) (obsolete : Bool) (items rest : List TextItem) (keyword : Keyword) (line : ℕ) → word.next_keyword wanted obsolete items ≡ word.Take keyword line rest
-    → (items ≡ Word keyword (string.own_marks obsolete) line ∷ rest) × (word.is_wanted wanted keyword ≡ true)
+    → (items ≡ Word keyword (own_marks obsolete) line ∷ rest) × (word.is_wanted wanted keyword ≡ true)
 keyword_taken wanted obsolete [] rest keyword line e = absurd cc
 keyword_taken wanted obsolete (Comment kind text at ∷ items) rest keyword line e = absurd cc
 keyword_taken wanted obsolete (Str text found at ∷ items) rest keyword line e = absurd cc
-keyword_taken wanted obsolete (Word found marks at ∷ items) rest keyword line e = taken marks.previous refl (word.is_wanted wanted found) refl (string.same_bool obsolete marks.obsolete) refl (word.is_wrong_form wanted found) e where
-  taken : (p : Bool) → marks.previous ≡ p → (w : Bool) → word.is_wanted wanted found ≡ w → (s : Bool) → string.same_bool obsolete marks.obsolete ≡ s → (f : Bool)
+keyword_taken wanted obsolete (Word found marks at ∷ items) rest keyword line e = taken marks.previous refl (word.is_wanted wanted found) refl (beq obsolete marks.obsolete) refl (word.is_wrong_form wanted found) e where
+  taken : (p : Bool) → marks.previous ≡ p → (w : Bool) → word.is_wanted wanted found ≡ w → (s : Bool) → beq obsolete marks.obsolete ≡ s → (f : Bool)
       → (if p then word.Refuse BadOrder else if w then (if s then word.Take found at items else word.Refuse MixedObsolete) else if f then word.Refuse BadPluralIndex else word.Refuse BadOrder) ≡ word.Take keyword line rest
-      → (Word found marks at ∷ items ≡ Word keyword (string.own_marks obsolete) line ∷ rest) × (word.is_wanted wanted keyword ≡ true)
+      → (Word found marks at ∷ items ≡ Word keyword (own_marks obsolete) line ∷ rest) × (word.is_wanted wanted keyword ≡ true)
   taken true p w t s u f q = absurd cc
   taken false p true t true u f q =
       let same : found ≡ keyword = cc in
-      let own : marks_of marks.obsolete marks.previous ≡ marks_of obsolete false = ap₂ marks_of (sym (same_bool_true obsolete marks.obsolete u)) p in
+      let own : marked marks.obsolete marks.previous ≡ marked obsolete false = ap₂ marked (sym ((booleans_Decides obsolete marks.obsolete).0 u)) p in
       (cc, subst (λ (k : Keyword). word.is_wanted wanted k ≡ true) same t)
   taken false p true t false u f q = absurd cc
   taken false p false t s u true q = absurd cc
   taken false p false t s u false q = absurd cc
 
 keyword_prefix : {wanted : word.Wanted} {obsolete : Bool} {items rest : List TextItem} {keyword : Keyword} {line : ℕ} {text : List ℕ} → word.IsKeywordText wanted obsolete items keyword line text rest
-    → Prefix (λ own. spell.SpellsKeywordText keyword (string.own_marks obsolete) line own text) items rest × (word.is_wanted wanted keyword ≡ true)
+    → Prefix (λ own. spell.SpellsKeywordText keyword (own_marks obsolete) line own text) items rest × (word.is_wanted wanted keyword ≡ true)
 keyword_prefix {wanted} {obsolete} (word.keyword_text {items = items} {text = text} {rest = rest} {keyword = keyword} {line = line} e s) =
     let here = keyword_taken wanted obsolete items text keyword line e in
     let later = strings_prefix s in
-    ((Word keyword (string.own_marks obsolete) line ∷ later.0, spell.keyword_text later.1, joined items (Word keyword (string.own_marks obsolete) line ∷ []) text later.0 rest here.0 later.2), here.1)
+    ((Word keyword (own_marks obsolete) line ∷ later.0, spell.keyword_text later.1, joined items (Word keyword (own_marks obsolete) line ∷ []) text later.0 rest here.0 later.2), here.1)
 
 wanted_id : (keyword : Keyword) → word.is_wanted word.Id keyword ≡ true → keyword ≡ MsgId
 wanted_id MsgCtxt e = cc
@@ -85,10 +90,10 @@ wanted_form index (MsgStrAt found) e = ap (λ (i : ℕ). MsgStrAt i) (eqb-true f
 
 -- a form that is wanted bears its index
 form_prefix : {obsolete : Bool} {index : ℕ} {items rest : List TextItem} {keyword : Keyword} {line : ℕ} {form : List ℕ} → word.IsKeywordText (word.Form index) obsolete items keyword line form rest
-    → Prefix (λ own. spell.SpellsKeywordText (MsgStrAt index) (string.own_marks obsolete) line own form) items rest
+    → Prefix (λ own. spell.SpellsKeywordText (MsgStrAt index) (own_marks obsolete) line own form) items rest
 form_prefix {obsolete} {index} {items} {rest} {keyword} {line} {form} w =
     let prefix = keyword_prefix w in
-    subst (λ (k : Keyword). Prefix (λ own. spell.SpellsKeywordText k (string.own_marks obsolete) line own form) items rest) (wanted_form index keyword prefix.1) prefix.0
+    subst (λ (k : Keyword). Prefix (λ own. spell.SpellsKeywordText k (own_marks obsolete) line own form) items rest) (wanted_form index keyword prefix.1) prefix.0
 
 forms_prefix : {obsolete : Bool} {index : ℕ} {items rest : List TextItem} {forms : List (List ℕ)} → body.IsForms obsolete index items forms rest → Prefix (λ own. spell.SpellsForms obsolete index own forms) items rest
 forms_prefix (body.last w f) = let prefix = form_prefix w in (prefix.0, spell.last_form prefix.1, prefix.2)
@@ -104,16 +109,16 @@ translation_prefix (body.plural {items = items} {after = after} {rest = rest} w 
     let later = forms_prefix f in
     (prefix.0 ++ later.0, spell.plural prefix.1 later.1, joined items prefix.0 after later.0 rest prefix.2 later.2)
 
-context_taken : (obsolete : Bool) (items rest : List TextItem) → body.body_start items ≡ body.WithContext obsolete rest → (line : ℕ) × (items ≡ Word MsgCtxt (string.own_marks obsolete) line ∷ rest)
+context_taken : (obsolete : Bool) (items rest : List TextItem) → body.body_start items ≡ body.WithContext obsolete rest → (line : ℕ) × (items ≡ Word MsgCtxt (own_marks obsolete) line ∷ rest)
 context_taken obsolete [] rest e = absurd cc
 context_taken obsolete (Comment kind text line ∷ items) rest e = absurd cc
 context_taken obsolete (Str text found line ∷ items) rest e = absurd cc
 context_taken obsolete (Word MsgCtxt marks line ∷ items) rest e = (line, taken marks.previous refl e) where
-  taken : (p : Bool) → marks.previous ≡ p → (if p then body.NoStart else body.WithContext marks.obsolete items) ≡ body.WithContext obsolete rest → Word MsgCtxt marks line ∷ items ≡ Word MsgCtxt (string.own_marks obsolete) line ∷ rest
+  taken : (p : Bool) → marks.previous ≡ p → (if p then body.NoStart else body.WithContext marks.obsolete items) ≡ body.WithContext obsolete rest → Word MsgCtxt marks line ∷ items ≡ Word MsgCtxt (own_marks obsolete) line ∷ rest
   taken true p q = cc
   taken false p q =
       let same : marks.obsolete ≡ obsolete = cc in
-      let own : marks_of marks.obsolete marks.previous ≡ marks_of obsolete false = ap₂ marks_of same p in
+      let own : marked marks.obsolete marks.previous ≡ marked obsolete false = ap₂ marked same p in
       cc
 context_taken obsolete (Word MsgId marks line ∷ items) rest e = absurd (other marks.previous e) where
   other : (p : Bool) → (if p then body.NoStart else body.WithoutContext marks.obsolete line items) ≡ body.WithContext obsolete rest → ⊥
@@ -123,7 +128,7 @@ context_taken obsolete (Word MsgIdPlural marks line ∷ items) rest e = absurd c
 context_taken obsolete (Word MsgStr marks line ∷ items) rest e = absurd cc
 context_taken obsolete (Word (MsgStrAt index) marks line ∷ items) rest e = absurd cc
 
-id_taken : (obsolete : Bool) (line : ℕ) (items rest : List TextItem) → body.body_start items ≡ body.WithoutContext obsolete line rest → items ≡ Word MsgId (string.own_marks obsolete) line ∷ rest
+id_taken : (obsolete : Bool) (line : ℕ) (items rest : List TextItem) → body.body_start items ≡ body.WithoutContext obsolete line rest → items ≡ Word MsgId (own_marks obsolete) line ∷ rest
 id_taken obsolete line [] rest e = cc
 id_taken obsolete line (Comment kind text at ∷ items) rest e = cc
 id_taken obsolete line (Str text found at ∷ items) rest e = cc
@@ -132,11 +137,11 @@ id_taken obsolete line (Word MsgCtxt marks at ∷ items) rest e = absurd (other 
   other true q = cc
   other false q = cc
 id_taken obsolete line (Word MsgId marks at ∷ items) rest e = taken marks.previous refl e where
-  taken : (p : Bool) → marks.previous ≡ p → (if p then body.NoStart else body.WithoutContext marks.obsolete at items) ≡ body.WithoutContext obsolete line rest → Word MsgId marks at ∷ items ≡ Word MsgId (string.own_marks obsolete) line ∷ rest
+  taken : (p : Bool) → marks.previous ≡ p → (if p then body.NoStart else body.WithoutContext marks.obsolete at items) ≡ body.WithoutContext obsolete line rest → Word MsgId marks at ∷ items ≡ Word MsgId (own_marks obsolete) line ∷ rest
   taken true p q = cc
   taken false p q =
       let same : marks.obsolete ≡ obsolete = cc in
-      let own : marks_of marks.obsolete marks.previous ≡ marks_of obsolete false = ap₂ marks_of same p in
+      let own : marked marks.obsolete marks.previous ≡ marked obsolete false = ap₂ marked same p in
       cc
 id_taken obsolete line (Word MsgIdPlural marks at ∷ items) rest e = cc
 id_taken obsolete line (Word MsgStr marks at ∷ items) rest e = cc
@@ -144,26 +149,26 @@ id_taken obsolete line (Word (MsgStrAt index) marks at ∷ items) rest e = cc
 
 -- an entry's msgid and its translation
 lines_prefix : (obsolete : Bool) (line : ℕ) (items after rest : List TextItem) (context : Option (List ℕ)) (id : List ℕ) (plural : Option (List ℕ)) (forms : List (List ℕ)) (first : List TextItem) → spell.SpellsContext obsolete first context
-    → Prefix (λ own. spell.SpellsKeywordText MsgId (string.own_marks obsolete) line own id) items after → body.IsTranslation obsolete after plural forms rest
+    → Prefix (λ own. spell.SpellsKeywordText MsgId (own_marks obsolete) line own id) items after → body.IsTranslation obsolete after plural forms rest
     → Prefix (λ own. spell.SpellsBody own (record { context = context; id = id; plural = plural; forms = forms; obsolete = obsolete; line = line })) (first ++ items) rest
 lines_prefix obsolete line items after rest context id plural forms first c prefix t =
     let later = translation_prefix t in
     let start = joined (first ++ items) first items prefix.0 after refl prefix.2 in
     (first ++ prefix.0 ++ later.0, spell.own_lines c prefix.1 later.1, joined (first ++ items) (first ++ prefix.0) after later.0 rest start later.2)
 
-body_prefix : {items rest : List TextItem} {own : body.Body} → body.IsBody items own rest → Prefix (λ here. spell.SpellsBody here own) items rest
+body_prefix : {items rest : List TextItem} {own : Body} → body.IsBody items own rest → Prefix (λ here. spell.SpellsBody here own) items rest
 body_prefix (body.without_context {obsolete = obsolete} {line = line} {items = items} {text = text} {after = after} {rest = rest} {id = id} {plural = plural} {forms = forms} e s t) =
     let here = id_taken obsolete line items text e in
     let strings = strings_prefix s in
-    let own = Word MsgId (string.own_marks obsolete) line ∷ strings.0 in
-    lines_prefix obsolete line items after rest None id plural forms [] spell.no_context (own, spell.keyword_text strings.1, joined items (Word MsgId (string.own_marks obsolete) line ∷ []) text strings.0 after here strings.2) t
+    let own = Word MsgId (own_marks obsolete) line ∷ strings.0 in
+    lines_prefix obsolete line items after rest None id plural forms [] spell.no_context (own, spell.keyword_text strings.1, joined items (Word MsgId (own_marks obsolete) line ∷ []) text strings.0 after here strings.2) t
 body_prefix (body.with_context {obsolete = obsolete} {keyword = keyword} {line = line} {items = items} {text = text} {middle = middle} {after = after} {rest = rest} {context = context} {id = id} {plural = plural} {forms = forms} e s w t) =
     let here = context_taken obsolete items text e in
     let strings = strings_prefix s in
-    let first = Word MsgCtxt (string.own_marks obsolete) here.0 ∷ strings.0 in
+    let first = Word MsgCtxt (own_marks obsolete) here.0 ∷ strings.0 in
     let ids = keyword_prefix w in
-    let found = subst (λ (k : Keyword). Prefix (λ own. spell.SpellsKeywordText k (string.own_marks obsolete) line own id) middle after) (wanted_id keyword ids.1) ids.0 in
-    let whole = joined items (Word MsgCtxt (string.own_marks obsolete) here.0 ∷ []) text strings.0 middle here.1 strings.2 in
+    let found = subst (λ (k : Keyword). Prefix (λ own. spell.SpellsKeywordText k (own_marks obsolete) line own id) middle after) (wanted_id keyword ids.1) ids.0 in
+    let whole = joined items (Word MsgCtxt (own_marks obsolete) here.0 ∷ []) text strings.0 middle here.1 strings.2 in
     let prefix = lines_prefix obsolete line middle after rest (Some context) id plural forms first (spell.context (spell.keyword_text strings.1)) found t in
     (prefix.0, prefix.1, whole ∙ prefix.2)
 
@@ -174,7 +179,7 @@ comment_taken above [] rest kind text e = absurd (end (above == 0) e) where
   end false q = cc
 comment_taken above (Comment sort keywords line ∷ items) rest kind text e = (line, cc)
 comment_taken above (Str bytes marks line ∷ items) rest kind text e = absurd cc
-comment_taken above (Word keyword marks line ∷ items) rest kind text e = absurd (other marks.previous (nat_lt above (head.rank keyword)) (head.begins_body keyword) e) where
+comment_taken above (Word keyword marks line ∷ items) rest kind text e = absurd (other marks.previous (nat_lt above (rank keyword)) (head.begins_body keyword) e) where
   other : (p r b : Bool) → (if p then (if r then head.Previous keyword marks items else head.Refuse BadOrder) else if b then head.Over else head.Refuse BadOrder) ≡ head.HeadComment kind text rest → ⊥
   other true true b q = cc
   other true false b q = cc
@@ -183,7 +188,7 @@ comment_taken above (Word keyword marks line ∷ items) rest kind text e = absur
 
 -- a previous text's keyword is marked so, and its rank is above those before it
 previous_taken : (above : ℕ) (items rest : List TextItem) (keyword : Keyword) (marks : Marks) → head.head_step above items ≡ head.Previous keyword marks rest
-    → (line : ℕ) × (items ≡ Word keyword marks line ∷ rest) × (marks ≡ spell.previous_marks marks.obsolete) × (above < head.rank keyword)
+    → (line : ℕ) × (items ≡ Word keyword marks line ∷ rest) × (marks ≡ spell.previous_marks marks.obsolete) × (above < rank keyword)
 previous_taken above [] rest keyword marks e = absurd (end (above == 0) e) where
   end : (t : Bool) → (if t then head.Over else head.Refuse BadOrder) ≡ head.Previous keyword marks rest → ⊥
   end true q = cc
@@ -191,26 +196,26 @@ previous_taken above [] rest keyword marks e = absurd (end (above == 0) e) where
 previous_taken above (Comment kind text line ∷ items) rest keyword marks e = absurd cc
 previous_taken above (Str bytes found line ∷ items) rest keyword marks e = absurd cc
 previous_taken above (Word word found line ∷ items) rest keyword marks e = (line, here.0, here.1, here.2) where
-  taken : (p : Bool) → found.previous ≡ p → (r : Bool) → nat_lt above (head.rank word) ≡ r → (b : Bool)
+  taken : (p : Bool) → found.previous ≡ p → (r : Bool) → nat_lt above (rank word) ≡ r → (b : Bool)
       → (if p then (if r then head.Previous word found items else head.Refuse BadOrder) else if b then head.Over else head.Refuse BadOrder) ≡ head.Previous keyword marks rest
-      → (Word word found line ∷ items ≡ Word keyword marks line ∷ rest) × (marks ≡ spell.previous_marks marks.obsolete) × (above < head.rank keyword)
+      → (Word word found line ∷ items ≡ Word keyword marks line ∷ rest) × (marks ≡ spell.previous_marks marks.obsolete) × (above < rank keyword)
   taken true p true t b q =
       let same : word ≡ keyword = cc in
       let mark : found ≡ marks = cc in
-      let own : marks_of marks.obsolete marks.previous ≡ marks_of marks.obsolete true = ap (λ (x : Bool). marks_of marks.obsolete x) (subst (λ (m : Marks). m.previous ≡ true) mark p) in
-      (cc, own, subst (λ (k : Keyword). above < head.rank k) same (ltb-true above (head.rank word) t))
+      let own : marked marks.obsolete marks.previous ≡ marked marks.obsolete true = ap (λ (x : Bool). marked marks.obsolete x) (subst (λ (m : Marks). m.previous ≡ true) mark p) in
+      (cc, own, subst (λ (k : Keyword). above < rank k) same (ltb-true above (rank word) t))
   taken true p false t b q = absurd cc
   taken false p r t true q = absurd cc
   taken false p r t false q = absurd cc
 
-  here : (Word word found line ∷ items ≡ Word keyword marks line ∷ rest) × (marks ≡ spell.previous_marks marks.obsolete) × (above < head.rank keyword)
-  here = taken found.previous refl (nat_lt above (head.rank word)) refl (head.begins_body word) e
+  here : (Word word found line ∷ items ≡ Word keyword marks line ∷ rest) × (marks ≡ spell.previous_marks marks.obsolete) × (above < rank keyword)
+  here = taken found.previous refl (nat_lt above (rank word)) refl (head.begins_body word) e
 
 -- a head is spelt, with previous texts whose ranks rise
-abbrev HeadOf : ℕ → List head.CommentText → List head.PreviousText → List TextItem → Type 0
+abbrev HeadOf : ℕ → List CommentText → List PreviousText → List TextItem → Type 0
 HeadOf above comment_texts previous own = spell.SpellsHead own comment_texts previous × Rise above (keywords previous)
 
-head_prefix : {above : ℕ} {items rest : List TextItem} {comment_texts : List head.CommentText} {previous : List head.PreviousText} → head.IsHead above items comment_texts previous rest → Prefix (HeadOf above comment_texts previous) items rest
+head_prefix : {above : ℕ} {items rest : List TextItem} {comment_texts : List CommentText} {previous : List PreviousText} → head.IsHead above items comment_texts previous rest → Prefix (HeadOf above comment_texts previous) items rest
 head_prefix (head.over e) = ([], (spell.nothing, tt), refl)
 head_prefix (head.head_comment {above = above} {kind = kind} {text = text} {items = items} {after = after} {rest = rest} e h) =
     let here = comment_taken above items after kind text e in

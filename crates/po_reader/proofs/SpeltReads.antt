@@ -1,19 +1,22 @@
 -- A spelling reads before any rest that begins with neither a string nor a plural form.
 use Rattle.std.proofs.Common.{◌≡◌, ℕ, Bool, true, false, List, [], ◌∷◌, ◌++◌, Option, append_assoc, refl}
 use Rattle.std.proofs.lemmas.Bool.{lt-ltb, eq-eqb}
+use Rattle.std.specs.Cmp.{bool_eq_equiv}
 use Rattle.po_syntax.specs.declared.item.Keyword.{Keyword}
 use Rattle.po_syntax.specs.declared.item.Keyword.TheVariants.{MsgCtxt, MsgId, MsgIdPlural, MsgStr, MsgStrAt}
 use Rattle.po_syntax.specs.declared.item.Marks.{Marks}
 use Rattle.po_syntax.specs.TextItem.{TextItem, Comment, Word, Str}
 use Rattle.po_entry.specs.TextEntry.{TextEntry}
-use Rattle.po_entry.specs.Strings as string
-use Rattle.po_entry.specs.Keywords as word
-use Rattle.po_entry.specs.Body as body
-use Rattle.po_entry.specs.Head as head
-use Rattle.po_entry.specs.Descent as read
+use Rattle.po_reader.specs.Strings as string
+use Rattle.po_reader.specs.Keywords as word
+use Rattle.po_reader.specs.Body as body
+use Rattle.po_reader.specs.Head as head
+use Rattle.po_reader.specs.Reads as read
 use Rattle.po_entry.specs.Spelling as spell
-use Rattle.po_entry.proofs.SameMarks.{same_bool-refl, same_marks-refl}
-use Rattle.po_entry.proofs.PreviousOrder.{Rise, keywords, order_rises}
+use Rattle.po_entry.specs.Spelling.{own_marks}
+use Rattle.po_entry.specs.Parts.{CommentText, PreviousText, Body, rank}
+use Rattle.po_reader.proofs.SameMarks.{same_marks-refl}
+use Rattle.po_reader.proofs.PreviousOrder.{Rise, keywords, order_rises}
 
 -- neither a string nor a plural form stands first
 abbrev IsApart : List TextItem → Type 0
@@ -34,11 +37,11 @@ strings_read {marks} (spell.more s) rest ends = string.more (rw (same_marks-refl
 keyword_begins : {keyword : Keyword} {marks : Marks} {line : ℕ} {own : List TextItem} {text : List ℕ} → spell.SpellsKeywordText keyword marks line own text → (rest : List TextItem) → string.begins_string (own ++ rest) ≡ false
 keyword_begins (spell.keyword_text s) rest = refl
 
-keyword_read : {keyword : Keyword} {obsolete : Bool} {line : ℕ} {own : List TextItem} {text : List ℕ} → spell.SpellsKeywordText keyword (string.own_marks obsolete) line own text → (wanted : word.Wanted) → word.is_wanted wanted keyword ≡ true
+keyword_read : {keyword : Keyword} {obsolete : Bool} {line : ℕ} {own : List TextItem} {text : List ℕ} → spell.SpellsKeywordText keyword (own_marks obsolete) line own text → (wanted : word.Wanted) → word.is_wanted wanted keyword ≡ true
     → (rest : List TextItem) → string.begins_string rest ≡ false → word.IsKeywordText wanted obsolete (own ++ rest) keyword line text rest
-keyword_read {keyword} {obsolete} (spell.keyword_text s) wanted found rest ends = word.keyword_text (rw (found, same_bool-refl obsolete) refl) (strings_read s rest ends)
+keyword_read {keyword} {obsolete} (spell.keyword_text s) wanted found rest ends = word.keyword_text (rw (found, bool_eq_equiv.refl obsolete) refl) (strings_read s rest ends)
 
-form_begins : {index line : ℕ} {obsolete : Bool} {own : List TextItem} {form : List ℕ} → spell.SpellsKeywordText (MsgStrAt index) (string.own_marks obsolete) line own form → (rest : List TextItem) → body.begins_form (own ++ rest) ≡ true
+form_begins : {index line : ℕ} {obsolete : Bool} {own : List TextItem} {form : List ℕ} → spell.SpellsKeywordText (MsgStrAt index) (own_marks obsolete) line own form → (rest : List TextItem) → body.begins_form (own ++ rest) ≡ true
 form_begins (spell.keyword_text s) rest = refl
 
 forms_begin : {obsolete : Bool} {index : ℕ} {own : List TextItem} {forms : List (List ℕ)} → spell.SpellsForms obsolete index own forms → (rest : List TextItem) → (string.begins_string (own ++ rest) ≡ false) × (body.begins_form (own ++ rest) ≡ true)
@@ -61,14 +64,14 @@ translation_read (spell.single w) rest apart = body.single (keyword_read w word.
 translation_read (spell.plural {own = own} {items = items} w f) rest apart =
     rw (append_assoc own items rest) (body.plural (keyword_read w word.Translation refl (items ++ rest) (forms_begin f rest).0) (forms_read f rest apart))
 
-body_read : {own : List TextItem} {lines : body.Body} → spell.SpellsBody own lines → (rest : List TextItem) → IsApart rest → body.IsBody (own ++ rest) lines rest
+body_read : {own : List TextItem} {lines : Body} → spell.SpellsBody own lines → (rest : List TextItem) → IsApart rest → body.IsBody (own ++ rest) lines rest
 body_read (spell.own_lines {last = last} spell.no_context (spell.keyword_text {strings = strings} s) t) rest apart =
     rw (append_assoc strings last rest) (body.without_context refl (strings_read s (last ++ rest) (translation_begins t rest)) (translation_read t rest apart))
 body_read (spell.own_lines {own = own} {last = last} (spell.context (spell.keyword_text {strings = strings} s)) w t) rest apart =
     rw (append_assoc (strings ++ own) last rest, append_assoc strings own (last ++ rest))
     (body.with_context refl (strings_read s (own ++ (last ++ rest)) (keyword_begins w (last ++ rest))) (keyword_read w word.Id refl (last ++ rest) (translation_begins t rest)) (translation_read t rest apart))
 
-body_begins : {own : List TextItem} {lines : body.Body} → spell.SpellsBody own lines → (rest : List TextItem) → Starts (own ++ rest) × IsApart (own ++ rest)
+body_begins : {own : List TextItem} {lines : Body} → spell.SpellsBody own lines → (rest : List TextItem) → Starts (own ++ rest) × IsApart (own ++ rest)
 body_begins (spell.own_lines spell.no_context (spell.keyword_text s) t) rest = (λ above. refl, (refl, refl))
 body_begins (spell.own_lines (spell.context (spell.keyword_text s)) w t) rest = (λ above. refl, (refl, refl))
 
@@ -80,20 +83,20 @@ previous_apart MsgIdPlural obsolete line rest = (refl, refl)
 previous_apart MsgStr obsolete line rest = (refl, refl)
 previous_apart (MsgStrAt index) obsolete line rest = (refl, refl)
 
-head_apart : {own : List TextItem} {comment_texts : List head.CommentText} {previous : List head.PreviousText} → spell.SpellsHead own comment_texts previous → (rest : List TextItem) → IsApart rest → IsApart (own ++ rest)
+head_apart : {own : List TextItem} {comment_texts : List CommentText} {previous : List PreviousText} → spell.SpellsHead own comment_texts previous → (rest : List TextItem) → IsApart rest → IsApart (own ++ rest)
 head_apart spell.nothing rest apart = apart
 head_apart (spell.head_comment h) rest apart = (refl, refl)
 head_apart (spell.previous_text {keyword = keyword} {obsolete = obsolete} {line = line} {items = items} (spell.keyword_text {strings = strings} s) h) rest apart = previous_apart keyword obsolete line (strings ++ items ++ rest)
 
-head_read : {own : List TextItem} {comment_texts : List head.CommentText} {previous : List head.PreviousText} → spell.SpellsHead own comment_texts previous → (above : ℕ) → Rise above (keywords previous) → (rest : List TextItem) → Starts rest → IsApart rest
+head_read : {own : List TextItem} {comment_texts : List CommentText} {previous : List PreviousText} → spell.SpellsHead own comment_texts previous → (above : ℕ) → Rise above (keywords previous) → (rest : List TextItem) → Starts rest → IsApart rest
     → head.IsHead above (own ++ rest) comment_texts previous rest
 head_read spell.nothing above rise rest starts apart = head.over (starts above)
 head_read (spell.head_comment h) above rise rest starts apart = head.head_comment refl (head_read h above rise rest starts apart)
 head_read (spell.previous_text {keyword = keyword} {obsolete = obsolete} {line = line} {items = items} (spell.keyword_text {strings = strings} s) h) above rise rest starts apart =
     let after = strings ++ (items ++ rest) in
-    let step : head.head_step above (Word keyword (spell.previous_marks obsolete) line ∷ after) ≡ head.Previous keyword (spell.previous_marks obsolete) after = rw (lt-ltb above (head.rank keyword) rise.0) refl in
+    let step : head.head_step above (Word keyword (spell.previous_marks obsolete) line ∷ after) ≡ head.Previous keyword (spell.previous_marks obsolete) after = rw (lt-ltb above (rank keyword) rise.0) refl in
     rw (append_assoc strings items rest)
-    (head.previous step (strings_read s (items ++ rest) (head_apart h rest apart).0) (head_read h (head.rank keyword) rise.1 rest starts apart))
+    (head.previous step (strings_read s (items ++ rest) (head_apart h rest apart).0) (head_read h (rank keyword) rise.1 rest starts apart))
 
 comments_apart : (items : List TextItem) → spell.AreComments items → IsApart items
 comments_apart [] only = (refl, refl)

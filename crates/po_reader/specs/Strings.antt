@@ -1,20 +1,13 @@
--- The quoted strings of one text: one or more, directly after their keyword and under its marks, joined (manual, "The Format of PO Files").
-use Rattle.std.specs.Prelude.{◌≡◌, ℕ, Bool, true, false, ◌&&◌, ◌||◌, not, List, [], ◌∷◌, ◌++◌, if◌then◌else◌}
+-- The reader's steps through the quoted strings of one text: one or more, directly after their keyword and under its marks, joined. Internal to this crate.
+use Rattle.std.specs.Prelude.{◌≡◌, ℕ, Bool, true, false, ◌&&◌, ◌||◌, List, [], ◌∷◌, ◌++◌, if◌then◌else◌}
+use Rattle.std.specs.Bool.{beq}
 use Rattle.po_syntax.specs.declared.fault.PoFault.{PoFault}
 use Rattle.po_syntax.specs.declared.fault.PoFault.TheVariants.{BadOrder, MixedObsolete}
 use Rattle.po_syntax.specs.declared.item.Marks.{Marks}
 use Rattle.po_syntax.specs.TextItem.{TextItem, Comment, Word, Str}
 
-abbrev pub same_bool : Bool → Bool → Bool
-same_bool true b = b
-same_bool false b = not b
-
 abbrev pub same_marks : Marks → Marks → Bool
-same_marks a b = same_bool a.obsolete b.obsolete && same_bool a.previous b.previous
-
--- the marks of an entry's own lines
-abbrev pub own_marks : Bool → Marks
-own_marks obsolete = record { obsolete = obsolete; previous = false }
+same_marks a b = beq a.obsolete b.obsolete && beq a.previous b.previous
 
 -- What stands where a string under these marks is wanted: the string, with the items after it, or a fault.
 pub data StringStep : Type 0 where

@@ -1,10 +1,11 @@
--- The reader's way through the items of a text: a head, a body, and on with the rest.
+-- The reader's way through the items of a text: a head, a body, and on with the rest. Internal to this crate, but for the law that ties it to the spellings.
 use Rattle.std.specs.Prelude.{List, [], ◌∷◌}
 use Rattle.po_syntax.specs.TextItem.{TextItem}
 use Rattle.po_entry.specs.TextEntry.{TextEntry}
-use Rattle.po_entry.specs.Body.{Body, IsBody}
-use Rattle.po_entry.specs.Head.{CommentText, PreviousText, IsHead}
+use Rattle.po_entry.specs.Parts.{CommentText, PreviousText, Body}
 use Rattle.po_entry.specs.Spelling.{entry_from, AreComments}
+use Rattle.po_reader.specs.Body.{IsBody}
+use Rattle.po_reader.specs.Head.{IsHead}
 
 -- going through these items from the left, the reader finds these entries
 pub data Reads : List TextItem → List TextEntry → Type 0 where

@@ -1,12 +1,14 @@
--- The keywords of an entry's own lines, each with its text (manual, "The Format of PO Files").
+-- The reader's steps at the keywords of an entry's own lines, each with its text. Internal to this crate.
 use Rattle.std.specs.Prelude.{◌≡◌, ℕ, Bool, true, false, ◌==◌, List, [], ◌∷◌, if◌then◌else◌}
+use Rattle.std.specs.Bool.{beq}
 use Rattle.po_syntax.specs.declared.fault.PoFault.{PoFault}
 use Rattle.po_syntax.specs.declared.fault.PoFault.TheVariants.{BadOrder, BadPluralIndex, MixedObsolete}
 use Rattle.po_syntax.specs.declared.item.Keyword.{Keyword}
 use Rattle.po_syntax.specs.declared.item.Keyword.TheVariants.{MsgCtxt, MsgId, MsgIdPlural, MsgStr, MsgStrAt}
 use Rattle.po_syntax.specs.declared.item.Marks.{Marks}
 use Rattle.po_syntax.specs.TextItem.{TextItem, Comment, Word, Str}
-use Rattle.po_entry.specs.Strings.{IsStrings, own_marks, same_bool}
+use Rattle.po_entry.specs.Spelling.{own_marks}
+use Rattle.po_reader.specs.Strings.{IsStrings}
 
 -- What is wanted next of an entry: `msgid`, after a context; a translation, `msgstr` or first a `msgid_plural`, after a msgid; or the plural form of this index.
 pub data Wanted : Type 0 where
@@ -50,7 +52,7 @@ pub data KeywordStep : Type 0 where
 abbrev pub keyword_step : Wanted → Bool → Keyword → Marks → ℕ → List TextItem → KeywordStep
 keyword_step wanted obsolete keyword marks line rest =
     if marks.previous then Refuse BadOrder
-    else if is_wanted wanted keyword then (if same_bool obsolete marks.obsolete then Take keyword line rest else Refuse MixedObsolete)
+    else if is_wanted wanted keyword then (if beq obsolete marks.obsolete then Take keyword line rest else Refuse MixedObsolete)
     else if is_wrong_form wanted keyword then Refuse BadPluralIndex
     else Refuse BadOrder
 
