@@ -1,21 +1,19 @@
-ghost use Rattle.std.specs.Prelude.{◌≡◌, ◌++◌, OnOk, IfErr, codes, option_copied};
+ghost use Rattle.std.specs.Prelude.{◌≡◌, ◌++◌, OnOk, codes, option_copied};
 ghost use Rattle.std.specs.List.{flat_map};
 ghost use Rattle.po_entry.specs.TextEntry.{texts};
-ghost use Rattle.po_entry.specs.Validity.{out_of_memory};
 ghost use Rattle.po_writer.specs.WrittenText.{all_flags, comment_lines, entry_lines, form_lines, keyword_lines, own_lines, own_prefix, previous_lines, previous_prefix, translation_lines, elements_line};
 
 use crate::keyword_lines::{push_form, push_keyword, push_optional};
 use po_entry::{Entry, Previous};
-use po_syntax::PoError;
+use std::alloc::AllocError;
 
 /// Appends a line for each comment, after the mark of its kind.
 pub(crate) fn push_comments(
     out: &mut Vec<u8>,
     mark: &[u8],
     comments: &[Vec<u8>],
-) -> Result<(), PoError>
+) -> Result<(), AllocError>
     ensures appended { OnOk result (out.new.items ≡ out.old.items ++ comment_lines mark.now (texts comments.now)) }
-    ensures memory { IfErr result (λ e. e ≡ out_of_memory) }
 {
     for comment in comments {
         out.extend_from_slice(mark)?;
@@ -26,9 +24,8 @@ pub(crate) fn push_comments(
 }
 
 /// Appends elements, with a separator before each.
-fn push_further(out: &mut Vec<u8>, separator: &[u8], elements: &[Vec<u8>]) -> Result<(), PoError>
+fn push_further(out: &mut Vec<u8>, separator: &[u8], elements: &[Vec<u8>]) -> Result<(), AllocError>
     ensures appended { OnOk result (out.new.items ≡ out.old.items ++ flat_map (λ element. separator.now ++ element) (texts elements.now)) }
-    ensures memory { IfErr result (λ e. e ≡ out_of_memory) }
 {
     for element in elements {
         out.extend_from_slice(separator)?;
@@ -43,9 +40,8 @@ pub(crate) fn push_elements(
     mark: &[u8],
     separator: &[u8],
     elements: &[Vec<u8>],
-) -> Result<(), PoError>
+) -> Result<(), AllocError>
     ensures appended { OnOk result (out.new.items ≡ out.old.items ++ elements_line mark.now separator.now (texts elements.now)) }
-    ensures memory { IfErr result (λ e. e ≡ out_of_memory) }
 {
     let Some((first, others)) = elements.split_first() else {
         return Ok(());
@@ -58,9 +54,12 @@ pub(crate) fn push_elements(
 }
 
 /// Appends the line of flags, `fuzzy` first, where there are any.
-pub(crate) fn push_flags(out: &mut Vec<u8>, fuzzy: bool, flags: &[Vec<u8>]) -> Result<(), PoError>
+pub(crate) fn push_flags(
+    out: &mut Vec<u8>,
+    fuzzy: bool,
+    flags: &[Vec<u8>],
+) -> Result<(), AllocError>
     ensures appended { OnOk result (out.new.items ≡ out.old.items ++ elements_line (codes "#, ") (codes ", ") (all_flags fuzzy (texts flags.now))) }
-    ensures memory { IfErr result (λ e. e ≡ out_of_memory) }
 {
     if !fuzzy {
         return push_elements(out, b"#, ", b", ", flags);
@@ -76,9 +75,8 @@ pub(crate) fn push_previous(
     out: &mut Vec<u8>,
     prefix: &[u8],
     previous: &Previous,
-) -> Result<(), PoError>
+) -> Result<(), AllocError>
     ensures appended { OnOk result (out.new.items ≡ out.old.items ++ previous_lines prefix.now previous.now) }
-    ensures memory { IfErr result (λ e. e ≡ out_of_memory) }
 {
     push_optional(out, prefix, b"msgctxt", previous.context.as_deref())?;
     push_optional(out, prefix, b"msgid", previous.id.as_deref())?;
@@ -86,9 +84,8 @@ pub(crate) fn push_previous(
 }
 
 /// Appends the plural forms, from index 0 on.
-fn push_forms(out: &mut Vec<u8>, prefix: &[u8], forms: &[Vec<u8>]) -> Result<(), PoError>
+fn push_forms(out: &mut Vec<u8>, prefix: &[u8], forms: &[Vec<u8>]) -> Result<(), AllocError>
     ensures appended { OnOk result (out.new.items ≡ out.old.items ++ form_lines prefix.now 0 (texts forms.now)) }
-    ensures memory { IfErr result (λ e. e ≡ out_of_memory) }
 {
     for (index, form) in forms.iter().enumerate() {
         push_form(out, prefix, index, form)?;
@@ -97,9 +94,8 @@ fn push_forms(out: &mut Vec<u8>, prefix: &[u8], forms: &[Vec<u8>]) -> Result<(),
 }
 
 /// Appends the only form of a message without a plural.
-fn push_single(out: &mut Vec<u8>, prefix: &[u8], forms: &[Vec<u8>]) -> Result<(), PoError>
+fn push_single(out: &mut Vec<u8>, prefix: &[u8], forms: &[Vec<u8>]) -> Result<(), AllocError>
     ensures appended { OnOk result (out.new.items ≡ out.old.items ++ flat_map (keyword_lines prefix.now (codes "msgstr")) (texts forms.now)) }
-    ensures memory { IfErr result (λ e. e ≡ out_of_memory) }
 {
     for form in forms {
         push_keyword(out, prefix, b"msgstr", form)?;
@@ -113,9 +109,8 @@ fn push_translation(
     prefix: &[u8],
     plural: Option<&[u8]>,
     forms: &[Vec<u8>],
-) -> Result<(), PoError>
+) -> Result<(), AllocError>
     ensures appended { OnOk result (out.new.items ≡ out.old.items ++ translation_lines prefix.now (option_copied plural.entry) (texts forms.now)) }
-    ensures memory { IfErr result (λ e. e ≡ out_of_memory) }
 {
     match plural {
         Some(plural) => {
@@ -127,9 +122,8 @@ fn push_translation(
 }
 
 /// Appends an entry's own lines.
-fn push_own(out: &mut Vec<u8>, prefix: &[u8], entry: &Entry) -> Result<(), PoError>
+fn push_own(out: &mut Vec<u8>, prefix: &[u8], entry: &Entry) -> Result<(), AllocError>
     ensures appended { OnOk result (out.new.items ≡ out.old.items ++ own_lines prefix.now entry.now) }
-    ensures memory { IfErr result (λ e. e ≡ out_of_memory) }
 {
     push_optional(out, prefix, b"msgctxt", entry.context())?;
     push_keyword(out, prefix, b"msgid", entry.id())?;
@@ -151,9 +145,8 @@ fn own_prefix(obsolete: bool) -> &'static [u8]
 }
 
 /// Appends all lines of an entry.
-pub(crate) fn push_entry(out: &mut Vec<u8>, entry: &Entry) -> Result<(), PoError>
+pub(crate) fn push_entry(out: &mut Vec<u8>, entry: &Entry) -> Result<(), AllocError>
     ensures appended { OnOk result (out.new.items ≡ out.old.items ++ entry_lines entry.now) }
-    ensures memory { IfErr result (λ e. e ≡ out_of_memory) }
 {
     push_comments(out, b"#", entry.comments())?;
     push_comments(out, b"#.", entry.extracted())?;

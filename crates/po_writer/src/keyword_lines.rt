@@ -1,11 +1,11 @@
-ghost use Rattle.std.specs.Prelude.{◌≡◌, ◌<◌, ◌++◌, ◌∷◌, [], codes, decimal, OnOk, IfErr, nat_lt, length, option_copied};
+ghost use Rattle.std.specs.Prelude.{◌≡◌, ◌<◌, ◌++◌, ◌∷◌, [], codes, decimal, OnOk, nat_lt, length, option_copied};
 ghost use Rattle.std.specs.List.{flat_map};
-ghost use Rattle.po_entry.specs.Validity.{out_of_memory};
 ghost use Rattle.po_writer.specs.WrittenText.{cut, text_lines, keyword_lines, optional_lines, string_line};
 
 use itoa::Buffer;
 use memchr::memchr;
-use po_syntax::{PoError, quote};
+use po_syntax::quote;
+use std::alloc::AllocError;
 
 /// Splits a text after its first LF, or at its end where it has none.
 fn split_line(text: &[u8]) -> (&[u8], &[u8])
@@ -27,20 +27,18 @@ fn has_lines(text: &[u8]) -> bool
 }
 
 /// Appends the quoted form of a piece on a line of its own.
-fn push_string(out: &mut Vec<u8>, prefix: &[u8], piece: &[u8]) -> Result<(), PoError>
+fn push_string(out: &mut Vec<u8>, prefix: &[u8], piece: &[u8]) -> Result<(), AllocError>
     ensures appended { OnOk result (out.new.items ≡ out.old.items ++ string_line prefix.now piece.now) }
-    ensures memory { IfErr result (λ e. e ≡ out_of_memory) }
 {
     out.extend_from_slice(prefix)?;
-    quote(piece, out)?;
+    quote(piece, out).map_err(|_| AllocError)?;
     out.push(b'\n')?;
     Ok(())
 }
 
 /// Appends one string for each line of a text.
-fn push_strings(out: &mut Vec<u8>, prefix: &[u8], text: &[u8]) -> Result<(), PoError>
+fn push_strings(out: &mut Vec<u8>, prefix: &[u8], text: &[u8]) -> Result<(), AllocError>
     ensures appended { OnOk result (out.new.items ≡ out.old.items ++ flat_map (string_line prefix.now) (cut text.now)) }
-    ensures memory { IfErr result (λ e. e ≡ out_of_memory) }
 {
     let mut rest = text;
     while !rest.is_empty() {
@@ -52,9 +50,8 @@ fn push_strings(out: &mut Vec<u8>, prefix: &[u8], text: &[u8]) -> Result<(), PoE
 }
 
 /// Appends what stands after a keyword: its text, as one string or one a line.
-fn push_text(out: &mut Vec<u8>, prefix: &[u8], text: &[u8]) -> Result<(), PoError>
+fn push_text(out: &mut Vec<u8>, prefix: &[u8], text: &[u8]) -> Result<(), AllocError>
     ensures appended { OnOk result (out.new.items ≡ out.old.items ++ text_lines prefix.now text.now) }
-    ensures memory { IfErr result (λ e. e ≡ out_of_memory) }
 {
     if has_lines(text) {
         push_string(out, b"", b"")?;
@@ -70,9 +67,8 @@ pub(crate) fn push_keyword(
     prefix: &[u8],
     keyword: &[u8],
     text: &[u8],
-) -> Result<(), PoError>
+) -> Result<(), AllocError>
     ensures appended { OnOk result (out.new.items ≡ out.old.items ++ keyword_lines prefix.now keyword.now text.now) }
-    ensures memory { IfErr result (λ e. e ≡ out_of_memory) }
 {
     out.extend_from_slice(prefix)?;
     out.extend_from_slice(keyword)?;
@@ -86,9 +82,8 @@ pub(crate) fn push_optional(
     prefix: &[u8],
     keyword: &[u8],
     text: Option<&[u8]>,
-) -> Result<(), PoError>
+) -> Result<(), AllocError>
     ensures appended { OnOk result (out.new.items ≡ out.old.items ++ optional_lines prefix.now keyword.now (option_copied text.entry)) }
-    ensures memory { IfErr result (λ e. e ≡ out_of_memory) }
 {
     match text {
         Some(text) => push_keyword(out, prefix, keyword, text),
@@ -102,9 +97,8 @@ pub(crate) fn push_form(
     prefix: &[u8],
     index: usize,
     form: &[u8],
-) -> Result<(), PoError>
+) -> Result<(), AllocError>
     ensures appended { OnOk result (out.new.items ≡ out.old.items ++ keyword_lines prefix.now (codes "msgstr[" ++ decimal index ++ codes "]") form.now) }
-    ensures memory { IfErr result (λ e. e ≡ out_of_memory) }
 {
     let mut digits = Buffer::new();
     out.extend_from_slice(prefix)?;

@@ -38,7 +38,8 @@ impl TextParts {
         ensures memory { IfErr result (λ e. e ≡ out_of_memory) }
     {
         push_entries(&mut self.live, entries, false)?;
-        push_entries(&mut self.obsolete, entries, true)
+        push_entries(&mut self.obsolete, entries, true)?;
+        Ok(())
     }
 
     /// The text of the entries that were added. An allocation that failed is the only refusal.

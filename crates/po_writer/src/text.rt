@@ -7,12 +7,11 @@ ghost use Rattle.po_writer.specs.WrittenText.{written_text};
 use crate::entry_lines::push_entry;
 use po_entry::{Catalogue, Entry};
 use po_syntax::PoError;
-use std::alloc::Global;
+use std::alloc::{AllocError, Global};
 
 /// Appends an entry, after an empty line if it isn't the first.
-fn push_separated(out: &mut Vec<u8>, entry: &Entry) -> Result<(), PoError>
+fn push_separated(out: &mut Vec<u8>, entry: &Entry) -> Result<(), AllocError>
     ensures appended { OnOk result (out.new.items ≡ with_entry out.old.items entry.now) }
-    ensures memory { IfErr result (λ e. e ≡ out_of_memory) }
 {
     if !out.is_empty() {
         out.push(b'\n')?;
@@ -25,9 +24,8 @@ pub(crate) fn push_entries(
     out: &mut Vec<u8>,
     entries: &[Entry],
     obsolete: bool,
-) -> Result<(), PoError>
+) -> Result<(), AllocError>
     ensures appended { OnOk result (out.new.items ≡ fold with_entry out.old.items (entries_marked obsolete entries.now)) }
-    ensures memory { IfErr result (λ e. e ≡ out_of_memory) }
 {
     for entry in entries {
         if entry.obsolete() == obsolete {
@@ -45,7 +43,8 @@ pub fn append(text: &mut Vec<u8>, entry: &Entry) -> Result<(), PoError>
         → text.old.items ≡ written_text entries → text.new.items ≡ written_text (entries ++ entry.now ∷ [])) }
     ensures memory { IfErr result (λ e. e ≡ out_of_memory) }
 {
-    push_separated(text, entry)
+    push_separated(text, entry)?;
+    Ok(())
 }
 
 /// The text of a catalogue (GNU gettext manual, "The Format of PO Files"): the live entries in
