@@ -22,5 +22,5 @@ no_comment_last (Str bytes marks line ∷ items) c h = absurd c.0
 
 pub entries_joined : {prefix rest : List TextItem} {first others : List TextEntry} → SpellsEntries prefix first → EndsInString prefix → SpellsEntries rest others → SpellsEntries (prefix ++ rest) (first ++ others)
 entries_joined (comments {items = items} c) ends g = rw (no_comment_last items c ends) g
-entries_joined (entries {own = own} {items = items} entry more) ends g =
-    rw append_assoc (entries entry (entries_joined more (ends_rest own items ends) g))
+entries_joined (entries {own = own} {items = items} spelt more) ends g =
+    rw append_assoc (entries spelt (entries_joined more (ends_rest own items ends) g))

@@ -1,6 +1,9 @@
 -- What contracts see of the fields of an entry that the code holds.
+use Rattle.std.specs.Prelude.{ℕ, Bool, List, Option, option_copied}
+use Rattle.std.specs.Global.{Vec}
+use Rattle.std.specs.Borrow.{Bor}
 use Rattle.po_entry.specs.declared.fields.Fields.{Fields}
-use Rattle.po_entry.specs.TextEntry.{TextEntry, texts, optional_text}
+use Rattle.po_entry.specs.TextEntry.{TextEntry, TextPrevious, texts, optional_text, slice_texts, plain_entry}
 
 -- the entry that these fields make
 abbrev pub entry_view : Fields → TextEntry
@@ -18,3 +21,24 @@ entry_view fields = record {
   obsolete = fields.obsolete;
   line = fields.line;
 }
+
+-- the entry of these fields, in the order in which the code has them
+abbrev pub entry_of_fields : (comments extracted references : List (Vec ℕ)) → Bool → List (Vec ℕ) → TextPrevious → Option (Vec ℕ) → List ℕ → Option (Vec ℕ) → List (Vec ℕ) → Bool → ℕ → TextEntry
+entry_of_fields comments extracted references fuzzy flags previous context id plural forms obsolete line = record {
+  comments = texts comments;
+  extracted = texts extracted;
+  references = texts references;
+  fuzzy = fuzzy;
+  flags = texts flags;
+  previous = previous;
+  context = optional_text context;
+  id = id;
+  plural = optional_text plural;
+  forms = texts forms;
+  obsolete = obsolete;
+  line = line;
+}
+
+-- the plain entry of texts that are lent
+abbrev pub lent_entry : Option (Bor (List ℕ)) → List ℕ → Option (Bor (List ℕ)) → List (Bor (List ℕ)) → TextEntry
+lent_entry context id plural forms = plain_entry (option_copied context) id (option_copied plural) (slice_texts forms)

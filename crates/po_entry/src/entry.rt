@@ -1,6 +1,6 @@
 ghost use Rattle.std.specs.Prelude.{◌≡◌, ◌<◌, IfOk, IfErr, IsOkUnless, Some, None, IsTrue, ◌↔◌, map, [], true, false, length, option_copied};
-ghost use Rattle.po_entry.specs.TextEntry.{texts, slice_texts, plain_entry, optional_text, no_previous};
-ghost use Rattle.po_entry.specs.EntryView.{entry_view};
+ghost use Rattle.po_entry.specs.TextEntry.{texts, no_previous};
+ghost use Rattle.po_entry.specs.EntryView.{entry_view, entry_of_fields, lent_entry};
 ghost use Rattle.po_entry.specs.Header.{is_header};
 ghost use Rattle.po_entry.specs.Validity.{IsEntry, RefusesMessage, out_of_memory};
 
@@ -46,9 +46,9 @@ impl Entry {
     ) -> Result<Entry, PoError>
         requires some_form { 0 < length forms.now }
         requires one_form { plural ≡ None → length forms.now ≡ 1 }
-        ensures entry { IfOk result (λ e. e ≡ plain_entry (option_copied context.entry) id.now (option_copied plural.entry) (slice_texts forms.now)) }
+        ensures entry { IfOk result (λ e. e ≡ lent_entry context.entry id.now plural.entry forms.now) }
         ensures valid { IfOk result IsEntry }
-        ensures fault { IfErr result (λ e. RefusesMessage (plain_entry (option_copied context.entry) id.now (option_copied plural.entry) (slice_texts forms.now)) e) }
+        ensures fault { IfErr result (λ e. RefusesMessage (lent_entry context.entry id.now plural.entry forms.now) e) }
     {
         let fields = Fields {
             comments: Vec::new(alloc),
@@ -85,8 +85,10 @@ impl Entry {
         obsolete: bool,
         line: u32,
     ) -> Entry
-        requires { IsEntry (record { comments = texts comments.items; extracted = texts extracted.items; references = texts references.items; fuzzy = fuzzy; flags = texts flags.items; previous = previous; context = optional_text context; id = id.items; plural = optional_text plural; forms = texts forms.items; obsolete = obsolete; line = line }) }
-        ensures { result ≡ record { comments = texts comments.items; extracted = texts extracted.items; references = texts references.items; fuzzy = fuzzy; flags = texts flags.items; previous = previous; context = optional_text context; id = id.items; plural = optional_text plural; forms = texts forms.items; obsolete = obsolete; line = line } }
+        requires { IsEntry (entry_of_fields comments.items extracted.items references.items fuzzy flags.items previous
+            context id.items plural forms.items obsolete line) }
+        ensures { result ≡ entry_of_fields comments.items extracted.items references.items fuzzy flags.items previous
+            context id.items plural forms.items obsolete line }
     {
         Entry::of(Fields {
             comments,

@@ -22,7 +22,11 @@ impl Model for Previous {
 
     ghost Value = { TextPrevious };
 
-    ghost view = { λ p. record { context = optional_text p.context; id = optional_text p.id; plural = optional_text p.plural } };
+    ghost view = { λ p. record {
+      context = optional_text p.context;
+      id = optional_text p.id;
+      plural = optional_text p.plural;
+    } };
 }
 
 impl Previous {

@@ -17,7 +17,7 @@ const EOT: u8 = 4;
 /// Whether an entry can have these texts: `NotUtf8` where a text of its quoted strings is not
 /// UTF-8, then `ForbiddenByte` for a NUL in one, or for an EOT in its own context or msgid.
 pub fn check_texts(fields: &Fields) -> Result<(), PoFault>
-    ensures { MatchResult result (λ _. HasTexts (entry_view fields.now)) (λ fault. TextsFault (entry_view fields.now) fault) }
+    ensures { MatchResult result (λ _. HasTexts (entry_view fields.now)) (TextsFault (entry_view fields.now)) }
 {
     if !are_utf8(fields) {
         return Err(PoFault::NotUtf8);

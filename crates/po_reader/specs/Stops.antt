@@ -1,7 +1,9 @@
 -- For the reader's own functions alone: at which part of an entry items stop, with the fault and the line. The contract of `read` speaks of `Viable.ItemsFault`, which follows (manual, "The Format of PO Files").
 -- At the end of the items the line reported is `end`, that of the last item.
-use Rattle.std.specs.Prelude.{◌≡◌, ℕ, ◌+◌, Bool, true, List, [], ◌∷◌}
+use Rattle.std.specs.Prelude.{◌≡◌, ◌≢◌, ℕ, ◌+◌, Bool, true, List, [], ◌∷◌}
+use Rattle.po_syntax.specs.declared.fault.PoError.{PoError}
 use Rattle.po_syntax.specs.declared.fault.PoFault.{PoFault}
+use Rattle.po_syntax.specs.declared.fault.PoFault.TheVariants.{OutOfMemory}
 use Rattle.po_syntax.specs.declared.item.CommentKind.{CommentKind}
 use Rattle.po_syntax.specs.declared.item.Keyword.{Keyword}
 use Rattle.po_syntax.specs.declared.item.Keyword.TheVariants.{MsgIdPlural}
@@ -16,6 +18,10 @@ use Rattle.po_entry.specs.Parts.{Body, CommentText, PreviousText, rank}
 use Rattle.po_reader.specs.Body.{IsBody, begins_form, body_start, WithContext, WithoutContext}
 use Rattle.po_reader.specs.Head.{IsHead, head_step}
 use Rattle.po_reader.specs.Head as head
+
+-- an error other than out of memory is such a stop
+abbrev pub IsStop : (PoFault → ℕ → Type 0) → PoError → Type 0
+IsStop Stops error = error.kind ≢ OutOfMemory → Stops error.kind error.line
 
 -- the line of the first item, or of the text's last one where the items end
 abbrev pub line_at : ℕ → List TextItem → ℕ

@@ -1,10 +1,9 @@
-ghost use Rattle.std.specs.Prelude.{◌≡◌, ◌≢◌, ◌+◌, ◌<◌, ◌≤◌, drop, length, IfOk, IfErr, IfSome, MatchOption, ◌^◌};
-ghost use Rattle.po_syntax.specs.TextItem.{view, views};
+ghost use Rattle.std.specs.Prelude.{◌≡◌, ◌≢◌, ◌+◌, ◌<◌, ◌≤◌, length, IfOk, IfErr, IfSome, MatchOption, ◌^◌};
 ghost use Rattle.po_reader.specs.Body.{begins_form, body_start, IsForms, IsTranslation, IsBody};
 ghost use Rattle.po_reader.specs.Body as spec;
 ghost use Rattle.po_entry.specs.TextEntry.{texts, optional_text};
-ghost use Rattle.po_reader.specs.Stops.{FormsStop, TranslationStops, BodyStops};
-ghost use Rattle.po_reader.specs.ReaderView.{start_view, body_view};
+ghost use Rattle.po_reader.specs.Stops.{IsStop, FormsStop, TranslationStops, BodyStops};
+ghost use Rattle.po_reader.specs.ReaderView.{items_from, start_view, body_view};
 
 use crate::index::item_at;
 use crate::keywords::{KeywordText, Wanted, wanted_keyword};
@@ -15,7 +14,7 @@ use std::alloc::Global;
 /// Whether a `msgstr[i]` stands at the index, and not one of a previous text.
 fn begins_form(items: &[Item<'_>], at: usize) -> bool
     requires { at ≤ length items.now }
-    ensures { result ≡ begins_form (views (drop at items.now)) }
+    ensures { result ≡ begins_form (items_from at items.now) }
 {
     match item_at(items, at) {
         Some(Item::Word(Keyword::MsgStrAt(_), marks, _)) => !marks.previous,
@@ -33,10 +32,11 @@ fn forms_of(
 ) -> Result<(Vec<Vec<u8>>, usize), PoError>
     requires within { from ≤ length items.now }
     requires few { length items.now < 2 ^ 32 }
-    ensures found { IfOk result (λ p. IsForms obsolete 0 (views (drop from items.now)) (texts p.0.items) (views (drop p.1 items.now))) }
+    ensures found { IfOk result (λ p. IsForms obsolete 0 (items_from from items.now) (texts p.0.items)
+        (items_from p.1 items.now)) }
     ensures within { IfOk result (λ p. p.1 ≤ length items.now) }
     ensures further { IfOk result (λ p. from < p.1) }
-    ensures fault { IfErr result (λ e. e.kind ≢ PoFault.OutOfMemory → FormsStop end obsolete 0 (views (drop from items.now)) e.kind e.line) }
+    ensures fault { IfErr result (IsStop (FormsStop end obsolete 0 (items_from from items.now))) }
     ensures memory { IfErr result (λ e. e.kind ≡ PoFault.OutOfMemory → e.line ≡ 0) }
 {
     let mut forms = Vec::new(alloc);
@@ -72,10 +72,11 @@ fn translation_of(
 ) -> Result<Translation, PoError>
     requires within { from ≤ length items.now }
     requires few { length items.now < 2 ^ 32 }
-    ensures found { IfOk result (λ t. IsTranslation obsolete (views (drop from items.now)) (optional_text t.plural) (texts t.forms.items) (views (drop t.after items.now))) }
+    ensures found { IfOk result (λ t. IsTranslation obsolete (items_from from items.now) (optional_text t.plural)
+        (texts t.forms.items) (items_from t.after items.now)) }
     ensures within { IfOk result (λ t. t.after ≤ length items.now) }
     ensures further { IfOk result (λ t. from < t.after) }
-    ensures fault { IfErr result (λ e. e.kind ≢ PoFault.OutOfMemory → TranslationStops end obsolete (views (drop from items.now)) e.kind e.line) }
+    ensures fault { IfErr result (IsStop (TranslationStops end obsolete (items_from from items.now))) }
     ensures memory { IfErr result (λ e. e.kind ≡ PoFault.OutOfMemory → e.line ≡ 0) }
 {
     let first = wanted_keyword(alloc, items, from, Wanted::Translation, obsolete, end)?;
@@ -124,7 +125,8 @@ enum Start {
 /// How a body begins at the index, or `None` where none does.
 fn start_at(items: &[Item<'_>], at: usize) -> Option<Start>
     requires { at ≤ length items.now }
-    ensures start { MatchOption result (body_start (views (drop at items.now)) ≡ spec.NoStart) (λ start. body_start (views (drop at items.now)) ≡ start_view start (views (drop (at + 1) items.now))) }
+    ensures start { MatchOption result (body_start (items_from at items.now) ≡ spec.NoStart)
+        (λ start. body_start (items_from at items.now) ≡ start_view start (items_from (at + 1) items.now)) }
     ensures within { IfSome result (λ _. at < length items.now) }
 {
     match item_at(items, at) {
@@ -148,11 +150,12 @@ fn body_after(
 ) -> Result<Body, PoError>
     requires within { from ≤ length items.now }
     requires few { length items.now < 2 ^ 32 }
-    ensures found { IfOk result (λ b. IsTranslation original.obsolete (views (drop from items.now)) (optional_text b.translation.plural) (texts b.translation.forms.items) (views (drop b.translation.after items.now))) }
+    ensures found { IfOk result (λ b. IsTranslation original.obsolete (items_from from items.now)
+        (optional_text b.translation.plural) (texts b.translation.forms.items) (items_from b.translation.after items.now)) }
     ensures original { IfOk result (λ b. b.original ≡ original) }
     ensures within { IfOk result (λ b. b.translation.after ≤ length items.now) }
     ensures further { IfOk result (λ b. from < b.translation.after) }
-    ensures fault { IfErr result (λ e. e.kind ≢ PoFault.OutOfMemory → TranslationStops end original.obsolete (views (drop from items.now)) e.kind e.line) }
+    ensures fault { IfErr result (IsStop (TranslationStops end original.obsolete (items_from from items.now))) }
     ensures memory { IfErr result (λ e. e.kind ≡ PoFault.OutOfMemory → e.line ≡ 0) }
 {
     match translation_of(alloc, items, from, original.obsolete, end) {
@@ -173,11 +176,12 @@ pub(crate) fn body_of(
 ) -> Result<Body, PoError>
     requires within { from ≤ length items.now }
     requires few { length items.now < 2 ^ 32 }
-    requires begins { body_start (views (drop from items.now)) ≢ spec.NoStart }
-    ensures found { IfOk result (λ b. IsBody (views (drop from items.now)) (body_view b) (views (drop b.translation.after items.now))) }
+    requires begins { body_start (items_from from items.now) ≢ spec.NoStart }
+    ensures found { IfOk result (λ b. IsBody (items_from from items.now) (body_view b)
+        (items_from b.translation.after items.now)) }
     ensures within { IfOk result (λ b. b.translation.after ≤ length items.now) }
     ensures further { IfOk result (λ b. from < b.translation.after) }
-    ensures fault { IfErr result (λ e. e.kind ≢ PoFault.OutOfMemory → BodyStops end (views (drop from items.now)) e.kind e.line) }
+    ensures fault { IfErr result (IsStop (BodyStops end (items_from from items.now))) }
     ensures memory { IfErr result (λ e. e.kind ≡ PoFault.OutOfMemory → e.line ≡ 0) }
 {
     let start = match start_at(items, from) {

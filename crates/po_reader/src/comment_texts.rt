@@ -51,7 +51,8 @@ fn first_comma(text: &[u8]) -> Option<usize>
 fn cut(text: &[u8], at: Option<usize>) -> (&[u8], Option<&[u8]>)
     requires { IfSome at (λ i. i < length text.now) }
     ensures cut { (ends : ℕ → Bool) → at ≡ position ends text.now
-        → MatchOption result.1 (slice_split ends text.now ≡ result.0.now ∷ []) (λ rest. slice_split ends text.now ≡ result.0.now ∷ slice_split ends rest.now) }
+        → MatchOption result.1 (slice_split ends text.now ≡ result.0.now ∷ [])
+        (λ rest. slice_split ends text.now ≡ result.0.now ∷ slice_split ends rest.now) }
     ensures less { IfSome result.1 (λ rest. length rest.now < length text.now) }
 {
     let Some(end) = at else {

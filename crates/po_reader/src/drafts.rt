@@ -8,7 +8,7 @@ ghost use Rattle.po_entry.specs.TextEntry.{TextEntry};
 ghost use Rattle.po_reader.specs.Bare.{kept_entry};
 ghost use Rattle.po_reader.specs.HeadView.{HoldsHead};
 ghost use Rattle.po_reader.specs.ReaderView.{body_view};
-ghost use Rattle.po_reader.specs.Stops.{EntriesStop};
+ghost use Rattle.po_reader.specs.Stops.{IsStop, EntriesStop};
 
 use crate::body::{Body, Original, Translation, body_of};
 use crate::flags::flags_of;
@@ -19,7 +19,8 @@ use std::alloc::{AllocError, Global};
 
 /// The parts of an entry, from its head and its body.
 fn fields_of(alloc: Global, head: Head, body: Body) -> Result<Fields, AllocError>
-    ensures { IfOk result (λ fields. (comment_texts : List CommentText) (previous : List PreviousText) → HoldsHead head comment_texts previous → entry_view fields ≡ entry_from comment_texts previous (body_view body)) }
+    ensures { IfOk result (λ fields. (comment_texts : List CommentText) (previous : List PreviousText)
+        → HoldsHead head comment_texts previous → entry_view fields ≡ entry_from comment_texts previous (body_view body)) }
 {
     let Head {
         comments,
@@ -65,8 +66,9 @@ pub(crate) fn drafts_of(
     all: bool,
 ) -> Result<Vec<Fields>, PoError>
     requires { length items.now < 2 ^ 32 }
-    ensures found { IfOk result (λ drafts. (entries : List TextEntry) × Reads (views items.now) entries × (map entry_view drafts.items ≡ map (kept_entry all) entries)) }
-    ensures fault { IfErr result (λ e. e.kind ≢ PoFault.OutOfMemory → EntriesStop end (views items.now) e.kind e.line) }
+    ensures found { IfOk result (λ drafts. (entries : List TextEntry) × Reads (views items.now) entries
+        × (map entry_view drafts.items ≡ map (kept_entry all) entries)) }
+    ensures fault { IfErr result (IsStop (EntriesStop end (views items.now))) }
     ensures memory { IfErr result (λ e. e.kind ≡ PoFault.OutOfMemory → e.line ≡ 0) }
 {
     let mut drafts = Vec::new(alloc);

@@ -1,13 +1,12 @@
-ghost use Rattle.std.specs.Prelude.{◌≡◌, ◌≢◌, ◌+◌, ◌<◌, ◌≤◌, ◌++◌, ◌∷◌, [], Some, ℕ, List, drop, length, IfOk, IfErr, OnOk, OnErr, IfSome, MatchResult, ◌||◌};
-ghost use Rattle.po_syntax.specs.TextItem.{view, views};
+ghost use Rattle.std.specs.Prelude.{◌≡◌, ◌≢◌, ◌+◌, ◌<◌, ◌≤◌, ◌++◌, ◌∷◌, [], Some, ℕ, List, length, IfOk, IfErr, OnOk, OnErr, IfSome, MatchResult, ◌||◌};
 ghost use Rattle.po_entry.specs.Parts.{CommentText, PreviousText, rank};
 ghost use Rattle.po_reader.specs.Head.{IsHead, head_step, begins_body};
 ghost use Rattle.po_reader.specs.Head as spec;
 ghost use Rattle.po_entry.specs.Comments.{same_kind, with_previous};
 ghost use Rattle.po_syntax.specs.declared.item.CommentKind.TheVariants.{Flags};
 ghost use Rattle.po_reader.specs.Bare.{kept_comments};
-ghost use Rattle.po_reader.specs.Stops.{HeadStops};
-ghost use Rattle.po_reader.specs.ReaderView.{head_view};
+ghost use Rattle.po_reader.specs.Stops.{IsStop, HeadStops};
+ghost use Rattle.po_reader.specs.ReaderView.{items_from, head_view};
 ghost use Rattle.po_reader.specs.HeadView.{HoldsHead, HoldsComments};
 
 use crate::comment_texts::{add_flags, add_references};
@@ -60,8 +59,11 @@ fn begins_body(keyword: Keyword) -> bool
 /// What the item at the index is to a head; `above` is the rank of the last previous text, or 0.
 fn step_at<'i>(items: &'i [Item<'_>], at: usize, above: u32) -> Result<Step<'i>, PoFault>
     requires { at ≤ length items.now }
-    ensures step { MatchResult result (λ step. head_step above (views (drop at items.now)) ≡ head_view step (views (drop (at + 1) items.now))) (λ fault. head_step above (views (drop at items.now)) ≡ spec.Refuse fault) }
-    ensures within { IfOk result (λ step. head_view step (views (drop (at + 1) items.now)) ≢ spec.Over → at < length items.now) }
+    ensures step { MatchResult result
+        (λ step. head_step above (items_from at items.now) ≡ head_view step (items_from (at + 1) items.now))
+        (λ fault. head_step above (items_from at items.now) ≡ spec.Refuse fault) }
+    ensures within { IfOk result
+        (λ step. head_view step (items_from (at + 1) items.now) ≢ spec.Over → at < length items.now) }
 {
     match item_at(items, at) {
         None => if above == 0 {
@@ -102,7 +104,8 @@ fn add_comment(
     kind: CommentKind,
     text: &[u8],
 ) -> Result<(), AllocError>
-    ensures comment_texts { OnOk result ((comment_texts : List CommentText) → HoldsComments head.old (kept_comments all comment_texts) → HoldsComments head.new (kept_comments all (comment_texts ++ (record { kind = kind; text = text.now }) ∷ []))) }
+    ensures comment_texts { OnOk result ((comment_texts : List CommentText) → HoldsComments head.old (kept_comments all comment_texts)
+        → HoldsComments head.new (kept_comments all (comment_texts ++ (record { kind = kind; text = text.now }) ∷ []))) }
     ensures previous { OnOk result (head.new.previous ≡ head.old.previous) }
 {
     if is_kept(all, kind) {
@@ -118,7 +121,8 @@ fn add_kept_comment(
     kind: CommentKind,
     text: &[u8],
 ) -> Result<(), AllocError>
-    ensures comment_texts { OnOk result ((comment_texts : List CommentText) → HoldsComments head.old comment_texts → HoldsComments head.new (comment_texts ++ (record { kind = kind; text = text.now }) ∷ [])) }
+    ensures comment_texts { OnOk result ((comment_texts : List CommentText) → HoldsComments head.old comment_texts
+        → HoldsComments head.new (comment_texts ++ (record { kind = kind; text = text.now }) ∷ [])) }
     ensures previous { OnOk result (head.new.previous ≡ head.old.previous) }
 {
     match kind {
@@ -153,10 +157,12 @@ pub(crate) fn head_of(
     all: bool,
 ) -> Result<(Head, usize), PoError>
     requires { from ≤ length items.now }
-    ensures found { IfOk result (λ p. (comment_texts : List CommentText) × (previous : List PreviousText) × IsHead 0 (views (drop from items.now)) comment_texts previous (views (drop p.1 items.now)) × HoldsHead p.0 (kept_comments all comment_texts) previous) }
+    ensures found { IfOk result (λ p. (comment_texts : List CommentText) × (previous : List PreviousText)
+        × IsHead 0 (items_from from items.now) comment_texts previous (items_from p.1 items.now)
+        × HoldsHead p.0 (kept_comments all comment_texts) previous) }
     ensures within { IfOk result (λ p. p.1 ≤ length items.now) }
     ensures after { IfOk result (λ p. from ≤ p.1) }
-    ensures fault { IfErr result (λ e. e.kind ≢ PoFault.OutOfMemory → HeadStops end 0 (views (drop from items.now)) e.kind e.line) }
+    ensures fault { IfErr result (IsStop (HeadStops end 0 (items_from from items.now))) }
     ensures memory { IfErr result (λ e. e.kind ≡ PoFault.OutOfMemory → e.line ≡ 0) }
 {
     let mut head = Head {

@@ -1,13 +1,15 @@
-ghost use Rattle.std.specs.Prelude.{◌≡◌, ◌+◌, ◌<◌, ◌≤◌, [], ◌∷◌, drop, length, MatchOption, IfSome};
-ghost use Rattle.po_syntax.specs.TextItem.{line_of, view, views};
+ghost use Rattle.std.specs.Prelude.{◌≡◌, ◌+◌, ◌<◌, ◌≤◌, [], ◌∷◌, length, MatchOption, IfSome};
+ghost use Rattle.po_syntax.specs.TextItem.{line_of, view};
 ghost use Rattle.po_reader.specs.Stops.{line_at};
+ghost use Rattle.po_reader.specs.ReaderView.{items_from};
 
 use po_syntax::{Item, PoError, PoFault};
 
 /// The item at an index, which may be the end of the items.
 pub(crate) fn item_at<'i, 'a>(items: &'i [Item<'a>], at: usize) -> Option<&'i Item<'a>>
     requires { at ≤ length items.now }
-    ensures item { MatchOption result (views (drop at items.now) ≡ []) (λ item. views (drop at items.now) ≡ view item.now ∷ views (drop (at + 1) items.now)) }
+    ensures item { MatchOption result (items_from at items.now ≡ [])
+        (λ item. items_from at items.now ≡ view item.now ∷ items_from (at + 1) items.now) }
     ensures within { IfSome result (λ _. at < length items.now) }
 {
     items.get(at)
@@ -25,7 +27,7 @@ pub(crate) fn line_of(item: &Item<'_>) -> u32
 /// The line of the item at an index; at the end of the items `end`, the line of the last one.
 pub(crate) fn line_at(items: &[Item<'_>], at: usize, end: u32) -> u32
     requires { at ≤ length items.now }
-    ensures { result ≡ line_at end (views (drop at items.now)) }
+    ensures { result ≡ line_at end (items_from at items.now) }
 {
     match item_at(items, at) {
         Some(item) => line_of(item),
@@ -37,7 +39,7 @@ pub(crate) fn line_at(items: &[Item<'_>], at: usize, end: u32) -> u32
 pub(crate) fn refusal(items: &[Item<'_>], at: usize, end: u32, kind: PoFault) -> PoError
     requires { at ≤ length items.now }
     ensures kind { result.kind ≡ kind }
-    ensures line { result.line ≡ line_at end (views (drop at items.now)) }
+    ensures line { result.line ≡ line_at end (items_from at items.now) }
 {
     PoError {
         kind,

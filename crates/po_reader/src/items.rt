@@ -10,6 +10,7 @@ ghost use Rattle.po_reader.specs.Faults.{TextsStop};
 ghost use Rattle.po_reader.specs.Faults.{CharsetStops};
 ghost use Rattle.po_reader.specs.ItemsRead.{ReadsItems, ItemsStop};
 ghost use Rattle.po_reader.specs.Viable.{last_line};
+ghost use Rattle.po_reader.specs.Stops.{IsStop};
 
 use crate::drafts::drafts_of;
 use crate::index::line_of;
@@ -22,7 +23,7 @@ pub(crate) fn catalogue_of_items(alloc: Global, items: Vec<Item<'_>>) -> Result<
     requires hold { All HoldsText (views items.items) }
     requires few { vec_len items ≤ 2 ^ 31 }
     ensures found { IfOk result (λ entries. ReadsItems (views items.entry.items) entries) }
-    ensures fault { IfErr result (λ e. e.kind ≢ PoFault.OutOfMemory → ItemsStop (views items.entry.items) e.kind e.line) }
+    ensures fault { IfErr result (IsStop (ItemsStop (views items.entry.items))) }
     ensures memory { IfErr result (λ e. e.kind ≡ PoFault.OutOfMemory → e.line ≡ 0) }
 {
     let drafts = drafts_of(alloc, &items, last_line(&items), true)?;
@@ -35,7 +36,8 @@ pub(crate) fn catalogue_of_items(alloc: Global, items: Vec<Item<'_>>) -> Result<
 pub(crate) fn messages_of_items(alloc: Global, items: Vec<Item<'_>>) -> Result<Catalogue, PoError>
     requires hold { All HoldsText (views items.items) }
     requires few { vec_len items ≤ 2 ^ 31 }
-    ensures found { IfOk result (λ messages. (entries : List TextEntry) × ReadsItems (views items.entry.items) entries × (messages ≡ map without_comments entries)) }
+    ensures found { IfOk result (λ messages. (entries : List TextEntry) × ReadsItems (views items.entry.items) entries
+        × (messages ≡ map without_comments entries)) }
     ensures memory { IfErr result (λ e. e.kind ≡ PoFault.OutOfMemory → e.line ≡ 0) }
 {
     let drafts = drafts_of(alloc, &items, 0, false)?;
@@ -75,7 +77,8 @@ fn catalogue_of(alloc: Global, drafts: Vec<Fields>) -> Result<Catalogue, PoError
     requires { All (λ draft. IsEntry (entry_view draft)) drafts.items }
     ensures entries { IfOk result (λ c. c ≡ map entry_view drafts.items) }
     ensures charsets { OnOk result (All HasAdmittedCharset (map entry_view drafts.items)) }
-    ensures fault { IfErr result (λ e. e.kind ≢ PoFault.OutOfMemory → (e.kind ≡ PoFault.ForeignCharset) × CharsetStops (map entry_view drafts.items) e.line) }
+    ensures fault { IfErr result (λ e. e.kind ≢ PoFault.OutOfMemory
+        → (e.kind ≡ PoFault.ForeignCharset) × CharsetStops (map entry_view drafts.items) e.line) }
     ensures memory { IfErr result (λ e. e.kind ≡ PoFault.OutOfMemory → e.line ≡ 0) }
 {
     let mut catalogue = Catalogue::new(alloc);

@@ -1,9 +1,9 @@
-ghost use Rattle.std.specs.Prelude.{◌≡◌, ◌≢◌, ◌+◌, ◌<◌, ◌≤◌, drop, length, IfOk, IfErr, MatchResult, MatchOption, ℕ, List};
-ghost use Rattle.po_syntax.specs.TextItem.{TextItem, view, views};
+ghost use Rattle.std.specs.Prelude.{◌≡◌, ◌≢◌, ◌+◌, ◌<◌, ◌≤◌, length, IfOk, IfErr, MatchResult, MatchOption, ℕ, List};
+ghost use Rattle.po_syntax.specs.TextItem.{TextItem};
 ghost use Rattle.po_reader.specs.Keywords.{IsKeywordText, next_keyword, keyword_step, is_wanted, is_wrong_form};
 ghost use Rattle.po_reader.specs.Keywords as spec;
-ghost use Rattle.po_reader.specs.ReaderView.{wanted_view};
-ghost use Rattle.po_reader.specs.Stops.{KeywordTextStops};
+ghost use Rattle.po_reader.specs.ReaderView.{items_from, wanted_view};
+ghost use Rattle.po_reader.specs.Stops.{IsStop, KeywordTextStops};
 
 use crate::index::{item_at, refusal};
 use crate::strings::strings_of;
@@ -42,7 +42,9 @@ fn is_wrong_form(wanted: Wanted, keyword: Keyword) -> bool
 
 /// Why a keyword is not the wanted one under the mark of its entry, if it is not.
 fn keyword_fault(wanted: Wanted, obsolete: bool, keyword: Keyword, marks: Marks) -> Option<PoFault>
-    ensures { (line : ℕ) (rest : List TextItem) → MatchOption result (keyword_step (wanted_view wanted) obsolete keyword marks line rest ≡ spec.Take keyword line rest) (λ fault. keyword_step (wanted_view wanted) obsolete keyword marks line rest ≡ spec.Refuse fault) }
+    ensures { (line : ℕ) (rest : List TextItem) → MatchOption result
+        (keyword_step (wanted_view wanted) obsolete keyword marks line rest ≡ spec.Take keyword line rest)
+        (λ fault. keyword_step (wanted_view wanted) obsolete keyword marks line rest ≡ spec.Refuse fault) }
 {
     if marks.previous {
         Some(PoFault::BadOrder)
@@ -67,7 +69,10 @@ fn keyword_at(
     obsolete: bool,
 ) -> Result<(Keyword, u32), PoFault>
     requires { at ≤ length items.now }
-    ensures step { MatchResult result (λ p. next_keyword (wanted_view wanted) obsolete (views (drop at items.now)) ≡ spec.Take p.0 p.1 (views (drop (at + 1) items.now))) (λ fault. next_keyword (wanted_view wanted) obsolete (views (drop at items.now)) ≡ spec.Refuse fault) }
+    ensures step { MatchResult result
+        (λ p. next_keyword (wanted_view wanted) obsolete (items_from at items.now)
+        ≡ spec.Take p.0 p.1 (items_from (at + 1) items.now))
+        (λ fault. next_keyword (wanted_view wanted) obsolete (items_from at items.now) ≡ spec.Refuse fault) }
     ensures within { IfOk result (λ _. at < length items.now) }
 {
     match item_at(items, at) {
@@ -101,10 +106,11 @@ pub(crate) fn wanted_keyword(
     end: u32,
 ) -> Result<KeywordText, PoError>
     requires { at ≤ length items.now }
-    ensures found { IfOk result (λ w. IsKeywordText (wanted_view wanted) obsolete (views (drop at items.now)) w.keyword w.line w.text.items (views (drop w.after items.now))) }
+    ensures found { IfOk result (λ w. IsKeywordText (wanted_view wanted) obsolete (items_from at items.now)
+        w.keyword w.line w.text.items (items_from w.after items.now)) }
     ensures within { IfOk result (λ w. w.after ≤ length items.now) }
     ensures further { IfOk result (λ w. at < w.after) }
-    ensures fault { IfErr result (λ e. e.kind ≢ PoFault.OutOfMemory → KeywordTextStops end (wanted_view wanted) obsolete (views (drop at items.now)) e.kind e.line) }
+    ensures fault { IfErr result (IsStop (KeywordTextStops end (wanted_view wanted) obsolete (items_from at items.now))) }
     ensures memory { IfErr result (λ e. e.kind ≡ PoFault.OutOfMemory → e.line ≡ 0) }
 {
     let (keyword, line) = match keyword_at(items, at, wanted, obsolete) {

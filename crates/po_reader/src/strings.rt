@@ -1,9 +1,9 @@
-ghost use Rattle.std.specs.Prelude.{◌≡◌, ◌≢◌, ◌+◌, ◌<◌, ◌≤◌, drop, length, IfOk, IfErr, MatchResult};
-ghost use Rattle.po_syntax.specs.TextItem.{view, views};
+ghost use Rattle.std.specs.Prelude.{◌≡◌, ◌≢◌, ◌+◌, ◌<◌, ◌≤◌, length, IfOk, IfErr, MatchResult};
 ghost use Rattle.po_reader.specs.Strings.{IsStrings, string_step, begins_string};
 ghost use Rattle.po_entry.specs.Spelling.{own_marks};
 ghost use Rattle.po_reader.specs.Strings as spec;
-ghost use Rattle.po_reader.specs.Stops.{StringsStop, line_at};
+ghost use Rattle.po_reader.specs.Stops.{IsStop, StringsStop, line_at};
+ghost use Rattle.po_reader.specs.ReaderView.{items_from};
 
 use crate::index::{item_at, refusal};
 use po_syntax::{Item, Marks, PoError, PoFault};
@@ -31,7 +31,9 @@ fn same_marks(a: Marks, b: Marks) -> bool
 /// The string at an index, which stands under these marks.
 fn string_at<'i>(items: &'i [Item<'_>], at: usize, marks: Marks) -> Result<&'i [u8], PoFault>
     requires { at ≤ length items.now }
-    ensures step { MatchResult result (λ bytes. string_step marks (views (drop at items.now)) ≡ spec.Take bytes.now (views (drop (at + 1) items.now))) (λ fault. string_step marks (views (drop at items.now)) ≡ spec.Refuse fault) }
+    ensures step { MatchResult result
+        (λ bytes. string_step marks (items_from at items.now) ≡ spec.Take bytes.now (items_from (at + 1) items.now))
+        (λ fault. string_step marks (items_from at items.now) ≡ spec.Refuse fault) }
     ensures within { IfOk result (λ _. at < length items.now) }
 {
     match item_at(items, at) {
@@ -49,7 +51,7 @@ fn string_at<'i>(items: &'i [Item<'_>], at: usize, marks: Marks) -> Result<&'i [
 /// Whether a string stands at the index.
 fn begins_string(items: &[Item<'_>], at: usize) -> bool
     requires { at ≤ length items.now }
-    ensures { result ≡ begins_string (views (drop at items.now)) }
+    ensures { result ≡ begins_string (items_from at items.now) }
 {
     matches!(item_at(items, at), Some(Item::Str(..)))
 }
@@ -63,10 +65,10 @@ pub(crate) fn strings_of(
     end: u32,
 ) -> Result<(Vec<u8>, usize), PoError>
     requires { from ≤ length items.now }
-    ensures found { IfOk result (λ p. IsStrings marks (views (drop from items.now)) p.0.items (views (drop p.1 items.now))) }
+    ensures found { IfOk result (λ p. IsStrings marks (items_from from items.now) p.0.items (items_from p.1 items.now)) }
     ensures within { IfOk result (λ p. p.1 ≤ length items.now) }
     ensures further { IfOk result (λ p. from < p.1) }
-    ensures fault { IfErr result (λ e. e.kind ≢ PoFault.OutOfMemory → StringsStop end marks (views (drop from items.now)) e.kind e.line) }
+    ensures fault { IfErr result (IsStop (StringsStop end marks (items_from from items.now))) }
     ensures memory { IfErr result (λ e. e.kind ≡ PoFault.OutOfMemory → e.line ≡ 0) }
 {
     let mut text = Vec::new(alloc);
