@@ -1,7 +1,8 @@
 -- Live entries with one context and msgid (manual, "The Format of PO Files": a msgid may appear twice only under another context).
 use Rattle.std.specs.Prelude.{◌≡◌, ◌⊎◌, List, ◌∷◌, ◌++◌, map, filter, AllPairs}
 use Rattle.po_entry.specs.TextEntry.{TextEntry}
-use Rattle.po_syntax.specs.declared.fault.PoFault.TheVariants.{Duplicate, OutOfMemory}
+use Rattle.po_entry.specs.Validity.{out_of_memory}
+use Rattle.po_syntax.specs.declared.fault.PoFault.TheVariants.{Duplicate}
 use Rattle.po_syntax.specs.declared.fault.PoError.{PoError}
 use Rattle.po_catalog.specs.declared.duplicate.JoinError.{JoinError}
 use Rattle.po_catalog.specs.Joined.{InputEntry, is_live, in_input, entries_of}
@@ -34,11 +35,8 @@ abbrev pub duplicate_error : InputEntry → InputEntry → JoinError
 duplicate_error first later = record { input = later.input; first_input = first.input; error = record { kind = Duplicate first.entry.line; line = later.entry.line } }
 
 -- out of memory, which has no line and no input
-abbrev pub out_of_memory_error : PoError
-out_of_memory_error = record { kind = OutOfMemory; line = 0 }
-
 abbrev pub join_out_of_memory : JoinError
-join_out_of_memory = record { input = 0; first_input = 0; error = out_of_memory_error }
+join_out_of_memory = record { input = 0; first_input = 0; error = out_of_memory }
 
 -- why a joined list is refused: its first duplicate, or out of memory
 abbrev pub IsDuplicateFault : List InputEntry → JoinError → Type 0
@@ -48,5 +46,5 @@ IsDuplicateFault entries error =
 -- why the entries of one catalogue are refused
 abbrev pub IsDuplicateErrorOf : List TextEntry → PoError → Type 0
 IsDuplicateErrorOf entries error =
-    (error ≡ out_of_memory_error)
+    (error ≡ out_of_memory)
     ⊎ ((first later : InputEntry) × IsFirstDuplicate (map (in_input 0) entries) first later × (error ≡ (duplicate_error first later).error))

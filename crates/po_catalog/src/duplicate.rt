@@ -1,8 +1,8 @@
 ghost use Rattle.std.specs.Prelude.{◌≡◌, ◌<◌, ◌^◌, length, MatchResult, IsOkUnless};
-ghost use Rattle.po_syntax.specs.declared.fault.PoFault.TheVariants.{OutOfMemory};
 ghost use Rattle.po_catalog.specs.JoinedView.{input_entries};
 ghost use Rattle.po_catalog.specs.Joined.{joined, joined_entries, entries_of};
-ghost use Rattle.po_catalog.specs.Duplicate.{HasNoDuplicate, IsDuplicateFault, IsDuplicateErrorOf, join_out_of_memory, out_of_memory_error};
+ghost use Rattle.po_catalog.specs.Duplicate.{HasNoDuplicate, IsDuplicateFault, IsDuplicateErrorOf, join_out_of_memory};
+ghost use Rattle.po_entry.specs.Validity.{out_of_memory};
 
 use crate::joining::{JoinedEntry, add_entries, is_live, joined};
 use po_entry::Catalogue;
@@ -24,7 +24,7 @@ pub struct JoinError {
 }
 
 impl From<AllocError> for JoinError {
-    ghost from_gives = { λ _ e. e ≡ record { input = 0; first_input = 0; error = record { kind = OutOfMemory; line = 0 } } };
+    ghost from_gives = { λ _ e. e ≡ join_out_of_memory };
 
     fn from(error: AllocError) -> JoinError {
         JoinError {
@@ -36,7 +36,7 @@ impl From<AllocError> for JoinError {
 }
 
 impl<T: Drop> From<AllocFailed<T>> for JoinError {
-    ghost from_gives = { λ _ e. e ≡ record { input = 0; first_input = 0; error = record { kind = OutOfMemory; line = 0 } } };
+    ghost from_gives = { λ _ e. e ≡ join_out_of_memory };
 
     fn from(error: AllocFailed<T>) -> JoinError {
         JoinError {
@@ -52,7 +52,7 @@ impl<T: Drop> From<AllocFailed<T>> for JoinError {
 /// that repeats one; and where an allocation failed.
 pub fn duplicates(alloc: Global, catalogue: &Catalogue) -> Result<(), PoError>
     ensures exact { MatchResult result (λ _. HasNoDuplicate catalogue.now) (IsDuplicateErrorOf catalogue.now) }
-    ensures only { HasNoDuplicate catalogue.now → IsOkUnless result out_of_memory_error }
+    ensures only { HasNoDuplicate catalogue.now → IsOkUnless result out_of_memory }
 {
     let mut entries = Vec::new(alloc);
     add_entries(&mut entries, catalogue.entries(), 0, false)?;
@@ -67,7 +67,8 @@ pub fn duplicates(alloc: Global, catalogue: &Catalogue) -> Result<(), PoError>
 /// line of the earliest entry that repeats one; and where an allocation failed.
 pub fn joined_duplicates(alloc: Global, catalogues: &[Catalogue]) -> Result<(), JoinError>
     requires { length catalogues.now < 2 ^ 32 }
-    ensures exact { MatchResult result (λ _. HasNoDuplicate (joined_entries catalogues.now)) (IsDuplicateFault (joined catalogues.now)) }
+    ensures exact { MatchResult result (λ _. HasNoDuplicate (joined_entries catalogues.now))
+        (IsDuplicateFault (joined catalogues.now)) }
     ensures only { HasNoDuplicate (joined_entries catalogues.now) → IsOkUnless result join_out_of_memory }
 {
     let entries = joined(alloc, catalogues)?;
@@ -76,7 +77,8 @@ pub fn joined_duplicates(alloc: Global, catalogues: &[Catalogue]) -> Result<(), 
 
 /// Looks for the earliest live entry that repeats an earlier live one.
 fn first_duplicate(alloc: Global, entries: &[JoinedEntry<'_>]) -> Result<(), JoinError>
-    ensures exact { MatchResult result (λ _. HasNoDuplicate (entries_of (input_entries entries.now))) (IsDuplicateFault (input_entries entries.now)) }
+    ensures exact { MatchResult result (λ _. HasNoDuplicate (entries_of (input_entries entries.now)))
+        (IsDuplicateFault (input_entries entries.now)) }
 {
     // A map that compares its keys, so that no choice of msgids makes it slow.
     let mut seen = BTreeMap::new(alloc);

@@ -78,7 +78,8 @@ pub(crate) fn add_entries<'a>(
     input: u32,
     headed: bool,
 ) -> Result<(), AllocError>
-    ensures { OnOk result (input_entries joined.new.items ≡ input_entries joined.old.items ++ map (in_input input) (kept_entries headed entries.now)) }
+    ensures { OnOk result (input_entries joined.new.items
+        ≡ input_entries joined.old.items ++ map (in_input input) (kept_entries headed entries.now)) }
 {
     for entry in entries {
         if !(headed && is_live_header(entry)) {

@@ -1,5 +1,5 @@
 ghost use Rattle.std.specs.Prelude.{◌≡◌, ◌+◌, ◌-◌, ◌<◌, ◌^◌, ◌++◌, IfOk, IfErr, OnOk};
-ghost use Rattle.po_catalog.specs.Duplicate.{out_of_memory_error};
+ghost use Rattle.po_entry.specs.Validity.{out_of_memory};
 ghost use Rattle.po_catalog.specs.Statistics.{stats_of, counted, further, has_translation};
 
 use itoa::Buffer;
@@ -25,7 +25,7 @@ impl Stats {
     /// The line that `--statistics` prints, with its LF. Refused only where an allocation failed.
     pub fn line(&self, alloc: Global) -> Result<Vec<u8>, PoError>
         ensures line { IfOk result (λ line. line.items ≡ stats_line self.now) }
-        ensures memory { IfErr result (λ e. e ≡ out_of_memory_error) }
+        ensures memory { IfErr result (λ e. e ≡ out_of_memory) }
     {
         let mut line = Vec::new(alloc);
         add_count(&mut line, self.translated, b" translated message")?;

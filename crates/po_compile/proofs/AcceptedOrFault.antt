@@ -20,7 +20,7 @@ use Rattle.po_compile.specs.CompiledList.{compiled_list}
 use Rattle.po_compile.specs.Headline.{AcceptedOrFault}
 use Rattle.po_compile.specs.declared.options.Options.{Options}
 use Rattle.po_compile.proofs.HeadlineLemmas.{EntriesCanStand, joined_valid}
-use Rattle.po_compile.proofs.MeaningLemmas.{IsClean, clean_entry}
+use Rattle.po_compile.proofs.MeaningLemmas.{LacksSeparators, entry_lacks_separators}
 use Rattle.po_compile.proofs.ReadingLemmas.{entries_of_input}
 use Rattle.po_compile.proofs.SortLemmas.{compiled_differ, compiled_valid}
 use Rattle.po_compile.proofs.SortedMessages.{messages_exist}
@@ -91,7 +91,7 @@ layout_settled : EntriesCanStand → (options : Options) (texts : List (List ℕ
 layout_settled stand options texts catalogues read =
     let entries = joined_entries catalogues in
     let valid = compiled_valid options.use_fuzzy entries (joined_valid stand 0 false texts catalogues read.each) in
-    let clean = All-weaker IsEntry IsClean clean_entry (compiled_list options.use_fuzzy entries) valid in
+    let clean = All-weaker IsEntry LacksSeparators entry_lacks_separators (compiled_list options.use_fuzzy entries) valid in
     let found = messages_exist (compiled_list options.use_fuzzy entries) clean (compiled_differ options.use_fuzzy entries read.distinct) in
     elim (cases_lt (length (layout options.order found.0)) (2 ^ 32)) [
       | inl small ↦ inl (record { read = read; layout = record { messages = found.0; are_messages = found.1; small = small } })

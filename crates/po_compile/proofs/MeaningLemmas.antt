@@ -30,7 +30,7 @@ optional P None h = tt
 optional P (Some text) h = All-head P text [] h
 
 -- the texts of an entry that stand in its message hold no NUL, and its context and msgid no EOT
-pub record IsClean (entry : TextEntry) : Type 0 where
+pub record LacksSeparators (entry : TextEntry) : Type 0 where
   pub context_nul : IfSome entry.context (Lacks 0)
   pub context_eot : IfSome entry.context (Lacks 4)
   pub id_nul : Lacks 0 entry.id
@@ -39,8 +39,8 @@ pub record IsClean (entry : TextEntry) : Type 0 where
   pub forms_nul : All (Lacks 0) entry.forms
   pub some_form : 0 < length entry.forms
 
-pub clean_entry : (entry : TextEntry) → IsEntry entry → IsClean entry
-clean_entry entry valid =
+pub entry_lacks_separators : (entry : TextEntry) → IsEntry entry → LacksSeparators entry
+entry_lacks_separators entry valid =
     let NoNul : List ℕ → Type 0 = Lacks 0 in
     let all : All NoNul (quoted_texts entry) = All-weaker IsText NoNul (λ text t. t.no_nul) (quoted_texts entry) valid.quoted_texts in
     let before_context = previous_texts entry.previous in
@@ -59,7 +59,7 @@ clean_entry entry valid =
       some_form = valid.some_form;
     }
 
-pub key_of-original : (entry : TextEntry) → IsClean entry → key_of (original_of entry) ≡ query_key entry.context entry.id
+pub key_of-original : (entry : TextEntry) → LacksSeparators entry → key_of (original_of entry) ≡ query_key entry.context entry.id
 key_of-original entry clean =
     key_of-plural_part (query_key entry.context entry.id) entry.plural (query_key_lacks entry.context entry.id clean.context_nul clean.id_nul)
 
@@ -67,7 +67,7 @@ some_forms : (all : List (List ℕ)) → 0 < length all → All (Lacks 0) all �
 some_forms [] some lacks = absurd (omega arith)
 some_forms (form ∷ others) some lacks = slice_split-join form others lacks
 
-pub forms-translation : (entry : TextEntry) → IsClean entry → forms (translation_of entry) ≡ entry.forms
+pub forms-translation : (entry : TextEntry) → LacksSeparators entry → forms (translation_of entry) ≡ entry.forms
 forms-translation entry clean = some_forms entry.forms clean.some_form clean.forms_nul
 
 either_false : (a b : Bool) → (a || b) ≡ false → (a ≡ false) × (b ≡ false)
@@ -104,7 +104,7 @@ option_decides (Some x) None = (λ h. cc, λ h. cc)
 option_decides (Some x) (Some y) = Decides-like (bytes_eq x y) (λ e. ap Some e) (λ e. cc) (bytes_eq-Decides x y)
 
 -- the message of an entry stands under a clean key exactly where the entry has its context and msgid
-same_test : (context : Option (List ℕ)) (id : List ℕ) → is_clean_key context id ≡ true → (entry : TextEntry) → IsClean entry
+same_test : (context : Option (List ℕ)) (id : List ℕ) → is_clean_key context id ≡ true → (entry : TextEntry) → LacksSeparators entry
     → has_key (query_key context id) (message_of entry) ≡ is_message context id entry
 same_test context id clean entry c =
     let parts = both (is_clean (unwrap_or context [])) (is_clean id) clean in
@@ -120,18 +120,18 @@ found_message : (b : Bool) (entry : TextEntry) (rest : Option TextEntry) → con
 found_message true entry rest = refl
 found_message false entry rest = refl
 
-find_messages : (context : Option (List ℕ)) (id : List ℕ) → is_clean_key context id ≡ true → (entries : List TextEntry) → All IsClean entries
+find_messages : (context : Option (List ℕ)) (id : List ℕ) → is_clean_key context id ≡ true → (entries : List TextEntry) → All LacksSeparators entries
     → find (has_key (query_key context id)) (messages_of_entries entries) ≡ option_map message_of (find (is_message context id) entries)
 find_messages context id clean [] all = refl
 find_messages context id clean (entry ∷ entries) all =
-    let same = same_test context id clean entry (All-head IsClean entry entries all) in
-    let rest = find_messages context id clean entries (All-tail IsClean entry entries all) in
+    let same = same_test context id clean entry (All-head LacksSeparators entry entries all) in
+    let rest = find_messages context id clean entries (All-tail LacksSeparators entry entries all) in
     ap (λ b. cond b (Some (message_of entry)) (find (has_key (query_key context id)) (messages_of_entries entries))) same
     ∙ ap (λ r. cond (is_message context id entry) (Some (message_of entry)) r) rest
     ∙ found_message (is_message context id entry) entry (find (is_message context id) entries)
 
 -- the translation under a clean key is that of the entry that the key defines
-translation_of_definition : (entries : List TextEntry) (messages : List Message) → All IsClean entries → AreMessagesOf entries messages
+translation_of_definition : (entries : List TextEntry) (messages : List Message) → All LacksSeparators entries → AreMessagesOf entries messages
     → (context : Option (List ℕ)) (id : List ℕ) → is_clean_key context id ≡ true
     → translation_under (query_key context id) messages ≡ option_map translation_of (find (is_message context id) entries)
 translation_of_definition entries messages all are context id clean =
@@ -144,23 +144,23 @@ translation_of_definition entries messages all are context id clean =
     once_more (Some e) = refl
 
 -- what holds of each entry holds of the one that is found
-forms_of_found : (entries : List TextEntry) (test : TextEntry → Bool) → All IsClean entries → (found : Option TextEntry) → find test entries ≡ found
+forms_of_found : (entries : List TextEntry) (test : TextEntry → Bool) → All LacksSeparators entries → (found : Option TextEntry) → find test entries ≡ found
     → option_map forms (option_map translation_of found) ≡ option_map (λ (e : TextEntry). e.forms) found
 forms_of_found entries test all None is = refl
 forms_of_found entries test all (Some e) is =
-    ap Some (forms-translation e (All-contains IsClean entries e all (find_found test entries e is).among))
+    ap Some (forms-translation e (All-contains LacksSeparators entries e all (find_found test entries e is).among))
 
 form_at_first : (all : List (List ℕ)) → form_at all 0 ≡ first_form all
 form_at_first [] = refl
 form_at_first (form ∷ others) = refl
 
-header_of_found : (entries : List TextEntry) (test : TextEntry → Bool) → All IsClean entries → (found : Option TextEntry) → find test entries ≡ found
+header_of_found : (entries : List TextEntry) (test : TextEntry → Bool) → All LacksSeparators entries → (found : Option TextEntry) → find test entries ≡ found
     → option_map_or (λ t. form_at (forms t) 0) (option_map translation_of found) [] ≡ option_map_or (λ (e : TextEntry). first_form e.forms) found []
 header_of_found entries test all None is = refl
 header_of_found entries test all (Some e) is =
-    ap (λ all. form_at all 0) (forms-translation e (All-contains IsClean entries e all (find_found test entries e is).among)) ∙ form_at_first e.forms
+    ap (λ all. form_at all 0) (forms-translation e (All-contains LacksSeparators entries e all (find_found test entries e is).among)) ∙ form_at_first e.forms
 
-found_if_clean : (entries : List TextEntry) (messages : List Message) → All IsClean entries → AreMessagesOf entries messages
+found_if_clean : (entries : List TextEntry) (messages : List Message) → All LacksSeparators entries → AreMessagesOf entries messages
     → (query : Query) (b : Bool) → is_clean_key query.context query.id ≡ b
     → cond b (option_map forms (translation_under (query_key query.context query.id) messages)) None
     ≡ option_map (λ (e : TextEntry). e.forms) (cond b (find (is_message query.context query.id) entries) None)
@@ -169,14 +169,14 @@ found_if_clean entries messages all are query true clean =
     ∙ forms_of_found entries (is_message query.context query.id) all (find (is_message query.context query.id) entries) refl
 found_if_clean entries messages all are query false clean = refl
 
-header_text_is : (entries : List TextEntry) (messages : List Message) → All IsClean entries → AreMessagesOf entries messages → header_text messages ≡ header_of entries
+header_text_is : (entries : List TextEntry) (messages : List Message) → All LacksSeparators entries → AreMessagesOf entries messages → header_text messages ≡ header_of entries
 header_text_is entries messages all are =
     ap (λ t. option_map_or (λ t. form_at (forms t) 0) t []) (translation_of_definition entries messages all are None [] refl)
     ∙ header_of_found entries (is_message None []) all (find (is_message None []) entries) refl
 
 pub mean_entries : MessagesMeanEntries
 mean_entries entries messages valid are =
-    let all : All IsClean entries = All-weaker IsEntry IsClean clean_entry entries valid in
+    let all : All LacksSeparators entries = All-weaker IsEntry LacksSeparators entry_lacks_separators entries valid in
     record {
       rule = λ rule contents. subst (λ text. IsRuleOf expression_limit text rule) (header_text_is entries messages all are) contents.rule_of_header;
       answers = λ rule query. ap (λ found. answer found rule query) (found_if_clean entries messages all are query (is_clean_key query.context query.id) refl);

@@ -20,7 +20,7 @@ use Rattle.po_entry.specs.Validity.{IsEntry}
 use Rattle.po_compile.specs.CompiledMessages.{plural_part, original_of, message_of, messages_of_entries}
 use Rattle.po_compile.specs.Parts.{MessagesHaveParts, MessagesDiffer}
 use Rattle.po_compile.proofs.FindLemmas.{rising_differ}
-use Rattle.po_compile.proofs.MeaningLemmas.{IsClean, clean_entry, key_of-original, forms-translation}
+use Rattle.po_compile.proofs.MeaningLemmas.{LacksSeparators, entry_lacks_separators, key_of-original, forms-translation}
 use Rattle.po_compile.proofs.TextLemmas.{query_key_lacks}
 
 lacks_nul : (text : List ℕ) → Lacks 0 text → All (λ b. is_nul b ≡ false) text
@@ -33,7 +33,7 @@ second_piece key (Some plural) lacks some =
 
 pub messages_have_parts : MessagesHaveParts
 messages_have_parts entry valid =
-    let clean = clean_entry entry valid in
+    let clean = entry_lacks_separators entry valid in
     record {
       key = key_of-original entry clean;
       plural = second_piece (query_key entry.context entry.id) entry.plural (query_key_lacks entry.context entry.id clean.context_nul clean.id_nul) clean.plural_nul;
@@ -47,7 +47,7 @@ rising_distinct ks rising i j d below inside same =
 
 pub messages_differ : MessagesDiffer
 messages_differ entries messages valid are =
-    let all : All IsClean entries = All-weaker IsEntry IsClean clean_entry entries valid in
+    let all : All LacksSeparators entries = All-weaker IsEntry LacksSeparators entry_lacks_separators entries valid in
     let key : Message → List ℕ = λ m. key_of m.original in
     let ks = keys (messages_of_entries entries) in
     let distinct = AllPairs-from_IsDistinct bytes_eq-Decides ks

@@ -11,7 +11,8 @@ use Rattle.po_entry.specs.TextEntry.{TextEntry, slice_texts}
 use Rattle.po_catalog.specs.Joined.{joined, joined_entries, entries_of, in_input}
 use Rattle.po_compile.specs.Compiling.{IsLayoutFault}
 use Rattle.po_compile.specs.declared.options.Options.{Options}
-use Rattle.po_catalog.specs.Duplicate.{HasNoDuplicate, IsDuplicateFault, out_of_memory_error}
+use Rattle.po_catalog.specs.Duplicate.{HasNoDuplicate, IsDuplicateFault}
+use Rattle.po_entry.specs.Validity.{out_of_memory}
 use Rattle.po_catalog.specs.declared.duplicate.JoinError.{JoinError}
 use Rattle.po_compile.specs.Accepted.{ReadsDistinct, AreRead, IsTextFault, IsReadingFault, IsCompileFault, fault_input, fault_of_input, fault_of_only_input}
 
@@ -61,7 +62,7 @@ module _ (texts : List (Bor (List ℕ))) (i : ℕ) (text : Bor (List ℕ)) (insi
       ∙ ap (λ (t : Bor (List ℕ)). slice_texts (take i texts) ++ t.now ∷ slice_texts (drop (suc i) texts)) (sym here)
 
   pub refused_input : (catalogues : List (List TextEntry)) (error : PoError) → AllZip ReadsDistinct (slice_texts (take i texts)) catalogues
-      → (error ≡ out_of_memory_error) ⊎ ((error.kind ≢ OutOfMemory) × IsTextFault text.now error) → IsReadingFault (slice_texts texts) (fault_of_input i error)
+      → (error ≡ out_of_memory) ⊎ ((error.kind ≢ OutOfMemory) × IsTextFault text.now error) → IsReadingFault (slice_texts texts) (fault_of_input i error)
   refused_input catalogues error each why =
       ⊎_elim (λ memory. inl (ap (fault_of_input i) memory))
       (λ fault.
@@ -121,7 +122,7 @@ module _ (text : List ℕ) where
       record { each = (reads, tt); distinct = subst HasNoDuplicate (sym (joined_one entries)) reads.distinct }
 
   -- why one text isn't read
-  pub only_refused : (options : Options) (error : PoError) → (error ≡ out_of_memory_error) ⊎ ((error.kind ≢ OutOfMemory) × IsTextFault text error)
+  pub only_refused : (options : Options) (error : PoError) → (error ≡ out_of_memory) ⊎ ((error.kind ≢ OutOfMemory) × IsTextFault text error)
       → IsCompileFault options (text ∷ []) (fault_of_only_input error)
   only_refused options error why =
       ⊎_elim (λ memory. inl (inl (ap fault_of_only_input memory)))

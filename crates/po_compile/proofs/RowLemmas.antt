@@ -26,7 +26,7 @@ use Rattle.po_compile.specs.declared.row.Row.{Row}
 use Rattle.po_compile.specs.CompiledList.{is_compiled, compiled_list}
 use Rattle.po_compile.specs.CompiledMessages.{AreMessagesOf, message_of, messages_of_entries, original_of}
 use Rattle.po_compile.proofs.FilteredMoves.{IsPermutation-filter}
-use Rattle.po_compile.proofs.MeaningLemmas.{IsClean, clean_entry, key_of-original}
+use Rattle.po_compile.proofs.MeaningLemmas.{LacksSeparators, entry_lacks_separators, key_of-original}
 
 abbrev pub key_view : LiveMessage → List ℕ
 key_view m = m.key
@@ -107,7 +107,7 @@ live_keyed : (use_fuzzy : Bool) (entries : List TextEntry) → All IsCatalogueEn
 live_keyed use_fuzzy entries valid =
     let live : All IsCatalogueEntry (filter is_live entries) = All-filter is_live IsCatalogueEntry entries valid in
     All-map IsKeyed (live_message use_fuzzy) (filter is_live entries)
-    (All-weaker IsCatalogueEntry (λ entry. IsKeyed (live_message use_fuzzy entry)) (λ entry v. key_of-original entry (clean_entry entry v.valid)) (filter is_live entries) live)
+    (All-weaker IsCatalogueEntry (λ entry. IsKeyed (live_message use_fuzzy entry)) (λ entry v. key_of-original entry (entry_lacks_separators entry v.valid)) (filter is_live entries) live)
 
 -- the compiled ones of the sorted rows
 pub kept_messages : (use_fuzzy : Bool) (entries : List TextEntry) (sorted : List LiveMessage) → All IsCatalogueEntry entries → IsPermutation (map (live_message use_fuzzy) (filter is_live entries)) sorted

@@ -21,23 +21,23 @@ use Rattle.po_catalog.specs.Joined.{is_live}
 use Rattle.po_catalog.specs.Duplicate.{IsSameMessage, AllDiffer, HasNoDuplicate}
 use Rattle.po_compile.specs.Collected.{live_message, row_view}
 use Rattle.po_compile.specs.declared.row.Row.{Row}
-use Rattle.po_compile.proofs.MeaningLemmas.{IsClean, clean_entry}
+use Rattle.po_compile.proofs.MeaningLemmas.{LacksSeparators, entry_lacks_separators}
 use Rattle.po_compile.proofs.RowLemmas.{key_view, key_of_entry, key_of_live, keys_of_rows}
 use Rattle.po_compile.proofs.TextLemmas.{query_key_is_one}
 
 abbrev key : Row → List ℕ
 key row = row.key.now
 
-differ_keys : (e f : TextEntry) → IsClean e → IsClean f → ¬ IsSameMessage e f → key_of_entry e ≢ key_of_entry f
+differ_keys : (e f : TextEntry) → LacksSeparators e → LacksSeparators f → ¬ IsSameMessage e f → key_of_entry e ≢ key_of_entry f
 differ_keys e f ce cf apart same = apart (query_key_is_one e.context f.context e.id f.id ce.context_eot cf.context_eot ce.id_eot cf.id_eot same)
 
 -- entries of different messages have different keys
-entry_keys : (entries : List TextEntry) → All IsClean entries → AllDiffer entries → AllPairs (λ k l. k ≢ l) (map key_of_entry entries)
+entry_keys : (entries : List TextEntry) → All LacksSeparators entries → AllDiffer entries → AllPairs (λ k l. k ≢ l) (map key_of_entry entries)
 entry_keys [] clean differ = λ i j d below inside. absurd (omega arith)
 entry_keys (entry ∷ entries) clean differ =
-    let others = entry_keys entries (All-tail IsClean entry entries clean) (λ i j d below inside. differ (suc i) (suc j) d (omega arith) (omega arith)) in
+    let others = entry_keys entries (All-tail LacksSeparators entry entries clean) (λ i j d below inside. differ (suc i) (suc j) d (omega arith) (omega arith)) in
     let apart : All (λ f. key_of_entry entry ≢ key_of_entry f) entries =
-    λ k d inside. differ_keys entry (get_or entries k d) (All-head IsClean entry entries clean) (clean (suc k) d (omega arith)) (differ zero (suc k) d (omega arith) (omega arith)) in
+    λ k d inside. differ_keys entry (get_or entries k d) (All-head LacksSeparators entry entries clean) (clean (suc k) d (omega arith)) (differ zero (suc k) d (omega arith) (omega arith)) in
     AllPairs-cons (λ k l. k ≢ l) (key_of_entry entry) (map key_of_entry entries) (All-map (λ l. key_of_entry entry ≢ l) key_of_entry entries apart) others
 
 first_row : (rows : List Row) → 0 < length rows → Row
@@ -69,7 +69,7 @@ pub rows_rise : (use_fuzzy : Bool) (entries : List TextEntry) (rows sorted : Lis
     → IsPermutation rows sorted → IsSortedBy (λ (a b : Row). is_lt (key_cmp a.key.now b.key.now)) sorted → HasNoDuplicate entries → AreRising (map (λ (r : Row). r.key.now) sorted)
 rows_rise use_fuzzy entries rows sorted valid made permuted in_order none =
     let live = filter is_live entries in
-    let clean : All IsClean live = All-weaker IsCatalogueEntry IsClean (λ e v. clean_entry e v.valid) live (All-filter is_live IsCatalogueEntry entries valid) in
+    let clean : All LacksSeparators live = All-weaker IsCatalogueEntry LacksSeparators (λ e v. entry_lacks_separators e v.valid) live (All-filter is_live IsCatalogueEntry entries valid) in
     let keys_before : map key rows ≡ map key_of_entry live = sym (keys_of_rows rows) ∙ ap (map key_view) made ∙ key_of_live use_fuzzy live in
     let before : AllPairs (λ k l. k ≢ l) (map key rows) = subst (λ (ks : List (List ℕ)). AllPairs (λ k l. k ≢ l) ks) (sym keys_before) (entry_keys live clean none) in
     let distinct : AllPairs (λ k l. k ≢ l) (map key sorted) =

@@ -39,7 +39,7 @@ use Rattle.po_catalog.specs.Duplicate.{IsSameMessage, AllDiffer, HasNoDuplicate}
 use Rattle.po_compile.specs.CompiledList.{is_compiled, compiled_list}
 use Rattle.po_compile.specs.CompiledMessages.{plural_part, original_of, message_of, messages_of_entries, AreMessagesOf}
 use Rattle.po_compile.proofs.TextLemmas.{query_key_lacks, query_key_is_one}
-use Rattle.po_compile.proofs.MeaningLemmas.{IsClean, clean_entry, key_of-original}
+use Rattle.po_compile.proofs.MeaningLemmas.{LacksSeparators, entry_lacks_separators, key_of-original}
 
 -- the original of a message is its key, and perhaps a NUL and a plural
 record IsKeyed (m : Message) : Type 0 where
@@ -49,7 +49,7 @@ record IsKeyed (m : Message) : Type 0 where
   no_nul : Lacks 0 key
   key_is : key_of m.original ≡ key
 
-keyed : (entry : TextEntry) → IsClean entry → IsKeyed (message_of entry)
+keyed : (entry : TextEntry) → LacksSeparators entry → IsKeyed (message_of entry)
 keyed entry clean = record {
   key = query_key entry.context entry.id;
   plural = entry.plural;
@@ -105,18 +105,18 @@ keys_rise a b ka kb apart up =
     ∙ nat_list_cmp_total.antisymm ka.key kb.key ∙ ap ordering_reverse greater
 
 -- entries of different messages have different keys
-pub keys_differ : (e f : TextEntry) → IsClean e → IsClean f → ¬ IsSameMessage e f → key_of (original_of e) ≢ key_of (original_of f)
+pub keys_differ : (e f : TextEntry) → LacksSeparators e → LacksSeparators f → ¬ IsSameMessage e f → key_of (original_of e) ≢ key_of (original_of f)
 keys_differ e f ce cf apart same =
     apart (query_key_is_one e.context f.context e.id f.id ce.context_eot cf.context_eot ce.id_eot cf.id_eot
     (sym (key_of-original e ce) ∙ same ∙ key_of-original f cf))
 
-distinct_keys : (entries : List TextEntry) → All IsClean entries → AllDiffer entries → AllPairs (λ x y. x ≢ y) (keys (messages_of_entries entries))
+distinct_keys : (entries : List TextEntry) → All LacksSeparators entries → AllDiffer entries → AllPairs (λ x y. x ≢ y) (keys (messages_of_entries entries))
 distinct_keys [] clean differ = λ i j d below inside. absurd (omega arith)
 distinct_keys (entry ∷ entries) clean differ =
     let key : Message → List ℕ = λ m. key_of m.original in
-    let others = distinct_keys entries (All-tail IsClean entry entries clean) (λ i j d below inside. differ (suc i) (suc j) d (omega arith) (omega arith)) in
+    let others = distinct_keys entries (All-tail LacksSeparators entry entries clean) (λ i j d below inside. differ (suc i) (suc j) d (omega arith) (omega arith)) in
     let apart : All (λ f. key_of (original_of entry) ≢ key_of (original_of f)) entries =
-    λ k d inside. keys_differ entry (get_or entries k d) (All-head IsClean entry entries clean) (clean (suc k) d (omega arith)) (differ zero (suc k) d (omega arith) (omega arith)) in
+    λ k d inside. keys_differ entry (get_or entries k d) (All-head LacksSeparators entry entries clean) (clean (suc k) d (omega arith)) (differ zero (suc k) d (omega arith) (omega arith)) in
     AllPairs-cons (λ x y. x ≢ y) (key_of (original_of entry)) (keys (messages_of_entries entries))
     (All-map (λ y. key_of (original_of entry) ≢ y) key (messages_of_entries entries) (All-map (λ m. key_of (original_of entry) ≢ key m) message_of entries apart)) others
 
@@ -131,7 +131,7 @@ key_at_pair pairs i x inside =
     ∙ get_or-map key (messages_of_pairs pairs) i (message x) ∙ ap key (get_or-map message pairs i x)
 
 -- the sorted messages of entries
-pub sorted_messages : (entries : List TextEntry) (before after : List Pair) → All IsClean entries → AllDiffer entries
+pub sorted_messages : (entries : List TextEntry) (before after : List Pair) → All LacksSeparators entries → AllDiffer entries
     → messages_of_pairs before ≡ messages_of_entries entries → IsPermutation before after
     → IsSortedBy (λ (a b : Pair). is_lt (key_cmp a.original.items b.original.items)) after → AreMessagesOf entries (messages_of_pairs after)
 sorted_messages entries before after clean differ is permuted sorted =
@@ -143,7 +143,7 @@ sorted_messages entries before after clean differ is permuted sorted =
     (IsPermutation-map key (messages_of_entries entries) (messages_of_pairs after) all)
     (IsDistinct-from_AllPairs bytes_eq-Decides (keys (messages_of_entries entries)) (distinct_keys entries clean differ))) in
     let keyed_all : All IsKeyed (messages_of_pairs after) =
-    All-permutation IsKeyed (messages_of_entries entries) (messages_of_pairs after) all (All-map IsKeyed message_of entries (All-weaker IsClean (λ e. IsKeyed (message_of e)) keyed entries clean)) in
+    All-permutation IsKeyed (messages_of_entries entries) (messages_of_pairs after) all (All-map IsKeyed message_of entries (All-weaker LacksSeparators (λ e. IsKeyed (message_of e)) keyed entries clean)) in
     record {
       all = all;
       rising = record {
@@ -203,7 +203,7 @@ pub compiled_messages : (use_fuzzy : Bool) (entries : List TextEntry) (before af
     → IsSortedBy (λ (a b : Pair). is_lt (key_cmp a.original.items b.original.items)) after → AreMessagesOf (compiled_list use_fuzzy entries) (messages_of_pairs after)
 compiled_messages use_fuzzy entries before after valid none is permuted sorted =
     sorted_messages (compiled_list use_fuzzy entries) before after
-    (All-weaker IsEntry IsClean clean_entry (compiled_list use_fuzzy entries) (compiled_valid use_fuzzy entries valid)) (compiled_differ use_fuzzy entries none) is permuted sorted
+    (All-weaker IsEntry LacksSeparators entry_lacks_separators (compiled_list use_fuzzy entries) (compiled_valid use_fuzzy entries valid)) (compiled_differ use_fuzzy entries none) is permuted sorted
 
 -- the faults of a file that isn't built of sorted messages
 pub layout_refused : (options : Options) (entries : List TextEntry) (messages : List Message) → AreMessagesOf (compiled_list options.use_fuzzy entries) messages

@@ -12,7 +12,7 @@ use Rattle.mo_file.specs.Key.{key_at, key_cmp, key_of, keys}
 use Rattle.po_entry.specs.TextEntry.{TextEntry}
 use Rattle.po_catalog.specs.Duplicate.{AllDiffer}
 use Rattle.po_compile.specs.CompiledMessages.{original_of, message_of, messages_of_entries, AreMessagesOf}
-use Rattle.po_compile.proofs.MeaningLemmas.{IsClean}
+use Rattle.po_compile.proofs.MeaningLemmas.{LacksSeparators}
 use Rattle.po_compile.proofs.OneListLemmas.{IsBelow}
 use Rattle.po_compile.proofs.SortLemmas.{keys_differ}
 
@@ -47,13 +47,13 @@ insert_rising m (n ∷ ns) apart rises =
     let Apart : Message → Type 0 = λ x. key_of m.original ≢ key_of x.original in
     insert_by_order m n ns (All-head Apart n ns apart) rises (insert_rising m ns (All-tail Apart n ns apart) rises.1) (key_cmp (key_of m.original) (key_of n.original)) refl
 
-messages_rise : (entries : List TextEntry) → All IsClean entries → AllDiffer entries → (messages : List Message) × IsPermutation (messages_of_entries entries) messages × Rises messages
+messages_rise : (entries : List TextEntry) → All LacksSeparators entries → AllDiffer entries → (messages : List Message) × IsPermutation (messages_of_entries entries) messages × Rises messages
 messages_rise [] clean differ = ([], IsPermutation-refl [], tt)
 messages_rise (entry ∷ entries) clean differ =
-    let later = messages_rise entries (All-tail IsClean entry entries clean) (λ i j d below inside. differ (suc i) (suc j) d (omega arith) (omega arith)) in
+    let later = messages_rise entries (All-tail LacksSeparators entry entries clean) (λ i j d below inside. differ (suc i) (suc j) d (omega arith) (omega arith)) in
     let Apart : Message → Type 0 = λ m. key_of (original_of entry) ≢ key_of m.original in
     let others : All (λ e. Apart (message_of e)) entries =
-    λ k d inside. keys_differ entry (get_or entries k d) (All-head IsClean entry entries clean) (clean (suc k) d (omega arith)) (differ zero (suc k) d (omega arith) (omega arith)) in
+    λ k d inside. keys_differ entry (get_or entries k d) (All-head LacksSeparators entry entries clean) (clean (suc k) d (omega arith)) (differ zero (suc k) d (omega arith) (omega arith)) in
     let apart = All-permutation Apart (messages_of_entries entries) later.0 later.1 (All-map Apart message_of entries others) in
     let all = insert_rising (message_of entry) later.0 apart later.2 in (
       all.0,
@@ -68,7 +68,7 @@ next_rises (m ∷ n ∷ ms) zero rises inside = All-head (IsBelow m) n ms rises.
 next_rises (m ∷ n ∷ ms) (suc i) rises inside = next_rises (n ∷ ms) i rises.1 (omega arith)
 
 -- entries of different messages have their messages in rising order
-pub messages_exist : (entries : List TextEntry) → All IsClean entries → AllDiffer entries → (messages : List Message) × AreMessagesOf entries messages
+pub messages_exist : (entries : List TextEntry) → All LacksSeparators entries → AllDiffer entries → (messages : List Message) × AreMessagesOf entries messages
 messages_exist entries clean differ =
     let found = messages_rise entries clean differ in
     (found.0, record { all = found.1; rising = record { next = λ i inside. rw add-one (next_rises found.0 i found.2 (omega arith)) } })

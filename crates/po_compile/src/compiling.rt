@@ -1,7 +1,8 @@
 ghost use Rattle.std.specs.Prelude.{◌≡◌, ◌≢◌, ◌⊎◌, ◌<◌, ◌^◌, [], ◌∷◌, List, length, IfOk, IfErr, IfSome, MatchResult};
 ghost use Rattle.po_entry.specs.TextEntry.{TextEntry, slice_texts};
 ghost use Rattle.po_catalog.specs.Joined.{joined_entries};
-ghost use Rattle.po_catalog.specs.Duplicate.{HasNoDuplicate, out_of_memory_error};
+ghost use Rattle.po_catalog.specs.Duplicate.{HasNoDuplicate};
+ghost use Rattle.po_entry.specs.Validity.{out_of_memory};
 ghost use Rattle.po_compile.specs.Collected.{HoldsEntries, IsLargeText, ReadsLive};
 ghost use Rattle.po_compile.specs.Accepted.{AreCompiled, IsCompileFault, fault_of_only_input};
 ghost use Rattle.po_compile.specs.Compiling.{IsCompilation, IsLayoutFault, IsLayoutError};
@@ -91,7 +92,7 @@ fn compile_collected(
 ) -> Result<Option<Compiled>, PoError>
     requires { (entries : List TextEntry) × HoldsEntries options.use_fuzzy entries collected.now }
     ensures found { IfOk result (λ found. IfSome found (λ compiled. (entries : List TextEntry) → HoldsEntries options.use_fuzzy entries collected.now → HasNoDuplicate entries × IsCompilation options entries compiled)) }
-    ensures fault { IfErr result (λ e. (e ≡ out_of_memory_error) ⊎ ((entries : List TextEntry) → HoldsEntries options.use_fuzzy entries collected.now → IsLargeText options entries e)) }
+    ensures fault { IfErr result (λ e. (e ≡ out_of_memory) ⊎ ((entries : List TextEntry) → HoldsEntries options.use_fuzzy entries collected.now → IsLargeText options entries e)) }
 {
     let Some(pairs) = sorted_pairs(alloc, collected)? else {
         return Ok(None);

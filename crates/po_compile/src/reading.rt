@@ -1,6 +1,6 @@
 ghost use Rattle.std.specs.Prelude.{◌≡◌, ◌≢◌, ◌⊎◌, ◌<◌, ◌^◌, length, MatchResult};
 ghost use Rattle.po_entry.specs.TextEntry.{slice_texts};
-ghost use Rattle.po_catalog.specs.Duplicate.{out_of_memory_error};
+ghost use Rattle.po_entry.specs.Validity.{out_of_memory};
 ghost use Rattle.po_compile.specs.Accepted.{AreRead, fault_of_input, IsReadingFault, IsTextFault, ReadsDistinct};
 
 use po_catalog::{JoinError, duplicates, joined_duplicates};
@@ -33,7 +33,7 @@ pub fn read_all(alloc: Global, texts: &[&[u8]]) -> Result<Vec<Catalogue>, JoinEr
 /// The catalogue of a text, in which no live entry repeats an earlier one. Refused with the fault of `read`, then of
 /// `duplicates`; `OutOfMemory`, without a line, may come in place of any answer.
 pub fn read_distinct(alloc: Global, text: &[u8]) -> Result<Catalogue, PoError>
-    ensures { MatchResult result (ReadsDistinct text.now) (λ e. (e ≡ out_of_memory_error) ⊎ ((e.kind ≢ PoFault.OutOfMemory) × IsTextFault text.now e)) }
+    ensures { MatchResult result (ReadsDistinct text.now) (λ e. (e ≡ out_of_memory) ⊎ ((e.kind ≢ PoFault.OutOfMemory) × IsTextFault text.now e)) }
 {
     let catalogue = read(alloc, text)?;
     duplicates(alloc, &catalogue)?;
@@ -42,7 +42,7 @@ pub fn read_distinct(alloc: Global, text: &[u8]) -> Result<Catalogue, PoError>
 
 /// The same of a text that is read in one piece.
 pub(crate) fn read_whole_distinct(alloc: Global, text: &[u8]) -> Result<Catalogue, PoError>
-    ensures { MatchResult result (ReadsDistinct text.now) (λ e. (e ≡ out_of_memory_error) ⊎ ((e.kind ≢ PoFault.OutOfMemory) × IsTextFault text.now e)) }
+    ensures { MatchResult result (ReadsDistinct text.now) (λ e. (e ≡ out_of_memory) ⊎ ((e.kind ≢ PoFault.OutOfMemory) × IsTextFault text.now e)) }
 {
     let whole = read_whole(alloc, text)?;
     duplicates(alloc, &whole)?;

@@ -14,7 +14,7 @@ use Rattle.po_entry.specs.Comments.{same_kind, texts_of, listed_references, list
 use Rattle.po_entry.specs.Validity.{HasTexts, IsTranslatorComment, IsReference}
 use Rattle.po_entry.specs.Spelling.{entry_from}
 use Rattle.po_syntax.specs.ItemContents.{IsComment}
-use Rattle.po_reader.specs.Bare.{kept_comments, kept_entry, without_comments}
+use Rattle.po_reader.specs.KeptComments.{kept_comments, kept_entry, without_comments}
 use Rattle.po_reader.proofs.SoundCatalogue.{SoundEntry}
 
 abbrev is_flags : CommentText → Bool
@@ -83,9 +83,9 @@ pub whole_reads : (items : List TextItem) (entries made : List TextEntry) → Re
 whole_reads items entries made reads is = subst (Reads items) (sym (is ∙ all_kept entries)) reads
 
 -- without their comments, sound entries are sound
-pub bare_sound : (entries : List TextEntry) → All SoundEntry entries → All SoundEntry (map without_comments entries)
-bare_sound [] h = All-nil SoundEntry
-bare_sound (entry ∷ entries) h =
+pub sound_without_comments : (entries : List TextEntry) → All SoundEntry entries → All SoundEntry (map without_comments entries)
+sound_without_comments [] h = All-nil SoundEntry
+sound_without_comments (entry ∷ entries) h =
     let first : SoundEntry entry = All-head SoundEntry entry entries h in
     All-cons SoundEntry (without_comments entry) (map without_comments entries) (record {
       comments = All-nil IsTranslatorComment;
@@ -95,19 +95,19 @@ bare_sound (entry ∷ entries) h =
       distinct_flags = first.distinct_flags;
       some_form = first.some_form;
       one_form = first.one_form;
-    }) (bare_sound entries (All-tail SoundEntry entry entries h))
+    }) (sound_without_comments entries (All-tail SoundEntry entry entries h))
 
 -- entries that can have their texts without their comments
-pub bare_texts : (entries : List TextEntry) → All HasTexts (map without_comments entries) → All HasTexts entries
-bare_texts [] h = All-nil HasTexts
-bare_texts (entry ∷ entries) h =
+pub texts_without_comments : (entries : List TextEntry) → All HasTexts (map without_comments entries) → All HasTexts entries
+texts_without_comments [] h = All-nil HasTexts
+texts_without_comments (entry ∷ entries) h =
     let first : HasTexts (without_comments entry) = All-head HasTexts (without_comments entry) (map without_comments entries) h in
     All-cons HasTexts entry entries (record { utf8 = first.utf8; clean = record { no_nul = first.clean.no_nul; context = first.clean.context; id = first.clean.id } })
-    (bare_texts entries (All-tail HasTexts (without_comments entry) (map without_comments entries) h))
+    (texts_without_comments entries (All-tail HasTexts (without_comments entry) (map without_comments entries) h))
 
 -- headers whose charsets are admitted without their comments
-pub bare_admitted : (entries : List TextEntry) → All HasAdmittedCharset (map without_comments entries) → All HasAdmittedCharset entries
-bare_admitted [] h = All-nil HasAdmittedCharset
-bare_admitted (entry ∷ entries) h =
+pub admitted_without_comments : (entries : List TextEntry) → All HasAdmittedCharset (map without_comments entries) → All HasAdmittedCharset entries
+admitted_without_comments [] h = All-nil HasAdmittedCharset
+admitted_without_comments (entry ∷ entries) h =
     All-cons HasAdmittedCharset entry entries (All-head HasAdmittedCharset (without_comments entry) (map without_comments entries) h)
-    (bare_admitted entries (All-tail HasAdmittedCharset (without_comments entry) (map without_comments entries) h))
+    (admitted_without_comments entries (All-tail HasAdmittedCharset (without_comments entry) (map without_comments entries) h))

@@ -8,7 +8,7 @@ pub mod Viable
 pub mod ReaderView
 pub mod HeadView
 pub mod Faults
-pub mod Bare
+pub mod KeptComments
 pub mod ItemsRead
 pub mod Refusals
 pub mod MetFlags

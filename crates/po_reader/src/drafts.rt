@@ -5,7 +5,7 @@ ghost use Rattle.po_entry.specs.Parts.{CommentText, PreviousText};
 ghost use Rattle.po_reader.specs.Reads.{Reads};
 ghost use Rattle.po_entry.specs.Spelling.{entry_from};
 ghost use Rattle.po_entry.specs.TextEntry.{TextEntry};
-ghost use Rattle.po_reader.specs.Bare.{kept_entry};
+ghost use Rattle.po_reader.specs.KeptComments.{kept_entry};
 ghost use Rattle.po_reader.specs.HeadView.{HoldsHead};
 ghost use Rattle.po_reader.specs.ReaderView.{body_view};
 ghost use Rattle.po_reader.specs.Stops.{IsStop, EntriesStop};

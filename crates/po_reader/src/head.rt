@@ -4,7 +4,7 @@ ghost use Rattle.po_reader.specs.Head.{IsHead, head_step, begins_body};
 ghost use Rattle.po_reader.specs.Head as spec;
 ghost use Rattle.po_entry.specs.Comments.{same_kind, with_previous};
 ghost use Rattle.po_syntax.specs.declared.item.CommentKind.TheVariants.{Flags};
-ghost use Rattle.po_reader.specs.Bare.{kept_comments};
+ghost use Rattle.po_reader.specs.KeptComments.{kept_comments};
 ghost use Rattle.po_reader.specs.Stops.{IsStop, HeadStops};
 ghost use Rattle.po_reader.specs.ReaderView.{items_from, head_view};
 ghost use Rattle.po_reader.specs.HeadView.{HoldsHead, HoldsComments};

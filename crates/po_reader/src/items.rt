@@ -5,7 +5,7 @@ ghost use Rattle.po_entry.specs.EntryView.{entry_view};
 ghost use Rattle.po_entry.specs.Header.{HasAdmittedCharset};
 ghost use Rattle.po_entry.specs.Validity.{IsEntry, HasTexts};
 ghost use Rattle.po_entry.specs.TextEntry.{TextEntry};
-ghost use Rattle.po_reader.specs.Bare.{without_comments};
+ghost use Rattle.po_reader.specs.KeptComments.{without_comments};
 ghost use Rattle.po_reader.specs.Faults.{TextsStop};
 ghost use Rattle.po_reader.specs.Faults.{CharsetStops};
 ghost use Rattle.po_reader.specs.ItemsRead.{ReadsItems, ItemsStop};

@@ -3,7 +3,7 @@ ghost use Rattle.po_syntax.specs.declared.fault.PoFault.{PoFault};
 ghost use Rattle.po_syntax.specs.LinesLeft.{LinesLeft, LeftStops};
 ghost use Rattle.po_entry.specs.TextEntry.{TextEntry};
 ghost use Rattle.po_entry.specs.ReadsText.{ReadsLeft, ReadsText};
-ghost use Rattle.po_reader.specs.Bare.{without_comments};
+ghost use Rattle.po_reader.specs.KeptComments.{without_comments};
 ghost use Rattle.po_reader.specs.Refusals.{IsLeftRefusal, IsTextRefusal};
 
 use crate::items::{catalogue_of_items, messages_of_items};

@@ -3,7 +3,7 @@ ghost use Rattle.po_entry.specs.Bytes.{Lacks};
 ghost use Rattle.po_merge.specs.Inputs.{Input};
 ghost use Rattle.po_merge.specs.InputsView.{inputs_view};
 ghost use Rattle.po_merge.specs.Merged.{merged};
-ghost use Rattle.po_catalog.specs.Duplicate.{out_of_memory_error};
+ghost use Rattle.po_entry.specs.Validity.{out_of_memory};
 ghost use Rattle.po_tools.specs.Msgcat.{AreReadAs, IsFileFault, IsMergedText, IsMsgcatRun, IsUnread, first_name, keeps_all, msgcat_line};
 ghost use Rattle.po_tools.specs.NamedFile.{named_files};
 ghost use Rattle.po_tools.specs.Run.{refusal, report};
@@ -55,7 +55,7 @@ fn read_files<'a>(
     requires { All (λ file. Lacks 0 file.name) (named_files files.now) }
     ensures read { IfOk result (λ inputs. AreReadAs (named_files files.now) (inputs_view inputs.items)) }
     ensures names { IfOk result (λ inputs. All (λ input. Lacks 0 input.name.now) inputs.items) }
-    ensures fault { IfErr result (λ fault. (fault.error ≡ out_of_memory_error) ⊎ IsFileFault (named_files files.now) fault.name.now fault.error) }
+    ensures fault { IfErr result (λ fault. (fault.error ≡ out_of_memory) ⊎ IsFileFault (named_files files.now) fault.name.now fault.error) }
 {
     let mut inputs = Vec::new(alloc);
     for (name, text) in files {

@@ -25,7 +25,8 @@ pub(crate) fn push_comments(
 
 /// Appends elements, with a separator before each.
 fn push_further(out: &mut Vec<u8>, separator: &[u8], elements: &[Vec<u8>]) -> Result<(), AllocError>
-    ensures appended { OnOk result (out.new.items ≡ out.old.items ++ flat_map (λ element. separator.now ++ element) (texts elements.now)) }
+    ensures appended { OnOk result (out.new.items
+        ≡ out.old.items ++ flat_map (λ element. separator.now ++ element) (texts elements.now)) }
 {
     for element in elements {
         out.extend_from_slice(separator)?;
@@ -41,7 +42,8 @@ pub(crate) fn push_elements(
     separator: &[u8],
     elements: &[Vec<u8>],
 ) -> Result<(), AllocError>
-    ensures appended { OnOk result (out.new.items ≡ out.old.items ++ elements_line mark.now separator.now (texts elements.now)) }
+    ensures appended { OnOk result (out.new.items
+        ≡ out.old.items ++ elements_line mark.now separator.now (texts elements.now)) }
 {
     let Some((first, others)) = elements.split_first() else {
         return Ok(());
@@ -59,7 +61,8 @@ pub(crate) fn push_flags(
     fuzzy: bool,
     flags: &[Vec<u8>],
 ) -> Result<(), AllocError>
-    ensures appended { OnOk result (out.new.items ≡ out.old.items ++ elements_line (codes "#, ") (codes ", ") (all_flags fuzzy (texts flags.now))) }
+    ensures appended { OnOk result (out.new.items
+        ≡ out.old.items ++ elements_line (codes "#, ") (codes ", ") (all_flags fuzzy (texts flags.now))) }
 {
     if !fuzzy {
         return push_elements(out, b"#, ", b", ", flags);
@@ -95,7 +98,8 @@ fn push_forms(out: &mut Vec<u8>, prefix: &[u8], forms: &[Vec<u8>]) -> Result<(),
 
 /// Appends the only form of a message without a plural.
 fn push_single(out: &mut Vec<u8>, prefix: &[u8], forms: &[Vec<u8>]) -> Result<(), AllocError>
-    ensures appended { OnOk result (out.new.items ≡ out.old.items ++ flat_map (keyword_lines prefix.now (codes "msgstr")) (texts forms.now)) }
+    ensures appended { OnOk result (out.new.items
+        ≡ out.old.items ++ flat_map (keyword_lines prefix.now (codes "msgstr")) (texts forms.now)) }
 {
     for form in forms {
         push_keyword(out, prefix, b"msgstr", form)?;
@@ -110,7 +114,8 @@ fn push_translation(
     plural: Option<&[u8]>,
     forms: &[Vec<u8>],
 ) -> Result<(), AllocError>
-    ensures appended { OnOk result (out.new.items ≡ out.old.items ++ translation_lines prefix.now (option_copied plural.entry) (texts forms.now)) }
+    ensures appended { OnOk result (out.new.items
+        ≡ out.old.items ++ translation_lines prefix.now (option_copied plural.entry) (texts forms.now)) }
 {
     match plural {
         Some(plural) => {

@@ -83,7 +83,8 @@ pub(crate) fn push_optional(
     keyword: &[u8],
     text: Option<&[u8]>,
 ) -> Result<(), AllocError>
-    ensures appended { OnOk result (out.new.items ≡ out.old.items ++ optional_lines prefix.now keyword.now (option_copied text.entry)) }
+    ensures appended { OnOk result (out.new.items
+        ≡ out.old.items ++ optional_lines prefix.now keyword.now (option_copied text.entry)) }
 {
     match text {
         Some(text) => push_keyword(out, prefix, keyword, text),
@@ -98,7 +99,8 @@ pub(crate) fn push_form(
     index: usize,
     form: &[u8],
 ) -> Result<(), AllocError>
-    ensures appended { OnOk result (out.new.items ≡ out.old.items ++ keyword_lines prefix.now (codes "msgstr[" ++ decimal index ++ codes "]") form.now) }
+    ensures appended { OnOk result (out.new.items
+        ≡ out.old.items ++ keyword_lines prefix.now (codes "msgstr[" ++ decimal index ++ codes "]") form.now) }
 {
     let mut digits = Buffer::new();
     out.extend_from_slice(prefix)?;

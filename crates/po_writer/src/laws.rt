@@ -13,7 +13,8 @@ use po_syntax::laws::quoted_form_spells;
 /// arranged entries, but for their lines.
 pub fn written_text_reads()
     ensures { (entries : List TextEntry) → All IsCatalogueEntry entries → IsSmall (written_text entries)
-        → (read : List TextEntry) × ReadsText (written_text entries) read × (map (with_line 0) read ≡ map (with_line 0) (arranged entries)) }
+        → (read : List TextEntry) × ReadsText (written_text entries) read
+        × (map (with_line 0) read ≡ map (with_line 0) (arranged entries)) }
 {
     quoted_form_spells();
 }

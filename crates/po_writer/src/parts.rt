@@ -34,7 +34,8 @@ impl TextParts {
     /// Adds entries after those that were added before. An allocation that failed is the only
     /// refusal; then a part may end within an entry.
     pub fn add(&mut self, entries: &[Entry]) -> Result<(), PoError>
-        ensures added { OnOk result ((before : List TextEntry) → AreParts before self.old → AreParts (before ++ entries.now) self.new) }
+        ensures added { OnOk result ((before : List TextEntry) → AreParts before self.old
+            → AreParts (before ++ entries.now) self.new) }
         ensures memory { IfErr result (λ e. e ≡ out_of_memory) }
     {
         push_entries(&mut self.live, entries, false)?;
@@ -44,7 +45,8 @@ impl TextParts {
 
     /// The text of the entries that were added. An allocation that failed is the only refusal.
     pub fn join(self) -> Result<Vec<u8>, PoError>
-        ensures text { IfOk result (λ text. (entries : List TextEntry) → AreParts entries self → text.items ≡ written_text entries) }
+        ensures text { IfOk result (λ text. (entries : List TextEntry) → AreParts entries self
+            → text.items ≡ written_text entries) }
         ensures memory { IfErr result (λ e. e ≡ out_of_memory) }
     {
         let TextParts { mut live, obsolete } = self;

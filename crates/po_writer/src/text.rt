@@ -25,7 +25,8 @@ pub(crate) fn push_entries(
     entries: &[Entry],
     obsolete: bool,
 ) -> Result<(), AllocError>
-    ensures appended { OnOk result (out.new.items ≡ fold with_entry out.old.items (entries_marked obsolete entries.now)) }
+    ensures appended { OnOk result (out.new.items
+        ≡ fold with_entry out.old.items (entries_marked obsolete entries.now)) }
 {
     for entry in entries {
         if entry.obsolete() == obsolete {

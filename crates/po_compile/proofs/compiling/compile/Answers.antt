@@ -5,13 +5,13 @@ use Rattle.po_syntax.specs.declared.fault.PoFault.TheVariants.{OutOfMemory}
 use Rattle.po_syntax.specs.PoText.{TextFault}
 use Rattle.po_reader.specs.Faults.{in_text}
 use Rattle.po_reader.specs.Refusals.{IsFaultOf}
-use Rattle.po_catalog.specs.Duplicate.{out_of_memory_error}
+use Rattle.po_entry.specs.Validity.{out_of_memory}
 use Rattle.po_compile.specs.Accepted.{IsTextFault}
 use Rattle.po_compile.proofs.ReadingLemmas.{only_refused}
 use Rattle.po_compile.proofs.compiling.compile.Goals as goal
 
 -- a fault that is reported is out of memory, or one of the text
-fault_by_kind : (text : List ℕ) (error : PoError) (kind : PoFault) → error.kind ≡ kind → IsFaultOf (TextFault text) error → (error ≡ out_of_memory_error) ⊎ ((error.kind ≢ OutOfMemory) × IsTextFault text error)
+fault_by_kind : (text : List ℕ) (error : PoError) (kind : PoFault) → error.kind ≡ kind → IsFaultOf (TextFault text) error → (error ≡ out_of_memory) ⊎ ((error.kind ≢ OutOfMemory) × IsTextFault text error)
 fault_by_kind text error OutOfMemory is h =
     let with : PoFault → ℕ → PoError = λ k l. record { kind = k; line = l } in
     inl (ap₂ with is (h.memory is))

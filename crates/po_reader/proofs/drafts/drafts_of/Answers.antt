@@ -4,7 +4,7 @@ use Rattle.std.proofs.lemmas.List.{append-nil, map_push}
 use Rattle.po_reader.specs.Reads.Reads.{comments, entry}
 use Rattle.po_entry.specs.TextEntry.{TextEntry}
 use Rattle.po_entry.specs.Spelling.{entry_from}
-use Rattle.po_reader.specs.Bare.{kept_comments, kept_entry}
+use Rattle.po_reader.specs.KeptComments.{kept_comments, kept_entry}
 use Rattle.po_reader.specs.ReaderView.{body_view}
 use Rattle.po_reader.proofs.Kept.{kept_from}
 use Rattle.po_reader.specs.Stops.EntriesStop.{in_head, in_body, later}

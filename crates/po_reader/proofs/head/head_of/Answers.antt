@@ -4,7 +4,7 @@ use Rattle.std.proofs.lemmas.List.{append-nil}
 use Rattle.po_entry.specs.Parts.{CommentText, PreviousText}
 use Rattle.po_reader.specs.Head.IsHead.{over, head_comment, previous}
 use Rattle.po_reader.specs.Stops.HeadStops.{refused, in_previous, after_comment, after_previous}
-use Rattle.po_reader.specs.Bare.{kept_comments}
+use Rattle.po_reader.specs.KeptComments.{kept_comments}
 use Rattle.po_reader.proofs.Heads.{holds_nothing, holds_previous}
 use Rattle.po_reader.proofs.Kept.{kept_nothing}
 use Rattle.po_reader.proofs.head.head_of.Goals as goal

@@ -5,7 +5,7 @@ use Rattle.po_entry.specs.Parts.{CommentText, PreviousText}
 use Rattle.po_reader.specs.Head.{IsHead}
 use Rattle.po_reader.specs.Stops.{HeadStops}
 use Rattle.po_reader.specs.HeadView.{HoldsHead}
-use Rattle.po_reader.specs.Bare.{kept_comments}
+use Rattle.po_reader.specs.KeptComments.{kept_comments}
 use Rattle.po_reader.proofs.head.head_of.Given as goal
 
 abbrev pub invariant-loop-kind : goal.invariant-loop-kind
