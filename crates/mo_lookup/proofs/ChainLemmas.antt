@@ -11,12 +11,13 @@ use Rattle.mo_file.specs.Key.{query_key}
 use Rattle.mo_lookup.specs.Query.{Query, is_clean_key}
 use Rattle.mo_lookup.specs.Answer.{answer, translated, untranslated, untranslated_text}
 use Rattle.mo_lookup.specs.Contents.{Contents, forms, forms_found, answered, translation_under}
-use Rattle.mo_lookup.specs.Chain.{answering_nodes, asked, chain_bound, chain_answered, has_key, IsFirstWith, translates}
+use Rattle.mo_lookup.specs.Chain.{answering_nodes, asked, chain_bound, chain_answered, has_key, key_comparisons, IsFirstWith, translates}
 
--- the catalogues before an index don't have the key, and were asked within their bounds
+-- the catalogues before an index don't have the key, and each was asked once
 pub record HaveNot (key : List ℕ) (chain : List Contents) (index began counted : ℕ) : Type 0 where
   pub first : index + position_or_len (has_key key) (drop index chain) ≡ position_or_len (has_key key) chain
   pub rises : began ≤ counted
+  pub compared : counted ≡ began + key_comparisons key (take index chain)
   pub bound : counted ≤ began + chain_bound (take index chain)
   pub small : counted ≤ began + 32 * index
 

@@ -1,4 +1,5 @@
 pub mod BoundLemmas
+pub mod ComparisonLemmas
 pub mod RisingLemmas
 pub mod SearchLemmas
 pub mod FormLemmas

@@ -1,6 +1,7 @@
 pub mod Bound
 pub mod Index
 pub mod Query
+pub mod Comparisons
 pub mod Answer
 pub mod Contents
 pub mod Chain

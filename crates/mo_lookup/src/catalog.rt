@@ -10,6 +10,7 @@ ghost use Rattle.mo_file.specs.Key.{AreRising, keys, query_key};
 ghost use Rattle.mo_file.specs.Catalog.{IsCatalog};
 ghost use Rattle.mo_file.specs.Fault.{IsFirstFault, looks_before};
 ghost use Rattle.mo_lookup.specs.Bound.{search_bound};
+ghost use Rattle.mo_lookup.specs.Comparisons.{comparisons, query_comparisons};
 ghost use Rattle.mo_lookup.specs.Query.{query, given, is_clean_key};
 ghost use Rattle.mo_lookup.specs.Contents.{AreContents, header_text, forms, answered, translation_under};
 ghost use Rattle.mo_lookup.specs.Answer.{answer_view, translated};
@@ -120,6 +121,8 @@ impl<'a> Catalog<'a> {
         requires { meter.old < 2 ^ 63 }
         ensures answered { answer_view result ≡ answered self.now (query context.entry id.now plural.entry) }
         ensures counted { meter.new ≡ meter.old + result.comparisons }
+        ensures comparisons { result.comparisons
+            ≡ query_comparisons self.now.messages (query context.entry id.now plural.entry) }
         ensures bound { result.comparisons ≤ search_bound (length self.now.messages) }
         ensures unclean { is_clean_key (option_copied context.entry) id.now ≡ false → result.comparisons ≡ 0 }
         ensures nodes { result.steps ≤ nodes self.now.rule.tree }
@@ -143,7 +146,10 @@ impl<'a> Catalog<'a> {
         meter: &mut Meter,
     ) -> Option<&'a [u8]>
         requires { meter.old < 2 ^ 63 }
-        ensures found { option_copied result ≡ translation_under (query_key (option_copied context.entry) id.now) self.now.messages }
+        ensures found { option_copied result
+            ≡ translation_under (query_key (option_copied context.entry) id.now) self.now.messages }
+        ensures comparisons { meter.new
+            ≡ meter.old + comparisons (keys self.now.messages) (query_key (option_copied context.entry) id.now) }
         ensures rises { meter.old ≤ meter.new }
         ensures cost { meter.new ≤ meter.old + search_bound (length self.now.messages) }
         ensures small { meter.new ≤ meter.old + 32 }

@@ -5,7 +5,7 @@ ghost use Rattle.std.specs.List.{position_or_len};
 ghost use Rattle.std.specs.Option.{option_copied};
 ghost use Rattle.mo_file.specs.Key.{query_key};
 ghost use Rattle.mo_lookup.specs.Query.{query};
-ghost use Rattle.mo_lookup.specs.Chain.{answering_nodes, asked, chain_bound, chain_answer_view, chain_answered, has_key, IsFirstWith};
+ghost use Rattle.mo_lookup.specs.Chain.{answering_nodes, asked, chain_bound, chain_answer_view, chain_answered, chain_comparisons, has_key, key_comparisons, IsFirstWith};
 
 use crate::catalog::Catalog;
 use crate::query::{is_clean_key, untranslated_text};
@@ -70,9 +70,12 @@ impl<'c, 'a> Chain<'c, 'a> {
     where
         'a: 'q,
         requires { meter.old < 2 ^ 62 }
-        ensures answered { chain_answer_view result ≡ chain_answered self.now (query context.entry id.now plural.entry) }
+        ensures answered { chain_answer_view result
+            ≡ chain_answered self.now (query context.entry id.now plural.entry) }
         ensures asked { result.asked ≡ asked self.now (query context.entry id.now plural.entry) }
         ensures counted { meter.new ≡ meter.old + result.comparisons }
+        ensures comparisons { result.comparisons
+            ≡ chain_comparisons (take result.asked self.now) (query context.entry id.now plural.entry) }
         ensures bound { result.comparisons ≤ chain_bound (take result.asked self.now) }
         ensures nodes { result.steps ≤ answering_nodes self.now (query context.entry id.now plural.entry) }
     {
@@ -129,6 +132,9 @@ fn first_with<'c, 'a>(
         MatchOption result (position_or_len (has_key key) catalogs.now ≡ length catalogs.now)
         (λ first. IsFirstWith key catalogs.now first.index first.catalog.now first.translation.now) }
     ensures rises { meter.old ≤ meter.new }
+    ensures comparisons { let key = query_key (option_copied context.entry) id.now in
+        let first = position_or_len (has_key key) catalogs.now in
+        meter.new ≡ meter.old + key_comparisons key (take (first + 1) catalogs.now) }
     ensures bound { let first = position_or_len (has_key (query_key (option_copied context.entry) id.now)) catalogs.now in
         meter.new ≤ meter.old + chain_bound (take (first + 1) catalogs.now) }
 {

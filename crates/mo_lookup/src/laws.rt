@@ -2,6 +2,7 @@
 //! proof.
 
 ghost use Rattle.mo_lookup.specs.Bound.{BoundHalves, BoundIsLogarithm};
+ghost use Rattle.mo_lookup.specs.Comparisons.{SearchHalves, SearchIsBounded};
 ghost use Rattle.mo_lookup.specs.Laws.{EachKeyFindsItsTranslation, OtherKeysFindNone};
 
 /// The most comparisons of a search are 0 for no keys, and else one more than for half as many.
@@ -13,6 +14,18 @@ pub fn bound_halves()
 /// and one.
 pub fn bound_is_logarithm()
     ensures { BoundIsLogarithm }
+{}
+
+/// A search compares none of no keys, and else the one in the middle and those that a search among the keys compares
+/// that are left: those after the middle where it is below the key that is searched, those before it where it is above,
+/// and none where it is that key.
+pub fn search_halves()
+    ensures { SearchHalves }
+{}
+
+/// A search never compares more keys than the bound.
+pub fn search_is_bounded()
+    ensures { SearchIsBounded }
 {}
 
 /// Where keys rise strictly, what is found under the key of a message is its own translation.

@@ -26,6 +26,7 @@ pub use catalog::Catalog;
 pub use chain::{Chain, ChainAnswer};
 pub use laws::{
     bound_halves, bound_is_logarithm, each_key_finds_its_translation, other_keys_find_none,
+    search_halves, search_is_bounded,
 };
 pub use looking::look;
 pub use plural_rule::laws::{longer_limit, one_rule, one_tree, visited_at_most_nodes};

@@ -6,8 +6,9 @@ ghost use Rattle.plural_rule.specs.declared.rule.Source.{Source};
 ghost use Rattle.plural_rule.specs.Expression.{nodes};
 ghost use Rattle.plural_rule.specs.PluralRule.{expression_limit};
 ghost use Rattle.plural_rule.specs.PostOrder.{post_order, tree_of};
-ghost use Rattle.mo_file.specs.Key.{query_key};
+ghost use Rattle.mo_file.specs.Key.{keys, query_key};
 ghost use Rattle.mo_lookup.specs.Bound.{search_bound};
+ghost use Rattle.mo_lookup.specs.Comparisons.{comparisons, query_comparisons};
 ghost use Rattle.mo_lookup.specs.Query.{query, given, is_clean_key};
 ghost use Rattle.mo_lookup.specs.Contents.{forms, answered, translation_under};
 ghost use Rattle.mo_lookup.specs.Answer.{answer_view, translated};
@@ -40,6 +41,7 @@ where
         ≡ answered (record { messages = view.now; rule = record { source = source; nplurals = nplurals; tree = tree_of table.now } })
         (query context.entry id.now plural.entry) }
     ensures counted { meter.new ≡ meter.old + result.comparisons }
+    ensures comparisons { result.comparisons ≡ query_comparisons view.now (query context.entry id.now plural.entry) }
     ensures bound { result.comparisons ≤ search_bound (length view.now) }
     ensures unclean { is_clean_key (option_copied context.entry) id.now ≡ false → result.comparisons ≡ 0 }
     ensures nodes { result.steps ≤ nodes (tree_of table.now) }
@@ -72,6 +74,8 @@ pub(crate) fn translation<'a>(
 ) -> Option<&'a [u8]>
     requires { meter.old < 2 ^ 63 }
     ensures found { option_copied result ≡ translation_under (query_key (option_copied context.entry) id.now) view.now }
+    ensures comparisons { meter.new
+        ≡ meter.old + comparisons (keys view.now) (query_key (option_copied context.entry) id.now) }
     ensures rises { meter.old ≤ meter.new }
     ensures cost { meter.new ≤ meter.old + search_bound (length view.now) }
     ensures small { meter.new ≤ meter.old + 32 }

@@ -4,6 +4,7 @@ ghost use Rattle.std.specs.Prelude.{ℕ, ◌≡◌, ◌+◌, ◌-◌, ◌^◌, �
 ghost use Rattle.std.specs.Option.{option_copied};
 ghost use Rattle.mo_file.specs.Key.{AreRising, key_at, key_cmp, query_key};
 ghost use Rattle.mo_lookup.specs.Bound.{search_bound};
+ghost use Rattle.mo_lookup.specs.Comparisons.{comparisons};
 ghost use Rattle.mo_lookup.specs.Index.{IsIndexOf};
 
 use std::cmp::Ordering;
@@ -39,11 +40,13 @@ pub trait Keys {
 }
 
 /// The index of the key of `context` and `id`, found by halves, or None where no key is it. It makes at most one
-/// comparison for each time that the number of keys can be halved.
+/// comparison for each time that the number of keys can be halved, and ends at the key.
 pub fn find<K: Keys>(keys: &mut K, context: Option<&[u8]>, id: &[u8]) -> Option<u32>
     requires { K.counted keys.old < 2 ^ 63 }
     ensures index { IsIndexOf (K.listed keys.old) (query_key (option_copied context.entry) id.now) result }
     ensures unchanged { K.listed keys.new ≡ K.listed keys.old }
+    ensures comparisons { K.counted keys.new
+        ≡ K.counted keys.old + comparisons (K.listed keys.old) (query_key (option_copied context.entry) id.now) }
     ensures rises { K.counted keys.old ≤ K.counted keys.new }
     ensures cost { K.counted keys.new ≤ K.counted keys.old + search_bound (length (K.listed keys.old)) }
     ensures small { K.counted keys.new ≤ K.counted keys.old + 32 }

@@ -1,5 +1,5 @@
 use Rattle.std.proofs.Common.{◌∙◌, arith}
-use Rattle.mo_lookup.proofs.SearchLemmas.{IsSearch-counted, IsSearch-compared, IsSearch-found, IsSearch-less, IsSearch-greater}
+use Rattle.mo_lookup.proofs.SearchLemmas.{IsSearch-counted, IsSearch-compared, IsSearch-found, IsSearch-greater, IsSearch-last, IsSearch-less, IsSearch-none}
 use Rattle.mo_lookup.proofs.search.find.Goals as goal
 
 pub compare-requires-clause-room : goal.compare-requires-clause-room
@@ -11,14 +11,19 @@ compare-requires-clause-room g c =
 pub returns-in-Equal-clause-index : goal.returns-in-Equal-clause-index
 returns-in-Equal-clause-index g c = IsSearch-found _ _ _ _ _ _ _ _ c.halving.invariant.1 (omega arith) c.in-Equal.ensures.order
 
+pub returns-in-Equal-clause-comparisons : goal.returns-in-Equal-clause-comparisons
+returns-in-Equal-clause-comparisons g c =
+    c.compare.ensures.cost
+    ∙ IsSearch-last _ _ _ _ _ _ _ _ c.halving.invariant.1 c.halving-test.true (omega arith) c.in-Equal.ensures.order
+
 pub returns-in-Equal-clause-cost : goal.returns-in-Equal-clause-cost
 returns-in-Equal-clause-cost g c =
-    let counted = IsSearch-compared _ _ _ _ _ _ _ c.halving.invariant.1 c.halving-test.true in
+    let counted = IsSearch-compared _ _ _ _ _ _ _ _ c.halving.invariant.1 c.halving-test.true (omega arith) c.in-Equal.ensures.order in
     rw c.compare.ensures.cost counted.cost
 
 pub returns-in-Equal-clause-small : goal.returns-in-Equal-clause-small
 returns-in-Equal-clause-small g c =
-    let counted = IsSearch-compared _ _ _ _ _ _ _ c.halving.invariant.1 c.halving-test.true in
+    let counted = IsSearch-compared _ _ _ _ _ _ _ _ c.halving.invariant.1 c.halving-test.true (omega arith) c.in-Equal.ensures.order in
     rw c.compare.ensures.cost counted.small
 
 pub halving-preserved-in-Less : goal.halving-preserved-in-Less
@@ -26,7 +31,7 @@ halving-preserved-in-Less g c = (
   c.compare.ensures.same_counter ∙ c.halving.invariant.0,
   rw c.compare.ensures.cost
       (
-      IsSearch-less _ _ _ _ _ _ _ _ _ c.halving.invariant.1 c.halving-test.true (omega arith) (omega arith) c.in-Less.ensures.order
+      IsSearch-less _ _ _ _ _ _ _ _ _ c.halving.invariant.1 c.halving-test.true (omega arith) c.in-Less.ensures.order
       c.compare.ensures.unchanged
       ),
 )
@@ -36,10 +41,16 @@ halving-preserved g c = (
   c.compare.ensures.same_counter ∙ c.halving.invariant.0,
   rw c.compare.ensures.cost
       (
-      IsSearch-greater _ _ _ _ _ _ _ _ _ c.halving.invariant.1 c.halving-test.true (omega arith) (omega arith) (omega arith)
+      IsSearch-greater _ _ _ _ _ _ _ _ _ c.halving.invariant.1 c.halving-test.true (omega arith)
       c.in-Greater.ensures.order c.compare.ensures.unchanged
       ),
 )
+
+pub returns-clause-comparisons : goal.returns-clause-comparisons
+returns-clause-comparisons g c = IsSearch-none _ _ _ _ _ _ _ c.halving.invariant.1 (omega arith)
+
+pub returns-clause-cost : goal.returns-clause-cost
+returns-clause-cost g c = (IsSearch-counted _ _ _ _ _ _ _ c.halving.invariant.1).cost
 
 pub returns-clause-small : goal.returns-clause-small
 returns-clause-small g c = (IsSearch-counted _ _ _ _ _ _ _ c.halving.invariant.1).small

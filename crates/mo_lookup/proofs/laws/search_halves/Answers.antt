@@ -1,0 +1,5 @@
+use Rattle.mo_lookup.proofs.ComparisonLemmas.{comparisons-none, comparisons-halves}
+use Rattle.mo_lookup.proofs.laws.search_halves.Goals as goal
+
+pub returns : goal.returns
+returns c = (comparisons-none, comparisons-halves)

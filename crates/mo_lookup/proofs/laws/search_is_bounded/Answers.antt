@@ -1,0 +1,5 @@
+use Rattle.mo_lookup.proofs.ComparisonLemmas.{comparisons-bound}
+use Rattle.mo_lookup.proofs.laws.search_is_bounded.Goals as goal
+
+pub returns : goal.returns
+returns c = comparisons-bound

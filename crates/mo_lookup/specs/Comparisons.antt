@@ -1,0 +1,43 @@
+-- How many keys the binary search of "The Format of GNU MO Files" compares.
+use Rattle.std.specs.Prelude.{ℕ, zero, suc, ◌+◌, ◌/◌, ◌<◌, ◌≤◌, ◌≡◌, List, [], ◌∷◌, length, take, drop, if◌then◌else◌}
+use Rattle.std.specs.declared.cmp.Ordering.{Ordering}
+use Rattle.std.specs.declared.cmp.Ordering.TheVariants.{Less, Equal, Greater}
+use Rattle.mo_file.specs.Message.{Message}
+use Rattle.mo_file.specs.Key.{key_at, key_cmp, keys, query_key}
+use Rattle.mo_lookup.specs.Bound.{search_bound}
+use Rattle.mo_lookup.specs.Query.{Query, is_clean_key}
+
+-- where the key in the middle is below the one that is searched, the keys after it; where it is above, those before it
+abbrev pub half : Ordering → List (List ℕ) → List (List ℕ)
+half Less ks = drop (length ks / 2 + 1) ks
+half Equal ks = []
+half Greater ks = take (length ks / 2) ks
+
+-- the keys that can still be the one, when the key in the middle has been compared
+abbrev pub keys_left : List (List ℕ) → List ℕ → List (List ℕ)
+keys_left ks key = half (key_cmp (key_at ks (length ks / 2)) key) ks
+
+-- how many keys are compared, up to `most`
+abbrev pub comparisons_within : ℕ → List (List ℕ) → List ℕ → ℕ
+comparisons_within zero ks key = 0
+comparisons_within (suc most) [] key = 0
+comparisons_within (suc most) (k ∷ ks) key = 1 + comparisons_within most (keys_left (k ∷ ks) key) key
+
+-- how many of these keys a search by halves compares with the one that is searched
+unfoldable pub comparisons : List (List ℕ) → List ℕ → ℕ
+comparisons ks key = comparisons_within (length ks) ks key
+
+-- none of no keys; else the one in the middle, and those that the search among the keys left compares
+abbrev pub SearchHalves : Type 0
+SearchHalves =
+    ((key : List ℕ) → comparisons [] key ≡ 0)
+    × ((ks : List (List ℕ)) (key : List ℕ) → 0 < length ks → comparisons ks key ≡ 1 + comparisons (keys_left ks key) key)
+
+-- never more than the bound
+abbrev pub SearchIsBounded : Type 0
+SearchIsBounded = (ks : List (List ℕ)) (key : List ℕ) → comparisons ks key ≤ search_bound (length ks)
+
+-- how many keys of a catalogue are compared for a query: none where it isn't clean
+abbrev pub query_comparisons : List Message → Query → ℕ
+query_comparisons messages query =
+    if is_clean_key query.context query.id then comparisons (keys messages) (query_key query.context query.id) else 0
