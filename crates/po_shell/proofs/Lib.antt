@@ -9,6 +9,7 @@ pub mod SearchLemmas
 pub mod StreamLemmas
 pub mod SubstitutionLemmas
 pub mod VariableLemmas
+pub mod SortedLemmas
 pub mod SpeltReferences
 pub mod ReplacedReferences
 pub mod SpeltEscapes

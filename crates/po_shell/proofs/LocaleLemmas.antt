@@ -1,10 +1,8 @@
 -- Lemmas on the names that are gathered for a locale.
 use Rattle.std.proofs.Common.{◌≡◌, ℕ, ◌+◌, ◌<◌, ◌≤◌, Bool, true, false, not, ◌||◌, eqb, ◌⊎◌, inl, inr, List, [], ◌∷◌, ◌++◌, append-nil, append_assoc, length-drop, length, take, drop, map, filter, fold, Option, Some, None, refl, sym, ap, ◌∙◌, arith}
 use Rattle.std.specs.Prelude.{take_while}
-use Rattle.std.specs.List.{list_any, flat_map, slice_split, position_or_len, onto_first}
-use Rattle.std.specs.Str.{bytes_eq}
+use Rattle.std.specs.List.{flat_map, slice_split, position_or_len, onto_first}
 use Rattle.std.proofs.lemmas.Bool.{cond-true, cond-false, cases_Bool, cases_lt, or_left, or_right, or_from, eqb-true, eqb-false}
-use Rattle.std.proofs.lemmas.Grind.{fold-append}
 use Rattle.std.proofs.lemmas.List.{take_all, drop-drop}
 use Rattle.std.proofs.lemmas.List.Splits.{slice_split_first, slice_split-cons_no}
 use Rattle.std.proofs.lemmas.List.Sums.{take_while-cons}
@@ -13,7 +11,6 @@ use Rattle.po_shell.specs.Locales.{non_empty, locale_of, has_slash, languages, c
 use Rattle.po_shell.specs.declared.locale.Environment.{Environment}
 use Rattle.po_shell.specs.LocaleSteps.{variants_in}
 use Rattle.po_shell.proofs.SearchLemmas.{byte-here, byte-later}
-use Rattle.po_shell.proofs.VariableLemmas.{list_any-map}
 
 pub map-append : {V : Type 0} (f : V → List ℕ) (items : List V) (v : V) → map f (items ++ v ∷ []) ≡ map f items ++ f v ∷ []
 map-append f [] v = refl

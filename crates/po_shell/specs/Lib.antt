@@ -3,6 +3,7 @@ pub mod Counted
 pub mod Failing
 pub mod References
 pub mod Substitution
+pub mod Sorted
 pub mod Replacing
 pub mod Stream
 pub mod Holding

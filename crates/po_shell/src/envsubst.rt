@@ -7,6 +7,7 @@ ghost use Rattle.po_shell.specs.Substitution.{values_given};
 
 use crate::device::{ByteIn, ByteOut, Counted};
 use crate::fault::ToolFault;
+use crate::sorted::{sorted_names, sorted_variables};
 use crate::substituter::Substituter;
 use std::alloc::Global;
 use std::io::{BufWriter, Write};
@@ -71,10 +72,48 @@ pub fn run_envsubst<R: ByteIn, W: ByteOut>(
     Err(ToolFault::ReadFault)
 }
 
-/// The same, with the output gathered in blocks, for a writer of which each call is dear. All of the
-/// output has gone into the writer that is answered. After a `ReadFault` what was gathered is written
-/// too, after a `WriteFault` nothing more.
+/// The same, with the output gathered in blocks, for a writer of which each call is dear, and with
+/// variables and names sorted, so that each is found by halves. All of the output has gone into the
+/// writer that is answered. After a `ReadFault` what was gathered is written too, after a `WriteFault`
+/// nothing more.
 pub fn run_envsubst_in_blocks<R: ByteIn, W: Write + Drop>(
+    alloc: Global,
+    reader: &mut R,
+    writer: W,
+    vars: &[(&[u8], &[u8])],
+    only: Option<&[&[u8]]>,
+) -> Result<W, ToolFault>
+    requires calls { R.calls reader.old < 2 ^ 63 }
+    requires read_failures { R.failures reader.old < 2 ^ 63 }
+    ensures ok { IfOk result (λ written. Substitutes (values_given vars.now only.entry)
+        (R.remaining reader.old) (W.contents writer) (W.contents written)) }
+    ensures no_read_failure { OnOk result (R.failures reader.new ≡ R.failures reader.old) }
+    ensures read_cause { IsErrOf result ToolFault.ReadFault
+        → (R.failures reader.new ≡ R.failures reader.old + 1)
+        ⊎ ((R.failures reader.new ≡ R.failures reader.old)
+        × (R.calls reader.new ≡ R.calls reader.old + 2 ^ 32)) }
+    ensures write_cause_alone { IsErrOf result ToolFault.WriteFault
+        → R.failures reader.new ≡ R.failures reader.old }
+    ensures calls { R.calls reader.new ≤ R.calls reader.old + 2 ^ 32 }
+{
+    let vars = sorted_variables(alloc, vars)?;
+    match only {
+        Some(names) => {
+            let names = sorted_names(alloc, names)?;
+            substitute_in_blocks(
+                alloc,
+                reader,
+                writer,
+                vars.as_slice(),
+                Some(names.as_slice()),
+            )
+        }
+        None => substitute_in_blocks(alloc, reader, writer, vars.as_slice(), None),
+    }
+}
+
+/// Writes in blocks.
+fn substitute_in_blocks<R: ByteIn, W: Write + Drop>(
     alloc: Global,
     reader: &mut R,
     writer: W,

@@ -1,10 +1,10 @@
 //! The bytes that may begin a reference, held back until the next ones decide.
 ghost use Rattle.std.specs.Prelude.{◌≡◌, ◌<◌, true, false, ◌∷◌, [], length};
 ghost use Rattle.po_shell.specs.Holding.{Decides, ComesOut, Replaces, Ending, is_undecided, is_begun_name, after_dollar};
-ghost use Rattle.po_shell.specs.Substitution.{values_given};
+ghost use Rattle.po_shell.specs.Sorted.{values_by};
 
 use crate::reference::{LONGEST_NAME, begins_with, is_letter, is_name_byte};
-use crate::variable::replacement;
+use crate::replacements::Replacements;
 
 /// What the byte after a begun reference makes of it.
 #[derive(Clone, Copy)]
@@ -73,48 +73,34 @@ pub(crate) fn begun(held: &[u8]) -> (bool, &[u8])
 }
 
 /// What becomes of the bytes held back, at the next byte.
-pub(crate) fn effect_of<'a>(
-    vars: &[(&'a [u8], &'a [u8])],
-    only: Option<&[&[u8]]>,
-    held: &[u8],
-    next: u8,
-) -> Effect<'a>
+pub(crate) fn effect_of<'a>(replacements: &Replacements<'a>, held: &[u8], next: u8) -> Effect<'a>
     requires some { 0 < length held.now }
     requires undecided { is_undecided held.now ≡ true }
-    ensures { ComesOut (values_given vars.now only.entry) held.now next result }
+    ensures { ComesOut (values_by replacements.now) held.now next result }
 {
     let (is_braced, name) = begun(held);
     match decide(is_braced, name, next) {
         Decision::Grows => Effect::Held,
         Decision::Copies => Effect::Copied,
-        Decision::Ends => replace(vars, only, name, 0),
-        Decision::Closes => replace(vars, only, name, 1),
+        Decision::Ends => replace(replacements, name, 0),
+        Decision::Closes => replace(replacements, name, 1),
     }
 }
 
 /// What becomes of a reference to this name, which takes so many further bytes.
-fn replace<'a>(
-    vars: &[(&'a [u8], &'a [u8])],
-    only: Option<&[&[u8]]>,
-    name: &[u8],
-    taken: usize,
-) -> Effect<'a>
-    ensures { Replaces (values_given vars.now only.entry) name.now taken result }
+fn replace<'a>(replacements: &Replacements<'a>, name: &[u8], taken: usize) -> Effect<'a>
+    ensures { Replaces (values_by replacements.now) name.now taken result }
 {
-    match replacement(vars, only, name) {
+    match replacements.value_for(name) {
         Some(value) => Effect::Replaced(value, taken),
         None => Effect::Copied,
     }
 }
 
 /// What stands for the bytes held back at the end of the text, where it isn't the bytes themselves.
-pub(crate) fn ending<'a>(
-    vars: &[(&'a [u8], &'a [u8])],
-    only: Option<&[&[u8]]>,
-    held: &[u8],
-) -> Option<&'a [u8]>
+pub(crate) fn ending<'a>(replacements: &Replacements<'a>, held: &[u8]) -> Option<&'a [u8]>
     requires { is_undecided held.now ≡ true }
-    ensures { Ending (values_given vars.now only.entry) held.now result }
+    ensures { Ending (values_by replacements.now) held.now result }
 {
     if held.is_empty() {
         return None;
@@ -126,5 +112,5 @@ pub(crate) fn ending<'a>(
     if name.is_empty() {
         return None;
     }
-    replacement(vars, only, name)
+    replacements.value_for(name)
 }

@@ -3,7 +3,7 @@
 //!
 //! Devices: `fault`, `device`, `input`, `delivery`, and `failing` for tests. Catalogues to look in:
 //! `search`, `locale`, `catalogue`. Arguments: `count`, `escape`. Substitution: `variable`,
-//! `reference`, `holding`, `substituter`, `envsubst`. Then `laws`.
+//! `reference`, `sorted`, `replacements`, `holding`, `substituter`, `envsubst`. Then `laws`.
 
 #![tactic(auto)]
 
@@ -20,7 +20,9 @@ mod input;
 pub mod laws;
 mod locale;
 mod reference;
+mod replacements;
 mod search;
+mod sorted;
 mod substituter;
 mod variable;
 

@@ -4,14 +4,16 @@ ghost use Rattle.std.specs.Prelude.{◌≡◌, ◌+◌, ◌-◌, ◌*◌, ◌^�
 ghost use Rattle.std.specs.Io.KnownBytes.{Appends, Keeps};
 ghost use Rattle.po_shell.specs.Device.{AppendsPrefix};
 ghost use Rattle.po_shell.specs.Holding.{is_undecided};
+ghost use Rattle.po_shell.specs.Sorted.{values_by};
 ghost use Rattle.po_shell.specs.Stream.{Advances, Stops};
 ghost use Rattle.po_shell.specs.Substituting.{values_in};
-ghost use Rattle.po_shell.specs.Substitution.{Values, substitution, values_given, pairs_in, names_given};
+ghost use Rattle.po_shell.specs.Substitution.{Values, substitution, pairs_in, names_given};
 
 use crate::delivery::put_all;
 use crate::device::ByteOut;
 use crate::fault::ToolFault;
 use crate::holding::{Effect, effect_of, ending};
+use crate::replacements::Replacements;
 use crate::search::len_before;
 use arrayvec::ArrayVec;
 use std::marker::Model;
@@ -23,8 +25,7 @@ type Held = ArrayVec<u8, 257>;
 /// bytes at a piece's end that may begin a reference, and nothing else, and takes no memory.
 #[derive(Drop)]
 pub struct Substituter<'a> {
-    vars: &'a [(&'a [u8], &'a [u8])],
-    only: Option<&'a [&'a [u8]]>,
+    replacements: Replacements<'a>,
     held: Held,
     has_failed: bool,
 }
@@ -33,13 +34,12 @@ impl<'a> Model for Substituter<'a> {
     ghost use Rattle.std.specs.Prelude.{◌≡◌, true};
     ghost use Rattle.po_shell.specs.Substituting.{Substituting};
     ghost use Rattle.po_shell.specs.Holding.{is_undecided};
-    ghost use Rattle.po_shell.specs.Substitution.{pairs_in, names_given};
 
     ghost Value = { Substituting };
 
     ghost view = { λ s. record {
-      vars = pairs_in s.vars.now;
-      only = names_given s.only;
+      vars = s.replacements.vars;
+      only = s.replacements.only;
       held = s.held.items;
       has_failed = s.has_failed;
     } };
@@ -50,6 +50,7 @@ impl<'a> Model for Substituter<'a> {
 impl<'a> Substituter<'a> {
     /// Replaces by these pairs of name and value, of which the first with a name counts, and a
     /// name without one by nothing. Where `only` is given, references to other names are copied.
+    /// Pairs in the order of their names, and names in order, are searched by halves.
     pub fn new(vars: &'a [(&'a [u8], &'a [u8])], only: Option<&'a [&'a [u8]]>) -> Self
         ensures vars { result.vars ≡ pairs_in vars.now }
         ensures only { result.only ≡ names_given only.entry }
@@ -57,8 +58,7 @@ impl<'a> Substituter<'a> {
         ensures has_failed { result.has_failed ≡ false }
     {
         Substituter {
-            vars,
-            only,
+            replacements: Replacements::new(vars, only),
             held: Held::new(),
             has_failed: false,
         }
@@ -87,7 +87,7 @@ impl<'a> Substituter<'a> {
         if self.has_failed {
             return Err(ToolFault::WriteFault);
         }
-        let outcome = pass(self.vars, self.only, &mut self.held, piece, writer);
+        let outcome = pass(&self.replacements, &mut self.held, piece, writer);
         self.has_failed = outcome.is_err();
         outcome
     }
@@ -110,7 +110,7 @@ impl<'a> Substituter<'a> {
         if self.has_failed {
             return Err(ToolFault::WriteFault);
         }
-        match ending(self.vars, self.only, &self.held) {
+        match ending(&self.replacements, &self.held) {
             Some(value) => put_all(writer, value),
             None => put_all(writer, &self.held),
         }
@@ -119,8 +119,7 @@ impl<'a> Substituter<'a> {
 
 /// Takes the whole piece.
 fn pass<W: ByteOut>(
-    vars: &[(&[u8], &[u8])],
-    only: Option<&[&[u8]]>,
+    replacements: &Replacements<'_>,
     held: &mut Held,
     piece: &[u8],
     writer: &mut W,
@@ -128,9 +127,9 @@ fn pass<W: ByteOut>(
     requires undecided { is_undecided held.old.items ≡ true }
     requires failures { W.failures writer.old < 2 ^ 64 - 1 }
     ensures undecided { is_undecided held.new.items ≡ true }
-    ensures ok { OnOk result (Advances (values_given vars.now only.entry) (held.old.items ++ piece.now) held.new.items
+    ensures ok { OnOk result (Advances (values_by replacements.now) (held.old.items ++ piece.now) held.new.items
         (W.contents writer.old) (W.contents writer.new)) }
-    ensures stops { OnErr result (Stops (values_given vars.now only.entry) (held.old.items ++ piece.now)
+    ensures stops { OnErr result (Stops (values_by replacements.now) (held.old.items ++ piece.now)
         (W.contents writer.old) (W.contents writer.new)) }
     ensures fault { OnErr result (result ≡ Err ToolFault.WriteFault) }
     ensures no_failure { OnOk result (W.failures writer.new ≡ W.failures writer.old) }
@@ -138,15 +137,14 @@ fn pass<W: ByteOut>(
 {
     let mut at = 0;
     while at < piece.len() {
-        at += advance(vars, only, held, &piece[at..], writer)?;
+        at += advance(replacements, held, &piece[at..], writer)?;
     }
     Ok(())
 }
 
 /// Takes some bytes of a piece, or lets go those that are held. Answers how many were taken.
 fn advance<W: ByteOut>(
-    vars: &[(&[u8], &[u8])],
-    only: Option<&[&[u8]]>,
+    replacements: &Replacements<'_>,
     held: &mut Held,
     piece: &[u8],
     writer: &mut W,
@@ -158,10 +156,10 @@ fn advance<W: ByteOut>(
     ensures bound { IfOk result (λ taken. taken ≤ length piece.now) }
     ensures progress { IfOk result (λ taken.
         min 1 (length held.new.items) < 2 * taken + min 1 (length held.old.items)) }
-    ensures ok { IfOk result (λ taken. Advances (values_given vars.now only.entry)
+    ensures ok { IfOk result (λ taken. Advances (values_by replacements.now)
         (held.old.items ++ piece.now) (held.new.items ++ drop taken piece.now)
         (W.contents writer.old) (W.contents writer.new)) }
-    ensures stops { OnErr result (Stops (values_given vars.now only.entry) (held.old.items ++ piece.now)
+    ensures stops { OnErr result (Stops (values_by replacements.now) (held.old.items ++ piece.now)
         (W.contents writer.old) (W.contents writer.new)) }
     ensures fault { OnErr result (result ≡ Err ToolFault.WriteFault) }
     ensures no_failure { OnOk result (W.failures writer.new ≡ W.failures writer.old) }
@@ -170,7 +168,7 @@ fn advance<W: ByteOut>(
     if held.is_empty() {
         return copy_plain(held, piece, writer);
     }
-    match effect_of(vars, only, held, piece[0]) {
+    match effect_of(replacements, held, piece[0]) {
         Effect::Held => {
             held.push(piece[0]);
             Ok(1)

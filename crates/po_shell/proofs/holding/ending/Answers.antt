@@ -19,4 +19,4 @@ pub returns : goal.returns
 returns c =
     let name = c.begun-is_braced.result.1.now in
     let bare = c.begun-is_braced.ensures.bytes ∙ ap (λ b. 36 ∷ after_dollar b name) c.if-is_braced.false in
-    ends-name _ _ name _ bare c.begun-is_braced.ensures.name (some-from_length name (sym c.if-is_empty-2.ensures)) c.replacement.ensures
+    ends-name _ _ name _ bare c.begun-is_braced.ensures.name (some-from_length name (sym c.if-is_empty-2.ensures)) c.value_for.ensures

@@ -1,7 +1,6 @@
 use Rattle.std.proofs.Common.{refl, inl, inr, map, ap, sym, ◌∙◌}
-use Rattle.std.specs.List.{flat_map}
 use Rattle.std.specs.Option.{option_map}
-use Rattle.po_shell.specs.Locales.{non_empty, languages, variants, distinct}
+use Rattle.po_shell.specs.Locales.{non_empty, distinct}
 use Rattle.po_shell.proofs.LocaleLemmas.{candidates-none, candidates-barred, candidates-some}
 use Rattle.po_shell.proofs.locale.locale_candidates.Goals as goal
 

@@ -3,7 +3,7 @@ use Rattle.std.proofs.lemmas.Bool.{cond-true, cond-false}
 use Rattle.std.proofs.lemmas.List.{drop_all}
 use Rattle.po_shell.specs.Substitution.{value_of, pairs_in}
 use Rattle.po_shell.proofs.VariableLemmas.{value_of-next}
-use Rattle.po_shell.proofs.variable.value_of.Goals as goal
+use Rattle.po_shell.proofs.replacements.first_value.Goals as goal
 
 pub returns-then-eq : goal.returns-then-eq
 returns-then-eq c =

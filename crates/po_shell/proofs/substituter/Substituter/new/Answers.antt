@@ -4,4 +4,4 @@ use Rattle.po_shell.proofs.ReferenceLemmas.{nothing-undecided}
 use Rattle.po_shell.proofs.substituter.Substituter.new.Goals as goal
 
 pub invariant_of-result : goal.invariant_of-result
-invariant_of-result c = ap is_undecided c.new.ensures ∙ nothing-undecided
+invariant_of-result c = ap is_undecided c.new-2.ensures ∙ nothing-undecided
