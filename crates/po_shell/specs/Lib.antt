@@ -16,4 +16,5 @@ pub mod Expanding
 pub mod Locales
 pub mod LocaleSteps
 pub mod Catalogues
+pub mod Environments
 pub mod Variables

@@ -2,7 +2,7 @@
 //! locales to look for, escapes, counts, and the substitution of variables.
 //!
 //! Devices: `fault`, `device`, `input`, `delivery`, and `failing` for tests. Catalogues to look in:
-//! `search`, `locale`, `catalogue`. Arguments: `count`, `escape`. Substitution: `variable`,
+//! `search`, `locale`, `environment`, `catalogue`. Arguments: `count`, `escape`. Substitution: `variable`,
 //! `reference`, `sorted`, `replacements`, `holding`, `substituter`, `envsubst`. Then `laws`.
 
 #![tactic(auto)]
@@ -11,6 +11,7 @@ mod catalogue;
 mod count;
 mod delivery;
 mod device;
+mod environment;
 mod envsubst;
 mod escape;
 mod failing;
@@ -30,6 +31,7 @@ pub use catalogue::{DEFAULT_FOLDER, catalogue_path, catalogue_paths};
 pub use count::{OTHER_COUNT, count_of};
 pub use delivery::put_all;
 pub use device::{ByteIn, ByteOut, Counted};
+pub use environment::{OwnedEnvironment, VariableSource};
 pub use envsubst::{MOST_READS, run_envsubst, run_envsubst_in_blocks};
 pub use escape::{Expanded, expand};
 pub use failing::Failing;
