@@ -74,7 +74,7 @@ kept_from false comment_texts previous body =
     ∙ ap (λ ts. entry_with previous body [] [] ts (texts_of Flags kept)) (none_of Reference refl comment_texts)
     ∙ ap (λ ts. entry_with previous body [] [] [] ts) (flags_kept comment_texts)
 
-all_kept : (entries : List TextEntry) → map (kept_entry true) entries ≡ entries
+pub all_kept : (entries : List TextEntry) → map (kept_entry true) entries ≡ entries
 all_kept [] = refl
 all_kept (entry ∷ entries) = ap (λ es. entry ∷ es) (all_kept entries)
 

@@ -31,6 +31,8 @@ pub mod Totality
 pub mod Readable
 pub mod TextEnds
 pub mod NoMemory
+pub mod RestFaults
 pub mod PieceReading
 pub mod MetFlags
 pub mod Kept
+pub mod KeptEntries

@@ -18,3 +18,7 @@ ok_step (Err e) f p = tt
 pub ok_same : {T E : Type 0} (P : T → Type 0) (x : T) (r : Result T E) → IfOk r (λ y. y ≡ x) → IfOk r (λ y. P x) → IfOk r P
 ok_same P x (Ok y) e p = subst P (sym e) p
 ok_same P x (Err e) same p = tt
+
+pub ok_always : {T E : Type 0} {P : T → Type 0} (r : Result T E) → ((y : T) → P y) → IfOk r P
+ok_always (Ok y) f = f y
+ok_always (Err e) f = tt

@@ -10,5 +10,6 @@ pub mod HeadView
 pub mod Faults
 pub mod KeptComments
 pub mod ItemsRead
+pub mod PieceRead
 pub mod Refusals
 pub mod MetFlags

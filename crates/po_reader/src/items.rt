@@ -4,13 +4,11 @@ ghost use Rattle.po_syntax.specs.TextItem.{views};
 ghost use Rattle.po_entry.specs.EntryView.{entry_view};
 ghost use Rattle.po_entry.specs.Header.{HasAdmittedCharset};
 ghost use Rattle.po_entry.specs.Validity.{IsEntry, HasTexts};
-ghost use Rattle.po_entry.specs.TextEntry.{TextEntry};
-ghost use Rattle.po_reader.specs.KeptComments.{without_comments};
-ghost use Rattle.po_reader.specs.Faults.{TextsStop};
-ghost use Rattle.po_reader.specs.Faults.{CharsetStops};
+ghost use Rattle.po_reader.specs.Faults.{CharsetStops, TextsStop};
 ghost use Rattle.po_reader.specs.ItemsRead.{ReadsItems, ItemsStop};
-ghost use Rattle.po_reader.specs.Viable.{last_line};
+ghost use Rattle.po_reader.specs.PieceRead.{KeepsItems};
 ghost use Rattle.po_reader.specs.Stops.{IsStop};
+ghost use Rattle.po_reader.specs.Viable.{last_line};
 
 use crate::drafts::drafts_of;
 use crate::index::line_of;
@@ -22,26 +20,39 @@ use std::alloc::Global;
 pub(crate) fn catalogue_of_items(alloc: Global, items: Vec<Item<'_>>) -> Result<Catalogue, PoError>
     requires hold { All HoldsText (views items.items) }
     requires few { vec_len items ≤ 2 ^ 31 }
-    ensures found { IfOk result (λ entries. ReadsItems (views items.entry.items) entries) }
+    ensures found { IfOk result (ReadsItems (views items.entry.items)) }
     ensures fault { IfErr result (IsStop (ItemsStop (views items.entry.items))) }
     ensures memory { IfErr result (λ e. e.kind ≡ PoFault.OutOfMemory → e.line ≡ 0) }
 {
-    let drafts = drafts_of(alloc, &items, last_line(&items), true)?;
+    last_entries_of(alloc, items, true)
+}
+
+/// The entries that items spell, with their comments and references or without.
+pub(crate) fn last_entries_of(
+    alloc: Global,
+    items: Vec<Item<'_>>,
+    all: bool,
+) -> Result<Catalogue, PoError>
+    requires hold { All HoldsText (views items.items) }
+    requires few { vec_len items ≤ 2 ^ 31 }
+    ensures found { IfOk result (KeepsItems all (views items.entry.items)) }
+    ensures fault { IfErr result (IsStop (ItemsStop (views items.entry.items))) }
+    ensures memory { IfErr result (λ e. e.kind ≡ PoFault.OutOfMemory → e.line ≡ 0) }
+{
+    let drafts = drafts_of(alloc, &items, last_line(&items), all)?;
     drop(items);
     check_drafts(&drafts)?;
     catalogue_of(alloc, drafts)
 }
 
-/// The catalogue of the entries that items spell, without their comments and references.
-pub(crate) fn messages_of_items(alloc: Global, items: Vec<Item<'_>>) -> Result<Catalogue, PoError>
-    requires hold { All HoldsText (views items.items) }
-    requires few { vec_len items ≤ 2 ^ 31 }
-    ensures found { IfOk result (λ messages. (entries : List TextEntry) × ReadsItems (views items.entry.items) entries
-        × (messages ≡ map without_comments entries)) }
+/// The same of items that are kept, and whose fault is not asked for.
+pub(crate) fn entries_of(alloc: Global, items: &[Item<'_>], all: bool) -> Result<Catalogue, PoError>
+    requires hold { All HoldsText (views items.now) }
+    requires few { length items.now ≤ 2 ^ 31 }
+    ensures found { IfOk result (KeepsItems all (views items.now)) }
     ensures memory { IfErr result (λ e. e.kind ≡ PoFault.OutOfMemory → e.line ≡ 0) }
 {
-    let drafts = drafts_of(alloc, &items, 0, false)?;
-    drop(items);
+    let drafts = drafts_of(alloc, items, 0, all)?;
     check_drafts(&drafts)?;
     catalogue_of(alloc, drafts)
 }
@@ -77,8 +88,7 @@ fn catalogue_of(alloc: Global, drafts: Vec<Fields>) -> Result<Catalogue, PoError
     requires { All (λ draft. IsEntry (entry_view draft)) drafts.items }
     ensures entries { IfOk result (λ c. c ≡ map entry_view drafts.items) }
     ensures charsets { OnOk result (All HasAdmittedCharset (map entry_view drafts.items)) }
-    ensures fault { IfErr result (λ e. e.kind ≢ PoFault.OutOfMemory
-        → (e.kind ≡ PoFault.ForeignCharset) × CharsetStops (map entry_view drafts.items) e.line) }
+    ensures fault { IfErr result (λ e. e.kind ≢ PoFault.OutOfMemory → (e.kind ≡ PoFault.ForeignCharset) × CharsetStops (map entry_view drafts.items) e.line) }
     ensures memory { IfErr result (λ e. e.kind ≡ PoFault.OutOfMemory → e.line ≡ 0) }
 {
     let mut catalogue = Catalogue::new(alloc);

@@ -1,14 +1,16 @@
-ghost use Rattle.std.specs.Prelude.{◌≡◌, ◌≢◌, ◌<◌, ◌++◌, [], List, ℕ, IfOk, IfErr, OnOk, map, length};
+ghost use Rattle.std.specs.Prelude.{◌≡◌, ◌≤◌, ◌^◌, ◌++◌, [], List, All, vec_len, true, IfOk, IfErr, OnOk};
 ghost use Rattle.po_syntax.specs.declared.fault.PoFault.{PoFault};
-ghost use Rattle.po_syntax.specs.LinesLeft.{LinesLeft, LeftStops};
-ghost use Rattle.po_entry.specs.TextEntry.{TextEntry};
-ghost use Rattle.po_entry.specs.ReadsText.{ReadsLeft, ReadsText};
-ghost use Rattle.po_reader.specs.KeptComments.{without_comments};
-ghost use Rattle.po_reader.specs.Refusals.{IsLeftRefusal, IsTextRefusal};
+ghost use Rattle.po_syntax.specs.ItemContents.{HoldsText};
+ghost use Rattle.po_syntax.specs.TextItem.{TextItem, views};
+ghost use Rattle.po_entry.specs.ReadsText.{ReadsText};
+ghost use Rattle.po_reader.specs.PieceRead.{ReadsOn, KeepsReading, KeepsRest, ReadsMessages, KeepsItems, BeginsAnew, FaultsStay, IsShorter};
+ghost use Rattle.po_reader.specs.ItemsRead.{ItemsStop};
+ghost use Rattle.po_reader.specs.Stops.{IsStop};
+ghost use Rattle.po_reader.specs.Refusals.{IsItemsRefusal, IsRestRefusal, IsLeftRefusal, IsTextRefusal};
 
-use crate::items::{catalogue_of_items, messages_of_items};
+use crate::items::{entries_of, last_entries_of};
 use po_entry::Catalogue;
-use po_syntax::{Pieces, PoError, PoFault};
+use po_syntax::{Item, Keyword, Pieces, PoError, PoFault};
 use std::alloc::{AllocError, Global};
 
 /// Why a text is not read piece by piece.
@@ -16,7 +18,7 @@ use std::alloc::{AllocError, Global};
 pub enum Refusal {
     /// The first fault of the text, or out of memory.
     Fault(PoError),
-    /// A piece does not read by itself. Only the whole text shows whether it reads, or which fault it has.
+    /// A piece begins within an entry. Only the whole text shows whether it reads, or which fault it has.
     Whole,
 }
 
@@ -35,26 +37,23 @@ impl From<AllocError> for Refusal {
     }
 }
 
+/// How many items are counted.
+const MOST_ITEMS: usize = 2_147_483_648;
+
 /// The entries of the next piece, which has at least this many bytes where the text goes on after it. Where the lines
-/// that are left read as entries, they read as those of the piece and then those of the rest.
+/// that are left read as entries, they read as those of the piece and then those of the rest. Where a piece does not
+/// read by itself, all that is left is read with it.
 pub fn next_catalogue(
     alloc: Global,
     pieces: &mut Pieces<'_>,
     size: usize,
 ) -> Result<Catalogue, Refusal>
-    ensures found { IfOk result (λ entries. (more : List TextEntry) → ReadsLeft pieces.new more → ReadsLeft pieces.old (entries ++ more)) }
-    ensures stops { OnOk result ((fault : PoFault) (line : ℕ) → LeftStops pieces.new fault line → LeftStops pieces.old fault line) }
-    ensures fewer { OnOk result (pieces.old.lines ≢ [] → length pieces.new.lines < length pieces.old.lines) }
+    ensures found { IfOk result (ReadsOn pieces.old pieces.new) }
+    ensures faults { OnOk result (FaultsStay pieces.old pieces.new) }
+    ensures fewer { OnOk result (IsShorter pieces.old pieces.new) }
     ensures fault { IfErr result (IsLeftRefusal pieces.old) }
 {
-    let items = match pieces.next(alloc, size) {
-        Ok(items) => items,
-        Err(error) => return Err(Refusal::Fault(error)),
-    };
-    match catalogue_of_items(alloc, items) {
-        Ok(catalogue) => Ok(catalogue),
-        Err(error) => Err(refusal_of(error)),
-    }
+    next_entries(alloc, pieces, size, true)
 }
 
 /// The entries of the next piece without their comments and references, where only their messages are wanted. They are
@@ -64,35 +63,108 @@ pub fn next_messages(
     pieces: &mut Pieces<'_>,
     size: usize,
 ) -> Result<Catalogue, Refusal>
-    ensures found { IfOk result (λ messages. (entries : List TextEntry) × (messages ≡ map without_comments entries) × ((more : List TextEntry) → ReadsLeft pieces.new more → ReadsLeft pieces.old (entries ++ more))) }
-    ensures stops { OnOk result ((fault : PoFault) (line : ℕ) → LeftStops pieces.new fault line → LeftStops pieces.old fault line) }
-    ensures fewer { OnOk result (pieces.old.lines ≢ [] → length pieces.new.lines < length pieces.old.lines) }
+    ensures found { IfOk result (ReadsMessages pieces.old pieces.new) }
+    ensures faults { OnOk result (FaultsStay pieces.old pieces.new) }
+    ensures fewer { OnOk result (IsShorter pieces.old pieces.new) }
+    ensures fault { IfErr result (IsLeftRefusal pieces.old) }
+{
+    next_entries(alloc, pieces, size, false)
+}
+
+/// The entries of the next piece, with their comments and references or without.
+fn next_entries(
+    alloc: Global,
+    pieces: &mut Pieces<'_>,
+    size: usize,
+    all: bool,
+) -> Result<Catalogue, Refusal>
+    ensures found { IfOk result (KeepsReading all pieces.old pieces.new) }
+    ensures faults { OnOk result (FaultsStay pieces.old pieces.new) }
+    ensures fewer { OnOk result (IsShorter pieces.old pieces.new) }
     ensures fault { IfErr result (IsLeftRefusal pieces.old) }
 {
     let items = match pieces.next(alloc, size) {
         Ok(items) => items,
         Err(error) => return Err(Refusal::Fault(error)),
     };
-    match messages_of_items(alloc, items) {
-        Ok(messages) => Ok(messages),
-        Err(error) => Err(refusal_of(error)),
+    if pieces.are_over() {
+        return last_entries(alloc, items, all);
+    }
+    match entries_of(alloc, &items, all) {
+        Ok(entries) => Ok(entries),
+        Err(error) => match error.kind {
+            PoFault::OutOfMemory => Err(Refusal::Fault(error)),
+            _ => rest_entries(alloc, pieces, items, all),
+        },
     }
 }
 
-/// Why a piece is not read whose items are known.
-fn refusal_of(error: PoError) -> Refusal
-    requires { error.kind ≡ PoFault.OutOfMemory → error.line ≡ 0 }
-    ensures { (left : LinesLeft) → IsLeftRefusal left result }
+/// The entries of a piece that does not read by itself, and of all that is left after it.
+fn rest_entries<'a>(
+    alloc: Global,
+    pieces: &mut Pieces<'a>,
+    mut items: Vec<Item<'a>>,
+    all: bool,
+) -> Result<Catalogue, Refusal>
+    requires hold { All HoldsText (views items.items) }
+    requires few { vec_len items ≤ 2 ^ 31 }
+    ensures found { IfOk result (KeepsRest all pieces.old pieces.new (views items.entry.items)) }
+    ensures over { OnOk result (pieces.new.lines ≡ []) }
+    ensures fault { IfErr result (IsRestRefusal pieces.old (views items.entry.items)) }
 {
-    match error.kind {
-        PoFault::OutOfMemory => Refusal::Fault(error),
-        _ => Refusal::Whole,
+    let mut rest = match pieces.next(alloc, usize::MAX) {
+        Ok(rest) => rest,
+        Err(error) => return Err(Refusal::Fault(error)),
+    };
+    let is_counted = rest.len() <= MOST_ITEMS - items.len();
+    if !is_counted || !pieces.are_over() {
+        return Err(Refusal::Whole);
+    }
+    items.append(&mut rest)?;
+    last_entries(alloc, items, all)
+}
+
+/// The entries of the items of all that is left.
+fn last_entries(alloc: Global, items: Vec<Item<'_>>, all: bool) -> Result<Catalogue, Refusal>
+    requires hold { All HoldsText (views items.items) }
+    requires few { vec_len items ≤ 2 ^ 31 }
+    ensures found { IfOk result (KeepsItems all (views items.entry.items)) }
+    ensures fault { IfErr result (IsItemsRefusal (views items.entry.items)) }
+{
+    let begins_anew = begins_anew(&items);
+    match last_entries_of(alloc, items, all) {
+        Ok(entries) => Ok(entries),
+        Err(error) => Err(refusal_of(error, begins_anew)),
+    }
+}
+
+/// Whether no entry before goes on with these items.
+fn begins_anew(items: &[Item<'_>]) -> bool
+    ensures { result ≡ true → BeginsAnew (views items.now) }
+{
+    !matches!(
+        items.first(),
+        Some(Item::Str(..) | Item::Word(Keyword::MsgStrAt(_), ..))
+    )
+}
+
+/// Why items are not read.
+fn refusal_of(error: PoError, begins_anew: bool) -> Refusal
+    requires memory { error.kind ≡ PoFault.OutOfMemory → error.line ≡ 0 }
+    ensures { (items : List TextItem) → (begins_anew ≡ true → BeginsAnew items) → IsStop (ItemsStop items) error
+        → IsItemsRefusal items result }
+{
+    let is_exact = begins_anew || error.kind == PoFault::OutOfMemory;
+    if is_exact {
+        Refusal::Fault(error)
+    } else {
+        Refusal::Whole
     }
 }
 
 /// The catalogue of a text that is read in pieces of this size.
 pub(crate) fn read_pieces(alloc: Global, text: &[u8], size: usize) -> Result<Catalogue, Refusal>
-    ensures found { IfOk result (λ entries. ReadsText text.now entries) }
+    ensures found { IfOk result (ReadsText text.now) }
     ensures fault { IfErr result (IsTextRefusal text.now) }
 {
     let mut pieces = match Pieces::of(text) {

@@ -1,9 +1,9 @@
-use Rattle.po_reader.proofs.PieceReading.{piece_joined}
+use Rattle.std.proofs.Common.{subst, sym, ◌∙◌}
+use Rattle.po_reader.specs.PieceRead.{ReadsOn}
+use Rattle.po_reader.proofs.Kept.{all_kept}
+use Rattle.po_reader.proofs.Results.{ok_step}
 use Rattle.po_reader.proofs.piecewise.next_catalogue.Goals as goal
 
-pub returns-in-Ok-catalogue_of_items-clause-found : goal.returns-in-Ok-catalogue_of_items-clause-found
-returns-in-Ok-catalogue_of_items-clause-found c =
-    piece_joined c.args.pieces.now c.next.new.self _ _ c.in-Ok.ensures.found c.in-Ok.ensures.ends c.in-Ok-catalogue_of_items.ensures.found
-
-pub returns-in-Err-catalogue_of_items-clause-fault : goal.returns-in-Err-catalogue_of_items-clause-fault
-returns-in-Err-catalogue_of_items-clause-fault c = c.refusal_of.ensures c.args.pieces.now
+pub returns-clause-found : goal.returns-clause-found
+returns-clause-found c =
+    ok_step c.next_entries.result (λ kept h. subst (ReadsOn c.args.pieces.now c.next_entries.new.pieces) (sym (h.1 ∙ all_kept h.0)) h.2) c.next_entries.ensures.found

@@ -1,11 +1,26 @@
-use Rattle.std.proofs.Common.{[], ◌++◌, append-nil, append_assoc}
-use Rattle.po_reader.proofs.PieceReading.{left_over}
+use Rattle.std.proofs.Common.{List, [], ◌++◌, append-nil, append_assoc, subst, sym}
+use Rattle.po_entry.specs.ReadsText.{ReadsText}
+use Rattle.po_entry.specs.TextEntry.{TextEntry}
+use Rattle.po_reader.specs.Faults.IsReadFault.{in_text}
+use Rattle.po_reader.proofs.PieceReading.{fault_of_text, left_over, whole_left}
 use Rattle.po_reader.proofs.piecewise.read_pieces.Goals as goal
+
+pub returns-in-Err-clause-fault : goal.returns-in-Err-clause-fault
+returns-in-Err-clause-fault c = record {
+  fault = λ other. in_text c.in-Err.ensures.fault;
+  memory = λ memory. absurd (c.in-Err.ensures.memory memory);
+}
+
+pub loop-pieces-init : goal.loop-pieces-init
+loop-pieces-init c = record {
+  reads = λ more h. subst (λ (entries : List TextEntry). ReadsText c.args.text.now (entries ++ more)) (sym c.new-catalogue.ensures) (whole_left c.args.text.now c.in-Ok.pieces c.in-Ok.ensures.found more h);
+  faults = fault_of_text c.args.text.now c.in-Ok.pieces c.in-Ok.ensures.found c.in-Ok.ensures.stops;
+}
 
 pub loop-pieces-preserved : goal.loop-pieces-preserved
 loop-pieces-preserved c = record {
   reads = λ more h. rw (c.in_ok-append.ensures.ok, append_assoc) (c.loop-pieces.invariant.reads (c.in_ok-piece.piece ++ more) (c.in_ok-piece.ensures.found more h));
-  stops = λ fault line h. c.loop-pieces.invariant.stops fault line (c.in_ok-piece.ensures.stops fault line h);
+  faults = λ fault line h. c.loop-pieces.invariant.faults fault line (c.in_ok-piece.ensures.faults fault line h);
 }
 
 pub returns-clause-found : goal.returns-clause-found

@@ -1,15 +1,15 @@
 use Rattle.std.proofs.Common.{ℕ, List, ◌++◌, length}
 use Rattle.po_syntax.specs.declared.fault.PoFault.{PoFault}
-use Rattle.po_syntax.specs.LinesLeft.{LeftStops}
-use Rattle.po_syntax.specs.PoText.{TextFault}
 use Rattle.po_entry.specs.TextEntry.{TextEntry}
 use Rattle.po_entry.specs.ReadsText.{ReadsLeft, ReadsText}
+use Rattle.po_reader.specs.Faults.{IsReadFault}
+use Rattle.po_reader.specs.PieceRead.{IsLeftFault}
 use Rattle.po_reader.proofs.piecewise.read_pieces.Given as goal
 
 abbrev pub invariant-loop-pieces : goal.invariant-loop-pieces
 invariant-loop-pieces l = record {
   reads : (more : List TextEntry) → ReadsLeft l.pieces more → ReadsText l.text (l.catalogue ++ more);
-  stops : (fault : PoFault) (line : ℕ) → LeftStops l.pieces fault line → TextFault l.text fault line;
+  faults : (fault : PoFault) (line : ℕ) → IsLeftFault l.pieces fault line → IsReadFault l.text fault line;
 }
 
 abbrev pub decreases-loop-pieces : goal.decreases-loop-pieces

@@ -2,14 +2,14 @@ use Rattle.std.proofs.Common.{◌∙◌, subst, sym}
 use Rattle.std.specs.Prelude.{All}
 use Rattle.std.proofs.lemmas.List.Elements.{All-map}
 use Rattle.std.proofs.lemmas.Result.{err_from_is_err_and}
-use Rattle.po_entry.specs.EntryView.{entry_view}
 use Rattle.po_entry.specs.Header.{HasAdmittedCharset}
+use Rattle.po_entry.specs.EntryView.{entry_view}
 use Rattle.po_entry.specs.Validity.{HasTexts}
 use Rattle.po_reader.proofs.Spelt.{reads_spelt}
 use Rattle.po_reader.proofs.SoundCatalogue.{SoundEntry, entries_sound, drafts_valid, draft_kind}
-use Rattle.po_reader.proofs.Kept.{sound_without_comments, texts_without_comments, admitted_without_comments}
+use Rattle.po_reader.proofs.KeptEntries.{kept_sound, kept_texts, kept_admitted}
 use Rattle.po_reader.proofs.Results.{ok_both, ok_step}
-use Rattle.po_reader.proofs.items.messages_of_items.Goals as goal
+use Rattle.po_reader.proofs.items.entries_of.Goals as goal
 
 pub returns-in_err-check_drafts-clause-memory : goal.returns-in_err-check_drafts-clause-memory
 returns-in_err-check_drafts-clause-memory c =
@@ -18,17 +18,17 @@ returns-in_err-check_drafts-clause-memory c =
 
 pub catalogue_of-requires : goal.catalogue_of-requires
 catalogue_of-requires c =
-    let spelt = rw c.deref.ensures.value at c.in_ok-drafts.ensures.found in
-    let sound = subst (All SoundEntry) (sym spelt.2) (sound_without_comments spelt.0 (entries_sound spelt.1 c.requires.hold)) in
-    let asked = rw c.deref-2.ensures.value at c.in_ok-check_drafts.ensures.ok in
+    let spelt = c.in_ok-drafts.ensures.found in
+    let sound = subst (All SoundEntry) (sym spelt.2) (kept_sound c.args.all spelt.0 (entries_sound spelt.1 c.requires.hold)) in
+    let asked = rw c.deref.ensures.value at c.in_ok-check_drafts.ensures.ok in
     drafts_valid _ sound asked
 
 pub returns-clause-found : goal.returns-clause-found
 returns-clause-found c =
-    let spelt = rw c.deref.ensures.value at c.in_ok-drafts.ensures.found in
-    let asked = rw c.deref-2.ensures.value at c.in_ok-check_drafts.ensures.ok in
-    let texts = texts_without_comments spelt.0 (subst (All HasTexts) spelt.2 (All-map HasTexts entry_view c.in_ok-drafts.drafts.items asked)) in
-    let admitted = ok_step c.catalogue_of.result (λ _ charsets. admitted_without_comments spelt.0 (subst (All HasAdmittedCharset) spelt.2 charsets)) c.catalogue_of.ensures.charsets in
+    let spelt = c.in_ok-drafts.ensures.found in
+    let asked = rw c.deref.ensures.value at c.in_ok-check_drafts.ensures.ok in
+    let texts = kept_texts c.args.all spelt.0 (subst (All HasTexts) spelt.2 (All-map HasTexts entry_view c.in_ok-drafts.drafts.items asked)) in
+    let admitted = ok_step c.catalogue_of.result (λ _ charsets. kept_admitted c.args.all spelt.0 (subst (All HasAdmittedCharset) spelt.2 charsets)) c.catalogue_of.ensures.charsets in
     ok_both c.catalogue_of.result (λ made is charsets. (
       spelt.0,
       record { reads = reads_spelt spelt.1; texts = texts; charsets = charsets },

@@ -1,0 +1,116 @@
+-- The fault of items that stand after items that read as entries.
+use Rattle.std.proofs.Common.{◌≡◌, refl, sym, ap, subst, ◌∙◌, ℕ, List, [], ◌∷◌, ◌++◌, append_assoc}
+use Rattle.std.specs.Prelude.{All}
+use Rattle.std.proofs.lemmas.List.Elements.{All-nil, All-head, All-tail, All-append}
+use Rattle.po_syntax.specs.declared.fault.PoFault.{PoFault}
+use Rattle.po_syntax.specs.declared.item.Keyword.TheVariants.{MsgCtxt, MsgId, MsgIdPlural, MsgStr, MsgStrAt}
+use Rattle.po_syntax.specs.LinesLeft.{EndsInString}
+use Rattle.po_syntax.specs.TextItem.{TextItem, Comment, Word, Str}
+use Rattle.po_entry.specs.TextEntry.{TextEntry}
+use Rattle.po_reader.specs.Reads.{Reads, comments, entry}
+use Rattle.po_entry.specs.Header.{HasAdmittedCharset}
+use Rattle.po_entry.specs.Validity.{HasTexts}
+use Rattle.po_entry.specs.Spelling.{AreComments, SpellsEntries}
+use Rattle.po_entry.specs.Spelling as spelling
+use Rattle.po_entry.proofs.JoinedPieces.{entries_joined}
+use Rattle.po_reader.proofs.SpeltReads.{spelt_reads}
+use Rattle.po_reader.specs.Faults as faults
+use Rattle.po_reader.specs.ItemsRead.{ReadsItems, ItemsStop}
+use Rattle.po_reader.specs.ItemsRead as items
+use Rattle.po_reader.specs.Stops.{EntriesStop}
+use Rattle.po_reader.specs.Stops as stop
+use Rattle.po_reader.specs.Viable.{last_line}
+use Rattle.po_reader.proofs.Cuts.{head_cut, body_cut}
+use Rattle.po_reader.proofs.Looks.{IsApart, body_starts, forms_end, reads_look}
+use Rattle.po_reader.proofs.OneReading.{reads_or_stop, spelt_once, texts_go_on, charsets_go_on}
+
+-- what is left of items that end in a string ends in it
+ends_rest : (own rest : List TextItem) → EndsInString (own ++ rest) → EndsInString rest
+ends_rest [] rest h = h
+ends_rest (item ∷ own) [] h = tt
+ends_rest (item ∷ []) (next ∷ rest) h = h
+ends_rest (item ∷ second ∷ own) (next ∷ rest) h = ends_rest (second ∷ own) (next ∷ rest) h
+
+no_comment_last : (rest : List TextItem) → AreComments rest → EndsInString rest → rest ≡ []
+no_comment_last [] c h = refl
+no_comment_last (Comment kind text line ∷ []) c h = absurd h
+no_comment_last (Comment kind text line ∷ next ∷ rest) c h =
+    let none : next ∷ rest ≡ [] = no_comment_last (next ∷ rest) c.1 h in absurd (cc)
+no_comment_last (Word keyword marks line ∷ rest) c h = absurd c.0
+no_comment_last (Str bytes marks line ∷ rest) c h = absurd c.0
+
+-- where neither begins with a string or a form, both together don't
+apart_joined : (front rest : List TextItem) → IsApart front → IsApart rest → IsApart (front ++ rest)
+apart_joined [] rest f r = r
+apart_joined (Comment kind text line ∷ front) rest f r = (refl, refl)
+apart_joined (Str bytes marks line ∷ front) rest f r = f
+apart_joined (Word MsgCtxt marks line ∷ front) rest f r = (refl, refl)
+apart_joined (Word MsgId marks line ∷ front) rest f r = (refl, refl)
+apart_joined (Word MsgIdPlural marks line ∷ front) rest f r = (refl, refl)
+apart_joined (Word MsgStr marks line ∷ front) rest f r = (refl, refl)
+apart_joined (Word (MsgStrAt index) marks line ∷ front) rest f r = f
+
+-- where items stop by themselves, they stop after entries
+stop_after : {front rest : List TextItem} {entries : List TextEntry} {end line : ℕ} {fault : PoFault} → Reads front entries → EndsInString front → IsApart rest → EntriesStop end rest fault line
+    → EntriesStop end (front ++ rest) fault line
+stop_after (comments {items = front} only) ends apart stops = rw (no_comment_last front only ends) stops
+stop_after {rest = rest} {end = end} {line = line} {fault = fault} (entry {items = front} {own = own} {rest = after} h b more) ends apart stops =
+    let first = head_cut h (body_starts b) in
+    let lines = body_cut b in
+    let split : front ≡ first.own ++ (lines.own ++ after) = first.split ∙ ap (λ (x : List TextItem). first.own ++ x) lines.split in
+    let left = ends_rest lines.own after (ends_rest first.own (lines.own ++ after) (subst EndsInString split ends)) in
+    let next : IsApart (after ++ rest) = apart_joined after rest (reads_look more) apart in
+    let body_again = lines.again (after ++ rest) (next.0, forms_end _ _ next.1) in
+    let head_again = first.again (lines.own ++ (after ++ rest)) (body_starts body_again) in
+    let joined : front ++ rest ≡ first.own ++ (lines.own ++ (after ++ rest)) =
+    ap (λ (x : List TextItem). x ++ rest) split ∙ append_assoc first.own (lines.own ++ after) rest ∙ ap (λ (x : List TextItem). first.own ++ x) (append_assoc lines.own after rest) in
+    subst (λ (x : List TextItem). EntriesStop end x fault line) (sym joined) (stop.EntriesStop.later head_again body_again (stop_after more left apart stops))
+
+-- the last line of items is that of those after others
+last_after : (front : List TextItem) (item : TextItem) (rest : List TextItem) → last_line (front ++ item ∷ rest) ≡ last_line (item ∷ rest)
+last_after [] item rest = refl
+last_after (first ∷ []) item rest = refl
+last_after (first ∷ second ∷ front) item rest = last_after (second ∷ front) item rest
+
+entries_stop_after : (front rest : List TextItem) {entries : List TextEntry} {line : ℕ} {fault : PoFault} → Reads front entries → EndsInString front → IsApart rest → EntriesStop (last_line rest) rest fault line
+    → EntriesStop (last_line (front ++ rest)) (front ++ rest) fault line
+entries_stop_after front [] read ends apart stops = absurd (reads_or_stop (comments tt) stops)
+entries_stop_after front (item ∷ rest) {line = line} {fault = fault} read ends apart stops =
+    subst (λ (end : ℕ). EntriesStop end (front ++ item ∷ rest) fault line) (sym (last_after front item rest)) (stop_after read ends apart stops)
+
+texts_stop_after : (entries : List TextEntry) {others : List TextEntry} {fault : PoFault} {line : ℕ} → All HasTexts entries → faults.TextsStop others fault line → faults.TextsStop (entries ++ others) fault line
+texts_stop_after [] h stops = stops
+texts_stop_after (first ∷ entries) h stops =
+    faults.TextsStop.later (All-head HasTexts first entries h) (texts_stop_after entries (All-tail HasTexts first entries h) stops)
+
+charset_stops_after : (entries : List TextEntry) {others : List TextEntry} {line : ℕ} → All HasAdmittedCharset entries → faults.CharsetStops others line → faults.CharsetStops (entries ++ others) line
+charset_stops_after [] h stops = stops
+charset_stops_after (first ∷ entries) h stops =
+    faults.CharsetStops.later (All-head HasAdmittedCharset first entries h) (charset_stops_after entries (All-tail HasAdmittedCharset first entries h) stops)
+
+-- the fault of items that begin anew is that of them after items that read
+pub items_stop_after : (front rest : List TextItem) (entries : List TextEntry) {fault : PoFault} {line : ℕ} → ReadsItems front entries → EndsInString front → IsApart rest → ItemsStop rest fault line
+    → ItemsStop (front ++ rest) fault line
+items_stop_after front rest entries read ends apart (items.in_items stops) =
+    items.in_items (entries_stop_after front rest (spelt_reads read.reads) ends apart stops)
+items_stop_after front rest entries read ends apart (items.in_texts reads stops) =
+    items.in_texts (entries_joined read.reads ends reads) (texts_stop_after entries read.texts stops)
+items_stop_after front rest entries read ends apart (items.in_charset {entries = others} reads texts stops) =
+    items.in_charset (entries_joined read.reads ends reads) (All-append HasTexts entries others read.texts texts) (charset_stops_after entries read.charsets stops)
+
+-- and these begin anew
+pub anew_after : (front rest : List TextItem) (entries : List TextEntry) → ReadsItems front entries → IsApart rest → IsApart (front ++ rest)
+anew_after front rest entries read apart = apart_joined front rest (reads_look (spelt_reads read.reads)) apart
+
+-- no items read as no entries
+pub no_entries : {rest : List TextItem} {entries : List TextEntry} → SpellsEntries rest entries → rest ≡ [] → entries ≡ []
+no_entries {entries = entries} read none = spelt_once (subst (λ (x : List TextItem). SpellsEntries x entries) none read) (spelling.comments tt)
+
+-- no items have no fault
+pub nothing_stops : {fault : PoFault} {line : ℕ} (rest : List TextItem) → rest ≡ [] → ItemsStop rest fault line → ⊥
+nothing_stops rest none (items.in_items {fault = fault} {line = line} stops) =
+    reads_or_stop (comments tt) (subst (λ (x : List TextItem). EntriesStop (last_line rest) x fault line) none stops)
+nothing_stops rest none (items.in_texts reads stops) =
+    texts_go_on stops (subst (All HasTexts) (sym (no_entries reads none)) (All-nil HasTexts))
+nothing_stops rest none (items.in_charset reads texts stops) =
+    charsets_go_on stops (subst (All HasAdmittedCharset) (sym (no_entries reads none)) (All-nil HasAdmittedCharset))

@@ -1,0 +1,59 @@
+-- How a text is read piece by piece, and why what is left of it isn't read. Internal but for the functions that read
+-- pieces (manual, "The Format of PO Files").
+use Rattle.std.specs.Prelude.{◌≡◌, ◌≢◌, ◌<◌, ℕ, Bool, false, List, [], ◌++◌, map, length}
+use Rattle.po_syntax.specs.declared.fault.PoFault.{PoFault}
+use Rattle.po_syntax.specs.LinesLeft.{LinesLeft, SpellsLeft, LeftStops}
+use Rattle.po_syntax.specs.TextItem.{TextItem}
+use Rattle.po_entry.specs.TextEntry.{TextEntry}
+use Rattle.po_reader.specs.Body.{begins_form}
+use Rattle.po_entry.specs.ReadsText.{ReadsLeft}
+use Rattle.po_reader.specs.Strings.{begins_string}
+use Rattle.po_reader.specs.KeptComments.{kept_entry, without_comments}
+use Rattle.po_reader.specs.ItemsRead.{ReadsItems, ItemsStop}
+
+-- neither a string nor a plural form stands first, so that no entry before goes on with these items
+abbrev pub BeginsAnew : List TextItem → Type 0
+BeginsAnew items = (begins_string items ≡ false) × (begins_form items ≡ false)
+
+-- where the lines that are left spell items, those that were left before spell these and then those
+abbrev pub SpellsOn : LinesLeft → LinesLeft → List TextItem → Type 0
+SpellsOn old new items = (more : List TextItem) → SpellsLeft new more → SpellsLeft old (items ++ more)
+
+-- where the lines that are left read as entries, those that were left before read as these and then those
+abbrev pub ReadsOn : LinesLeft → LinesLeft → List TextEntry → Type 0
+ReadsOn old new entries = (more : List TextEntry) → ReadsLeft new more → ReadsLeft old (entries ++ more)
+
+-- the same of entries that are kept with their comments or without
+abbrev pub KeepsReading : Bool → LinesLeft → LinesLeft → List TextEntry → Type 0
+KeepsReading all old new kept = (entries : List TextEntry) × (kept ≡ map (kept_entry all) entries) × ReadsOn old new entries
+
+-- the same of these items and of what is left after them, where those were left before
+abbrev pub KeepsRest : Bool → LinesLeft → LinesLeft → List TextItem → List TextEntry → Type 0
+KeepsRest all left new items kept = (old : LinesLeft) → SpellsOn old left items → KeepsReading all old new kept
+
+-- the same of the messages of entries
+abbrev pub ReadsMessages : LinesLeft → LinesLeft → List TextEntry → Type 0
+ReadsMessages old new messages =
+    (entries : List TextEntry) × (messages ≡ map without_comments entries) × ReadsOn old new entries
+
+-- the items read as entries, which are kept with their comments or without
+abbrev pub KeepsItems : Bool → List TextItem → List TextEntry → Type 0
+KeepsItems all items kept = (entries : List TextEntry) × ReadsItems items entries × (kept ≡ map (kept_entry all) entries)
+
+-- The fault of what is left to be read, with its line: that of the first line that spells nothing; or that of the items,
+-- with which no entry before goes on.
+pub data IsLeftFault (left : LinesLeft) : PoFault → ℕ → Type 0 where
+  in_lines : {fault : PoFault} {line : ℕ} → LeftStops left fault line → IsLeftFault left fault line
+  in_items : {items : List TextItem} {fault : PoFault} {line : ℕ} → SpellsLeft left items → BeginsAnew items → ItemsStop items fault line → IsLeftFault left fault line
+
+-- a fault of a line that is left is one of the lines that were left before
+abbrev pub StopsStay : LinesLeft → LinesLeft → Type 0
+StopsStay old new = (fault : PoFault) (line : ℕ) → LeftStops new fault line → LeftStops old fault line
+
+-- a fault of what is left is one of what was left before
+abbrev pub FaultsStay : LinesLeft → LinesLeft → Type 0
+FaultsStay old new = (fault : PoFault) (line : ℕ) → IsLeftFault new fault line → IsLeftFault old fault line
+
+-- fewer lines are left, where there were any
+abbrev pub IsShorter : LinesLeft → LinesLeft → Type 0
+IsShorter old new = old.lines ≢ [] → length new.lines < length old.lines
