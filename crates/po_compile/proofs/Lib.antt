@@ -14,5 +14,6 @@ pub mod OneFaultLemmas
 pub mod PartLemmas
 pub mod RowsMean
 pub mod PrefixLemmas
-pub mod RowsRise
 pub mod CollectedLemmas
+pub mod RepeatLemmas
+pub mod FirstRepeat

@@ -17,7 +17,7 @@ use Rattle.mo_file.specs.Message.{Message}
 use Rattle.po_entry.specs.TextEntry.{TextEntry}
 use Rattle.po_entry.specs.Validity.{IsCatalogueEntry}
 use Rattle.po_catalog.specs.Joined.{is_live}
-use Rattle.po_catalog.specs.Duplicate.{HasNoDuplicate, IsSameMessage}
+use Rattle.po_catalog.specs.Duplicate.{AllDiffer, HasNoDuplicate, IsSameMessage}
 use Rattle.po_compile.specs.Collected.{LiveMessage, live_message, row_view, lengths_of, counts_of, IsSortedOf}
 use Rattle.std.proofs.lemmas.List.Sums.{length-filter}
 use Rattle.po_catalog.specs.Statistics.{stats_of, is_translated, is_fuzzy, is_untranslated}
@@ -141,21 +141,25 @@ pub key_of_live : (use_fuzzy : Bool) (live : List TextEntry) → map key_view (m
 key_of_live use_fuzzy [] = refl
 key_of_live use_fuzzy (entry ∷ live) = ap (λ ks. key_of_entry entry ∷ ks) (key_of_live use_fuzzy live)
 
--- where the sorted keys rise, no live entry repeats another
-pub rows_distinct : (use_fuzzy : Bool) (entries : List TextEntry) (sorted : List LiveMessage) → IsPermutation (map (live_message use_fuzzy) (filter is_live entries)) sorted
-    → AreRising (map key_view sorted) → HasNoDuplicate entries
-rows_distinct use_fuzzy entries sorted permuted rising =
-    let live = filter is_live entries in
+-- where the keys of some rows of the entries differ, so do the entries
+pub live_differ : (use_fuzzy : Bool) (live : List TextEntry) (sorted : List LiveMessage) → IsPermutation (map (live_message use_fuzzy) live) sorted
+    → AllPairs (λ k l. k ≢ l) (map key_view sorted) → AllDiffer live
+live_differ use_fuzzy live sorted permuted differ =
     let rows = map (live_message use_fuzzy) live in
     let distinct : AllPairs (λ k l. k ≢ l) (map key_view rows) =
     AllPairs-from_IsDistinct bytes_eq-Decides (map key_view rows)
     (IsDistinct-IsPermutation bytes_eq nat_list_eq_equiv.symm (map key_view sorted) (map key_view rows)
     (IsPermutation-map key_view sorted rows (IsPermutation-sym rows sorted permuted))
-    (IsDistinct-from_AllPairs bytes_eq-Decides (map key_view sorted) (distinct_keys sorted (rising_rises sorted rising)))) in
+    (IsDistinct-from_AllPairs bytes_eq-Decides (map key_view sorted) differ)) in
     let apart : AllPairs (λ k l. k ≢ l) (map key_of_entry live) = subst (λ (ks : List (List ℕ)). AllPairs (λ k l. k ≢ l) ks) (key_of_live use_fuzzy live) distinct in
     λ i j d below inside same.
     apart i j (key_of_entry d) below (omega (arith, inside, length-map live key_of_entry))
     (get_or-map key_of_entry live i d ∙ same_key (get_or live i d) (get_or live j d) same ∙ sym (get_or-map key_of_entry live j d))
+
+-- where the sorted keys rise, no live entry repeats another
+pub rows_distinct : (use_fuzzy : Bool) (entries : List TextEntry) (sorted : List LiveMessage) → IsPermutation (map (live_message use_fuzzy) (filter is_live entries)) sorted
+    → AreRising (map key_view sorted) → HasNoDuplicate entries
+rows_distinct use_fuzzy entries sorted permuted rising = live_differ use_fuzzy (filter is_live entries) sorted permuted (distinct_keys sorted (rising_rises sorted rising))
 
 pub keys_of_rows : (rows : List Row) → map key_view (map row_view rows) ≡ map (λ (r : Row). r.key.now) rows
 keys_of_rows [] = refl

@@ -19,6 +19,7 @@ pub record RowMade (use_fuzzy : Bool) (lengths : Lengths) (bytes next : List ℕ
   pub original : take lengths.original bytes ≡ original_of entry
   pub translation : take lengths.translation (drop lengths.original bytes) ≡ translation_of entry
   pub key : take lengths.key (original_of entry) ≡ query_key entry.context entry.id
+  pub line : lengths.line ≡ entry.line
   pub compiled : lengths.compiled ≡ is_compiled use_fuzzy entry
   pub rest : drop lengths.translation (drop lengths.original bytes) ≡ next
 
@@ -29,6 +30,7 @@ row_made use_fuzzy entry next =
       original = take-append_seam (original_of entry) (translation_of entry ++ next);
       translation = ap (take (length (translation_of entry))) after ∙ take-append_seam (translation_of entry) next;
       key = take-append_seam (query_key entry.context entry.id) (plural_part entry.plural);
+      line = refl;
       compiled = refl;
       rest = ap (drop (length (translation_of entry))) after ∙ drop_seam (translation_of entry) next;
     }
@@ -51,6 +53,6 @@ row_at use_fuzzy live all i d bytes is inside e =
     let found = row_in use_fuzzy live i d bytes (omega (arith, inside, ap length is)) e in
     (found.0, found.1, subst (λ (ls : List Lengths). RowMade use_fuzzy (get_or ls i d) bytes (flat_map message_bytes (drop (i + 1) live)) found.0) (sym is) found.2)
 
-pub row_view_is : (use_fuzzy : Bool) (entry : TextEntry) (row : Row) → row.key.now ≡ query_key entry.context entry.id → row.original.now ≡ original_of entry → row.translation.now ≡ translation_of entry → row.compiled ≡ is_compiled use_fuzzy entry
+pub row_view_is : (use_fuzzy : Bool) (entry : TextEntry) (row : Row) → row.key.now ≡ query_key entry.context entry.id → row.original.now ≡ original_of entry → row.translation.now ≡ translation_of entry → row.line ≡ entry.line → row.compiled ≡ is_compiled use_fuzzy entry
     → row_view row ≡ live_message use_fuzzy entry
-row_view_is use_fuzzy entry row key original translation compiled = cc
+row_view_is use_fuzzy entry row key original translation line compiled = cc

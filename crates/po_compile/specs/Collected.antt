@@ -30,6 +30,7 @@ lengths_of use_fuzzy entry = record {
   key = length (query_key entry.context entry.id);
   original = length (original_of entry);
   translation = length (translation_of entry);
+  line = entry.line;
   compiled = is_compiled use_fuzzy entry;
   translated = is_translated entry;
   fuzzy = is_fuzzy entry;
@@ -47,16 +48,18 @@ pub record ReadsLive (use_fuzzy : Bool) (text : List ℕ) (collected : Collected
   pub reads : ReadsText text entries
   pub holds : HoldsLive use_fuzzy entries collected
 
--- the message of a live entry, with its key, and whether it is compiled
+-- the message of a live entry, with its key and line, and whether it is compiled
 pub record LiveMessage : Type 0 where
   pub key : List ℕ
   pub message : Message
+  pub line : ℕ
   pub compiled : Bool
 
 abbrev pub live_message : Bool → TextEntry → LiveMessage
 live_message use_fuzzy entry = record {
   key = query_key entry.context entry.id;
   message = message_of entry;
+  line = entry.line;
   compiled = is_compiled use_fuzzy entry;
 }
 
@@ -65,8 +68,19 @@ abbrev pub row_view : Row → LiveMessage
 row_view row = record {
   key = row.key.now;
   message = record { original = row.original.now; translation = row.translation.now };
+  line = row.line;
   compiled = row.compiled;
 }
+
+-- of what is collected of live entries these rows show the messages
+abbrev pub AreRowsOf : List ℕ → List Lengths → List Row → Type 0
+AreRowsOf bytes lengths rows =
+    (use_fuzzy : Bool) (live : List TextEntry) → bytes ≡ flat_map message_bytes live → lengths ≡ map (lengths_of use_fuzzy) live
+    → map row_view rows ≡ map (live_message use_fuzzy) live
+
+-- the messages that are compiled
+abbrev pub compiled_of : List LiveMessage → List Message
+compiled_of messages = map (λ (m : LiveMessage). m.message) (filter (λ (m : LiveMessage). m.compiled) messages)
 
 -- the live ones of entries that can stand in a catalogue are collected
 pub record HoldsEntries (use_fuzzy : Bool) (entries : List TextEntry) (collected : Collected) : Type 0 where
@@ -85,6 +99,10 @@ counts_of lengths = record {
   fuzzy = count_by (λ (l : Lengths). l.fuzzy) lengths;
   untranslated = count_by (λ (l : Lengths). l.untranslated) lengths;
 }
+
+-- what holds of all entries that may have been collected
+abbrev pub OfAll : Collected → (Bool → List TextEntry → Type 0) → Type 0
+OfAll collected Holds = (use_fuzzy : Bool) (entries : List TextEntry) → HoldsEntries use_fuzzy entries collected → Holds use_fuzzy entries
 
 -- no live entry repeats another, and the layout of the compiled ones' messages is too large, which is the fault
 pub record IsLargeText (options : Options) (entries : List TextEntry) (error : PoError) : Type 0 where

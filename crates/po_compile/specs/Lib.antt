@@ -7,3 +7,4 @@ pub mod Headline
 pub mod Parts
 pub mod Collected
 pub mod Prefix
+pub mod Repeats

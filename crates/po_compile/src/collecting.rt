@@ -20,6 +20,8 @@ pub(crate) struct Lengths {
     /// The key, and after it a NUL and the plural, where there is one.
     pub(crate) original: usize,
     pub(crate) translation: usize,
+    /// The line of its msgid.
+    pub(crate) line: u32,
     pub(crate) compiled: bool,
     pub(crate) translated: bool,
     pub(crate) fuzzy: bool,
@@ -96,6 +98,7 @@ fn add_message(bytes: &mut Vec<u8>, entry: &Entry, use_fuzzy: bool) -> Result<Le
         key,
         original,
         translation,
+        line: entry.line(),
         compiled: is_compiled(entry, use_fuzzy),
         translated: is_counted && has_translation && !entry.fuzzy(),
         fuzzy: is_counted && has_translation && entry.fuzzy(),

@@ -1,8 +1,7 @@
-ghost use Rattle.std.specs.Prelude.{◌≡◌, ◌≢◌, ◌⊎◌, ◌<◌, ◌^◌, [], ◌∷◌, List, length, IfOk, IfErr, IfSome, MatchResult};
+ghost use Rattle.std.specs.Prelude.{◌≡◌, ◌≢◌, ◌⊎◌, ◌<◌, ◌^◌, [], ◌∷◌, List, length, IfOk, IfErr, MatchResult};
 ghost use Rattle.po_entry.specs.TextEntry.{TextEntry, slice_texts};
 ghost use Rattle.po_catalog.specs.Joined.{joined_entries};
-ghost use Rattle.po_catalog.specs.Duplicate.{HasNoDuplicate};
-ghost use Rattle.po_entry.specs.Validity.{out_of_memory};
+ghost use Rattle.po_catalog.specs.Duplicate.{HasNoDuplicate, IsDuplicateErrorOf};
 ghost use Rattle.po_compile.specs.Collected.{HoldsEntries, IsLargeText, ReadsLive};
 ghost use Rattle.po_compile.specs.Accepted.{AreCompiled, IsCompileFault, fault_of_only_input};
 ghost use Rattle.po_compile.specs.Compiling.{IsCompilation, IsLayoutFault, IsLayoutError};
@@ -66,7 +65,7 @@ pub fn compile(alloc: Global, text: &[u8], options: Options) -> Result<Compiled,
     }
 }
 
-/// Compiles a text whose live entries are collected. Where one repeats another, the whole text is read for the fault.
+/// Compiles a text whose live entries are collected.
 fn compile_live(
     alloc: Global,
     text: &[u8],
@@ -77,35 +76,29 @@ fn compile_live(
     ensures { MatchResult result (AreCompiled options (text.now ∷ [])) (λ e. IsCompileFault options (text.now ∷ []) (fault_of_only_input e)) }
 {
     entries_can_stand();
-    match compile_collected(alloc, collected, options) {
-        Ok(Some(compiled)) => Ok(compiled),
-        Ok(None) => compile_whole(alloc, text, options),
-        Err(error) => Err(error),
-    }
+    compile_collected(alloc, collected, options)
 }
 
-/// Compiles the live entries that are collected; none where one repeats another.
+/// Compiles the live entries that are collected.
 fn compile_collected(
     alloc: Global,
     collected: &Collected,
     options: Options,
-) -> Result<Option<Compiled>, PoError>
+) -> Result<Compiled, PoError>
     requires { (entries : List TextEntry) × HoldsEntries options.use_fuzzy entries collected.now }
-    ensures found { IfOk result (λ found. IfSome found (λ compiled. (entries : List TextEntry) → HoldsEntries options.use_fuzzy entries collected.now → HasNoDuplicate entries × IsCompilation options entries compiled)) }
-    ensures fault { IfErr result (λ e. (e ≡ out_of_memory) ⊎ ((entries : List TextEntry) → HoldsEntries options.use_fuzzy entries collected.now → IsLargeText options entries e)) }
+    ensures found { IfOk result (λ compiled. (entries : List TextEntry) → HoldsEntries options.use_fuzzy entries collected.now → HasNoDuplicate entries × IsCompilation options entries compiled) }
+    ensures fault { IfErr result (λ e. (entries : List TextEntry) → HoldsEntries options.use_fuzzy entries collected.now → IsDuplicateErrorOf entries e ⊎ IsLargeText options entries e) }
 {
-    let Some(pairs) = sorted_pairs(alloc, collected)? else {
-        return Ok(None);
-    };
+    let pairs = sorted_pairs(alloc, collected)?;
     let count = pairs.len();
     layout_is_catalog();
     messages_mean_entries();
     match build_sorted(alloc, options.order, &pairs) {
-        Ok(bytes) => Ok(Some(Compiled {
+        Ok(bytes) => Ok(Compiled {
             bytes,
             n: count as u32,
             stats: statistics_of(&collected.lengths),
-        })),
+        }),
         Err(error) => Err(layout_error(error).error),
     }
 }

@@ -13,6 +13,10 @@ pub(crate) struct Row<'b> {
     pub(crate) key: &'b [u8],
     pub(crate) original: &'b [u8],
     pub(crate) translation: &'b [u8],
+    /// How many live entries stand before it.
+    pub(crate) place: usize,
+    /// The line of its msgid.
+    pub(crate) line: u32,
     pub(crate) compiled: bool,
     ghost bytes: { All (λ byte. byte < 256) key.now },
     ghost first: { prefix ≡ prefix_of key.now },

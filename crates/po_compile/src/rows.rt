@@ -1,11 +1,8 @@
-ghost use Rattle.std.specs.Prelude.{◌≡◌, Bool, List, IfOk, map, filter, take, drop, true, false, IsPermutation};
-ghost use Rattle.std.specs.List.{flat_map};
-ghost use Rattle.std.specs.List.Sorted.{IsSortedBy};
-ghost use Rattle.std.specs.Ordering.{is_lt};
-ghost use Rattle.mo_file.specs.Key.{key_cmp, AreRising};
+ghost use Rattle.std.specs.Prelude.{◌≡◌, ◌<◌, None, IfOk, IfSome, map, length, take, drop, IsPermutation};
+ghost use Rattle.mo_file.specs.Key.{AreRising};
 ghost use Rattle.mo_file.specs.Pairs.{messages_of_lent};
-ghost use Rattle.po_entry.specs.TextEntry.{TextEntry};
-ghost use Rattle.po_compile.specs.Collected.{message_bytes, lengths_of, live_message, row_view, LiveMessage};
+ghost use Rattle.po_compile.specs.Collected.{row_view, AreRowsOf, compiled_of};
+ghost use Rattle.po_compile.specs.Repeats.{ArePlaced, AreSorted, IsEarlier, IsEarliestRepeat, row_cmp};
 
 use crate::collecting::Lengths;
 use crate::prefix::{prefix_of, second_of};
@@ -22,12 +19,20 @@ fn cut(bytes: &[u8], len: usize) -> (&[u8], &[u8])
     bytes.split_at(len.min(bytes.len()))
 }
 
-/// A row, with the prefix of its key.
-fn row_of<'b>(key: &'b [u8], original: &'b [u8], translation: &'b [u8], compiled: bool) -> Row<'b>
+/// The row of the message at this place, with the prefix of its key.
+fn row_of<'b>(
+    place: usize,
+    key: &'b [u8],
+    original: &'b [u8],
+    translation: &'b [u8],
+    parts: &Lengths,
+) -> Row<'b>
+    ensures place { result.place ≡ place }
     ensures key { result.key.now ≡ key.now }
     ensures original { result.original.now ≡ original.now }
     ensures translation { result.translation.now ≡ translation.now }
-    ensures compiled { result.compiled ≡ compiled }
+    ensures line { result.line ≡ parts.now.line }
+    ensures compiled { result.compiled ≡ parts.now.compiled }
 {
     Row {
         prefix: prefix_of(key),
@@ -35,7 +40,9 @@ fn row_of<'b>(key: &'b [u8], original: &'b [u8], translation: &'b [u8], compiled
         key,
         original,
         translation,
-        compiled,
+        place,
+        line: parts.line,
+        compiled: parts.compiled,
     }
 }
 
@@ -45,7 +52,8 @@ pub(crate) fn rows_of<'b>(
     bytes: &'b [u8],
     lengths: &[Lengths],
 ) -> Result<Vec<Row<'b>>, AllocError>
-    ensures { IfOk result (λ rows. (use_fuzzy : Bool) (live : List TextEntry) → bytes.now ≡ flat_map message_bytes live → lengths.now ≡ map (lengths_of use_fuzzy) live → map row_view rows.items ≡ map (live_message use_fuzzy) live) }
+    ensures messages { IfOk result (λ rows. AreRowsOf bytes.now lengths.now rows.items) }
+    ensures placed { IfOk result (λ rows. ArePlaced rows.items) }
 {
     let mut rows = Vec::with_capacity(alloc, lengths.len())?;
     let mut rest = bytes;
@@ -53,32 +61,64 @@ pub(crate) fn rows_of<'b>(
         let (original, after) = cut(rest, parts.original);
         let (translation, next) = cut(after, parts.translation);
         let (key, _) = cut(original, parts.key);
-        rows.push(row_of(key, original, translation, parts.compiled))?;
+        let row = row_of(rows.len(), key, original, translation, parts);
+        rows.push(row)?;
         rest = next;
     }
     Ok(rows)
 }
 
-/// Sorts rows by their keys.
-pub(crate) fn sort_rows(rows: &mut Vec<Row<'_>>)
-    ensures permutation { IsPermutation rows.old.items rows.new.items }
-    ensures sorted { IsSortedBy (λ a b. is_lt (key_cmp a.key.now b.key.now)) rows.new.items }
+/// How two rows are sorted: by their keys, and those of one key as they stand in the text.
+fn compare_rows(a: &Row<'_>, b: &Row<'_>) -> Ordering
+    ensures { result ≡ row_cmp a.now b.now }
 {
-    rows.sort_unstable_by(|a, b| compare(a, b));
+    match compare(a, b) {
+        Ordering::Equal => a.place.cmp(&b.place),
+        other => other,
+    }
 }
 
-/// Whether each key is above the one before it.
-pub(crate) fn are_rising(rows: &[Row<'_>]) -> bool
-    ensures rising { result ≡ true → AreRising (map (λ r. r.key.now) rows.now) }
-    ensures not_rising { result ≡ false → ¬ AreRising (map (λ r. r.key.now) rows.now) }
+/// Sorts rows by their keys, and those of one key as they stand in the text.
+pub(crate) fn sort_rows(rows: &mut Vec<Row<'_>>)
+    ensures permutation { IsPermutation rows.old.items rows.new.items }
+    ensures sorted { AreSorted rows.new.items }
 {
+    rows.sort_unstable_by(|a, b| compare_rows(a, b));
+}
+
+/// Of sorted rows that have the key of the row before them, the index of the one that stands first in the text.
+pub(crate) fn earliest_repeat(rows: &[Row<'_>]) -> Option<usize>
+    requires { AreSorted rows.now }
+    ensures rising { result ≡ None → AreRising (map (λ r. r.key.now) rows.now) }
+    ensures repeat { IfSome result (IsEarliestRepeat rows.now (length rows.now)) }
+{
+    let mut earliest: Option<usize> = None;
     for i in 1..rows.len() {
         match compare(&rows[i - 1], &rows[i]) {
-            Ordering::Less => {}
-            _ => return false,
+            Ordering::Equal => {}
+            _ => continue,
+        }
+        earliest = Some(earlier(rows, earliest, i));
+    }
+    earliest
+}
+
+/// Of the row that was found, if any, and the row at an index, the index of the one that stands first in the text.
+fn earlier(rows: &[Row<'_>], found: Option<usize>, i: usize) -> usize
+    requires inside { i < length rows.now }
+    requires found { IfSome found (λ index. index < length rows.now) }
+    ensures { IsEarlier rows.now found i result }
+{
+    match found {
+        None => i,
+        Some(index) => {
+            if rows[i].place < rows[index].place {
+                i
+            } else {
+                index
+            }
         }
     }
-    true
 }
 
 /// The messages that are compiled, in the order of the rows.
@@ -86,7 +126,7 @@ pub(crate) fn compiled_pairs<'b>(
     alloc: Global,
     rows: &[Row<'b>],
 ) -> Result<Vec<LentPair<'b>>, AllocError>
-    ensures { IfOk result (λ pairs. messages_of_lent pairs.items ≡ map (λ (m : LiveMessage). m.message) (filter (λ (m : LiveMessage). m.compiled) (map row_view rows.now))) }
+    ensures { IfOk result (λ pairs. messages_of_lent pairs.items ≡ compiled_of (map row_view rows.now)) }
 {
     let mut pairs = Vec::with_capacity(alloc, rows.len())?;
     for row in rows {

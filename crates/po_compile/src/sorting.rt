@@ -1,32 +1,37 @@
-ghost use Rattle.std.specs.Prelude.{◌≡◌, Bool, List, count_by, None, IfOk, IfSome};
+ghost use Rattle.std.specs.Prelude.{◌≡◌, count_by, IfOk, IfErr};
 ghost use Rattle.mo_file.specs.Pairs.{messages_of_lent};
-ghost use Rattle.po_entry.specs.TextEntry.{TextEntry};
-ghost use Rattle.po_catalog.specs.Duplicate.{HasNoDuplicate};
+ghost use Rattle.po_catalog.specs.Duplicate.{IsDuplicateErrorOf};
 ghost use Rattle.po_compile.specs.declared.collecting.Lengths.{Lengths as LengthsSeen};
-ghost use Rattle.po_compile.specs.Collected.{HoldsEntries, IsSortedOf, counts_of};
+ghost use Rattle.po_compile.specs.Collected.{OfAll, IsSortedOf, counts_of};
 
 use crate::collecting::{Collected, Lengths};
-use crate::rows::{are_rising, compiled_pairs, rows_of, sort_rows};
+use crate::rows::{compiled_pairs, earliest_repeat, rows_of, sort_rows};
 use mo_file::LentPair;
 use po_catalog::Stats;
-use std::alloc::{AllocError, Global};
+use po_syntax::{PoError, PoFault};
+use std::alloc::Global;
 
-/// The messages that are compiled, in the order of their keys; none just where a live entry repeats another. The keys
-/// of all live entries are sorted once, and then only neighbours can be equal.
+/// The messages that are compiled, in the order of their keys. The keys of all live entries are sorted once, and then
+/// only neighbours can be equal. Refused with the fault of `duplicates`, and where an allocation failed.
 pub(crate) fn sorted_pairs(
     alloc: Global,
     collected: &Collected,
-) -> Result<Option<Vec<LentPair<'_>>>, AllocError>
-    ensures messages { IfOk result (λ found. IfSome found (λ pairs. (use_fuzzy : Bool) (entries : List TextEntry) → HoldsEntries use_fuzzy entries collected.now → IsSortedOf use_fuzzy entries (messages_of_lent pairs.items))) }
-    ensures repeats { IfOk result (λ found. found ≡ None → (use_fuzzy : Bool) (entries : List TextEntry) → HoldsEntries use_fuzzy entries collected.now → ¬ HasNoDuplicate entries) }
+) -> Result<Vec<LentPair<'_>>, PoError>
+    ensures messages { IfOk result (λ pairs. OfAll collected.now (λ f es. IsSortedOf f es (messages_of_lent pairs.items))) }
+    ensures fault { IfErr result (λ e. OfAll collected.now (λ _ entries. IsDuplicateErrorOf entries e)) }
 {
     let mut rows = rows_of(alloc, &collected.bytes, &collected.lengths)?;
     sort_rows(&mut rows);
-    if !are_rising(&rows) {
-        return Ok(None);
+    match earliest_repeat(&rows) {
+        None => {
+            let pairs = compiled_pairs(alloc, &rows)?;
+            Ok(pairs)
+        }
+        Some(index) => Err(PoError {
+            kind: PoFault::Duplicate(rows[index - 1].line),
+            line: rows[index].line,
+        }),
     }
-    let pairs = compiled_pairs(alloc, &rows)?;
-    Ok(Some(pairs))
 }
 
 /// How many messages were translated, fuzzy and untranslated.

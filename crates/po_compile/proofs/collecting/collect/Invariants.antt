@@ -1,16 +1,16 @@
 use Rattle.std.proofs.Common.{ℕ, List, ◌++◌, length}
 use Rattle.po_syntax.specs.declared.fault.PoFault.{PoFault}
-use Rattle.po_syntax.specs.LinesLeft.{LeftStops}
-use Rattle.po_syntax.specs.PoText.{TextFault}
 use Rattle.po_entry.specs.TextEntry.{TextEntry}
 use Rattle.po_entry.specs.ReadsText.{ReadsLeft, ReadsText}
+use Rattle.po_reader.specs.Faults.{IsReadFault}
+use Rattle.po_reader.specs.PieceRead.{IsLeftFault}
 use Rattle.po_compile.specs.Collected.{HoldsLive}
 use Rattle.po_compile.proofs.collecting.collect.Given as goal
 
 abbrev pub invariant-loop-pieces : goal.invariant-loop-pieces
 invariant-loop-pieces l = record {
   reads : (before : List TextEntry) × ((more : List TextEntry) → ReadsLeft l.pieces more → ReadsText l.text (before ++ more)) × HoldsLive l.use_fuzzy before l.collected;
-  stops : (fault : PoFault) (line : ℕ) → LeftStops l.pieces fault line → TextFault l.text fault line;
+  faults : (fault : PoFault) (line : ℕ) → IsLeftFault l.pieces fault line → IsReadFault l.text fault line;
 }
 
 abbrev pub decreases-loop-pieces : goal.decreases-loop-pieces

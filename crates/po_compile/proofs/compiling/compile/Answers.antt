@@ -2,8 +2,7 @@ use Rattle.std.proofs.Common.{◌≡◌, ◌≢◌, ◌⊎◌, ℕ, List, refl, 
 use Rattle.po_syntax.specs.declared.fault.PoError.{PoError}
 use Rattle.po_syntax.specs.declared.fault.PoFault.{PoFault}
 use Rattle.po_syntax.specs.declared.fault.PoFault.TheVariants.{OutOfMemory}
-use Rattle.po_syntax.specs.PoText.{TextFault}
-use Rattle.po_reader.specs.Faults.{in_text}
+use Rattle.po_reader.specs.Faults.{IsReadFault}
 use Rattle.po_reader.specs.Refusals.{IsFaultOf}
 use Rattle.po_entry.specs.Validity.{out_of_memory}
 use Rattle.po_compile.specs.Accepted.{IsTextFault}
@@ -11,13 +10,13 @@ use Rattle.po_compile.proofs.ReadingLemmas.{only_refused}
 use Rattle.po_compile.proofs.compiling.compile.Goals as goal
 
 -- a fault that is reported is out of memory, or one of the text
-fault_by_kind : (text : List ℕ) (error : PoError) (kind : PoFault) → error.kind ≡ kind → IsFaultOf (TextFault text) error → (error ≡ out_of_memory) ⊎ ((error.kind ≢ OutOfMemory) × IsTextFault text error)
+fault_by_kind : (text : List ℕ) (error : PoError) (kind : PoFault) → error.kind ≡ kind → IsFaultOf (IsReadFault text) error → (error ≡ out_of_memory) ⊎ ((error.kind ≢ OutOfMemory) × IsTextFault text error)
 fault_by_kind text error OutOfMemory is h =
     let with : PoFault → ℕ → PoError = λ k l. record { kind = k; line = l } in
     inl (ap₂ with is (h.memory is))
 fault_by_kind text error kind is h =
     let other : error.kind ≢ OutOfMemory = λ memory. absurd (cc (is, memory)) in
-    inr (other, inl (in_text (h.fault other)))
+    inr (other, inl (h.fault other))
 
 pub returns-in-Err-Fault : goal.returns-in-Err-Fault
 returns-in-Err-Fault c =

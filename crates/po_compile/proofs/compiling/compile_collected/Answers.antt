@@ -14,16 +14,16 @@ use Rattle.po_compile.proofs.compiling.compile_collected.Goals as goal
 pub overflow_cast-result : goal.overflow_cast-result
 overflow_cast-result c =
     let order = c.args.options.order in
-    let pairs = c.in-Some.pairs.items in
+    let pairs = c.in_ok-pairs.pairs.items in
     let fits = subst (λ ms. length (layout order ms) < 2 ^ 32) (ap messages_of_lent c.deref.ensures.value) c.in-Ok.ensures.fits in
-    omega (arith, fits, count_below_layout order (messages_of_lent pairs), length-map pairs lent_message, c.len-count.ensures, c.in-Some.pairs.ok.0)
+    omega (arith, fits, count_below_layout order (messages_of_lent pairs), length-map pairs lent_message, c.len-count.ensures, c.in_ok-pairs.pairs.ok.0)
 
 pub returns-in-Ok-clause-found : goal.returns-in-Ok-clause-found
 returns-in-Ok-clause-found c = λ entries h.
     let order = c.args.options.order in
-    let messages = messages_of_lent c.in-Some.pairs.items in
+    let messages = messages_of_lent c.in_ok-pairs.pairs.items in
     let list = compiled_list c.args.options.use_fuzzy entries in
-    let found = rw c.in-Some.is at c.in_ok-pairs.ensures.messages in
+    let found = c.in_ok-pairs.ensures.messages in
     let sorted = found c.args.options.use_fuzzy entries h in
     let are = sorted.are_messages in
     let pairs = ap messages_of_lent c.deref.ensures.value in
@@ -37,7 +37,7 @@ returns-in-Ok-clause-found c = λ entries h.
         small = fits;
         catalog = subst (λ b. IsCatalog order b messages) (sym bytes) (c.layout_is_catalog.ensures order messages are.rising fits);
         means = c.messages_mean_entries.ensures list messages (compiled_valid c.args.options.use_fuzzy entries h.valid) are;
-        count = omega (arith, c.len-count.ensures, c.in-Some.pairs.ok.0, length-map c.in-Some.pairs.items lent_message, length_permutation (messages_of_entries list) messages are.all, length-map list message_of);
+        count = omega (arith, c.len-count.ensures, c.in_ok-pairs.pairs.ok.0, length-map c.in_ok-pairs.pairs.items lent_message, length_permutation (messages_of_entries list) messages are.all, length-map list message_of);
         stats = c.statistics_of.ensures ∙ ap counts_of c.deref-in-Ok.ensures.value ∙ counts_mean c.args.options.use_fuzzy entries _ h.holds.lengths;
       },
     )

@@ -1,0 +1,181 @@
+-- The fault of a text whose live entries are sorted, and repeat.
+use Rattle.std.proofs.Common.{◌≡◌, ◌≢◌, inl, inr, refl, sym, ap, ap₂, subst, ◌∙◌, ℕ, zero, suc, ◌+◌, ◌-◌, ◌<◌, ◌≤◌, nat_lt, Bool, true, false, cond, List, [], ◌∷◌, ◌++◌, length, get_or, take, drop, map, filter, arith, All, AllPairs, IsPermutation}
+use Rattle.std.specs.Str.{bytes_eq}
+use Rattle.std.proofs.Math.Seq.{drop-cons}
+use Rattle.std.proofs.lemmas.Bool.{cases_lt, lt-ltb}
+use Rattle.std.proofs.lemmas.Cmp.{nat_list_eq_equiv}
+use Rattle.std.proofs.lemmas.List.{get_or_default, get_or-map, get_or-take, length-map, length-take, map-append, take_all, take-append-drop, take-map}
+use Rattle.std.proofs.lemmas.List.Elements.{All-weaker, All-filter}
+use Rattle.std.proofs.lemmas.List.Sorted.{All-permutation, IsPermutation-map}
+use Rattle.std.proofs.lemmas.Map.Keys.{IsDistinct-IsPermutation}
+use Rattle.std.proofs.lemmas.Map.Made.{AllPairs-from_IsDistinct, IsDistinct-from_AllPairs}
+use Rattle.std.proofs.lemmas.Slice.Eq.{bytes_eq-Decides}
+use Rattle.po_syntax.specs.declared.fault.PoError.{PoError}
+use Rattle.po_syntax.specs.declared.fault.PoFault.{PoFault}
+use Rattle.po_syntax.specs.declared.fault.PoFault.TheVariants.{Duplicate}
+use Rattle.po_entry.specs.TextEntry.{TextEntry}
+use Rattle.po_entry.specs.Validity.{IsCatalogueEntry}
+use Rattle.po_catalog.specs.Joined.{InputEntry, is_live, in_input, entries_of}
+use Rattle.po_catalog.specs.Duplicate.{AllDiffer, IsSameMessage, IsDuplicateErrorOf, live_entries}
+use Rattle.po_compile.specs.Collected.{LiveMessage, live_message, row_view}
+use Rattle.po_compile.specs.Repeats.{ArePlaced, AreSorted, IsEarliestRepeat}
+use Rattle.po_compile.specs.declared.row.Row.{Row}
+use Rattle.po_compile.proofs.FilteredMoves.{IsPermutation-filter}
+use Rattle.po_compile.proofs.MeaningLemmas.{IsClean, clean_entry}
+use Rattle.po_compile.proofs.ReadingLemmas.{entries_of_input}
+use Rattle.po_compile.proofs.RepeatLemmas.{key, is_before, keys_before, not_before, places_of_pair}
+use Rattle.po_compile.proofs.RowLemmas.{key_view, key_of_entry, keys_of_rows, live_differ}
+use Rattle.po_compile.proofs.TextLemmas.{query_key_is_one}
+
+-- of rows that have their places from a number on, those before a place are the first
+first_rows : (rows : List Row) (from place : ℕ) → ((i : ℕ) (d : Row) → i < length rows → (get_or rows i d).place ≡ from + i) → filter (is_before place) rows ≡ take (place - from) rows
+first_rows [] from place placed = sym (take_all (place - from) [] (omega arith))
+first_rows (row ∷ rows) from place placed =
+    let here : row.place ≡ from = placed 0 row (omega arith) ∙ (let e : from + 0 ≡ from = omega arith in e) in
+    let later = first_rows rows (suc from) place (λ i d inside. placed (suc i) d (omega (arith, inside)) ∙ (let e : from + suc i ≡ suc from + i = omega arith in e)) in
+    elim (cases_lt from place) [
+      | inl below ↦
+          let kept : is_before place row ≡ true = ap (λ (n : ℕ). nat_lt n place) here ∙ lt-ltb from place below in
+          let long : place - from ≡ suc (place - suc from) = omega (arith, below) in
+          ap (λ (t : Bool). cond t (row ∷ filter (is_before place) rows) (filter (is_before place) rows)) kept ∙ ap (λ rs. row ∷ rs) later ∙ ap (λ (n : ℕ). take n (row ∷ rows)) (sym long)
+      | inr past ↦
+          let dropped : is_before place row ≡ false = ap (λ (n : ℕ). nat_lt n place) here ∙ not_before from place past in
+          let short : place - from ≡ 0 = omega (arith, past) in
+          let none : place - suc from ≡ 0 = omega (arith, past) in
+          ap (λ (t : Bool). cond t (row ∷ filter (is_before place) rows) (filter (is_before place) rows)) dropped ∙ later ∙ ap (λ (n : ℕ). take n rows) none ∙ ap (λ (n : ℕ). take n (row ∷ rows)) (sym short)
+    ]
+
+split_at : (entries : List TextEntry) (i : ℕ) (e : TextEntry) → i < length entries → entries ≡ take i entries ++ get_or entries i e ∷ drop (suc i) entries
+split_at entries i e inside = sym (take-append-drop i entries) ∙ ap (λ es. take i entries ++ es) (drop-cons entries i e inside)
+
+live_inputs : (entries : List TextEntry) → live_entries (map (in_input 0) entries) ≡ map (in_input 0) (filter is_live entries)
+live_inputs [] = refl
+live_inputs (entry ∷ entries) = kept (is_live entry) (live_inputs entries) where
+  kept : (t : Bool) → live_entries (map (in_input 0) entries) ≡ map (in_input 0) (filter is_live entries)
+      → cond t (in_input 0 entry ∷ live_entries (map (in_input 0) entries)) (live_entries (map (in_input 0) entries)) ≡ map (in_input 0) (cond t (entry ∷ filter is_live entries) (filter is_live entries))
+  kept true more = ap (λ es. in_input 0 entry ∷ es) more
+  kept false more = more
+
+first_entry : (entries : List TextEntry) → 0 < length entries → TextEntry
+first_entry [] some = absurd (omega arith)
+first_entry (entry ∷ entries) some = entry
+
+first_row : (rows : List Row) → 0 < length rows → Row
+first_row [] some = absurd (omega arith)
+first_row (row ∷ rows) some = row
+
+-- the place of a row, as a text
+abbrev place_text : Row → List ℕ
+place_text row = row.place ∷ []
+
+module _ (use_fuzzy : Bool) (live : List TextEntry) (rows sorted : List Row) (made : map row_view rows ≡ map (live_message use_fuzzy) live) (placed : ArePlaced rows) (permuted : IsPermutation rows sorted) where
+  abbrev IsRowOf : Row → Type 0
+  IsRowOf row = (row.place < length live) × ((e : TextEntry) → row_view row ≡ live_message use_fuzzy (get_or live row.place e))
+
+  long : length rows ≡ length live
+  long = sym (length-map rows row_view) ∙ ap length made ∙ length-map live (live_message use_fuzzy)
+
+  rows_of_live : All IsRowOf rows
+  rows_of_live = λ k d inside.
+      let place = placed k d inside in
+      let same = long in (
+        omega (arith, place, same, inside),
+        λ e.
+            sym (get_or-map row_view rows k d (row_view d) inside) ∙ ap (λ ms. get_or ms k (row_view d)) made ∙ get_or-map (live_message use_fuzzy) live k e (row_view d) (omega (arith, same, inside))
+            ∙ ap (λ (n : ℕ). live_message use_fuzzy (get_or live n e)) (sym place),
+      )
+
+  sorted_of_live : All IsRowOf sorted
+  sorted_of_live = All-permutation IsRowOf rows sorted permuted rows_of_live
+
+  -- no two rows have one place
+  places_differ : AllPairs (λ k l. k ≢ l) (map place_text sorted)
+  places_differ =
+      AllPairs-from_IsDistinct bytes_eq-Decides (map place_text sorted)
+      (IsDistinct-IsPermutation bytes_eq nat_list_eq_equiv.symm (map place_text rows) (map place_text sorted) (IsPermutation-map place_text rows sorted permuted)
+      (IsDistinct-from_AllPairs bytes_eq-Decides (map place_text rows) (λ i j d below inside same.
+      let count = length-map rows place_text in
+      let within : j < length rows = omega (arith, count, inside) in
+      let x = first_row rows (omega (arith, within)) in
+      let one = get_or-map place_text rows i x d (omega (arith, below, within)) in
+      let other = get_or-map place_text rows j x d within in
+      let texts : place_text (get_or rows i x) ≡ place_text (get_or rows j x) = sym one ∙ same ∙ other in
+      let both : (get_or rows i x).place ≡ (get_or rows j x).place = cc in
+      let first = placed i x (omega (arith, below, within)) in
+      let second = placed j x within in
+      omega (arith, both, first, second, below))))
+
+  -- the live entries before the place of the earliest repeating one differ
+  entries_before : (place : ℕ) → AllPairs (λ k l. k ≢ l) (map key (filter (is_before place) sorted)) → AllDiffer (take place live)
+  entries_before place keys =
+      let kept = filter (is_before place) sorted in
+      let none : place - 0 ≡ place = omega arith in
+      let taken : filter (is_before place) rows ≡ take place rows = first_rows rows 0 place (λ i d inside. placed i d inside ∙ (let e : i ≡ 0 + i = omega arith in e)) ∙ ap (λ (n : ℕ). take n rows) none in
+      let messages : map row_view (filter (is_before place) rows) ≡ map (live_message use_fuzzy) (take place live) =
+      ap (map row_view) taken ∙ sym (take-map row_view place rows) ∙ ap (take place) made ∙ take-map (live_message use_fuzzy) place live in
+      let moved : IsPermutation (map (live_message use_fuzzy) (take place live)) (map row_view kept) =
+      subst (λ (ms : List LiveMessage). IsPermutation ms (map row_view kept)) messages (IsPermutation-map row_view (filter (is_before place) rows) kept (IsPermutation-filter (is_before place) rows sorted permuted)) in
+      live_differ use_fuzzy (take place live) (map row_view kept) moved (subst (λ (ks : List (List ℕ)). AllPairs (λ k l. k ≢ l) ks) (sym (keys_of_rows kept)) keys)
+
+-- the fault that the earliest repeating row shows
+pub repeat_fault : (use_fuzzy : Bool) (entries : List TextEntry) (rows sorted : List Row) (index : ℕ) (a b : Row) → All IsCatalogueEntry entries → map row_view rows ≡ map (live_message use_fuzzy) (filter is_live entries)
+    → ArePlaced rows → IsPermutation rows sorted → AreSorted sorted → IsEarliestRepeat sorted (length sorted) index
+    → a ≡ get_or sorted (index - 1) a → b ≡ get_or sorted index b → IsDuplicateErrorOf entries (record { kind = Duplicate a.line; line = b.line })
+repeat_fault use_fuzzy entries rows sorted index a b valid made placed permuted in_order found first_row_is last_row_is =
+    let live = filter is_live entries in
+    let inside = found.inside in
+    let next = found.next in
+    let d = first_row sorted (omega (arith, inside)) in
+    let earlier = get_or sorted found.before d in
+    let later = get_or sorted index d in
+    let at : index - 1 ≡ found.before = omega (arith, next) in
+    let earlier_is : a ≡ earlier = first_row_is ∙ ap (λ (n : ℕ). get_or sorted n a) at ∙ get_or_default sorted found.before a d (omega (arith, inside, next)) in
+    let later_is : b ≡ later = last_row_is ∙ get_or_default sorted index b d inside in
+    let of_earlier = sorted_of_live use_fuzzy live rows sorted made placed permuted found.before d (omega (arith, inside, next)) in
+    let of_later = sorted_of_live use_fuzzy live rows sorted made placed permuted index d inside in
+    let later_inside = of_later.0 in
+    let e = first_entry live (omega (arith, later_inside)) in
+    let at_most = places_of_pair sorted index d in_order found in
+    let texts = length-map sorted place_text in
+    let apart : earlier.place ≢ later.place = λ same.
+    places_differ use_fuzzy live rows sorted made placed permuted found.before index [] (omega (arith, next)) (omega (arith, texts, inside))
+    (get_or-map place_text sorted found.before d [] (omega (arith, inside, next)) ∙ ap (λ (n : ℕ). n ∷ []) same ∙ sym (get_or-map place_text sorted index d [] inside)) in
+    let below : earlier.place < later.place = strictly earlier.place later.place at_most apart in
+    let first_split = split_at (take later.place live) earlier.place e (omega (arith, below, later_inside, length-take later.place live)) in
+    let first = get_or (take later.place live) earlier.place e in
+    let first_is : first ≡ get_or live earlier.place e = get_or-take later.place live earlier.place e below in
+    let last = get_or live later.place e in
+    let before = take earlier.place (take later.place live) in
+    let between = drop (suc earlier.place) (take later.place live) in
+    let after = drop (suc later.place) live in
+    let order : live ≡ (before ++ first ∷ between) ++ last ∷ after = split_at live later.place e later_inside ∙ ap (λ es. es ++ last ∷ after) first_split in
+    let clean : All IsClean live = All-weaker IsCatalogueEntry IsClean (λ x v. clean_entry x v.valid) live (All-filter is_live IsCatalogueEntry entries valid) in
+    let clean_first : IsClean first = subst IsClean (sym first_is) (clean earlier.place e (omega (arith, below, later_inside))) in
+    let clean_last : IsClean last = clean later.place e later_inside in
+    let view_first = of_earlier.1 e in
+    let view_last = of_later.1 e in
+    let keys : key_of_entry first ≡ key_of_entry last =
+    ap key_of_entry first_is ∙ sym (ap (λ (m : LiveMessage). m.key) view_first) ∙ found.same d ∙ ap (λ (m : LiveMessage). m.key) view_last in
+    let differ = entries_before use_fuzzy live rows sorted made placed permuted later.place (keys_before sorted index d found) in
+    inr (
+      in_input 0 first,
+      in_input 0 last,
+      record {
+        before = map (in_input 0) before;
+        between = map (in_input 0) between;
+        after = map (in_input 0) after;
+        order = live_inputs entries ∙ ap (map (in_input 0)) order ∙ map-append (in_input 0) (before ++ first ∷ between) (last ∷ after)
+            ∙ ap (λ es. es ++ in_input 0 last ∷ map (in_input 0) after) (map-append (in_input 0) before (first ∷ between));
+        same = query_key_is_one first.context last.context first.id last.id clean_first.context_eot clean_last.context_eot clean_first.id_eot clean_last.id_eot keys;
+        differ = subst AllDiffer (sym (ap entries_of (sym (map-append (in_input 0) before (first ∷ between))) ∙ entries_of_input 0 (before ++ first ∷ between))) (subst AllDiffer first_split differ);
+      },
+      ap₂ fault_at (ap line earlier_is ∙ ap (λ (m : LiveMessage). m.line) view_first ∙ ap (λ (x : TextEntry). x.line) (sym first_is)) (ap line later_is ∙ ap (λ (m : LiveMessage). m.line) view_last),
+    ) where
+      strictly : (m n : ℕ) → m ≤ n → m ≢ n → m < n
+      strictly m n least apart = elim (cases_lt m n) [ inl below ↦ below | inr past ↦ absurd (apart (omega (arith, least, past))) ]
+
+      line : Row → ℕ
+      line row = row.line
+
+      fault_at : ℕ → ℕ → PoError
+      fault_at m n = record { kind = Duplicate m; line = n }
