@@ -71,12 +71,36 @@ def forms(chance, count):
     return [between.join(pair) for pair in halves]
 
 
-def message(chance, number):
+def shared_beginning(number):
+    """A msgid with a beginning that all share."""
+    return "a long beginning that all of these messages share " * 3 + str(number)
+
+
+def shared_hash(number):
+    """A msgid with the hash that all share, where a hash is 16 times the one before plus a byte."""
+    return "".join("Aq" if number >> bit & 1 else "Ba" for bit in range(20))
+
+
+# Msgids that somebody chose to make a tool slow.
+CHOSEN = {"shared beginning": shared_beginning, "shared hash": shared_hash}
+
+# What makes msgfmt refuse a catalogue that ends with it, and the status of GNU's.
+REFUSED = {
+    "duplicate": (f'msgid "{KNOWN}"\nmsgstr "x"\n', 1),
+    "not UTF-8": ('msgid "x\\377"\nmsgstr "x"\n', 0),
+    "out of order": ('msgid_plural "x"\nmsgstr "x"\n', 1),
+    "unterminated": ('msgid "x\nmsgstr "x"\n', 1),
+}
+
+
+def message(chance, number, chosen=None):
     """A message: of 100, 3 are obsolete, 5 fuzzy, 5 untranslated, 8 have a plural, 10 a context."""
     prefix = "#~ " if chance.random() < 0.03 else ""
     is_fuzzy = chance.random() < 0.05
     is_plural = chance.random() < 0.08
     id = f"{phrase(chance, WORDS)} {number} {phrase(chance, WORDS)}"
+    if chosen is not None:
+        id = chosen(number)
     out = comments(chance, number) if not prefix else []
     out.append(flags(chance, is_fuzzy))
     if is_fuzzy:
@@ -103,13 +127,14 @@ def known_messages():
     return "".join(out)
 
 
-def write_catalogue(path, count, seed):
-    """A catalogue of so many messages besides its header and the known ones."""
+def write_catalogue(path, count, seed, chosen=None, last=""):
+    """A catalogue of so many messages besides its header and the known ones, whose msgids may be chosen."""
     chance = random.Random(seed)
     with open(path, "w", encoding="utf-8") as out:
         out.write(HEADER + known_messages())
         for number in range(count):
-            out.write("\n" + message(chance, number))
+            out.write("\n" + message(chance, number, chosen))
+        out.write("\n" + last)
 
 
 def write_parts(paths, count, seed):

@@ -1,9 +1,10 @@
 """Runs commands in turn, and prints the time and the peak memory of each run.
 
-    measure.py RUNS SOURCE OUTPUT WORD.. [; WORD..]..
+    measure.py RUNS STATUSES SOURCE OUTPUT WORD.. [; WORD..]..
 
 Each command, after one run of all that isn't measured, runs so often. A line for a run has the
-number of its command, its seconds and its peak in KiB. A program that fails ends the measuring.
+number of its command, its seconds and its peak in KiB. Between the statuses that are wanted stands
+a comma; a program with another one ends the measuring.
 
 A process counts the memory of the one that it was made from, up to the start of its own program. So
 this script is one of its own, and imports next to nothing.
@@ -14,7 +15,7 @@ import sys
 import time
 
 
-def run(command, source, output):
+def run(command, wanted, source, output):
     """The seconds and the peak in KiB of one run, from its start to its end."""
     actions = [
         (posix.POSIX_SPAWN_OPEN, 0, source, posix.O_RDONLY, 0),
@@ -25,7 +26,8 @@ def run(command, source, output):
     process = posix.posix_spawn(command[0], command, posix.environ, file_actions=actions)
     _, status, usage = posix.wait4(process, 0)
     seconds = time.perf_counter() - begin
-    if status != 0:
+    status = posix.waitstatus_to_exitcode(status)
+    if status != wanted:
         sys.exit(f"{' '.join(command)}: status {status}")
     return seconds, usage.ru_maxrss
 
@@ -41,11 +43,12 @@ def commands_of(words):
     return commands
 
 
-def main(runs, source, output, *words):
+def main(runs, statuses, source, output, *words):
     commands = commands_of(words)
+    wanted = [int(status) for status in statuses.split(",")]
     for turn in range(int(runs) + 1):
         for number, command in enumerate(commands):
-            seconds, peak = run(command, source, output)
+            seconds, peak = run(command, wanted[number], source, output)
             if turn > 0:
                 print(number, seconds, peak)
 
