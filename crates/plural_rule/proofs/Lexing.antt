@@ -6,7 +6,8 @@ use Rattle.plural_rule.specs.declared.operator.Operator.{Operator}
 use Rattle.plural_rule.specs.declared.operator.Operator.TheVariants.{Or, And, Equal, NotEqual, Less, Greater, AtMost, AtLeast, Add, Subtract, Multiply, Divide, Remainder}
 use Rattle.plural_rule.specs.declared.token.Token.{Token}
 use Rattle.plural_rule.specs.declared.token.Token.TheVariants.{Count, Number, Not, Binary, Question, Colon, Open, Close}
-use Rattle.plural_rule.specs.Tokens.{is_blank, is_digit, AllDigits, decimal_value, operator_bytes, IsSpelling, IsLongest, Lexes, end, blank, token}
+use Rattle.std.specs.Str.Parse.{digits_value}
+use Rattle.plural_rule.specs.Tokens.{is_blank, is_digit, AllDigits, operator_bytes, IsSpelling, IsLongest, Lexes, end, blank, token}
 
 -- what is known of bytes that spell a token, by a function of the bytes
 abbrev pub first_byte : List ℕ → ℕ
@@ -31,8 +32,8 @@ of_two c =
 
 abbrev pub token_of : List ℕ → Token
 token_of [] = Count
-token_of (c ∷ []) = if is_digit c then Number (decimal_value (c ∷ [])) else of_one c
-token_of (c ∷ d ∷ rest) = if is_digit c then Number (decimal_value (c ∷ d ∷ rest)) else Binary (of_two c)
+token_of (c ∷ []) = if is_digit c then Number (digits_value 10 (c ∷ [])) else of_one c
+token_of (c ∷ d ∷ rest) = if is_digit c then Number (digits_value 10 (c ∷ d ∷ rest)) else Binary (of_two c)
 
 -- what the bytes of an operator are no spelling of, and what they are read as
 pub operator-facts : (op : Operator) → (is_blank (first_byte (operator_bytes op)) ≡ false) × (is_digit (first_byte (operator_bytes op)) ≡ false) × (token_of (operator_bytes op) ≡ Binary op)
@@ -65,7 +66,7 @@ spelling-not_blank Colon own h = ap (λ xs. is_blank (first_byte xs)) h
 spelling-not_blank Open own h = ap (λ xs. is_blank (first_byte xs)) h
 spelling-not_blank Close own h = ap (λ xs. is_blank (first_byte xs)) h
 
-token_of-digits : (own : List ℕ) → own ≢ [] → AllDigits own → token_of own ≡ Number (decimal_value own)
+token_of-digits : (own : List ℕ) → own ≢ [] → AllDigits own → token_of own ≡ Number (digits_value 10 own)
 token_of-digits [] n h = absurd (n refl)
 token_of-digits (c ∷ []) n h = rw (h.0)
 token_of-digits (c ∷ d ∷ rest) n h = rw (h.0)

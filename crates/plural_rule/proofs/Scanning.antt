@@ -9,7 +9,8 @@ use Rattle.plural_rule.specs.declared.operator.Operator.{Operator}
 use Rattle.plural_rule.specs.declared.operator.Operator.TheVariants.{Or, And, Equal, NotEqual, Less, Greater, AtMost, AtLeast, Add, Subtract, Multiply, Divide, Remainder}
 use Rattle.plural_rule.specs.declared.token.Token.{Token}
 use Rattle.plural_rule.specs.declared.token.Token.TheVariants.{Count, Number, Not, Binary, Question, Colon, Open, Close}
-use Rattle.plural_rule.specs.Tokens.{is_digit, AllDigits, decimal_value, operator_bytes, IsSpelling, IsLongest}
+use Rattle.std.specs.Str.Parse.{digits_value}
+use Rattle.plural_rule.specs.Tokens.{is_digit, AllDigits, operator_bytes, IsSpelling, IsLongest}
 use Rattle.plural_rule.specs.Scanner.{IsTokenAt, IsTooLarge, HasNoToken, BeginsWithDouble, HasNoDouble}
 use Rattle.plural_rule.proofs.Lexing.{one_prefix, first_byte, operator-facts, spelling-not_blank}
 
@@ -107,7 +108,7 @@ numeral text d =
     }
 
 -- the numeral at the beginning of a text
-pub numeral-token : (text : List ℕ) (v : ℕ) → is_digit (first_byte text) ≡ true → v ≡ decimal_value (take_while is_digit text) → IsTokenAt text (Number v) (length (take_while is_digit text))
+pub numeral-token : (text : List ℕ) (v : ℕ) → is_digit (first_byte text) ≡ true → v ≡ digits_value 10 (take_while is_digit text) → IsTokenAt text (Number v) (length (take_while is_digit text))
 numeral-token text v d e =
     let n = numeral text d in
     let k : length (take_while is_digit text) ≡ prefix_len is_digit text = length-prefix_len is_digit text in
@@ -124,11 +125,11 @@ numeral-token text v d e =
     nonempty (x ∷ xs) h = omega arith
 
 -- a numeral at the beginning that doesn't fit 64 bits
-pub numeral-none : (text : List ℕ) → is_digit (first_byte text) ≡ true → 2 ^ 64 ≤ decimal_value (take_while is_digit text) → HasNoToken text
+pub numeral-none : (text : List ℕ) → is_digit (first_byte text) ≡ true → 2 ^ 64 ≤ digits_value 10 (take_while is_digit text) → HasNoToken text
 numeral-none text d large t own rest e spelt longest =
     let n = numeral text d in
     let k = prefix_len is_digit text in
-    let same = one_prefix (Number (decimal_value (take_while is_digit text))) t (take_while is_digit text) (drop k text) own rest
+    let same = one_prefix (Number (digits_value 10 (take_while is_digit text))) t (take_while is_digit text) (drop k text) own rest
     (n.some, AllDigits-take_while text, refl) n.longest spelt longest (take-append-drop k text ∙ e) in
     subst IsTooLarge same.same_token large
 

@@ -2,7 +2,8 @@
 -- GNU gettext manual, "Plural forms" and "Filling in the Header Entry".
 use Rattle.std.specs.Prelude.{ℕ, Bool, ◌||◌, ◌==◌, nat_eq, List, [], ◌∷◌, Option, Some, None, option_map, option_and_then, length, drop, take_while, if◌then◌else◌, codes}
 use Rattle.std.specs.List.{starts_with, prefix_len, before_first}
-use Rattle.plural_rule.specs.Tokens.{is_blank, is_digit, decimal_value}
+use Rattle.std.specs.Str.Parse.{digits_value}
+use Rattle.plural_rule.specs.Tokens.{is_blank, is_digit}
 
 -- what stands after the first occurrence of a name in a text
 abbrev pub after_first : List ℕ → List ℕ → Option (List ℕ)
@@ -16,7 +17,7 @@ without_blanks text = drop (prefix_len is_blank text) text
 -- the number that one digit or more spell
 abbrev pub number_of_digits : List ℕ → Option ℕ
 number_of_digits [] = None
-number_of_digits (c ∷ rest) = Some (decimal_value (c ∷ rest))
+number_of_digits (c ∷ rest) = Some (digits_value 10 (c ∷ rest))
 
 -- the number at the beginning of a text, after blanks
 abbrev pub leading_number : List ℕ → Option ℕ

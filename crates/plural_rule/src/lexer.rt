@@ -1,7 +1,8 @@
 //! The tokens of an expression's text, and the numerals and blanks of a header text.
 ghost use Rattle.std.specs.Prelude.{◌≡◌, ◌^◌, ◌<◌, ◌≤◌, [], ◌∷◌, length, take_while, slice_index, MatchOption, SomeIff, true, false};
 ghost use Rattle.std.specs.List.{prefix_len};
-ghost use Rattle.plural_rule.specs.Tokens.{is_blank, is_digit, AllDigits, decimal_value, operator_bytes, IsSpelling};
+ghost use Rattle.std.specs.Str.Parse.{digits_value};
+ghost use Rattle.plural_rule.specs.Tokens.{is_blank, is_digit, AllDigits, operator_bytes, IsSpelling};
 ghost use Rattle.plural_rule.specs.Header.{without_blanks};
 ghost use Rattle.plural_rule.specs.Scanner.{IsTokenAt, HasNoToken, BeginsWithDouble, HasNoDouble};
 
@@ -59,17 +60,12 @@ pub(crate) fn leading_digits(text: &[u8]) -> &[u8]
 /// The number that decimal digits spell, or `None` where it is 2^64 or more.
 pub(crate) fn decimal_value(digits: &[u8]) -> Option<u64>
     requires { AllDigits digits.now }
-    ensures { SomeIff result (decimal_value digits.now < 2 ^ 64) (decimal_value digits.now) }
+    ensures { SomeIff result (digits_value 10 digits.now < 2 ^ 64) (digits_value 10 digits.now) }
 {
     let mut value: u64 = 0;
     for digit in digits {
-        let Some(shifted) = value.checked_mul(10) else {
-            return None;
-        };
-        let Some(sum) = shifted.checked_add((*digit - b'0') as u64) else {
-            return None;
-        };
-        value = sum;
+        let digit = (*digit as char).to_digit(10)?;
+        value = value.checked_mul(10)?.checked_add(digit as u64)?;
     }
     Some(value)
 }
