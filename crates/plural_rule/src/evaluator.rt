@@ -126,7 +126,8 @@ fn visit<const DEPTH: usize>(
     requires frames { AreFramesOf (tree_of table.now) frames.old.items }
     ensures outcome { (steps : ℕ) →
         finished_step (tree_of table.now) count frames.new.items (steps + 1) result
-        ≡ finished (tree_of table.now) count frames.old.items (evaluated (subtree (tree_of table.now) index) count steps) }
+        ≡ finished (tree_of table.now) count frames.old.items
+        (evaluated (subtree (tree_of table.now) index) count steps) }
     ensures remaining { remaining_step (tree_of table.now) result + remaining (tree_of table.now) frames.new.items + 1
         ≤ nodes (subtree (tree_of table.now) index) + remaining (tree_of table.now) frames.old.items }
     ensures step { IsStepOf (tree_of table.now) result }

@@ -90,9 +90,11 @@ fn reduce<const DEPTH: usize>(table: &mut Table, stack: &mut Stack<DEPTH>, loose
     requires depth { DEPTH ≤ expression_limit }
     ensures reduced { (waiting : List Waiting) (tree : Tree) →
         IsOperand table.old.items stack.old.items waiting tree →
-        IsOperand table.new.items stack.new.items (reduce loosest waiting tree).stack (reduce loosest waiting tree).tree }
+        IsOperand table.new.items stack.new.items
+        (reduce loosest waiting tree).stack (reduce loosest waiting tree).tree }
     ensures some { 0 < array_vec_len table.new }
-    ensures size { array_vec_len table.new + array_vec_len stack.new ≡ array_vec_len table.old + array_vec_len stack.old }
+    ensures size { array_vec_len table.new + array_vec_len stack.new
+        ≡ array_vec_len table.old + array_vec_len stack.old }
 {
     while let Some(top) = stack.pop() {
         let last = last_index(table);
@@ -106,7 +108,8 @@ fn reduce<const DEPTH: usize>(table: &mut Table, stack: &mut Stack<DEPTH>, loose
     }
 }
 
-/// Reads a token where an operand may begin: whether an operand is complete after it, or `None` where it can't stand here.
+/// Reads a token where an operand may begin: whether an operand is complete after it, or `None`
+/// where it can't stand here.
 fn take_operand<const DEPTH: usize>(
     table: &mut Table,
     stack: &mut Stack<DEPTH>,
@@ -118,7 +121,8 @@ fn take_operand<const DEPTH: usize>(
         IsWaiting table.old.items stack.old.items waiting →
         Answers (want_step waiting token) result table.new.items stack.new.items }
     ensures some { result ≡ Some true → 0 < array_vec_len table.new }
-    ensures size { array_vec_len table.new + array_vec_len stack.new ≤ array_vec_len table.old + array_vec_len stack.old + 1 }
+    ensures size { array_vec_len table.new + array_vec_len stack.new
+        ≤ array_vec_len table.old + array_vec_len stack.old + 1 }
 {
     match token {
         Token::Count => {
@@ -154,7 +158,8 @@ fn take_operator<const DEPTH: usize>(
         IsOperand table.old.items stack.old.items waiting tree →
         Answers (have_step waiting tree token) result table.new.items stack.new.items }
     ensures some { 0 < array_vec_len table.new }
-    ensures size { array_vec_len table.new + array_vec_len stack.new ≤ array_vec_len table.old + array_vec_len stack.old + 1 }
+    ensures size { array_vec_len table.new + array_vec_len stack.new
+        ≤ array_vec_len table.old + array_vec_len stack.old + 1 }
 {
     match token {
         Token::Binary(operator) => {
@@ -201,7 +206,8 @@ fn take<const DEPTH: usize>(
         Represents table.old.items stack.old.items complete state →
         Answers (step state token) result table.new.items stack.new.items }
     ensures some { result ≡ Some true → 0 < array_vec_len table.new }
-    ensures size { array_vec_len table.new + array_vec_len stack.new ≤ array_vec_len table.old + array_vec_len stack.old + 1 }
+    ensures size { array_vec_len table.new + array_vec_len stack.new
+        ≤ array_vec_len table.old + array_vec_len stack.old + 1 }
 {
     if complete {
         take_operator(table, stack, token)

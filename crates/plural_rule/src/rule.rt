@@ -105,7 +105,8 @@ impl Rule {
         self.table.len() as u32
     }
 
-    /// The value of the expression at a count, or `None` where it is undefined, and the number of nodes that were evaluated.
+    /// The value of the expression at a count, or `None` where it is undefined, and the number of
+    /// nodes that were evaluated.
     pub fn eval(&self, count: u64) -> (Option<u64>, u32)
         ensures value { result.0 ≡ value self.now.tree count }
         ensures steps { result.1 ≡ visited self.now.tree count }
@@ -130,7 +131,8 @@ impl Rule {
 #[inline(never)]
 fn fill(header: &[u8], table: &mut Table) -> (Source, u64)
     requires { table.old.items ≡ [] }
-    ensures rule { IsRuleOf expression_limit header.now (record { source = result.0; nplurals = result.1; tree = tree_of table.new.items }) }
+    ensures rule { IsRuleOf expression_limit header.now
+        (record { source = result.0; nplurals = result.1; tree = tree_of table.new.items }) }
     ensures laid { table.new.items ≡ post_order 0 (tree_of table.new.items) }
 {
     match read(header, table) {
