@@ -4,7 +4,7 @@ use Rattle.std.specs.List.{position_or_len, prefix_len, filter_map, list_any}
 use Rattle.std.proofs.lemmas.Bool.{cond-false, cases_Bool}
 use Rattle.std.proofs.lemmas.List.{drop_all, take_min}
 use Rattle.memchr.specs.Find.{is_byte}
-use Rattle.po_shell.specs.declared.escape.Escape.{Escape}
+use Rattle.po_shell.specs.declared.arguments.escape.Escape.{Escape}
 use Rattle.po_shell.specs.Escapes.{is_octal, octal_run, octal_value, letter_escape, escape_after, unit, units_after, expansion, has_no_newline}
 use Rattle.po_shell.proofs.SearchLemmas.{byte-here, byte-later, byte-at}
 

@@ -3,7 +3,7 @@ use Rattle.std.proofs.Common.{◌≡◌, refl, sym, ap, ◌∙◌, subst, inl, i
 use Rattle.std.specs.Prelude.{◌↔◌}
 use Rattle.std.specs.List.{filter_map, list_any}
 use Rattle.std.proofs.lemmas.Bool.{cases_Bool, cond-true, cond-false, eqb-true, eqb-false, ne_eqb}
-use Rattle.po_shell.specs.declared.escape.Escape.{Escape}
+use Rattle.po_shell.specs.declared.arguments.escape.Escape.{Escape}
 use Rattle.po_shell.specs.Escapes.{escape_after, unit, units_after, expansion, has_no_newline}
 use Rattle.po_shell.specs.Expanding.{SpellsByte, IsNoEscape, Expands, nothing, plain, escape, no_newline, stays}
 use Rattle.po_shell.proofs.EscapeLemmas.{units-plain, units-stays, units-escape}

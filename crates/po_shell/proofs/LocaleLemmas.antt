@@ -8,7 +8,7 @@ use Rattle.std.proofs.lemmas.List.Splits.{slice_split_first, slice_split-cons_no
 use Rattle.std.proofs.lemmas.List.Sums.{take_while-cons}
 use Rattle.memchr.specs.Find.{is_byte}
 use Rattle.po_shell.specs.Locales.{non_empty, locale_of, has_slash, languages, candidates_in, candidates_of, is_untranslated, before, from_first, variants, is_path_part, language_parts, with_name}
-use Rattle.po_shell.specs.declared.locale.Environment.{Environment}
+use Rattle.po_shell.specs.declared.locale.candidates.Environment.{Environment}
 use Rattle.po_shell.specs.LocaleSteps.{variants_in}
 use Rattle.po_shell.proofs.SearchLemmas.{byte-here, byte-later}
 

@@ -3,7 +3,7 @@ use Rattle.std.proofs.Common.{◌≡◌, refl, sym, ap, ◌∙◌, subst, inl, i
 use Rattle.std.specs.List.{take_while}
 use Rattle.std.proofs.lemmas.Bool.{and_parts, and_from, cases_Bool, cond-true, cond-false, eqb-true, leb-true, le-leb, false_from_ne_true, false≢true}
 use Rattle.std.proofs.lemmas.List.Sums.{take_while-cons}
-use Rattle.po_shell.specs.declared.escape.Escape.{Escape}
+use Rattle.po_shell.specs.declared.arguments.escape.Escape.{Escape}
 use Rattle.po_shell.specs.Escapes.{is_octal, octal_run, octal_value, letter, letter_escape, escape_after}
 use Rattle.po_shell.specs.Expanding.{NoOctalFirst, SpellsByte, alert, backspace, form_feed, line_feed, carriage_return, tab, vertical_tab, backslash, one_digit, two_digits, three_digits}
 

@@ -8,9 +8,9 @@ use Rattle.memchr.specs.Find.{is_byte}
 use Rattle.po_shell.specs.References.{is_name_byte, reference_after}
 use Rattle.po_shell.specs.Substitution.{Values, Replacement, replacement_of, index, substitution_after, substitution}
 use Rattle.std.specs.Borrow.{Bor}
-use Rattle.po_shell.specs.declared.holding.Decision.TheVariants.{Grows, Ends, Closes, Copies}
-use Rattle.po_shell.specs.declared.holding.Effect.{Effect}
-use Rattle.po_shell.specs.declared.holding.Effect.TheVariants.{Held, Copied, Replaced}
+use Rattle.po_shell.specs.declared.envsubst.holding.Decision.TheVariants.{Grows, Ends, Closes, Copies}
+use Rattle.po_shell.specs.declared.envsubst.holding.Effect.{Effect}
+use Rattle.po_shell.specs.declared.envsubst.holding.Effect.TheVariants.{Held, Copied, Replaced}
 use Rattle.po_shell.specs.Holding.{is_begun_name, after_dollar, is_undecided, Decides, ComesOut, Replaces, Ending}
 use Rattle.po_shell.proofs.SearchLemmas.{byte-here, byte-later}
 use Rattle.po_shell.proofs.ReferenceLemmas.{name_byte-not, begun-bytes, dollar-no_name, ending-none, ending-some, after-closed}

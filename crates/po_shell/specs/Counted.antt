@@ -1,6 +1,6 @@
 -- What a counted device shows: the device below, and its two counts.
 use Rattle.std.specs.Prelude.{ℕ}
-use Rattle.po_shell.specs.declared.device.Counted.{Counted}
+use Rattle.po_shell.specs.declared.devices.device.Counted.{Counted}
 
 abbrev pub counted_inner : {D : Type 0} → Counted D → D
 counted_inner c = c.inner

@@ -1,8 +1,8 @@
 -- The environment variables that choose a catalogue ("Locale Environment Variables" and "Locating Message Catalog Files" of the GNU gettext manual).
 use Rattle.std.specs.Prelude.{ℕ, List, Option, option_map, codes}
 use Rattle.std.specs.Option.{option_copied}
-use Rattle.po_shell.specs.declared.environment.OwnedEnvironment.{OwnedEnvironment}
-use Rattle.po_shell.specs.declared.locale.Environment.{Environment}
+use Rattle.po_shell.specs.declared.locale.environment.OwnedEnvironment.{OwnedEnvironment}
+use Rattle.po_shell.specs.declared.locale.candidates.Environment.{Environment}
 
 -- the values of the variables; none where one is unset
 pub record EnvironmentView : Type 0 where

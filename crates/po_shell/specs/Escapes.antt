@@ -1,7 +1,7 @@
 -- The escapes that `gettext -e` expands ("Invoking the gettext program" of the GNU gettext manual).
 use Rattle.std.specs.Prelude.{ℕ, zero, suc, ◌+◌, ◌-◌, ◌*◌, ◌%◌, Bool, ◌&&◌, ◌==◌, nat_le, if◌then◌else◌, List, [], ◌∷◌, length, fold, take, take_while, Option, Some, None, is_none}
 use Rattle.std.specs.List.{filter_map, list_any}
-use Rattle.po_shell.specs.declared.escape.Escape.{Escape}
+use Rattle.po_shell.specs.declared.arguments.escape.Escape.{Escape}
 
 abbrev pub is_octal : ℕ → Bool
 is_octal b = nat_le 48 b && nat_le b 55

@@ -1,6 +1,6 @@
 -- What a failing device shows: the device below, how many calls come before the one that fails, if one is still to fail, and how many bytes a call moves at most.
 use Rattle.std.specs.Prelude.{ℕ, suc, zero, Option, Some, None}
-use Rattle.po_shell.specs.declared.failing.Failing.{Failing}
+use Rattle.po_shell.specs.declared.devices.failing.Failing.{Failing}
 
 abbrev pub failing_inner : {D : Type 0} → Failing D → D
 failing_inner f = f.inner

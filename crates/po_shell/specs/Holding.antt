@@ -4,10 +4,10 @@ use Rattle.std.specs.Borrow.{Bor}
 use Rattle.std.specs.List.{list_all}
 use Rattle.po_shell.specs.References.{is_name_byte, is_name, reference_after}
 use Rattle.po_shell.specs.Substitution.{Values, substitution}
-use Rattle.po_shell.specs.declared.holding.Decision.{Decision}
-use Rattle.po_shell.specs.declared.holding.Decision.TheVariants.{Grows, Ends, Closes, Copies}
-use Rattle.po_shell.specs.declared.holding.Effect.{Effect}
-use Rattle.po_shell.specs.declared.holding.Effect.TheVariants.{Held, Copied, Replaced}
+use Rattle.po_shell.specs.declared.envsubst.holding.Decision.{Decision}
+use Rattle.po_shell.specs.declared.envsubst.holding.Decision.TheVariants.{Grows, Ends, Closes, Copies}
+use Rattle.po_shell.specs.declared.envsubst.holding.Effect.{Effect}
+use Rattle.po_shell.specs.declared.envsubst.holding.Effect.TheVariants.{Held, Copied, Replaced}
 
 -- no byte yet, or a name that may go on
 abbrev pub is_begun_name : List ℕ → Bool

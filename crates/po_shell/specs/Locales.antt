@@ -5,7 +5,7 @@ use Rattle.std.specs.List.{list_any, flat_map, slice_split, position_or_len}
 use Rattle.std.specs.Option.{option_or}
 use Rattle.std.specs.Str.{bytes_eq}
 use Rattle.memchr.specs.Find.{is_byte}
-use Rattle.po_shell.specs.declared.locale.Environment.{Environment}
+use Rattle.po_shell.specs.declared.locale.candidates.Environment.{Environment}
 
 -- a variable counts where it is set and not empty
 abbrev pub non_empty : Option (Bor (List ℕ)) → Option (List ℕ)

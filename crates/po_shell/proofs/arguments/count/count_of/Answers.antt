@@ -1,0 +1,11 @@
+use Rattle.std.proofs.Common.{unwrap_or, sym, ap, ◌∙◌}
+use Rattle.po_shell.proofs.CountLemmas.{count-none, count-some}
+use Rattle.po_shell.proofs.ReferenceLemmas.{nil-from_length, some-from_length}
+use Rattle.po_shell.proofs.arguments.count.count_of.Goals as goal
+
+pub returns-then-is_empty : goal.returns-then-is_empty
+returns-then-is_empty c = count-none c.args.text.now (nil-from_length c.args.text.now (sym c.if-is_empty.ensures))
+
+pub returns-else-is_empty : goal.returns-else-is_empty
+returns-else-is_empty c =
+    c.unwrap_or.ensures ∙ ap (λ o. unwrap_or o 99) c.decimal.ensures ∙ count-some c.args.text.now (some-from_length c.args.text.now (sym c.if-is_empty.ensures))

@@ -1,0 +1,11 @@
+use Rattle.std.proofs.Common.{◌≡◌, map, take}
+use Rattle.po_shell.specs.Locales.{distinct}
+use Rattle.po_shell.specs.LocaleSteps.{HasNames}
+use Rattle.po_shell.proofs.locale.candidates.distinct.Given as goal
+
+-- the names so far are kept, each once, and the tree has them
+abbrev pub invariant-loop-name : goal.invariant-loop-name
+invariant-loop-name l = record {
+  are_kept : map (λ name. name.items) l.kept.items ≡ distinct (map (λ name. name.items) (take l.name-index l.names));
+  met : HasNames l.met (map (λ name. name.items) l.kept.items);
+}

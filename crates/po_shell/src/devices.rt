@@ -1,0 +1,10 @@
+//! Readers and writers that count their failures, and what is read or written whole.
+mod delivery;
+mod device;
+mod failing;
+mod input;
+
+pub use delivery::put_all;
+pub use device::{ByteIn, ByteOut, Counted};
+pub use failing::Failing;
+pub use input::{INPUT_LIMIT, read_input};

@@ -1,0 +1,116 @@
+//! The bytes that may begin a reference, held back until the next ones decide.
+ghost use Rattle.std.specs.Prelude.{◌≡◌, ◌<◌, true, false, ◌∷◌, [], length};
+ghost use Rattle.po_shell.specs.Holding.{Decides, ComesOut, Replaces, Ending, is_undecided, is_begun_name, after_dollar};
+ghost use Rattle.po_shell.specs.Sorted.{values_by};
+
+use crate::envsubst::reference::{LONGEST_NAME, begins_with, is_letter, is_name_byte};
+use crate::envsubst::replacements::Replacements;
+
+/// What the byte after a begun reference makes of it.
+#[derive(Clone, Copy)]
+pub(crate) enum Decision {
+    /// It may still become a reference.
+    Grows,
+    /// It is `$NAME`, and the byte stands after it.
+    Ends,
+    /// It is `${NAME}` with the byte.
+    Closes,
+    /// It isn't a reference.
+    Copies,
+}
+
+/// What becomes of the bytes held back, at the next byte.
+pub(crate) enum Effect<'a> {
+    /// They are held on, and so is the byte.
+    Held,
+    /// They come out as they are, and the byte isn't taken.
+    Copied,
+    /// This value comes out in their place, and so many further bytes are taken.
+    Replaced(&'a [u8], usize),
+}
+
+/// Decides by a begun reference, with a brace or without one, and the next byte.
+pub(crate) fn decide(is_braced: bool, name: &[u8], next: u8) -> Decision
+    requires { is_begun_name name.now ≡ true }
+    ensures { Decides is_braced name.now next result }
+{
+    if name.is_empty() {
+        if is_letter(next) {
+            Decision::Grows
+        } else if next == b'{' && !is_braced {
+            Decision::Grows
+        } else {
+            Decision::Copies
+        }
+    } else if is_name_byte(next) {
+        if name.len() < LONGEST_NAME {
+            Decision::Grows
+        } else {
+            Decision::Copies
+        }
+    } else if !is_braced {
+        Decision::Ends
+    } else if next == b'}' {
+        Decision::Closes
+    } else {
+        Decision::Copies
+    }
+}
+
+/// A begun reference: whether it has a brace, and its name so far.
+pub(crate) fn begun(held: &[u8]) -> (bool, &[u8])
+    requires some { 0 < length held.now }
+    requires undecided { is_undecided held.now ≡ true }
+    ensures bytes { held.now ≡ 36 ∷ after_dollar result.0 result.1.now }
+    ensures name { is_begun_name result.1.now ≡ true }
+{
+    let after = &held[1..];
+    if begins_with(b'{', after) {
+        (true, &after[1..])
+    } else {
+        (false, after)
+    }
+}
+
+/// What becomes of the bytes held back, at the next byte.
+pub(crate) fn effect_of<'a>(replacements: &Replacements<'a>, held: &[u8], next: u8) -> Effect<'a>
+    requires some { 0 < length held.now }
+    requires undecided { is_undecided held.now ≡ true }
+    ensures { ComesOut (values_by replacements.now) held.now next result }
+{
+    let (is_braced, name) = begun(held);
+    match decide(is_braced, name, next) {
+        Decision::Grows => Effect::Held,
+        Decision::Copies => Effect::Copied,
+        Decision::Ends => replace(replacements, name, 0),
+        Decision::Closes => replace(replacements, name, 1),
+    }
+}
+
+/// What becomes of a reference to this name, which takes so many further bytes.
+fn replace<'a>(replacements: &Replacements<'a>, name: &[u8], taken: usize) -> Effect<'a>
+    ensures { Replaces (values_by replacements.now) name.now taken result }
+{
+    match replacements.value_for(name) {
+        Some(value) => Effect::Replaced(value, taken),
+        None => Effect::Copied,
+    }
+}
+
+/// What stands for the bytes held back at the end of the text, where it isn't the bytes themselves.
+pub(crate) fn ending<'a>(replacements: &Replacements<'a>, held: &[u8]) -> Option<&'a [u8]>
+    requires { is_undecided held.now ≡ true }
+    ensures { Ending (values_by replacements.now) held.now result }
+{
+    if held.is_empty() {
+        return None;
+    }
+    let (is_braced, name) = begun(held);
+    if is_braced {
+        return None;
+    }
+    if name.is_empty() {
+        return None;
+    }
+    replacements.value_for(name)
+}
