@@ -1,5 +1,5 @@
 -- Lemmas on names and references: what the byte after a begun reference makes of it.
-use Rattle.std.proofs.Common.{◌≡◌, ℕ, suc, ◌+◌, ◌<◌, ◌≤◌, Bool, true, false, ◌&&◌, eqb, ltb, ◌⊎◌, inl, inr, List, [], ◌∷◌, ◌++◌, length, drop, Some, None, refl, sym, ap, ◌∙◌, append-nil, length-append, arith}
+use Rattle.std.proofs.Common.{◌≡◌, ℕ, zero, suc, ◌+◌, ◌<◌, ◌≤◌, Bool, true, false, ◌&&◌, eqb, ltb, ◌⊎◌, inl, inr, List, [], ◌∷◌, ◌++◌, length, take, drop, Some, None, refl, sym, ap, ◌∙◌, append-nil, length-append, arith}
 use Rattle.std.specs.List.{list_all}
 use Rattle.std.proofs.lemmas.Bool.{and_parts, and_from, and_left, and_right, cond-true, cond-false, cond_both, both_ways, lt-ltb, le-ltb, ne_eqb, eqb-true, cases_Bool, false≢true, ltb-true}
 use Rattle.std.proofs.lemmas.Bool.Decides.{nat_tests}
@@ -236,6 +236,50 @@ nothing-undecided = refl
 pub dollar-undecided : is_undecided (36 ∷ []) ≡ true
 unfolding is_undecided
 dollar-undecided = refl
+
+-- the run at the beginning of a text, where it is a name
+run-taken : (bs : List ℕ) → take (length (name_run bs)) bs ≡ name_run bs
+run-taken [] = refl
+run-taken (b ∷ bs) = elim (cases_Bool (is_name_byte b)) [
+  | inl e ↦ let run = take_while-cons is_name_byte b bs ∙ cond-true (is_name_byte b) _ _ e in
+      ap (λ l. take (length l) (b ∷ bs)) run ∙ ap (λ l. b ∷ l) (run-taken bs) ∙ sym run
+  | inr e ↦ let run = name_run-stop b bs e in ap (λ l. take (length l) (b ∷ bs)) run ∙ sym run
+]
+
+run-bytes : (bs : List ℕ) → list_all is_name_byte (name_run bs) ≡ true
+run-bytes [] = refl
+run-bytes (b ∷ bs) = elim (cases_Bool (is_name_byte b)) [
+  | inl e ↦ ap (list_all is_name_byte) (take_while-cons is_name_byte b bs ∙ cond-true (is_name_byte b) _ _ e) ∙ and_from _ _ e (run-bytes bs)
+  | inr e ↦ ap (list_all is_name_byte) (name_run-stop b bs e)
+]
+
+begun-from : (run : List ℕ) → is_name run ≡ true → list_all is_name_byte run ≡ true → is_begun_name run ≡ true
+begun-from [] named all = refl
+begun-from (b ∷ bs) named all = and_from _ _ named all
+
+pub run-begun : (bs run : List ℕ) → run ≡ name_run bs → is_name run ≡ true → is_begun_name (take (length run) bs) ≡ true
+run-begun bs run e named =
+    ap (λ l. is_begun_name (take (length l) bs)) e ∙ ap is_begun_name (run-taken bs) ∙ begun-from (name_run bs) (ap is_name (sym e) ∙ named) (run-bytes bs)
+
+-- a `$` and what is begun after it
+pub braced-taken : (bs : List ℕ) (n : ℕ) → begins_with 36 bs ≡ true → begins_with 123 (drop 1 bs) ≡ true → is_begun_name (take n (drop 1 (drop 1 bs))) ≡ true → is_undecided (take (n + 2) bs) ≡ true
+unfolding is_undecided
+braced-taken [] n dollar brace h = absurd (false≢true dollar)
+braced-taken (b ∷ []) n dollar brace h = absurd (false≢true brace)
+braced-taken (b ∷ c ∷ bs) n dollar brace h =
+    let two : n + 2 ≡ suc (suc n) = omega arith in
+    ap (λ k. is_undecided (take k (b ∷ c ∷ bs))) two ∙ and_from _ _ dollar (cond-true (eqb c 123) _ _ brace ∙ h)
+
+pub bare-taken : (bs : List ℕ) (n : ℕ) → begins_with 36 bs ≡ true → begins_with 123 (drop 1 bs) ≡ false → is_begun_name (take n (drop 1 bs)) ≡ true → is_undecided (take (n + 1) bs) ≡ true
+unfolding is_undecided
+bare-taken [] n dollar brace h = absurd (false≢true dollar)
+bare-taken (b ∷ bs) n dollar brace h =
+    let one : n + 1 ≡ suc n = omega arith in
+    ap (λ k. is_undecided (take k (b ∷ bs))) one ∙ and_from _ _ dollar (bare-begun n bs brace h) where
+      bare-begun : (n : ℕ) (bs : List ℕ) → begins_with 123 bs ≡ false → is_begun_name (take n bs) ≡ true → is_undecided_after (take n bs) ≡ true
+      bare-begun zero bs brace h = refl
+      bare-begun (suc n) [] brace h = refl
+      bare-begun (suc n) (b ∷ bs) brace h = cond-false (eqb b 123) _ _ brace ∙ h
 
 -- so there is room for a byte that is held too
 pub undecided-room : (held seen : List ℕ) (next : ℕ) → seen ≡ held → is_undecided (seen ++ next ∷ []) ≡ true → length held < 257

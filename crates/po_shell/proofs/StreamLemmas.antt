@@ -1,5 +1,5 @@
 -- Lemmas on substitution piece by piece.
-use Rattle.std.proofs.Common.{◌≡◌, ℕ, ◌+◌, ◌-◌, ◌<◌, ◌≤◌, List, [], ◌∷◌, ◌++◌, length, take, drop, get_or, Option, refl, sym, ap, subst, ◌∙◌, append_assoc, take-append-drop, arith}
+use Rattle.std.proofs.Common.{◌≡◌, ℕ, zero, suc, ◌+◌, ◌-◌, ◌<◌, ◌≤◌, List, [], ◌∷◌, ◌++◌, length, take, drop, get_or, Option, refl, sym, ap, subst, ◌∙◌, append_assoc, take-append-drop, arith}
 use Rattle.std.specs.List.{position_or_len}
 use Rattle.std.proofs.lemmas.List.{drop-append-le, drop-drop, take_rest}
 use Rattle.std.proofs.KnownBytes.{Appends-nil, Appends-trans, Appends-kept}
@@ -91,12 +91,10 @@ plain-advances values n held piece old new index none appends =
     Advances-out values piece (held ++ drop n piece) (take n piece) old new
     (λ rest. plain-out values n piece index rest ∙ ap (λ h. take n piece ++ substitution values ((h ++ drop n piece) ++ rest)) (sym none)) appends
 
--- and the `$` that is held
-pub dollar-advances : (values : Values) (n : ℕ) (held piece : List ℕ) (old new : Option (List ℕ)) → n ≡ position_or_len (is_byte 36) piece → n < length piece → held ≡ 36 ∷ [] → Appends old new (take n piece) → Advances values piece (held ++ drop (n + 1) piece) old new
-dollar-advances values n held piece old new index short dollar appends =
-    let next = byte-at 36 piece n index short in
-    Advances-out values piece (held ++ drop (n + 1) piece) (take n piece) old new
-    (λ rest. plain-out values n piece index rest ∙ ap (λ t. take n piece ++ substitution values (t ++ rest)) (next ∙ ap (λ h. h ++ drop (n + 1) piece) (sym dollar))) appends
+-- and a `$` that is held
+pub dollar-advances : (values : Values) (n : ℕ) (held piece : List ℕ) (old : Option (List ℕ)) → n ≡ position_or_len (is_byte 36) piece → n ≡ 0 → 0 < length piece → held ≡ 36 ∷ [] → Advances values piece (held ++ drop 1 piece) old old
+dollar-advances values n held piece old index first some dollar =
+    Advances-none values piece (held ++ drop 1 piece) old (byte-at 36 piece 0 (sym first ∙ index) some ∙ ap (λ h. h ++ drop 1 piece) (sym dollar))
 
 -- the bytes held, as they are seen, and the first one of a piece
 pub out-advances : (values : Values) (held seen out : List ℕ) (next taken : ℕ) (piece after : List ℕ) (old new : Option (List ℕ)) → seen ≡ held → piece ≡ next ∷ drop 1 piece → taken ≤ 1
@@ -110,6 +108,32 @@ pub out-stops : (values : Values) (held seen out : List ℕ) (next taken : ℕ) 
 out-stops values held seen out next taken piece old new same e fits passes part =
     Stops-out values (held ++ piece) (drop taken piece) out old new
     (λ rest. ap (λ h. substitution values ((h ++ piece) ++ rest)) (sym same) ∙ out-piece values seen out next taken piece e fits passes rest) part
+
+-- a begun reference of so many bytes, and the byte after it
+begun-split : (piece : List ℕ) (n d : ℕ) → n < length piece → drop n piece ≡ get_or piece n d ∷ drop 1 (drop n piece)
+begun-split [] n d some = absurd (omega arith)
+begun-split (b ∷ bs) zero d some = refl
+begun-split (b ∷ bs) (suc n) d some = begun-split bs n d (omega arith)
+
+begun-out : (values : Values) (piece out : List ℕ) (n taken : ℕ) → n < length piece → taken ≤ 1
+    → ((rest : List ℕ) → substitution values (take n piece ++ (get_or piece n 0 ∷ rest)) ≡ out ++ substitution values (drop taken (get_or piece n 0 ∷ rest)))
+    → (rest : List ℕ) → substitution values (piece ++ rest) ≡ out ++ substitution values (drop (n + taken) piece ++ rest)
+begun-out values piece out n taken within fits passes rest =
+    ap (λ p. substitution values (p ++ rest)) (sym (take-append-drop n piece))
+    ∙ out-piece values (take n piece) out (get_or piece n 0) taken (drop n piece) (begun-split piece n 0 within) fits passes rest
+    ∙ ap (λ p. out ++ substitution values (p ++ rest)) (drop-drop taken n piece)
+
+pub begun-advances : (values : Values) (piece out after : List ℕ) (n taken : ℕ) (old new : Option (List ℕ)) → n < length piece → taken ≤ 1
+    → ((rest : List ℕ) → substitution values (take n piece ++ (get_or piece n 0 ∷ rest)) ≡ out ++ substitution values (drop taken (get_or piece n 0 ∷ rest)))
+    → after ≡ [] → Appends old new out → Advances values piece (after ++ drop (n + taken) piece) old new
+begun-advances values piece out after n taken old new within fits passes none appends =
+    Advances-out values piece (after ++ drop (n + taken) piece) out old new
+    (λ rest. begun-out values piece out n taken within fits passes rest ∙ ap (λ h. out ++ substitution values ((h ++ drop (n + taken) piece) ++ rest)) (sym none)) appends
+
+pub begun-stops : (values : Values) (piece out : List ℕ) (n taken : ℕ) (old new : Option (List ℕ)) → n < length piece → taken ≤ 1
+    → ((rest : List ℕ) → substitution values (take n piece ++ (get_or piece n 0 ∷ rest)) ≡ out ++ substitution values (drop taken (get_or piece n 0 ∷ rest))) → AppendsPrefix old new out → Stops values piece old new
+begun-stops values piece out n taken old new within fits passes part =
+    Stops-out values piece (drop (n + taken) piece) out old new (begun-out values piece out n taken within fits passes) part
 
 -- one more byte that is held
 pub held-advances : (values : Values) (held after : List ℕ) (next : ℕ) (piece : List ℕ) (old : Option (List ℕ)) → piece ≡ next ∷ drop 1 piece → after ≡ held ++ next ∷ [] → Advances values (held ++ piece) (after ++ drop 1 piece) old old

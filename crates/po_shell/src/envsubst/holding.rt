@@ -1,9 +1,11 @@
 //! The bytes that may begin a reference, held back until the next ones decide.
-ghost use Rattle.std.specs.Prelude.{◌≡◌, ◌<◌, true, false, ◌∷◌, [], length};
+ghost use Rattle.std.specs.Prelude.{◌≡◌, ◌<◌, true, false, ◌∷◌, [], length, take, IfSome};
 ghost use Rattle.po_shell.specs.Holding.{Decides, ComesOut, Replaces, Ending, is_undecided, is_begun_name, after_dollar};
 ghost use Rattle.po_shell.specs.Sorted.{values_by};
 
-use crate::envsubst::reference::{LONGEST_NAME, begins_with, is_letter, is_name_byte};
+use crate::envsubst::reference::{
+    LONGEST_NAME, begins_with, is_letter, is_name, is_name_byte, name_run,
+};
 use crate::envsubst::replacements::Replacements;
 
 /// What the byte after a begun reference makes of it.
@@ -69,6 +71,44 @@ pub(crate) fn begun(held: &[u8]) -> (bool, &[u8])
         (true, &after[1..])
     } else {
         (false, after)
+    }
+}
+
+/// How many bytes at the beginning are a begun name that the next byte decides; none where no name
+/// can begin so, or where the bytes end with it.
+fn begun_name_len(bytes: &[u8]) -> Option<usize>
+    ensures begun { IfSome result (λ len. is_begun_name (take len bytes.now) ≡ true) }
+    ensures bound { IfSome result (λ len. len < length bytes.now) }
+{
+    let name = name_run(bytes);
+    if name.len() == bytes.len() {
+        return None;
+    }
+    if name.is_empty() {
+        return Some(0);
+    }
+    if is_name(name) {
+        Some(name.len())
+    } else {
+        None
+    }
+}
+
+/// How many bytes at the beginning of a piece are a begun reference that the next byte decides; none
+/// where the piece doesn't begin with `$`, or ends with the reference.
+pub(crate) fn begun_len(piece: &[u8]) -> Option<usize>
+    ensures some { IfSome result (λ len. 0 < len) }
+    ensures bound { IfSome result (λ len. len < length piece.now) }
+    ensures undecided { IfSome result (λ len. is_undecided (take len piece.now) ≡ true) }
+{
+    if !begins_with(b'$', piece) {
+        return None;
+    }
+    let after = &piece[1..];
+    if begins_with(b'{', after) {
+        Some(begun_name_len(&after[1..])? + 2)
+    } else {
+        Some(begun_name_len(after)? + 1)
     }
 }
 

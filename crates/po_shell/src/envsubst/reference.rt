@@ -46,7 +46,7 @@ pub(crate) fn begins_with(byte: u8, text: &[u8]) -> bool
 }
 
 /// The longest run of name bytes at the beginning.
-fn name_run(bytes: &[u8]) -> &[u8]
+pub(crate) fn name_run(bytes: &[u8]) -> &[u8]
     ensures { result.now ≡ name_run bytes.now }
 {
     for (len, byte) in bytes.iter().enumerate() {

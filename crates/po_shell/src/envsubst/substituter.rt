@@ -1,6 +1,6 @@
 //! Substitution in one pass, whatever the pieces ("Invoking the envsubst program" of the GNU gettext
 //! manual).
-ghost use Rattle.std.specs.Prelude.{◌≡◌, ◌+◌, ◌-◌, ◌*◌, ◌^◌, ◌<◌, ◌≤◌, min, true, false, [], ◌++◌, drop, length, if◌then◌else◌, is_err, IsErr, IfOk, OnOk, OnErr, Err};
+ghost use Rattle.std.specs.Prelude.{◌≡◌, ◌+◌, ◌-◌, ◌*◌, ◌^◌, ◌<◌, ◌≤◌, min, true, false, [], ◌++◌, take, drop, length, if◌then◌else◌, is_err, IsErr, IfOk, OnOk, OnErr, Err};
 ghost use Rattle.std.specs.Io.KnownBytes.{Appends, Keeps};
 ghost use Rattle.po_shell.specs.Device.{AppendsPrefix};
 ghost use Rattle.po_shell.specs.Holding.{is_undecided};
@@ -10,7 +10,7 @@ ghost use Rattle.po_shell.specs.Substituting.{values_in};
 ghost use Rattle.po_shell.specs.Substitution.{Values, substitution, pairs_in, names_given};
 
 use crate::devices::{ByteOut, put_all};
-use crate::envsubst::holding::{Effect, effect_of, ending};
+use crate::envsubst::holding::{Effect, begun_len, effect_of, ending};
 use crate::envsubst::replacements::Replacements;
 use crate::fault::ToolFault;
 use crate::search::len_before;
@@ -165,7 +165,10 @@ fn advance<W: ByteOut>(
     ensures cause { OnErr result (W.failures writer.new ≡ W.failures writer.old + 1) }
 {
     if held.is_empty() {
-        return copy_plain(held, piece, writer);
+        return match begun_len(piece) {
+            Some(len) => take_reference(replacements, held, piece, len, writer),
+            None => copy_plain(held, piece, writer),
+        };
     }
     match effect_of(replacements, held, piece[0]) {
         Effect::Held => {
@@ -185,7 +188,45 @@ fn advance<W: ByteOut>(
     }
 }
 
-/// Writes the bytes before the first `$`, and holds that one back.
+/// Takes a begun reference of so many bytes, which a piece has whole, by the byte after it.
+fn take_reference<W: ByteOut>(
+    replacements: &Replacements<'_>,
+    held: &mut Held,
+    piece: &[u8],
+    len: usize,
+    writer: &mut W,
+) -> Result<usize, ToolFault>
+    requires some { 0 < len }
+    requires within { len < length piece.now }
+    requires begun { is_undecided (take len piece.now) ≡ true }
+    requires none_held { held.old.items ≡ [] }
+    requires failures { W.failures writer.old < 2 ^ 64 - 1 }
+    ensures undecided { is_undecided held.new.items ≡ true }
+    ensures bound { IfOk result (λ taken. taken ≤ length piece.now) }
+    ensures progress { IfOk result (λ taken. 0 < taken) }
+    ensures ok { IfOk result (λ taken. Advances (values_by replacements.now) piece.now
+        (held.new.items ++ drop taken piece.now)
+        (W.contents writer.old) (W.contents writer.new)) }
+    ensures stops { OnErr result (Stops (values_by replacements.now) piece.now
+        (W.contents writer.old) (W.contents writer.new)) }
+    ensures fault { OnErr result (result ≡ Err ToolFault.WriteFault) }
+    ensures no_failure { OnOk result (W.failures writer.new ≡ W.failures writer.old) }
+    ensures cause { OnErr result (W.failures writer.new ≡ W.failures writer.old + 1) }
+{
+    match effect_of(replacements, &piece[..len], piece[len]) {
+        Effect::Held => copy_plain(held, piece, writer),
+        Effect::Copied => {
+            put_all(writer, &piece[..len])?;
+            Ok(len)
+        }
+        Effect::Replaced(value, taken) => {
+            put_all(writer, value)?;
+            Ok(len + taken)
+        }
+    }
+}
+
+/// Writes the bytes before the first `$`, or holds that one back where it is the first byte.
 fn copy_plain<W: ByteOut>(held: &mut Held, piece: &[u8], writer: &mut W) -> Result<usize, ToolFault>
     requires some { 0 < length piece.now }
     requires none_held { held.old.items ≡ [] }
@@ -203,10 +244,10 @@ fn copy_plain<W: ByteOut>(held: &mut Held, piece: &[u8], writer: &mut W) -> Resu
     ensures cause { OnErr result (W.failures writer.new ≡ W.failures writer.old + 1) }
 {
     let plain = len_before(b'$', piece);
-    put_all(writer, &piece[..plain])?;
-    if plain == piece.len() {
-        return Ok(plain);
+    if plain == 0 {
+        held.push(b'$');
+        return Ok(1);
     }
-    held.push(b'$');
-    Ok(plain + 1)
+    put_all(writer, &piece[..plain])?;
+    Ok(plain)
 }

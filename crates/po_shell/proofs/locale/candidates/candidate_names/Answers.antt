@@ -23,8 +23,8 @@ pub returns : goal.returns
 returns c =
     IfOk-weaker c.distinct.result _ _
     (λ kept are.
-        are
-        ∙ ap (λ names. distinct (map (λ v. v.items) names)) c.deref.ensures.value
-        ∙ ap distinct c.in_ok-names.ensures
-        ∙ sym (candidates-some c.args.environment.now c.in-Some.locale.now (non_empty c.args.environment.now.language) (sym c.locale_of.ensures ∙ ap (option_map (λ v. v.now)) c.in-Some.is) (sym c.if-is_untranslated.ensures) (sym c.if-has_slash.ensures) refl))
+    are
+    ∙ ap (λ names. distinct (map (λ v. v.items) names)) c.deref.ensures.value
+    ∙ ap distinct c.in_ok-names.ensures
+    ∙ sym (candidates-some c.args.environment.now c.in-Some.locale.now (non_empty c.args.environment.now.language) (sym c.locale_of.ensures ∙ ap (option_map (λ v. v.now)) c.in-Some.is) (sym c.if-is_untranslated.ensures) (sym c.if-has_slash.ensures) refl))
     c.distinct.ensures
