@@ -18,11 +18,11 @@ after_charset (b ∷ text) =
 abbrev pub ends_name : ℕ → Bool
 ends_name b = b == 32 || b == 9 || b == 13 || b == 10 || b == 59
 
--- the charset that a header's text names; the empty word where it names none
+-- the charset that a header's text names; the empty text where it names none
 abbrev pub charset_of : List ℕ → List ℕ
 charset_of text = before_first ends_name (after_charset text)
 
--- no name, UTF-8, its part ASCII, and the word of a template, in lowercase
+-- no name, UTF-8, its part ASCII, and what stands in a template, in lowercase
 abbrev pub admitted_names : List (List ℕ)
 admitted_names =
     [] ∷ codes "utf-8" ∷ codes "utf8" ∷ codes "us-ascii" ∷ codes "ascii" ∷ codes "charset" ∷ []

@@ -37,8 +37,8 @@ entry_sound comment_texts previous own rest n b =
     let translator : All (IsCommentOf Translator) (comments_of comment_texts) = kind_sound Translator comment_texts n in
     let extracted : All (IsCommentOf Extracted) (extracted_of comment_texts) = kind_sound Extracted comment_texts n in
     let references : All IsReference (references_of comment_texts) = references_sound (texts_of Reference comment_texts) (kind_sound Reference comment_texts n) in
-    let keywords : All SoundFlagElement (all_listed_flags comment_texts) = all_flag_elements_sound (texts_of Flags comment_texts) (kind_sound Flags comment_texts n) in
-    let flags : SoundFlags (flags_of comment_texts) = flags_sound (all_listed_flags comment_texts) [] (record { all = All-nil IsFlag; distinct = tt }) keywords in
+    let elements : All SoundFlagElement (all_listed_flags comment_texts) = all_flag_elements_sound (texts_of Flags comment_texts) (kind_sound Flags comment_texts n) in
+    let flags : SoundFlags (flags_of comment_texts) = flags_sound (all_listed_flags comment_texts) [] (record { all = All-nil IsFlag; distinct = tt }) elements in
     record {
       comments = translator;
       extracted = All-weaker (IsCommentOf Extracted) IsComment (λ text h. h.comment) (extracted_of comment_texts) extracted;

@@ -91,12 +91,12 @@ references_sound (text ∷ texts) h =
     (references_sound texts (All-tail (IsCommentOf Reference) text texts h))
 
 -- an element of a flag line
-pub record SoundFlagElement (word : List ℕ) : Type 0 where
-  pub valid : IsText word
-  pub some : word ≢ []
-  pub no_blank_ends : trimmed word ≡ word
-  pub no_comma : Lacks 44 word
-  pub one_line : Lacks 10 word
+pub record SoundFlagElement (element : List ℕ) : Type 0 where
+  pub valid : IsText element
+  pub some : element ≢ []
+  pub no_blank_ends : trimmed element ≡ element
+  pub no_comma : Lacks 44 element
+  pub one_line : Lacks 10 element
 
 record FlagPiece (text : List ℕ) : Type 0 where
   line : IsLineText text
@@ -134,13 +134,13 @@ flag_elements_sound text h = kept (slice_split is_comma text) (line_parts is_com
     found true t more =
         let no_comma : Lacks 44 part = All-weaker (λ c. is_comma c ≡ false) (λ c. c ≢ 44) (λ c e. eqb-false _ _ e) part (All-head (All (λ c. is_comma c ≡ false)) part parts b) in
         let piece : FlagPiece part = record { line = All-head IsLineText part parts a; no_comma = no_comma } in
-        let word = trimmed_piece part piece in
+        let element = trimmed_piece part piece in
         let here : SoundFlagElement (trimmed part) = record {
-          valid = record { utf8 = word.line.utf8; no_nul = word.line.no_nul };
+          valid = record { utf8 = element.line.utf8; no_nul = element.line.no_nul };
           some = some_byte (trimmed part) t;
           no_blank_ends = ends_once is_blank part;
-          no_comma = word.no_comma;
-          one_line = word.line.one_line;
+          no_comma = element.no_comma;
+          one_line = element.line.one_line;
         } in
         All-cons SoundFlagElement (trimmed part) (filter is_not_empty (map trimmed parts)) here more
     found false t more = more
@@ -156,33 +156,33 @@ pub record SoundFlags (flags : List (List ℕ)) : Type 0 where
   pub all : All IsFlag flags
   pub distinct : AreDistinct flags
 
-distinct_push : (flags : List (List ℕ)) (word : List ℕ) → AreDistinct flags → (Contains flags word → ⊥) → AreDistinct (flags ++ word ∷ [])
-distinct_push [] word h new = (λ (k, below, is). omega (arith, below), tt)
-distinct_push (flag ∷ flags) word h new = (
-  λ among. elim (Contains-push_cases flags word flag among) [ inl before ↦ h.0 before | inr same ↦ new (0, omega arith, sym same) ],
-  distinct_push flags word h.1 (λ (k, below, is). new (suc k, omega (arith, below), is)),
+distinct_push : (flags : List (List ℕ)) (element : List ℕ) → AreDistinct flags → (Contains flags element → ⊥) → AreDistinct (flags ++ element ∷ [])
+distinct_push [] element h new = (λ (k, below, is). omega (arith, below), tt)
+distinct_push (flag ∷ flags) element h new = (
+  λ among. elim (Contains-push_cases flags element flag among) [ inl before ↦ h.0 before | inr same ↦ new (0, omega arith, sym same) ],
+  distinct_push flags element h.1 (λ (k, below, is). new (suc k, omega (arith, below), is)),
 )
 
-not_among : (flags : List (List ℕ)) (word : List ℕ) → list_any (bytes_eq word) flags ≡ false → Contains flags word → ⊥
-not_among flags word e (k, below, is) = false≢true (sym e ∙ list_any_at (bytes_eq word) flags k word below ((bytes_eq-Decides word _).1 (sym is)))
+not_among : (flags : List (List ℕ)) (element : List ℕ) → list_any (bytes_eq element) flags ≡ false → Contains flags element → ⊥
+not_among flags element e (k, below, is) = false≢true (sym e ∙ list_any_at (bytes_eq element) flags k element below ((bytes_eq-Decides element _).1 (sym is)))
 
-flag_added : (flags : List (List ℕ)) (word : List ℕ) → SoundFlags flags → SoundFlagElement word → SoundFlags (with_flag flags word)
-flag_added flags word h w = found (is_fuzzy_flag word) (list_any (bytes_eq word) flags) refl refl where
-  found : (f a : Bool) → is_fuzzy_flag word ≡ f → list_any (bytes_eq word) flags ≡ a → SoundFlags (if f || a then flags else flags ++ word ∷ [])
+flag_added : (flags : List (List ℕ)) (element : List ℕ) → SoundFlags flags → SoundFlagElement element → SoundFlags (with_flag flags element)
+flag_added flags element h w = found (is_fuzzy_flag element) (list_any (bytes_eq element) flags) refl refl where
+  found : (f a : Bool) → is_fuzzy_flag element ≡ f → list_any (bytes_eq element) flags ≡ a → SoundFlags (if f || a then flags else flags ++ element ∷ [])
   found true a e d = h
   found false true e d = h
   found false false e d =
-      let here : IsFlag word = record {
+      let here : IsFlag element = record {
         valid = w.valid;
         some_byte = w.some;
         no_blank_ends = w.no_blank_ends;
         no_comma = w.no_comma;
         one_line = w.one_line;
-        not_fuzzy = λ same. false≢true (sym e ∙ (bytes_eq-Decides word (codes "fuzzy")).1 same);
+        not_fuzzy = λ same. false≢true (sym e ∙ (bytes_eq-Decides element (codes "fuzzy")).1 same);
       } in
-      record { all = All-push IsFlag flags word h.all here; distinct = distinct_push flags word h.distinct (not_among flags word d) }
+      record { all = All-push IsFlag flags element h.all here; distinct = distinct_push flags element h.distinct (not_among flags element d) }
 
-pub flags_sound : (keywords : List (List ℕ)) (flags : List (List ℕ)) → SoundFlags flags → All SoundFlagElement keywords → SoundFlags (fold with_flag flags keywords)
+pub flags_sound : (elements : List (List ℕ)) (flags : List (List ℕ)) → SoundFlags flags → All SoundFlagElement elements → SoundFlags (fold with_flag flags elements)
 flags_sound [] flags h w = h
-flags_sound (word ∷ keywords) flags h w =
-    flags_sound keywords (with_flag flags word) (flag_added flags word h (All-head SoundFlagElement word keywords w)) (All-tail SoundFlagElement word keywords w)
+flags_sound (element ∷ elements) flags h w =
+    flags_sound elements (with_flag flags element) (flag_added flags element h (All-head SoundFlagElement element elements w)) (All-tail SoundFlagElement element elements w)

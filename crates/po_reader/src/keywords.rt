@@ -114,7 +114,7 @@ pub(crate) fn wanted_keyword(
     ensures memory { IfErr result (λ e. e.kind ≡ PoFault.OutOfMemory → e.line ≡ 0) }
 {
     let (keyword, line) = match keyword_at(items, at, wanted, obsolete) {
-        Ok(word) => word,
+        Ok(found) => found,
         Err(kind) => return Err(refusal(items, at, end, kind)),
     };
     let marks = Marks {
