@@ -1,5 +1,8 @@
 -- The catalogues of a text domain that are read (manual, "Locating Message Catalog Files"): those that can be, in the order in which they are asked for.
 use Rattle.std.specs.Prelude.{◌≡◌, ◌≢◌, ◌⊎◌, ℕ, List, [], ◌∷◌, map, Option, None, Some, IsUtf8, string_bytes}
+use Rattle.po_shell.specs.Catalogues.{paths_of}
+use Rattle.po_shell.specs.Environments.{IsEnvironment, environment_view}
+use Rattle.po_shell.specs.declared.locale.candidates.Environment.{Environment}
 use Rattle.po_tools.specs.declared.catalogues.CatalogueFile.{CatalogueFile}
 use Rattle.po_tools.specs.declared.inputs.Unread.{Unread}
 use Rattle.po_tools.specs.declared.inputs.Unread.TheVariants.{OutOfMemory}
@@ -25,3 +28,10 @@ pub data AreCatalogues (file : List ℕ → Reading → Type 0) : List (List ℕ
       → IsCatalogueAt file path (Some catalogue) → AreCatalogues file paths catalogues → AreCatalogues file (path ∷ paths) (catalogue ∷ catalogues)
   skipped : {path : List ℕ} {paths : List (List ℕ)} {catalogues : List NamedFile}
       → IsCatalogueAt file path None → AreCatalogues file paths catalogues → AreCatalogues file (path ∷ paths) catalogues
+
+-- the catalogues of a text domain, given by an argument or an option: those at the paths that the environment's variables choose
+pub record AreFound (variable : List ℕ → Option (List ℕ) → Type 0) (file : List ℕ → Reading → Type 0)
+    (argument option : Option (List ℕ)) (catalogues : List NamedFile) : Type 0 where
+  pub environment : Environment
+  pub is_read : IsEnvironment variable (environment_view environment)
+  pub are_read : AreCatalogues file (paths_of argument option environment) catalogues

@@ -15,6 +15,7 @@ pub mod Delivered
 pub mod Msgattrib
 pub mod RunLaws
 pub mod Inputs
+pub mod Outputs
 pub mod Msgunfmt
 pub mod Msgcat
 pub mod Digests

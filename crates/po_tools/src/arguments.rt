@@ -1,9 +1,13 @@
 //! What the options of a command line mean for each tool.
-ghost use Rattle.std.specs.Prelude.{◌≡◌, ◌||◌, ℕ, List, Bool, Option};
+ghost use Rattle.std.specs.Prelude.{◌≡◌, ◌||◌, ℕ, List, Bool, Option, map};
 ghost use Rattle.std.specs.Option.{option_copied};
-ghost use Rattle.po_tools.specs.Arguments.{IsSelection, AreMergeOptions, AreMsgfmtOptions, order_of};
+ghost use Rattle.po_tools.specs.Arguments.{AreMergeOptions, AreMsgfmtOptions, IsGettextRequest, IsNgettextRequest, IsSelection, order_of};
+ghost use Rattle.po_tools.specs.GettextView.{gettext_view, ngettext_view};
+ghost use Rattle.po_tools.specs.PositionalView.{ngettext_arguments};
 
+use crate::gettext::{GettextOptions, NgettextOptions};
 use crate::msgfmt::MsgfmtOptions;
+use crate::positional::NgettextArguments;
 use mo_file::Order;
 use po_merge::MergeOptions;
 use po_select::Selection;
@@ -92,5 +96,39 @@ fn order_of(name: Option<&str>) -> Order
     match name {
         Some(name) if name == "big" => Order::Big,
         _ => Order::Little,
+    }
+}
+
+/// What `gettext` is asked for, with the messages among its arguments.
+pub fn gettext_options_of<'a, A: Arguments>(
+    arguments: &'a A,
+    messages: &'a [&'a str],
+) -> GettextOptions<'a>
+    ensures { IsGettextRequest (A.flag arguments.now) (A.text arguments.now)
+        (map (λ message. message.now) messages.now) (gettext_view result) }
+{
+    GettextOptions {
+        messages,
+        context: arguments.text_of("context"),
+        expand: arguments.is_given("expand"),
+        no_newline: arguments.is_given("no-newline"),
+        shell: arguments.is_given("shell"),
+    }
+}
+
+/// What `ngettext` is asked for, with its arguments.
+pub fn ngettext_options_of<'a, A: Arguments>(
+    arguments: &'a A,
+    given: NgettextArguments<'a>,
+) -> NgettextOptions<'a>
+    ensures { IsNgettextRequest (A.flag arguments.now) (A.text arguments.now)
+        (ngettext_arguments given.entry) (ngettext_view result) }
+{
+    NgettextOptions {
+        context: arguments.text_of("context"),
+        expand: arguments.is_given("expand"),
+        id: given.id,
+        plural: given.plural,
+        count: given.count,
     }
 }

@@ -1,9 +1,11 @@
 //! The compiled catalogues of a text domain.
 ghost use Rattle.std.specs.Prelude.{◌≡◌, ◌-◌, ◌^◌, ◌<◌, IfOk, length, map, option_map, take};
-ghost use Rattle.po_tools.specs.Catalogues.{AreCatalogues, IsCatalogueAt, catalogue_file, catalogue_files};
+ghost use Rattle.std.specs.Option.{option_copied};
+ghost use Rattle.po_tools.specs.Catalogues.{AreCatalogues, AreFound, IsCatalogueAt, catalogue_file, catalogue_files};
 ghost use Rattle.po_tools.specs.NamedFile.{named_files};
 
 use crate::inputs::{InputSource, Unread};
+use po_shell::{OwnedEnvironment, VariableSource, catalogue_paths};
 use std::alloc::{AllocError, Global};
 use std::str;
 
@@ -16,6 +18,40 @@ pub struct CatalogueFile {
     pub bytes: Vec<u8>,
 }
 
+/// Reads the catalogues of a text domain, given by an argument or by an option, in the order in which
+/// the environment asks for them: those whose files can be read. Refused only where an allocation
+/// failed.
+pub fn find_catalogues<S: InputSource + VariableSource>(
+    alloc: Global,
+    source: &S,
+    argument: Option<&str>,
+    option: Option<&str>,
+) -> Result<Vec<CatalogueFile>, AllocError>
+    ensures { IfOk result (λ found. AreFound (S.variable source.now) (S.file source.now)
+        (option_copied argument.entry) (option_copied option.entry) (catalogue_files found.items)) }
+{
+    let environment = OwnedEnvironment::read(alloc, source)?;
+    let Ok(paths) = catalogue_paths(
+        alloc,
+        bytes_of(argument),
+        bytes_of(option),
+        &environment.lent(),
+    ) else {
+        return Err(AllocError);
+    };
+    read_catalogues(alloc, source, paths.as_slice())
+}
+
+/// The bytes of a text, where there is one.
+fn bytes_of(text: Option<&str>) -> Option<&[u8]>
+    ensures { option_copied result ≡ option_copied text.entry }
+{
+    match text {
+        Some(text) => Some(text.as_bytes()),
+        None => None,
+    }
+}
+
 /// Reads the catalogues of these paths, in order. One that can't be read is skipped and not
 /// reported, and so is a path that isn't UTF-8, which is that of no file. Refused only where an
 /// allocation failed.
@@ -24,7 +60,8 @@ pub fn read_catalogues<S: InputSource>(
     source: &S,
     paths: &[Vec<u8>],
 ) -> Result<Vec<CatalogueFile>, AllocError>
-    ensures { IfOk result (λ found. AreCatalogues (S.file source.now) (map (λ path. path.items) paths.now) (catalogue_files found.items)) }
+    ensures { IfOk result (λ found. AreCatalogues (S.file source.now)
+        (map (λ path. path.items) paths.now) (catalogue_files found.items)) }
 {
     let mut found = Vec::new(alloc);
     for path in paths {

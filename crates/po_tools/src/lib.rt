@@ -4,7 +4,8 @@
 //! messages and the status. [`deliver`] writes it. `run_msgfmt` and its like read one input, plan
 //! and deliver.
 //!
-//! What the tools share: `run`, `program_fault`, `fault_text`, `inputs`, `arguments`, `positional`.
+//! What the tools share: `run`, `program_fault`, `fault_text`, `inputs`, `outputs`,
+//! `arguments`, `positional`.
 //! The tools: `profile`, `msgfmt`, `msgunfmt`, `written`, `digests`, `selected_text`, `msgattrib`,
 //! `msgcat`, `unread`, `catalogues`, `gettext`. Then `profile_laws` and `run_laws`.
 
@@ -20,6 +21,7 @@ mod msgattrib;
 mod msgcat;
 mod msgfmt;
 mod msgunfmt;
+mod outputs;
 mod positional;
 mod profile;
 mod profile_laws;
@@ -30,14 +32,18 @@ mod selected_text;
 mod unread;
 mod written;
 
-pub use arguments::{Arguments, merge_options_of, msgfmt_options_of, selection_of};
-pub use catalogues::{CatalogueFile, lent_catalogues, read_catalogues};
+pub use arguments::{
+    Arguments, gettext_options_of, merge_options_of, msgfmt_options_of, ngettext_options_of,
+    selection_of,
+};
+pub use catalogues::{CatalogueFile, find_catalogues, lent_catalogues, read_catalogues};
 pub use gettext::{GettextOptions, NgettextOptions, plan_gettext, plan_ngettext};
 pub use inputs::{Input, InputSource, Inputs, Unread, read_one, read_whole};
 pub use msgattrib::{plan_msgattrib, run_msgattrib};
 pub use msgcat::{plan_msgcat, plan_msgcat_before};
 pub use msgfmt::{MsgfmtOptions, plan_msgfmt, profile_check, run_msgfmt};
 pub use msgunfmt::{plan_msgunfmt, run_msgunfmt};
+pub use outputs::{OutputTarget, Unwritten, write_run, write_whole};
 pub use po_catalog::JoinError;
 pub use po_compile::{Compiled, Options, compile, compile_all, laws};
 pub use po_merge::{MergeOptions, Named, merge};
