@@ -109,7 +109,7 @@ module _ {X : Type 0} (alike : X → X → Bool) (laws : IsEquivalence alike) wh
         let here : group_of alike (xs ++ x ∷ []) f ≡ group_of alike xs f = filter-append (λ y. alike y f) xs (x ∷ []) ∙ ap (λ (b : Bool). group_of alike xs f ++ cond b (x ∷ []) []) a ∙ append-nil (group_of alike xs f) in
         subst P suc_is (ap₂ (λ (g : List X) (gs : List (List X)). g ∷ gs) here (more j p))
 
-  none_alike : (x : X) (xs : List X) → list_any (alike x) xs ≡ false → group_of alike xs x ≡ []
+  pub none_alike : (x : X) (xs : List X) → list_any (alike x) xs ≡ false → group_of alike xs x ≡ []
   none_alike x [] h = refl
   none_alike x (y ∷ ys) h =
       let parts = or_parts (alike x y) (list_any (alike x) ys) h in

@@ -42,7 +42,7 @@ definitions_all P group h = found (list_any (λ d. is_live d.entry) group) where
   found true = All-filter (λ d. is_live d.entry) P group h
   found false = h
 
-definitions_some : (group : List NamedEntry) → 0 < length group → 0 < length (definitions group)
+pub definitions_some : (group : List NamedEntry) → 0 < length group → 0 < length (definitions group)
 definitions_some group some = found (list_any (λ d. is_live d.entry) group) refl where
   found : (b : Bool) → list_any (λ d. is_live d.entry) group ≡ b → 0 < length (if b then filter (λ d. is_live d.entry) group else group)
   found true e = some_passes (λ (d : NamedEntry). is_live d.entry) group e
@@ -54,16 +54,16 @@ and_false false = refl
 
 module _ (o : MergeOptions) (es : List NamedEntry) where
   -- what defines the message of an entry
-  abbrev defined : NamedEntry → List NamedEntry
+  abbrev pub defined : NamedEntry → List NamedEntry
   defined f = definitions (group_of same_message es f)
 
   abbrev of_firsts : List NamedEntry → List TextEntry
   of_firsts fs = merged_messages o (map definitions (map (group_of same_message es) fs))
 
-  abbrev Stays : NamedEntry → Type 0
+  abbrev pub Stays : NamedEntry → Type 0
   Stays f = IsSameMessage (merged_entry o (defined f)) f.entry
 
-  message_stays : (f : NamedEntry) → list_any (same_message f) es ≡ true → Stays f
+  pub message_stays : (f : NamedEntry) → list_any (same_message f) es ≡ true → Stays f
   message_stays f met =
       let alike : All (λ e. IsSameMessage e.entry f.entry) (group_of same_message es f) =
       All-weaker (λ e. same_message e f ≡ true) (λ e. IsSameMessage e.entry f.entry) (λ e p. same_is e f p) (group_of same_message es f) (filter_passes (λ e. same_message e f) es) in

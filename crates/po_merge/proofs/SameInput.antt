@@ -27,11 +27,11 @@ use Rattle.po_merge.proofs.OneDefinition.{all_kept, rebuilt, one_definition}
 
 -- lists whose elements differ
 
-none_all : {X : Type 0} (p : X → Bool) (xs : List X) → list_any p xs ≡ false → All (λ x. p x ≡ false) xs
+pub none_all : {X : Type 0} (p : X → Bool) (xs : List X) → list_any p xs ≡ false → All (λ x. p x ≡ false) xs
 none_all p [] h = All-nil (λ x. p x ≡ false)
 none_all p (x ∷ xs) h = let parts = or_parts (p x) (list_any p xs) h in All-cons (λ y. p y ≡ false) x xs parts.0 (none_all p xs parts.1)
 
-none_pass : {X : Type 0} (p : X → Bool) (xs : List X) → All (λ x. p x ≡ false) xs → filter p xs ≡ []
+pub none_pass : {X : Type 0} (p : X → Bool) (xs : List X) → All (λ x. p x ≡ false) xs → filter p xs ≡ []
 none_pass p [] h = refl
 none_pass p (x ∷ xs) h = ap (λ (b : Bool). cond b (x ∷ filter p xs) (filter p xs)) (All-head (λ y. p y ≡ false) x xs h) ∙ none_pass p xs (All-tail (λ y. p y ≡ false) x xs h)
 
@@ -104,7 +104,7 @@ all_stay o all n (e ∷ es) h =
     ap (λ (b : Bool). map (merged_entry o) (cond b (ds ∷ rest) rest)) here.kept
     ∙ ap₂ (λ (x : TextEntry) (xs : List TextEntry). x ∷ xs) here.same (all_stay o all n es (All-tail (λ x. Stays o (definitions (group_of same_message all (named n x))) x) e es h))
 
-one_live : (d : NamedEntry) → definitions (d ∷ []) ≡ d ∷ []
+pub one_live : (d : NamedEntry) → definitions (d ∷ []) ≡ d ∷ []
 one_live d = found (is_live d.entry) where
   found : (b : Bool) → (if b || false then cond b (d ∷ []) [] else d ∷ []) ≡ d ∷ []
   found true = refl

@@ -1,5 +1,5 @@
 -- Where the digests of entries differ, so do their messages.
-use Rattle.std.proofs.Common.{◌≡◌, ◌≢◌, refl, sym, ap, ap₂, ◌∙◌, ℕ, ◌<◌, List, length, get_or, map, arith, AllPairs, IsPermutation}
+use Rattle.std.proofs.Common.{◌≡◌, sym, ap₂, ◌∙◌, ℕ, List, get_or, map, arith, IsPermutation}
 use Rattle.std.specs.Hash.FoldHasher.{initial, write, finish}
 use Rattle.std.specs.List.Sorted.{IsStrictlyIncreasing}
 use Rattle.std.proofs.lemmas.Bool.Decides.{Decides-eqb}
@@ -21,7 +21,7 @@ distinct_before numbers sorted permuted rising =
     (IsDistinct-from_AllPairs Decides-eqb sorted (λ i j d below inside same.
     let less = AllPairs-from_increasing sorted rising i j d below inside in absurd (omega (arith, less, same)))))
 
-same_digest : (a b : TextEntry) → IsSameMessage a b → digest a ≡ digest b
+pub same_digest : (a b : TextEntry) → IsSameMessage a b → digest a ≡ digest b
 same_digest a b same = ap₂ (λ id context. finish (with_context context (write initial id))) same.1 same.0
 
 pub digests_differ : (entries : List TextEntry) → AreDistinct (map digest entries) → AllDiffer entries

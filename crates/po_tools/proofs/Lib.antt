@@ -13,3 +13,5 @@ pub mod OneText
 pub mod OneOtherRun
 pub mod CatalogueLemmas
 pub mod NulNames
+pub mod HeldLemmas
+pub mod WovenText

@@ -25,7 +25,7 @@ use Rattle.po_tools.proofs.SelectedLemmas.{live_differ}
 abbrev options_of : ℕ → Option ℕ → Bool → Bool → MergeOptions
 options_of more_than less_than unique use_first = record { more_than = more_than; less_than = less_than; unique = unique; use_first = use_first }
 
-all_kept : (more : ℕ) (less : Option ℕ) (unique use_first : Bool) → keeps_all (options_of more less unique use_first) ≡ true → options_of more less unique use_first ≡ keep_all use_first
+pub all_kept : (more : ℕ) (less : Option ℕ) (unique use_first : Bool) → keeps_all (options_of more less unique use_first) ≡ true → options_of more less unique use_first ≡ keep_all use_first
 all_kept more less true use_first h = absurd (let no : false ≡ true = h in cc)
 all_kept more (Some limit) false use_first h = absurd (let no : false ≡ true = h in cc)
 all_kept more None false use_first h = ap (λ (n : ℕ). options_of n None false use_first) (eqb-true more 0 h)

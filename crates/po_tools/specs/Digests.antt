@@ -1,5 +1,5 @@
 -- Digests of messages: messages whose digests differ are different. Internal to this crate.
-use Rattle.std.specs.Prelude.{ℕ, List, map, AllPairs, ◌≢◌, Option, None, Some}
+use Rattle.std.specs.Prelude.{ℕ, List, AllPairs, ◌≢◌, Option, None, Some}
 use Rattle.std.specs.Hash.FoldHasher.{initial, write, finish}
 use Rattle.std.specs.declared.hash.FoldHasher.{FoldHasher}
 use Rattle.po_entry.specs.TextEntry.{TextEntry}

@@ -8,6 +8,7 @@ pub mod Profile
 pub mod ProfileFaults
 pub mod Gettext
 pub mod GettextView
+pub mod Held
 pub mod OpensFile
 pub mod Msgfmt
 pub mod Written

@@ -9,7 +9,7 @@ use std::alloc::AllocError;
 use std::hash::{FoldHasher, Hasher};
 
 /// The digest of an entry's msgid and context.
-fn digest(entry: &Entry) -> u64
+pub(crate) fn digest(entry: &Entry) -> u64
     ensures { result ≡ digest entry.now }
 {
     let mut hasher = FoldHasher::default();

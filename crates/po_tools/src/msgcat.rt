@@ -8,6 +8,7 @@ ghost use Rattle.po_tools.specs.Msgcat.{AreReadAs, IsFileFault, IsMergedText, Is
 ghost use Rattle.po_tools.specs.NamedFile.{named_files};
 ghost use Rattle.po_tools.specs.Run.{refusal, report};
 
+use crate::merged_text::merged_text;
 use crate::program_fault::ProgramFault;
 use crate::run::Run;
 use crate::selected_text::selected_text;
@@ -100,7 +101,7 @@ pub fn plan_msgcat(
     ensures run { IfOk result (λ run. IsMsgcatRun (named_files inputs.now) options.now (report run)) }
     ensures memory { OnErr result (result ≡ Err ToolFault.OutOfMemory) }
 {
-    match one_text(alloc, inputs, options)? {
+    match text_of_pieces(alloc, inputs, options)? {
         Some(output) => Ok(text_run(alloc, output)),
         None => plan_merged(alloc, inputs, options),
     }
@@ -126,12 +127,13 @@ fn plan_merged(
     }
 }
 
-/// What is written of one input in which no message stands twice, where all messages are kept. None of several inputs.
-fn one_text(
+/// What is written of inputs in each of which no message stands twice, where all messages are kept.
+fn text_of_pieces(
     alloc: Global,
     inputs: &[(&str, &[u8])],
     options: &MergeOptions,
 ) -> Result<Option<Vec<u8>>, ToolFault>
+    requires { All (λ file. Lacks 0 file.name) (named_files inputs.now) }
     ensures written { IfOk result (λ found. IfSome found (λ written. IsMergedText (named_files inputs.now) options.now written.items)) }
     ensures memory { OnErr result (result ≡ Err ToolFault.OutOfMemory) }
 {
@@ -140,6 +142,7 @@ fn one_text(
     one_input_stays();
     match inputs {
         [(_, text)] if keeps_all(options) => selected_text(alloc, text, &EVERY_ENTRY),
+        [_, _, ..] if keeps_all(options) => merged_text(alloc, inputs, options),
         _ => Ok(None),
     }
 }

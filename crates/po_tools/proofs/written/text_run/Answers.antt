@@ -1,4 +1,4 @@
-use Rattle.std.proofs.Common.{◌≡◌, ap, ◌∙◌, refl, length, rules, [], sym}
+use Rattle.std.proofs.Common.{◌≡◌, ap, ◌∙◌, length, rules, [], sym}
 use Rattle.std.specs.Prelude.{nat_lt}
 use Rattle.po_writer.specs.WrittenText.{written_text}
 use Rattle.po_tools.proofs.MsgunfmtLemmas.{create_is}

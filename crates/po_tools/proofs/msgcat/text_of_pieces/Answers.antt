@@ -1,7 +1,7 @@
 use Rattle.std.proofs.Common.{sym, []}
 use Rattle.std.proofs.lemmas.Result.{IfOk-weaker}
 use Rattle.po_tools.proofs.OneText.{one_input}
-use Rattle.po_tools.proofs.msgcat.one_text.Goals as goal
+use Rattle.po_tools.proofs.msgcat.text_of_pieces.Goals as goal
 
 pub returns-in-len1-clause-written : goal.returns-in-len1-clause-written
 returns-in-len1-clause-written c =

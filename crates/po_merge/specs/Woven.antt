@@ -1,0 +1,34 @@
+-- The entries that several inputs are merged to, where most entries are the only ones of their messages.
+use Rattle.std.specs.Prelude.{Bool, ℕ, ◌==◌, List, [], ◌∷◌, ◌++◌, map, if◌then◌else◌}
+use Rattle.po_entry.specs.TextEntry.{TextEntry}
+use Rattle.po_merge.specs.Inputs.{NamedEntry}
+
+-- entries that are each the only one of its message, and then one that may not be
+abbrev pub Stretched : Type 0
+Stretched = List NamedEntry × NamedEntry
+
+-- all entries, in order
+abbrev pub spread : List Stretched → List NamedEntry → List NamedEntry
+spread [] rest = rest
+spread (t ∷ ts) rest = t.0 ++ t.1 ∷ spread ts rest
+
+-- those that are each the only one of its message
+abbrev pub alone : List Stretched → List NamedEntry → List NamedEntry
+alone [] rest = rest
+alone (t ∷ ts) rest = t.0 ++ alone ts rest
+
+-- those that may not be
+abbrev pub lasts : List Stretched → List NamedEntry
+lasts ts = map (λ t. t.1) ts
+
+-- the entries without their inputs' names
+abbrev pub unnamed : List NamedEntry → List TextEntry
+unnamed entries = map (λ e. e.entry) entries
+
+-- The entries, and in place of those that may not be the only ones what they are merged to, each where it stands first:
+-- where the number of the next merged entry is that of the entry.
+abbrev pub woven : (TextEntry → ℕ) → List Stretched → List TextEntry → List NamedEntry → List TextEntry
+woven number [] merged rest = unnamed rest
+woven number (t ∷ ts) [] rest = unnamed t.0 ++ woven number ts [] rest
+woven number (t ∷ ts) (m ∷ merged) rest =
+    unnamed t.0 ++ (if number m == number t.1.entry then m ∷ woven number ts merged rest else woven number ts (m ∷ merged) rest)

@@ -1,0 +1,141 @@
+-- One more entry of texts most of whose entries are written as they are read.
+use Rattle.std.proofs.Common.{◌≡◌, refl, sym, ap, ◌∙◌, subst, ℕ, ◌+◌, ◌<◌, ◌≤◌, List, [], ◌∷◌, ◌++◌, map, length, get_or, drop, append_assoc, append-nil, take, arith, zero, suc}
+use Rattle.std.specs.Prelude.{All}
+use Rattle.std.specs.Global.{Vec}
+use Rattle.std.specs.List.{AllZip}
+use Rattle.std.specs.Borrow.{Bor}
+use Rattle.std.proofs.lemmas.List.{map-append, length-map, take_more}
+use Rattle.std.proofs.lemmas.List.Elements.{All-push}
+use Rattle.po_entry.specs.Header.{HasAdmittedCharset}
+use Rattle.po_entry.specs.TextEntry.{TextEntry}
+use Rattle.po_merge.specs.Inputs.{Input, NamedEntry, all_entries, named}
+use Rattle.po_merge.specs.InputsView.{input_view, inputs_view}
+use Rattle.po_merge.specs.declared.input.Named.{Named}
+use Rattle.po_merge.specs.Woven.{Stretched, alone, spread, unnamed}
+use Rattle.po_writer.specs.TextParts.{AreParts}
+use Rattle.po_writer.specs.declared.parts.TextParts.{TextParts}
+use Rattle.po_tools.specs.Digests.{digest}
+use Rattle.po_entry.specs.ReadsText.{ReadsText}
+use Rattle.po_catalog.specs.Duplicate.{AllDiffer}
+use Rattle.po_tools.specs.Held.{AreHeld, IsHeld, IsStretch}
+use Rattle.po_tools.specs.Msgcat.{AreReadAs, IsReadAs}
+use Rattle.po_tools.specs.NamedFile.{NamedFile, named_file, named_files}
+use Rattle.po_tools.proofs.MsgcatLemmas.{file_at}
+use Rattle.po_tools.proofs.SelectedLemmas.{live_differ}
+use Rattle.po_tools.specs.declared.held.Held.{Held}
+use Rattle.po_tools.specs.declared.held.Stretch.{Stretch}
+
+spread_more : (ts : List Stretched) (rest : List NamedEntry) (e : NamedEntry) → spread ts (rest ++ e ∷ []) ≡ spread ts rest ++ e ∷ []
+spread_more [] rest e = refl
+spread_more (t ∷ ts) rest e = ap (λ (l : List NamedEntry). t.0 ++ t.1 ∷ l) (spread_more ts rest e) ∙ sym (append_assoc t.0 (t.1 ∷ spread ts rest) (e ∷ []))
+
+alone_more : (ts : List Stretched) (rest : List NamedEntry) (e : NamedEntry) → alone ts (rest ++ e ∷ []) ≡ alone ts rest ++ e ∷ []
+alone_more [] rest e = refl
+alone_more (t ∷ ts) rest e = ap (λ (l : List NamedEntry). t.0 ++ l) (alone_more ts rest e) ∙ sym (append_assoc t.0 (alone ts rest) (e ∷ []))
+
+spread_ended : (ts : List Stretched) (rest : List NamedEntry) (e : NamedEntry) → spread (ts ++ (rest, e) ∷ []) [] ≡ spread ts rest ++ e ∷ []
+spread_ended [] rest e = refl
+spread_ended (t ∷ ts) rest e = ap (λ (l : List NamedEntry). t.0 ++ t.1 ∷ l) (spread_ended ts rest e) ∙ sym (append_assoc t.0 (t.1 ∷ spread ts rest) (e ∷ []))
+
+alone_ended : (ts : List Stretched) (rest : List NamedEntry) (e : NamedEntry) → alone (ts ++ (rest, e) ∷ []) [] ≡ alone ts rest
+alone_ended [] rest e = append-nil rest
+alone_ended (t ∷ ts) rest e = ap (λ (l : List NamedEntry). t.0 ++ l) (alone_ended ts rest e)
+
+zip_push : {A B : Type 0} (R : A → B → Type 0) (xs : List A) (ys : List B) (x : A) (y : B) → AllZip R xs ys → R x y → AllZip R (xs ++ x ∷ []) (ys ++ y ∷ [])
+zip_push R [] [] x y h g = (g, tt)
+zip_push R [] (z ∷ ys) x y h g = absurd h
+zip_push R (z ∷ xs) [] x y h g = absurd h
+zip_push R (z ∷ xs) (w ∷ ys) x y h g = (h.0, zip_push R xs ys x y h.1 g)
+
+zip_at : {A B : Type 0} (R : A → B → Type 0) (xs : List A) (ys : List B) (i : ℕ) (d : B) → AllZip R xs ys → i < length ys → (x : A) × (drop i xs ≡ x ∷ drop (suc i) xs) × R x (get_or ys i d)
+zip_at R [] [] i d h l = absurd (omega (arith, l))
+zip_at R [] (y ∷ ys) i d h l = absurd h
+zip_at R (x ∷ xs) [] i d h l = absurd h
+zip_at R (x ∷ xs) (y ∷ ys) zero d h l = (x, refl, h.0)
+zip_at R (x ∷ xs) (y ∷ ys) (suc i) d h l = let less : i < length ys = omega (arith, l) in zip_at R xs ys i d h.1 less
+
+-- what stands beside an element
+pub zip_now : {A B : Type 0} (R : A → B → Type 0) (xs : List A) (ys : List B) (i : ℕ) (d : B) → AllZip R xs ys → i < length ys → (x : A) × (drop i xs ≡ x ∷ drop (i + 1) xs) × R x (get_or ys i d)
+zip_now R xs ys i d h l =
+    let at = zip_at R xs ys i d h l in
+    let one : suc i ≡ i + 1 = omega arith in
+    (at.0, at.1 ∙ ap (λ (k : ℕ). at.0 ∷ drop k xs) one, at.2)
+
+pub zip_over : {A B : Type 0} (R : A → B → Type 0) (xs : List A) (ys : List B) (i : ℕ) → AllZip R xs ys → length ys ≤ i → drop i xs ≡ []
+zip_over R [] ys zero h l = refl
+zip_over R [] ys (suc i) h l = refl
+zip_over R (x ∷ xs) [] i h l = absurd h
+zip_over R (x ∷ xs) (y ∷ ys) zero h l = absurd (omega (arith, l))
+zip_over R (x ∷ xs) (y ∷ ys) (suc i) h l = let less : length ys ≤ i = omega (arith, l) in zip_over R xs ys i h.1 less
+
+abbrev Admitted : NamedEntry → Type 0
+Admitted d = HasAdmittedCharset d.entry
+
+-- an entry that is written
+pub held_written : (old : Held) (rest : TextParts) (digests : Vec ℕ) (name : List ℕ) (e : TextEntry) (entries kept : List NamedEntry) → HasAdmittedCharset e
+    → ((before : List TextEntry) → AreParts before old.rest → AreParts (before ++ e ∷ []) rest) → digests.items ≡ old.digests.items ++ digest e ∷ []
+    → IsHeld old entries kept → IsHeld (record { stretches = old.stretches; rest = rest; digests = digests }) (entries ++ named name e ∷ []) kept
+held_written old rest digests name e entries kept valid added pushed h =
+    let n = named name e in
+    let more = alone_more h.stretched h.after n in
+    record {
+      stretched = h.stretched;
+      after = h.after ++ n ∷ [];
+      entries_are = spread_more h.stretched h.after n ∙ ap (λ (l : List NamedEntry). l ++ n ∷ []) h.entries_are;
+      kept_are = h.kept_are;
+      stretches = h.stretches;
+      rest = subst (λ (l : List TextEntry). AreParts l rest) (sym (map-append (λ (d : NamedEntry). d.entry) h.after (n ∷ []))) (added (unnamed h.after) h.rest);
+      digests = pushed ∙ ap (λ (l : List ℕ). l ++ digest e ∷ []) h.digests
+          ∙ sym (map-append (λ (d : NamedEntry). digest d.entry) (alone h.stretched h.after) (n ∷ [])) ∙ ap (map (λ (d : NamedEntry). digest d.entry)) (sym more);
+      admitted = subst (All Admitted) (sym more) (All-push Admitted (alone h.stretched h.after) n h.admitted valid);
+    }
+
+-- an entry that is kept
+pub held_ended : (old : Held) (stretches : Vec Stretch) (rest : TextParts) (s : Stretch) (name : List ℕ) (e : TextEntry) (entries kept : List NamedEntry)
+    → stretches.items ≡ old.stretches.items ++ s ∷ [] → s.parts ≡ old.rest → s.next ≡ digest e → AreParts [] rest
+    → IsHeld old entries kept → IsHeld (record { stretches = stretches; rest = rest; digests = old.digests }) (entries ++ named name e ∷ []) (kept ++ named name e ∷ [])
+held_ended old stretches rest s name e entries kept pushed parts next none h =
+    let n = named name e in
+    let t : Stretched = (h.after, n) in
+    let same = alone_ended h.stretched h.after n in
+    record {
+      stretched = h.stretched ++ t ∷ [];
+      after = [];
+      entries_are = spread_ended h.stretched h.after n ∙ ap (λ (l : List NamedEntry). l ++ n ∷ []) h.entries_are;
+      kept_are = map-append (λ (x : Stretched). x.1) h.stretched (t ∷ []) ∙ ap (λ (l : List NamedEntry). l ++ n ∷ []) h.kept_are;
+      stretches = subst (AllZip IsStretch (h.stretched ++ t ∷ [])) (sym pushed)
+          (zip_push IsStretch h.stretched old.stretches.items t s h.stretches (record { parts = subst (AreParts (unnamed h.after)) (sym parts) h.rest; next = next }));
+      rest = none;
+      digests = h.digests ∙ ap (map (λ (d : NamedEntry). digest d.entry)) (sym same);
+      admitted = subst (All Admitted) (sym same) h.admitted;
+    }
+
+entries_push : (inputs : List Input) (i : Input) → all_entries (inputs ++ i ∷ []) ≡ all_entries inputs ++ map (named i.name) i.entries
+entries_push [] i = append-nil (map (named i.name) i.entries)
+entries_push (x ∷ inputs) i =
+    ap (λ (l : List NamedEntry). map (named x.name) x.entries ++ l) (entries_push inputs i) ∙ sym (append_assoc (map (named x.name) x.entries) (all_entries inputs) (map (named i.name) i.entries))
+
+abbrev Files : Type 0
+Files = List (Bor (List ℕ) × Bor (List ℕ))
+
+-- one more file
+pub held_more : (files : Files) (i : ℕ) (e : Bor (List ℕ) × Bor (List ℕ)) (old new : Held) (kept now : List Named) (n : Named) (read : List TextEntry) → i < length files
+    → AreHeld (take i (named_files files)) old (inputs_view kept) → now ≡ kept ++ n ∷ [] → n.name.now ≡ (get_or files i e).0.now → ReadsText (get_or files i e).1.now read → AllDiffer read
+    → ((name : List ℕ) (es ks : List NamedEntry) → IsHeld old es (ks ++ map (named name) []) → IsHeld new (es ++ map (named name) read) (ks ++ map (named name) n.catalogue))
+    → AreHeld (take (i + 1) (named_files files)) new (inputs_view now)
+held_more files i e old new kept now n read l h pushed name reads differ more =
+    let inside : i < length (named_files files) = omega (arith, l, length-map files named_file) in
+    let file = named_file (get_or files i e) in
+    let input : Input = record { name = file.name; entries = read } in
+    let whole : take (i + 1) (named_files files) ≡ take i (named_files files) ++ file ∷ [] =
+    take_more (named_files files) i file inside ∙ ap (λ (f : NamedFile). take i (named_files files) ++ f ∷ []) (sym (file_at files i e l)) in
+    let same : inputs_view now ≡ inputs_view kept ++ record { name = file.name; entries = n.catalogue } ∷ [] =
+    ap inputs_view pushed ∙ map-append input_view kept (n ∷ []) ∙ ap (λ (w : List ℕ). inputs_view kept ++ record { name = w; entries = n.catalogue } ∷ []) name in
+    let holds = more file.name (all_entries h.inputs) (all_entries (inputs_view kept)) (subst (IsHeld old (all_entries h.inputs)) (sym (append-nil (all_entries (inputs_view kept)))) h.holds) in
+    record {
+      inputs = h.inputs ++ input ∷ [];
+      read = subst (λ (fs : List NamedFile). AreReadAs fs (h.inputs ++ input ∷ [])) (sym whole)
+          (zip_push IsReadAs (take i (named_files files)) h.inputs file input h.read (record { name = refl; reads = record { reads = reads; distinct = live_differ read differ } }));
+      holds = subst (λ (ks : List NamedEntry). IsHeld new (all_entries (h.inputs ++ input ∷ [])) ks) (sym (ap all_entries same ∙ entries_push (inputs_view kept) (record { name = file.name; entries = n.catalogue })))
+          (subst (λ (es : List NamedEntry). IsHeld new es (all_entries (inputs_view kept) ++ map (named file.name) n.catalogue)) (sym (entries_push h.inputs input)) holds);
+    }
