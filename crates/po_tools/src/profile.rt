@@ -3,6 +3,7 @@ ghost use Rattle.std.specs.List.{list_any};
 ghost use Rattle.po_entry.specs.TextEntry.{texts};
 ghost use Rattle.po_entry.specs.Header.{first_form};
 ghost use Rattle.po_catalog.specs.JoinedView.{input_entries, input_entry};
+ghost use Rattle.plural_rule.specs.PluralRule.{IsRuleOf, expression_limit};
 ghost use Rattle.po_tools.specs.Profile.{IsChecked, counts_below, count_fault, differ, differs_from_msgid, end_byte, has_newline, entry_fault, first_fault, first_some, is_header_entry, is_plural, rule_fault};
 
 use plural_rule::{Reason, Rule, Source};
@@ -205,8 +206,9 @@ fn rule_fault(source: Source, plural: Option<&JoinedEntry<'_>>) -> Option<(u32, 
 }
 
 /// The first fault of entries with a header, by its rule.
-fn first_fault(rule: &Rule, entries: &[JoinedEntry<'_>]) -> Option<(u32, CheckFault)>
-    ensures { result ≡ first_fault (input_entries entries.now) rule.now }
+#[inline(never)]
+fn first_fault(rule: Rule, entries: &[JoinedEntry<'_>]) -> Option<(u32, CheckFault)>
+    ensures { result ≡ first_fault (input_entries entries.now) rule }
 {
     let plural = first_plural(entries);
     if let Some(fault) = rule_fault(rule.source(), plural) {
@@ -216,9 +218,17 @@ fn first_fault(rule: &Rule, entries: &[JoinedEntry<'_>]) -> Option<(u32, CheckFa
         return Some(fault);
     }
     match plural {
-        Some(_) => first_count_fault(rule, CHECKED_COUNTS),
+        Some(_) => first_count_fault(&rule, CHECKED_COUNTS),
         None => None,
     }
+}
+
+/// The rule of a header text. What reading it takes of the stack is given back before the rule is used.
+#[inline(never)]
+fn rule_of(header: &[u8]) -> Rule
+    ensures { IsRuleOf expression_limit header.now result }
+{
+    Rule::parse(header)
 }
 
 /// Asks of the messages that are compiled, in text order: that there is a header; that it has a readable plural
@@ -229,8 +239,8 @@ fn first_fault(rule: &Rule, entries: &[JoinedEntry<'_>]) -> Option<(u32, CheckFa
 pub(crate) fn check_entries(entries: &[JoinedEntry<'_>]) -> Option<(u32, CheckFault)>
     ensures { IsChecked (input_entries entries.now) result }
 {
-    match header_of(entries) {
-        Some(header) => first_fault(&Rule::parse(first_form(header.entry)), entries),
-        None => Some((0, CheckFault::NoHeader)),
-    }
+    let Some(header) = header_of(entries) else {
+        return Some((0, CheckFault::NoHeader));
+    };
+    first_fault(rule_of(first_form(header.entry)), entries)
 }
