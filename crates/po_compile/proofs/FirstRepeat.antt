@@ -21,7 +21,7 @@ use Rattle.po_compile.specs.Collected.{LiveMessage, live_message, row_view}
 use Rattle.po_compile.specs.Repeats.{ArePlaced, AreSorted, IsEarliestRepeat}
 use Rattle.po_compile.specs.declared.row.Row.{Row}
 use Rattle.po_compile.proofs.FilteredMoves.{IsPermutation-filter}
-use Rattle.po_compile.proofs.MeaningLemmas.{IsClean, clean_entry}
+use Rattle.po_compile.proofs.MeaningLemmas.{LacksSeparators, entry_lacks_separators}
 use Rattle.po_compile.proofs.ReadingLemmas.{entries_of_input}
 use Rattle.po_compile.proofs.RepeatLemmas.{key, is_before, keys_before, not_before, places_of_pair}
 use Rattle.po_compile.proofs.RowLemmas.{key_view, key_of_entry, keys_of_rows, live_differ}
@@ -149,9 +149,9 @@ repeat_fault use_fuzzy entries rows sorted index a b valid made placed permuted 
     let between = drop (suc earlier.place) (take later.place live) in
     let after = drop (suc later.place) live in
     let order : live ≡ (before ++ first ∷ between) ++ last ∷ after = split_at live later.place e later_inside ∙ ap (λ es. es ++ last ∷ after) first_split in
-    let clean : All IsClean live = All-weaker IsCatalogueEntry IsClean (λ x v. clean_entry x v.valid) live (All-filter is_live IsCatalogueEntry entries valid) in
-    let clean_first : IsClean first = subst IsClean (sym first_is) (clean earlier.place e (omega (arith, below, later_inside))) in
-    let clean_last : IsClean last = clean later.place e later_inside in
+    let clean : All LacksSeparators live = All-weaker IsCatalogueEntry LacksSeparators (λ x v. entry_lacks_separators x v.valid) live (All-filter is_live IsCatalogueEntry entries valid) in
+    let clean_first : LacksSeparators first = subst LacksSeparators (sym first_is) (clean earlier.place e (omega (arith, below, later_inside))) in
+    let clean_last : LacksSeparators last = clean later.place e later_inside in
     let view_first = of_earlier.1 e in
     let view_last = of_later.1 e in
     let keys : key_of_entry first ≡ key_of_entry last =
