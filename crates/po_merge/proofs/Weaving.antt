@@ -160,7 +160,6 @@ module _ (use_first : Bool) (number : TextEntry → ℕ) (congr : (a b : TextEnt
 
     module _ (fits : (f s : NamedEntry) → shared f ≡ true → shared s ≡ true → (number (joined ss f) == number s.entry) ≡ same_message f s)
         (same_joined : (s : NamedEntry) → shared s ≡ true → joined es s ≡ joined ss s) where
-
       passed : (t : Stretched) (ts : List Stretched) (rest done xs : List NamedEntry) → list_any (same_message t.1) done ≡ true → shared t.1 ≡ true → All (λ s. shared s ≡ true) xs
           → woven number (t ∷ ts) (map (joined ss) (firsts_after done xs)) rest ≡ unnamed t.0 ++ woven number ts (map (joined ss) (firsts_after done xs)) rest
       passed t ts rest done [] met among all = refl
@@ -409,7 +408,7 @@ woven_all P number [] merged rest ones h = All-map P (λ (d : NamedEntry). d.ent
 woven_all P number (t ∷ ts) [] rest ones h =
     All-append P (unnamed t.0) (woven number ts [] rest) (All-map P (λ (d : NamedEntry). d.entry) t.0 (All-left (λ d. P d.entry) t.0 (alone ts rest) ones))
     (woven_all P number ts [] rest (All-right (λ d. P d.entry) t.0 (alone ts rest) ones) h)
-woven_all P number (t ∷ ts) (m ∷ merged) rest ones h = 
+woven_all P number (t ∷ ts) (m ∷ merged) rest ones h =
     All-append P (unnamed t.0) _ (All-map P (λ (d : NamedEntry). d.entry) t.0 (All-left (λ d. P d.entry) t.0 (alone ts rest) ones))
     (found (number m == number t.1.entry) (woven_all P number ts merged rest others (All-tail P m merged h)) (woven_all P number ts (m ∷ merged) rest others h)) where
       others : All (λ d. P d.entry) (alone ts rest)

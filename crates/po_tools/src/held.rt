@@ -19,8 +19,7 @@ use po_shell::ToolFault;
 use po_syntax::Pieces;
 use po_writer::TextParts;
 use std::alloc::{AllocError, Global};
-use std::mem;
-use std::slice;
+use std::{mem, slice};
 
 /// The text of entries that are each the only one of its message, and the digest of the message of the entry after
 /// them, which may not be.

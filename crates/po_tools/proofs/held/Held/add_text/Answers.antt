@@ -19,9 +19,9 @@ loop-pieces-preserved c =
       λ more h. rw append_assoc (so_far.1 (piece ++ more) (c.in-Ok-next_catalogue.ensures.found more h)),
       c.in_ok-add_digests.ensures ∙ ap₂ (λ done entries. done ++ map digest entries) so_far.2 c.entries.ensures.entries ∙ sym (map-append digest so_far.0 piece),
       λ name entries kept h.
-      subst (λ l. IsHeld c.add_piece.new.self l (kept ++ map (named name) c.add_piece.new.current))
-      (append_assoc entries (map (named name) so_far.0) (map (named name) piece) ∙ ap (λ l. entries ++ l) (sym (map-append (named name) so_far.0 piece)))
-      (c.in_ok-add_piece.ensures.added name (entries ++ map (named name) so_far.0) kept (so_far.3 name entries kept h)),
+          subst (λ l. IsHeld c.add_piece.new.self l (kept ++ map (named name) c.add_piece.new.current))
+          (append_assoc entries (map (named name) so_far.0) (map (named name) piece) ∙ ap (λ l. entries ++ l) (sym (map-append (named name) so_far.0 piece)))
+          (c.in_ok-add_piece.ensures.added name (entries ++ map (named name) so_far.0) kept (so_far.3 name entries kept h)),
     )
 
 pub returns-clause-added : goal.returns-clause-added
