@@ -1,6 +1,7 @@
 //! The arguments, which are text, and the environment's variables, whose values are bytes and needn't
 //! be text.
-use po_shell::Environment;
+use crate::files::System;
+use po_shell::VariableSource;
 use po_tools::ProgramFault;
 use std::alloc::{AllocError, Global};
 use std::env::{Env, FillError};
@@ -17,46 +18,13 @@ const PROGRAM: &str = "pokit";
 
 const FIRST_CAPACITY: usize = 256;
 
-/// The variables that choose a catalogue.
-#[derive(Drop)]
-pub(crate) struct Variables {
-    lc_all: Option<Vec<u8>>,
-    lc_messages: Option<Vec<u8>>,
-    lang: Option<Vec<u8>>,
-    language: Option<Vec<u8>>,
-    textdomain: Option<Vec<u8>>,
-    textdomaindir: Option<Vec<u8>>,
-}
+// No contract can say what the environment holds.
+impl<'r, R: Env> VariableSource for System<'r, R> {
+    ghost variable = { λ _ _ _. Unit {0} };
 
-impl Variables {
-    /// The variables as they stand in the environment.
-    pub(crate) fn read(alloc: Global, env: &impl Env) -> Result<Variables, AllocError> {
-        Ok(Variables {
-            lc_all: variable(alloc, env, "LC_ALL")?,
-            lc_messages: variable(alloc, env, "LC_MESSAGES")?,
-            lang: variable(alloc, env, "LANG")?,
-            language: variable(alloc, env, "LANGUAGE")?,
-            textdomain: variable(alloc, env, "TEXTDOMAIN")?,
-            textdomaindir: variable(alloc, env, "TEXTDOMAINDIR")?,
-        })
+    fn read_variable(&self, alloc: Global, name: &str) -> Result<Option<Vec<u8>>, AllocError> {
+        ask(alloc, self.0, Query::Variable(name))
     }
-
-    /// The same, lent.
-    pub(crate) fn environment(&self) -> Environment<'_> {
-        Environment {
-            lc_all: bytes(&self.lc_all),
-            lc_messages: bytes(&self.lc_messages),
-            lang: bytes(&self.lang),
-            language: bytes(&self.language),
-            textdomain: bytes(&self.textdomain),
-            textdomaindir: bytes(&self.textdomaindir),
-        }
-    }
-}
-
-/// The value of the variable of this name, where it is set.
-fn variable(alloc: Global, env: &impl Env, name: &str) -> Result<Option<Vec<u8>>, AllocError> {
-    ask(alloc, env, Query::Variable(name))
 }
 
 /// All entries of the environment in order, each `NAME=value`.
@@ -89,14 +57,6 @@ pub(crate) fn arguments(
         }
     }
     Ok(arguments)
-}
-
-/// The bytes of the variable, lent, where it is set.
-fn bytes(value: &Option<Vec<u8>>) -> Option<&[u8]> {
-    match value {
-        Some(value) => Some(value.as_slice()),
-        None => None,
-    }
 }
 
 /// Doubles the room until the answer fits.

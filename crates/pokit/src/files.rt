@@ -1,6 +1,7 @@
 //! Inputs by their names, and outputs.
-use po_shell::Counted;
-use po_tools::{InputSource, ProgramFault, Run, Unread, deliver, read_whole};
+use po_tools::{
+    InputSource, OutputTarget, ProgramFault, Run, Unread, Unwritten, read_whole, write_whole,
+};
 use std::alloc::Global;
 use std::fs;
 use std::io::{self, Input, Print, Write};
@@ -42,21 +43,41 @@ pub(crate) fn read_named(alloc: Global, rt: &impl Files, name: &str) -> Result<V
     }
 }
 
-/// Writes what a run gave: its output to the file that is made for it, or to standard output where
-/// none is, and then its messages to standard error. The answer is the run's status.
+/// Where the output of the program is written, and its standard error.
+#[derive(Drop)]
+pub(crate) struct Outputs<'r, R, E> {
+    system: &'r R,
+    errors: E,
+}
+
+// No contract can say what a file or a stream takes.
+impl<'r, R: Files + Print, E: Write + Drop> OutputTarget for Outputs<'r, R, E> {
+    ghost file = { λ _ _ _ _. Unit {0} };
+
+    ghost standard = { λ _ _ _. Unit {0} };
+
+    fn write_file(self, run: &Run, name: &str) -> Result<(), Unwritten> {
+        match fs::create(self.system, name) {
+            Ok(file) => {
+                let (_, _) = write_whole(run, file, self.errors)?;
+                Ok(())
+            }
+            Err(_) => Err(Unwritten::CannotCreate),
+        }
+    }
+
+    fn write_standard(self, run: &Run) -> Result<(), Unwritten> {
+        let (_, _) = write_whole(run, io::writer(self.system), self.errors)?;
+        Ok(())
+    }
+}
+
+/// Writes a run, and gives its status.
 pub(crate) fn write_run<'a, R: Files + Print, E: Write + Drop>(
     rt: &R,
     errors: E,
     run: &Run,
     file: &'a str,
 ) -> Result<u8, ProgramFault<'a>> {
-    let mut errors = Counted::new(errors);
-    match run.output_file(file) {
-        Some(file) => {
-            let created = fs::create(rt, file).map_err(|_| ProgramFault::CannotCreate(file))?;
-            deliver(run, &mut Counted::new(created), &mut errors)?;
-        }
-        None => deliver(run, &mut Counted::new(io::writer(rt)), &mut errors)?,
-    }
-    Ok(run.status)
+    po_tools::write_run(Outputs { system: rt, errors }, run, file)
 }

@@ -2,11 +2,10 @@
 //!
 //! Only this crate touches arguments, files, streams and the environment; what a tool does stands
 //! in po_tools. The modules in reading order: `streams`, `environment`, `commands`, `help`,
-//! `usage`, `options`, `files`, `catalogues`, `tools`.
+//! `usage`, `options`, `files`, `tools`.
 
 #![tactic(auto)]
 
-mod catalogues;
 mod commands;
 mod environment;
 mod files;

@@ -1,9 +1,9 @@
 //! Looks messages up.
-use crate::catalogues;
-use crate::files::write_run;
+use crate::files::{System, write_run};
 use clap::ArgMatches;
 use po_tools::{
-    GettextArguments, GettextOptions, ProgramFault, STANDARD, lent_catalogues, plan_gettext,
+    GettextArguments, GettextOptions, ProgramFault, STANDARD, find_catalogues, lent_catalogues,
+    plan_gettext,
 };
 use std::alloc::Global;
 use std::env::Env;
@@ -20,7 +20,12 @@ pub(crate) fn run<'a, R: Files + Env + Input + Print, E: Write + Drop>(
     let shell = matches.get_flag("shell");
     let arguments = matches.get_strs("MSGID").unwrap_or(&[]);
     let arguments = GettextArguments::of(shell, arguments).ok_or(ProgramFault::WrongArguments)?;
-    let found = catalogues::find(alloc, rt, arguments.domain, matches.get_str("domain"))?;
+    let found = find_catalogues(
+        alloc,
+        &System(rt),
+        arguments.domain,
+        matches.get_str("domain"),
+    )?;
     let options = GettextOptions {
         messages: arguments.messages,
         context: matches.get_str("context"),

@@ -1,9 +1,10 @@
 //! Looks up a message with a count.
-use crate::catalogues;
-use crate::files::write_run;
+use crate::files::{System, write_run};
+use crate::options::Options;
 use clap::ArgMatches;
 use po_tools::{
-    NgettextArguments, NgettextOptions, ProgramFault, STANDARD, lent_catalogues, plan_ngettext,
+    NgettextArguments, ProgramFault, STANDARD, find_catalogues, lent_catalogues,
+    ngettext_options_of, plan_ngettext,
 };
 use std::alloc::Global;
 use std::env::Env;
@@ -19,14 +20,14 @@ pub(crate) fn run<'a, R: Files + Env + Input + Print, E: Write + Drop>(
 ) -> Result<u8, ProgramFault<'a>> {
     let arguments = matches.get_strs("MSGID").unwrap_or(&[]);
     let arguments = NgettextArguments::of(arguments).ok_or(ProgramFault::WrongArguments)?;
-    let found = catalogues::find(alloc, rt, arguments.domain, matches.get_str("domain"))?;
-    let options = NgettextOptions {
-        context: matches.get_str("context"),
-        expand: matches.get_flag("expand"),
-        id: arguments.id,
-        plural: arguments.plural,
-        count: arguments.count,
-    };
+    let found = find_catalogues(
+        alloc,
+        &System(rt),
+        arguments.domain,
+        matches.get_str("domain"),
+    )?;
+    let given = Options(matches);
+    let options = ngettext_options_of(&given, arguments);
     let lent = lent_catalogues(alloc, found.as_slice())?;
     let run = plan_ngettext(alloc, lent.as_slice(), &options)?;
     write_run(rt, errors, &run, STANDARD)
