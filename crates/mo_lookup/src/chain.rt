@@ -135,7 +135,8 @@ fn first_with<'c, 'a>(
     ensures comparisons { let key = query_key (option_copied context.entry) id.now in
         let first = position_or_len (has_key key) catalogs.now in
         meter.new ≡ meter.old + key_comparisons key (take (first + 1) catalogs.now) }
-    ensures bound { let first = position_or_len (has_key (query_key (option_copied context.entry) id.now)) catalogs.now in
+    ensures bound { let first = position_or_len (has_key (query_key (option_copied context.entry) id.now))
+        catalogs.now in
         meter.new ≤ meter.old + chain_bound (take (first + 1) catalogs.now) }
 {
     for (index, catalog) in catalogs.iter().enumerate() {

@@ -38,7 +38,8 @@ where
     requires laid { table.now ≡ post_order 0 (tree_of table.now) }
     requires limit { length table.now ≤ expression_limit }
     ensures answered { (source : Source) → answer_view result
-        ≡ answered (record { messages = view.now; rule = record { source = source; nplurals = nplurals; tree = tree_of table.now } })
+        ≡ answered (record { messages = view.now;
+        rule = record { source = source; nplurals = nplurals; tree = tree_of table.now } })
         (query context.entry id.now plural.entry) }
     ensures counted { meter.new ≡ meter.old + result.comparisons }
     ensures comparisons { result.comparisons ≡ query_comparisons view.now (query context.entry id.now plural.entry) }
@@ -96,10 +97,12 @@ pub(crate) fn form<'a>(
     requires laid { table.now ≡ post_order 0 (tree_of table.now) }
     requires limit { length table.now ≤ expression_limit }
     ensures text { (source : Source) → result.0.now
-        ≡ (translated (forms translation.now) (record { source = source; nplurals = nplurals; tree = tree_of table.now })
+        ≡ (translated (forms translation.now)
+        (record { source = source; nplurals = nplurals; tree = tree_of table.now })
         (given plural.entry)).text }
     ensures steps { (source : Source) → result.1
-        ≡ (translated (forms translation.now) (record { source = source; nplurals = nplurals; tree = tree_of table.now })
+        ≡ (translated (forms translation.now)
+        (record { source = source; nplurals = nplurals; tree = tree_of table.now })
         (given plural.entry)).steps }
     ensures nodes { result.1 ≤ nodes (tree_of table.now) }
 {

@@ -71,7 +71,8 @@ fn add_forms(bytes: &mut Vec<u8>, entry: &Entry) -> Result<(), AllocError>
 
 /// Appends further forms after the first, each with a NUL before it.
 fn add_further(bytes: &mut Vec<u8>, forms: &[Vec<u8>]) -> Result<(), AllocError>
-    ensures { OnOk result ((before first : List ℕ) → bytes.old.items ≡ before ++ first → bytes.new.items ≡ before ++ join_with_byte 0 (first ∷ texts forms.now)) }
+    ensures { OnOk result ((before first : List ℕ) → bytes.old.items ≡ before ++ first
+        → bytes.new.items ≡ before ++ join_with_byte 0 (first ∷ texts forms.now)) }
 {
     for form in forms {
         bytes.push(0)?;
@@ -112,7 +113,8 @@ fn add_messages(
     entries: &[Entry],
     use_fuzzy: bool,
 ) -> Result<(), AllocError>
-    ensures { OnOk result ((before : List TextEntry) → HoldsLive use_fuzzy before collected.old → HoldsLive use_fuzzy (before ++ entries.now) collected.new) }
+    ensures { OnOk result ((before : List TextEntry) → HoldsLive use_fuzzy before collected.old
+        → HoldsLive use_fuzzy (before ++ entries.now) collected.new) }
 {
     for entry in entries {
         if !entry.obsolete() {

@@ -27,7 +27,8 @@ use std::alloc::Global;
 /// `OutOfMemory`, at line 0 of input 0, may come in place of any answer.
 pub fn compile_all(alloc: Global, texts: &[&[u8]], options: Options) -> Result<Compiled, JoinError>
     requires { length texts.now < 2 ^ 32 }
-    ensures { MatchResult result (AreCompiled options (slice_texts texts.now)) (IsCompileFault options (slice_texts texts.now)) }
+    ensures { MatchResult result (AreCompiled options (slice_texts texts.now))
+        (IsCompileFault options (slice_texts texts.now)) }
 {
     match texts {
         [text] => match compile(alloc, text, options) {
@@ -56,7 +57,8 @@ fn fault_of_only_input(error: PoError) -> JoinError
 /// then of `duplicates`; then with `TooLarge`, at line 0, where the file would have more than 4,294,967,295 bytes.
 /// `OutOfMemory`, at line 0, may come in place of any answer.
 pub fn compile(alloc: Global, text: &[u8], options: Options) -> Result<Compiled, PoError>
-    ensures { MatchResult result (AreCompiled options (text.now ∷ [])) (λ e. IsCompileFault options (text.now ∷ []) (fault_of_only_input e)) }
+    ensures { MatchResult result (AreCompiled options (text.now ∷ []))
+        (λ e. IsCompileFault options (text.now ∷ []) (fault_of_only_input e)) }
 {
     match collect(alloc, text, options.use_fuzzy) {
         Ok(collected) => compile_live(alloc, text, &collected, options),
@@ -73,7 +75,8 @@ fn compile_live(
     options: Options,
 ) -> Result<Compiled, PoError>
     requires { ReadsLive options.use_fuzzy text.now collected.now }
-    ensures { MatchResult result (AreCompiled options (text.now ∷ [])) (λ e. IsCompileFault options (text.now ∷ []) (fault_of_only_input e)) }
+    ensures { MatchResult result (AreCompiled options (text.now ∷ []))
+        (λ e. IsCompileFault options (text.now ∷ []) (fault_of_only_input e)) }
 {
     entries_can_stand();
     compile_collected(alloc, collected, options)
@@ -86,8 +89,12 @@ fn compile_collected(
     options: Options,
 ) -> Result<Compiled, PoError>
     requires { (entries : List TextEntry) × HoldsEntries options.use_fuzzy entries collected.now }
-    ensures found { IfOk result (λ compiled. (entries : List TextEntry) → HoldsEntries options.use_fuzzy entries collected.now → HasNoDuplicate entries × IsCompilation options entries compiled) }
-    ensures fault { IfErr result (λ e. (entries : List TextEntry) → HoldsEntries options.use_fuzzy entries collected.now → IsDuplicateErrorOf entries e ⊎ IsLargeText options entries e) }
+    ensures found { IfOk result (λ compiled. (entries : List TextEntry)
+        → HoldsEntries options.use_fuzzy entries collected.now
+        → HasNoDuplicate entries × IsCompilation options entries compiled) }
+    ensures fault { IfErr result (λ e. (entries : List TextEntry)
+        → HoldsEntries options.use_fuzzy entries collected.now → IsDuplicateErrorOf entries e
+        ⊎ IsLargeText options entries e) }
 {
     let pairs = sorted_pairs(alloc, collected)?;
     let count = pairs.len();
@@ -105,7 +112,8 @@ fn compile_collected(
 
 /// Compiles a text that is read in one piece.
 fn compile_whole(alloc: Global, text: &[u8], options: Options) -> Result<Compiled, PoError>
-    ensures { MatchResult result (AreCompiled options (text.now ∷ [])) (λ e. IsCompileFault options (text.now ∷ []) (fault_of_only_input e)) }
+    ensures { MatchResult result (AreCompiled options (text.now ∷ []))
+        (λ e. IsCompileFault options (text.now ∷ []) (fault_of_only_input e)) }
 {
     let catalogue = read_whole_distinct(alloc, text)?;
     let mut catalogues = Vec::with_capacity(alloc, 1)?;
@@ -125,7 +133,8 @@ pub fn compile_catalogues(
     options: Options,
 ) -> Result<Compiled, JoinError>
     requires { HasNoDuplicate (joined_entries catalogues.items) }
-    ensures { MatchResult result (IsCompilation options (joined_entries catalogues.items)) (IsLayoutFault options (joined_entries catalogues.items)) }
+    ensures { MatchResult result (IsCompilation options (joined_entries catalogues.items))
+        (IsLayoutFault options (joined_entries catalogues.items)) }
 {
     let entries = into_joined(alloc, catalogues)?;
     let stats = entry_statistics(&entries);

@@ -29,7 +29,8 @@ pub(crate) fn messages_of(
     entries: Vec<Entry>,
     use_fuzzy: bool,
 ) -> Result<Vec<Pair>, AllocError>
-    ensures { IfOk result (λ pairs. messages_of_pairs pairs.items ≡ messages_of_entries (compiled_list use_fuzzy entries.items)) }
+    ensures { IfOk result (λ pairs. messages_of_pairs pairs.items
+        ≡ messages_of_entries (compiled_list use_fuzzy entries.items)) }
 {
     let mut pairs = Vec::with_capacity(alloc, entries.len())?;
     for entry in entries {
@@ -71,7 +72,8 @@ fn original_of(
     id: Vec<u8>,
     plural: Option<Vec<u8>>,
 ) -> Result<Vec<u8>, AllocError>
-    ensures { IfOk result (λ original. original.items ≡ query_key (optional_text context) id.items ++ plural_part (optional_text plural)) }
+    ensures { IfOk result (λ original. original.items ≡ query_key (optional_text context) id.items
+        ++ plural_part (optional_text plural)) }
 {
     let mut original = build_key(context, id)?;
     if let Some(plural) = plural {

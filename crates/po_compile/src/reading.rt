@@ -13,7 +13,8 @@ use std::alloc::Global;
 /// with that of `joined_duplicates`; and where an allocation failed.
 pub fn read_all(alloc: Global, texts: &[&[u8]]) -> Result<Vec<Catalogue>, JoinError>
     requires { length texts.now < 2 ^ 32 }
-    ensures { MatchResult result (λ catalogues. AreRead (slice_texts texts.now) catalogues.items) (IsReadingFault (slice_texts texts.now)) }
+    ensures { MatchResult result (λ catalogues. AreRead (slice_texts texts.now) catalogues.items)
+        (IsReadingFault (slice_texts texts.now)) }
 {
     let mut catalogues = Vec::with_capacity(alloc, texts.len())?;
     for (input, text) in texts.iter().enumerate() {
@@ -33,7 +34,8 @@ pub fn read_all(alloc: Global, texts: &[&[u8]]) -> Result<Vec<Catalogue>, JoinEr
 /// The catalogue of a text, in which no live entry repeats an earlier one. Refused with the fault of `read`, then of
 /// `duplicates`; `OutOfMemory`, without a line, may come in place of any answer.
 pub fn read_distinct(alloc: Global, text: &[u8]) -> Result<Catalogue, PoError>
-    ensures { MatchResult result (ReadsDistinct text.now) (λ e. (e ≡ out_of_memory) ⊎ ((e.kind ≢ PoFault.OutOfMemory) × IsTextFault text.now e)) }
+    ensures { MatchResult result (ReadsDistinct text.now) (λ e. (e ≡ out_of_memory)
+        ⊎ ((e.kind ≢ PoFault.OutOfMemory) × IsTextFault text.now e)) }
 {
     let catalogue = read(alloc, text)?;
     duplicates(alloc, &catalogue)?;
@@ -42,7 +44,8 @@ pub fn read_distinct(alloc: Global, text: &[u8]) -> Result<Catalogue, PoError>
 
 /// The same of a text that is read in one piece.
 pub(crate) fn read_whole_distinct(alloc: Global, text: &[u8]) -> Result<Catalogue, PoError>
-    ensures { MatchResult result (ReadsDistinct text.now) (λ e. (e ≡ out_of_memory) ⊎ ((e.kind ≢ PoFault.OutOfMemory) × IsTextFault text.now e)) }
+    ensures { MatchResult result (ReadsDistinct text.now) (λ e. (e ≡ out_of_memory)
+        ⊎ ((e.kind ≢ PoFault.OutOfMemory) × IsTextFault text.now e)) }
 {
     let whole = read_whole(alloc, text)?;
     duplicates(alloc, &whole)?;

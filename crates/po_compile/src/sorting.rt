@@ -17,7 +17,8 @@ pub(crate) fn sorted_pairs(
     alloc: Global,
     collected: &Collected,
 ) -> Result<Vec<LentPair<'_>>, PoError>
-    ensures messages { IfOk result (λ pairs. OfAll collected.now (λ f es. IsSortedOf f es (messages_of_lent pairs.items))) }
+    ensures messages { IfOk result (λ pairs. OfAll collected.now
+        (λ f es. IsSortedOf f es (messages_of_lent pairs.items))) }
     ensures fault { IfErr result (λ e. OfAll collected.now (λ _ entries. IsDuplicateErrorOf entries e)) }
 {
     let mut rows = rows_of(alloc, &collected.bytes, &collected.lengths)?;

@@ -44,7 +44,8 @@ fn push_others<'a>(
 
 /// Adds texts to a set of them.
 fn comment_texts<'a>(seen: &mut BTreeSet<&'a [u8]>, others: &'a [Vec<u8>]) -> Result<(), AllocError>
-    ensures { (done : List (List ℕ)) → HoldsTexts seen.old done → OnOk result (HoldsTexts seen.new (done ++ texts others.now)) }
+    ensures { (done : List (List ℕ)) → HoldsTexts seen.old done
+        → OnOk result (HoldsTexts seen.new (done ++ texts others.now)) }
 {
     for text in others {
         seen.insert(text.as_slice())?;

@@ -39,7 +39,8 @@ pub(crate) fn live<'a>(
     alloc: Global,
     group: &[Definition<'a>],
 ) -> Result<Vec<Definition<'a>>, AllocError>
-    ensures { IfOk result (λ found. named_entries found.items ≡ filter (λ d. is_live d.entry) (named_entries group.now)) }
+    ensures { IfOk result (λ found. named_entries found.items
+        ≡ filter (λ d. is_live d.entry) (named_entries group.now)) }
 {
     let mut found = Vec::with_capacity(alloc, group.len())?;
     for definition in group {

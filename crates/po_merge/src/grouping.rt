@@ -37,7 +37,8 @@ impl<'a> Groups<'a> {
     /// Adds an entry to the group of its message.
     fn add(&mut self, alloc: Global, definition: Definition<'a>) -> Result<(), AllocError>
         requires { (entries : List NamedEntry) × IsGrouped self.old entries }
-        ensures { (entries : List NamedEntry) → IsGrouped self.old entries → OnOk result (IsGrouped self.new (entries ++ named_entry definition.entry ∷ [])) }
+        ensures { (entries : List NamedEntry) → IsGrouped self.old entries
+            → OnOk result (IsGrouped self.new (entries ++ named_entry definition.entry ∷ [])) }
     {
         let message = (definition.entry.context(), definition.entry.id());
         if let Some(index) = self.indices.get(&message).copied() {
@@ -60,7 +61,8 @@ impl<'a> Groups<'a> {
     ) -> Result<(), AllocError>
         requires { (before : List NamedEntry) × IsGrouped self.old before }
         ensures utf8 { IsUtf8 name.now }
-        ensures grouped { (before : List NamedEntry) → IsGrouped self.old before → OnOk result (IsGrouped self.new (before ++ map (named name.now) entries.now)) }
+        ensures grouped { (before : List NamedEntry) → IsGrouped self.old before
+            → OnOk result (IsGrouped self.new (before ++ map (named name.now) entries.now)) }
     {
         for entry in entries {
             self.add(alloc, Definition { name, entry })?;

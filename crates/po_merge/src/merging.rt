@@ -38,7 +38,8 @@ fn merged_forms(
     definitions: &[Definition<'_>],
 ) -> Result<(Vec<Vec<u8>>, bool), AllocError>
     requires { 0 < length definitions.now }
-    ensures forms { IfOk result (λ r. texts r.0.items ≡ (merged_entry options.now (named_entries definitions.now)).forms) }
+    ensures forms { IfOk result (λ r. texts r.0.items
+        ≡ (merged_entry options.now (named_entries definitions.now)).forms) }
     ensures fuzzy { IfOk result (λ r. r.1 ≡ (merged_entry options.now (named_entries definitions.now)).fuzzy) }
 {
     if options.use_first {
@@ -122,7 +123,8 @@ fn push_message(
 ) -> Result<(), PoError>
     requires some { 0 < length definitions.now }
     requires valid { All IsDefinition (named_entries definitions.now) }
-    ensures pushed { OnOk result (merged.new ≡ merged.old ++ merged_messages options.now (named_entries definitions.now ∷ [])) }
+    ensures pushed { OnOk result (merged.new ≡ merged.old
+        ++ merged_messages options.now (named_entries definitions.now ∷ [])) }
     ensures fault { IfErr result (IsMergeFault (merged_messages options.now (named_entries definitions.now ∷ []))) }
 {
     if !is_kept(definitions, options) {
@@ -141,8 +143,10 @@ fn push_group(
 ) -> Result<(), PoError>
     requires some { 0 < length group.now }
     requires valid { All IsDefinition (named_entries group.now) }
-    ensures pushed { OnOk result (merged.new ≡ merged.old ++ merged_messages options.now (definitions (named_entries group.now) ∷ [])) }
-    ensures fault { IfErr result (IsMergeFault (merged_messages options.now (definitions (named_entries group.now) ∷ []))) }
+    ensures pushed { OnOk result (merged.new ≡ merged.old
+        ++ merged_messages options.now (definitions (named_entries group.now) ∷ [])) }
+    ensures fault { IfErr result (IsMergeFault
+        (merged_messages options.now (definitions (named_entries group.now) ∷ []))) }
 {
     if has_live(group) {
         let live = live(alloc, group)?;
@@ -158,8 +162,10 @@ fn merge_groups(
     options: &MergeOptions,
 ) -> Result<Catalogue, PoError>
     requires { All IsGroup (group_entries groups.now) }
-    ensures merged { IfOk result (λ catalogue. catalogue ≡ merged_messages options.now (map definitions (group_entries groups.now))) }
-    ensures fault { IfErr result (IsMergeFault (merged_messages options.now (map definitions (group_entries groups.now)))) }
+    ensures merged { IfOk result (λ catalogue. catalogue
+        ≡ merged_messages options.now (map definitions (group_entries groups.now))) }
+    ensures fault { IfErr result (IsMergeFault
+        (merged_messages options.now (map definitions (group_entries groups.now)))) }
 {
     let mut merged = Catalogue::new(alloc);
     for group in groups {

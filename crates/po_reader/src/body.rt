@@ -151,7 +151,8 @@ fn body_after(
     requires within { from ≤ length items.now }
     requires few { length items.now < 2 ^ 32 }
     ensures found { IfOk result (λ b. IsTranslation original.obsolete (items_from from items.now)
-        (optional_text b.translation.plural) (texts b.translation.forms.items) (items_from b.translation.after items.now)) }
+        (optional_text b.translation.plural) (texts b.translation.forms.items)
+        (items_from b.translation.after items.now)) }
     ensures original { IfOk result (λ b. b.original ≡ original) }
     ensures within { IfOk result (λ b. b.translation.after ≤ length items.now) }
     ensures further { IfOk result (λ b. from < b.translation.after) }

@@ -20,7 +20,8 @@ use std::alloc::{AllocError, Global};
 /// The parts of an entry, from its head and its body.
 fn fields_of(alloc: Global, head: Head, body: Body) -> Result<Fields, AllocError>
     ensures { IfOk result (λ fields. (comment_texts : List CommentText) (previous : List PreviousText)
-        → HoldsHead head comment_texts previous → entry_view fields ≡ entry_from comment_texts previous (body_view body)) }
+        → HoldsHead head comment_texts previous
+        → entry_view fields ≡ entry_from comment_texts previous (body_view body)) }
 {
     let Head {
         comments,

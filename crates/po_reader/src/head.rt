@@ -104,8 +104,10 @@ fn add_comment(
     kind: CommentKind,
     text: &[u8],
 ) -> Result<(), AllocError>
-    ensures comment_texts { OnOk result ((comment_texts : List CommentText) → HoldsComments head.old (kept_comments all comment_texts)
-        → HoldsComments head.new (kept_comments all (comment_texts ++ (record { kind = kind; text = text.now }) ∷ []))) }
+    ensures comment_texts { OnOk result ((comment_texts : List CommentText)
+        → HoldsComments head.old (kept_comments all comment_texts)
+        → HoldsComments head.new (kept_comments all (comment_texts
+        ++ (record { kind = kind; text = text.now }) ∷ []))) }
     ensures previous { OnOk result (head.new.previous ≡ head.old.previous) }
 {
     if is_kept(all, kind) {

@@ -88,7 +88,8 @@ fn catalogue_of(alloc: Global, drafts: Vec<Fields>) -> Result<Catalogue, PoError
     requires { All (λ draft. IsEntry (entry_view draft)) drafts.items }
     ensures entries { IfOk result (λ c. c ≡ map entry_view drafts.items) }
     ensures charsets { OnOk result (All HasAdmittedCharset (map entry_view drafts.items)) }
-    ensures fault { IfErr result (λ e. e.kind ≢ PoFault.OutOfMemory → (e.kind ≡ PoFault.ForeignCharset) × CharsetStops (map entry_view drafts.items) e.line) }
+    ensures fault { IfErr result (λ e. e.kind ≢ PoFault.OutOfMemory → (e.kind ≡ PoFault.ForeignCharset)
+        × CharsetStops (map entry_view drafts.items) e.line) }
     ensures memory { IfErr result (λ e. e.kind ≡ PoFault.OutOfMemory → e.line ≡ 0) }
 {
     let mut catalogue = Catalogue::new(alloc);

@@ -110,7 +110,8 @@ pub(crate) fn wanted_keyword(
         w.keyword w.line w.text.items (items_from w.after items.now)) }
     ensures within { IfOk result (λ w. w.after ≤ length items.now) }
     ensures further { IfOk result (λ w. at < w.after) }
-    ensures fault { IfErr result (IsStop (KeywordTextStops end (wanted_view wanted) obsolete (items_from at items.now))) }
+    ensures fault { IfErr result (IsStop
+        (KeywordTextStops end (wanted_view wanted) obsolete (items_from at items.now))) }
     ensures memory { IfErr result (λ e. e.kind ≡ PoFault.OutOfMemory → e.line ≡ 0) }
 {
     let (keyword, line) = match keyword_at(items, at, wanted, obsolete) {

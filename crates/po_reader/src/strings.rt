@@ -65,7 +65,8 @@ pub(crate) fn strings_of(
     end: u32,
 ) -> Result<(Vec<u8>, usize), PoError>
     requires { from ≤ length items.now }
-    ensures found { IfOk result (λ p. IsStrings marks (items_from from items.now) p.0.items (items_from p.1 items.now)) }
+    ensures found { IfOk result (λ p. IsStrings marks (items_from from items.now) p.0.items
+        (items_from p.1 items.now)) }
     ensures within { IfOk result (λ p. p.1 ≤ length items.now) }
     ensures further { IfOk result (λ p. from < p.1) }
     ensures fault { IfErr result (IsStop (StringsStop end marks (items_from from items.now))) }

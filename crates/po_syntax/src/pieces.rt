@@ -57,15 +57,18 @@ fn read_piece<'a>(
 ) -> Result<Piece<'a>, PoError>
     requires clean { AreCleanLines (lines_of text.now) }
     requires room { number + length text.now ≤ 2 ^ 31 }
-    ensures found { IfOk result (λ p. (more : List TextItem) → SpellsLines p.line (lines_of_rest p.rest) more → SpellsLines number (lines_of text.now) (views p.items.items ++ more)) }
-    ensures stops { IfOk result (λ p. (fault : PoFault) (line : ℕ) → LinesStop p.line (lines_of_rest p.rest) fault line → LinesStop number (lines_of text.now) fault line) }
+    ensures found { IfOk result (λ p. (more : List TextItem) → SpellsLines p.line (lines_of_rest p.rest) more
+        → SpellsLines number (lines_of text.now) (views p.items.items ++ more)) }
+    ensures stops { IfOk result (λ p. (fault : PoFault) (line : ℕ)
+        → LinesStop p.line (lines_of_rest p.rest) fault line → LinesStop number (lines_of text.now) fault line) }
     ensures hold { IfOk result (λ p. All HoldsText (views p.items.items)) }
     ensures ends { IfOk result (λ p. (p.rest ≡ None) ⊎ EndsInString (views p.items.items)) }
     ensures few { IfOk result (λ p. vec_len p.items ≤ 2 ^ 31) }
     ensures clean { IfOk result (λ p. AreCleanLines (lines_of_rest p.rest)) }
     ensures room { IfOk result (λ p. HasRoom p.line p.rest) }
     ensures fewer { IfOk result (λ p. length (lines_of_rest p.rest) < length (lines_of text.now)) }
-    ensures fault { IfErr result (λ e. e.kind ≢ PoFault.OutOfMemory → LinesStop number (lines_of text.now) e.kind e.line) }
+    ensures fault { IfErr result (λ e. e.kind ≢ PoFault.OutOfMemory
+        → LinesStop number (lines_of text.now) e.kind e.line) }
     ensures memory { IfErr result (λ e. e.kind ≡ PoFault.OutOfMemory → e.line ≡ 0) }
 {
     let mut items = Vec::new(alloc);
@@ -100,8 +103,10 @@ impl<'a> Pieces<'a> {
     /// The whole text, of which nothing is read yet. Refused with `TooLarge`, without a line, above 2,147,483,647
     /// bytes; with `NotUtf8` at the first byte that is not; with `ForbiddenByte` at the first NUL.
     pub fn of(text: &'a [u8]) -> Result<Pieces<'a>, PoError>
-        ensures found { IfOk result (λ left. (items : List TextItem) → SpellsLeft left items → SpellsText text.now items) }
-        ensures stops { IfOk result (λ left. (fault : PoFault) (line : ℕ) → LeftStops left fault line → TextFault text.now fault line) }
+        ensures found { IfOk result (λ left. (items : List TextItem) → SpellsLeft left items
+            → SpellsText text.now items) }
+        ensures stops { IfOk result (λ left. (fault : PoFault) (line : ℕ) → LeftStops left fault line
+            → TextFault text.now fault line) }
         ensures fault { IfErr result (λ e. TextFault text.now e.kind e.line) }
         ensures memory { IfErr result (λ e. e.kind ≢ PoFault.OutOfMemory) }
     {
@@ -125,8 +130,10 @@ impl<'a> Pieces<'a> {
     /// items, they spell those of the piece and then those of the rest. Refused with the leftmost fault of a line, or
     /// as out of memory, and then as much is left as before.
     pub fn next(&mut self, alloc: Global, size: usize) -> Result<Vec<Item<'a>>, PoError>
-        ensures found { IfOk result (λ items. (more : List TextItem) → SpellsLeft self.new more → SpellsLeft self.old (views items.items ++ more)) }
-        ensures stops { OnOk result ((fault : PoFault) (line : ℕ) → LeftStops self.new fault line → LeftStops self.old fault line) }
+        ensures found { IfOk result (λ items. (more : List TextItem) → SpellsLeft self.new more
+            → SpellsLeft self.old (views items.items ++ more)) }
+        ensures stops { OnOk result ((fault : PoFault) (line : ℕ) → LeftStops self.new fault line
+            → LeftStops self.old fault line) }
         ensures hold { IfOk result (λ items. All HoldsText (views items.items)) }
         ensures ends { IfOk result (λ items. (self.new.lines ≡ []) ⊎ EndsInString (views items.items)) }
         ensures few { IfOk result (λ items. vec_len items ≤ 2 ^ 31) }

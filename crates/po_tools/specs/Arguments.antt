@@ -6,7 +6,7 @@ use Rattle.mo_file.specs.declared.byte_order.Order.TheVariants.{Big, Little}
 use Rattle.po_merge.specs.declared.input.MergeOptions.{MergeOptions}
 use Rattle.po_select.specs.declared.selection.Selection.{Selection}
 use Rattle.po_tools.specs.declared.msgfmt.MsgfmtOptions.{MsgfmtOptions}
-use Rattle.po_tools.specs.Gettext.{GettextRequest, NgettextRequest}
+use Rattle.po_tools.specs.Gettext.{NgettextRequest}
 use Rattle.po_tools.specs.Positional.{NgettextForm}
 
 -- one of two options is given
@@ -63,14 +63,6 @@ pub record AreMsgfmtOptions (flag : List ℕ → Bool → Type 0) (text : List �
   pub order : IsOrder text o.order
   pub statistics : flag (codes "statistics") o.statistics
   pub profile_check : flag (codes "profile-check") o.profile_check
-
--- what gettext is asked for: the messages among its arguments, and its options
-pub record IsGettextRequest (flag : List ℕ → Bool → Type 0) (text : List ℕ → Option (List ℕ) → Type 0) (messages : List (List ℕ)) (o : GettextRequest) : Type 0 where
-  pub arguments : o.arguments ≡ messages
-  pub context : text (codes "context") o.context
-  pub expand : flag (codes "expand") o.expand
-  pub no_newline : flag (codes "no-newline") o.no_newline
-  pub shell : flag (codes "shell") o.shell
 
 -- what ngettext is asked for: its arguments, and its options
 pub record IsNgettextRequest (flag : List ℕ → Bool → Type 0) (text : List ℕ → Option (List ℕ) → Type 0) (form : NgettextForm) (o : NgettextRequest) : Type 0 where

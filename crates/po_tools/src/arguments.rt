@@ -1,11 +1,11 @@
 //! What the options of a command line mean for each tool.
-ghost use Rattle.std.specs.Prelude.{◌≡◌, ◌||◌, ℕ, List, Bool, Option, map};
+ghost use Rattle.std.specs.Prelude.{◌≡◌, ◌||◌, ℕ, List, Bool, Option};
 ghost use Rattle.std.specs.Option.{option_copied};
-ghost use Rattle.po_tools.specs.Arguments.{AreMergeOptions, AreMsgfmtOptions, IsGettextRequest, IsNgettextRequest, IsSelection, order_of};
-ghost use Rattle.po_tools.specs.GettextView.{gettext_view, ngettext_view};
+ghost use Rattle.po_tools.specs.Arguments.{AreMergeOptions, AreMsgfmtOptions, IsNgettextRequest, IsSelection, order_of};
+ghost use Rattle.po_tools.specs.GettextView.{ngettext_view};
 ghost use Rattle.po_tools.specs.PositionalView.{ngettext_arguments};
 
-use crate::gettext::{GettextOptions, NgettextOptions};
+use crate::gettext::NgettextOptions;
 use crate::msgfmt::MsgfmtOptions;
 use crate::positional::NgettextArguments;
 use mo_file::Order;
@@ -96,23 +96,6 @@ fn order_of(name: Option<&str>) -> Order
     match name {
         Some(name) if name == "big" => Order::Big,
         _ => Order::Little,
-    }
-}
-
-/// What `gettext` is asked for, with the messages among its arguments.
-pub fn gettext_options_of<'a, A: Arguments>(
-    arguments: &'a A,
-    messages: &'a [&'a str],
-) -> GettextOptions<'a>
-    ensures { IsGettextRequest (A.flag arguments.now) (A.text arguments.now)
-        (map (λ message. message.now) messages.now) (gettext_view result) }
-{
-    GettextOptions {
-        messages,
-        context: arguments.text_of("context"),
-        expand: arguments.is_given("expand"),
-        no_newline: arguments.is_given("no-newline"),
-        shell: arguments.is_given("shell"),
     }
 }
 

@@ -99,7 +99,8 @@ fn open_all<'a>(
     tool: &str,
     files: &[(&str, &'a [u8])],
 ) -> Result<Opened<'a>, AllocError>
-    ensures opens { IfOk result (λ opened. Opens tool.now (named_files files.now) opened.catalogs.items opened.messages.items) }
+    ensures opens { IfOk result (λ opened. Opens tool.now (named_files files.now) opened.catalogs.items
+        opened.messages.items) }
     ensures few { IfOk result (λ opened. length opened.catalogs.items ≤ length files.now) }
 {
     let mut opened = Opened {
@@ -122,7 +123,12 @@ fn push_text<'a, 'q>(
 ) -> Result<(), AllocError>
 where
     'a: 'q,
-    ensures { OnOk result (output.new.items ≡ output.old.items ++ (chain_answered chain.now (record { context = option_copied context.entry; id = id.now; plural = given plural.entry })).text) }
+    ensures { OnOk result (output.new.items ≡ output.old.items
+        ++ (chain_answered chain.now (record {
+          context = option_copied context.entry;
+          id = id.now;
+          plural = given plural.entry;
+        })).text) }
 {
     let answer = match context {
         Some(context) => chain.look(Some(context.as_bytes()), id, plural, &mut Meter::new()),
@@ -139,7 +145,12 @@ fn push_expanded(
     context: Option<&str>,
     argument: &str,
 ) -> Result<bool, ToolFault>
-    ensures answer { OnOk result (output.new.items ≡ output.old.items ++ (chain_answered chain.now (record { context = option_copied context.entry; id = expansion argument.now; plural = None })).text) }
+    ensures answer { OnOk result (output.new.items ≡ output.old.items
+        ++ (chain_answered chain.now (record {
+          context = option_copied context.entry;
+          id = expansion argument.now;
+          plural = None;
+        })).text) }
     ensures no_newline { IfOk result (λ stops. stops ≡ has_no_newline argument.now) }
     ensures fault { OnErr result (result ≡ Err ToolFault.OutOfMemory) }
 {
@@ -156,7 +167,8 @@ fn push_answer(
     options: &GettextOptions<'_>,
     argument: &str,
 ) -> Result<bool, ToolFault>
-    ensures answer { OnOk result (output.new.items ≡ output.old.items ++ argument_answer chain.now (gettext_view options.now) argument.now) }
+    ensures answer { OnOk result (output.new.items ≡ output.old.items
+        ++ argument_answer chain.now (gettext_view options.now) argument.now) }
     ensures no_newline { IfOk result (λ stops. stops ≡ stops_line (gettext_view options.now) argument.now) }
     ensures fault { OnErr result (result ≡ Err ToolFault.OutOfMemory) }
 {
@@ -174,8 +186,10 @@ fn push_answers(
     chain: &Chain<'_, '_>,
     options: &GettextOptions<'_>,
 ) -> Result<bool, ToolFault>
-    ensures answers { OnOk result (output.new.items ≡ output.old.items ++ answers chain.now (gettext_view options.now)) }
-    ensures no_newline { IfOk result (λ stops. stops ≡ list_any (stops_line (gettext_view options.now)) (gettext_view options.now).arguments) }
+    ensures answers { OnOk result (output.new.items ≡ output.old.items
+        ++ answers chain.now (gettext_view options.now)) }
+    ensures no_newline { IfOk result (λ stops. stops
+        ≡ list_any (stops_line (gettext_view options.now)) (gettext_view options.now).arguments) }
     ensures fault { OnErr result (result ≡ Err ToolFault.OutOfMemory) }
 {
     let Some((first, others)) = options.messages.split_first() else {
@@ -200,7 +214,8 @@ pub fn plan_gettext(
     options: &GettextOptions<'_>,
 ) -> Result<Run, ToolFault>
     requires { length catalogues.now < 2 ^ 32 }
-    ensures run { IfOk result (λ run. IsGettextRun (named_files catalogues.now) (gettext_view options.now) (report run)) }
+    ensures run { IfOk result (λ run. IsGettextRun (named_files catalogues.now) (gettext_view options.now)
+        (report run)) }
     ensures fault { OnErr result (result ≡ Err ToolFault.OutOfMemory) }
 {
     let opened = open_all(alloc, "gettext", catalogues)?;
@@ -225,7 +240,12 @@ fn push_expanded_plural(
     chain: &Chain<'_, '_>,
     options: &NgettextOptions<'_>,
 ) -> Result<(), ToolFault>
-    ensures answer { OnOk result (let o = ngettext_view options.now in output.new.items ≡ output.old.items ++ (chain_answered chain.now (record { context = o.context; id = expansion o.id; plural = Some (expansion o.plural, count_in o.count) })).text) }
+    ensures answer { OnOk result (let o = ngettext_view options.now in output.new.items ≡ output.old.items
+        ++ (chain_answered chain.now (record {
+          context = o.context;
+          id = expansion o.id;
+          plural = Some (expansion o.plural, count_in o.count);
+        })).text) }
     ensures fault { OnErr result (result ≡ Err ToolFault.OutOfMemory) }
 {
     let count = count_of(options.count.as_bytes());
@@ -242,7 +262,8 @@ fn push_plural_answer(
     chain: &Chain<'_, '_>,
     options: &NgettextOptions<'_>,
 ) -> Result<(), ToolFault>
-    ensures answer { OnOk result (output.new.items ≡ output.old.items ++ ngettext_output chain.now (ngettext_view options.now)) }
+    ensures answer { OnOk result (output.new.items ≡ output.old.items
+        ++ ngettext_output chain.now (ngettext_view options.now)) }
     ensures fault { OnErr result (result ≡ Err ToolFault.OutOfMemory) }
 {
     if options.expand {
@@ -269,7 +290,8 @@ pub fn plan_ngettext(
     options: &NgettextOptions<'_>,
 ) -> Result<Run, ToolFault>
     requires { length catalogues.now < 2 ^ 32 }
-    ensures run { IfOk result (λ run. IsNgettextRun (named_files catalogues.now) (ngettext_view options.now) (report run)) }
+    ensures run { IfOk result (λ run. IsNgettextRun (named_files catalogues.now) (ngettext_view options.now)
+        (report run)) }
     ensures fault { OnErr result (result ≡ Err ToolFault.OutOfMemory) }
 {
     let opened = open_all(alloc, "ngettext", catalogues)?;

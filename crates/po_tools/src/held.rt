@@ -70,7 +70,8 @@ impl Held {
     /// Ends a stretch before an entry that is kept.
     fn end_stretch(&mut self, alloc: Global, entry: &Entry) -> Result<(), AllocError>
         ensures { OnOk result ((name : List ℕ) (entries kept : List NamedEntry)
-            → IsHeld self.old entries kept → IsHeld self.new (entries ++ named name entry.now ∷ []) (kept ++ named name entry.now ∷ [])) }
+            → IsHeld self.old entries kept → IsHeld self.new (entries ++ named name entry.now ∷ [])
+            (kept ++ named name entry.now ∷ [])) }
     {
         let next = digest(entry);
         let rest = TextParts::with_capacity(alloc, 0)?;
@@ -134,8 +135,10 @@ impl Held {
         index: usize,
         places: &[Place],
     ) -> Result<bool, ToolFault>
-        ensures added { IfOk result (λ done. done ≡ true → (read : List TextEntry) × ReadsText text.now read × AllDiffer read
-            × ((name : List ℕ) (entries kept : List NamedEntry) → IsHeld self.old entries (kept ++ map (named name) current.old)
+        ensures added { IfOk result (λ done. done ≡ true → (read : List TextEntry) × ReadsText text.now read
+            × AllDiffer read
+            × ((name : List ℕ) (entries kept : List NamedEntry)
+            → IsHeld self.old entries (kept ++ map (named name) current.old)
             → IsHeld self.new (entries ++ map (named name) read) (kept ++ map (named name) current.new))) }
         ensures memory { OnErr result (result ≡ Err ToolFault.OutOfMemory) }
     {
@@ -162,7 +165,8 @@ pub(crate) fn hold_inputs<'a>(
     places: &[Place],
 ) -> Result<Option<(Held, Vec<Named<'a>>)>, ToolFault>
     requires { All (λ file. Lacks 0 file.name) (named_files inputs.now) }
-    ensures held { IfOk result (λ found. IfSome found (λ p. AreHeld (named_files inputs.now) p.0 (inputs_view p.1.items))) }
+    ensures held { IfOk result (λ found. IfSome found
+        (λ p. AreHeld (named_files inputs.now) p.0 (inputs_view p.1.items))) }
     ensures names { IfOk result (λ found. IfSome found (λ p. All (λ input. Lacks 0 input.name.now) p.1.items)) }
     ensures memory { OnErr result (result ≡ Err ToolFault.OutOfMemory) }
 {

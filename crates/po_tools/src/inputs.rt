@@ -68,7 +68,8 @@ impl<'a> Inputs<'a> {
         arguments: &[&'a str],
     ) -> Result<Inputs<'a>, AllocError>
         ensures { IfOk result (λ inputs. AreInputs (S.file source.now) (S.standard source.now) false
-            (map (λ argument. argument.now) arguments.now) (named_inputs inputs.texts.items) (option_map program_text inputs.fault)) }
+            (map (λ argument. argument.now) arguments.now) (named_inputs inputs.texts.items)
+            (option_map program_text inputs.fault)) }
     {
         let mut texts = Vec::new(alloc);
         let mut is_stdin_read = false;
@@ -105,7 +106,8 @@ pub fn read_one<'a, S: InputSource>(
     argument: &'a str,
 ) -> Result<Vec<u8>, ProgramFault<'a>>
     ensures bytes { IfOk result (λ bytes.
-        ReadsAs (S.file source.now) (S.standard source.now) argument.now (is_standard argument.now) false (gives bytes.items)) }
+        ReadsAs (S.file source.now) (S.standard source.now) argument.now (is_standard argument.now) false
+        (gives bytes.items)) }
     ensures fault { IfErr result (λ reported. (reported ≡ ProgramFault.OutOfMemory)
         ⊎ IsUnread (S.file source.now) (S.standard source.now) argument.now (program_text reported)) }
 {
@@ -146,7 +148,8 @@ fn read_argument<S: InputSource>(
     is_stdin_read: bool,
 ) -> Result<Vec<u8>, Unread>
     ensures { MatchResult result
-        (λ bytes. ReadsAs (S.file source.now) (S.standard source.now) argument.now standard is_stdin_read (gives bytes.items))
+        (λ bytes. ReadsAs (S.file source.now) (S.standard source.now) argument.now standard is_stdin_read
+        (gives bytes.items))
         (λ why. (why ≡ Unread.OutOfMemory)
         ⊎ ReadsAs (S.file source.now) (S.standard source.now) argument.now standard is_stdin_read (refuses why)) }
 {

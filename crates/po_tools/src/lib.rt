@@ -36,8 +36,7 @@ mod unread;
 mod written;
 
 pub use arguments::{
-    Arguments, gettext_options_of, merge_options_of, msgfmt_options_of, ngettext_options_of,
-    selection_of,
+    Arguments, merge_options_of, msgfmt_options_of, ngettext_options_of, selection_of,
 };
 pub use catalogues::{CatalogueFile, find_catalogues, lent_catalogues, read_catalogues};
 pub use gettext::{GettextOptions, NgettextOptions, plan_gettext, plan_ngettext};

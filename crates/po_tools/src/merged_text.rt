@@ -38,7 +38,8 @@ fn append_text(text: &mut Vec<u8>, more: &[u8]) -> Result<(), AllocError>
 
 /// Appends the text of further entries.
 fn append_parts(parts: &mut TextParts, more: &TextParts) -> Result<(), AllocError>
-    ensures { OnOk result ((before entries : List TextEntry) → AreParts before parts.old → AreParts entries more.now → AreParts (before ++ entries) parts.new) }
+    ensures { OnOk result ((before entries : List TextEntry) → AreParts before parts.old → AreParts entries more.now
+        → AreParts (before ++ entries) parts.new) }
 {
     append_text(&mut parts.live, &more.live)?;
     append_text(&mut parts.obsolete, &more.obsolete)
@@ -50,7 +51,8 @@ fn add_next<'a>(
     merged: &'a [Entry],
     next: u64,
 ) -> Result<&'a [Entry], ToolFault>
-    ensures added { OnOk result ((before : List TextEntry) → AreParts before parts.old → AreParts (before ++ next_merged next merged.now) parts.new) }
+    ensures added { OnOk result ((before : List TextEntry) → AreParts before parts.old
+        → AreParts (before ++ next_merged next merged.now) parts.new) }
     ensures left { IfOk result (λ left. left.now ≡ after_next next merged.now) }
     ensures memory { OnErr result (result ≡ Err ToolFault.OutOfMemory) }
 {
@@ -73,7 +75,8 @@ fn weave(
     rest: &TextParts,
     merged: &[Entry],
 ) -> Result<TextParts, ToolFault>
-    ensures parts { IfOk result (λ parts. (entries : List Stretched) (after : List NamedEntry) → AllZip IsStretch entries stretches.now
+    ensures parts { IfOk result (λ parts. (entries : List Stretched) (after : List NamedEntry)
+        → AllZip IsStretch entries stretches.now
         → AreParts (unnamed after) rest.now → AreParts (woven digest entries merged.now after) parts) }
     ensures memory { OnErr result (result ≡ Err ToolFault.OutOfMemory) }
 {
@@ -96,7 +99,8 @@ fn written<'a>(
 ) -> Result<Option<Vec<u8>>, ToolFault>
     requires names { All (λ input. Lacks 0 input.name.now) kept.now }
     requires all { keeps_all options.now ≡ true }
-    ensures written { IfOk result (λ found. IfSome found (λ text. (files : List NamedFile) → AreHeld files held (inputs_view kept.now) → IsMergedText files options.now text.items)) }
+    ensures written { IfOk result (λ found. IfSome found (λ text. (files : List NamedFile)
+        → AreHeld files held (inputs_view kept.now) → IsMergedText files options.now text.items)) }
     ensures memory { OnErr result (result ≡ Err ToolFault.OutOfMemory) }
 {
     let Held {
@@ -127,7 +131,8 @@ pub(crate) fn merged_text(
 ) -> Result<Option<Vec<u8>>, ToolFault>
     requires names { All (λ file. Lacks 0 file.name) (named_files inputs.now) }
     requires all { keeps_all options.now ≡ true }
-    ensures written { IfOk result (λ found. IfSome found (λ text. IsMergedText (named_files inputs.now) options.now text.items)) }
+    ensures written { IfOk result (λ found. IfSome found
+        (λ text. IsMergedText (named_files inputs.now) options.now text.items)) }
     ensures memory { OnErr result (result ≡ Err ToolFault.OutOfMemory) }
 {
     let places = repeated_places(alloc, inputs)?;

@@ -72,9 +72,11 @@ pub fn run_msgattrib<R: ByteIn, O: ByteOut, E: ByteOut>(
     requires out_failures { O.failures out.old < 2 ^ 63 }
     requires err_failures { E.failures err.old < 2 ^ 63 }
     ensures calls { R.calls reader.new ≤ R.calls reader.old + 4294967296 }
-    ensures delivered { IfOk result (λ status. IsDelivered (IsMsgattribRun name.now selection.now) (R.remaining reader.old)
+    ensures delivered { IfOk result
+        (λ status. IsDelivered (IsMsgattribRun name.now selection.now) (R.remaining reader.old)
         (O.contents out.old) (O.contents out.new) (E.contents err.old) (E.contents err.new) status) }
-    ensures prefix { IsErrOf result ToolFault.WriteFault → IsCut (IsMsgattribRun name.now selection.now) (R.remaining reader.old)
+    ensures prefix { IsErrOf result ToolFault.WriteFault
+        → IsCut (IsMsgattribRun name.now selection.now) (R.remaining reader.old)
         (O.contents out.old) (O.contents out.new) (E.contents err.old) (E.contents err.new) }
     ensures no_output { (result ≡ Err ToolFault.ReadFault) ⊎ (result ≡ Err ToolFault.OutOfMemory)
         → Keeps (O.contents out.old) (O.contents out.new) }

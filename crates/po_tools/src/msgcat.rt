@@ -56,7 +56,8 @@ fn read_files<'a>(
     requires { All (λ file. Lacks 0 file.name) (named_files files.now) }
     ensures read { IfOk result (λ inputs. AreReadAs (named_files files.now) (inputs_view inputs.items)) }
     ensures names { IfOk result (λ inputs. All (λ input. Lacks 0 input.name.now) inputs.items) }
-    ensures fault { IfErr result (λ fault. (fault.error ≡ out_of_memory) ⊎ IsFileFault (named_files files.now) fault.name.now fault.error) }
+    ensures fault { IfErr result (λ fault. (fault.error ≡ out_of_memory)
+        ⊎ IsFileFault (named_files files.now) fault.name.now fault.error) }
 {
     let mut inputs = Vec::new(alloc);
     for (name, text) in files {
@@ -134,7 +135,8 @@ fn text_of_pieces(
     options: &MergeOptions,
 ) -> Result<Option<Vec<u8>>, ToolFault>
     requires { All (λ file. Lacks 0 file.name) (named_files inputs.now) }
-    ensures written { IfOk result (λ found. IfSome found (λ written. IsMergedText (named_files inputs.now) options.now written.items)) }
+    ensures written { IfOk result (λ found. IfSome found
+        (λ written. IsMergedText (named_files inputs.now) options.now written.items)) }
     ensures memory { OnErr result (result ≡ Err ToolFault.OutOfMemory) }
 {
     entries_can_stand();
@@ -163,7 +165,8 @@ pub fn plan_msgcat_before<'a>(
 ) -> Result<Run, ProgramFault<'a>>
     requires { All (λ file. Lacks 0 file.name) (named_files inputs.now) }
     ensures refused { IfOk result (λ run. IsUnread (named_files inputs.now) (report run)) }
-    ensures fault { IfErr result (λ reported. (reported ≡ ProgramFault.OutOfMemory) ⊎ ((reported ≡ fault.entry) × ((read : List Input) × AreReadAs (named_files inputs.now) read))) }
+    ensures fault { IfErr result (λ reported. (reported ≡ ProgramFault.OutOfMemory)
+        ⊎ ((reported ≡ fault.entry) × ((read : List Input) × AreReadAs (named_files inputs.now) read))) }
 {
     match read_files(alloc, inputs) {
         Ok(_) => Err(fault),

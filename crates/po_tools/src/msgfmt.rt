@@ -37,7 +37,8 @@ fn compiled_entries<'a>(
     entries: &[JoinedEntry<'a>],
     use_fuzzy: bool,
 ) -> Result<Vec<JoinedEntry<'a>>, AllocError>
-    ensures { IfOk result (λ compiled. input_entries compiled.items ≡ compiled_inputs use_fuzzy (input_entries entries.now)) }
+    ensures { IfOk result (λ compiled. input_entries compiled.items
+        ≡ compiled_inputs use_fuzzy (input_entries entries.now)) }
 {
     let mut compiled = Vec::with_capacity(alloc, entries.len())?;
     for joined in entries {
@@ -73,7 +74,8 @@ pub fn profile_check(
     use_fuzzy: bool,
 ) -> Result<(), (u32, CheckFault)>
     requires { length catalogues.now < 2 ^ 32 }
-    ensures { MatchResult result (λ _. AreChecked use_fuzzy catalogues.now None) (λ reported. (reported ≡ (0, CheckFault.OutOfMemory)) ⊎ AreChecked use_fuzzy catalogues.now (Some reported)) }
+    ensures { MatchResult result (λ _. AreChecked use_fuzzy catalogues.now None)
+        (λ reported. (reported ≡ (0, CheckFault.OutOfMemory)) ⊎ AreChecked use_fuzzy catalogues.now (Some reported)) }
 {
     match first_fault(alloc, catalogues, use_fuzzy) {
         Ok(None) => Ok(()),
@@ -89,8 +91,10 @@ fn checked(
     options: &MsgfmtOptions,
 ) -> Result<(), (u32, CheckFault)>
     requires { length catalogues.now < 2 ^ 32 }
-    ensures fit { OnOk result (options.now.profile_check ≡ true → AreChecked options.now.use_fuzzy catalogues.now None) }
-    ensures unfit { IfErr result (λ reported. (reported ≡ (0, CheckFault.OutOfMemory)) ⊎ ((options.now.profile_check ≡ true) × AreChecked options.now.use_fuzzy catalogues.now (Some reported))) }
+    ensures fit { OnOk result (options.now.profile_check ≡ true
+        → AreChecked options.now.use_fuzzy catalogues.now None) }
+    ensures unfit { IfErr result (λ reported. (reported ≡ (0, CheckFault.OutOfMemory))
+        ⊎ ((options.now.profile_check ≡ true) × AreChecked options.now.use_fuzzy catalogues.now (Some reported))) }
 {
     if options.profile_check {
         profile_check(alloc, catalogues, options.use_fuzzy)
@@ -199,7 +203,8 @@ fn push_check_text(out: &mut Vec<u8>, fault: CheckFault) -> Result<(), AllocErro
 
 /// The run of inputs that aren't compiled.
 fn refused_run(alloc: Global, inputs: &[(&str, &[u8])], error: JoinError) -> Result<Run, ToolFault>
-    ensures run { IfOk result (λ run. (error.error.kind ≢ PoFault.OutOfMemory) × (report run ≡ refusal (join_line (named_files inputs.now) error))) }
+    ensures run { IfOk result (λ run. (error.error.kind ≢ PoFault.OutOfMemory)
+        × (report run ≡ refusal (join_line (named_files inputs.now) error))) }
     ensures memory { OnErr result (result ≡ Err ToolFault.OutOfMemory) }
 {
     if error.error.kind == PoFault::OutOfMemory {
@@ -224,7 +229,8 @@ fn unfit_run(
     input: u32,
     fault: CheckFault,
 ) -> Result<Run, ToolFault>
-    ensures run { IfOk result (λ run. (fault ≢ CheckFault.OutOfMemory) × (report run ≡ refusal (check_line (named_files inputs.now) (input, fault)))) }
+    ensures run { IfOk result (λ run. (fault ≢ CheckFault.OutOfMemory)
+        × (report run ≡ refusal (check_line (named_files inputs.now) (input, fault)))) }
     ensures memory { OnErr result (result ≡ Err ToolFault.OutOfMemory) }
 {
     if fault == CheckFault::OutOfMemory {
@@ -364,12 +370,19 @@ pub fn run_msgfmt<R: ByteIn, O: ByteOut, E: ByteOut>(
     requires out_failures { O.failures out.old < 2 ^ 63 }
     requires err_failures { E.failures err.old < 2 ^ 63 }
     ensures calls { R.calls reader.new ≤ R.calls reader.old + 4294967296 }
-    ensures delivered { IfOk result (λ status. IsMsgfmtDelivered (R.remaining reader.old) name.now options.now (O.contents out.old) (O.contents out.new) (E.contents err.old) (E.contents err.new) status) }
-    ensures prefix { IsErrOf result ToolFault.WriteFault → IsMsgfmtCut (R.remaining reader.old) name.now options.now (O.contents out.old) (O.contents out.new) (E.contents err.old) (E.contents err.new) }
-    ensures no_output { (result ≡ Err ToolFault.ReadFault) ⊎ (result ≡ Err ToolFault.OutOfMemory) → Keeps (O.contents out.old) (O.contents out.new) }
-    ensures no_messages { (result ≡ Err ToolFault.ReadFault) ⊎ (result ≡ Err ToolFault.OutOfMemory) → Keeps (E.contents err.old) (E.contents err.new) }
+    ensures delivered { IfOk result
+        (λ status. IsMsgfmtDelivered (R.remaining reader.old) name.now options.now (O.contents out.old)
+        (O.contents out.new) (E.contents err.old) (E.contents err.new) status) }
+    ensures prefix { IsErrOf result ToolFault.WriteFault
+        → IsMsgfmtCut (R.remaining reader.old) name.now options.now (O.contents out.old) (O.contents out.new)
+        (E.contents err.old) (E.contents err.new) }
+    ensures no_output { (result ≡ Err ToolFault.ReadFault) ⊎ (result ≡ Err ToolFault.OutOfMemory)
+        → Keeps (O.contents out.old) (O.contents out.new) }
+    ensures no_messages { (result ≡ Err ToolFault.ReadFault) ⊎ (result ≡ Err ToolFault.OutOfMemory)
+        → Keeps (E.contents err.old) (E.contents err.new) }
     ensures read_fault { IsErrOf result ToolFault.ReadFault → R.failures reader.new ≡ R.failures reader.old + 1 }
-    ensures write_fault { IsErrOf result ToolFault.WriteFault → O.failures out.new + E.failures err.new ≡ O.failures out.old + E.failures err.old + 1 }
+    ensures write_fault { IsErrOf result ToolFault.WriteFault
+        → O.failures out.new + E.failures err.new ≡ O.failures out.old + E.failures err.old + 1 }
     ensures read_failures { (result ≢ Err ToolFault.ReadFault) → R.failures reader.new ≡ R.failures reader.old }
     ensures out_failures { (result ≢ Err ToolFault.WriteFault) → O.failures out.new ≡ O.failures out.old }
     ensures err_failures { (result ≢ Err ToolFault.WriteFault) → E.failures err.new ≡ E.failures err.old }

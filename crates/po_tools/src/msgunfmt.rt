@@ -31,7 +31,8 @@ fn push_unformat_text(out: &mut Vec<u8>, error: UnformatError) -> Result<(), All
 
 /// The run of a file that has no text.
 fn refused_run(alloc: Global, name: &str, error: UnformatError) -> Result<Run, ToolFault>
-    ensures run { IfOk result (λ run. (error ≢ UnformatError.OutOfMemory) × (report run ≡ refusal (unformat_line name.now error))) }
+    ensures run { IfOk result (λ run. (error ≢ UnformatError.OutOfMemory)
+        × (report run ≡ refusal (unformat_line name.now error))) }
     ensures memory { OnErr result (result ≡ Err ToolFault.OutOfMemory) }
 {
     if error == UnformatError::OutOfMemory {
@@ -46,7 +47,8 @@ fn refused_run(alloc: Global, name: &str, error: UnformatError) -> Result<Run, T
 
 /// The run of a file that has a text.
 fn unformatted_run(alloc: Global, text: Vec<u8>) -> Run
-    ensures { (bytes : List ℕ) (file : IsUnformatted bytes text.items) → report result ≡ unformatted_run file.messages text.items }
+    ensures { (bytes : List ℕ) (file : IsUnformatted bytes text.items)
+        → report result ≡ unformatted_run file.messages text.items }
 {
     empty_text();
     let create = text.len() > 0;
@@ -85,12 +87,19 @@ pub fn run_msgunfmt<R: ByteIn, O: ByteOut, E: ByteOut>(
     requires out_failures { O.failures out.old < 2 ^ 63 }
     requires err_failures { E.failures err.old < 2 ^ 63 }
     ensures calls { R.calls reader.new ≤ R.calls reader.old + 4294967296 }
-    ensures delivered { IfOk result (λ status. IsMsgunfmtDelivered (R.remaining reader.old) name.now (O.contents out.old) (O.contents out.new) (E.contents err.old) (E.contents err.new) status) }
-    ensures prefix { IsErrOf result ToolFault.WriteFault → IsMsgunfmtCut (R.remaining reader.old) name.now (O.contents out.old) (O.contents out.new) (E.contents err.old) (E.contents err.new) }
-    ensures no_output { (result ≡ Err ToolFault.ReadFault) ⊎ (result ≡ Err ToolFault.OutOfMemory) → Keeps (O.contents out.old) (O.contents out.new) }
-    ensures no_messages { (result ≡ Err ToolFault.ReadFault) ⊎ (result ≡ Err ToolFault.OutOfMemory) → Keeps (E.contents err.old) (E.contents err.new) }
+    ensures delivered { IfOk result
+        (λ status. IsMsgunfmtDelivered (R.remaining reader.old) name.now (O.contents out.old) (O.contents out.new)
+        (E.contents err.old) (E.contents err.new) status) }
+    ensures prefix { IsErrOf result ToolFault.WriteFault
+        → IsMsgunfmtCut (R.remaining reader.old) name.now (O.contents out.old) (O.contents out.new)
+        (E.contents err.old) (E.contents err.new) }
+    ensures no_output { (result ≡ Err ToolFault.ReadFault) ⊎ (result ≡ Err ToolFault.OutOfMemory)
+        → Keeps (O.contents out.old) (O.contents out.new) }
+    ensures no_messages { (result ≡ Err ToolFault.ReadFault) ⊎ (result ≡ Err ToolFault.OutOfMemory)
+        → Keeps (E.contents err.old) (E.contents err.new) }
     ensures read_fault { IsErrOf result ToolFault.ReadFault → R.failures reader.new ≡ R.failures reader.old + 1 }
-    ensures write_fault { IsErrOf result ToolFault.WriteFault → O.failures out.new + E.failures err.new ≡ O.failures out.old + E.failures err.old + 1 }
+    ensures write_fault { IsErrOf result ToolFault.WriteFault
+        → O.failures out.new + E.failures err.new ≡ O.failures out.old + E.failures err.old + 1 }
     ensures read_failures { (result ≢ Err ToolFault.ReadFault) → R.failures reader.new ≡ R.failures reader.old }
     ensures out_failures { (result ≢ Err ToolFault.WriteFault) → O.failures out.new ≡ O.failures out.old }
     ensures err_failures { (result ≢ Err ToolFault.WriteFault) → E.failures err.new ≡ E.failures err.old }

@@ -73,7 +73,8 @@ pub fn write_whole<O: Write + Drop, E: Write + Drop>(
     output: O,
     errors: E,
 ) -> Result<(O, E), Unwritten>
-    ensures output { IfOk result (λ written. Appends (O.contents output) (O.contents written.0) (report run.now).output) }
+    ensures output { IfOk result (λ written. Appends (O.contents output) (O.contents written.0)
+        (report run.now).output) }
     ensures messages { IfOk result (λ written.
         Appends (E.contents errors) (E.contents written.1) (report run.now).messages) }
     ensures fault { OnErr result (result ≡ Err Unwritten.WriteFault) }

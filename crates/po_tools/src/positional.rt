@@ -15,7 +15,8 @@ pub struct GettextArguments<'w, 'a> {
 impl<'w, 'a> GettextArguments<'w, 'a> {
     /// Takes `[TEXTDOMAIN] MSGID`, or with `shell` `MSGID..`. Other arguments are no form of the tool.
     pub fn of(shell: bool, arguments: &'w [&'a str]) -> Option<GettextArguments<'w, 'a>>
-        ensures { option_map gettext_arguments result ≡ gettext_form shell (map (λ argument. argument.now) arguments.now) }
+        ensures { option_map gettext_arguments result
+            ≡ gettext_form shell (map (λ argument. argument.now) arguments.now) }
     {
         let (domain, messages) = match arguments {
             _ if shell => (None, arguments),
@@ -72,7 +73,8 @@ impl<'a> EnvsubstArguments<'a> {
     /// Takes `[SHELL-FORMAT]`, or with `variables` `SHELL-FORMAT`. Other arguments are no form of the
     /// tool.
     pub fn of(variables: bool, arguments: &[&'a str]) -> Option<EnvsubstArguments<'a>>
-        ensures { option_map envsubst_arguments result ≡ envsubst_form variables (map (λ argument. argument.now) arguments.now) }
+        ensures { option_map envsubst_arguments result
+            ≡ envsubst_form variables (map (λ argument. argument.now) arguments.now) }
     {
         match (variables, arguments) {
             (true, [format]) => Some(EnvsubstArguments::Names(format)),

@@ -84,7 +84,8 @@ pub fn report_fault<E: ByteOut>(
     fault: ProgramFault<'_>,
 ) -> Result<(), ToolFault>
     requires { E.failures err.old < 2 ^ 63 }
-    ensures line { OnOk result (Appends (E.contents err.old) (E.contents err.new) (program_line (option_copied tool.entry) fault.entry)) }
+    ensures line { OnOk result (Appends (E.contents err.old) (E.contents err.new)
+        (program_line (option_copied tool.entry) fault.entry)) }
     ensures fault { OnErr result (result ≡ Err ToolFault.WriteFault) }
     ensures no_failure { OnOk result (E.failures err.new ≡ E.failures err.old) }
     ensures cause { OnErr result (E.failures err.new ≡ E.failures err.old + 1) }
@@ -153,7 +154,8 @@ fn put_parts<E: ByteOut>(
     fault: ProgramFault<'_>,
 ) -> Result<(), ToolFault>
     requires { E.failures err.old < 2 ^ 63 }
-    ensures line { OnOk result (Appends (E.contents err.old) (E.contents err.new) (program_line (option_copied tool.entry) fault.entry)) }
+    ensures line { OnOk result (Appends (E.contents err.old) (E.contents err.new)
+        (program_line (option_copied tool.entry) fault.entry)) }
     ensures fault { OnErr result (result ≡ Err ToolFault.WriteFault) }
     ensures no_failure { OnOk result (E.failures err.new ≡ E.failures err.old) }
     ensures cause { OnErr result (E.failures err.new ≡ E.failures err.old + 1) }
@@ -167,7 +169,8 @@ fn put_parts<E: ByteOut>(
 /// Writes which tool reports a fault.
 fn put_tool<E: ByteOut>(err: &mut E, tool: Option<&str>) -> Result<(), ToolFault>
     requires { E.failures err.old < 2 ^ 63 }
-    ensures mark { OnOk result (Appends (E.contents err.old) (E.contents err.new) (tool_mark (option_copied tool.entry))) }
+    ensures mark { OnOk result (Appends (E.contents err.old) (E.contents err.new)
+        (tool_mark (option_copied tool.entry))) }
     ensures fault { OnErr result (result ≡ Err ToolFault.WriteFault) }
     ensures no_failure { OnOk result (E.failures err.new ≡ E.failures err.old) }
     ensures cause { OnErr result (E.failures err.new ≡ E.failures err.old + 1) }

@@ -72,11 +72,13 @@ pub fn deliver<O: ByteOut, E: ByteOut>(run: &Run, out: &mut O, err: &mut E) -> R
     requires err { E.failures err.old < 2 ^ 63 }
     ensures output { OnOk result (Appends (O.contents out.old) (O.contents out.new) (report run.now).output) }
     ensures messages { OnOk result (Appends (E.contents err.old) (E.contents err.new) (report run.now).messages) }
-    ensures prefix { OnErr result (DeliversPrefix (O.contents out.old) (O.contents out.new) (E.contents err.old) (E.contents err.new) (report run.now)) }
+    ensures prefix { OnErr result (DeliversPrefix (O.contents out.old) (O.contents out.new) (E.contents err.old)
+        (E.contents err.new) (report run.now)) }
     ensures fault { OnErr result (result ≡ Err ToolFault.WriteFault) }
     ensures out_failures { OnOk result (O.failures out.new ≡ O.failures out.old) }
     ensures err_failures { OnOk result (E.failures err.new ≡ E.failures err.old) }
-    ensures cause { OnErr result (O.failures out.new + E.failures err.new ≡ O.failures out.old + E.failures err.old + 1) }
+    ensures cause { OnErr result (O.failures out.new + E.failures err.new
+        ≡ O.failures out.old + E.failures err.old + 1) }
 {
     put_all(out, &run.output)?;
     put_all(err, &run.messages)

@@ -25,7 +25,8 @@ pub(crate) struct Passed {
 
 /// Selects the entries of a piece, and writes them.
 fn pass_piece(passed: &mut Passed, piece: Catalogue, selection: &Selection) -> Result<(), ToolFault>
-    ensures passed { OnOk result ((before : List TextEntry) → HavePassed selection.now before passed.old → HavePassed selection.now (before ++ piece) passed.new) }
+    ensures passed { OnOk result ((before : List TextEntry) → HavePassed selection.now before passed.old
+        → HavePassed selection.now (before ++ piece) passed.new) }
     ensures memory { OnErr result (result ≡ Err ToolFault.OutOfMemory) }
 {
     add_digests(&mut passed.digests, piece.entries())?;
@@ -66,7 +67,8 @@ pub(crate) fn selected_text(
     text: &[u8],
     selection: &Selection,
 ) -> Result<Option<Vec<u8>>, ToolFault>
-    ensures written { IfOk result (λ found. IfSome found (λ written. IsSelectedText selection.now text.now written.items)) }
+    ensures written { IfOk result (λ found. IfSome found
+        (λ written. IsSelectedText selection.now text.now written.items)) }
     ensures memory { OnErr result (result ≡ Err ToolFault.OutOfMemory) }
 {
     let Some(passed) = pass_text(alloc, text, selection)? else {

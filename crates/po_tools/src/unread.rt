@@ -29,7 +29,8 @@ pub fn plan_msgfmt_before<'a>(
 ) -> Result<Run, ProgramFault<'a>>
     requires { length inputs.now < 2 ^ 32 }
     ensures refused { IfOk result (λ run. IsRefused (named_files inputs.now) options.now (report run)) }
-    ensures fault { IfErr result (λ reported. (reported ≡ ProgramFault.OutOfMemory) ⊎ ((reported ≡ fault.entry) × AreTaken (named_files inputs.now) options.now)) }
+    ensures fault { IfErr result (λ reported. (reported ≡ ProgramFault.OutOfMemory)
+        ⊎ ((reported ≡ fault.entry) × AreTaken (named_files inputs.now) options.now)) }
 {
     if inputs.is_empty() {
         return Err(fault);
@@ -103,7 +104,8 @@ pub fn plan_msgcat_of<'a>(
         → IfOk result (λ run. IsUnread (named_inputs inputs.now.texts.items) (report run)) }
     ensures fault { IfErr result (λ reported. (reported ≡ ProgramFault.OutOfMemory)
         ⊎ (HasNulName (named_inputs inputs.now.texts.items) (program_text reported))
-        ⊎ ((inputs.now.fault ≡ Some reported) × ((read : List merge.Input) × AreReadAs (named_inputs inputs.now.texts.items) read))) }
+        ⊎ ((inputs.now.fault ≡ Some reported)
+        × ((read : List merge.Input) × AreReadAs (named_inputs inputs.now.texts.items) read))) }
 {
     if let Some(name) = name_with_nul(&inputs.texts) {
         return Err(ProgramFault::CannotOpen(name));

@@ -22,7 +22,8 @@ pub(crate) fn refused_text(
     name: &str,
     error: PoError,
 ) -> Result<Run, ToolFault>
-    ensures run { IfOk result (λ run. (error.kind ≢ PoFault.OutOfMemory) × (report run ≡ refusal (text_line tool.now name.now error))) }
+    ensures run { IfOk result (λ run. (error.kind ≢ PoFault.OutOfMemory)
+        × (report run ≡ refusal (text_line tool.now name.now error))) }
     ensures memory { OnErr result (result ≡ Err ToolFault.OutOfMemory) }
 {
     if error.kind == PoFault::OutOfMemory {

@@ -15,9 +15,11 @@ use std::alloc::Global;
 
 /// The entry of a message.
 fn entry_of_message(alloc: Global, original: &[u8], translation: &[u8]) -> Result<Entry, PoError>
-    ensures entry { IfOk result (λ entry. entry ≡ entry_of_message (record { original = original.now; translation = translation.now })) }
+    ensures entry { IfOk result (λ entry. entry
+        ≡ entry_of_message (record { original = original.now; translation = translation.now })) }
     ensures valid { IfOk result IsEntry }
-    ensures fault { IfErr result (λ error. RefusesMessage (entry_of_message (record { original = original.now; translation = translation.now })) error) }
+    ensures fault { IfErr result (λ error. RefusesMessage
+        (entry_of_message (record { original = original.now; translation = translation.now })) error) }
 {
     let (key, plural) = original_parts(original);
     let (context, id) = key_parts(key);
@@ -45,7 +47,8 @@ pub(crate) fn entry_at(alloc: Global, view: &MoView<'_>, i: u32) -> Result<Entry
     requires { i < length view.now }
     ensures entry { IfOk result (λ entry. slice_get (unformatted view.now) i ≡ Some entry) }
     ensures valid { IfOk result IsEntry }
-    ensures fault { IfErr result (λ error. (entry : TextEntry) × (slice_get (unformatted view.now) i ≡ Some entry) × RefusesEntry entry i error) }
+    ensures fault { IfErr result (λ error. (entry : TextEntry) × (slice_get (unformatted view.now) i ≡ Some entry)
+        × RefusesEntry entry i error) }
 {
     let mut meter = Meter::new();
     let original = view.original(i, &mut meter);

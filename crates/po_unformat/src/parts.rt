@@ -19,7 +19,8 @@ const NUL: u8 = 0;
 
 /// What stands before the first such byte and after it, where there is one.
 fn cut(byte: u8, text: &[u8]) -> Option<(&[u8], &[u8])>
-    ensures { MatchOption result (Lacks byte text.now) (λ parts. (text.now ≡ parts.0.now ++ byte ∷ parts.1.now) × Lacks byte parts.0.now) }
+    ensures { MatchOption result (Lacks byte text.now) (λ parts. (text.now ≡ parts.0.now ++ byte ∷ parts.1.now)
+        × Lacks byte parts.0.now) }
 {
     let place = memchr(byte, text)?;
     Some((&text[..place], &text[place + 1..]))

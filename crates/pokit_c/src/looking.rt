@@ -24,11 +24,14 @@ pub extern "C" fn pokit_catalog_look<'a, 'q>(
 where
     'a: 'q,
     requires { (contents : Contents) × IsOpened catalog.now contents }
-    ensures answered { (contents : Contents) → IsOpened catalog.now contents → answer_view answer.new ≡ answered contents (query_view query.now) }
+    ensures answered { (contents : Contents) → IsOpened catalog.now contents
+        → answer_view answer.new ≡ answered contents (query_view query.now) }
     ensures bound { (contents : Contents) → IsOpened catalog.now contents
         → answer.new.comparisons ≤ search_bound (length contents.messages) }
-    ensures unclean { is_clean_key (query_view query.now).context query.now.id.now ≡ false → answer.new.comparisons ≡ 0 }
-    ensures nodes { (contents : Contents) → IsOpened catalog.now contents → answer.new.steps ≤ nodes contents.rule.tree }
+    ensures unclean { is_clean_key (query_view query.now).context query.now.id.now ≡ false
+        → answer.new.comparisons ≡ 0 }
+    ensures nodes { (contents : Contents) → IsOpened catalog.now contents
+        → answer.new.steps ≤ nodes contents.rule.tree }
 {
     let view = MoView::reopen(catalog.bytes);
     let table = &catalog.nodes[..catalog.used as usize];

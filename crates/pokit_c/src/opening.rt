@@ -25,7 +25,8 @@ pub extern "C" fn pokit_catalog_open<'a>(
 ) -> u32
     ensures opened { result ≡ 0 → (contents : Contents) × IsOpened room.new contents }
     ensures same { result ≡ 0 → room.new.bytes.now ≡ bytes.now }
-    ensures fault { 0 < result → (fault : MoError) × (result ≡ kind fault) × (message.new ≡ index fault) × IsFirstFault bytes.now fault }
+    ensures fault { 0 < result → (fault : MoError) × (result ≡ kind fault) × (message.new ≡ index fault)
+        × IsFirstFault bytes.now fault }
     ensures unchanged { 0 < result → room.new ≡ room.old }
     ensures only { (order : Order) (messages : List Message) → IsCatalog order bytes.now messages → result ≡ 0 }
 {

@@ -66,7 +66,8 @@ impl Read for Failing<&[u8]> {
 
     fn read(&mut self, buf: &mut [u8]) -> io::Result<usize>
         ensures bound { ReadsAtMost result buf.new }
-        ensures bytes { ReadConsumes (Some (failing_inner self.old).now) (Some (failing_inner self.new).now) result buf.new }
+        ensures bytes { ReadConsumes (Some (failing_inner self.old).now) (Some (failing_inner self.new).now) result
+            buf.new }
         ensures fails { failing_calls_before self.old ≡ Some 0 → IsErr result }
         ensures moves { failing_calls_before self.old ≢ Some 0 → result
             ≡ Ok (min (length (failing_inner self.old).now) (min (length buf.old) (max (failing_most self.old) 1))) }
@@ -86,11 +87,13 @@ impl Write for Failing<Vec<u8>> {
 
     fn write(&mut self, piece: &[u8]) -> io::Result<usize>
         ensures bound { WritesAtMost result piece.now }
-        ensures bytes { WriteAppends (Some (failing_inner self.old).items) (Some (failing_inner self.new).items) result piece.now }
+        ensures bytes { WriteAppends (Some (failing_inner self.old).items) (Some (failing_inner self.new).items)
+            result piece.now }
         ensures fails { failing_calls_before self.old ≡ Some 0 → IsErr result }
 
         // Any other call fails only where the allocation failed.
-        ensures memory { failing_calls_before self.old ≢ Some 0 → IfErr result (λ e. error_kind e ≡ ErrorKind.OutOfMemory) }
+        ensures memory { failing_calls_before self.old ≢ Some 0
+            → IfErr result (λ e. error_kind e ≡ ErrorKind.OutOfMemory) }
         ensures moves { IfOk result (λ taken. taken ≡ min (length piece.now) (failing_most self.old)) }
         ensures counts { failing_calls_before self.new ≡ calls_after (failing_calls_before self.old) }
         ensures most { failing_most self.new ≡ failing_most self.old }

@@ -43,7 +43,8 @@ pub(crate) fn sorted_names<'a>(
 ) -> Result<Vec<&'a [u8]>, AllocError>
     ensures sorted { IfOk result (λ sorted. AreNamesSorted sorted.items) }
     ensures replaced { IfOk result (λ sorted. (name : List ℕ)
-        → is_replaced (Some (map (λ n. n.now) sorted.items)) name ≡ is_replaced (Some (map (λ n. n.now) names.now)) name) }
+        → is_replaced (Some (map (λ n. n.now) sorted.items)) name
+        ≡ is_replaced (Some (map (λ n. n.now) names.now)) name) }
 {
     let mut sorted = Vec::from_slice(alloc, names)?;
     sorted.sort_unstable_by(|a, b| a.cmp(b));

@@ -32,7 +32,8 @@ fn first_equals(entry: &[u8]) -> Option<usize>
 
 /// The variables of an environment, by its entries: those that have a name and a value, in order.
 pub fn variables_in(alloc: Global, entries: &[Vec<u8>]) -> Result<Vec<(&[u8], &[u8])>, AllocError>
-    ensures { IfOk result (λ variables. pairs_in variables.items ≡ variables_of (map (λ entry. entry.items) entries.now)) }
+    ensures { IfOk result (λ variables. pairs_in variables.items
+        ≡ variables_of (map (λ entry. entry.items) entries.now)) }
 {
     let mut variables = Vec::with_capacity(alloc, entries.len())?;
     for entry in entries {
