@@ -38,8 +38,10 @@ where
     requires laid { table.now ≡ post_order 0 (tree_of table.now) }
     requires limit { length table.now ≤ expression_limit }
     ensures answered { (source : Source) → answer_view result
-        ≡ answered (record { messages = view.now;
-        rule = record { source = source; nplurals = nplurals; tree = tree_of table.now } })
+        ≡ answered (record {
+          messages = view.now;
+          rule = record { source = source; nplurals = nplurals; tree = tree_of table.now };
+        })
         (query context.entry id.now plural.entry) }
     ensures counted { meter.new ≡ meter.old + result.comparisons }
     ensures comparisons { result.comparisons ≡ query_comparisons view.now (query context.entry id.now plural.entry) }

@@ -4,10 +4,11 @@
 //! messages and the status. [`deliver`] writes it. `run_msgfmt` and its like read one input, plan
 //! and deliver.
 //!
-//! What the tools share: `run`, `program_fault`, `fault_text`, `inputs`, `outputs`,
-//! `arguments`, `positional`.
-//! The tools: `profile`, `msgfmt`, `msgunfmt`, `written`, `digests`, `selected_text`, `msgattrib`,
-//! `msgcat`, `unread`, `catalogues`, `gettext`. Then `profile_laws` and `run_laws`.
+//! What the tools share: `run`, `program_fault`, `fault_text`, `inputs`, `outputs`, `arguments`,
+//! `positional`. msgfmt and msgunfmt: `profile`, `msgfmt`, `msgunfmt`. Texts that are written:
+//! `written`, `digests`, `selected_text`, `msgattrib`; of several inputs `repeated`, `held`,
+//! `merged_text`, `msgcat`, `unread`. Looking up: `catalogues`, `gettext`. Then `profile_laws` and
+//! `run_laws`.
 
 #![tactic(auto)]
 
