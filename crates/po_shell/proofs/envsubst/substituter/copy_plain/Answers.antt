@@ -1,4 +1,4 @@
-use Rattle.std.proofs.Common.{[], ◌∷◌, ◌++◌, take, drop, ap, ◌∙◌, arith}
+use Rattle.std.proofs.Common.{[], ◌∷◌, ◌++◌, take, drop, ap, ◌∙◌}
 use Rattle.po_shell.specs.Substitution.{Values}
 use Rattle.po_shell.specs.Holding.{is_undecided}
 use Rattle.po_shell.proofs.DeviceLemmas.{on-err}
