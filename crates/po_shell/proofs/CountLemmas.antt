@@ -1,64 +1,44 @@
 -- Lemmas on the numbers that decimal digits write.
-use Rattle.std.proofs.Common.{◌≡◌, ℕ, ◌+◌, ◌<◌, ◌≤◌, true, false, not, ◌&&◌, ltb, cond, inl, inr, List, [], ◌∷◌, length, drop, get_or, fold, Some, None, unwrap_or, refl, sym, ap, ◌∙◌, arith}
-use Rattle.std.specs.Char.{is_ascii_digit}
-use Rattle.std.specs.List.{list_all}
-use Rattle.std.proofs.lemmas.Bool.{and_right, cond-true, cond-false, lt-ltb, le-ltb, ne_eqb, cases_Bool}
-use Rattle.std.proofs.lemmas.List.{drop_more, drop_all}
-use Rattle.po_shell.specs.Counts.{with_digit, decimal_value, is_count, count_in}
-use Rattle.po_shell.specs.CountSteps.{count_from}
+use Rattle.std.proofs.Common.{◌≡◌, ℕ, ◌+◌, ◌*◌, ◌<◌, ◌≤◌, ◌^◌, true, false, ◌&&◌, not, eqb, ltb, inl, inr, List, [], ◌∷◌, length, take, get_or, Option, Some, None, unwrap_or, refl, sym, ap, ◌∙◌, arith}
+use Rattle.std.specs.Char.{digit_value, is_digit}
+use Rattle.std.specs.Option.{SomeIff}
+use Rattle.std.specs.Str.Parse.{digits_value}
+use Rattle.std.proofs.lemmas.Bool.{cond-true, cond-false, lt-ltb, ltb-true, le-ltb, ne_eqb, and_parts, cases_Bool}
+use Rattle.std.proofs.lemmas.Int.Digits.{digits_value_more}
+use Rattle.std.proofs.lemmas.List.Folds.{list_all_at, list_all_more}
+use Rattle.std.proofs.lemmas.Str.Parse.{digits_value-take-le}
+use Rattle.po_shell.specs.Counts.{are_digits, is_count, count_in}
 
--- a digit goes to those before it
-count-digit : (n d : ℕ) (ds : List ℕ) → is_ascii_digit d ≡ true → count_from n (d ∷ ds) ≡ count_from (with_digit n d) ds
-unfolding count_from
-count-digit n d ds is =
-    ap (λ b. cond ((b && list_all is_ascii_digit ds) && ltb (fold with_digit (with_digit n d) ds) 18446744073709551616) (Some (fold with_digit (with_digit n d) ds)) None) is
+-- a byte that is no digit is in no number
+pub other_byte : (text : List ℕ) (i : ℕ) → i < length text → 10 ≤ digit_value (get_or text i 0) → are_digits text ≡ false
+other_byte text i inside large = list_all_at (λ b. is_digit b 10) text i 0 inside (le-ltb (digit_value (get_or text i 0)) 10 large)
 
--- no number is written with another byte
-count-other : (n d : ℕ) (ds : List ℕ) → is_ascii_digit d ≡ false → count_from n (d ∷ ds) ≡ None
-unfolding count_from
-count-other n d ds other =
-    ap (λ b. cond ((b && list_all is_ascii_digit ds) && ltb (fold with_digit (with_digit n d) ds) 18446744073709551616) (Some (fold with_digit (with_digit n d) ds)) None) other
+-- one more digit
+pub more_digits : (text : List ℕ) (i : ℕ) → i < length text → are_digits (take i text) ≡ true → digit_value (get_or text i 0) < 10 → are_digits (take (i + 1) text) ≡ true
+more_digits text i inside digits small =
+    rw (list_all_more (λ b. is_digit b 10) text i 0 inside) (rw digits (rw (lt-ltb (digit_value (get_or text i 0)) 10 small) refl))
 
--- more digits make no smaller number
-grows : (n : ℕ) (ds : List ℕ) → n ≤ fold with_digit n ds
-grows n [] = omega arith
-grows n (d ∷ ds) = omega (arith, grows (with_digit n d) ds)
-
--- so none is below the limit from there on
-count-large : (n : ℕ) (ds : List ℕ) → 18446744073709551616 ≤ n → count_from n ds ≡ None
-unfolding count_from
-count-large n ds large =
-    cond-false (list_all is_ascii_digit ds && ltb (fold with_digit n ds) 18446744073709551616) _ _ (and_right (list_all is_ascii_digit ds) _ (le-ltb (fold with_digit n ds) 18446744073709551616 (omega (arith, grows n ds))))
-
-count-end : (n : ℕ) → n < 18446744073709551616 → count_from n [] ≡ Some n
-unfolding count_from
-count-end n small = cond-true (ltb n 18446744073709551616) _ _ (lt-ltb _ _ small)
-
--- the same at an index of a text
-pub step-digit : (n i : ℕ) (text : List ℕ) → i < length text → is_ascii_digit (get_or text i 0) ≡ true → count_from n (drop i text) ≡ count_from (with_digit n (get_or text i 0)) (drop (i + 1) text)
-step-digit n i text l is = ap (count_from n) (drop_more text i 0 l) ∙ count-digit n _ _ is
-
-pub step-other : (n i : ℕ) (text : List ℕ) → i < length text → is_ascii_digit (get_or text i 0) ≡ false → count_from n (drop i text) ≡ None
-step-other n i text l other = ap (count_from n) (drop_more text i 0 l) ∙ count-other n _ _ other
-
-pub step-large : (n i : ℕ) (text : List ℕ) → i < length text → is_ascii_digit (get_or text i 0) ≡ true → 18446744073709551616 ≤ with_digit n (get_or text i 0) → count_from n (drop i text) ≡ None
-step-large n i text l is large = step-digit n i text l is ∙ count-large _ _ large
-
-pub step-end : (n i : ℕ) (text : List ℕ) → length text ≤ i → n < 18446744073709551616 → count_from n (drop i text) ≡ Some n
-step-end n i text l small = ap (count_from n) (drop_all i text l) ∙ count-end n small
+-- the value of all digits is at least that of the first
+pub grows : (text : List ℕ) (i : ℕ) → i < length text → digits_value 10 (take i text) * 10 + digit_value (get_or text i 0) ≤ digits_value 10 text
+grows text i inside = rw (sym (digits_value_more 10 text i inside)) (digits_value-take-le 10 text (i + 1) (omega arith))
 
 -- a COUNT
 pub count-none : (text : List ℕ) → text ≡ [] → 99 ≡ count_in text
 unfolding count_in
 count-none text none = sym (ap count_in none)
 
-some-count : (d : ℕ) (ds : List ℕ) → is_count (d ∷ ds) ≡ (list_all is_ascii_digit (d ∷ ds) && ltb (decimal_value (d ∷ ds)) 18446744073709551616)
-some-count d ds = ap (λ b. (not b && list_all is_ascii_digit (d ∷ ds)) && ltb (decimal_value (d ∷ ds)) 18446744073709551616) (ne_eqb (length (d ∷ ds)) 0 (λ e. absurd (omega (arith, e))))
-
-pub count-some : (text : List ℕ) → (text ≡ [] → ⊥) → unwrap_or (count_from 0 text) 99 ≡ count_in text
-unfolding count_in count_from
-count-some [] some = absurd (some refl)
-count-some (d ∷ ds) some = elim (cases_Bool (list_all is_ascii_digit (d ∷ ds) && ltb (decimal_value (d ∷ ds)) 18446744073709551616)) [
-  | inl e ↦ ap (λ o. unwrap_or o 99) (cond-true _ _ _ e) ∙ sym (cond-true _ _ _ (some-count d ds ∙ e))
-  | inr e ↦ ap (λ o. unwrap_or o 99) (cond-false _ _ _ e) ∙ sym (cond-false _ _ _ (some-count d ds ∙ e))
+pub count-some : (text : List ℕ) (o : Option ℕ) → (text ≡ [] → ⊥) → SomeIff o ((are_digits text ≡ true) × (digits_value 10 text < 2 ^ 64)) (digits_value 10 text) → unwrap_or o 99 ≡ count_in text
+unfolding count_in
+count-some text (Some v) some h =
+    let longer = ne_eqb (length text) 0 (λ e. some (nil_of text e)) in
+    h.1 ∙ sym (cond-true (is_count text) _ _ (rw longer (rw (h.0.0) (lt-ltb (digits_value 10 text) 18446744073709551616 h.0.1))))
+  where
+    nil_of : (xs : List ℕ) → length xs ≡ 0 → xs ≡ []
+    nil_of [] e = refl
+    nil_of (x ∷ xs) e = absurd (omega (arith, e))
+count-some text None some h = elim (cases_Bool (is_count text)) [
+  | inl e ↦
+      let parts = and_parts (not (eqb (length text) 0) && are_digits text) (ltb (digits_value 10 text) 18446744073709551616) e in
+      absurd (h ((and_parts (not (eqb (length text) 0)) (are_digits text) (parts.0)).1, ltb-true (digits_value 10 text) 18446744073709551616 (parts.1)))
+  | inr e ↦ sym (cond-false (is_count text) _ _ e)
 ]

@@ -10,7 +10,6 @@ pub mod Holding
 pub mod Substituting
 pub mod Envsubst
 pub mod Counts
-pub mod CountSteps
 pub mod Escapes
 pub mod Expanding
 pub mod Locales

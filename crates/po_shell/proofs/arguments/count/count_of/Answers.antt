@@ -1,6 +1,6 @@
-use Rattle.std.proofs.Common.{unwrap_or, sym, ap, ◌∙◌}
 use Rattle.po_shell.proofs.CountLemmas.{count-none, count-some}
 use Rattle.po_shell.proofs.ReferenceLemmas.{nil-from_length, some-from_length}
+use Rattle.std.proofs.Common.{sym, ◌∙◌}
 use Rattle.po_shell.proofs.arguments.count.count_of.Goals as goal
 
 pub returns-then-is_empty : goal.returns-then-is_empty
@@ -8,4 +8,4 @@ returns-then-is_empty c = count-none c.args.text.now (nil-from_length c.args.tex
 
 pub returns-else-is_empty : goal.returns-else-is_empty
 returns-else-is_empty c =
-    c.unwrap_or.ensures ∙ ap (λ o. unwrap_or o 99) c.decimal.ensures ∙ count-some c.args.text.now (some-from_length c.args.text.now (sym c.if-is_empty.ensures))
+    c.unwrap_or.ensures ∙ count-some c.args.text.now c.decimal.result (some-from_length c.args.text.now (sym c.if-is_empty.ensures)) c.decimal.ensures

@@ -1,32 +1,37 @@
-use Rattle.std.proofs.Common.{◌≡◌, ◌+◌, get_or, drop, sym, ap, ◌∙◌, arith}
-use Rattle.po_shell.specs.Counts.{with_digit}
-use Rattle.po_shell.specs.CountSteps.{count_from}
-use Rattle.po_shell.proofs.CountLemmas.{step-digit, step-other, step-large, step-end}
+use Rattle.std.proofs.Common.{◌≡◌, false, take, ap, ◌∙◌, arith}
+use Rattle.std.specs.Str.Parse.{digits_value}
+use Rattle.std.proofs.lemmas.Int.Digits.{digits_value_more}
+use Rattle.std.proofs.lemmas.List.{take_all}
+use Rattle.po_shell.specs.Counts.{are_digits}
+use Rattle.po_shell.proofs.CountLemmas.{other_byte, more_digits, grows}
 use Rattle.po_shell.proofs.arguments.count.decimal.Goals as goal
 
-pub returns-then-not-is_ascii_digit : goal.returns-then-not-is_ascii_digit
-returns-then-not-is_ascii_digit c =
-    sym (step-other _ c.loop-digit.digit-index c.args.digits.now c.loop-digit-test.true (sym c.if-not-is_ascii_digit.ensures.value)) ∙ c.loop-digit.invariant.count
+pub returns-in_err-digit : goal.returns-in_err-digit
+returns-in_err-digit c =
+    let other : are_digits c.args.digits.now ≡ false = other_byte c.args.digits.now c.loop-digit.digit-index c.loop-digit-test.true (omega (arith, c.in_err-digit.ensures)) in
+    rw c.from_residual.ensures (λ h. cc)
 
 pub returns-in_err-checked_mul : goal.returns-in_err-checked_mul
 returns-in_err-checked_mul c =
-    rw c.from_residual.ensures
-    (sym (step-large _ c.loop-digit.digit-index c.args.digits.now c.loop-digit-test.true (sym c.if-not-is_ascii_digit.ensures.value) (omega (arith, c.in_err-checked_mul.ensures))) ∙ c.loop-digit.invariant.count)
+    let least = grows c.args.digits.now c.loop-digit.digit-index c.loop-digit-test.true in
+    rw c.from_residual-in_err-checked_mul.ensures (λ h. c.in_err-checked_mul.ensures (omega (arith, least, h.1, c.loop-digit.invariant.value)))
 
 pub returns-in_err-value : goal.returns-in_err-value
 returns-in_err-value c =
-    rw c.from_residual-in_err-value.ensures
-    (sym (step-large _ c.loop-digit.digit-index c.args.digits.now c.loop-digit-test.true (sym c.if-not-is_ascii_digit.ensures.value) (omega (arith, c.in_err-value.ensures, c.in_ok-checked_mul.ensures.1, c.from.ensures))) ∙ c.loop-digit.invariant.count)
+    let least = grows c.args.digits.now c.loop-digit.digit-index c.loop-digit-test.true in
+    rw c.from_residual-in_err-value.ensures (λ h. c.in_err-value.ensures (omega (arith, least, h.1, c.loop-digit.invariant.value, c.in_ok-digit.ensures.value, c.in_ok-checked_mul.ensures, c.from.ensures)))
 
 pub loop-digit-preserved : goal.loop-digit-preserved
 loop-digit-preserved c =
-    let digits = c.args.digits.now in
-    let i = c.loop-digit.digit-index in
-    let more : c.in_ok-value.value ≡ with_digit c.loop-digit.value (get_or digits i 0) = omega (arith, c.in_ok-value.ensures.1, c.in_ok-checked_mul.ensures.1, c.from.ensures) in
+    let more = digits_value_more 10 c.args.digits.now c.loop-digit.digit-index c.loop-digit-test.true in
     record {
-      count = ap (λ v. count_from v (drop (i + 1) digits)) more ∙ sym (step-digit _ i digits c.loop-digit-test.true (sym c.if-not-is_ascii_digit.ensures.value)) ∙ c.loop-digit.invariant.count;
-      small = omega (arith, c.in_ok-value.ensures);
+      digits = more_digits c.args.digits.now c.loop-digit.digit-index c.loop-digit-test.true c.loop-digit.invariant.digits (omega (arith, c.in_ok-digit.ensures));
+      value = omega (arith, more, c.loop-digit.invariant.value, c.in_ok-digit.ensures.value, c.in_ok-checked_mul.ensures, c.in_ok-value.ensures, c.from.ensures);
+      fits = omega (arith, c.in_ok-value.ensures);
     }
 
 pub returns : goal.returns
-returns c = sym (step-end _ c.loop-digit.digit-index c.args.digits.now c.loop-digit-test.false c.loop-digit.invariant.small) ∙ c.loop-digit.invariant.count
+returns c =
+    let whole : take c.loop-digit.digit-index c.args.digits.now ≡ c.args.digits.now = take_all c.loop-digit.digit-index c.args.digits.now c.loop-digit-test.false in
+    let same : c.loop-digit.value ≡ digits_value 10 c.args.digits.now = c.loop-digit.invariant.value ∙ ap (digits_value 10) whole in
+    ((rw (← whole) c.loop-digit.invariant.digits, rw (← same) c.loop-digit.invariant.fits), same)

@@ -1,9 +1,11 @@
-use Rattle.std.proofs.Common.{◌≡◌, ◌<◌, drop}
-use Rattle.po_shell.specs.CountSteps.{count_from}
+use Rattle.std.proofs.Common.{◌≡◌, ◌<◌, ◌^◌, true, take}
+use Rattle.std.specs.Str.Parse.{digits_value}
+use Rattle.po_shell.specs.Counts.{are_digits}
 use Rattle.po_shell.proofs.arguments.count.decimal.Given as goal
 
 abbrev pub invariant-loop-digit : goal.invariant-loop-digit
 invariant-loop-digit l = record {
-  count : count_from l.value (drop l.digit-index l.digits) ≡ count_from 0 l.digits;
-  small : l.value < 18446744073709551616;
+  digits : are_digits (take l.digit-index l.digits) ≡ true;
+  value : l.value ≡ digits_value 10 (take l.digit-index l.digits);
+  fits : l.value < 2 ^ 64;
 }
