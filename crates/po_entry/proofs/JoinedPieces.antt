@@ -6,13 +6,14 @@ use Rattle.po_entry.specs.TextEntry.{TextEntry}
 use Rattle.po_entry.specs.Spelling.{AreComments, SpellsEntries, comments, entries}
 
 -- what is left of items that end in a string ends in it
-ends_rest : (own items : List TextItem) → EndsInString (own ++ items) → EndsInString items
+pub ends_rest : (own items : List TextItem) → EndsInString (own ++ items) → EndsInString items
 ends_rest [] items h = h
 ends_rest (item ∷ own) [] h = tt
 ends_rest (item ∷ []) (next ∷ items) h = h
 ends_rest (item ∷ second ∷ own) (next ∷ items) h = ends_rest (second ∷ own) (next ∷ items) h
 
-no_comment_last : (items : List TextItem) → AreComments items → EndsInString items → items ≡ []
+-- comments that end in a string are none
+pub no_comment_last : (items : List TextItem) → AreComments items → EndsInString items → items ≡ []
 no_comment_last [] c h = refl
 no_comment_last (Comment kind text line ∷ []) c h = absurd h
 no_comment_last (Comment kind text line ∷ next ∷ items) c h =

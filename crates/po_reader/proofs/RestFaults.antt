@@ -10,9 +10,9 @@ use Rattle.po_entry.specs.TextEntry.{TextEntry}
 use Rattle.po_reader.specs.Reads.{Reads, comments, entry}
 use Rattle.po_entry.specs.Header.{HasAdmittedCharset}
 use Rattle.po_entry.specs.Validity.{HasTexts}
-use Rattle.po_entry.specs.Spelling.{AreComments, SpellsEntries}
+use Rattle.po_entry.specs.Spelling.{SpellsEntries}
 use Rattle.po_entry.specs.Spelling as spelling
-use Rattle.po_entry.proofs.JoinedPieces.{entries_joined}
+use Rattle.po_entry.proofs.JoinedPieces.{ends_rest, no_comment_last, entries_joined}
 use Rattle.po_reader.proofs.SpeltReads.{spelt_reads}
 use Rattle.po_reader.specs.Faults as faults
 use Rattle.po_reader.specs.ItemsRead.{ReadsItems, ItemsStop}
@@ -23,21 +23,6 @@ use Rattle.po_reader.specs.Viable.{last_line}
 use Rattle.po_reader.proofs.Cuts.{head_cut, body_cut}
 use Rattle.po_reader.proofs.Looks.{IsApart, body_starts, forms_end, reads_look}
 use Rattle.po_reader.proofs.OneReading.{reads_or_stop, spelt_once, texts_go_on, charsets_go_on}
-
--- what is left of items that end in a string ends in it
-ends_rest : (own rest : List TextItem) → EndsInString (own ++ rest) → EndsInString rest
-ends_rest [] rest h = h
-ends_rest (item ∷ own) [] h = tt
-ends_rest (item ∷ []) (next ∷ rest) h = h
-ends_rest (item ∷ second ∷ own) (next ∷ rest) h = ends_rest (second ∷ own) (next ∷ rest) h
-
-no_comment_last : (rest : List TextItem) → AreComments rest → EndsInString rest → rest ≡ []
-no_comment_last [] c h = refl
-no_comment_last (Comment kind text line ∷ []) c h = absurd h
-no_comment_last (Comment kind text line ∷ next ∷ rest) c h =
-    let none : next ∷ rest ≡ [] = no_comment_last (next ∷ rest) c.1 h in absurd (cc)
-no_comment_last (Word keyword marks line ∷ rest) c h = absurd c.0
-no_comment_last (Str bytes marks line ∷ rest) c h = absurd c.0
 
 -- where neither begins with a string or a form, both together don't
 apart_joined : (front rest : List TextItem) → IsApart front → IsApart rest → IsApart (front ++ rest)
