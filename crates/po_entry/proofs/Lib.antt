@@ -6,3 +6,4 @@ pub mod SameTexts
 pub mod CharsetNames
 pub mod ListedElements
 pub mod JoinedPieces
+pub mod TextsFaults

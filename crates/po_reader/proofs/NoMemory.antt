@@ -5,7 +5,7 @@ use Rattle.po_syntax.specs.declared.fault.PoFault.TheVariants.{OutOfMemory}
 use Rattle.po_syntax.specs.TextItem.{TextItem}
 use Rattle.po_syntax.specs.PoText.{TextFault}
 use Rattle.po_entry.specs.TextEntry.{TextEntry}
-use Rattle.po_entry.specs.Validity.{TextsFault, not_utf8, forbidden}
+use Rattle.po_entry.proofs.TextsFaults.{texts_fault_reported}
 use Rattle.po_reader.specs.Faults as fault
 use Rattle.po_reader.specs.Viable.{Misfit, index, mixed, order, ItemsFault, at, at_end}
 
@@ -18,12 +18,8 @@ items_reported : {items : List TextItem} {kind : PoFault} {line : ℕ} → Items
 items_reported (at rest viable blocked misfit) = misfit_reported misfit
 items_reported (at_end viable unread) = λ same. cc
 
-unreadable_reported : {read : TextEntry} {kind : PoFault} → TextsFault read kind → kind ≢ OutOfMemory
-unreadable_reported (not_utf8 some) = λ same. cc
-unreadable_reported (forbidden utf8 some) = λ same. cc
-
-texts_reported : {entries : List TextEntry} {kind : PoFault} {line : ℕ} → fault.TextsStop entries kind line → kind ≢ OutOfMemory
-texts_reported (fault.TextsStop.here why is) = unreadable_reported why
+pub texts_reported : {entries : List TextEntry} {kind : PoFault} {line : ℕ} → fault.TextsStop entries kind line → kind ≢ OutOfMemory
+texts_reported (fault.TextsStop.here why is) = texts_fault_reported why
 texts_reported (fault.TextsStop.later readable stops) = texts_reported stops
 
 pub read_reported : ((text : List ℕ) (kind : PoFault) (line : ℕ) → TextFault text kind line → kind ≢ OutOfMemory) → (text : List ℕ) (kind : PoFault) (line : ℕ) → fault.IsReadFault text kind line → kind ≢ OutOfMemory

@@ -5,27 +5,22 @@ use Rattle.po_syntax.specs.declared.fault.PoFault.{PoFault}
 use Rattle.po_syntax.specs.TextItem.{TextItem}
 use Rattle.po_syntax.specs.PoText.{SpellsText, TextFault}
 use Rattle.po_entry.specs.TextEntry.{TextEntry}
-use Rattle.po_entry.specs.Validity.{HasTexts, TextsFault, not_utf8, forbidden}
+use Rattle.po_entry.specs.Validity.{HasTexts}
 use Rattle.po_entry.specs.Spelling.{SpellsEntries}
 use Rattle.po_reader.specs.Faults as fault
 use Rattle.po_reader.specs.Viable.{ItemsFault}
+use Rattle.po_entry.proofs.TextsFaults.{no_texts_fault, one_texts_fault}
 use Rattle.po_reader.proofs.ItemsFaults.{fault_unread, items_fault_once}
-use Rattle.po_reader.proofs.OneReading.{spelt_once, texts_go_on, unreadable}
+use Rattle.po_reader.proofs.OneReading.{spelt_once, texts_go_on}
 
 -- the same fault on the same line
 abbrev Same : PoFault → PoFault → ℕ → ℕ → Type 0
 Same f g m n = (f ≡ g) × (m ≡ n)
 
-unreadable_once : {f g : PoFault} {read : TextEntry} → TextsFault read f → TextsFault read g → f ≡ g
-unreadable_once (not_utf8 some) (not_utf8 other) = refl
-unreadable_once (not_utf8 some) (forbidden utf8 other) = absurd (some utf8)
-unreadable_once (forbidden utf8 some) (not_utf8 other) = absurd (other utf8)
-unreadable_once (forbidden utf8 some) (forbidden also other) = refl
-
 texts_stop_once : {m n : ℕ} {f g : PoFault} {entries : List TextEntry} → fault.TextsStop entries f m → fault.TextsStop entries g n → Same f g m n
-texts_stop_once (fault.TextsStop.here u l) (fault.TextsStop.here v k) = (unreadable_once u v, l ∙ sym k)
-texts_stop_once {f = f} (fault.TextsStop.here {entry = read} u l) (fault.TextsStop.later r t) = absurd (unreadable read f r u)
-texts_stop_once {g = g} (fault.TextsStop.later {entry = read} r s) (fault.TextsStop.here v k) = absurd (unreadable read g r v)
+texts_stop_once (fault.TextsStop.here u l) (fault.TextsStop.here v k) = (one_texts_fault u v, l ∙ sym k)
+texts_stop_once (fault.TextsStop.here u l) (fault.TextsStop.later r t) = absurd (no_texts_fault r u)
+texts_stop_once (fault.TextsStop.later r s) (fault.TextsStop.here v k) = absurd (no_texts_fault r v)
 texts_stop_once (fault.TextsStop.later r s) (fault.TextsStop.later q t) = texts_stop_once s t
 
 charset_stop_once : {m n : ℕ} {entries : List TextEntry} → fault.CharsetStops entries m → fault.CharsetStops entries n → m ≡ n

@@ -15,9 +15,10 @@ use Rattle.po_reader.specs.Body as body
 use Rattle.po_reader.specs.Head as head
 use Rattle.po_reader.specs.Reads.{Reads, comments, entry}
 use Rattle.po_entry.specs.ReadsText.{ReadsText}
-use Rattle.po_entry.specs.Validity.{HasTexts, TextsFault, not_utf8, forbidden}
+use Rattle.po_entry.specs.Validity.{HasTexts}
 use Rattle.po_entry.specs.Spelling.{AreComments, SpellsEntries}
 use Rattle.po_entry.specs.Parts.{CommentText, PreviousText, Body}
+use Rattle.po_entry.proofs.TextsFaults.{no_texts_fault}
 use Rattle.po_reader.proofs.SpeltReads.{spelt_reads}
 use Rattle.po_reader.specs.Stops as stop
 use Rattle.po_reader.specs.Faults as fault
@@ -111,12 +112,8 @@ spelt_once h k = reads_once (spelt_reads h) (spelt_reads k)
 pub spelt_or_stop : {end line : ℕ} {kind : PoFault} {items : List TextItem} {a : List TextEntry} → SpellsEntries items a → stop.EntriesStop end items kind line → ⊥
 spelt_or_stop h s = reads_or_stop (spelt_reads h) s
 
-pub unreadable : (read : TextEntry) (kind : PoFault) → HasTexts read → TextsFault read kind → ⊥
-unreadable read kind h (not_utf8 some) = some h.utf8
-unreadable read kind h (forbidden utf8 some) = some h.clean
-
 pub texts_go_on : {kind : PoFault} {line : ℕ} {entries : List TextEntry} → fault.TextsStop entries kind line → All HasTexts entries → ⊥
-texts_go_on {kind} (fault.TextsStop.here {entry = read} {entries = entries} f l) h = unreadable read kind (All-head HasTexts read entries h) f
+texts_go_on {kind} (fault.TextsStop.here {entry = read} {entries = entries} f l) h = no_texts_fault (All-head HasTexts read entries h) f
 texts_go_on (fault.TextsStop.later {entry = read} {entries = entries} r s) h = texts_go_on s (All-tail HasTexts read entries h)
 
 pub charsets_go_on : {line : ℕ} {entries : List TextEntry} → fault.CharsetStops entries line → All HasAdmittedCharset entries → ⊥

@@ -3,8 +3,6 @@ use Rattle.std.proofs.Common.{◌≡◌, ℕ, ◌<◌, List, [], ◌∷◌, None
 use Rattle.std.specs.Prelude.{All, IsUtf8}
 use Rattle.std.proofs.lemmas.List.Elements.{All-nil, All-cons, All-head, All-tail, All-weaker}
 use Rattle.po_syntax.specs.declared.item.CommentKind.TheVariants.{Translator, Extracted, Reference, Flags}
-use Rattle.po_syntax.specs.declared.fault.PoFault.{PoFault}
-use Rattle.po_syntax.specs.declared.fault.PoFault.TheVariants.{OutOfMemory}
 use Rattle.po_entry.specs.declared.fields.Fields.{Fields}
 use Rattle.po_entry.specs.EntryView.{entry_view}
 use Rattle.po_syntax.specs.TextItem.{TextItem}
@@ -13,12 +11,9 @@ use Rattle.po_entry.specs.Bytes.{Lacks, AreDistinct}
 use Rattle.po_entry.specs.Parts.{Body, CommentText, PreviousText}
 use Rattle.po_entry.specs.Comments.{texts_of, comments_of, extracted_of, references_of, all_listed_flags, flags_of}
 use Rattle.po_reader.specs.Reads.{Reads, comments, entry}
-use Rattle.po_entry.specs.Validity.{HasTexts, IsEntry, IsTranslatorComment, IsReference, IsFlag, TextsFault}
+use Rattle.po_entry.specs.Validity.{HasTexts, IsEntry, IsTranslatorComment, IsReference, IsFlag}
 use Rattle.po_entry.specs.Spelling.{entry_from}
-use Rattle.po_entry.specs.Validity as validity
 use Rattle.po_syntax.specs.ItemContents.{IsText, IsComment, IsCommentOf, HoldsText}
-use Rattle.po_reader.specs.Faults.{TextsStop}
-use Rattle.po_reader.specs.Faults as faults
 use Rattle.po_reader.proofs.SoundEntries.{SoundCommentText, SoundBody, body_sound, head_sound}
 use Rattle.po_reader.proofs.SoundFields.{SoundFlagElement, SoundFlags, kind_sound, references_sound, all_flag_elements_sound, flags_sound}
 
@@ -84,12 +79,3 @@ drafts_valid (draft ∷ made) h t =
     All-cons (λ d. IsEntry (entry_view d)) draft made
     (entry_valid (entry_view draft) (All-head SoundEntry (entry_view draft) (map entry_view made) h) (All-head (λ d. HasTexts (entry_view d)) draft made t))
     (drafts_valid made (All-tail SoundEntry (entry_view draft) (map entry_view made) h) (All-tail (λ d. HasTexts (entry_view d)) draft made t))
-
-fault_kind : (spelt : TextEntry) (fault : PoFault) → TextsFault spelt fault → fault ≡ OutOfMemory → ⊥
-fault_kind spelt fault (validity.not_utf8 some) e = cc
-fault_kind spelt fault (validity.forbidden utf8 unclean) e = cc
-
--- out of memory is no fault of texts
-pub draft_kind : {entries : List TextEntry} {fault : PoFault} {line : ℕ} → TextsStop entries fault line → fault ≡ OutOfMemory → ⊥
-draft_kind (faults.TextsStop.here {entry = spelt} {fault = fault} f at) e = fault_kind spelt fault f e
-draft_kind (faults.TextsStop.later t more) e = draft_kind more e

@@ -8,8 +8,8 @@ use Rattle.po_syntax.specs.declared.fault.PoFault.{PoFault}
 use Rattle.po_syntax.specs.declared.fault.PoFault.TheVariants.{NotUtf8 as BadText, ForbiddenByte as BadByte}
 use Rattle.po_entry.specs.TextEntry.{TextEntry}
 use Rattle.po_entry.specs.Header.{HasAdmittedCharset}
-use Rattle.po_entry.specs.Validity.{HasTexts, IsCatalogueEntry, TextsFault}
-use Rattle.po_entry.specs.Validity.TextsFault.{not_utf8, forbidden}
+use Rattle.po_entry.specs.Validity.{IsCatalogueEntry}
+use Rattle.po_entry.proofs.TextsFaults.{no_texts_fault}
 use Rattle.po_writer.specs.WrittenText.{written_text}
 use Rattle.po_unformat.specs.declared.fault.UnformatError.TheVariants.{Mo, NotUtf8, ForbiddenByte, ForeignCharset, OutOfMemory}
 use Rattle.po_unformat.specs.RoundTrip.{EmptyText, NoFaultWhereUnformatted, OneText}
@@ -17,17 +17,13 @@ use Rattle.po_unformat.specs.Unformatted.{unformatted}
 use Rattle.po_unformat.specs.Unformatting.{AreWrittenAs, HasFirstTextsFault, HasForeignCharset, IsFileOf}
 use Rattle.po_unformat.proofs.MessageLemmas.{texts_of}
 
-pub no_texts_fault : (entry : TextEntry) (kind : PoFault) → HasTexts entry → TextsFault entry kind → ⊥
-no_texts_fault entry _ texts (not_utf8 h) = h texts.utf8
-no_texts_fault entry _ texts (forbidden u h) = h texts.clean
-
 -- messages that are written have no fault in their texts
 no_first_fault : (text : List ℕ) (messages : List Message) (i : ℕ) (kind : PoFault) → AreWrittenAs text messages → HasFirstTextsFault i kind messages → ⊥
 no_first_fault text messages i kind written fault =
     let entries = unformatted messages in
     let here : get_or entries i fault.entry ≡ fault.entry = get_or_from_slice_get entries i fault.entry fault.entry fault.is_entry in
     let valid = subst IsCatalogueEntry here (written.valid i fault.entry (slice_get_within entries i fault.entry fault.is_entry)) in
-    no_texts_fault fault.entry kind (texts_of fault.entry valid.valid) fault.fault
+    no_texts_fault (texts_of fault.entry valid.valid) fault.fault
 
 no_foreign : (text : List ℕ) (messages : List Message) → AreWrittenAs text messages → HasForeignCharset messages → ⊥
 no_foreign text messages written fault =

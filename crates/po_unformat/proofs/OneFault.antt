@@ -1,6 +1,5 @@
 -- A file has one fault at most, beside out of memory.
-use Rattle.std.proofs.Common.{◌≡◌, ℕ, ◌<◌, ◌≤◌, List, Some, arith, ap, refl, sym, ◌∙◌, subst, get_or, take, length, inl, inr}
-use Rattle.std.specs.Prelude.{slice_get}
+use Rattle.std.proofs.Common.{◌≡◌, ℕ, ◌<◌, List, Some, arith, ap, refl, sym, ◌∙◌, subst, get_or, take, length, inl, inr}
 use Rattle.std.proofs.lemmas.Bool.{cases_lt}
 use Rattle.std.proofs.lemmas.List.{get_or-take, length-take}
 use Rattle.std.proofs.lemmas.Option.{get_or_from_slice_get, slice_get_within}
@@ -9,21 +8,13 @@ use Rattle.mo_file.specs.declared.fault.MoError.{MoError}
 use Rattle.mo_file.specs.Message.{Message}
 use Rattle.po_syntax.specs.declared.fault.PoFault.{PoFault}
 use Rattle.po_syntax.specs.declared.fault.PoFault.TheVariants.{NotUtf8 as BadText, ForbiddenByte as BadByte}
-use Rattle.po_entry.specs.TextEntry.{TextEntry}
 use Rattle.po_entry.specs.Validity.{HasTexts, TextsFault}
-use Rattle.po_entry.specs.Validity.TextsFault.{not_utf8, forbidden}
-use Rattle.po_unformat.specs.declared.fault.UnformatError.{UnformatError}
+use Rattle.po_entry.proofs.TextsFaults.{no_texts_fault, one_texts_fault}
 use Rattle.po_unformat.specs.declared.fault.UnformatError.TheVariants.{Mo, NotUtf8, ForbiddenByte, ForeignCharset, OutOfMemory}
 use Rattle.po_unformat.specs.RoundTrip.{OneUnformatFault}
 use Rattle.po_unformat.specs.Unformatted.{unformatted}
 use Rattle.po_unformat.specs.Unformatting.{HasFirstTextsFault, HasForeignCharset, IsFileOf, IsUnformatFault}
-use Rattle.po_unformat.proofs.FaultLemmas.{moved, no_texts_fault}
-
-texts_once : (entry : TextEntry) (a b : PoFault) → TextsFault entry a → TextsFault entry b → a ≡ b
-texts_once entry _ _ (not_utf8 f) (not_utf8 g) = refl
-texts_once entry _ _ (not_utf8 f) (forbidden u g) = absurd (f u)
-texts_once entry _ _ (forbidden u f) (not_utf8 g) = absurd (g u)
-texts_once entry _ _ (forbidden u f) (forbidden v g) = refl
+use Rattle.po_unformat.proofs.FaultLemmas.{moved}
 
 -- a message before the first one with such a fault has none
 not_before : (messages : List Message) (i j : ℕ) (a b : PoFault) → HasFirstTextsFault i a messages → HasFirstTextsFault j b messages → i < j → ⊥
@@ -32,7 +23,7 @@ not_before messages i j a b f g below =
     let within : i < length entries = slice_get_within entries i f.entry f.is_entry in
     let inside : i < length (take j entries) = omega (arith, within, below, length-take j entries) in
     let here : get_or (take j entries) i f.entry ≡ f.entry = get_or-take j entries i f.entry below ∙ get_or_from_slice_get entries i f.entry f.entry f.is_entry in
-    no_texts_fault f.entry a (subst HasTexts here (g.before i f.entry inside)) f.fault
+    no_texts_fault (subst HasTexts here (g.before i f.entry inside)) f.fault
 
 same_place : (messages : List Message) (i j : ℕ) (a b : PoFault) → HasFirstTextsFault i a messages → HasFirstTextsFault j b messages → i ≡ j
 same_place messages i j a b f g = elim (cases_lt i j) [
@@ -46,7 +37,7 @@ same_place messages i j a b f g = elim (cases_lt i j) [
 same_kind : (messages : List Message) (i : ℕ) (a b : PoFault) → HasFirstTextsFault i a messages → HasFirstTextsFault i b messages → a ≡ b
 same_kind messages i a b f g =
     let entry : g.entry ≡ f.entry = let same : Some g.entry ≡ Some f.entry = sym g.is_entry ∙ f.is_entry in cc in
-    texts_once f.entry a b f.fault (subst (λ e. TextsFault e b) entry g.fault)
+    one_texts_fault f.fault (subst (λ e. TextsFault e b) entry g.fault)
 
 same_fault : (messages : List Message) (i j : ℕ) (a b : PoFault) → HasFirstTextsFault i a messages → HasFirstTextsFault j b messages → (i ≡ j) × (a ≡ b)
 same_fault messages i j a b f g =
@@ -57,7 +48,7 @@ no_foreign : (messages : List Message) (i : ℕ) (a : PoFault) → HasForeignCha
 no_foreign messages i a foreign f =
     let entries = unformatted messages in
     let here = get_or_from_slice_get entries i f.entry f.entry f.is_entry in
-    no_texts_fault f.entry a (subst HasTexts here (foreign.texts i f.entry (slice_get_within entries i f.entry f.is_entry))) f.fault
+    no_texts_fault (subst HasTexts here (foreign.texts i f.entry (slice_get_within entries i f.entry f.is_entry))) f.fault
 
 module _ (unique : CatalogIsUnique) (one : OneFirstFault) where
   both : (bytes : List ℕ) (i j : ℕ) (a b : PoFault) → IsFileOf bytes (HasFirstTextsFault i a) → IsFileOf bytes (HasFirstTextsFault j b) → (i ≡ j) × (a ≡ b)

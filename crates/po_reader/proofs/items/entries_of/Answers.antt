@@ -6,7 +6,8 @@ use Rattle.po_entry.specs.Header.{HasAdmittedCharset}
 use Rattle.po_entry.specs.EntryView.{entry_view}
 use Rattle.po_entry.specs.Validity.{HasTexts}
 use Rattle.po_reader.proofs.Spelt.{reads_spelt}
-use Rattle.po_reader.proofs.SoundCatalogue.{SoundEntry, entries_sound, drafts_valid, draft_kind}
+use Rattle.po_reader.proofs.SoundCatalogue.{SoundEntry, entries_sound, drafts_valid}
+use Rattle.po_reader.proofs.NoMemory.{texts_reported}
 use Rattle.po_reader.proofs.KeptEntries.{kept_sound, kept_texts, kept_admitted}
 use Rattle.po_reader.proofs.Results.{ok_both, ok_step}
 use Rattle.po_reader.proofs.items.entries_of.Goals as goal
@@ -14,7 +15,7 @@ use Rattle.po_reader.proofs.items.entries_of.Goals as goal
 pub returns-in_err-check_drafts-clause-memory : goal.returns-in_err-check_drafts-clause-memory
 returns-in_err-check_drafts-clause-memory c =
     let p = err_from_is_err_and c.from_residual-in_err-check_drafts.result c.from_residual-in_err-check_drafts.ensures.1 in
-    rw (p.1, p.2) (λ memory. absurd (draft_kind c.in_err-check_drafts.ensures.fault memory))
+    rw (p.1, p.2) (λ memory. absurd (texts_reported c.in_err-check_drafts.ensures.fault memory))
 
 pub catalogue_of-requires : goal.catalogue_of-requires
 catalogue_of-requires c =
