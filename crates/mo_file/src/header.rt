@@ -37,9 +37,7 @@ impl Header {
         if bytes.len() < HEADER_LEN as usize {
             return Err(MoError::TooShort);
         }
-        let Some(order) = Order::of_file(bytes) else {
-            return Err(MoError::BadMagic);
-        };
+        let order = Order::of_file(bytes).ok_or(MoError::BadMagic)?;
         if word(order, bytes, 4) >> 16 > 1 {
             return Err(MoError::BadRevision);
         }

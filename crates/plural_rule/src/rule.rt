@@ -150,18 +150,12 @@ fn read(header: &[u8], table: &mut Table) -> Result<u64, Reason>
     ensures { MatchResult result (λ nplurals. HoldsRule expression_limit header.now nplurals table.new.items)
         (λ reason. IsReason expression_limit header.now reason) }
 {
-    let Some(digits) = header::number_digits(header) else {
-        return Err(Reason::NoNumber);
-    };
-    let Some(text) = header::expression(header) else {
-        return Err(Reason::NoExpression);
-    };
+    let digits = header::number_digits(header).ok_or(Reason::NoNumber)?;
+    let text = header::expression(header).ok_or(Reason::NoExpression)?;
     if text.len() > EXPRESSION_LIMIT {
         return Err(Reason::TooLong);
     }
-    let Some(nplurals) = lexer::decimal_value(digits) else {
-        return Err(Reason::Unreadable);
-    };
+    let nplurals = lexer::decimal_value(digits).ok_or(Reason::Unreadable)?;
     if parser::parse(text, table) {
         Ok(nplurals)
     } else {

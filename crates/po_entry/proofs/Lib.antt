@@ -7,3 +7,4 @@ pub mod CharsetNames
 pub mod ListedElements
 pub mod JoinedPieces
 pub mod TextsFaults
+pub mod Settled

@@ -159,13 +159,11 @@ fn body_after(
     ensures fault { IfErr result (IsStop (TranslationStops end original.obsolete (items_from from items.now))) }
     ensures memory { IfErr result (λ e. e.kind ≡ PoFault.OutOfMemory → e.line ≡ 0) }
 {
-    match translation_of(alloc, items, from, original.obsolete, end) {
-        Ok(translation) => Ok(Body {
-            original,
-            translation,
-        }),
-        Err(error) => Err(error),
-    }
+    let translation = translation_of(alloc, items, from, original.obsolete, end)?;
+    Ok(Body {
+        original,
+        translation,
+    })
 }
 
 /// The own lines of an entry from an index on, where they begin.

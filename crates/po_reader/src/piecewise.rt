@@ -37,6 +37,17 @@ impl From<AllocError> for Refusal {
     }
 }
 
+impl From<PoError> for Refusal {
+    ghost use Rattle.std.specs.Prelude.{◌≡◌};
+    ghost use Rattle.po_reader.specs.declared.piecewise.Refusal.TheVariants.{Fault};
+
+    ghost from_gives = { λ error refusal. refusal ≡ Fault error };
+
+    fn from(error: PoError) -> Refusal {
+        Refusal::Fault(error)
+    }
+}
+
 /// How many items are counted.
 const MOST_ITEMS: usize = 2_147_483_648;
 
@@ -83,10 +94,7 @@ fn next_entries(
     ensures fewer { OnOk result (IsShorter pieces.old pieces.new) }
     ensures fault { IfErr result (IsLeftRefusal pieces.old) }
 {
-    let items = match pieces.next(alloc, size) {
-        Ok(items) => items,
-        Err(error) => return Err(Refusal::Fault(error)),
-    };
+    let items = pieces.next(alloc, size)?;
     if pieces.are_over() {
         return last_entries(alloc, items, all);
     }
@@ -112,10 +120,7 @@ fn rest_entries<'a>(
     ensures over { OnOk result (pieces.new.lines ≡ []) }
     ensures fault { IfErr result (IsRestRefusal pieces.old (views items.entry.items)) }
 {
-    let mut rest = match pieces.next(alloc, usize::MAX) {
-        Ok(rest) => rest,
-        Err(error) => return Err(Refusal::Fault(error)),
-    };
+    let mut rest = pieces.next(alloc, usize::MAX)?;
     let is_counted = rest.len() <= MOST_ITEMS - items.len();
     if !is_counted || !pieces.are_over() {
         return Err(Refusal::Whole);
@@ -132,10 +137,7 @@ fn last_entries(alloc: Global, items: Vec<Item<'_>>, all: bool) -> Result<Catalo
     ensures fault { IfErr result (IsItemsRefusal (views items.entry.items)) }
 {
     let begins_anew = begins_anew(&items);
-    match last_entries_of(alloc, items, all) {
-        Ok(entries) => Ok(entries),
-        Err(error) => Err(refusal_of(error, begins_anew)),
-    }
+    last_entries_of(alloc, items, all).map_err(|error| refusal_of(error, begins_anew))
 }
 
 /// Whether no entry before goes on with these items.
@@ -167,10 +169,7 @@ pub(crate) fn read_pieces(alloc: Global, text: &[u8], size: usize) -> Result<Cat
     ensures found { IfOk result (ReadsText text.now) }
     ensures fault { IfErr result (IsTextRefusal text.now) }
 {
-    let mut pieces = match Pieces::of(text) {
-        Ok(pieces) => pieces,
-        Err(error) => return Err(Refusal::Fault(error)),
-    };
+    let mut pieces = Pieces::of(text)?;
     let mut catalogue = Catalogue::new(alloc);
     while !pieces.are_over() {
         let piece = next_catalogue(alloc, &mut pieces, size)?;

@@ -1,0 +1,76 @@
+-- It is known of the texts and of the charset of an entry whether they are admitted.
+use Rattle.std.proofs.Common.{◌≢◌, ℕ, List, [], ◌∷◌, Option, Some, None, map, IsUtf8, inl, inr, ◌⊎◌, sym, ◌∙◌, arith}
+use Rattle.std.specs.Prelude.{All, Contains, IfSome, bytes_eq}
+use Rattle.std.specs.Str.{is_utf8}
+use Rattle.std.proofs.lemmas.Bool.{cases_Bool, cases_eq, false≢true}
+use Rattle.std.proofs.lemmas.List.Elements.{All-nil, All-cons, All-head, All-tail, Contains-append_cases, Contains-append_left, Contains-append_right, Contains-push, Contains-push_cases}
+use Rattle.std.proofs.lemmas.Slice.Eq.{bytes_eq-Decides}
+use Rattle.std.proofs.lemmas.Str.{IsUtf8-from_is_utf8, is_utf8-from_IsUtf8}
+use Rattle.std.specs.Char.{to_ascii_lowercase}
+use Rattle.po_syntax.specs.declared.fault.PoFault.{PoFault}
+use Rattle.po_syntax.specs.declared.fault.PoFault.TheVariants.{NotUtf8, ForbiddenByte}
+use Rattle.po_entry.specs.TextEntry.{TextEntry, quoted_texts}
+use Rattle.po_entry.specs.Bytes.{Lacks}
+use Rattle.po_entry.specs.Header.{HasAdmittedCharset, admitted_names, charset_of, first_form, is_header}
+use Rattle.po_entry.specs.Validity.{HasTexts, IsClean, TextsFault, not_utf8, forbidden}
+
+-- the claim holds, or it doesn't
+abbrev pub Settled : Type 0 → Type 0
+Settled P = P ⊎ (P → ⊥)
+
+pub all_settled : {X : Type 0} (P : X → Type 0) → ((x : X) → Settled (P x)) → (xs : List X) → Settled (All P xs)
+all_settled P each [] = inl (All-nil P)
+all_settled P each (x ∷ xs) = elim (each x) [
+  | inl here ↦ elim (all_settled P each xs) [ inl later ↦ inl (All-cons P x xs here later) | inr never ↦ inr (λ h. never (All-tail P x xs h)) ]
+  | inr never ↦ inr (λ h. never (All-head P x xs h))
+]
+
+some_settled : {X : Type 0} (P : X → Type 0) → ((x : X) → Settled (P x)) → (value : Option X) → Settled (IfSome value P)
+some_settled P each None = inl tt
+some_settled P each (Some x) = each x
+
+utf8_settled : (text : List ℕ) → Settled (IsUtf8 text)
+utf8_settled text = elim (cases_Bool (is_utf8 text)) [
+  | inl is ↦ inl (IsUtf8-from_is_utf8 text is)
+  | inr never ↦ inr (λ utf8. false≢true (sym never ∙ is_utf8-from_IsUtf8 text utf8))
+]
+
+lacks_settled : (byte : ℕ) (text : List ℕ) → Settled (Lacks byte text)
+lacks_settled byte text =
+    all_settled (λ b. b ≢ byte) (λ b. elim (cases_eq b byte) [ inl same ↦ inr (λ other. other same) | inr other ↦ inl other ]) text
+
+contains_settled : (texts : List (List ℕ)) (text : List ℕ) → Settled (Contains texts text)
+contains_settled [] text = inr (λ h. omega (arith, h.1))
+contains_settled (first ∷ texts) text = elim (cases_Bool (bytes_eq first text)) [
+  | inl is ↦ inl (Contains-append_left (first ∷ []) texts text (rw ((bytes_eq-Decides first text).0 is) (Contains-push [] text)))
+  | inr never ↦ elim (contains_settled texts text) [
+    | inl later ↦ inl (Contains-append_right (first ∷ []) texts text later)
+    | inr none ↦ inr (λ h. elim (Contains-append_cases (first ∷ []) texts text h) [
+      | inl here ↦ elim (Contains-push_cases [] first text here) [ inl before ↦ omega (arith, before.1) | inr same ↦ false≢true (sym never ∙ (bytes_eq-Decides first text).1 same) ]
+      | inr later ↦ none later
+    ])
+  ]
+]
+
+clean_settled : (entry : TextEntry) → Settled (IsClean entry)
+clean_settled entry = elim (all_settled (Lacks 0) (lacks_settled 0) (quoted_texts entry)) [
+  | inl no_nul ↦ elim (some_settled (Lacks 4) (lacks_settled 4) entry.context) [
+    | inl context ↦ elim (lacks_settled 4 entry.id) [ inl id ↦ inl (record { no_nul = no_nul; context = context; id = id }) | inr never ↦ inr (λ h. never h.id) ]
+    | inr never ↦ inr (λ h. never h.context)
+  ]
+  | inr never ↦ inr (λ h. never h.no_nul)
+]
+
+-- the texts of an entry can stand in it, or have a fault
+pub texts_or_fault : (entry : TextEntry) → HasTexts entry ⊎ ((kind : PoFault) × TextsFault entry kind)
+texts_or_fault entry = elim (all_settled IsUtf8 utf8_settled (quoted_texts entry)) [
+  | inl utf8 ↦ elim (clean_settled entry) [ inl clean ↦ inl (record { utf8 = utf8; clean = clean }) | inr never ↦ inr (ForbiddenByte, forbidden utf8 never) ]
+  | inr never ↦ inr (NotUtf8, not_utf8 never)
+]
+
+-- its charset is admitted where it is a header, or it isn't
+pub charset_settled : (entry : TextEntry) → Settled (HasAdmittedCharset entry)
+charset_settled entry = elim (cases_Bool (is_header entry)) [
+  | inl header ↦ elim (contains_settled admitted_names (map to_ascii_lowercase (charset_of (first_form entry.forms)))) [ inl admitted ↦ inl (λ t. admitted) | inr never ↦ inr (λ h. never (h header)) ]
+  | inr none ↦ inl (λ t. absurd (false≢true (sym none ∙ t)))
+]
