@@ -1,5 +1,5 @@
 -- The fault of a text whose live entries are sorted, and repeat.
-use Rattle.std.proofs.Common.{◌≡◌, ◌≢◌, inl, inr, refl, sym, ap, ap₂, subst, ◌∙◌, ℕ, zero, suc, ◌+◌, ◌-◌, ◌<◌, ◌≤◌, nat_lt, Bool, true, false, cond, List, [], ◌∷◌, ◌++◌, length, get_or, take, drop, map, filter, arith, All, AllPairs, IsPermutation}
+use Rattle.std.proofs.Common.{◌≡◌, ◌≢◌, inl, inr, refl, sym, ap, ap₂, subst, ◌∙◌, ℕ, suc, ◌+◌, ◌-◌, ◌<◌, ◌≤◌, nat_lt, Bool, true, false, cond, List, [], ◌∷◌, ◌++◌, length, get_or, take, drop, map, filter, arith, All, AllPairs, IsPermutation}
 use Rattle.std.specs.Str.{bytes_eq}
 use Rattle.std.proofs.Math.Seq.{drop-cons}
 use Rattle.std.proofs.lemmas.Bool.{cases_lt, lt-ltb}
@@ -11,12 +11,11 @@ use Rattle.std.proofs.lemmas.Map.Keys.{IsDistinct-IsPermutation}
 use Rattle.std.proofs.lemmas.Map.Made.{AllPairs-from_IsDistinct, IsDistinct-from_AllPairs}
 use Rattle.std.proofs.lemmas.Slice.Eq.{bytes_eq-Decides}
 use Rattle.po_syntax.specs.declared.fault.PoError.{PoError}
-use Rattle.po_syntax.specs.declared.fault.PoFault.{PoFault}
 use Rattle.po_syntax.specs.declared.fault.PoFault.TheVariants.{Duplicate}
 use Rattle.po_entry.specs.TextEntry.{TextEntry}
 use Rattle.po_entry.specs.Validity.{IsCatalogueEntry}
-use Rattle.po_catalog.specs.Joined.{InputEntry, is_live, in_input, entries_of}
-use Rattle.po_catalog.specs.Duplicate.{AllDiffer, IsSameMessage, IsDuplicateErrorOf, live_entries}
+use Rattle.po_catalog.specs.Joined.{is_live, in_input, entries_of}
+use Rattle.po_catalog.specs.Duplicate.{AllDiffer, IsDuplicateErrorOf, live_entries}
 use Rattle.po_compile.specs.Collected.{LiveMessage, live_message, row_view}
 use Rattle.po_compile.specs.Repeats.{ArePlaced, AreSorted, IsEarliestRepeat}
 use Rattle.po_compile.specs.declared.row.Row.{Row}
@@ -24,7 +23,7 @@ use Rattle.po_compile.proofs.FilteredMoves.{IsPermutation-filter}
 use Rattle.po_compile.proofs.MeaningLemmas.{LacksSeparators, entry_lacks_separators}
 use Rattle.po_compile.proofs.ReadingLemmas.{entries_of_input}
 use Rattle.po_compile.proofs.RepeatLemmas.{key, is_before, keys_before, not_before, places_of_pair}
-use Rattle.po_compile.proofs.RowLemmas.{key_view, key_of_entry, keys_of_rows, live_differ}
+use Rattle.po_compile.proofs.RowLemmas.{key_of_entry, keys_of_rows, live_differ}
 use Rattle.po_compile.proofs.TextLemmas.{query_key_is_one}
 
 -- of rows that have their places from a number on, those before a place are the first

@@ -1,5 +1,5 @@
 -- The rows of live entries, sorted by their keys: neighbours show duplicates, and those that are compiled are the messages.
-use Rattle.std.proofs.Common.{◌≡◌, ◌≢◌, refl, sym, ap, ap₂, subst, ◌∙◌, ℕ, zero, suc, ◌+◌, ◌<◌, Bool, true, false, ◌&&◌, cond, List, [], ◌∷◌, ◌++◌, length, get_or, map, filter, arith, add-one, All, AllPairs, IsPermutation, count_by}
+use Rattle.std.proofs.Common.{◌≡◌, ◌≢◌, refl, sym, ap, ap₂, subst, ◌∙◌, ℕ, zero, suc, ◌<◌, Bool, true, false, ◌&&◌, cond, List, [], ◌∷◌, length, get_or, map, filter, arith, add-one, All, AllPairs, IsPermutation, count_by}
 use Rattle.std.specs.Ordering.{ordering_reverse}
 use Rattle.std.specs.declared.cmp.Ordering.TheVariants.{Less, Greater}
 use Rattle.std.proofs.lemmas.Cmp.{nat_list_cmp_total, nat_list_eq_equiv}
@@ -24,9 +24,9 @@ use Rattle.po_catalog.specs.Statistics.{stats_of, is_translated, is_fuzzy, is_un
 use Rattle.po_compile.specs.declared.collecting.Lengths.{Lengths}
 use Rattle.po_compile.specs.declared.row.Row.{Row}
 use Rattle.po_compile.specs.CompiledList.{is_compiled, compiled_list}
-use Rattle.po_compile.specs.CompiledMessages.{AreMessagesOf, message_of, messages_of_entries, original_of}
+use Rattle.po_compile.specs.CompiledMessages.{AreMessagesOf, message_of, messages_of_entries}
 use Rattle.po_compile.proofs.FilteredMoves.{IsPermutation-filter}
-use Rattle.po_compile.proofs.MeaningLemmas.{LacksSeparators, entry_lacks_separators, key_of-original}
+use Rattle.po_compile.proofs.MeaningLemmas.{entry_lacks_separators, key_of-original}
 
 abbrev pub key_view : LiveMessage → List ℕ
 key_view m = m.key

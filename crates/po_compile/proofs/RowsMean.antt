@@ -1,7 +1,7 @@
 -- What is collected of live entries, cut into rows.
 use Rattle.std.proofs.Common.{◌≡◌, refl, sym, ap, subst, ◌∙◌, ℕ, zero, suc, ◌+◌, ◌<◌, Bool, List, [], ◌∷◌, ◌++◌, append_assoc, length, get_or, take, drop, map, arith, add-one}
 use Rattle.std.specs.List.{flat_map}
-use Rattle.std.proofs.Math.Seq.{take-append_seam, drop-cons}
+use Rattle.std.proofs.Math.Seq.{take-append_seam}
 use Rattle.mo_file.specs.Key.{query_key}
 use Rattle.po_entry.specs.TextEntry.{TextEntry}
 use Rattle.po_compile.specs.Collected.{lengths_of, message_bytes, live_message, row_view}

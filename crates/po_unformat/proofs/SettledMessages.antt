@@ -1,13 +1,7 @@
 -- All bytes have a text or a fault.
-use Rattle.std.proofs.Common.{◌≡◌, ◌≢◌, ◌⊎◌, ℕ, ◌<◌, ◌==◌, zero, suc, Bool, true, false, List, [], ◌∷◌, Option, None, Some, refl, length, map, take, slice_get, arith, All, Contains, IfSome, inl, inr}
-use Rattle.std.specs.Prelude.{IsUtf8}
-use Rattle.std.specs.Str.{bytes_eq, is_utf8}
-use Rattle.std.specs.Char.{to_ascii_lowercase}
-use Rattle.std.proofs.lemmas.Bool.Decides.{Decides-eqb}
+use Rattle.std.proofs.Common.{◌≡◌, ◌≢◌, ◌⊎◌, ℕ, ◌<◌, suc, List, [], ◌∷◌, Option, None, Some, refl, length, take, slice_get, arith, All, inl, inr}
 use Rattle.std.proofs.lemmas.List.Elements.{All-cons, All-head, All-nil, All-tail}
 use Rattle.std.proofs.lemmas.List.Splits.{length-slice_split}
-use Rattle.std.proofs.lemmas.Slice.Eq.{bytes_eq-Decides}
-use Rattle.std.proofs.lemmas.Str.{IsUtf8-from_is_utf8, is_utf8-from_IsUtf8}
 use Rattle.mo_file.specs.Key.{is_nul}
 use Rattle.mo_file.specs.declared.byte_order.Order.{Order}
 use Rattle.mo_file.specs.Catalog.{IsCatalog}
@@ -15,10 +9,9 @@ use Rattle.mo_file.specs.Laws.{CatalogOrFault}
 use Rattle.mo_file.specs.Message.{Message}
 use Rattle.mo_lookup.specs.Contents.{forms}
 use Rattle.po_syntax.specs.declared.fault.PoFault.{PoFault}
-use Rattle.po_entry.specs.TextEntry.{TextEntry, quoted_texts}
-use Rattle.po_entry.specs.Bytes.{Lacks}
-use Rattle.po_entry.specs.Header.{HasAdmittedCharset, IsAdmittedName, admitted_names, charset_of, first_form, is_header}
-use Rattle.po_entry.specs.Validity.{HasTexts, IsClean, IsEntry, IsFlag, IsReference, IsTranslatorComment, TextsFault}
+use Rattle.po_entry.specs.TextEntry.{TextEntry}
+use Rattle.po_entry.specs.Header.{HasAdmittedCharset}
+use Rattle.po_entry.specs.Validity.{HasTexts, IsEntry, IsFlag, IsReference, IsTranslatorComment, TextsFault}
 use Rattle.po_syntax.specs.ItemContents.{IsComment}
 use Rattle.po_entry.specs.Validity.TextsFault.{not_utf8, forbidden}
 use Rattle.po_writer.specs.WrittenText.{written_text}

@@ -53,5 +53,8 @@ pub(crate) fn entry_at(alloc: Global, view: &MoView<'_>, i: u32) -> Result<Entry
     let mut meter = Meter::new();
     let original = view.original(i, &mut meter);
     let translation = view.translation(i);
-    entry_of_message(alloc, original, translation).map_err(|error| error_at(i, error.kind))
+    match entry_of_message(alloc, original, translation) {
+        Ok(entry) => Ok(entry),
+        Err(error) => Err(error_at(i, error.kind)),
+    }
 }

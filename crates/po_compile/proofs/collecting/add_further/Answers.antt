@@ -1,4 +1,4 @@
-use Rattle.std.proofs.Common.{◌++◌, ◌∷◌, append_assoc}
+use Rattle.std.proofs.Common.{append_assoc}
 use Rattle.po_compile.proofs.TextLemmas.{join_more}
 use Rattle.po_compile.proofs.collecting.add_further.Goals as goal
 

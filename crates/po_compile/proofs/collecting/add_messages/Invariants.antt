@@ -1,4 +1,4 @@
-use Rattle.std.proofs.Common.{◌≡◌, ◌++◌, List, take}
+use Rattle.std.proofs.Common.{◌++◌, List, take}
 use Rattle.po_entry.specs.TextEntry.{TextEntry}
 use Rattle.po_compile.specs.Collected.{HoldsLive}
 use Rattle.po_compile.proofs.collecting.add_messages.Given as goal

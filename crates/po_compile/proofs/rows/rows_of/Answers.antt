@@ -1,4 +1,4 @@
-use Rattle.std.proofs.Common.{◌≡◌, ap, ap₂, sym, ◌∙◌, false, ◌++◌, ◌∷◌, [], take, drop, map, get_or, arith, length}
+use Rattle.std.proofs.Common.{◌≡◌, ap, ap₂, sym, ◌∙◌, false, ◌++◌, ◌∷◌, [], take, drop, map, get_or, arith}
 use Rattle.std.proofs.lemmas.List.{map_push}
 use Rattle.mo_file.specs.Key.{query_key}
 use Rattle.po_compile.specs.Collected.{live_message, row_view}
