@@ -7,7 +7,6 @@ pub mod Results
 pub mod Splits
 pub mod Heads
 pub mod HeadEnds
-pub mod Places
 pub mod Trims
 pub mod Pieces
 pub mod SoundEntries
@@ -36,3 +35,4 @@ pub mod PieceReading
 pub mod MetFlags
 pub mod Kept
 pub mod KeptEntries
+pub mod Advancing

@@ -1,5 +1,5 @@
 -- What contracts see of the steps that the code takes. Internal to this crate.
-use Rattle.std.specs.Prelude.{ℕ, List, drop}
+use Rattle.std.specs.Prelude.{List}
 use Rattle.po_reader.specs.declared.keywords.Wanted.{Wanted}
 use Rattle.po_reader.specs.declared.keywords.Wanted.TheVariants as code
 use Rattle.po_reader.specs.declared.body.Start.{Start}
@@ -7,17 +7,12 @@ use Rattle.po_reader.specs.declared.body.Start.TheVariants as start
 use Rattle.po_reader.specs.declared.body.Body.{Body}
 use Rattle.po_reader.specs.declared.head.Step.{Step}
 use Rattle.po_reader.specs.declared.head.Step.TheVariants as step
-use Rattle.po_syntax.specs.declared.item.Item.{Item}
-use Rattle.po_syntax.specs.TextItem.{TextItem, views}
+use Rattle.po_syntax.specs.TextItem.{TextItem}
 use Rattle.po_entry.specs.Parts as parts
 use Rattle.po_entry.specs.TextEntry.{texts, optional_text}
 use Rattle.po_reader.specs.Keywords as spec
 use Rattle.po_reader.specs.Body as body
 use Rattle.po_reader.specs.Head as head
-
--- the items from an index on
-abbrev pub items_from : ℕ → List Item → List TextItem
-items_from at items = views (drop at items)
 
 abbrev pub wanted_view : Wanted → spec.Wanted
 wanted_view code.Id = spec.Id

@@ -1,53 +1,46 @@
-ghost use Rattle.std.specs.Prelude.{◌≡◌, ◌≢◌, ◌+◌, ◌<◌, ◌≤◌, length, IfOk, IfErr, IfSome, MatchOption, ◌^◌};
+ghost use Rattle.std.specs.Prelude.{◌≡◌, ◌≢◌, ◌<◌, length, IfOk, OnOk, IfErr, IfSome, MatchOption, ◌^◌};
 ghost use Rattle.po_reader.specs.Body.{begins_form, body_start, IsForms, IsTranslation, IsBody};
 ghost use Rattle.po_reader.specs.Body as spec;
 ghost use Rattle.po_entry.specs.TextEntry.{texts, optional_text};
 ghost use Rattle.po_reader.specs.Stops.{IsStop, FormsStop, TranslationStops, BodyStops};
-ghost use Rattle.po_reader.specs.ReaderView.{items_from, start_view, body_view};
+ghost use Rattle.po_reader.specs.ReaderView.{start_view, body_view};
 
-use crate::index::item_at;
-use crate::keywords::{KeywordText, Wanted, wanted_keyword};
-use crate::strings::strings_of;
+use crate::keywords::{Wanted, take_keyword_text};
+use crate::rest::Rest;
+use crate::strings::take_strings;
 use po_syntax::{Item, Keyword, Marks, PoError, PoFault};
 use std::alloc::Global;
 
-/// Whether a `msgstr[i]` stands at the index, and not one of a previous text.
-fn begins_form(items: &[Item<'_>], at: usize) -> bool
-    requires { at ≤ length items.now }
-    ensures { result ≡ begins_form (items_from at items.now) }
+/// Whether a `msgstr[i]` is the first item, and not one of a previous text.
+fn begins_form(rest: &Rest<'_, '_>) -> bool
+    ensures { result ≡ begins_form rest.now }
 {
-    match item_at(items, at) {
+    match rest.first() {
         Some(Item::Word(Keyword::MsgStrAt(_), marks, _)) => !marks.previous,
         _ => false,
     }
 }
 
-/// The plural forms from index 0 on, and the index after them.
-fn forms_of(
+/// Takes the plural forms that stand first, from index 0 on.
+fn take_forms(
     alloc: Global,
-    items: &[Item<'_>],
-    from: usize,
+    rest: &mut Rest<'_, '_>,
     obsolete: bool,
     end: u32,
-) -> Result<(Vec<Vec<u8>>, usize), PoError>
-    requires within { from ≤ length items.now }
-    requires few { length items.now < 2 ^ 32 }
-    ensures found { IfOk result (λ p. IsForms obsolete 0 (items_from from items.now) (texts p.0.items)
-        (items_from p.1 items.now)) }
-    ensures within { IfOk result (λ p. p.1 ≤ length items.now) }
-    ensures further { IfOk result (λ p. from < p.1) }
-    ensures fault { IfErr result (IsStop (FormsStop end obsolete 0 (items_from from items.now))) }
+) -> Result<Vec<Vec<u8>>, PoError>
+    requires { length rest.old < 2 ^ 32 }
+    ensures found { IfOk result (λ forms. IsForms obsolete 0 rest.old (texts forms.items) rest.new) }
+    ensures fewer { OnOk result (length rest.new < length rest.old) }
+    ensures fault { IfErr result (IsStop (FormsStop end obsolete 0 rest.old)) }
     ensures memory { IfErr result (λ e. e.kind ≡ PoFault.OutOfMemory → e.line ≡ 0) }
 {
     let mut forms = Vec::new(alloc);
-    let mut at = from;
     let mut index = 0;
     loop {
-        let form = wanted_keyword(alloc, items, at, Wanted::Form(index), obsolete, end)?;
+        let form = take_keyword_text(alloc, rest, Wanted::Form(index), obsolete, end)?;
         forms.push(form.text)?;
-        at = form.after;
-        if !begins_form(items, at) {
-            return Ok((forms, at));
+        if !begins_form(rest) {
+            return Ok(forms);
         }
         index += 1;
     }
@@ -58,34 +51,28 @@ fn forms_of(
 pub(crate) struct Translation {
     pub(crate) plural: Option<Vec<u8>>,
     pub(crate) forms: Vec<Vec<u8>>,
-    /// The index of the item after them.
-    pub(crate) after: usize,
 }
 
-/// The translation at the index: a msgstr, or a plural and its forms.
-fn translation_of(
+/// Takes the translation that stands first: a msgstr, or a plural and its forms.
+fn take_translation(
     alloc: Global,
-    items: &[Item<'_>],
-    from: usize,
+    rest: &mut Rest<'_, '_>,
     obsolete: bool,
     end: u32,
 ) -> Result<Translation, PoError>
-    requires within { from ≤ length items.now }
-    requires few { length items.now < 2 ^ 32 }
-    ensures found { IfOk result (λ t. IsTranslation obsolete (items_from from items.now) (optional_text t.plural)
-        (texts t.forms.items) (items_from t.after items.now)) }
-    ensures within { IfOk result (λ t. t.after ≤ length items.now) }
-    ensures further { IfOk result (λ t. from < t.after) }
-    ensures fault { IfErr result (IsStop (TranslationStops end obsolete (items_from from items.now))) }
+    requires { length rest.old < 2 ^ 32 }
+    ensures found { IfOk result (λ t. IsTranslation obsolete rest.old (optional_text t.plural)
+        (texts t.forms.items) rest.new) }
+    ensures fewer { OnOk result (length rest.new < length rest.old) }
+    ensures fault { IfErr result (IsStop (TranslationStops end obsolete rest.old)) }
     ensures memory { IfErr result (λ e. e.kind ≡ PoFault.OutOfMemory → e.line ≡ 0) }
 {
-    let first = wanted_keyword(alloc, items, from, Wanted::Translation, obsolete, end)?;
+    let first = take_keyword_text(alloc, rest, Wanted::Translation, obsolete, end)?;
     if let Keyword::MsgIdPlural = first.keyword {
-        let (forms, after) = forms_of(alloc, items, first.after, obsolete, end)?;
+        let forms = take_forms(alloc, rest, obsolete, end)?;
         return Ok(Translation {
             plural: Some(first.text),
             forms,
-            after,
         });
     }
     let mut forms = Vec::with_capacity(alloc, 1)?;
@@ -93,7 +80,6 @@ fn translation_of(
     Ok(Translation {
         plural: None,
         forms,
-        after: first.after,
     })
 }
 
@@ -122,68 +108,57 @@ enum Start {
     WithoutContext(bool, u32),
 }
 
-/// How a body begins at the index, or `None` where none does.
-fn start_at(items: &[Item<'_>], at: usize) -> Option<Start>
-    requires { at ≤ length items.now }
-    ensures start { MatchOption result (body_start (items_from at items.now) ≡ spec.NoStart)
-        (λ start. body_start (items_from at items.now) ≡ start_view start (items_from (at + 1) items.now)) }
-    ensures within { IfSome result (λ _. at < length items.now) }
+/// Takes the keyword with which a body begins, or nothing where none does.
+fn take_start(rest: &mut Rest<'_, '_>) -> Option<Start>
+    ensures start { MatchOption result (body_start rest.old ≡ spec.NoStart)
+        (λ start. body_start rest.old ≡ start_view start rest.new) }
+    ensures fewer { IfSome result (λ _. length rest.new < length rest.old) }
 {
-    match item_at(items, at) {
+    match rest.first() {
         Some(Item::Word(Keyword::MsgCtxt, marks, _)) if !marks.previous => {
+            rest.advance();
             Some(Start::WithContext(marks.obsolete))
         }
         Some(Item::Word(Keyword::MsgId, marks, line)) if !marks.previous => {
+            rest.advance();
             Some(Start::WithoutContext(marks.obsolete, *line))
         }
         _ => None,
     }
 }
 
-/// The own lines of an entry whose context and msgid stand before an index.
-fn body_after(
+/// Takes the own lines of an entry whose context and msgid are taken.
+fn take_body_after(
     alloc: Global,
-    items: &[Item<'_>],
-    from: usize,
+    rest: &mut Rest<'_, '_>,
     original: Original,
     end: u32,
 ) -> Result<Body, PoError>
-    requires within { from ≤ length items.now }
-    requires few { length items.now < 2 ^ 32 }
-    ensures found { IfOk result (λ b. IsTranslation original.obsolete (items_from from items.now)
-        (optional_text b.translation.plural) (texts b.translation.forms.items)
-        (items_from b.translation.after items.now)) }
+    requires { length rest.old < 2 ^ 32 }
+    ensures found { IfOk result (λ b. IsTranslation original.obsolete rest.old
+        (optional_text b.translation.plural) (texts b.translation.forms.items) rest.new) }
     ensures original { IfOk result (λ b. b.original ≡ original) }
-    ensures within { IfOk result (λ b. b.translation.after ≤ length items.now) }
-    ensures further { IfOk result (λ b. from < b.translation.after) }
-    ensures fault { IfErr result (IsStop (TranslationStops end original.obsolete (items_from from items.now))) }
+    ensures fewer { OnOk result (length rest.new < length rest.old) }
+    ensures fault { IfErr result (IsStop (TranslationStops end original.obsolete rest.old)) }
     ensures memory { IfErr result (λ e. e.kind ≡ PoFault.OutOfMemory → e.line ≡ 0) }
 {
-    let translation = translation_of(alloc, items, from, original.obsolete, end)?;
+    let translation = take_translation(alloc, rest, original.obsolete, end)?;
     Ok(Body {
         original,
         translation,
     })
 }
 
-/// The own lines of an entry from an index on, where they begin.
-pub(crate) fn body_of(
-    alloc: Global,
-    items: &[Item<'_>],
-    from: usize,
-    end: u32,
-) -> Result<Body, PoError>
-    requires within { from ≤ length items.now }
-    requires few { length items.now < 2 ^ 32 }
-    requires begins { body_start (items_from from items.now) ≢ spec.NoStart }
-    ensures found { IfOk result (λ b. IsBody (items_from from items.now) (body_view b)
-        (items_from b.translation.after items.now)) }
-    ensures within { IfOk result (λ b. b.translation.after ≤ length items.now) }
-    ensures further { IfOk result (λ b. from < b.translation.after) }
-    ensures fault { IfErr result (IsStop (BodyStops end (items_from from items.now))) }
+/// Takes the own lines of an entry, which stand first.
+pub(crate) fn take_body(alloc: Global, rest: &mut Rest<'_, '_>, end: u32) -> Result<Body, PoError>
+    requires few { length rest.old < 2 ^ 32 }
+    requires begins { body_start rest.old ≢ spec.NoStart }
+    ensures found { IfOk result (λ b. IsBody rest.old (body_view b) rest.new) }
+    ensures fewer { OnOk result (length rest.new < length rest.old) }
+    ensures fault { IfErr result (IsStop (BodyStops end rest.old)) }
     ensures memory { IfErr result (λ e. e.kind ≡ PoFault.OutOfMemory → e.line ≡ 0) }
 {
-    let start = match start_at(items, from) {
+    let start = match take_start(rest) {
         Some(start) => start,
         None => unreachable!(),
     };
@@ -193,34 +168,29 @@ pub(crate) fn body_of(
                 obsolete,
                 previous: false,
             };
-            let (id, after) = strings_of(alloc, items, from + 1, marks, end)?;
+            let id = take_strings(alloc, rest, marks, end)?;
             let original = Original {
                 context: None,
                 id,
                 obsolete,
                 line,
             };
-            body_after(alloc, items, after, original, end)
+            take_body_after(alloc, rest, original, end)
         }
         Start::WithContext(obsolete) => {
             let marks = Marks {
                 obsolete,
                 previous: false,
             };
-            let (context, middle) = strings_of(alloc, items, from + 1, marks, end)?;
-            let KeywordText {
-                line,
-                text: id,
-                after,
-                ..
-            } = wanted_keyword(alloc, items, middle, Wanted::Id, obsolete, end)?;
+            let context = take_strings(alloc, rest, marks, end)?;
+            let id = take_keyword_text(alloc, rest, Wanted::Id, obsolete, end)?;
             let original = Original {
                 context: Some(context),
-                id,
+                id: id.text,
                 obsolete,
-                line,
+                line: id.line,
             };
-            body_after(alloc, items, after, original, end)
+            take_body_after(alloc, rest, original, end)
         }
     }
 }

@@ -10,9 +10,10 @@ ghost use Rattle.po_reader.specs.HeadView.{HoldsHead};
 ghost use Rattle.po_reader.specs.ReaderView.{body_view};
 ghost use Rattle.po_reader.specs.Stops.{IsStop, EntriesStop};
 
-use crate::body::{Body, Original, Translation, body_of};
+use crate::body::{Body, Original, Translation, take_body};
 use crate::flags::flags_of;
-use crate::head::{Head, head_of};
+use crate::head::{Head, take_head};
+use crate::rest::Rest;
 use po_entry::Fields;
 use po_syntax::{Item, PoError, PoFault};
 use std::alloc::{AllocError, Global};
@@ -41,7 +42,7 @@ fn fields_of(alloc: Global, head: Head, body: Body) -> Result<Fields, AllocError
         obsolete,
         line,
     } = original;
-    let Translation { plural, forms, .. } = translation;
+    let Translation { plural, forms } = translation;
     Ok(Fields {
         comments,
         extracted,
@@ -73,14 +74,13 @@ pub(crate) fn drafts_of(
     ensures memory { IfErr result (λ e. e.kind ≡ PoFault.OutOfMemory → e.line ≡ 0) }
 {
     let mut drafts = Vec::new(alloc);
-    let mut at = 0;
+    let mut rest = Rest::of(items);
     loop {
-        let (head, own) = head_of(alloc, items, at, end, all)?;
-        if own == items.len() {
+        let head = take_head(alloc, &mut rest, end, all)?;
+        if rest.is_empty() {
             return Ok(drafts);
         }
-        let body = body_of(alloc, items, own, end)?;
-        at = body.translation.after;
+        let body = take_body(alloc, &mut rest, end)?;
         drafts.push(fields_of(alloc, head, body)?)?;
     }
 }

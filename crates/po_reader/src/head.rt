@@ -1,4 +1,4 @@
-ghost use Rattle.std.specs.Prelude.{◌≡◌, ◌≢◌, ◌+◌, ◌<◌, ◌≤◌, ◌++◌, ◌∷◌, [], Some, ℕ, List, length, IfOk, IfErr, OnOk, OnErr, IfSome, MatchResult, ◌||◌};
+ghost use Rattle.std.specs.Prelude.{◌≡◌, ◌≢◌, ◌<◌, ◌≤◌, ◌++◌, ◌∷◌, [], Some, ℕ, List, length, IfOk, IfErr, OnOk, OnErr, IfSome, MatchResult, ◌||◌};
 ghost use Rattle.po_entry.specs.Parts.{CommentText, PreviousText, rank};
 ghost use Rattle.po_reader.specs.Head.{IsHead, head_step, begins_body};
 ghost use Rattle.po_reader.specs.Head as spec;
@@ -6,12 +6,12 @@ ghost use Rattle.po_entry.specs.Comments.{same_kind, with_previous};
 ghost use Rattle.po_syntax.specs.declared.item.CommentKind.TheVariants.{Flags};
 ghost use Rattle.po_reader.specs.KeptComments.{kept_comments};
 ghost use Rattle.po_reader.specs.Stops.{IsStop, HeadStops};
-ghost use Rattle.po_reader.specs.ReaderView.{items_from, head_view};
+ghost use Rattle.po_reader.specs.ReaderView.{head_view};
 ghost use Rattle.po_reader.specs.HeadView.{HoldsHead, HoldsComments};
 
 use crate::comment_texts::{add_flags, add_references};
-use crate::index::{item_at, refusal};
-use crate::strings::strings_of;
+use crate::rest::Rest;
+use crate::strings::take_strings;
 use po_entry::Previous;
 use po_syntax::{CommentKind, Item, Keyword, Marks, PoError, PoFault};
 use std::alloc::{AllocError, Global};
@@ -56,26 +56,30 @@ fn begins_body(keyword: Keyword) -> bool
     matches!(keyword, Keyword::MsgCtxt | Keyword::MsgId)
 }
 
-/// What the item at the index is to a head; `above` is the rank of the last previous text, or 0.
-fn step_at<'i>(items: &'i [Item<'_>], at: usize, above: u32) -> Result<Step<'i>, PoFault>
-    requires { at ≤ length items.now }
+/// Takes the first item, where the head goes on with it; `above` is the rank of the last previous text, or 0.
+fn take_step<'i>(rest: &mut Rest<'i, '_>, above: u32) -> Result<Step<'i>, PoFault>
     ensures step { MatchResult result
-        (λ step. head_step above (items_from at items.now) ≡ head_view step (items_from (at + 1) items.now))
-        (λ fault. head_step above (items_from at items.now) ≡ spec.Refuse fault) }
-    ensures within { IfOk result
-        (λ step. head_view step (items_from (at + 1) items.now) ≢ spec.Over → at < length items.now) }
+        (λ step. head_step above rest.old ≡ head_view step rest.new)
+        (λ fault. (head_step above rest.old ≡ spec.Refuse fault) × (rest.new ≡ rest.old)) }
+    ensures fewer { IfOk result
+        (λ step. head_view step rest.new ≢ spec.Over → length rest.new < length rest.old) }
+    ensures kept { IfOk result (λ step. head_view step rest.new ≡ spec.Over → rest.new ≡ rest.old) }
 {
-    match item_at(items, at) {
+    match rest.first() {
         None => if above == 0 {
             Ok(Step::Over)
         } else {
             Err(PoFault::BadOrder)
         },
-        Some(Item::Comment(kind, text, _)) => Ok(Step::HeadComment(*kind, text)),
+        Some(Item::Comment(kind, text, _)) => {
+            rest.advance();
+            Ok(Step::HeadComment(*kind, text))
+        }
         Some(Item::Str(..)) => Err(PoFault::BadOrder),
         Some(Item::Word(keyword, marks, _)) => {
             if marks.previous {
                 if above < rank(*keyword) {
+                    rest.advance();
                     Ok(Step::Previous(*keyword, *marks))
                 } else {
                     Err(PoFault::BadOrder)
@@ -149,22 +153,18 @@ fn set_previous(previous: &mut Previous, keyword: Keyword, text: Vec<u8>)
     }
 }
 
-/// What stands before an entry's own lines from an index on, all of it or without comments other than
-/// flags; and the index of those lines, or of the end of the items.
-pub(crate) fn head_of(
+/// Takes what stands before an entry's own lines, all of it or without comments other than flags.
+pub(crate) fn take_head(
     alloc: Global,
-    items: &[Item<'_>],
-    from: usize,
+    rest: &mut Rest<'_, '_>,
     end: u32,
     all: bool,
-) -> Result<(Head, usize), PoError>
-    requires { from ≤ length items.now }
-    ensures found { IfOk result (λ p. (comment_texts : List CommentText) × (previous : List PreviousText)
-        × IsHead 0 (items_from from items.now) comment_texts previous (items_from p.1 items.now)
-        × HoldsHead p.0 (kept_comments all comment_texts) previous) }
-    ensures within { IfOk result (λ p. p.1 ≤ length items.now) }
-    ensures after { IfOk result (λ p. from ≤ p.1) }
-    ensures fault { IfErr result (IsStop (HeadStops end 0 (items_from from items.now))) }
+) -> Result<Head, PoError>
+    ensures found { IfOk result (λ head. (comment_texts : List CommentText) × (previous : List PreviousText)
+        × IsHead 0 rest.old comment_texts previous rest.new
+        × HoldsHead head (kept_comments all comment_texts) previous) }
+    ensures fewer { OnOk result (length rest.new ≤ length rest.old) }
+    ensures fault { IfErr result (IsStop (HeadStops end 0 rest.old)) }
     ensures memory { IfErr result (λ e. e.kind ≡ PoFault.OutOfMemory → e.line ≡ 0) }
 {
     let mut head = Head {
@@ -174,21 +174,18 @@ pub(crate) fn head_of(
         flags: Vec::new(alloc),
         previous: Previous::none(),
     };
-    let mut at = from;
     let mut above = 0;
     loop {
-        match step_at(items, at, above) {
-            Err(kind) => return Err(refusal(items, at, end, kind)),
-            Ok(Step::Over) => return Ok((head, at)),
+        match take_step(rest, above) {
+            Err(kind) => return Err(rest.refusal(end, kind)),
+            Ok(Step::Over) => return Ok(head),
             Ok(Step::HeadComment(kind, text)) => {
                 add_comment(alloc, &mut head, all, kind, text)?;
-                at += 1;
             }
             Ok(Step::Previous(keyword, marks)) => {
-                let (text, after) = strings_of(alloc, items, at + 1, marks, end)?;
+                let text = take_strings(alloc, rest, marks, end)?;
                 set_previous(&mut head.previous, keyword, text);
                 above = rank(keyword);
-                at = after;
             }
         }
     }

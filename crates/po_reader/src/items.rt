@@ -11,7 +11,7 @@ ghost use Rattle.po_reader.specs.Stops.{IsStop};
 ghost use Rattle.po_reader.specs.Viable.{last_line};
 
 use crate::drafts::drafts_of;
-use crate::index::line_of;
+use crate::rest::line_of;
 use po_entry::{Catalogue, Entry, Fields, check_texts};
 use po_syntax::{Item, PoError, PoFault};
 use std::alloc::Global;

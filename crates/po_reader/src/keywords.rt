@@ -1,12 +1,12 @@
-ghost use Rattle.std.specs.Prelude.{◌≡◌, ◌≢◌, ◌+◌, ◌<◌, ◌≤◌, length, IfOk, IfErr, MatchResult, MatchOption, ℕ, List};
+ghost use Rattle.std.specs.Prelude.{◌≡◌, ◌≢◌, ◌<◌, length, IfOk, IfErr, OnOk, MatchResult, MatchOption, ℕ, List};
 ghost use Rattle.po_syntax.specs.TextItem.{TextItem};
 ghost use Rattle.po_reader.specs.Keywords.{IsKeywordText, next_keyword, keyword_step, is_wanted, is_wrong_form};
 ghost use Rattle.po_reader.specs.Keywords as spec;
-ghost use Rattle.po_reader.specs.ReaderView.{items_from, wanted_view};
+ghost use Rattle.po_reader.specs.ReaderView.{wanted_view};
 ghost use Rattle.po_reader.specs.Stops.{IsStop, KeywordTextStops};
 
-use crate::index::{item_at, refusal};
-use crate::strings::strings_of;
+use crate::rest::Rest;
+use crate::strings::take_strings;
 use po_syntax::{Item, Keyword, Marks, PoError, PoFault};
 use std::alloc::Global;
 
@@ -61,24 +61,24 @@ fn keyword_fault(wanted: Wanted, obsolete: bool, keyword: Keyword, marks: Marks)
     }
 }
 
-/// The wanted keyword at an index, with its line.
-fn keyword_at(
-    items: &[Item<'_>],
-    at: usize,
+/// Takes the wanted keyword, which is the first item, and gives its line too.
+fn take_keyword(
+    rest: &mut Rest<'_, '_>,
     wanted: Wanted,
     obsolete: bool,
 ) -> Result<(Keyword, u32), PoFault>
-    requires { at ≤ length items.now }
     ensures step { MatchResult result
-        (λ p. next_keyword (wanted_view wanted) obsolete (items_from at items.now)
-        ≡ spec.Take p.0 p.1 (items_from (at + 1) items.now))
-        (λ fault. next_keyword (wanted_view wanted) obsolete (items_from at items.now) ≡ spec.Refuse fault) }
-    ensures within { IfOk result (λ _. at < length items.now) }
+        (λ p. next_keyword (wanted_view wanted) obsolete rest.old ≡ spec.Take p.0 p.1 rest.new)
+        (λ fault. (next_keyword (wanted_view wanted) obsolete rest.old ≡ spec.Refuse fault) × (rest.new ≡ rest.old)) }
+    ensures fewer { OnOk result (length rest.new < length rest.old) }
 {
-    match item_at(items, at) {
+    match rest.first() {
         Some(Item::Word(keyword, marks, line)) => {
             match keyword_fault(wanted, obsolete, *keyword, *marks) {
-                None => Ok((*keyword, *line)),
+                None => {
+                    rest.advance();
+                    Ok((*keyword, *line))
+                }
                 Some(fault) => Err(fault),
             }
         }
@@ -92,41 +92,34 @@ pub(crate) struct KeywordText {
     pub(crate) keyword: Keyword,
     pub(crate) line: u32,
     pub(crate) text: Vec<u8>,
-    /// The index of the item after the text.
-    pub(crate) after: usize,
 }
 
-/// The wanted keyword at an index, with its text.
-pub(crate) fn wanted_keyword(
+/// Takes the wanted keyword, which stands first, with its text.
+pub(crate) fn take_keyword_text(
     alloc: Global,
-    items: &[Item<'_>],
-    at: usize,
+    rest: &mut Rest<'_, '_>,
     wanted: Wanted,
     obsolete: bool,
     end: u32,
 ) -> Result<KeywordText, PoError>
-    requires { at ≤ length items.now }
-    ensures found { IfOk result (λ w. IsKeywordText (wanted_view wanted) obsolete (items_from at items.now)
-        w.keyword w.line w.text.items (items_from w.after items.now)) }
-    ensures within { IfOk result (λ w. w.after ≤ length items.now) }
-    ensures further { IfOk result (λ w. at < w.after) }
-    ensures fault { IfErr result (IsStop
-        (KeywordTextStops end (wanted_view wanted) obsolete (items_from at items.now))) }
+    ensures found { IfOk result (λ w. IsKeywordText (wanted_view wanted) obsolete rest.old
+        w.keyword w.line w.text.items rest.new) }
+    ensures fewer { OnOk result (length rest.new < length rest.old) }
+    ensures fault { IfErr result (IsStop (KeywordTextStops end (wanted_view wanted) obsolete rest.old)) }
     ensures memory { IfErr result (λ e. e.kind ≡ PoFault.OutOfMemory → e.line ≡ 0) }
 {
-    let (keyword, line) = match keyword_at(items, at, wanted, obsolete) {
+    let (keyword, line) = match take_keyword(rest, wanted, obsolete) {
         Ok(found) => found,
-        Err(kind) => return Err(refusal(items, at, end, kind)),
+        Err(kind) => return Err(rest.refusal(end, kind)),
     };
     let marks = Marks {
         obsolete,
         previous: false,
     };
-    let (text, after) = strings_of(alloc, items, at + 1, marks, end)?;
+    let text = take_strings(alloc, rest, marks, end)?;
     Ok(KeywordText {
         keyword,
         line,
         text,
-        after,
     })
 }

@@ -5,7 +5,7 @@
 //! [`read`] reads a text piece by piece, and [`read_whole`] as one. A caller that keeps no
 //! catalogue takes the pieces one by one: [`next_catalogue`] and [`next_messages`].
 //!
-//! The modules in reading order: `index`, `strings`, `keywords`, `body`, `comment_texts`, `head`,
+//! The modules in reading order: `rest`, `strings`, `keywords`, `body`, `comment_texts`, `head`,
 //! `flags`, `drafts`, `items`, `piecewise`, `reading`, `laws`.
 
 #![tactic(auto)]
@@ -15,12 +15,12 @@ mod comment_texts;
 mod drafts;
 mod flags;
 mod head;
-mod index;
 mod items;
 mod keywords;
 pub mod laws;
 mod piecewise;
 mod reading;
+mod rest;
 mod strings;
 
 pub use crate::piecewise::{Refusal, next_catalogue, next_messages};

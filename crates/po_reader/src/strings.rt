@@ -1,11 +1,10 @@
-ghost use Rattle.std.specs.Prelude.{◌≡◌, ◌≢◌, ◌+◌, ◌<◌, ◌≤◌, length, IfOk, IfErr, MatchResult};
+ghost use Rattle.std.specs.Prelude.{◌≡◌, ◌≢◌, ◌<◌, length, IfOk, IfErr, OnOk, MatchResult};
 ghost use Rattle.po_reader.specs.Strings.{IsStrings, string_step, begins_string};
 ghost use Rattle.po_entry.specs.Spelling.{own_marks};
 ghost use Rattle.po_reader.specs.Strings as spec;
-ghost use Rattle.po_reader.specs.Stops.{IsStop, StringsStop, line_at};
-ghost use Rattle.po_reader.specs.ReaderView.{items_from};
+ghost use Rattle.po_reader.specs.Stops.{IsStop, StringsStop};
 
-use crate::index::{item_at, refusal};
+use crate::rest::Rest;
 use po_syntax::{Item, Marks, PoError, PoFault};
 use std::alloc::Global;
 
@@ -28,17 +27,17 @@ fn same_marks(a: Marks, b: Marks) -> bool
     a.obsolete == b.obsolete && a.previous == b.previous
 }
 
-/// The string at an index, which stands under these marks.
-fn string_at<'i>(items: &'i [Item<'_>], at: usize, marks: Marks) -> Result<&'i [u8], PoFault>
-    requires { at ≤ length items.now }
+/// Takes the string that is the first item, under these marks.
+fn take_string<'i>(rest: &mut Rest<'i, '_>, marks: Marks) -> Result<&'i [u8], PoFault>
     ensures step { MatchResult result
-        (λ bytes. string_step marks (items_from at items.now) ≡ spec.Take bytes.now (items_from (at + 1) items.now))
-        (λ fault. string_step marks (items_from at items.now) ≡ spec.Refuse fault) }
-    ensures within { IfOk result (λ _. at < length items.now) }
+        (λ bytes. string_step marks rest.old ≡ spec.Take bytes.now rest.new)
+        (λ fault. (string_step marks rest.old ≡ spec.Refuse fault) × (rest.new ≡ rest.old)) }
+    ensures fewer { OnOk result (length rest.new < length rest.old) }
 {
-    match item_at(items, at) {
+    match rest.first() {
         Some(Item::Str(bytes, found, _)) => {
             if same_marks(marks, *found) {
+                rest.advance();
                 Ok(bytes.as_slice())
             } else {
                 Err(stray_string(marks, *found))
@@ -48,41 +47,34 @@ fn string_at<'i>(items: &'i [Item<'_>], at: usize, marks: Marks) -> Result<&'i [
     }
 }
 
-/// Whether a string stands at the index.
-fn begins_string(items: &[Item<'_>], at: usize) -> bool
-    requires { at ≤ length items.now }
-    ensures { result ≡ begins_string (items_from at items.now) }
+/// Whether a string is the first item.
+fn begins_string(rest: &Rest<'_, '_>) -> bool
+    ensures { result ≡ begins_string rest.now }
 {
-    matches!(item_at(items, at), Some(Item::Str(..)))
+    matches!(rest.first(), Some(Item::Str(..)))
 }
 
-/// The text of the strings from an index on, under these marks, and the index after them.
-pub(crate) fn strings_of(
+/// Takes the text of the strings that stand first, under these marks.
+pub(crate) fn take_strings(
     alloc: Global,
-    items: &[Item<'_>],
-    from: usize,
+    rest: &mut Rest<'_, '_>,
     marks: Marks,
     end: u32,
-) -> Result<(Vec<u8>, usize), PoError>
-    requires { from ≤ length items.now }
-    ensures found { IfOk result (λ p. IsStrings marks (items_from from items.now) p.0.items
-        (items_from p.1 items.now)) }
-    ensures within { IfOk result (λ p. p.1 ≤ length items.now) }
-    ensures further { IfOk result (λ p. from < p.1) }
-    ensures fault { IfErr result (IsStop (StringsStop end marks (items_from from items.now))) }
+) -> Result<Vec<u8>, PoError>
+    ensures found { IfOk result (λ text. IsStrings marks rest.old text.items rest.new) }
+    ensures fewer { OnOk result (length rest.new < length rest.old) }
+    ensures fault { IfErr result (IsStop (StringsStop end marks rest.old)) }
     ensures memory { IfErr result (λ e. e.kind ≡ PoFault.OutOfMemory → e.line ≡ 0) }
 {
     let mut text = Vec::new(alloc);
-    let mut at = from;
     loop {
-        let bytes = match string_at(items, at, marks) {
+        let bytes = match take_string(rest, marks) {
             Ok(bytes) => bytes,
-            Err(kind) => return Err(refusal(items, at, end, kind)),
+            Err(kind) => return Err(rest.refusal(end, kind)),
         };
         text.extend_from_slice(bytes)?;
-        at += 1;
-        if !begins_string(items, at) {
-            return Ok((text, at));
+        if !begins_string(rest) {
+            return Ok(text);
         }
     }
 }

@@ -1,4 +1,4 @@
-use Rattle.std.proofs.Common.{◌<◌, [], ◌∷◌, ◌++◌, ◌∙◌, ap, length, append_assoc, arith, inl, inr}
+use Rattle.std.proofs.Common.{[], ◌∷◌, ◌++◌, ◌∙◌, ap, append_assoc, arith, inl, inr}
 use Rattle.std.proofs.lemmas.Result.{err_from_is_err_and}
 use Rattle.std.proofs.lemmas.List.{append-nil, map_push}
 use Rattle.po_reader.specs.Reads.Reads.{comments, entry}
@@ -9,7 +9,6 @@ use Rattle.po_reader.specs.ReaderView.{body_view}
 use Rattle.po_reader.proofs.Kept.{kept_from}
 use Rattle.po_reader.specs.Stops.EntriesStop.{in_head, in_body, later}
 use Rattle.po_reader.proofs.HeadEnds.{head_over, over_cases, head_at_end}
-use Rattle.po_reader.proofs.Places.{none_at_end, some_before_end}
 use Rattle.po_reader.proofs.drafts.drafts_of.Goals as goal
 
 pub returns-in_err-head-clause-fault : goal.returns-in_err-head-clause-fault
@@ -17,18 +16,17 @@ returns-in_err-head-clause-fault c =
     let p = err_from_is_err_and c.from_residual.result c.from_residual.ensures.1 in
     rw (p.1, p.2) (λ other. c.loop-drafts.invariant.stops _ _ (in_head (c.in_err-head.ensures.fault other)))
 
-pub returns-then-own-items-clause-found : goal.returns-then-own-items-clause-found
-returns-then-own-items-clause-found c =
-    let ends = head_at_end c.in_ok-head.ensures.found.2 (none_at_end _ _ c.if-own-items.true) in
+pub returns-then-is_empty-clause-found : goal.returns-then-is_empty-clause-found
+returns-then-is_empty-clause-found c =
+    let ends = head_at_end c.in_ok-head.ensures.found.2 (rw c.if-is_empty.true at c.is_empty.ensures) in
     let spelt = c.loop-drafts.invariant.spelt in
     let whole = spelt.1 [] (comments ends.1) in
     (spelt.0, rw append-nil at whole, spelt.2)
 
-pub body_of-requires-clause-begins : goal.body_of-requires-clause-begins
-body_of-requires-clause-begins c =
+pub take_body-requires-clause-begins : goal.take_body-requires-clause-begins
+take_body-requires-clause-begins c =
     let stops = head_over c.in_ok-head.ensures.found.2 in
-    let below : c.in_ok-head.own < length c.args.items.now = omega (arith, c.in_ok-head.ensures.within, c.if-own-items.false) in
-    elim (over_cases stops.0 _ stops.1) [ inl none ↦ absurd (some_before_end _ _ below none) | inr begins ↦ begins ]
+    elim (over_cases stops.0 _ stops.1) [ inl none ↦ absurd ((rw c.if-is_empty.false at c.is_empty.ensures) none) | inr begins ↦ begins ]
 
 pub returns-in_err-body-clause-fault : goal.returns-in_err-body-clause-fault
 returns-in_err-body-clause-fault c =
@@ -49,5 +47,5 @@ loop-drafts-preserved c =
         rw (c.in_ok-push.ensures.items, map_push, map_push, made) (ap (λ es. es ++ kept_entry c.args.all first ∷ []) spelt.2),
       );
       stops = λ fault line h. c.loop-drafts.invariant.stops _ _ (later head.2 c.in_ok-body.ensures.found h);
-      within = c.in_ok-body.ensures.within;
+      fewer = omega (arith, c.in_ok-head.ensures.fewer, c.in_ok-body.ensures.fewer, c.loop-drafts.invariant.fewer);
     }

@@ -1,4 +1,4 @@
-use Rattle.std.proofs.Common.{◌≡◌, ℕ, List, ◌++◌, ◌-◌, ◌≤◌, drop, length, map}
+use Rattle.std.proofs.Common.{◌≡◌, ℕ, List, ◌++◌, ◌≤◌, length, map}
 use Rattle.po_syntax.specs.declared.fault.PoFault.{PoFault}
 use Rattle.po_syntax.specs.TextItem.{views}
 use Rattle.po_entry.specs.TextEntry.{TextEntry}
@@ -10,11 +10,11 @@ use Rattle.po_reader.proofs.drafts.drafts_of.Given as goal
 
 abbrev pub invariant-loop-drafts : goal.invariant-loop-drafts
 invariant-loop-drafts l = record {
-  spelt : (entries : List TextEntry) × ((more : List TextEntry) → Reads (views (drop l.at l.items)) more → Reads (views l.items) (entries ++ more))
+  spelt : (entries : List TextEntry) × ((more : List TextEntry) → Reads l.rest more → Reads (views l.items) (entries ++ more))
       × (map entry_view l.drafts.items ≡ map (kept_entry l.all) entries);
-  stops : (fault : PoFault) (line : ℕ) → EntriesStop l.end (views (drop l.at l.items)) fault line → EntriesStop l.end (views l.items) fault line;
-  within : l.at ≤ length l.items;
+  stops : (fault : PoFault) (line : ℕ) → EntriesStop l.end l.rest fault line → EntriesStop l.end (views l.items) fault line;
+  fewer : length l.rest ≤ length l.items;
 }
 
 abbrev pub decreases-loop-drafts : goal.decreases-loop-drafts
-decreases-loop-drafts l = length l.items - l.at
+decreases-loop-drafts l = length l.rest

@@ -1,14 +1,14 @@
 use Rattle.std.proofs.lemmas.Result.{err_from_is_err_and}
 use Rattle.po_reader.specs.Keywords.{keyword_text}
 use Rattle.po_reader.specs.Stops.KeywordTextStops.{refused, in_text}
-use Rattle.po_reader.proofs.keywords.wanted_keyword.Goals as goal
+use Rattle.po_reader.proofs.keywords.take_keyword_text.Goals as goal
 
 pub returns-clause-found : goal.returns-clause-found
 returns-clause-found c = keyword_text c.in-Ok.ensures.step c.in_ok-text.ensures.found
 
 pub returns-in-Err-clause-fault : goal.returns-in-Err-clause-fault
 returns-in-Err-clause-fault c =
-    λ other. rw c.refusal.ensures.kind (refused c.in-Err.ensures.step c.refusal.ensures.line)
+    λ other. rw c.refusal.ensures.kind (refused c.in-Err.ensures.step.0 (rw c.in-Err.ensures.step.1 at c.refusal.ensures.line))
 
 pub returns-in_err-text-clause-fault : goal.returns-in_err-text-clause-fault
 returns-in_err-text-clause-fault c =

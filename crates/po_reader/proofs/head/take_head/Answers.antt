@@ -1,4 +1,4 @@
-use Rattle.std.proofs.Common.{◌++◌, ◌∷◌, [], ◌∙◌, append_assoc, arith}
+use Rattle.std.proofs.Common.{refl, ◌++◌, ◌∷◌, [], ◌∙◌, append_assoc, arith}
 use Rattle.std.proofs.lemmas.Result.{err_from_is_err_and}
 use Rattle.std.proofs.lemmas.List.{append-nil}
 use Rattle.po_entry.specs.Parts.{CommentText, PreviousText}
@@ -7,32 +7,32 @@ use Rattle.po_reader.specs.Stops.HeadStops.{refused, in_previous, after_comment,
 use Rattle.po_reader.specs.KeptComments.{kept_comments}
 use Rattle.po_reader.proofs.Heads.{holds_nothing, holds_previous}
 use Rattle.po_reader.proofs.Kept.{kept_nothing}
-use Rattle.po_reader.proofs.head.head_of.Goals as goal
+use Rattle.po_reader.proofs.head.take_head.Goals as goal
 
 pub loop-kind-init : goal.loop-kind-init
 loop-kind-init c = record {
   spelt = ([], [], rw (kept_nothing c.args.all) (holds_nothing _ c.new.ensures.items c.new-2.ensures.items c.new-3.ensures.items c.new-4.ensures.items c.none.ensures), λ more others rest h. h);
   stops = λ fault line h. h;
-  within = c.requires;
-  after = omega arith;
+  fewer = omega arith;
 }
 
 pub returns-in-Err-clause-fault : goal.returns-in-Err-clause-fault
 returns-in-Err-clause-fault c =
-    λ other. rw c.refusal.ensures.kind (c.loop-kind.invariant.stops _ _ (refused c.in-Err.ensures.step c.refusal.ensures.line))
+    λ other. rw c.refusal.ensures.kind (c.loop-kind.invariant.stops _ _ (refused c.in-Err.ensures.step.0 (rw c.in-Err.ensures.step.1 at c.refusal.ensures.line)))
 
 pub returns-in-Ok-Over-clause-found : goal.returns-in-Ok-Over-clause-found
 returns-in-Ok-Over-clause-found c =
     let spelt = c.loop-kind.invariant.spelt in
     let step = rw c.in-Ok-Over.field-0-is at c.in-Ok-Over.ensures.step in
+    let kept = rw c.in-Ok-Over.field-0-is at c.in-Ok-Over.ensures.kept in
     let whole = spelt.3 [] [] _ (over step) in
-    (spelt.0, spelt.1, rw (append-nil, append-nil) at whole, spelt.2)
+    (spelt.0, spelt.1, rw (kept refl) (rw (append-nil, append-nil) at whole), spelt.2)
 
-pub loop-kind-preserved-in-Ok-HeadComment : goal.loop-kind-preserved-in-Ok-HeadComment
-loop-kind-preserved-in-Ok-HeadComment c =
+pub loop-kind-preserved-in-Continue-1 : goal.loop-kind-preserved-in-Continue-1
+loop-kind-preserved-in-Continue-1 c =
     let spelt = c.loop-kind.invariant.spelt in
     let step = rw c.in-Ok-HeadComment.field-0-is at c.in-Ok-HeadComment.ensures.step in
-    let within = rw c.in-Ok-HeadComment.field-0-is at c.in-Ok-HeadComment.ensures.within in
+    let fewer = rw c.in-Ok-HeadComment.field-0-is at c.in-Ok-HeadComment.ensures.fewer in
     let comment_text : CommentText = record { kind = c.in-Ok-HeadComment.kind; text = c.in-Ok-HeadComment.text.now } in
     record {
       spelt = (
@@ -42,8 +42,7 @@ loop-kind-preserved-in-Ok-HeadComment c =
         λ more others rest h. rw append_assoc (spelt.3 (comment_text ∷ more) others rest (head_comment step h)),
       );
       stops = λ fault line h. c.loop-kind.invariant.stops _ _ (after_comment step h);
-      within = omega (arith, within (λ e. cc));
-      after = omega arith;
+      fewer = omega (arith, fewer (λ e. cc), c.loop-kind.invariant.fewer);
     }
 
 pub returns-in_err-text-in-Ok-Previous-clause-fault : goal.returns-in_err-text-in-Ok-Previous-clause-fault
@@ -66,6 +65,5 @@ loop-kind-preserved c =
         λ more others rest h. rw append_assoc (spelt.3 more (text ∷ others) rest (previous step strings (rw c.rank-above.ensures at h))),
       );
       stops = λ fault line h. c.loop-kind.invariant.stops _ _ (after_previous step strings (rw c.rank-above.ensures at h));
-      within = c.in_ok-text-in-Ok-Previous.ensures.within;
-      after = omega (arith, c.in_ok-text-in-Ok-Previous.ensures.further);
+      fewer = omega (arith, c.in_ok-text-in-Ok-Previous.ensures.fewer, (rw c.in-Ok-Previous.field-0-is at c.in-Ok-Previous.ensures.fewer) (λ e. cc), c.loop-kind.invariant.fewer);
     }

@@ -1,7 +1,7 @@
 use Rattle.std.proofs.Common.{sym, ◌∙◌, append_assoc, arith}
 use Rattle.po_reader.specs.Strings.IsStrings.{last, more}
 use Rattle.po_reader.specs.Stops.StringsStop.{refused, later}
-use Rattle.po_reader.proofs.strings.strings_of.Goals as goal
+use Rattle.po_reader.proofs.strings.take_strings.Goals as goal
 
 pub loop-bytes-preserved : goal.loop-bytes-preserved
 loop-bytes-preserved c =
@@ -10,8 +10,7 @@ loop-bytes-preserved c =
     record {
       spelt = λ others rest h. rw (added, append_assoc) (c.loop-bytes.invariant.spelt _ _ (more c.in-Ok.ensures.step goes_on h));
       stops = λ fault line h. c.loop-bytes.invariant.stops _ _ (later c.in-Ok.ensures.step goes_on h);
-      within = omega (arith, c.in-Ok.ensures.within);
-      further = omega arith;
+      fewer = omega (arith, c.in-Ok.ensures.fewer, c.loop-bytes.invariant.fewer);
     }
 
 pub returns-then-not-begins_string-clause-found : goal.returns-then-not-begins_string-clause-found
@@ -21,4 +20,4 @@ returns-then-not-begins_string-clause-found c =
 
 pub returns-in-Err-clause-fault : goal.returns-in-Err-clause-fault
 returns-in-Err-clause-fault c =
-    λ other. rw c.refusal.ensures.kind (c.loop-bytes.invariant.stops _ _ (refused c.in-Err.ensures.step c.refusal.ensures.line))
+    λ other. rw c.refusal.ensures.kind (c.loop-bytes.invariant.stops _ _ (refused c.in-Err.ensures.step.0 (rw c.in-Err.ensures.step.1 at c.refusal.ensures.line)))

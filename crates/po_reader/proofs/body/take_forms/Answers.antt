@@ -3,7 +3,7 @@ use Rattle.std.proofs.lemmas.Result.{err_from_is_err_and}
 use Rattle.std.proofs.lemmas.List.{map_push}
 use Rattle.po_reader.specs.Body.IsForms.{last, more}
 use Rattle.po_reader.specs.Stops.FormsStop.{here, later}
-use Rattle.po_reader.proofs.body.forms_of.Goals as goal
+use Rattle.po_reader.proofs.body.take_forms.Goals as goal
 
 pub loop-forms-preserved : goal.loop-forms-preserved
 loop-forms-preserved c =
@@ -12,8 +12,7 @@ loop-forms-preserved c =
     record {
       spelt = λ others rest h. rw (added, map_push, append_assoc) (c.loop-forms.invariant.spelt _ _ (more c.in_ok-form.ensures.found goes_on h));
       stops = λ fault line h. c.loop-forms.invariant.stops _ _ (later c.in_ok-form.ensures.found goes_on h);
-      within = c.in_ok-form.ensures.within;
-      further = omega (arith, c.in_ok-form.ensures.further);
+      fewer = omega (arith, c.in_ok-form.ensures.fewer);
     }
 
 pub returns-then-not-begins_form-clause-found : goal.returns-then-not-begins_form-clause-found

@@ -2,7 +2,7 @@ use Rattle.std.proofs.lemmas.Result.{err_from_is_err_and}
 use Rattle.po_reader.proofs.TakenKeywords.{translation_alone}
 use Rattle.po_reader.specs.Body.IsTranslation.{single, plural}
 use Rattle.po_reader.specs.Stops.TranslationStops.{here, in_forms}
-use Rattle.po_reader.proofs.body.translation_of.Goals as goal
+use Rattle.po_reader.proofs.body.take_translation.Goals as goal
 
 pub returns-in_err-first-clause-fault : goal.returns-in_err-first-clause-fault
 returns-in_err-first-clause-fault c =
@@ -23,8 +23,7 @@ returns-in-MsgIdPlural-clause-found c =
 pub returns : goal.returns
 returns c = record {
   found = rw (c.in_ok-push.ensures.items, c.in_ok-forms-2.ensures.items) (single (translation_alone c.in_ok-first.ensures.found c.in_default.not-MsgIdPlural));
-  within = c.in_ok-first.ensures.within;
-  further = c.in_ok-first.ensures.further;
+  fewer = c.in_ok-first.ensures.fewer;
   fault = tt;
   memory = tt;
 }
