@@ -1,5 +1,5 @@
 -- Every byte string is a valid file or has a first fault, and one first fault at most.
-use Rattle.std.proofs.Common.{◌≡◌, ◌≢◌, ◌⊎◌, ℕ, zero, suc, ◌+◌, ◌-◌, ◌*◌, ◌/◌, ◌<◌, ◌==◌, Bool, true, false, List, [], ◌∷◌, Option, None, Some, length, take, slice_get, cond, refl, sym, ◌∙◌, ap, subst, arith, inl, inr, ⊎_elim}
+use Rattle.std.proofs.Common.{◌≡◌, ◌≢◌, ◌⊎◌, ℕ, zero, suc, ◌+◌, ◌-◌, ◌*◌, ◌/◌, ◌<◌, ◌==◌, List, [], ◌∷◌, Option, None, Some, length, take, slice_get, cond, refl, sym, ◌∙◌, ap, subst, arith, inl, inr, ⊎_elim}
 use Rattle.std.proofs.lemmas.Bool.{cases_lt, cases_order}
 use Rattle.std.specs.declared.cmp.Ordering.{Ordering}
 use Rattle.std.specs.declared.cmp.Ordering.TheVariants.{Less, Equal, Greater}
@@ -12,7 +12,7 @@ use Rattle.mo_file.specs.StringTable.{end_at, original_at, messages_of}
 use Rattle.mo_file.specs.Key.{key_of, key_cmp}
 use Rattle.mo_file.specs.Message.{Message}
 use Rattle.mo_file.specs.Catalog.{IsCatalog}
-use Rattle.mo_file.specs.Fault.{HasFault, HasFaultIn, IsBefore, IsFirstFault, IsOutside, IsUnterminated, IsUnsorted, kind, index}
+use Rattle.mo_file.specs.Fault.{HasFault, HasFaultIn, IsFirstFault, IsOutside, IsUnterminated, IsUnsorted, kind, index}
 use Rattle.mo_file.proofs.FaultLemmas.{HasFaultIn-shown}
 
 -- a fact holds or it doesn't

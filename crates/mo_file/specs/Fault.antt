@@ -80,11 +80,11 @@ pub record IsFirstFault (bytes : List ℕ) (e : MoError) : Type 0 where
   pub first : (f : MoError) → IsBefore f e → ¬ HasFault bytes f
 
 -- the comparisons of neighbouring keys that come before a fault is found
-abbrev pub looks_before : MoError → ℕ
-looks_before TooShort = 0
-looks_before BadMagic = 0
-looks_before BadRevision = 0
-looks_before TableOutside = 0
-looks_before (StringOutside i) = 0
-looks_before (NoTerminator i) = 0
-looks_before (NotSorted i) = i
+abbrev pub comparisons_before : MoError → ℕ
+comparisons_before TooShort = 0
+comparisons_before BadMagic = 0
+comparisons_before BadRevision = 0
+comparisons_before TableOutside = 0
+comparisons_before (StringOutside i) = 0
+comparisons_before (NoTerminator i) = 0
+comparisons_before (NotSorted i) = i

@@ -23,7 +23,7 @@ pub(crate) fn agreement_len(stop: u8, first: &[u8], second: &[u8]) -> usize
     }
 }
 
-/// The same of texts that may agree for long, as the rests of a file do.
+/// In how many bytes two texts agree that may agree for long, as the rests of a file do.
 #[inline(always)]
 pub(crate) fn long_agreement_len(stop: u8, first: &[u8], second: &[u8]) -> usize
     ensures { IsAgreement stop first.now second.now result }
@@ -36,7 +36,8 @@ pub(crate) fn long_agreement_len(stop: u8, first: &[u8], second: &[u8]) -> usize
     }
 }
 
-/// The same, by `LANES` bytes at a time: the last of them may be such as were compared before.
+/// In how many of their first `len` bytes two texts agree, compared `LANES` at a time: the last of these may be
+/// such as were compared before.
 #[inline(always)]
 fn agreement_within<const LANES: usize>(stop: u8, first: &[u8], second: &[u8], len: usize) -> usize
     requires lanes { (0 < LANES) × (LANES ≤ 64) }

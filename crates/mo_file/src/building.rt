@@ -99,7 +99,7 @@ fn layout_len(pairs: &[Pair]) -> u64
     len
 }
 
-/// The same of pairs that are lent.
+/// The length of the file of lent pairs, in either byte order, or 2^64 - 1 where it is longer.
 fn lent_len(pairs: &[LentPair<'_>]) -> u64
     ensures { (order : Order)
         → result ≡ min (length (layout order (messages_of_lent pairs.now))) (2 ^ 64 - 1) }

@@ -1,5 +1,5 @@
 ghost use Rattle.std.specs.Prelude.{◌≡◌, ◌+◌, ◌-◌, ◌^◌, ◌<◌, ◌↔◌, Some, IfErr, IsTrue, MatchResult, slice_get};
-ghost use Rattle.mo_file.specs.Fault.{IsFirstFault, looks_before};
+ghost use Rattle.mo_file.specs.Fault.{IsFirstFault, comparisons_before};
 ghost use Rattle.mo_file.specs.Checking.{HasStrings, IsHeader, IsSortedBelow};
 
 use crate::counting::Meter;
@@ -14,7 +14,7 @@ pub(crate) fn check_strings(header: Header, bytes: &[u8]) -> Result<(), MoError>
     ensures exact { MatchResult result
         (λ _. HasStrings header.order bytes.now)
         (IsFirstFault bytes.now) }
-    ensures no_look { IfErr result (λ e. looks_before e ≡ 0) }
+    ensures no_comparison { IfErr result (λ e. comparisons_before e ≡ 0) }
 {
     let mut unterminated = None;
     for i in 0..header.count {
@@ -51,7 +51,7 @@ pub(crate) fn check_order(header: Header, bytes: &[u8], meter: &mut Meter) -> Re
         (IsFirstFault bytes.now) }
     ensures cost { MatchResult result
         (λ _. meter.new ≡ meter.old + (header.count - 1))
-        (λ e. meter.new ≡ meter.old + looks_before e) }
+        (λ e. meter.new ≡ meter.old + comparisons_before e) }
 {
     if header.count == 0 {
         return Ok(());

@@ -1,7 +1,7 @@
 ghost use Rattle.std.specs.Prelude.{◌≡◌, List, IfErr, MatchResult};
 ghost use Rattle.mo_file.specs.declared.byte_order.Order.{Order};
 ghost use Rattle.mo_file.specs.Catalog.{IsCatalog};
-ghost use Rattle.mo_file.specs.Fault.{IsFirstFault, looks_before};
+ghost use Rattle.mo_file.specs.Fault.{IsFirstFault, comparisons_before};
 ghost use Rattle.mo_file.specs.Message.{Message};
 ghost use Rattle.mo_file.specs.Checking.{IsChecked, IsHeader};
 
@@ -32,7 +32,7 @@ impl Header {
         ensures exact { MatchResult result
             (λ header. IsHeader header bytes.now)
             (IsFirstFault bytes.now) }
-        ensures no_look { IfErr result (λ e. looks_before e ≡ 0) }
+        ensures no_comparison { IfErr result (λ e. comparisons_before e ≡ 0) }
     {
         if bytes.len() < HEADER_LEN as usize {
             return Err(MoError::TooShort);

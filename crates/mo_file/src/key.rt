@@ -40,7 +40,7 @@ pub fn compare_key(original: &[u8], context: Option<&[u8]>, id: &[u8]) -> Orderi
     }
 }
 
-/// The same for a query without a context.
+/// Where the key of an original stands against that of a query without a context.
 #[inline(always)]
 fn compare_id(original: &[u8], id: &[u8]) -> Ordering
     ensures { result ≡ key_cmp (key_of original.now) id.now }

@@ -2,7 +2,7 @@ ghost use Rattle.std.specs.Prelude.{◌≡◌, ◌+◌, ◌-◌, ◌^◌, ◌<�
 ghost use Rattle.std.specs.Option.{option_copied};
 ghost use Rattle.mo_file.specs.declared.byte_order.Order.{Order};
 ghost use Rattle.mo_file.specs.Catalog.{IsCatalog};
-ghost use Rattle.mo_file.specs.Fault.{IsFirstFault, looks_before};
+ghost use Rattle.mo_file.specs.Fault.{IsFirstFault, comparisons_before};
 ghost use Rattle.mo_file.specs.Key.{AreRising, key_at, key_cmp, keys, query_key};
 ghost use Rattle.mo_file.specs.Message.{Message, originals, translations};
 
@@ -53,7 +53,7 @@ impl<'a> MoView<'a> {
             → IsCatalog order bytes.now messages → IsOk result }
         ensures cost { MatchResult result
             (λ messages. meter.new ≡ meter.old + (length messages - 1))
-            (λ e. meter.new ≡ meter.old + looks_before e) }
+            (λ e. meter.new ≡ meter.old + comparisons_before e) }
     {
         let header = Header::read(bytes)?;
         check_strings(header, bytes)?;

@@ -8,7 +8,7 @@ ghost use Rattle.mo_file.specs.declared.byte_order.Order.{Order};
 ghost use Rattle.mo_file.specs.Message.{Message};
 ghost use Rattle.mo_file.specs.Key.{AreRising, keys, query_key};
 ghost use Rattle.mo_file.specs.Catalog.{IsCatalog};
-ghost use Rattle.mo_file.specs.Fault.{IsFirstFault, looks_before};
+ghost use Rattle.mo_file.specs.Fault.{IsFirstFault, comparisons_before};
 ghost use Rattle.mo_lookup.specs.Bound.{search_bound};
 ghost use Rattle.mo_lookup.specs.Comparisons.{comparisons, query_comparisons};
 ghost use Rattle.mo_lookup.specs.Query.{query, given, is_clean_key};
@@ -77,7 +77,7 @@ impl<'a> Catalog<'a> {
         ensures only { (order : Order) (messages : List Message) → IsCatalog order bytes.now messages → IsOk result }
         ensures contents { IfOk result (λ catalog. AreContents catalog.messages catalog.rule) }
         ensures cost { MatchResult result (λ catalog. meter.new ≤ meter.old + length catalog.messages)
-            (λ fault. meter.new ≤ meter.old + looks_before fault) }
+            (λ fault. meter.new ≤ meter.old + comparisons_before fault) }
         ensures rises { meter.old ≤ meter.new }
     {
         let view = MoView::open(bytes, meter)?;
