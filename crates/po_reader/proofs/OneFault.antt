@@ -31,43 +31,43 @@ charset_stop_once (fault.CharsetStops.later r s) (fault.CharsetStops.later q t) 
 
 pub text_fault_once : ((text : List ℕ) (items others : List TextItem) → SpellsText text items → SpellsText text others → items ≡ others)
     → ((text : List ℕ) (items : List TextItem) (kind : PoFault) (line : ℕ) → SpellsText text items → TextFault text kind line → ⊥)
-    → ((text : List ℕ) (kind other : PoFault) (line index : ℕ) → TextFault text kind line → TextFault text other index → (kind ≡ other) × (line ≡ index))
-    → (text : List ℕ) (kind other : PoFault) (line index : ℕ) → fault.IsReadFault text kind line → fault.IsReadFault text other index → (kind ≡ other) × (line ≡ index)
-text_fault_once items_once no_fault fault_once text kind other line index (fault.in_text f) (fault.in_text g) = fault_once text kind other line index f g
-text_fault_once items_once no_fault fault_once text kind other line index (fault.in_text f) (fault.in_items {items = items} s t) = absurd (no_fault text items kind line s f)
-text_fault_once items_once no_fault fault_once text kind other line index (fault.in_text f) (fault.in_texts {items = items} s r t) = absurd (no_fault text items kind line s f)
-text_fault_once items_once no_fault fault_once text kind other line index (fault.in_text f) (fault.in_charset {items = items} s r u t) = absurd (no_fault text items kind line s f)
-text_fault_once items_once no_fault fault_once text kind other line index (fault.in_items {items = items} s t) (fault.in_text g) = absurd (no_fault text items other index s g)
-text_fault_once items_once no_fault fault_once text kind other line index (fault.in_texts {items = items} s r t) (fault.in_text g) = absurd (no_fault text items other index s g)
-text_fault_once items_once no_fault fault_once text kind other line index (fault.in_charset {items = items} s r u t) (fault.in_text g) = absurd (no_fault text items other index s g)
-text_fault_once items_once no_fault fault_once text kind other line index (fault.in_items {items = items} s t) (fault.in_items {items = others} k v) =
+    → ((text : List ℕ) (kind other : PoFault) (line other_line : ℕ) → TextFault text kind line → TextFault text other other_line → (kind ≡ other) × (line ≡ other_line))
+    → (text : List ℕ) (kind other : PoFault) (line other_line : ℕ) → fault.IsReadFault text kind line → fault.IsReadFault text other other_line → (kind ≡ other) × (line ≡ other_line)
+text_fault_once items_once no_fault fault_once text kind other line other_line (fault.in_text f) (fault.in_text g) = fault_once text kind other line other_line f g
+text_fault_once items_once no_fault fault_once text kind other line other_line (fault.in_text f) (fault.in_items {items = items} s t) = absurd (no_fault text items kind line s f)
+text_fault_once items_once no_fault fault_once text kind other line other_line (fault.in_text f) (fault.in_texts {items = items} s r t) = absurd (no_fault text items kind line s f)
+text_fault_once items_once no_fault fault_once text kind other line other_line (fault.in_text f) (fault.in_charset {items = items} s r u t) = absurd (no_fault text items kind line s f)
+text_fault_once items_once no_fault fault_once text kind other line other_line (fault.in_items {items = items} s t) (fault.in_text g) = absurd (no_fault text items other other_line s g)
+text_fault_once items_once no_fault fault_once text kind other line other_line (fault.in_texts {items = items} s r t) (fault.in_text g) = absurd (no_fault text items other other_line s g)
+text_fault_once items_once no_fault fault_once text kind other line other_line (fault.in_charset {items = items} s r u t) (fault.in_text g) = absurd (no_fault text items other other_line s g)
+text_fault_once items_once no_fault fault_once text kind other line other_line (fault.in_items {items = items} s t) (fault.in_items {items = others} k v) =
     let same = items_once text items others s k in
-    items_fault_once t (subst (λ (i : List TextItem). ItemsFault i other index) (sym same) v)
-text_fault_once items_once no_fault fault_once text kind other line index (fault.in_items {items = items} s t) (fault.in_texts {items = others} {entries = entries} k r v) =
-    let same = items_once text items others s k in
-    absurd (fault_unread t (subst (λ (i : List TextItem). SpellsEntries i entries) (sym same) r))
-text_fault_once items_once no_fault fault_once text kind other line index (fault.in_items {items = items} s t) (fault.in_charset {items = others} {entries = entries} k r u v) =
+    items_fault_once t (subst (λ (i : List TextItem). ItemsFault i other other_line) (sym same) v)
+text_fault_once items_once no_fault fault_once text kind other line other_line (fault.in_items {items = items} s t) (fault.in_texts {items = others} {entries = entries} k r v) =
     let same = items_once text items others s k in
     absurd (fault_unread t (subst (λ (i : List TextItem). SpellsEntries i entries) (sym same) r))
-text_fault_once items_once no_fault fault_once text kind other line index (fault.in_texts {items = items} {entries = entries} s r t) (fault.in_items {items = others} k v) =
+text_fault_once items_once no_fault fault_once text kind other line other_line (fault.in_items {items = items} s t) (fault.in_charset {items = others} {entries = entries} k r u v) =
+    let same = items_once text items others s k in
+    absurd (fault_unread t (subst (λ (i : List TextItem). SpellsEntries i entries) (sym same) r))
+text_fault_once items_once no_fault fault_once text kind other line other_line (fault.in_texts {items = items} {entries = entries} s r t) (fault.in_items {items = others} k v) =
     let same = items_once text items others s k in
     absurd (fault_unread v (subst (λ (i : List TextItem). SpellsEntries i entries) same r))
-text_fault_once items_once no_fault fault_once text kind other line index (fault.in_charset {items = items} {entries = entries} s r u t) (fault.in_items {items = others} k v) =
+text_fault_once items_once no_fault fault_once text kind other line other_line (fault.in_charset {items = items} {entries = entries} s r u t) (fault.in_items {items = others} k v) =
     let same = items_once text items others s k in
     absurd (fault_unread v (subst (λ (i : List TextItem). SpellsEntries i entries) same r))
-text_fault_once items_once no_fault fault_once text kind other line index (fault.in_texts {items = items} {entries = entries} s r t) (fault.in_texts {items = others} {entries = again} k q v) =
+text_fault_once items_once no_fault fault_once text kind other line other_line (fault.in_texts {items = items} {entries = entries} s r t) (fault.in_texts {items = others} {entries = again} k q v) =
     let same = items_once text items others s k in
     let read = spelt_once r (subst (λ (i : List TextItem). SpellsEntries i again) (sym same) q) in
-    texts_stop_once t (subst (λ (e : List TextEntry). fault.TextsStop e other index) (sym read) v)
-text_fault_once items_once no_fault fault_once text kind other line index (fault.in_texts {items = items} {entries = entries} s r t) (fault.in_charset {items = others} {entries = again} k q u v) =
+    texts_stop_once t (subst (λ (e : List TextEntry). fault.TextsStop e other other_line) (sym read) v)
+text_fault_once items_once no_fault fault_once text kind other line other_line (fault.in_texts {items = items} {entries = entries} s r t) (fault.in_charset {items = others} {entries = again} k q u v) =
     let same = items_once text items others s k in
     let read = spelt_once r (subst (λ (i : List TextItem). SpellsEntries i again) (sym same) q) in
     absurd (texts_go_on t (subst (All HasTexts) (sym read) u))
-text_fault_once items_once no_fault fault_once text kind other line index (fault.in_charset {items = items} {entries = entries} s r u t) (fault.in_texts {items = others} {entries = again} k q v) =
+text_fault_once items_once no_fault fault_once text kind other line other_line (fault.in_charset {items = items} {entries = entries} s r u t) (fault.in_texts {items = others} {entries = again} k q v) =
     let same = items_once text items others s k in
     let read = spelt_once r (subst (λ (i : List TextItem). SpellsEntries i again) (sym same) q) in
     absurd (texts_go_on v (subst (All HasTexts) read u))
-text_fault_once items_once no_fault fault_once text kind other line index (fault.in_charset {items = items} {entries = entries} s r u t) (fault.in_charset {items = others} {entries = again} k q w v) =
+text_fault_once items_once no_fault fault_once text kind other line other_line (fault.in_charset {items = items} {entries = entries} s r u t) (fault.in_charset {items = others} {entries = again} k q w v) =
     let same = items_once text items others s k in
     let read = spelt_once r (subst (λ (i : List TextItem). SpellsEntries i again) (sym same) q) in
-    (refl, charset_stop_once t (subst (λ (e : List TextEntry). fault.CharsetStops e index) (sym read) v))
+    (refl, charset_stop_once t (subst (λ (e : List TextEntry). fault.CharsetStops e other_line) (sym read) v))

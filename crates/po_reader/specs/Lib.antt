@@ -12,4 +12,4 @@ pub mod KeptComments
 pub mod ItemsRead
 pub mod PieceRead
 pub mod Refusals
-pub mod MetFlags
+pub mod SeenFlags

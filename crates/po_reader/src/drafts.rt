@@ -65,18 +65,18 @@ pub(crate) fn drafts_of(
     alloc: Global,
     items: &[Item<'_>],
     end: u32,
-    all: bool,
+    with_comments: bool,
 ) -> Result<Vec<Fields>, PoError>
     requires { length items.now < 2 ^ 32 }
     ensures found { IfOk result (λ drafts. (entries : List TextEntry) × Reads (views items.now) entries
-        × (map entry_view drafts.items ≡ map (kept_entry all) entries)) }
+        × (map entry_view drafts.items ≡ map (kept_entry with_comments) entries)) }
     ensures fault { IfErr result (IsStop (EntriesStop end (views items.now))) }
     ensures memory { IfErr result (λ e. e.kind ≡ PoFault.OutOfMemory → e.line ≡ 0) }
 {
     let mut drafts = Vec::new(alloc);
     let mut rest = Rest::of(items);
     loop {
-        let head = take_head(alloc, &mut rest, end, all)?;
+        let head = take_head(alloc, &mut rest, end, with_comments)?;
         if rest.is_empty() {
             return Ok(drafts);
         }

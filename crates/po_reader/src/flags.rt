@@ -29,18 +29,18 @@ fn has_fuzzy(elements: &[Vec<u8>]) -> bool
     elements.iter().any(|flag| is_fuzzy_flag(flag))
 }
 
-/// The flags other than `fuzzy`, each where it first stands. A tree finds the flags that were met,
+/// The flags other than `fuzzy`, each where it first stands. A tree finds the flags seen before,
 /// so that no choice of flags makes this slow.
 fn others(alloc: Global, elements: &[Vec<u8>]) -> Result<Vec<Vec<u8>>, AllocError>
     ensures { IfOk result (λ kept. texts kept.items ≡ fold with_flag [] (texts elements.now)) }
 {
-    let mut met = BTreeSet::new(alloc);
+    let mut seen = BTreeSet::new(alloc);
     let mut kept = Vec::new(alloc);
     for flag in elements {
         if is_fuzzy_flag(flag) {
             continue;
         }
-        if !met.insert(flag.as_slice())? {
+        if !seen.insert(flag.as_slice())? {
             continue;
         }
         kept.push(flag.as_slice().to_vec(alloc)?)?;

@@ -94,27 +94,27 @@ fn take_step<'i>(rest: &mut Rest<'i, '_>, above: u32) -> Result<Step<'i>, PoFaul
 }
 
 /// Whether comments of a kind are wanted: all are, or only flags.
-fn is_kept(all: bool, kind: CommentKind) -> bool
-    ensures { result ≡ (all || same_kind Flags kind) }
+fn is_kept(with_comments: bool, kind: CommentKind) -> bool
+    ensures { result ≡ (with_comments || same_kind Flags kind) }
 {
-    all || matches!(kind, CommentKind::Flags)
+    with_comments || matches!(kind, CommentKind::Flags)
 }
 
 /// Adds a comment to the fields of its kind, where it is wanted.
 fn add_comment(
     alloc: Global,
     head: &mut Head,
-    all: bool,
+    with_comments: bool,
     kind: CommentKind,
     text: &[u8],
 ) -> Result<(), AllocError>
     ensures comment_texts { OnOk result ((comment_texts : List CommentText)
-        → HoldsComments head.old (kept_comments all comment_texts)
-        → HoldsComments head.new (kept_comments all (comment_texts
+        → HoldsComments head.old (kept_comments with_comments comment_texts)
+        → HoldsComments head.new (kept_comments with_comments (comment_texts
         ++ (record { kind = kind; text = text.now }) ∷ []))) }
     ensures previous { OnOk result (head.new.previous ≡ head.old.previous) }
 {
-    if is_kept(all, kind) {
+    if is_kept(with_comments, kind) {
         add_kept_comment(alloc, head, kind, text)?;
     }
     Ok(())
@@ -158,11 +158,11 @@ pub(crate) fn take_head(
     alloc: Global,
     rest: &mut Rest<'_, '_>,
     end: u32,
-    all: bool,
+    with_comments: bool,
 ) -> Result<Head, PoError>
     ensures found { IfOk result (λ head. (comment_texts : List CommentText) × (previous : List PreviousText)
         × IsHead 0 rest.old comment_texts previous rest.new
-        × HoldsHead head (kept_comments all comment_texts) previous) }
+        × HoldsHead head (kept_comments with_comments comment_texts) previous) }
     ensures fewer { OnOk result (length rest.new ≤ length rest.old) }
     ensures fault { IfErr result (IsStop (HeadStops end 0 rest.old)) }
     ensures memory { IfErr result (λ e. e.kind ≡ PoFault.OutOfMemory → e.line ≡ 0) }
@@ -180,7 +180,7 @@ pub(crate) fn take_head(
             Err(kind) => return Err(rest.refusal(end, kind)),
             Ok(Step::Over) => return Ok(head),
             Ok(Step::HeadComment(kind, text)) => {
-                add_comment(alloc, &mut head, all, kind, text)?;
+                add_comment(alloc, &mut head, with_comments, kind, text)?;
             }
             Ok(Step::Previous(keyword, marks)) => {
                 let text = take_strings(alloc, rest, marks, end)?;

@@ -31,28 +31,33 @@ pub(crate) fn catalogue_of_items(alloc: Global, items: Vec<Item<'_>>) -> Result<
 pub(crate) fn last_entries_of(
     alloc: Global,
     items: Vec<Item<'_>>,
-    all: bool,
+    with_comments: bool,
 ) -> Result<Catalogue, PoError>
     requires hold { All HoldsText (views items.items) }
     requires few { vec_len items ≤ 2 ^ 31 }
-    ensures found { IfOk result (KeepsItems all (views items.entry.items)) }
+    ensures found { IfOk result (KeepsItems with_comments (views items.entry.items)) }
     ensures fault { IfErr result (IsStop (ItemsStop (views items.entry.items))) }
     ensures memory { IfErr result (λ e. e.kind ≡ PoFault.OutOfMemory → e.line ≡ 0) }
 {
-    let drafts = drafts_of(alloc, &items, last_line(&items), all)?;
+    let drafts = drafts_of(alloc, &items, last_line(&items), with_comments)?;
     drop(items);
     check_drafts(&drafts)?;
     catalogue_of(alloc, drafts)
 }
 
-/// The same of items that are kept, and whose fault is not asked for.
-pub(crate) fn entries_of(alloc: Global, items: &[Item<'_>], all: bool) -> Result<Catalogue, PoError>
+/// The entries that items spell, with their comments and references or without. The items stay, to be read with
+/// those after them where they spell none, so no fault is told apart from another.
+pub(crate) fn entries_of(
+    alloc: Global,
+    items: &[Item<'_>],
+    with_comments: bool,
+) -> Result<Catalogue, PoError>
     requires hold { All HoldsText (views items.now) }
     requires few { length items.now ≤ 2 ^ 31 }
-    ensures found { IfOk result (KeepsItems all (views items.now)) }
+    ensures found { IfOk result (KeepsItems with_comments (views items.now)) }
     ensures memory { IfErr result (λ e. e.kind ≡ PoFault.OutOfMemory → e.line ≡ 0) }
 {
-    let drafts = drafts_of(alloc, items, 0, all)?;
+    let drafts = drafts_of(alloc, items, 0, with_comments)?;
     check_drafts(&drafts)?;
     catalogue_of(alloc, drafts)
 }

@@ -87,22 +87,22 @@ fn next_entries(
     alloc: Global,
     pieces: &mut Pieces<'_>,
     size: usize,
-    all: bool,
+    with_comments: bool,
 ) -> Result<Catalogue, Refusal>
-    ensures found { IfOk result (KeepsReading all pieces.old pieces.new) }
+    ensures found { IfOk result (KeepsReading with_comments pieces.old pieces.new) }
     ensures faults { OnOk result (FaultsStay pieces.old pieces.new) }
     ensures fewer { OnOk result (IsShorter pieces.old pieces.new) }
     ensures fault { IfErr result (IsLeftRefusal pieces.old) }
 {
     let items = pieces.next(alloc, size)?;
     if pieces.are_over() {
-        return last_entries(alloc, items, all);
+        return last_entries(alloc, items, with_comments);
     }
-    match entries_of(alloc, &items, all) {
+    match entries_of(alloc, &items, with_comments) {
         Ok(entries) => Ok(entries),
         Err(error) => match error.kind {
             PoFault::OutOfMemory => Err(Refusal::Fault(error)),
-            _ => rest_entries(alloc, pieces, items, all),
+            _ => rest_entries(alloc, pieces, items, with_comments),
         },
     }
 }
@@ -112,11 +112,11 @@ fn rest_entries<'a>(
     alloc: Global,
     pieces: &mut Pieces<'a>,
     mut items: Vec<Item<'a>>,
-    all: bool,
+    with_comments: bool,
 ) -> Result<Catalogue, Refusal>
     requires hold { All HoldsText (views items.items) }
     requires few { vec_len items ≤ 2 ^ 31 }
-    ensures found { IfOk result (KeepsRest all pieces.old pieces.new (views items.entry.items)) }
+    ensures found { IfOk result (KeepsRest with_comments pieces.old pieces.new (views items.entry.items)) }
     ensures over { OnOk result (pieces.new.lines ≡ []) }
     ensures fault { IfErr result (IsRestRefusal pieces.old (views items.entry.items)) }
 {
@@ -126,18 +126,22 @@ fn rest_entries<'a>(
         return Err(Refusal::Whole);
     }
     items.append(&mut rest)?;
-    last_entries(alloc, items, all)
+    last_entries(alloc, items, with_comments)
 }
 
 /// The entries of the items of all that is left.
-fn last_entries(alloc: Global, items: Vec<Item<'_>>, all: bool) -> Result<Catalogue, Refusal>
+fn last_entries(
+    alloc: Global,
+    items: Vec<Item<'_>>,
+    with_comments: bool,
+) -> Result<Catalogue, Refusal>
     requires hold { All HoldsText (views items.items) }
     requires few { vec_len items ≤ 2 ^ 31 }
-    ensures found { IfOk result (KeepsItems all (views items.entry.items)) }
+    ensures found { IfOk result (KeepsItems with_comments (views items.entry.items)) }
     ensures fault { IfErr result (IsItemsRefusal (views items.entry.items)) }
 {
     let begins_anew = begins_anew(&items);
-    last_entries_of(alloc, items, all).map_err(|error| refusal_of(error, begins_anew))
+    last_entries_of(alloc, items, with_comments).map_err(|error| refusal_of(error, begins_anew))
 }
 
 /// Whether no entry before goes on with these items.

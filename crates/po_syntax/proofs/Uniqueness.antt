@@ -130,7 +130,7 @@ lines_not_stopped number [] items fault at h g = g
 lines_not_stopped number (line ∷ lines) items fault at h (inl g) = line_not_stopped h.2 g.0
 lines_not_stopped number (line ∷ lines) items fault at h (inr g) = lines_not_stopped (number + 1) lines h.1 fault at h.3 g.2
 
-lines_stop_once : (number : ℕ) (lines : List (List ℕ)) {fault other : PoFault} {at index : ℕ} → LinesStop number lines fault at → LinesStop number lines other index → (fault ≡ other) × (at ≡ index)
+lines_stop_once : (number : ℕ) (lines : List (List ℕ)) {fault other : PoFault} {at other_line : ℕ} → LinesStop number lines fault at → LinesStop number lines other other_line → (fault ≡ other) × (at ≡ other_line)
 lines_stop_once number [] h g = absurd h
 lines_stop_once number (line ∷ lines) (inl h) (inl g) = (line_stops_once h.0 g.0, h.1 ∙ sym g.1)
 lines_stop_once number (line ∷ lines) (inl h) (inr g) = absurd (line_not_stopped g.1 h.0)
@@ -146,20 +146,20 @@ text_not_faulty text items fault line h (not_utf8 small other e) = other h.utf8
 text_not_faulty text items fault line h (nul small utf8 found e) = let none = h.no_nul in cc
 text_not_faulty text items fault line h (stops small utf8 no_nul g) = lines_not_stopped 1 _ items fault line h.lines g
 
-pub fault_once : (text : List ℕ) (fault other : PoFault) (line index : ℕ) → TextFault text fault line → TextFault text other index → (fault ≡ other) × (line ≡ index)
-fault_once text fault other line index (too_large p) (too_large q) = (refl, refl)
-fault_once text fault other line index (too_large p) (not_utf8 q u e) = absurd (omega arith)
-fault_once text fault other line index (too_large p) (nul q u f e) = absurd (omega arith)
-fault_once text fault other line index (too_large p) (stops q u n g) = absurd (omega arith)
-fault_once text fault other line index (not_utf8 p v d) (too_large q) = absurd (omega arith)
-fault_once text fault other line index (not_utf8 p v d) (not_utf8 q u e) = (refl, d ∙ sym e)
-fault_once text fault other line index (not_utf8 p v d) (nul q u f e) = absurd (v u)
-fault_once text fault other line index (not_utf8 p v d) (stops q u n g) = absurd (v u)
-fault_once text fault other line index (nul p v h d) (too_large q) = absurd (omega arith)
-fault_once text fault other line index (nul p v h d) (not_utf8 q u e) = absurd (u v)
-fault_once text fault other line index (nul {index = a} p v h d) (nul {index = b} q u f e) = let same : a ≡ b = cc in (refl, d ∙ rw same (sym e))
-fault_once text fault other line index (nul p v h d) (stops q u n g) = absurd (cc)
-fault_once text fault other line index (stops p v m h) (too_large q) = absurd (omega arith)
-fault_once text fault other line index (stops p v m h) (not_utf8 q u e) = absurd (u v)
-fault_once text fault other line index (stops p v m h) (nul q u f e) = absurd (cc)
-fault_once text fault other line index (stops p v m h) (stops q u n g) = lines_stop_once 1 _ h g
+pub fault_once : (text : List ℕ) (fault other : PoFault) (line other_line : ℕ) → TextFault text fault line → TextFault text other other_line → (fault ≡ other) × (line ≡ other_line)
+fault_once text fault other line other_line (too_large p) (too_large q) = (refl, refl)
+fault_once text fault other line other_line (too_large p) (not_utf8 q u e) = absurd (omega arith)
+fault_once text fault other line other_line (too_large p) (nul q u f e) = absurd (omega arith)
+fault_once text fault other line other_line (too_large p) (stops q u n g) = absurd (omega arith)
+fault_once text fault other line other_line (not_utf8 p v d) (too_large q) = absurd (omega arith)
+fault_once text fault other line other_line (not_utf8 p v d) (not_utf8 q u e) = (refl, d ∙ sym e)
+fault_once text fault other line other_line (not_utf8 p v d) (nul q u f e) = absurd (v u)
+fault_once text fault other line other_line (not_utf8 p v d) (stops q u n g) = absurd (v u)
+fault_once text fault other line other_line (nul p v h d) (too_large q) = absurd (omega arith)
+fault_once text fault other line other_line (nul p v h d) (not_utf8 q u e) = absurd (u v)
+fault_once text fault other line other_line (nul {index = a} p v h d) (nul {index = b} q u f e) = let same : a ≡ b = cc in (refl, d ∙ rw same (sym e))
+fault_once text fault other line other_line (nul p v h d) (stops q u n g) = absurd (cc)
+fault_once text fault other line other_line (stops p v m h) (too_large q) = absurd (omega arith)
+fault_once text fault other line other_line (stops p v m h) (not_utf8 q u e) = absurd (u v)
+fault_once text fault other line other_line (stops p v m h) (nul q u f e) = absurd (cc)
+fault_once text fault other line other_line (stops p v m h) (stops q u n g) = lines_stop_once 1 _ h g

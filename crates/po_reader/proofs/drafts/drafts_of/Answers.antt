@@ -37,14 +37,14 @@ pub loop-drafts-preserved : goal.loop-drafts-preserved
 loop-drafts-preserved c =
     let head = c.in_ok-head.ensures.found in
     let body = body_view c.in_ok-body.body in
-    let made = c.in_ok-fields_of.ensures (kept_comments c.args.all head.0) head.1 head.3 ∙ kept_from c.args.all head.0 head.1 body in
+    let made = c.in_ok-fields_of.ensures (kept_comments c.args.with_comments head.0) head.1 head.3 ∙ kept_from c.args.with_comments head.0 head.1 body in
     let spelt = c.loop-drafts.invariant.spelt in
     let first : TextEntry = entry_from head.0 head.1 body in
     record {
       spelt = (
         spelt.0 ++ first ∷ [],
         λ more h. rw append_assoc (spelt.1 (first ∷ more) (entry head.2 c.in_ok-body.ensures.found h)),
-        rw (c.in_ok-push.ensures.items, map_push, map_push, made) (ap (λ es. es ++ kept_entry c.args.all first ∷ []) spelt.2),
+        rw (c.in_ok-push.ensures.items, map_push, map_push, made) (ap (λ es. es ++ kept_entry c.args.with_comments first ∷ []) spelt.2),
       );
       stops = λ fault line h. c.loop-drafts.invariant.stops _ _ (later head.2 c.in_ok-body.ensures.found h);
       fewer = omega (arith, c.in_ok-head.ensures.fewer, c.in_ok-body.ensures.fewer, c.loop-drafts.invariant.fewer);

@@ -11,7 +11,7 @@ use Rattle.po_reader.proofs.drafts.drafts_of.Given as goal
 abbrev pub invariant-loop-drafts : goal.invariant-loop-drafts
 invariant-loop-drafts l = record {
   spelt : (entries : List TextEntry) × ((more : List TextEntry) → Reads l.rest more → Reads (views l.items) (entries ++ more))
-      × (map entry_view l.drafts.items ≡ map (kept_entry l.all) entries);
+      × (map entry_view l.drafts.items ≡ map (kept_entry l.with_comments) entries);
   stops : (fault : PoFault) (line : ℕ) → EntriesStop l.end l.rest fault line → EntriesStop l.end (views l.items) fault line;
   fewer : length l.rest ≤ length l.items;
 }

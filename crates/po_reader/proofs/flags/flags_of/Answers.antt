@@ -1,7 +1,7 @@
 use Rattle.std.proofs.Common.{ap, ◌∙◌}
 use Rattle.std.specs.List.{list_any}
 use Rattle.po_entry.specs.Comments.{is_fuzzy_flag}
-use Rattle.po_reader.proofs.MetFlags.{list_any-texts}
+use Rattle.po_reader.proofs.SeenFlags.{list_any-texts}
 use Rattle.po_reader.proofs.flags.flags_of.Goals as goal
 
 pub returns-clause-fuzzy : goal.returns-clause-fuzzy

@@ -11,7 +11,7 @@ use Rattle.po_reader.proofs.head.take_head.Goals as goal
 
 pub loop-kind-init : goal.loop-kind-init
 loop-kind-init c = record {
-  spelt = ([], [], rw (kept_nothing c.args.all) (holds_nothing _ c.new.ensures.items c.new-2.ensures.items c.new-3.ensures.items c.new-4.ensures.items c.none.ensures), λ more others rest h. h);
+  spelt = ([], [], rw (kept_nothing c.args.with_comments) (holds_nothing _ c.new.ensures.items c.new-2.ensures.items c.new-3.ensures.items c.new-4.ensures.items c.none.ensures), λ more others rest h. h);
   stops = λ fault line h. h;
   fewer = omega arith;
 }
@@ -61,7 +61,7 @@ loop-kind-preserved c =
       spelt = (
         spelt.0,
         spelt.1 ++ text ∷ [],
-        holds_previous c.loop-kind.head c.set_previous.new.previous (kept_comments c.args.all spelt.0) spelt.1 text spelt.2 c.set_previous.ensures,
+        holds_previous c.loop-kind.head c.set_previous.new.previous (kept_comments c.args.with_comments spelt.0) spelt.1 text spelt.2 c.set_previous.ensures,
         λ more others rest h. rw append_assoc (spelt.3 more (text ∷ others) rest (previous step strings (rw c.rank-above.ensures at h))),
       );
       stops = λ fault line h. c.loop-kind.invariant.stops _ _ (after_previous step strings (rw c.rank-above.ensures at h));

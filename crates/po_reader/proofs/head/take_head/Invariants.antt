@@ -10,7 +10,7 @@ use Rattle.po_reader.proofs.head.take_head.Given as goal
 
 abbrev pub invariant-loop-kind : goal.invariant-loop-kind
 invariant-loop-kind l = record {
-  spelt : (comment_texts : List CommentText) × (previous : List PreviousText) × HoldsHead l.head (kept_comments l.all comment_texts) previous
+  spelt : (comment_texts : List CommentText) × (previous : List PreviousText) × HoldsHead l.head (kept_comments l.with_comments comment_texts) previous
       × ((more : List CommentText) (others : List PreviousText) (rest : List TextItem) → IsHead l.above l.rest more others rest → IsHead 0 l.fn.rest (comment_texts ++ more) (previous ++ others) rest);
   stops : (fault : PoFault) (line : ℕ) → HeadStops l.end l.above l.rest fault line → HeadStops l.end 0 l.fn.rest fault line;
   fewer : length l.rest ≤ length l.fn.rest;

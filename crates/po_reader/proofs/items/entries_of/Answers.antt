@@ -20,7 +20,7 @@ returns-in_err-check_drafts-clause-memory c =
 pub catalogue_of-requires : goal.catalogue_of-requires
 catalogue_of-requires c =
     let spelt = c.in_ok-drafts.ensures.found in
-    let sound = subst (All SoundEntry) (sym spelt.2) (kept_sound c.args.all spelt.0 (entries_sound spelt.1 c.requires.hold)) in
+    let sound = subst (All SoundEntry) (sym spelt.2) (kept_sound c.args.with_comments spelt.0 (entries_sound spelt.1 c.requires.hold)) in
     let asked = rw c.deref.ensures.value at c.in_ok-check_drafts.ensures.ok in
     drafts_valid _ sound asked
 
@@ -28,8 +28,8 @@ pub returns-clause-found : goal.returns-clause-found
 returns-clause-found c =
     let spelt = c.in_ok-drafts.ensures.found in
     let asked = rw c.deref.ensures.value at c.in_ok-check_drafts.ensures.ok in
-    let texts = kept_texts c.args.all spelt.0 (subst (All HasTexts) spelt.2 (All-map HasTexts entry_view c.in_ok-drafts.drafts.items asked)) in
-    let admitted = ok_step c.catalogue_of.result (λ _ charsets. kept_admitted c.args.all spelt.0 (subst (All HasAdmittedCharset) spelt.2 charsets)) c.catalogue_of.ensures.charsets in
+    let texts = kept_texts c.args.with_comments spelt.0 (subst (All HasTexts) spelt.2 (All-map HasTexts entry_view c.in_ok-drafts.drafts.items asked)) in
+    let admitted = ok_step c.catalogue_of.result (λ _ charsets. kept_admitted c.args.with_comments spelt.0 (subst (All HasAdmittedCharset) spelt.2 charsets)) c.catalogue_of.ensures.charsets in
     ok_both c.catalogue_of.result (λ made is charsets. (
       spelt.0,
       record { reads = reads_spelt spelt.1; texts = texts; charsets = charsets },

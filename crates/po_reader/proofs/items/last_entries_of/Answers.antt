@@ -27,7 +27,7 @@ returns-in_err-check_drafts-clause-fault c =
     let spelt = rw c.deref.ensures.value at c.in_ok-drafts.ensures.found in
     let stops = rw c.deref-3.ensures.value at c.in_err-check_drafts.ensures.fault in
     let kept = subst (λ (es : List TextEntry). TextsStop es c.in_err-check_drafts.field-0.0.kind c.in_err-check_drafts.field-0.0.line) spelt.2 stops in
-    rw (p.1, p.2) (λ other. in_texts (reads_spelt spelt.1) (kept_texts_stop c.args.all spelt.0 kept))
+    rw (p.1, p.2) (λ other. in_texts (reads_spelt spelt.1) (kept_texts_stop c.args.with_comments spelt.0 kept))
 
 pub returns-in_err-check_drafts-clause-memory : goal.returns-in_err-check_drafts-clause-memory
 returns-in_err-check_drafts-clause-memory c =
@@ -37,7 +37,7 @@ returns-in_err-check_drafts-clause-memory c =
 pub catalogue_of-requires : goal.catalogue_of-requires
 catalogue_of-requires c =
     let spelt = rw c.deref.ensures.value at c.in_ok-drafts.ensures.found in
-    let sound = subst (All SoundEntry) (sym spelt.2) (kept_sound c.args.all spelt.0 (entries_sound spelt.1 c.requires.hold)) in
+    let sound = subst (All SoundEntry) (sym spelt.2) (kept_sound c.args.with_comments spelt.0 (entries_sound spelt.1 c.requires.hold)) in
     let asked = rw c.deref-3.ensures.value at c.in_ok-check_drafts.ensures.ok in
     drafts_valid _ sound asked
 
@@ -45,8 +45,8 @@ pub returns-clause-found : goal.returns-clause-found
 returns-clause-found c =
     let spelt = rw c.deref.ensures.value at c.in_ok-drafts.ensures.found in
     let asked = rw c.deref-3.ensures.value at c.in_ok-check_drafts.ensures.ok in
-    let texts = kept_texts c.args.all spelt.0 (subst (All HasTexts) spelt.2 (All-map HasTexts entry_view c.in_ok-drafts.drafts.items asked)) in
-    let admitted = ok_step c.catalogue_of.result (λ _ charsets. kept_admitted c.args.all spelt.0 (subst (All HasAdmittedCharset) spelt.2 charsets)) c.catalogue_of.ensures.charsets in
+    let texts = kept_texts c.args.with_comments spelt.0 (subst (All HasTexts) spelt.2 (All-map HasTexts entry_view c.in_ok-drafts.drafts.items asked)) in
+    let admitted = ok_step c.catalogue_of.result (λ _ charsets. kept_admitted c.args.with_comments spelt.0 (subst (All HasAdmittedCharset) spelt.2 charsets)) c.catalogue_of.ensures.charsets in
     ok_both c.catalogue_of.result (λ made is charsets. (
       spelt.0,
       record { reads = reads_spelt spelt.1; texts = texts; charsets = charsets },
@@ -57,8 +57,8 @@ pub returns-clause-fault : goal.returns-clause-fault
 returns-clause-fault c =
     let spelt = rw c.deref.ensures.value at c.in_ok-drafts.ensures.found in
     let asked = rw c.deref-3.ensures.value at c.in_ok-check_drafts.ensures.ok in
-    let texts = kept_texts c.args.all spelt.0 (subst (All HasTexts) spelt.2 (All-map HasTexts entry_view c.in_ok-drafts.drafts.items asked)) in
+    let texts = kept_texts c.args.with_comments spelt.0 (subst (All HasTexts) spelt.2 (All-map HasTexts entry_view c.in_ok-drafts.drafts.items asked)) in
     err_step c.catalogue_of.result (λ e h other.
     let foreign = h other in
-    let stops = kept_charset_stops c.args.all spelt.0 (subst (λ (es : List TextEntry). CharsetStops es e.line) spelt.2 foreign.1) in
+    let stops = kept_charset_stops c.args.with_comments spelt.0 (subst (λ (es : List TextEntry). CharsetStops es e.line) spelt.2 foreign.1) in
     rw foreign.0 (in_charset (reads_spelt spelt.1) texts stops)) c.catalogue_of.ensures.fault

@@ -11,7 +11,7 @@ returns-in_err-items-clause-fault c =
 
 pub returns-then-are_over-clause-found : goal.returns-then-are_over-clause-found
 returns-then-are_over-clause-found c =
-    ok_step c.last_entries.result (λ kept h. items_kept c.args.all _ _ _ kept c.in_ok-items.ensures.found c.in_ok-items.ensures.ends h) c.last_entries.ensures.found
+    ok_step c.last_entries.result (λ kept h. items_kept c.args.with_comments _ _ _ kept c.in_ok-items.ensures.found c.in_ok-items.ensures.ends h) c.last_entries.ensures.found
 
 pub returns-then-are_over-clause-faults : goal.returns-then-are_over-clause-faults
 returns-then-are_over-clause-faults c =
@@ -24,7 +24,7 @@ returns-then-are_over-clause-fault c =
 
 pub returns-in-Ok-clause-found : goal.returns-in-Ok-clause-found
 returns-in-Ok-clause-found c =
-    items_kept c.args.all _ _ _ _ c.in_ok-items.ensures.found c.in_ok-items.ensures.ends (rw c.deref.ensures.value at c.in-Ok.ensures.found)
+    items_kept c.args.with_comments _ _ _ _ c.in_ok-items.ensures.found c.in_ok-items.ensures.ends (rw c.deref.ensures.value at c.in-Ok.ensures.found)
 
 pub returns-in-Ok-clause-faults : goal.returns-in-Ok-clause-faults
 returns-in-Ok-clause-faults c =

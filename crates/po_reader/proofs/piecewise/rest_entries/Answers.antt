@@ -19,7 +19,7 @@ pub returns-clause-found : goal.returns-clause-found
 returns-clause-found c =
     let joined : views c.append.new.self.items ≡ views c.args.items.items ++ views c.in_ok-rest.rest.items = ap (map view) c.in_ok-append.ensures.items ∙ map-append view c.args.items.items c.in_ok-rest.rest.items in
     let over = c.are_over.ensures.over c.if-not-are_over.false in
-    ok_step c.last_entries.result (λ kept h old spelt. rest_kept c.args.all old _ _ _ _ _ kept joined spelt c.in_ok-rest.ensures.found over h) c.last_entries.ensures.found
+    ok_step c.last_entries.result (λ kept h old spelt. rest_kept c.args.with_comments old _ _ _ _ _ kept joined spelt c.in_ok-rest.ensures.found over h) c.last_entries.ensures.found
 
 pub returns-clause-fault : goal.returns-clause-fault
 returns-clause-fault c =

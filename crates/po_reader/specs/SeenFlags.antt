@@ -1,4 +1,4 @@
--- Internal: the flags that were met.
+-- Internal: the flags that were seen.
 use Rattle.std.specs.Prelude.{◌≡◌, ℕ, List, bytes_eq}
 use Rattle.std.specs.List.{list_any}
 use Rattle.std.specs.Ordering.{nat_cmp}
@@ -8,4 +8,4 @@ use Rattle.std.specs.BTreeSet.{BTreeSet, contains}
 
 -- the tree has just these flags
 abbrev pub HasFlags : BTreeSet (Bor (List ℕ)) → List (List ℕ) → Type 0
-HasFlags met flags = (q : Bor (List ℕ)) → contains (λ x y. slice_cmp nat_cmp x.now y.now) met q ≡ list_any (bytes_eq q.now) flags
+HasFlags seen flags = (q : Bor (List ℕ)) → contains (λ x y. slice_cmp nat_cmp x.now y.now) seen q ≡ list_any (bytes_eq q.now) flags
