@@ -15,4 +15,4 @@ pub mod ReplacedReferences
 pub mod SpeltEscapes
 pub mod ExpandedEscapes
 pub mod VariableValues
-pub mod MetNames
+pub mod SeenNames

@@ -5,7 +5,7 @@ use Rattle.std.specs.List.{cons_option}
 use Rattle.std.specs.Option.{option_map}
 use Rattle.std.proofs.lemmas.Bool.{cases_Bool, cond-true, cond-false, eqb-true, eqb-false}
 use Rattle.po_shell.specs.References.{Reference, reference_after, names_in}
-use Rattle.po_shell.specs.Substitution.{Values, Replacement, replacement_of, index, substitution_after, substitution}
+use Rattle.po_shell.specs.Substitution.{Values, Replacement, replacement_of, substituted, substitution_after, substitution}
 use Rattle.po_shell.specs.Replacing.{SpellsReference, BeginsNoReplaced, Replaces, nothing, copied, replaced, HoldsNames, no_text, no_reference, reference}
 use Rattle.po_shell.proofs.SpeltReferences.{reference_read, reference_spelt}
 use Rattle.po_shell.proofs.SubstitutionLemmas.{plain, not-replaced, replaced as is-replaced}
@@ -54,7 +54,7 @@ replacement_spelt values text (Some found) r e is = non_empty (values found.name
 
 -- a `$`, where what comes after it is said of any number of further bytes
 dollar_place : (values : Values) (b : ℕ) (text : List ℕ) → b ≡ 36 → ((skip : ℕ) → Replaces values (drop skip text) (substitution_after values skip text)) → (o : Option Replacement) → replacement_of values (reference_after text) ≡ o
-    → Replaces values (b ∷ text) (index b o (λ skip. substitution_after values skip text))
+    → Replaces values (b ∷ text) (substituted b o (λ skip. substitution_after values skip text))
 dollar_place values b text is later None none = copied (subst (λ a. BeginsNoReplaced values (a ∷ text)) (sym is) (begins_none values text none)) (later 0)
 dollar_place values b text is later (Some r) some =
     let it = replacement_spelt values text (reference_after text) r refl some in
@@ -68,9 +68,9 @@ after values (b ∷ text) (suc skip) = after values text skip
 after values (b ∷ text) zero =
     let later = after values text in
     elim (cases_Bool (eqb b 36)) [
-      | inl e ↦ subst (λ o. Replaces values (b ∷ text) (index b o (λ skip. substitution_after values skip text))) (sym (cond-true (eqb b 36) (replacement_of values (reference_after text)) None e))
+      | inl e ↦ subst (λ o. Replaces values (b ∷ text) (substituted b o (λ skip. substitution_after values skip text))) (sym (cond-true (eqb b 36) (replacement_of values (reference_after text)) None e))
           (dollar_place values b text (eqb-true b 36 e) later (replacement_of values (reference_after text)) refl)
-      | inr e ↦ subst (λ o. Replaces values (b ∷ text) (index b o (λ skip. substitution_after values skip text))) (sym (cond-false (eqb b 36) (replacement_of values (reference_after text)) None e))
+      | inr e ↦ subst (λ o. Replaces values (b ∷ text) (substituted b o (λ skip. substitution_after values skip text))) (sym (cond-false (eqb b 36) (replacement_of values (reference_after text)) None e))
           (copied (λ name value rest h is. not_dollar b text name rest e h) (later 0))
     ]
 

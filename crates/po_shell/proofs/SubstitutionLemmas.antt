@@ -6,7 +6,7 @@ use Rattle.std.proofs.lemmas.Bool.{and_parts, cond-false, cases_Bool, true≢fal
 use Rattle.std.proofs.lemmas.List.{drop_at}
 use Rattle.memchr.specs.Find.{is_byte}
 use Rattle.po_shell.specs.References.{is_name_byte, reference_after}
-use Rattle.po_shell.specs.Substitution.{Values, Replacement, replacement_of, index, substitution_after, substitution}
+use Rattle.po_shell.specs.Substitution.{Values, Replacement, replacement_of, substituted, substitution_after, substitution}
 use Rattle.std.specs.Borrow.{Bor}
 use Rattle.po_shell.specs.declared.envsubst.holding.Decision.TheVariants.{Grows, Ends, Closes, Copies}
 use Rattle.po_shell.specs.declared.envsubst.holding.Effect.{Effect}
@@ -25,18 +25,18 @@ skipped values (suc n) (b ∷ bs) = skipped values n bs
 -- a byte that is no `$` is copied
 pub plain : (values : Values) (b : ℕ) (bs : List ℕ) → eqb b 36 ≡ false → substitution values (b ∷ bs) ≡ b ∷ substitution values bs
 unfolding substitution_after
-plain values b bs other = ap (λ r. index b r (λ skip. substitution_after values skip bs)) (cond-false (eqb b 36) _ None other)
+plain values b bs other = ap (λ r. substituted b r (λ skip. substitution_after values skip bs)) (cond-false (eqb b 36) _ None other)
 
 -- a `$` that begins no replaced reference is copied
 pub not-replaced : (values : Values) (bs : List ℕ) → replacement_of values (reference_after bs) ≡ None → substitution values (36 ∷ bs) ≡ 36 ∷ substitution values bs
 unfolding substitution_after
-not-replaced values bs none = ap (λ r. index 36 r (λ skip. substitution_after values skip bs)) none
+not-replaced values bs none = ap (λ r. substituted 36 r (λ skip. substitution_after values skip bs)) none
 
 -- a replaced reference gives its value, and the text goes on after it
 pub replaced : (values : Values) (bs : List ℕ) (r : Replacement) → replacement_of values (reference_after bs) ≡ Some r → substitution values (36 ∷ bs) ≡ r.value ++ substitution values (drop r.size bs)
 unfolding substitution_after
 replaced values bs r some =
-    ap (λ o. index 36 o (λ skip. substitution_after values skip bs)) some ∙ ap (λ l. r.value ++ l) (skipped values r.size bs)
+    ap (λ o. substituted 36 o (λ skip. substitution_after values skip bs)) some ∙ ap (λ l. r.value ++ l) (skipped values r.size bs)
 
 -- the first n bytes are copied
 abbrev CopiesPrefix : Values → ℕ → List ℕ → List ℕ → Type 0

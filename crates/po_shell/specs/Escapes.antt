@@ -47,7 +47,7 @@ abbrev pub unit : ℕ → Option Escape → (ℕ → List (Option ℕ)) → List
 unit b None later = Some b ∷ later 0
 unit b (Some e) later = e.byte ∷ later e.size
 
--- what the bytes after these places give; the first `skip` bytes belong to an escape
+-- what the bytes give, with their escapes expanded; the first `skip` bytes belong to an escape that began before them
 unfoldable pub units_after : ℕ → List ℕ → List (Option ℕ)
 units_after skip [] = []
 units_after (suc skip) (b ∷ bs) = units_after skip bs

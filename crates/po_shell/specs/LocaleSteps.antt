@@ -1,4 +1,4 @@
--- Internal: the candidates of one part of LANGUAGE, and the names that were met.
+-- Internal: the candidates of one part of LANGUAGE, and the names that were seen.
 use Rattle.std.specs.Prelude.{◌≡◌, ℕ, if◌then◌else◌, List, []}
 use Rattle.std.specs.List.{list_any}
 use Rattle.std.specs.Ordering.{nat_cmp}
@@ -13,5 +13,5 @@ variants_in part = if is_path_part part then variants part else []
 
 -- the tree has just these names
 abbrev pub HasNames : BTreeSet (Bor (List ℕ)) → List (List ℕ) → Type 0
-HasNames met names =
-    (q : Bor (List ℕ)) → contains (λ x y. slice_cmp nat_cmp x.now y.now) met q ≡ list_any (λ known. bytes_eq known q.now) names
+HasNames seen names =
+    (q : Bor (List ℕ)) → contains (λ x y. slice_cmp nat_cmp x.now y.now) seen q ≡ list_any (λ known. bytes_eq known q.now) names

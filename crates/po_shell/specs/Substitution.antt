@@ -35,16 +35,16 @@ replacement_of values None = None
 replacement_of values (Some r) = option_map (λ v. record { value = v; size = r.size }) (values r.name)
 
 -- what stands for one byte: itself, or the value of the reference that it begins, of which the next bytes are then skipped
-abbrev pub index : ℕ → Option Replacement → (ℕ → List ℕ) → List ℕ
-index b None later = b ∷ later 0
-index b (Some r) later = r.value ++ later r.size
+abbrev pub substituted : ℕ → Option Replacement → (ℕ → List ℕ) → List ℕ
+substituted b None later = b ∷ later 0
+substituted b (Some r) later = r.value ++ later r.size
 
--- the text after these places, with its references replaced; the first `skip` bytes belong to a reference
+-- the text, with its references replaced; the first `skip` bytes belong to a reference that began before them
 unfoldable pub substitution_after : Values → ℕ → List ℕ → List ℕ
 substitution_after values skip [] = []
 substitution_after values (suc skip) (b ∷ bs) = substitution_after values skip bs
 substitution_after values zero (b ∷ bs) =
-    index b (if b == 36 then replacement_of values (reference_after bs) else None) (λ skip. substitution_after values skip bs)
+    substituted b (if b == 36 then replacement_of values (reference_after bs) else None) (λ skip. substitution_after values skip bs)
 
 -- the text with its references replaced
 abbrev pub substitution : Values → List ℕ → List ℕ

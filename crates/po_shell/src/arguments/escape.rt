@@ -1,6 +1,6 @@
 //! The escapes that `gettext -e` expands ("Invoking the gettext program" of the GNU gettext manual).
 ghost use Rattle.std.specs.Prelude.{◌≡◌, ◌≤◌, length, IfSome, IfOk, OnErr, Err};
-ghost use Rattle.po_shell.specs.Escapes.{expansion, has_no_newline, is_octal, octal_run, octal_value, letter, letter_escape, escape_after};
+ghost use Rattle.po_shell.specs.Escapes as spec;
 
 use crate::fault::ToolFault;
 use crate::search::len_before;
@@ -26,9 +26,9 @@ struct Escape {
 /// Expands `\a \b \f \n \r \t \v \\`, `\` with one to three octal digits, modulo 256, and `\c`,
 /// which gives no byte. Any other backslash stays.
 pub fn expand(alloc: Global, text: &[u8]) -> Result<Expanded, ToolFault>
-    ensures bytes { IfOk result (λ expanded. expanded.bytes.items ≡ expansion text.now) }
+    ensures bytes { IfOk result (λ expanded. expanded.bytes.items ≡ spec.expansion text.now) }
     ensures no_newline { IfOk result (λ expanded.
-        expanded.no_newline ≡ has_no_newline text.now) }
+        expanded.no_newline ≡ spec.has_no_newline text.now) }
     ensures fault { OnErr result (result ≡ Err ToolFault.OutOfMemory) }
 {
     let mut bytes = Vec::with_capacity(alloc, text.len())?;
@@ -55,7 +55,7 @@ pub fn expand(alloc: Global, text: &[u8]) -> Result<Expanded, ToolFault>
 
 /// The escape that a backslash begins, by the bytes after it.
 fn escape_after(after: &[u8]) -> Option<Escape>
-    ensures escape { result ≡ escape_after after.now }
+    ensures escape { result ≡ spec.escape_after after.now }
     ensures within { IfSome result (λ escape. escape.size ≤ length after.now) }
 {
     if after.is_empty() {
@@ -73,14 +73,14 @@ fn escape_after(after: &[u8]) -> Option<Escape>
 
 /// Whether the byte is an octal digit.
 fn is_octal(byte: u8) -> bool
-    ensures { result ≡ is_octal byte }
+    ensures { result ≡ spec.is_octal byte }
 {
     matches!(byte, b'0'..=b'7')
 }
 
 /// Up to three octal digits at the beginning.
 fn octal_run(bytes: &[u8]) -> &[u8]
-    ensures run { result.now ≡ octal_run bytes.now }
+    ensures run { result.now ≡ spec.octal_run bytes.now }
     ensures within { length result.now ≤ length bytes.now }
 {
     let prefix = &bytes[..bytes.len().min(3)];
@@ -94,7 +94,7 @@ fn octal_run(bytes: &[u8]) -> &[u8]
 
 /// The byte that octal digits give, modulo 256.
 fn octal_value(digits: &[u8]) -> u8
-    ensures { result ≡ octal_value digits.now }
+    ensures { result ≡ spec.octal_value digits.now }
 {
     let mut value: u16 = 0;
     for digit in digits {
@@ -106,7 +106,7 @@ fn octal_value(digits: &[u8]) -> u8
 /// An escape of one letter.
 #[tactic(auto, unfolding(crate::specs::Escapes::letter_escape))]
 fn letter_escape(letter: u8) -> Option<Escape>
-    ensures escape { result ≡ letter_escape letter }
+    ensures escape { result ≡ spec.letter_escape letter }
     ensures size { IfSome result (λ escape. escape.size ≡ 1) }
 {
     match letter {
@@ -125,7 +125,7 @@ fn letter_escape(letter: u8) -> Option<Escape>
 
 /// An escape of one letter that gives this byte, or none.
 fn of_letter(byte: Option<u8>) -> Option<Escape>
-    ensures { result ≡ letter byte }
+    ensures { result ≡ spec.letter byte }
 {
     Some(Escape { byte, size: 1 })
 }

@@ -2,7 +2,7 @@
 ghost use Rattle.std.specs.Prelude.{◌≡◌, ◌<◌, ◌≤◌, [], map, length, IfNone, IfSome, IfOk, OnErr, Err};
 ghost use Rattle.std.specs.Option.{option_map};
 ghost use Rattle.std.specs.List.{cons_option};
-ghost use Rattle.po_shell.specs.References.{begins_with, is_letter, is_name_byte, is_name, name_run, reference_after, names_in, name_lines};
+ghost use Rattle.po_shell.specs.References as spec;
 
 use crate::fault::ToolFault;
 use crate::search::len_before;
@@ -14,7 +14,7 @@ pub const LONGEST_NAME: usize = 255;
 /// Whether a name may begin with this byte.
 #[tactic(auto, unfolding(crate::specs::References::is_letter))]
 pub(crate) fn is_letter(byte: u8) -> bool
-    ensures { result ≡ is_letter byte }
+    ensures { result ≡ spec.is_letter byte }
 {
     byte.is_ascii_alphabetic() || byte == b'_'
 }
@@ -22,7 +22,7 @@ pub(crate) fn is_letter(byte: u8) -> bool
 /// Whether a name may go on with this byte.
 #[tactic(auto, unfolding(crate::specs::References::is_name_byte))]
 pub(crate) fn is_name_byte(byte: u8) -> bool
-    ensures { result ≡ is_name_byte byte }
+    ensures { result ≡ spec.is_name_byte byte }
 {
     byte.is_ascii_alphanumeric() || byte == b'_'
 }
@@ -30,7 +30,7 @@ pub(crate) fn is_name_byte(byte: u8) -> bool
 /// Whether a run of name bytes is a name.
 #[tactic(auto, unfolding(crate::specs::References::is_name))]
 pub(crate) fn is_name(run: &[u8]) -> bool
-    ensures { result ≡ is_name run.now }
+    ensures { result ≡ spec.is_name run.now }
 {
     match run {
         [] => false,
@@ -40,14 +40,14 @@ pub(crate) fn is_name(run: &[u8]) -> bool
 
 /// Whether a text begins with this byte.
 pub(crate) fn begins_with(byte: u8, text: &[u8]) -> bool
-    ensures { result ≡ begins_with byte text.now }
+    ensures { result ≡ spec.begins_with byte text.now }
 {
     text.first() == Some(&byte)
 }
 
 /// The longest run of name bytes at the beginning.
 pub(crate) fn name_run(bytes: &[u8]) -> &[u8]
-    ensures { result.now ≡ name_run bytes.now }
+    ensures { result.now ≡ spec.name_run bytes.now }
 {
     for (len, byte) in bytes.iter().enumerate() {
         if !is_name_byte(*byte) {
@@ -61,7 +61,7 @@ pub(crate) fn name_run(bytes: &[u8]) -> &[u8]
 #[tactic(auto, unfolding(crate::specs::References::reference_after, crate::specs::References::braced_reference, crate::specs::References::bare_reference))]
 fn reference_name(after: &[u8]) -> Option<&[u8]>
     ensures { option_map (λ name. name.now) result
-        ≡ option_map (λ r. r.name) (reference_after after.now) }
+        ≡ option_map (λ r. r.name) (spec.reference_after after.now) }
 {
     if begins_with(b'{', after) {
         let inner = &after[1..];
@@ -76,9 +76,9 @@ fn reference_name(after: &[u8]) -> Option<&[u8]>
 
 /// What stands after the first `$`.
 fn after_dollar(text: &[u8]) -> Option<&[u8]>
-    ensures none { IfNone result (names_in text.now ≡ []) }
-    ensures names { IfSome result (λ after. names_in text.now
-        ≡ cons_option (option_map (λ r. r.name) (reference_after after.now)) (names_in after.now)) }
+    ensures none { IfNone result (spec.names_in text.now ≡ []) }
+    ensures names { IfSome result (λ after. spec.names_in text.now
+        ≡ cons_option (option_map (λ r. r.name) (spec.reference_after after.now)) (spec.names_in after.now)) }
     ensures shorter { IfSome result (λ after. length after.now < length text.now) }
 {
     let plain = len_before(b'$', text);
@@ -91,7 +91,7 @@ fn after_dollar(text: &[u8]) -> Option<&[u8]>
 
 /// The names of the references in a text such as SHELL-FORMAT, in order, with repeats.
 pub fn names(alloc: Global, format: &[u8]) -> Result<Vec<&[u8]>, ToolFault>
-    ensures names { IfOk result (λ v. map (λ name. name.now) v.items ≡ names_in format.now) }
+    ensures names { IfOk result (λ v. map (λ name. name.now) v.items ≡ spec.names_in format.now) }
     ensures fault { OnErr result (result ≡ Err ToolFault.OutOfMemory) }
 {
     let mut names = Vec::new(alloc);
@@ -107,7 +107,7 @@ pub fn names(alloc: Global, format: &[u8]) -> Result<Vec<&[u8]>, ToolFault>
 
 /// The names of the references in a text such as SHELL-FORMAT, one a line.
 pub fn name_lines(alloc: Global, format: &[u8]) -> Result<Vec<u8>, ToolFault>
-    ensures lines { IfOk result (λ lines. lines.items ≡ name_lines format.now) }
+    ensures lines { IfOk result (λ lines. lines.items ≡ spec.name_lines format.now) }
     ensures fault { OnErr result (result ≡ Err ToolFault.OutOfMemory) }
 {
     let names = names(alloc, format)?;

@@ -39,7 +39,7 @@ pub fn run_envsubst<R: ByteIn, W: ByteOut>(
         → StopsWithin (values_given vars.now only.entry)
         (R.remaining reader.old) (R.remaining reader.new) (W.contents writer.old) (W.contents writer.new) }
 
-    // The same, or at the end of the input a prefix of what all of it becomes.
+    // What went out is such a prefix, or at the end of the input one of what all of it becomes.
     ensures write_fault { IsErrOf result ToolFault.WriteFault
         → StopsWithin (values_given vars.now only.entry)
         (R.remaining reader.old) (R.remaining reader.new) (W.contents writer.old) (W.contents writer.new)
@@ -72,10 +72,10 @@ pub fn run_envsubst<R: ByteIn, W: ByteOut>(
     Err(ToolFault::ReadFault)
 }
 
-/// The same, with the output gathered in blocks, for a writer of which each call is dear, and with
-/// variables and names sorted, so that each is found by halves. All of the output has gone into the
-/// writer that is answered. After a `ReadFault` what was gathered is written too, after a `WriteFault`
-/// nothing more.
+/// Writes the input with its references replaced, as `run_envsubst` does, with the output gathered in blocks, for a
+/// writer of which each call is dear, and with variables and names sorted, so that each is found by halves. All of
+/// the output has gone into the writer that is answered. After a `ReadFault` what was gathered is written too, after a
+/// `WriteFault` nothing more.
 pub fn run_envsubst_in_blocks<R: ByteIn, W: Write + Drop>(
     alloc: Global,
     reader: &mut R,

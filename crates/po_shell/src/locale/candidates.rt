@@ -3,7 +3,7 @@
 ghost use Rattle.std.specs.Prelude.{◌≡◌, ◌++◌, ◌∷◌, [], map, fold, IfOk, OnOk, OnErr, Err};
 ghost use Rattle.std.specs.List.{flat_map};
 ghost use Rattle.std.specs.Option.{option_map};
-ghost use Rattle.po_shell.specs.Locales.{non_empty, locale_of, is_untranslated, has_slash, is_path_part, before, from_first, variants, language_parts, languages, distinct, candidates_of};
+ghost use Rattle.po_shell.specs.Locales as spec;
 ghost use Rattle.po_shell.specs.LocaleSteps.{variants_in};
 
 use crate::fault::ToolFault;
@@ -35,18 +35,18 @@ pub fn locale_candidates(
     environment: &Environment<'_>,
 ) -> Result<Vec<Vec<u8>>, ToolFault>
     ensures candidates { IfOk result (λ v. map (λ name. name.items) v.items
-        ≡ candidates_of environment.now) }
+        ≡ spec.candidates_of environment.now) }
     ensures fault { OnErr result (result ≡ Err ToolFault.OutOfMemory) }
 {
     Ok(candidate_names(alloc, environment)?)
 }
 
-/// The same, refused only where an allocation failed.
+/// The candidates, refused only where an allocation failed.
 pub(crate) fn candidate_names(
     alloc: Global,
     environment: &Environment<'_>,
 ) -> Result<Vec<Vec<u8>>, AllocError>
-    ensures { IfOk result (λ v. map (λ name. name.items) v.items ≡ candidates_of environment.now) }
+    ensures { IfOk result (λ v. map (λ name. name.items) v.items ≡ spec.candidates_of environment.now) }
 {
     let Some(locale) = locale_of(environment) else {
         return Ok(Vec::new(alloc));
@@ -68,7 +68,7 @@ fn names_of(
     language: Option<&[u8]>,
 ) -> Result<Vec<Vec<u8>>, AllocError>
     ensures { IfOk result (λ v. map (λ name. name.items) v.items
-        ≡ flat_map variants (languages (non_empty language.entry) locale.now)) }
+        ≡ flat_map spec.variants (spec.languages (spec.non_empty language.entry) locale.now)) }
 {
     let mut names = Vec::new(alloc);
     match non_empty(language) {
@@ -78,16 +78,16 @@ fn names_of(
     Ok(names)
 }
 
-/// Each name where it first stands. A tree finds the names that were met, so that no choice of names
+/// Each name where it first stands. A tree finds the names seen before, so that no choice of names
 /// makes this slow.
 fn distinct(alloc: Global, names: &[Vec<u8>]) -> Result<Vec<Vec<u8>>, AllocError>
     ensures { IfOk result (λ v. map (λ name. name.items) v.items
-        ≡ distinct (map (λ name. name.items) names.now)) }
+        ≡ spec.distinct (map (λ name. name.items) names.now)) }
 {
-    let mut met = BTreeSet::new(alloc);
+    let mut seen = BTreeSet::new(alloc);
     let mut kept = Vec::new(alloc);
     for name in names {
-        if !met.insert(name.as_slice())? {
+        if !seen.insert(name.as_slice())? {
             continue;
         }
         kept.push(name.as_slice().to_vec(alloc)?)?;
@@ -97,7 +97,7 @@ fn distinct(alloc: Global, names: &[Vec<u8>]) -> Result<Vec<Vec<u8>>, AllocError
 
 /// A variable that is set and not empty.
 pub(crate) fn non_empty(variable: Option<&[u8]>) -> Option<&[u8]>
-    ensures { option_map (λ value. value.now) result ≡ non_empty variable.entry }
+    ensures { option_map (λ value. value.now) result ≡ spec.non_empty variable.entry }
 {
     match variable {
         Some(value) if !value.is_empty() => Some(value),
@@ -107,7 +107,7 @@ pub(crate) fn non_empty(variable: Option<&[u8]>) -> Option<&[u8]>
 
 /// The first of LC_ALL, LC_MESSAGES and LANG that is given.
 fn locale_of<'a>(environment: &Environment<'a>) -> Option<&'a [u8]>
-    ensures { option_map (λ value. value.now) result ≡ locale_of environment.now }
+    ensures { option_map (λ value. value.now) result ≡ spec.locale_of environment.now }
 {
     if let Some(locale) = non_empty(environment.lc_all) {
         return Some(locale);
@@ -121,21 +121,21 @@ fn locale_of<'a>(environment: &Environment<'a>) -> Option<&'a [u8]>
 /// Whether the name is `C` or `POSIX`, in which the messages are the msgids.
 #[tactic(auto, unfolding(crate::specs::Locales::is_untranslated))]
 fn is_untranslated(name: &[u8]) -> bool
-    ensures { result ≡ is_untranslated name.now }
+    ensures { result ≡ spec.is_untranslated name.now }
 {
     name == b"C".as_slice() || name == b"POSIX".as_slice()
 }
 
 /// Whether the name has a slash, and so can't be a part of a path.
 fn has_slash(name: &[u8]) -> bool
-    ensures { result ≡ has_slash name.now }
+    ensures { result ≡ spec.has_slash name.now }
 {
     name.contains(&b'/')
 }
 
 /// Whether a name can stand in a path.
 pub(crate) fn is_path_part(name: &[u8]) -> bool
-    ensures { result ≡ is_path_part name.now }
+    ensures { result ≡ spec.is_path_part name.now }
 {
     !name.is_empty() && !has_slash(name)
 }
@@ -147,7 +147,7 @@ fn add_languages(
     languages: &[u8],
 ) -> Result<(), AllocError>
     ensures { OnOk result (map (λ name. name.items) names.new.items
-        ≡ map (λ name. name.items) names.old.items ++ flat_map variants (language_parts languages.now)) }
+        ≡ map (λ name. name.items) names.old.items ++ flat_map spec.variants (spec.language_parts languages.now)) }
 {
     let mut rest = languages;
     loop {
@@ -180,7 +180,7 @@ fn add_language(alloc: Global, names: &mut Vec<Vec<u8>>, part: &[u8]) -> Result<
 /// Those that are equal are dropped later, by `distinct`.
 fn add_variants(alloc: Global, names: &mut Vec<Vec<u8>>, name: &[u8]) -> Result<(), AllocError>
     ensures { OnOk result (map (λ name. name.items) names.new.items
-        ≡ map (λ name. name.items) names.old.items ++ variants name.now) }
+        ≡ map (λ name. name.items) names.old.items ++ spec.variants name.now) }
 {
     let modifier = from_first(b'@', name);
     let base = before(b'.', before(b'@', name));
@@ -196,7 +196,7 @@ fn add_variants(alloc: Global, names: &mut Vec<Vec<u8>>, name: &[u8]) -> Result<
 /// What stands before the first `byte`, or all.
 #[tactic(auto, unfolding(crate::specs::Locales::before))]
 fn before(byte: u8, name: &[u8]) -> &[u8]
-    ensures { result.now ≡ before byte name.now }
+    ensures { result.now ≡ spec.before byte name.now }
 {
     &name[..len_before(byte, name)]
 }
@@ -204,7 +204,7 @@ fn before(byte: u8, name: &[u8]) -> &[u8]
 /// What stands from the first `byte` on, or nothing.
 #[tactic(auto, unfolding(crate::specs::Locales::from_first))]
 fn from_first(byte: u8, name: &[u8]) -> &[u8]
-    ensures { result.now ≡ from_first byte name.now }
+    ensures { result.now ≡ spec.from_first byte name.now }
 {
     &name[len_before(byte, name)..]
 }

@@ -52,7 +52,7 @@ impl OwnedEnvironment {
         })
     }
 
-    /// The same, lent.
+    /// These values, lent.
     pub fn lent(&self) -> Environment<'_>
         ensures { environment_view result ≡ owned_environment_view self.now }
     {

@@ -46,7 +46,7 @@ pub fn catalogue_path(
     Ok(path_of(alloc, dir, locale, domain)?)
 }
 
-/// The same, refused only where an allocation failed.
+/// The path that `catalogue_path` gives, refused only where an allocation failed.
 fn path_of(alloc: Global, dir: &[u8], locale: &[u8], domain: &[u8]) -> Result<Vec<u8>, AllocError>
     ensures { IfOk result (λ path. path.items ≡ path_of dir.now locale.now domain.now) }
 {

@@ -7,5 +7,5 @@ use Rattle.po_shell.proofs.locale.candidates.distinct.Given as goal
 abbrev pub invariant-loop-name : goal.invariant-loop-name
 invariant-loop-name l = record {
   are_kept : map (λ name. name.items) l.kept.items ≡ distinct (map (λ name. name.items) (take l.name-index l.names));
-  met : HasNames l.met (map (λ name. name.items) l.kept.items);
+  seen : HasNames l.seen (map (λ name. name.items) l.kept.items);
 }
