@@ -76,7 +76,7 @@ pub fn evaluate(table: &[Node], count: u64) -> (Option<u64>, u32)
     }
 }
 
-/// The same, where at most `DEPTH` nodes wait.
+/// The value and the steps of an expression's table, with room for `DEPTH` nodes that wait.
 #[inline(never)]
 fn evaluate_within<const DEPTH: usize>(table: &[Node], count: u64) -> (Option<u64>, u32)
     requires laid { table.now ≡ post_order 0 (tree_of table.now) }

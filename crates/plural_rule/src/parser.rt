@@ -145,7 +145,8 @@ fn take_operand<const DEPTH: usize>(
     }
 }
 
-/// The same after a complete operand.
+/// Reads a token after a complete operand: whether one is complete after the token too, or `None` where it can't
+/// stand here.
 fn take_operator<const DEPTH: usize>(
     table: &mut Table,
     stack: &mut Stack<DEPTH>,
@@ -245,7 +246,7 @@ pub(crate) fn parse(text: &[u8], table: &mut Table) -> bool
     }
 }
 
-/// The same of a text of at most `DEPTH` bytes.
+/// Writes the expression of a text of at most `DEPTH` bytes, as `parse` does.
 #[inline(never)]
 fn parse_within<const DEPTH: usize>(text: &[u8], table: &mut Table) -> bool
     requires empty { table.old.items ≡ [] }

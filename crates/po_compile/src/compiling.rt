@@ -126,7 +126,8 @@ fn compile_whole(alloc: Global, text: &[u8], options: Options) -> Result<Compile
 
 /// Compiles the joined list of catalogues, in which `joined_duplicates` finds none. It gives the catalogues up: their
 /// texts are moved into the messages, and what else they hold is free before the file is laid out. Refused with
-/// `TooLarge`, at line 0 of input 0, where the file would have more than 4,294,967,295 bytes, and where an allocation failed.
+/// `TooLarge`, at line 0 of input 0, where the file would have more than 4,294,967,295 bytes, and where an allocation
+/// failed.
 pub fn compile_catalogues(
     alloc: Global,
     catalogues: Vec<Catalogue>,

@@ -42,7 +42,7 @@ pub fn read_distinct(alloc: Global, text: &[u8]) -> Result<Catalogue, PoError>
     Ok(catalogue)
 }
 
-/// The same of a text that is read in one piece.
+/// The catalogue of a text that is read in one piece, as `read_distinct` reads it.
 pub(crate) fn read_whole_distinct(alloc: Global, text: &[u8]) -> Result<Catalogue, PoError>
     ensures { MatchResult result (ReadsDistinct text.now) (λ e. (e ≡ out_of_memory)
         ⊎ ((e.kind ≢ PoFault.OutOfMemory) × IsTextFault text.now e)) }

@@ -1,7 +1,7 @@
 ghost use Rattle.std.specs.Prelude.{◌≡◌, ◌++◌, OnOk, codes, option_copied};
 ghost use Rattle.std.specs.List.{flat_map};
 ghost use Rattle.po_entry.specs.TextEntry.{texts};
-ghost use Rattle.po_writer.specs.WrittenText.{all_flags, comment_lines, entry_lines, form_lines, keyword_lines, own_lines, own_prefix, previous_lines, previous_prefix, translation_lines, elements_line};
+ghost use Rattle.po_writer.specs.WrittenText as written;
 
 use crate::keyword_lines::{push_form, push_keyword, push_optional};
 use po_entry::{Entry, Previous};
@@ -13,7 +13,8 @@ pub(crate) fn push_comments(
     mark: &[u8],
     comments: &[Vec<u8>],
 ) -> Result<(), AllocError>
-    ensures appended { OnOk result (out.new.items ≡ out.old.items ++ comment_lines mark.now (texts comments.now)) }
+    ensures appended { OnOk result (out.new.items
+        ≡ out.old.items ++ written.comment_lines mark.now (texts comments.now)) }
 {
     for comment in comments {
         out.extend_from_slice(mark)?;
@@ -43,7 +44,7 @@ pub(crate) fn push_elements(
     elements: &[Vec<u8>],
 ) -> Result<(), AllocError>
     ensures appended { OnOk result (out.new.items
-        ≡ out.old.items ++ elements_line mark.now separator.now (texts elements.now)) }
+        ≡ out.old.items ++ written.elements_line mark.now separator.now (texts elements.now)) }
 {
     let Some((first, others)) = elements.split_first() else {
         return Ok(());
@@ -62,7 +63,8 @@ pub(crate) fn push_flags(
     flags: &[Vec<u8>],
 ) -> Result<(), AllocError>
     ensures appended { OnOk result (out.new.items
-        ≡ out.old.items ++ elements_line (codes "#, ") (codes ", ") (all_flags fuzzy (texts flags.now))) }
+        ≡ out.old.items
+        ++ written.elements_line (codes "#, ") (codes ", ") (written.all_flags fuzzy (texts flags.now))) }
 {
     if !fuzzy {
         return push_elements(out, b"#, ", b", ", flags);
@@ -79,7 +81,7 @@ pub(crate) fn push_previous(
     prefix: &[u8],
     previous: &Previous,
 ) -> Result<(), AllocError>
-    ensures appended { OnOk result (out.new.items ≡ out.old.items ++ previous_lines prefix.now previous.now) }
+    ensures appended { OnOk result (out.new.items ≡ out.old.items ++ written.previous_lines prefix.now previous.now) }
 {
     push_optional(out, prefix, b"msgctxt", previous.context.as_deref())?;
     push_optional(out, prefix, b"msgid", previous.id.as_deref())?;
@@ -88,7 +90,8 @@ pub(crate) fn push_previous(
 
 /// Appends the plural forms, from index 0 on.
 fn push_forms(out: &mut Vec<u8>, prefix: &[u8], forms: &[Vec<u8>]) -> Result<(), AllocError>
-    ensures appended { OnOk result (out.new.items ≡ out.old.items ++ form_lines prefix.now 0 (texts forms.now)) }
+    ensures appended { OnOk result (out.new.items
+        ≡ out.old.items ++ written.form_lines prefix.now 0 (texts forms.now)) }
 {
     for (index, form) in forms.iter().enumerate() {
         push_form(out, prefix, index, form)?;
@@ -99,7 +102,7 @@ fn push_forms(out: &mut Vec<u8>, prefix: &[u8], forms: &[Vec<u8>]) -> Result<(),
 /// Appends the only form of a message without a plural.
 fn push_single(out: &mut Vec<u8>, prefix: &[u8], forms: &[Vec<u8>]) -> Result<(), AllocError>
     ensures appended { OnOk result (out.new.items
-        ≡ out.old.items ++ flat_map (keyword_lines prefix.now (codes "msgstr")) (texts forms.now)) }
+        ≡ out.old.items ++ flat_map (written.keyword_lines prefix.now (codes "msgstr")) (texts forms.now)) }
 {
     for form in forms {
         push_keyword(out, prefix, b"msgstr", form)?;
@@ -115,7 +118,7 @@ fn push_translation(
     forms: &[Vec<u8>],
 ) -> Result<(), AllocError>
     ensures appended { OnOk result (out.new.items
-        ≡ out.old.items ++ translation_lines prefix.now (option_copied plural.entry) (texts forms.now)) }
+        ≡ out.old.items ++ written.translation_lines prefix.now (option_copied plural.entry) (texts forms.now)) }
 {
     match plural {
         Some(plural) => {
@@ -128,7 +131,7 @@ fn push_translation(
 
 /// Appends an entry's own lines.
 fn push_own(out: &mut Vec<u8>, prefix: &[u8], entry: &Entry) -> Result<(), AllocError>
-    ensures appended { OnOk result (out.new.items ≡ out.old.items ++ own_lines prefix.now entry.now) }
+    ensures appended { OnOk result (out.new.items ≡ out.old.items ++ written.own_lines prefix.now entry.now) }
 {
     push_optional(out, prefix, b"msgctxt", entry.context())?;
     push_keyword(out, prefix, b"msgid", entry.id())?;
@@ -137,21 +140,21 @@ fn push_own(out: &mut Vec<u8>, prefix: &[u8], entry: &Entry) -> Result<(), Alloc
 
 /// What a line of a previous text begins with.
 fn previous_prefix(obsolete: bool) -> &'static [u8]
-    ensures { result.now ≡ previous_prefix obsolete }
+    ensures { result.now ≡ written.previous_prefix obsolete }
 {
     if obsolete { b"#~| " } else { b"#| " }
 }
 
 /// What a line of the entry's own begins with: `#~ ` in an obsolete entry.
 fn own_prefix(obsolete: bool) -> &'static [u8]
-    ensures { result.now ≡ own_prefix obsolete }
+    ensures { result.now ≡ written.own_prefix obsolete }
 {
     if obsolete { b"#~ " } else { b"" }
 }
 
 /// Appends all lines of an entry.
 pub(crate) fn push_entry(out: &mut Vec<u8>, entry: &Entry) -> Result<(), AllocError>
-    ensures appended { OnOk result (out.new.items ≡ out.old.items ++ entry_lines entry.now) }
+    ensures appended { OnOk result (out.new.items ≡ out.old.items ++ written.entry_lines entry.now) }
 {
     push_comments(out, b"#", entry.comments())?;
     push_comments(out, b"#.", entry.extracted())?;
