@@ -3,7 +3,6 @@ use Rattle.std.proofs.Common.{◌≡◌, ◌≢◌, ◌∙◌, ℕ, List, IfOk, 
 use Rattle.std.proofs.lemmas.Result.{IfOk-weaker}
 use Rattle.po_syntax.specs.declared.fault.PoError.{PoError}
 use Rattle.po_syntax.specs.declared.fault.PoFault.TheVariants.{OutOfMemory}
-use Rattle.po_shell.specs.declared.fault.ToolFault.{ToolFault}
 use Rattle.po_entry.specs.TextEntry.{TextEntry}
 use Rattle.po_catalog.specs.Duplicate.{IsDuplicateErrorOf}
 use Rattle.po_compile.specs.Accepted.{ReadsDistinct}
@@ -13,7 +12,7 @@ use Rattle.po_tools.specs.declared.run.Run.{Run}
 use Rattle.po_tools.specs.Msgattrib.{IsMsgattribRun, error_line}
 use Rattle.po_tools.specs.Run.{refusal, report}
 
-pub run-repeating : (name text : List ℕ) (s : Selection) (entries : List TextEntry) (error : PoError) (r : Result Run ToolFault)
+pub run-repeating : {E : Type 0} (name text : List ℕ) (s : Selection) (entries : List TextEntry) (error : PoError) (r : Result Run E)
     → ReadsDistinct text entries → IsDuplicateErrorOf (selected s entries) error
     → IfOk r (λ run. (error.kind ≢ OutOfMemory) × (report run ≡ refusal (error_line name (record error { line = 0 }))))
     → IfOk r (λ run. IsMsgattribRun name s text (report run))

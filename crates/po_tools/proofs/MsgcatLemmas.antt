@@ -17,7 +17,6 @@ use Rattle.po_merge.specs.declared.input.Named.{Named}
 use Rattle.po_merge.specs.Inputs.{Input}
 use Rattle.po_merge.specs.InputsView.{input_view, inputs_view}
 use Rattle.po_merge.specs.Merged.{merged, IsMergeFault}
-use Rattle.po_shell.specs.declared.fault.ToolFault.{ToolFault}
 use Rattle.po_tools.specs.declared.run.Run.{Run}
 use Rattle.po_tools.specs.Msgcat.{IsReadAs, AreReadAs, IsFileFault, IsMsgcatRun, first_name, msgcat_line}
 use Rattle.po_tools.specs.NamedFile.{NamedFile, named_file, named_files}
@@ -71,7 +70,7 @@ file_fault files i e inputs error l h fault =
       fault = fault;
     }
 
-pub foreign_run : (files : List NamedFile) (o : MergeOptions) (inputs : List Input) (name : List ℕ) (error : PoError) (r : Result Run ToolFault) → AreReadAs files inputs → IsMergeFault (merged o inputs) error → name ≡ first_name files
+pub foreign_run : {E : Type 0} (files : List NamedFile) (o : MergeOptions) (inputs : List Input) (name : List ℕ) (error : PoError) (r : Result Run E) → AreReadAs files inputs → IsMergeFault (merged o inputs) error → name ≡ first_name files
     → IfOk r (λ run. (error.kind ≢ OutOfMemory) × (report run ≡ refusal (msgcat_line name error))) → IfOk r (λ run. IsMsgcatRun files o (report run))
 foreign_run files o inputs name error (Err e) read fault name_is run = tt
 foreign_run files o inputs name error (Ok made) read (inl memory) name_is run = absurd (run.0 (ap (λ (e : PoError). e.kind) memory))
@@ -83,7 +82,7 @@ name_lacks files i e l h =
     let inside : i < length (named_files files) = omega (arith, l, length-map files named_file) in
     subst (λ (f : NamedFile). Lacks 0 f.name) (sym (file_at files i e l)) (h i (named_file (get_or files i e)) inside)
 
-pub merged_run : (files : List NamedFile) (o : MergeOptions) (inputs : List Input) (catalogue : List TextEntry) (r : Result Run ToolFault) → AreReadAs files inputs → catalogue ≡ merged o inputs
+pub merged_run : {E : Type 0} (files : List NamedFile) (o : MergeOptions) (inputs : List Input) (catalogue : List TextEntry) (r : Result Run E) → AreReadAs files inputs → catalogue ≡ merged o inputs
     → OnOk r (All IsCatalogueEntry catalogue) → IfOk r (λ run. report run ≡ written_run catalogue) → IfOk r (λ run. IsMsgcatRun files o (report run))
 merged_run files o inputs catalogue (Err e) read is valid run = tt
 merged_run files o inputs catalogue (Ok made) read is valid run =

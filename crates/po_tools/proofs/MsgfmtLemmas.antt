@@ -5,7 +5,6 @@ use Rattle.std.proofs.lemmas.Result.{IfOk-weaker}
 use Rattle.std.proofs.lemmas.Slice.Zip.{AllZip-long}
 use Rattle.std.specs.Borrow.{Bor}
 use Rattle.po_syntax.specs.declared.fault.PoFault.TheVariants.{OutOfMemory as NoMemory}
-use Rattle.po_shell.specs.declared.fault.ToolFault.{ToolFault}
 use Rattle.po_entry.specs.TextEntry.{TextEntry}
 use Rattle.po_catalog.specs.Joined.{joined_entries}
 use Rattle.po_catalog.specs.declared.duplicate.JoinError.{JoinError}
@@ -36,13 +35,13 @@ layout-refuses options texts catalogues error read fault =
     ⊎_elim (λ memory. inl (inl memory))
     (λ large. inr (record { catalogues = catalogues; read = read; large = large.1; error_is = large.0 })) fault
 
-pub run-refused : (inputs : List NamedFile) (o : MsgfmtOptions) (error : JoinError) (r : Result Run ToolFault) → IsCompileFault (compile_options o) (input_texts inputs) error
+pub run-refused : {E : Type 0} (inputs : List NamedFile) (o : MsgfmtOptions) (error : JoinError) (r : Result Run E) → IsCompileFault (compile_options o) (input_texts inputs) error
     → IfOk r (λ run. (error.error.kind ≢ NoMemory) × (report run ≡ refusal (join_line inputs error))) → IfOk r (λ run. IsMsgfmtRun inputs o (report run))
 run-refused inputs o error r fault =
     IfOk-weaker r (λ run. (error.error.kind ≢ NoMemory) × (report run ≡ refusal (join_line inputs error))) (λ run. IsMsgfmtRun inputs o (report run))
     (λ run reported. inl (record { error = error; fault = fault; not_memory = reported.0; report = reported.1 }))
 
-pub run-unfit : (inputs : List NamedFile) (o : MsgfmtOptions) (catalogues : List (List TextEntry)) (compiled : Compiled) (fault : Reported) (r : Result Run ToolFault)
+pub run-unfit : {E : Type 0} (inputs : List NamedFile) (o : MsgfmtOptions) (catalogues : List (List TextEntry)) (compiled : Compiled) (fault : Reported) (r : Result Run E)
     → AreRead (input_texts inputs) catalogues → IsCompilation (compile_options o) (joined_entries catalogues) compiled
     → (fault ≡ (0, OutOfMemory)) ⊎ ((o.profile_check ≡ true) × AreChecked o.use_fuzzy catalogues (Some fault))
     → IfOk r (λ run. (fault.1 ≢ OutOfMemory) × (report run ≡ refusal (check_line inputs fault))) → IfOk r (λ run. IsMsgfmtRun inputs o (report run))
@@ -54,13 +53,13 @@ run-unfit inputs o catalogues compiled fault r read is_compiled found =
       read = read;
       compiled = compiled;
       is_compiled = is_compiled;
-      gettext_view = checked.0;
+      asked = checked.0;
       fault = fault;
       checked = checked.1;
       report = reported.1;
     }))) found)
 
-pub run-done : (inputs : List NamedFile) (o : MsgfmtOptions) (catalogues : List (List TextEntry)) (compiled : Compiled) (r : Result Run ToolFault)
+pub run-done : {E : Type 0} (inputs : List NamedFile) (o : MsgfmtOptions) (catalogues : List (List TextEntry)) (compiled : Compiled) (r : Result Run E)
     → AreRead (input_texts inputs) catalogues → IsCompilation (compile_options o) (joined_entries catalogues) compiled
     → (o.profile_check ≡ true → AreChecked o.use_fuzzy catalogues None)
     → IfOk r (λ run. report run ≡ compiled_run o compiled) → IfOk r (λ run. IsMsgfmtRun inputs o (report run))
@@ -72,7 +71,7 @@ run-done inputs o catalogues compiled r read is_compiled checked =
 pub taken : (inputs : List NamedFile) (o unchecked : MsgfmtOptions) (run : Report) → unchecked.profile_check ≡ false → compile_options unchecked ≡ compile_options o
     → IsMsgfmtRun inputs unchecked run → run.status ≡ 0 → AreTaken inputs o
 taken inputs o unchecked run none same (inl refused) ok = let one : run.status ≡ 1 = ap (λ r. r.status) refused.report in absurd (omega (arith, one, ok))
-taken inputs o unchecked run none same (inr (inl unfit)) ok = let wrong : true ≡ false = sym unfit.gettext_view ∙ none in cc
+taken inputs o unchecked run none same (inr (inl unfit)) ok = let wrong : true ≡ false = sym unfit.asked ∙ none in cc
 taken inputs o unchecked run none same (inr (inr done)) ok =
     let Of : Options → Type 0 = λ options. IsCompilation options (joined_entries done.catalogues) done.compiled in
     inr (done.compiled, record { catalogues = done.catalogues; read = done.read; is_compiled = subst Of same done.is_compiled })
@@ -83,7 +82,7 @@ pub refused : (inputs : List NamedFile) (o unchecked : MsgfmtOptions) (run : Rep
 refused inputs o unchecked run none same (inl reported) bad =
     let Of : Options → Type 0 = λ options. IsCompileFault options (input_texts inputs) reported.error in
     record { error = reported.error; fault = subst Of same reported.fault; not_memory = reported.not_memory; report = reported.report }
-refused inputs o unchecked run none same (inr (inl unfit)) bad = let wrong : true ≡ false = sym unfit.gettext_view ∙ none in cc
+refused inputs o unchecked run none same (inr (inl unfit)) bad = let wrong : true ≡ false = sym unfit.asked ∙ none in cc
 refused inputs o unchecked run none same (inr (inr done)) bad = absurd (bad (ap (λ r. r.status) done.report))
 
 -- what is reported where an input can't be read is reported of the inputs before it

@@ -130,9 +130,9 @@ module _ (one_list : MessagesAreOne) (one_reading : CataloguesAreOne) (no_fault 
       let fault : is.fault ≡ also.fault = cc in
       is.report ∙ ap (λ (reported : Reported). refusal (check_line inputs reported)) fault ∙ sym also.report
   msgfmt_once inputs o run other (inr (inl is)) (inr (inr also)) =
-      let faults = same_check inputs o is.catalogues also.catalogues (Some is.fault) None is.read also.read is.checked (also.checked is.gettext_view) in cc
+      let faults = same_check inputs o is.catalogues also.catalogues (Some is.fault) None is.read also.read is.checked (also.checked is.asked) in cc
   msgfmt_once inputs o run other (inr (inr is)) (inr (inl also)) =
-      let faults = same_check inputs o is.catalogues also.catalogues None (Some also.fault) is.read also.read (is.checked also.gettext_view) also.checked in cc
+      let faults = same_check inputs o is.catalogues also.catalogues None (Some also.fault) is.read also.read (is.checked also.asked) also.checked in cc
   msgfmt_once inputs o run other (inr (inr is)) (inr (inr also)) =
       let catalogues : also.catalogues ≡ is.catalogues = one_reading (input_texts inputs) also.catalogues is.catalogues also.read is.read in
       let again = subst (λ (list : List (List TextEntry)). IsCompilation (compile_options o) (joined_entries list) also.compiled) catalogues also.is_compiled in

@@ -97,7 +97,7 @@ pub record IsUnfit (inputs : List NamedFile) (o : MsgfmtOptions) (run : Report) 
   pub read : AreRead (input_texts inputs) catalogues
   pub compiled : Compiled
   pub is_compiled : IsCompilation (compile_options o) (joined_entries catalogues) compiled
-  pub gettext_view : o.profile_check ≡ true
+  pub asked : o.profile_check ≡ true
   pub fault : Reported
   pub checked : AreChecked o.use_fuzzy catalogues (Some fault)
   pub report : run ≡ refusal (check_line inputs fault)

@@ -1,5 +1,5 @@
-ghost use Rattle.std.specs.Prelude.{◌≡◌, ◌++◌, ◌∷◌, ℕ, List, [], codes, decimal, OnOk};
-ghost use Rattle.po_tools.specs.FaultText.{po_text, mo_text, duplicate_text, location};
+ghost use Rattle.std.specs.Prelude.{◌≡◌, ◌++◌, decimal, OnOk};
+ghost use Rattle.po_tools.specs.FaultText.{location, mo_text, po_text};
 
 use itoa::Buffer;
 use mo_file::MoError;

@@ -7,7 +7,7 @@ ghost use Rattle.po_shell.specs.Counts.{count_in};
 ghost use Rattle.po_shell.specs.Escapes.{expansion, has_no_newline};
 ghost use Rattle.po_tools.specs.FaultText.{fault_line, mo_text};
 ghost use Rattle.po_tools.specs.Run.{report};
-ghost use Rattle.po_tools.specs.Gettext.{IsGettextRun, IsNgettextRun, Opens, answers, ngettext_output, stops_line, argument_answer};
+ghost use Rattle.po_tools.specs.Gettext as Spec;
 ghost use Rattle.po_tools.specs.GettextView.{gettext_view, ngettext_view};
 ghost use Rattle.po_tools.specs.NamedFile.{named_files};
 ghost use Rattle.po_tools.specs.OpensFile.{OpensFile};
@@ -16,7 +16,7 @@ use crate::fault_text::{push_location, push_mo_text};
 use crate::run::Run;
 use mo_file::{Meter, MoError};
 use mo_lookup::{Catalog, Chain};
-use po_shell::{ToolFault, count_of, expand};
+use po_shell::{Expanded, ToolFault, count_of, expand};
 use std::alloc::{AllocError, Global};
 
 /// What `gettext` is asked for, as its arguments were given.
@@ -99,7 +99,7 @@ fn open_all<'a>(
     tool: &str,
     files: &[(&str, &'a [u8])],
 ) -> Result<Opened<'a>, AllocError>
-    ensures opens { IfOk result (λ opened. Opens tool.now (named_files files.now) opened.catalogs.items
+    ensures opens { IfOk result (λ opened. Spec.Opens tool.now (named_files files.now) opened.catalogs.items
         opened.messages.items) }
     ensures few { IfOk result (λ opened. length opened.catalogs.items ≤ length files.now) }
 {
@@ -137,6 +137,17 @@ where
     output.extend_from_slice(answer.text)
 }
 
+/// Expands the escapes of an argument.
+fn expanded(alloc: Global, argument: &str) -> Result<Expanded, AllocError>
+    ensures bytes { IfOk result (λ expanded. expanded.bytes.items ≡ expansion argument.now) }
+    ensures no_newline { IfOk result (λ expanded. expanded.no_newline ≡ has_no_newline argument.now) }
+{
+    let Ok(expanded) = expand(alloc, argument.as_bytes()) else {
+        return Err(AllocError);
+    };
+    Ok(expanded)
+}
+
 /// Appends the answer to a MSGID with its escapes expanded, and says whether a `\c` is among them.
 fn push_expanded(
     alloc: Global,
@@ -144,7 +155,7 @@ fn push_expanded(
     chain: &Chain<'_, '_>,
     context: Option<&str>,
     argument: &str,
-) -> Result<bool, ToolFault>
+) -> Result<bool, AllocError>
     ensures answer { OnOk result (output.new.items ≡ output.old.items
         ++ (chain_answered chain.now (record {
           context = option_copied context.entry;
@@ -152,9 +163,8 @@ fn push_expanded(
           plural = None;
         })).text) }
     ensures no_newline { IfOk result (λ stops. stops ≡ has_no_newline argument.now) }
-    ensures fault { OnErr result (result ≡ Err ToolFault.OutOfMemory) }
 {
-    let expanded = expand(alloc, argument.as_bytes())?;
+    let expanded = expanded(alloc, argument)?;
     push_text(output, chain, context, &expanded.bytes, None)?;
     Ok(expanded.no_newline)
 }
@@ -166,11 +176,10 @@ fn push_answer(
     chain: &Chain<'_, '_>,
     options: &GettextOptions<'_>,
     argument: &str,
-) -> Result<bool, ToolFault>
+) -> Result<bool, AllocError>
     ensures answer { OnOk result (output.new.items ≡ output.old.items
-        ++ argument_answer chain.now (gettext_view options.now) argument.now) }
-    ensures no_newline { IfOk result (λ stops. stops ≡ stops_line (gettext_view options.now) argument.now) }
-    ensures fault { OnErr result (result ≡ Err ToolFault.OutOfMemory) }
+        ++ Spec.argument_answer chain.now (gettext_view options.now) argument.now) }
+    ensures no_newline { IfOk result (λ stops. stops ≡ Spec.stops_line (gettext_view options.now) argument.now) }
 {
     if options.expand {
         return push_expanded(alloc, output, chain, options.context, argument);
@@ -185,12 +194,11 @@ fn push_answers(
     output: &mut Vec<u8>,
     chain: &Chain<'_, '_>,
     options: &GettextOptions<'_>,
-) -> Result<bool, ToolFault>
+) -> Result<bool, AllocError>
     ensures answers { OnOk result (output.new.items ≡ output.old.items
-        ++ answers chain.now (gettext_view options.now)) }
+        ++ Spec.answers chain.now (gettext_view options.now)) }
     ensures no_newline { IfOk result (λ stops. stops
-        ≡ list_any (stops_line (gettext_view options.now)) (gettext_view options.now).arguments) }
-    ensures fault { OnErr result (result ≡ Err ToolFault.OutOfMemory) }
+        ≡ list_any (Spec.stops_line (gettext_view options.now)) (gettext_view options.now).arguments) }
 {
     let Some((first, others)) = options.messages.split_first() else {
         return Ok(false);
@@ -214,7 +222,7 @@ pub fn plan_gettext(
     options: &GettextOptions<'_>,
 ) -> Result<Run, ToolFault>
     requires { length catalogues.now < 2 ^ 32 }
-    ensures run { IfOk result (λ run. IsGettextRun (named_files catalogues.now) (gettext_view options.now)
+    ensures run { IfOk result (λ run. Spec.IsGettextRun (named_files catalogues.now) (gettext_view options.now)
         (report run)) }
     ensures fault { OnErr result (result ≡ Err ToolFault.OutOfMemory) }
 {
@@ -239,18 +247,17 @@ fn push_expanded_plural(
     output: &mut Vec<u8>,
     chain: &Chain<'_, '_>,
     options: &NgettextOptions<'_>,
-) -> Result<(), ToolFault>
-    ensures answer { OnOk result (let o = ngettext_view options.now in output.new.items ≡ output.old.items
+) -> Result<(), AllocError>
+    ensures { OnOk result (let o = ngettext_view options.now in output.new.items ≡ output.old.items
         ++ (chain_answered chain.now (record {
           context = o.context;
           id = expansion o.id;
           plural = Some (expansion o.plural, count_in o.count);
         })).text) }
-    ensures fault { OnErr result (result ≡ Err ToolFault.OutOfMemory) }
 {
     let count = count_of(options.count.as_bytes());
-    let id = expand(alloc, options.id.as_bytes())?.bytes;
-    let plural = expand(alloc, options.plural.as_bytes())?.bytes;
+    let id = expanded(alloc, options.id)?.bytes;
+    let plural = expanded(alloc, options.plural)?.bytes;
     push_text(output, chain, options.context, &id, Some((&plural, count)))?;
     Ok(())
 }
@@ -261,10 +268,9 @@ fn push_plural_answer(
     output: &mut Vec<u8>,
     chain: &Chain<'_, '_>,
     options: &NgettextOptions<'_>,
-) -> Result<(), ToolFault>
-    ensures answer { OnOk result (output.new.items ≡ output.old.items
-        ++ ngettext_output chain.now (ngettext_view options.now)) }
-    ensures fault { OnErr result (result ≡ Err ToolFault.OutOfMemory) }
+) -> Result<(), AllocError>
+    ensures { OnOk result (output.new.items ≡ output.old.items
+        ++ Spec.ngettext_output chain.now (ngettext_view options.now)) }
 {
     if options.expand {
         return push_expanded_plural(alloc, output, chain, options);
@@ -277,8 +283,7 @@ fn push_plural_answer(
         options.context,
         options.id.as_bytes(),
         plural,
-    )?;
-    Ok(())
+    )
 }
 
 /// What `ngettext` writes over the catalogues that could be read, in the order in which they are asked: the form
@@ -290,7 +295,7 @@ pub fn plan_ngettext(
     options: &NgettextOptions<'_>,
 ) -> Result<Run, ToolFault>
     requires { length catalogues.now < 2 ^ 32 }
-    ensures run { IfOk result (λ run. IsNgettextRun (named_files catalogues.now) (ngettext_view options.now)
+    ensures run { IfOk result (λ run. Spec.IsNgettextRun (named_files catalogues.now) (ngettext_view options.now)
         (report run)) }
     ensures fault { OnErr result (result ≡ Err ToolFault.OutOfMemory) }
 {

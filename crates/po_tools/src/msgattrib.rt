@@ -1,8 +1,8 @@
 ghost use Rattle.std.specs.Prelude.{◌≡◌, ◌≢◌, ◌⊎◌, ◌+◌, ◌^◌, ◌<◌, ◌≤◌, IfOk, OnErr, IsErrOf, Err};
 ghost use Rattle.std.specs.Io.KnownBytes.{Keeps};
 ghost use Rattle.po_tools.specs.Delivered.{IsCut, IsDelivered};
-ghost use Rattle.po_tools.specs.Msgattrib.{IsMsgattribRun, error_line};
-ghost use Rattle.po_tools.specs.Run.{refusal, report};
+ghost use Rattle.po_tools.specs.Msgattrib.{IsMsgattribRun};
+ghost use Rattle.po_tools.specs.Run.{report};
 
 use crate::run::{Run, deliver};
 use crate::selected_text::selected_text;
@@ -12,7 +12,7 @@ use po_compile::read_distinct;
 use po_select::{Selection, select};
 use po_shell::{ByteIn, ByteOut, ToolFault, read_input};
 use po_syntax::PoError;
-use std::alloc::Global;
+use std::alloc::{AllocError, Global};
 
 /// What `msgattrib` writes and reports of a text with its name: the selected entries, changed as the
 /// selection says, and a file where there is one. A text that is refused is reported by one line,
@@ -29,7 +29,7 @@ pub fn plan_msgattrib(
 {
     match selected_text(alloc, text, selection)? {
         Some(output) => Ok(text_run(alloc, output)),
-        None => plan_whole(alloc, text, name, selection),
+        None => Ok(plan_whole(alloc, text, name, selection)?),
     }
 }
 
@@ -39,16 +39,15 @@ fn plan_whole(
     text: &[u8],
     name: &str,
     selection: &Selection,
-) -> Result<Run, ToolFault>
-    ensures run { IfOk result (λ run. IsMsgattribRun name.now selection.now text.now (report run)) }
-    ensures memory { OnErr result (result ≡ Err ToolFault.OutOfMemory) }
+) -> Result<Run, AllocError>
+    ensures { IfOk result (λ run. IsMsgattribRun name.now selection.now text.now (report run)) }
 {
     let catalogue = match read_distinct(alloc, text) {
         Ok(catalogue) => catalogue,
         Err(error) => return refused_text(alloc, "msgattrib", name, error),
     };
     let Ok(selected) = select(catalogue, selection) else {
-        return Err(ToolFault::OutOfMemory);
+        return Err(AllocError);
     };
     match duplicates(alloc, &selected) {
         Ok(()) => written_run(alloc, &selected),

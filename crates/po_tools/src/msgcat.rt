@@ -21,7 +21,7 @@ use po_select::Selection;
 use po_select::laws::nothing_given_selects_all;
 use po_shell::ToolFault;
 use po_syntax::{PoError, PoFault};
-use std::alloc::Global;
+use std::alloc::{AllocError, Global};
 
 /// The selection of every entry, unchanged.
 const EVERY_ENTRY: Selection = Selection {
@@ -104,7 +104,7 @@ pub fn plan_msgcat(
 {
     match text_of_pieces(alloc, inputs, options)? {
         Some(output) => Ok(text_run(alloc, output)),
-        None => plan_merged(alloc, inputs, options),
+        None => Ok(plan_merged(alloc, inputs, options)?),
     }
 }
 
@@ -113,10 +113,9 @@ fn plan_merged(
     alloc: Global,
     inputs: &[(&str, &[u8])],
     options: &MergeOptions,
-) -> Result<Run, ToolFault>
+) -> Result<Run, AllocError>
     requires { All (λ file. Lacks 0 file.name) (named_files inputs.now) }
-    ensures run { IfOk result (λ run. IsMsgcatRun (named_files inputs.now) options.now (report run)) }
-    ensures memory { OnErr result (result ≡ Err ToolFault.OutOfMemory) }
+    ensures { IfOk result (λ run. IsMsgcatRun (named_files inputs.now) options.now (report run)) }
 {
     let catalogues = match read_files(alloc, inputs) {
         Ok(catalogues) => catalogues,
@@ -143,7 +142,7 @@ fn text_of_pieces(
     nothing_given_selects_all();
     one_input_stays();
     match inputs {
-        [(_, text)] if keeps_all(options) => selected_text(alloc, text, &EVERY_ENTRY),
+        [(_, text)] if keeps_all(options) => Ok(selected_text(alloc, text, &EVERY_ENTRY)?),
         [_, _, ..] if keeps_all(options) => merged_text(alloc, inputs, options),
         _ => Ok(None),
     }

@@ -202,13 +202,12 @@ fn push_check_text(out: &mut Vec<u8>, fault: CheckFault) -> Result<(), AllocErro
 }
 
 /// The run of inputs that aren't compiled.
-fn refused_run(alloc: Global, inputs: &[(&str, &[u8])], error: JoinError) -> Result<Run, ToolFault>
-    ensures run { IfOk result (λ run. (error.error.kind ≢ PoFault.OutOfMemory)
+fn refused_run(alloc: Global, inputs: &[(&str, &[u8])], error: JoinError) -> Result<Run, AllocError>
+    ensures { IfOk result (λ run. (error.error.kind ≢ PoFault.OutOfMemory)
         × (report run ≡ refusal (join_line (named_files inputs.now) error))) }
-    ensures memory { OnErr result (result ≡ Err ToolFault.OutOfMemory) }
 {
     if error.error.kind == PoFault::OutOfMemory {
-        return Err(ToolFault::OutOfMemory);
+        return Err(AllocError);
     }
     let mut messages = Vec::new(alloc);
     push_location(
@@ -228,13 +227,12 @@ fn unfit_run(
     inputs: &[(&str, &[u8])],
     input: u32,
     fault: CheckFault,
-) -> Result<Run, ToolFault>
-    ensures run { IfOk result (λ run. (fault ≢ CheckFault.OutOfMemory)
+) -> Result<Run, AllocError>
+    ensures { IfOk result (λ run. (fault ≢ CheckFault.OutOfMemory)
         × (report run ≡ refusal (check_line (named_files inputs.now) (input, fault)))) }
-    ensures memory { OnErr result (result ≡ Err ToolFault.OutOfMemory) }
 {
     if fault == CheckFault::OutOfMemory {
-        return Err(ToolFault::OutOfMemory);
+        return Err(AllocError);
     }
     let mut messages = Vec::new(alloc);
     push_location(
@@ -253,15 +251,11 @@ fn compiled_run(
     alloc: Global,
     options: &MsgfmtOptions,
     compiled: Compiled,
-) -> Result<Run, ToolFault>
-    ensures run { IfOk result (λ run. report run ≡ compiled_run options.now compiled) }
-    ensures memory { OnErr result (result ≡ Err ToolFault.OutOfMemory) }
+) -> Result<Run, AllocError>
+    ensures { IfOk result (λ run. report run ≡ compiled_run options.now compiled) }
 {
     let messages = match options.statistics {
-        true => match compiled.stats.line(alloc) {
-            Ok(line) => line,
-            Err(_) => return Err(ToolFault::OutOfMemory),
-        },
+        true => compiled.stats.line(alloc).map_err(|_| AllocError)?,
         false => Vec::new(alloc),
     };
     let create = compiled.n > 0;
@@ -284,11 +278,10 @@ fn plan_catalogues(
     inputs: &[(&str, &[u8])],
     catalogues: Vec<Catalogue>,
     options: &MsgfmtOptions,
-) -> Result<Run, ToolFault>
+) -> Result<Run, AllocError>
     requires few { length catalogues.items < 2 ^ 32 }
     requires read { AreRead (input_texts (named_files inputs.now)) catalogues.items }
-    ensures run { IfOk result (λ run. IsMsgfmtRun (named_files inputs.now) options.now (report run)) }
-    ensures memory { OnErr result (result ≡ Err ToolFault.OutOfMemory) }
+    ensures { IfOk result (λ run. IsMsgfmtRun (named_files inputs.now) options.now (report run)) }
 {
     let checked = checked(alloc, &catalogues, options);
     let compile_options = Options {
@@ -311,12 +304,11 @@ fn plan_compiled(
     inputs: &[(&str, &[u8])],
     texts: &[&[u8]],
     options: &MsgfmtOptions,
-) -> Result<Run, ToolFault>
+) -> Result<Run, AllocError>
     requires few { length texts.now < 2 ^ 32 }
     requires texts { slice_texts texts.now ≡ input_texts (named_files inputs.now) }
     requires unchecked { options.now.profile_check ≡ false }
-    ensures run { IfOk result (λ run. IsMsgfmtRun (named_files inputs.now) options.now (report run)) }
-    ensures memory { OnErr result (result ≡ Err ToolFault.OutOfMemory) }
+    ensures { IfOk result (λ run. IsMsgfmtRun (named_files inputs.now) options.now (report run)) }
 {
     let compile_options = Options {
         use_fuzzy: options.use_fuzzy,
@@ -346,11 +338,11 @@ pub fn plan_msgfmt(
 {
     let texts = texts_of(alloc, inputs)?;
     if !options.profile_check {
-        return plan_compiled(alloc, inputs, &texts, options);
+        return Ok(plan_compiled(alloc, inputs, &texts, options)?);
     }
     match read_all(alloc, &texts) {
-        Ok(catalogues) => plan_catalogues(alloc, inputs, catalogues, options),
-        Err(error) => refused_run(alloc, inputs, error),
+        Ok(catalogues) => Ok(plan_catalogues(alloc, inputs, catalogues, options)?),
+        Err(error) => Ok(refused_run(alloc, inputs, error)?),
     }
 }
 

@@ -30,13 +30,12 @@ fn push_unformat_text(out: &mut Vec<u8>, error: UnformatError) -> Result<(), All
 }
 
 /// The run of a file that has no text.
-fn refused_run(alloc: Global, name: &str, error: UnformatError) -> Result<Run, ToolFault>
-    ensures run { IfOk result (λ run. (error ≢ UnformatError.OutOfMemory)
+fn refused_run(alloc: Global, name: &str, error: UnformatError) -> Result<Run, AllocError>
+    ensures { IfOk result (λ run. (error ≢ UnformatError.OutOfMemory)
         × (report run ≡ refusal (unformat_line name.now error))) }
-    ensures memory { OnErr result (result ≡ Err ToolFault.OutOfMemory) }
 {
     if error == UnformatError::OutOfMemory {
-        return Err(ToolFault::OutOfMemory);
+        return Err(AllocError);
     }
     let mut messages = Vec::new(alloc);
     push_location(&mut messages, "msgunfmt", name, 0)?;
@@ -68,7 +67,7 @@ pub fn plan_msgunfmt(alloc: Global, bytes: &[u8], name: &str) -> Result<Run, Too
 {
     match unformat(alloc, bytes) {
         Ok(text) => Ok(unformatted_run(alloc, text)),
-        Err(error) => refused_run(alloc, name, error),
+        Err(error) => Ok(refused_run(alloc, name, error)?),
     }
 }
 

@@ -4,7 +4,7 @@ ghost use Rattle.po_entry.specs.TextEntry.{texts};
 ghost use Rattle.po_entry.specs.Header.{first_form};
 ghost use Rattle.po_catalog.specs.JoinedView.{input_entries, input_entry};
 ghost use Rattle.plural_rule.specs.PluralRule.{IsRuleOf, expression_limit};
-ghost use Rattle.po_tools.specs.Profile.{IsChecked, counts_below, count_fault, differ, differs_from_msgid, end_byte, has_newline, entry_fault, first_fault, first_some, is_header_entry, is_plural, rule_fault};
+ghost use Rattle.po_tools.specs.Profile as Spec;
 
 use plural_rule::{Reason, Rule, Source};
 use po_catalog::JoinedEntry;
@@ -45,7 +45,7 @@ const CHECKED_COUNTS: u64 = 1001;
 
 /// Whether the entry has a plural.
 fn is_plural(joined: &JoinedEntry<'_>) -> bool
-    ensures { result ≡ is_plural (input_entry joined.now) }
+    ensures { result ≡ Spec.is_plural (input_entry joined.now) }
 {
     joined.entry.plural().is_some()
 }
@@ -61,7 +61,7 @@ pub(crate) enum End {
 
 /// The byte at this end of a text, where it has one.
 fn end_byte(end: End, text: &[u8]) -> Option<u8>
-    ensures { result ≡ end_byte end text.now }
+    ensures { result ≡ Spec.end_byte end text.now }
 {
     match end {
         End::Beginning => text.first().copied(),
@@ -71,7 +71,7 @@ fn end_byte(end: End, text: &[u8]) -> Option<u8>
 
 /// Whether a text has a newline at this end.
 fn has_newline(end: End, text: &[u8]) -> bool
-    ensures { result ≡ has_newline end text.now }
+    ensures { result ≡ Spec.has_newline end text.now }
 {
     match end_byte(end, text) {
         Some(byte) => byte == b'\n',
@@ -81,7 +81,7 @@ fn has_newline(end: End, text: &[u8]) -> bool
 
 /// Whether one of some forms has a newline at this end where it is not wanted, or none where it is.
 fn any_differs(end: End, wanted: bool, forms: &[Vec<u8>]) -> bool
-    ensures { result ≡ list_any (λ text. differ wanted (has_newline end text)) (texts forms.now) }
+    ensures { result ≡ list_any (λ text. Spec.differ wanted (Spec.has_newline end text)) (texts forms.now) }
 {
     for form in forms {
         if has_newline(end, form) != wanted {
@@ -93,7 +93,7 @@ fn any_differs(end: End, wanted: bool, forms: &[Vec<u8>]) -> bool
 
 /// Whether the plural or a form differs from the msgid in having a newline at this end.
 fn differs_from_msgid(end: End, entry: &Entry) -> bool
-    ensures { result ≡ differs_from_msgid end entry.now }
+    ensures { result ≡ Spec.differs_from_msgid end entry.now }
 {
     let wanted = has_newline(end, entry.id());
     let plural_differs = match entry.plural() {
@@ -105,7 +105,7 @@ fn differs_from_msgid(end: End, entry: &Entry) -> bool
 
 /// What is wrong with an entry but the header, with its input.
 fn entry_fault(nplurals: u64, joined: &JoinedEntry<'_>) -> Option<(u32, CheckFault)>
-    ensures { result ≡ entry_fault nplurals (input_entry joined.now) }
+    ensures { result ≡ Spec.entry_fault nplurals (input_entry joined.now) }
 {
     let entry = joined.entry;
     let line = entry.line();
@@ -125,7 +125,7 @@ fn entry_fault(nplurals: u64, joined: &JoinedEntry<'_>) -> Option<(u32, CheckFau
 
 /// What is wrong with a rule's value at a count.
 fn count_fault(rule: &Rule, count: u64) -> Option<(u32, CheckFault)>
-    ensures { result ≡ count_fault rule.now count }
+    ensures { result ≡ Spec.count_fault rule.now count }
 {
     match rule.eval(count).0 {
         None => Some((0, CheckFault::Undefined(count))),
@@ -136,7 +136,7 @@ fn count_fault(rule: &Rule, count: u64) -> Option<(u32, CheckFault)>
 
 /// The first of the entries, but for the header, with something wrong.
 fn first_entry_fault(nplurals: u64, entries: &[JoinedEntry<'_>]) -> Option<(u32, CheckFault)>
-    ensures { result ≡ first_some (entry_fault nplurals) (input_entries entries.now) }
+    ensures { result ≡ Spec.first_some (Spec.entry_fault nplurals) (input_entries entries.now) }
 {
     for joined in entries {
         if let Some(fault) = entry_fault(nplurals, joined) {
@@ -148,7 +148,7 @@ fn first_entry_fault(nplurals: u64, entries: &[JoinedEntry<'_>]) -> Option<(u32,
 
 /// The first count below `end` at which a rule's value is no index.
 fn first_count_fault(rule: &Rule, end: u64) -> Option<(u32, CheckFault)>
-    ensures { result ≡ first_some (count_fault rule.now) (counts_below end) }
+    ensures { result ≡ Spec.first_some (Spec.count_fault rule.now) (Spec.counts_below end) }
 {
     for count in 0..end {
         if let Some(fault) = count_fault(rule, count) {
@@ -170,7 +170,7 @@ fn first_form(entry: &Entry) -> &[u8]
 
 /// The first header of the entries.
 fn header_of<'e, 'a>(entries: &'e [JoinedEntry<'a>]) -> Option<&'e JoinedEntry<'a>>
-    ensures { option_map (λ e. input_entry e.now) result ≡ find is_header_entry (input_entries entries.now) }
+    ensures { option_map (λ e. input_entry e.now) result ≡ find Spec.is_header_entry (input_entries entries.now) }
 {
     for joined in entries {
         if joined.entry.is_header() {
@@ -182,7 +182,7 @@ fn header_of<'e, 'a>(entries: &'e [JoinedEntry<'a>]) -> Option<&'e JoinedEntry<'
 
 /// The first of the entries that has a plural.
 fn first_plural<'e, 'a>(entries: &'e [JoinedEntry<'a>]) -> Option<&'e JoinedEntry<'a>>
-    ensures { option_map (λ e. input_entry e.now) result ≡ find is_plural (input_entries entries.now) }
+    ensures { option_map (λ e. input_entry e.now) result ≡ find Spec.is_plural (input_entries entries.now) }
 {
     for joined in entries {
         if is_plural(joined) {
@@ -194,7 +194,7 @@ fn first_plural<'e, 'a>(entries: &'e [JoinedEntry<'a>]) -> Option<&'e JoinedEntr
 
 /// A header without a readable rule is a fault for the first entry with a plural, if there is one.
 fn rule_fault(source: Source, plural: Option<&JoinedEntry<'_>>) -> Option<(u32, CheckFault)>
-    ensures { result ≡ rule_fault source (option_map (λ e. input_entry e.now) plural.entry) }
+    ensures { result ≡ Spec.rule_fault source (option_map (λ e. input_entry e.now) plural.entry) }
 {
     match (source, plural) {
         (Source::Default(reason), Some(plural)) => Some((
@@ -208,7 +208,7 @@ fn rule_fault(source: Source, plural: Option<&JoinedEntry<'_>>) -> Option<(u32, 
 /// The first fault of entries with a header, by its rule.
 #[inline(never)]
 fn first_fault(rule: Rule, entries: &[JoinedEntry<'_>]) -> Option<(u32, CheckFault)>
-    ensures { result ≡ first_fault (input_entries entries.now) rule }
+    ensures { result ≡ Spec.first_fault (input_entries entries.now) rule }
 {
     let plural = first_plural(entries);
     if let Some(fault) = rule_fault(rule.source(), plural) {
@@ -237,7 +237,7 @@ fn rule_of(header: &[u8]) -> Rule
 /// forms, where an entry has a plural. The first fault is reported, with the input of its line, or input 0.
 #[inline(never)]
 pub(crate) fn check_entries(entries: &[JoinedEntry<'_>]) -> Option<(u32, CheckFault)>
-    ensures { IsChecked (input_entries entries.now) result }
+    ensures { Spec.IsChecked (input_entries entries.now) result }
 {
     let Some(header) = header_of(entries) else {
         return Some((0, CheckFault::NoHeader));

@@ -1,7 +1,7 @@
 //! Selecting the entries of a text without its catalogue: a piece is read, its entries are selected,
 //! changed and written, and it is let go before the next piece is read.
 
-ghost use Rattle.std.specs.Prelude.{◌≡◌, ◌++◌, [], Err, IfOk, IfSome, List, OnErr, OnOk};
+ghost use Rattle.std.specs.Prelude.{◌++◌, IfOk, IfSome, List, OnOk};
 ghost use Rattle.po_entry.specs.TextEntry.{TextEntry};
 ghost use Rattle.po_tools.specs.SelectedText.{HavePassed, IsSelectedText, TextPassed};
 
@@ -9,10 +9,9 @@ use crate::digests::{add_digests, are_distinct};
 use po_catalog::Catalogue;
 use po_reader::{PIECE, next_catalogue};
 use po_select::{Selection, select};
-use po_shell::ToolFault;
 use po_syntax::Pieces;
 use po_writer::TextParts;
-use std::alloc::Global;
+use std::alloc::{AllocError, Global};
 
 /// What is kept of entries that have been read.
 #[derive(Drop)]
@@ -24,25 +23,31 @@ pub(crate) struct Passed {
 }
 
 /// Selects the entries of a piece, and writes them.
-fn pass_piece(passed: &mut Passed, piece: Catalogue, selection: &Selection) -> Result<(), ToolFault>
-    ensures passed { OnOk result ((before : List TextEntry) → HavePassed selection.now before passed.old
+fn pass_piece(
+    passed: &mut Passed,
+    piece: Catalogue,
+    selection: &Selection,
+) -> Result<(), AllocError>
+    ensures { OnOk result ((before : List TextEntry) → HavePassed selection.now before passed.old
         → HavePassed selection.now (before ++ piece) passed.new) }
-    ensures memory { OnErr result (result ≡ Err ToolFault.OutOfMemory) }
 {
     add_digests(&mut passed.digests, piece.entries())?;
     let Ok(selected) = select(piece, selection) else {
-        return Err(ToolFault::OutOfMemory);
+        return Err(AllocError);
     };
-    match passed.parts.add(selected.entries()) {
-        Ok(()) => Ok(()),
-        Err(_) => Err(ToolFault::OutOfMemory),
-    }
+    let Ok(()) = passed.parts.add(selected.entries()) else {
+        return Err(AllocError);
+    };
+    Ok(())
 }
 
 /// Passes the entries of a text, piece by piece; none where a piece isn't read.
-fn pass_text(alloc: Global, text: &[u8], selection: &Selection) -> Result<Option<Passed>, ToolFault>
-    ensures passed { IfOk result (λ found. IfSome found (TextPassed selection.now text.now)) }
-    ensures memory { OnErr result (result ≡ Err ToolFault.OutOfMemory) }
+fn pass_text(
+    alloc: Global,
+    text: &[u8],
+    selection: &Selection,
+) -> Result<Option<Passed>, AllocError>
+    ensures { IfOk result (λ found. IfSome found (TextPassed selection.now text.now)) }
 {
     let Ok(mut pieces) = Pieces::of(text) else {
         return Ok(None);
@@ -66,10 +71,9 @@ pub(crate) fn selected_text(
     alloc: Global,
     text: &[u8],
     selection: &Selection,
-) -> Result<Option<Vec<u8>>, ToolFault>
-    ensures written { IfOk result (λ found. IfSome found
+) -> Result<Option<Vec<u8>>, AllocError>
+    ensures { IfOk result (λ found. IfSome found
         (λ written. IsSelectedText selection.now text.now written.items)) }
-    ensures memory { OnErr result (result ≡ Err ToolFault.OutOfMemory) }
 {
     let Some(passed) = pass_text(alloc, text, selection)? else {
         return Ok(None);
@@ -78,8 +82,8 @@ pub(crate) fn selected_text(
     if !are_distinct(digests) {
         return Ok(None);
     }
-    match parts.join() {
-        Ok(written) => Ok(Some(written)),
-        Err(_) => Err(ToolFault::OutOfMemory),
-    }
+    let Ok(written) = parts.join() else {
+        return Err(AllocError);
+    };
+    Ok(Some(written))
 }

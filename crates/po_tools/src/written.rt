@@ -1,5 +1,5 @@
 //! What a tool comes to that reads PO texts and writes one.
-ghost use Rattle.std.specs.Prelude.{◌≡◌, ◌≢◌, All, Err, IfOk, List, OnErr, OnOk};
+ghost use Rattle.std.specs.Prelude.{◌≡◌, ◌≢◌, All, IfOk, List, OnOk};
 ghost use Rattle.po_entry.specs.TextEntry.{TextEntry};
 ghost use Rattle.po_entry.specs.Validity.{IsCatalogueEntry};
 ghost use Rattle.po_tools.specs.FaultText.{text_line};
@@ -10,10 +10,9 @@ ghost use Rattle.po_writer.specs.WrittenText.{written_text};
 use crate::fault_text::{push_location, push_po_text};
 use crate::run::{Run, refused};
 use po_catalog::{Catalogue, write};
-use po_shell::ToolFault;
 use po_syntax::{PoError, PoFault};
 use po_writer::laws::some_entry_is_written;
-use std::alloc::Global;
+use std::alloc::{AllocError, Global};
 
 /// The run of a tool that refuses a text: one line that reports the fault.
 pub(crate) fn refused_text(
@@ -21,13 +20,12 @@ pub(crate) fn refused_text(
     tool: &str,
     name: &str,
     error: PoError,
-) -> Result<Run, ToolFault>
+) -> Result<Run, AllocError>
     ensures run { IfOk result (λ run. (error.kind ≢ PoFault.OutOfMemory)
         × (report run ≡ refusal (text_line tool.now name.now error))) }
-    ensures memory { OnErr result (result ≡ Err ToolFault.OutOfMemory) }
 {
     if error.kind == PoFault::OutOfMemory {
-        return Err(ToolFault::OutOfMemory);
+        return Err(AllocError);
     }
     let mut messages = Vec::new(alloc);
     push_location(&mut messages, tool, name, error.line)?;
@@ -37,14 +35,11 @@ pub(crate) fn refused_text(
 }
 
 /// The run of a tool that writes this catalogue: its text, and a file where it has an entry.
-pub(crate) fn written_run(alloc: Global, catalogue: &Catalogue) -> Result<Run, ToolFault>
+pub(crate) fn written_run(alloc: Global, catalogue: &Catalogue) -> Result<Run, AllocError>
     ensures run { IfOk result (λ run. report run ≡ written_run catalogue.now) }
     ensures valid { OnOk result (All IsCatalogueEntry catalogue.now) }
-    ensures memory { OnErr result (result ≡ Err ToolFault.OutOfMemory) }
 {
-    let Ok(output) = write(alloc, catalogue) else {
-        return Err(ToolFault::OutOfMemory);
-    };
+    let output = write(alloc, catalogue).map_err(|_| AllocError)?;
     Ok(Run {
         output,
         create: catalogue.entries().len() > 0,

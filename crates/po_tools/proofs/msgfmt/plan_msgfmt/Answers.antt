@@ -1,6 +1,5 @@
 use Rattle.std.proofs.Common.{arith, inl}
-use Rattle.po_tools.specs.NamedFile.{named_files}
-use Rattle.po_tools.proofs.MsgfmtLemmas.{read-count, run-refused}
+use Rattle.po_tools.proofs.MsgfmtLemmas.{read-count}
 use Rattle.po_tools.proofs.msgfmt.plan_msgfmt.Goals as goal
 
 pub plan_catalogues-requires-clause-few : goal.plan_catalogues-requires-clause-few
@@ -9,5 +8,9 @@ plan_catalogues-requires-clause-few c =
 
 pub returns-clause-run : goal.returns-clause-run
 returns-clause-run c =
-    run-refused (named_files c.args.inputs.now) c.args.options.now c.in-Err.error c.refused_run.result
-    (inl (rw (c.deref-2.ensures.value, c.in_ok-texts.ensures) at c.in-Err.ensures)) c.refused_run.ensures.run
+    inl (record {
+      error = c.in-Err.error;
+      fault = inl (rw (c.deref-2.ensures.value, c.in_ok-texts.ensures) at c.in-Err.ensures);
+      not_memory = c.in_ok-refused_run-in-Err.ensures.0;
+      report = c.in_ok-refused_run-in-Err.ensures.1;
+    })

@@ -6,8 +6,8 @@ use Rattle.po_tools.specs.Digests.{digest}
 use Rattle.po_tools.proofs.SelectedLemmas.{selected_joined}
 use Rattle.po_tools.proofs.selected_text.pass_piece.Goals as goal
 
-pub returns-in-Ok-add-clause-passed : goal.returns-in-Ok-add-clause-passed
-returns-in-Ok-add-clause-passed c =
+pub returns : goal.returns
+returns c =
     let chosen = c.args.selection.now in
     λ before have. record {
       parts =

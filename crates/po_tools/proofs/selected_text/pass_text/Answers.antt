@@ -11,11 +11,11 @@ loop-pieces-preserved c =
     let so_far = c.loop-pieces.invariant in (
       so_far.0 ++ c.in-Ok-next_catalogue.piece,
       λ more h. rw append_assoc (so_far.1 (c.in-Ok-next_catalogue.piece ++ more) (c.in-Ok-next_catalogue.ensures.found more h)),
-      c.in_ok-pass_piece.ensures.passed so_far.0 so_far.2,
+      c.in_ok-pass_piece.ensures so_far.0 so_far.2,
     )
 
-pub returns-clause-passed : goal.returns-clause-passed
-returns-clause-passed c =
+pub returns : goal.returns
+returns c =
     let so_far = c.loop-pieces.invariant in
     record {
       entries = so_far.0;

@@ -6,9 +6,9 @@ use Rattle.po_tools.specs.SelectedText.{TextPassed}
 use Rattle.po_tools.proofs.DigestLemmas.{digests_differ}
 use Rattle.po_tools.proofs.selected_text.selected_text.Goals as goal
 
-pub returns-in-Ok-clause-written : goal.returns-in-Ok-clause-written
-returns-in-Ok-clause-written c =
-    let passed = subst (λ found. IfSome found (TextPassed c.args.selection.now c.args.text.now)) c.in-Some.is c.in_ok-passed.ensures.passed in
+pub returns : goal.returns
+returns c =
+    let passed = subst (λ found. IfSome found (TextPassed c.args.selection.now c.args.text.now)) c.in-Some.is c.in_ok-passed.ensures in
     record {
       entries = passed.entries;
       reads = passed.reads;
