@@ -1,6 +1,5 @@
 -- What msgfmt writes and reports (manual, "Invoking the msgfmt Program").
-use Rattle.std.specs.Prelude.{◌≡◌, ◌≢◌, ◌⊎◌, ◌^◌, ◌≤◌, IfSome, length, nat_lt, ◌==◌, ℕ, Bool, true, List, [], ◌∷◌, take, map, filter, slice_get, Option, None, Some, codes, decimal, ◌++◌, if◌then◌else◌}
-use Rattle.std.specs.Io.KnownBytes.{Appends}
+use Rattle.std.specs.Prelude.{◌≡◌, ◌≢◌, ◌⊎◌, ◌^◌, ◌≤◌, length, nat_lt, ◌==◌, ℕ, Bool, true, List, [], ◌∷◌, map, filter, slice_get, Option, None, Some, codes, decimal, ◌++◌, if◌then◌else◌}
 use Rattle.std.specs.Option.{option_map_or}
 use Rattle.po_syntax.specs.declared.fault.PoFault.{PoFault}
 use Rattle.po_syntax.specs.declared.fault.PoFault.TheVariants.{Duplicate, OutOfMemory as NoMemory}
@@ -19,7 +18,7 @@ use Rattle.po_tools.specs.declared.profile.CheckFault.TheVariants.{NoHeader, NoR
 use Rattle.po_tools.specs.FaultText.{po_text, duplicate_text, fault_line}
 use Rattle.po_tools.specs.NamedFile.{NamedFile}
 use Rattle.po_tools.specs.Profile.{IsChecked, Reported}
-use Rattle.po_tools.specs.Run.{Report, refusal, DeliversPrefix}
+use Rattle.po_tools.specs.Run.{Report, refusal}
 
 abbrev pub compile_options : MsgfmtOptions → Options
 compile_options o = record { use_fuzzy = o.use_fuzzy; order = o.order }
@@ -123,22 +122,6 @@ AreTaken inputs o = (inputs ≡ []) ⊎ ((compiled : Compiled) × AreCompiled (c
 abbrev pub IsOutside : List NamedFile → Type 0
 IsOutside inputs = (inputs ≡ []) ⊎ (2 ^ 32 ≤ length inputs)
 
--- the run of the one input that is read, or of its first 2,147,483,648 bytes
-pub record IsMsgfmtRunOf (remaining : Option (List ℕ)) (name : List ℕ) (o : MsgfmtOptions) (run : Report) : Type 0 where
-  pub text : List ℕ
-  pub input : IfSome remaining (λ bytes. text ≡ take (2 ^ 31) bytes)
-  pub is_run : IsMsgfmtRun (record { name = name; bytes = text } ∷ []) o run
-
--- all of the run has gone out, and this is its status
-pub record IsMsgfmtDelivered (remaining : Option (List ℕ)) (name : List ℕ) (o : MsgfmtOptions) (out out' err err' : Option (List ℕ)) (status : ℕ) : Type 0 where
-  pub run : Report
-  pub is_run : IsMsgfmtRunOf remaining name o run
-  pub output : Appends out out' run.output
-  pub messages : Appends err err' run.messages
-  pub status_is : status ≡ run.status
-
--- a prefix of the run has gone out
-pub record IsMsgfmtCut (remaining : Option (List ℕ)) (name : List ℕ) (o : MsgfmtOptions) (out out' err err' : Option (List ℕ)) : Type 0 where
-  pub run : Report
-  pub is_run : IsMsgfmtRunOf remaining name o run
-  pub prefix : DeliversPrefix out out' err err' run
+-- what a run of msgfmt comes to of one input with this name
+abbrev pub IsMsgfmtRunOf : List ℕ → MsgfmtOptions → List ℕ → Report → Type 0
+IsMsgfmtRunOf name o text run = IsMsgfmtRun (record { name = name; bytes = text } ∷ []) o run

@@ -1,13 +1,12 @@
 -- What msgunfmt writes and reports (manual, "Invoking the msgunfmt Program").
-use Rattle.std.specs.Prelude.{◌≡◌, ◌≢◌, ◌⊎◌, ◌^◌, IfSome, nat_lt, ℕ, List, [], length, take, Option, codes, decimal, ◌++◌}
-use Rattle.std.specs.Io.KnownBytes.{Appends}
+use Rattle.std.specs.Prelude.{◌≡◌, ◌≢◌, ◌⊎◌, nat_lt, ℕ, List, [], length, codes, decimal, ◌++◌}
 use Rattle.mo_file.specs.Message.{Message}
 use Rattle.po_unformat.specs.Unformatting.{IsUnformatted, IsUnformatFault}
 use Rattle.po_unformat.specs.declared.fault.UnformatError.{UnformatError}
 use Rattle.po_unformat.specs.declared.fault.UnformatError.TheVariants.{Mo, NotUtf8, ForbiddenByte, ForeignCharset, OutOfMemory}
 use Rattle.po_tools.specs.FaultText.{fault_line, mo_text}
 use Rattle.po_tools.specs.NamedFile.{NamedFile}
-use Rattle.po_tools.specs.Run.{Report, refusal, DeliversPrefix}
+use Rattle.po_tools.specs.Run.{Report, refusal}
 
 -- why a file has no PO text
 abbrev pub unformat_text : UnformatError → List ℕ
@@ -42,22 +41,6 @@ pub record HasText (file : NamedFile) (run : Report) : Type 0 where
 abbrev pub IsMsgunfmtRun : NamedFile → Report → Type 0
 IsMsgunfmtRun file run = HasNoText file run ⊎ HasText file run
 
--- the run of the file that is read, or of its first 2,147,483,648 bytes
-pub record IsMsgunfmtRunOf (remaining : Option (List ℕ)) (name : List ℕ) (run : Report) : Type 0 where
-  pub bytes : List ℕ
-  pub input : IfSome remaining (λ all. bytes ≡ take (2 ^ 31) all)
-  pub is_run : IsMsgunfmtRun (record { name = name; bytes = bytes }) run
-
--- all of the run has gone out, and this is its status
-pub record IsMsgunfmtDelivered (remaining : Option (List ℕ)) (name : List ℕ) (out out' err err' : Option (List ℕ)) (status : ℕ) : Type 0 where
-  pub run : Report
-  pub is_run : IsMsgunfmtRunOf remaining name run
-  pub output : Appends out out' run.output
-  pub messages : Appends err err' run.messages
-  pub status_is : status ≡ run.status
-
--- a prefix of the run has gone out
-pub record IsMsgunfmtCut (remaining : Option (List ℕ)) (name : List ℕ) (out out' err err' : Option (List ℕ)) : Type 0 where
-  pub run : Report
-  pub is_run : IsMsgunfmtRunOf remaining name run
-  pub prefix : DeliversPrefix out out' err err' run
+-- what a run of msgunfmt comes to of a file with this name
+abbrev pub IsMsgunfmtRunOf : List ℕ → List ℕ → Report → Type 0
+IsMsgunfmtRunOf name bytes run = IsMsgunfmtRun (record { name = name; bytes = bytes }) run

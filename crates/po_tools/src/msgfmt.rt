@@ -3,9 +3,10 @@ ghost use Rattle.std.specs.Io.KnownBytes.{Keeps};
 ghost use Rattle.po_entry.specs.TextEntry.{slice_texts};
 ghost use Rattle.po_catalog.specs.JoinedView.{input_entries};
 ghost use Rattle.po_compile.specs.Accepted.{AreRead};
+ghost use Rattle.po_tools.specs.Delivered.{IsCut, IsDelivered};
 ghost use Rattle.po_tools.specs.FaultText.{duplicate_text};
 ghost use Rattle.po_tools.specs.NamedFile.{named_files};
-ghost use Rattle.po_tools.specs.Msgfmt.{AreChecked, IsMsgfmtCut, IsMsgfmtDelivered, IsMsgfmtRun, across_text, check_line, line_of_fault, check_text, compiled_inputs, compiled_run, input_name, input_texts, join_line, join_text};
+ghost use Rattle.po_tools.specs.Msgfmt.{AreChecked, IsMsgfmtRun, IsMsgfmtRunOf, across_text, check_line, line_of_fault, check_text, compiled_inputs, compiled_run, input_name, input_texts, join_line, join_text};
 ghost use Rattle.po_tools.specs.Run.{refusal, report};
 
 use crate::fault_text::{push_location, push_numbered, push_po_text};
@@ -363,11 +364,11 @@ pub fn run_msgfmt<R: ByteIn, O: ByteOut, E: ByteOut>(
     requires err_failures { E.failures err.old < 2 ^ 63 }
     ensures calls { R.calls reader.new ≤ R.calls reader.old + 4294967296 }
     ensures delivered { IfOk result
-        (λ status. IsMsgfmtDelivered (R.remaining reader.old) name.now options.now (O.contents out.old)
-        (O.contents out.new) (E.contents err.old) (E.contents err.new) status) }
+        (λ status. IsDelivered (IsMsgfmtRunOf name.now options.now) (R.remaining reader.old)
+        (O.contents out.old) (O.contents out.new) (E.contents err.old) (E.contents err.new) status) }
     ensures prefix { IsErrOf result ToolFault.WriteFault
-        → IsMsgfmtCut (R.remaining reader.old) name.now options.now (O.contents out.old) (O.contents out.new)
-        (E.contents err.old) (E.contents err.new) }
+        → IsCut (IsMsgfmtRunOf name.now options.now) (R.remaining reader.old)
+        (O.contents out.old) (O.contents out.new) (E.contents err.old) (E.contents err.new) }
     ensures no_output { (result ≡ Err ToolFault.ReadFault) ⊎ (result ≡ Err ToolFault.OutOfMemory)
         → Keeps (O.contents out.old) (O.contents out.new) }
     ensures no_messages { (result ≡ Err ToolFault.ReadFault) ⊎ (result ≡ Err ToolFault.OutOfMemory)

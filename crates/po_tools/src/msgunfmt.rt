@@ -1,7 +1,8 @@
 ghost use Rattle.std.specs.Prelude.{◌≡◌, ◌≢◌, ◌⊎◌, ◌+◌, ◌^◌, ◌<◌, ◌≤◌, ◌++◌, ℕ, List, IfOk, OnOk, OnErr, IsErrOf, Err};
 ghost use Rattle.std.specs.Io.KnownBytes.{Keeps};
 ghost use Rattle.po_unformat.specs.Unformatting.{IsUnformatted};
-ghost use Rattle.po_tools.specs.Msgunfmt.{IsMsgunfmtCut, IsMsgunfmtDelivered, IsMsgunfmtRun, unformat_line, unformat_text, unformatted_run};
+ghost use Rattle.po_tools.specs.Delivered.{IsCut, IsDelivered};
+ghost use Rattle.po_tools.specs.Msgunfmt.{IsMsgunfmtRun, IsMsgunfmtRunOf, unformat_line, unformat_text, unformatted_run};
 ghost use Rattle.po_tools.specs.Run.{refusal, report};
 
 use crate::fault_text::{push_location, push_mo_text, push_numbered};
@@ -87,11 +88,11 @@ pub fn run_msgunfmt<R: ByteIn, O: ByteOut, E: ByteOut>(
     requires err_failures { E.failures err.old < 2 ^ 63 }
     ensures calls { R.calls reader.new ≤ R.calls reader.old + 4294967296 }
     ensures delivered { IfOk result
-        (λ status. IsMsgunfmtDelivered (R.remaining reader.old) name.now (O.contents out.old) (O.contents out.new)
-        (E.contents err.old) (E.contents err.new) status) }
+        (λ status. IsDelivered (IsMsgunfmtRunOf name.now) (R.remaining reader.old)
+        (O.contents out.old) (O.contents out.new) (E.contents err.old) (E.contents err.new) status) }
     ensures prefix { IsErrOf result ToolFault.WriteFault
-        → IsMsgunfmtCut (R.remaining reader.old) name.now (O.contents out.old) (O.contents out.new)
-        (E.contents err.old) (E.contents err.new) }
+        → IsCut (IsMsgunfmtRunOf name.now) (R.remaining reader.old)
+        (O.contents out.old) (O.contents out.new) (E.contents err.old) (E.contents err.new) }
     ensures no_output { (result ≡ Err ToolFault.ReadFault) ⊎ (result ≡ Err ToolFault.OutOfMemory)
         → Keeps (O.contents out.old) (O.contents out.new) }
     ensures no_messages { (result ≡ Err ToolFault.ReadFault) ⊎ (result ≡ Err ToolFault.OutOfMemory)
