@@ -21,9 +21,11 @@ distinct_before numbers sorted permuted rising =
     (IsDistinct-from_AllPairs Decides-eqb sorted (λ i j d below inside same.
     let less = AllPairs-from_increasing sorted rising i j d below inside in absurd (omega (arith, less, same)))))
 
+-- entries of one message have one digest
 pub same_digest : (a b : TextEntry) → IsSameMessage a b → digest a ≡ digest b
 same_digest a b same = ap₂ (λ id context. finish (with_context context (write initial id))) same.1 same.0
 
+-- entries whose digests are distinct are of different messages
 pub digests_differ : (entries : List TextEntry) → AreDistinct (map digest entries) → AllDiffer entries
 digests_differ entries distinct =
     λ i j d below inside same.

@@ -20,12 +20,14 @@ next-file : (files : List (Bor (List ℕ) × Bor (List ℕ))) (i : ℕ) (d : Bor
     → named_files (drop i files) ≡ named_file (get_or files i d) ∷ named_files (drop (i + 1) files)
 next-file files i d below = let next : drop i files ≡ get_or files i d ∷ drop (i + 1) files = rw add-one (drop-cons files i d below) in ap named_files next
 
+-- one more file is opened
 pub Completes-next : (tool : List ℕ) (files : List (Bor (List ℕ) × Bor (List ℕ))) (i : ℕ) (d : Bor (List ℕ) × Bor (List ℕ)) (old new : Opened) → i < length files
     → OpensFile tool (named_file (get_or files i d)) old new → Completes tool files i old → Completes tool files (i + 1) new
 Completes-next tool files i d old new below file completes chain reported opens =
     rw (file.catalogs, file.messages, append_assoc old.catalogs.items file.chain chain, append_assoc old.messages.items file.reported reported)
     (completes (file.chain ++ chain) (file.reported ++ reported) (rw (next-file files i d below) (file.opens (named_files (drop (i + 1) files)) chain reported opens)))
 
+-- where no file is left, all are opened
 pub Completes-all : (tool : List ℕ) (files : List (Bor (List ℕ) × Bor (List ℕ))) (i : ℕ) (done : Opened) → length files ≤ i
     → Completes tool files i done → Opens tool (named_files files) done.catalogs.items done.messages.items
 Completes-all tool files i done past completes =
@@ -38,6 +40,7 @@ chain-few none = omega arith
 chain-few (opened order is_catalog are_contents others) = let few = chain-few others in omega arith
 chain-few (refused fault others) = let few = chain-few others in omega arith
 
+-- a chain has no more catalogues than there are files
 pub catalogs-few : (tool : List ℕ) (files : List (Bor (List ℕ) × Bor (List ℕ))) (done : Opened)
     → Opens tool (named_files files) done.catalogs.items done.messages.items → length done.catalogs.items ≤ length files
 catalogs-few tool files done opens =
@@ -53,6 +56,7 @@ join-first byte first (next ∷ others) = ap (λ l. first ++ byte ∷ l) (join-f
 abbrev pub further : (List ℕ → List ℕ) → List (Bor (List ℕ)) → List ℕ
 further answer arguments = flat_map (λ text. 32 ∷ text) (map answer (map (λ argument. argument.now) arguments))
 
+-- the answers to the first argument and to the others are those to all
 pub answers-reported : (answer : List ℕ → List ℕ) (arguments others : List (Bor (List ℕ))) (first : Bor (List ℕ)) (old begun out : List ℕ) (i : ℕ)
     → arguments ≡ first ∷ others → length others ≤ i → begun ≡ old ++ answer first.now
     → out ++ further answer (drop i others) ≡ begun ++ further answer others
@@ -67,6 +71,7 @@ or-false : (b : Bool) → (b || false) ≡ b
 or-false true = refl
 or-false false = refl
 
+-- an argument acts as `-n` where the first or one of the others does
 pub stops-reported : (p : List ℕ → Bool) (arguments others : List (Bor (List ℕ))) (first : Bor (List ℕ)) (begun stops : Bool) (i : ℕ)
     → arguments ≡ first ∷ others → length others ≤ i → begun ≡ p first.now
     → (stops || list_any p (map (λ argument. argument.now) (drop i others))) ≡ (begun || list_any p (map (λ argument. argument.now) others))

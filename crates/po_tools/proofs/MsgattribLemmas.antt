@@ -12,6 +12,7 @@ use Rattle.po_tools.specs.declared.run.Run.{Run}
 use Rattle.po_tools.specs.Msgattrib.{IsMsgattribRun, error_line}
 use Rattle.po_tools.specs.Run.{refusal, report}
 
+-- it reports the duplicate, without a line
 pub run-repeating : {E : Type 0} (name text : List ℕ) (s : Selection) (entries : List TextEntry) (error : PoError) (r : Result Run E)
     → ReadsDistinct text entries → IsDuplicateErrorOf (selected s entries) error
     → IfOk r (λ run. (error.kind ≢ OutOfMemory) × (report run ≡ refusal (error_line name (record error { line = 0 }))))

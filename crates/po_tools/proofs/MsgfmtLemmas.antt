@@ -17,7 +17,7 @@ use Rattle.po_tools.specs.declared.profile.CheckFault.TheVariants.{OutOfMemory}
 use Rattle.po_tools.specs.declared.program_fault.ProgramFault.{ProgramFault}
 use Rattle.po_tools.specs.declared.program_fault.ProgramFault.TheVariants.{OutOfMemory as OutOfMemory', WrongArguments}
 use Rattle.po_tools.specs.declared.run.Run.{Run}
-use Rattle.po_tools.specs.Msgfmt.{AreChecked, AreTaken, IsMsgfmtRun, IsOutside, IsRefused, check_line, compile_options, compiled_run, input_texts, join_line}
+use Rattle.po_tools.specs.Msgfmt.{AreChecked, AreTaken, IsMsgfmtRun, AreNoneOrTooMany, IsRefused, check_line, compile_options, compiled_run, input_texts, join_line}
 use Rattle.po_tools.specs.NamedFile.{NamedFile, named_file, named_files}
 use Rattle.po_tools.specs.Profile.{Reported}
 use Rattle.po_tools.specs.Run.{Report, refusal, report}
@@ -35,12 +35,14 @@ layout-refuses options texts catalogues error read fault =
     ⊎_elim (λ memory. inl (inl memory))
     (λ large. inr (record { catalogues = catalogues; read = read; large = large.1; error_is = large.0 })) fault
 
+-- the run of inputs that aren't compiled
 pub run-refused : {E : Type 0} (inputs : List NamedFile) (o : MsgfmtOptions) (error : JoinError) (r : Result Run E) → IsCompileFault (compile_options o) (input_texts inputs) error
     → IfOk r (λ run. (error.error.kind ≢ NoMemory) × (report run ≡ refusal (join_line inputs error))) → IfOk r (λ run. IsMsgfmtRun inputs o (report run))
 run-refused inputs o error r fault =
     IfOk-weaker r (λ run. (error.error.kind ≢ NoMemory) × (report run ≡ refusal (join_line inputs error))) (λ run. IsMsgfmtRun inputs o (report run))
     (λ run reported. inl (record { error = error; fault = fault; not_memory = reported.0; report = reported.1 }))
 
+-- the run of inputs that are compiled, of which the check reports a fault
 pub run-unfit : {E : Type 0} (inputs : List NamedFile) (o : MsgfmtOptions) (catalogues : List (List TextEntry)) (compiled : Compiled) (fault : Reported) (r : Result Run E)
     → AreRead (input_texts inputs) catalogues → IsCompilation (compile_options o) (joined_entries catalogues) compiled
     → (fault ≡ (0, OutOfMemory)) ⊎ ((o.profile_check ≡ true) × AreChecked o.use_fuzzy catalogues (Some fault))
@@ -59,6 +61,7 @@ run-unfit inputs o catalogues compiled fault r read is_compiled found =
       report = reported.1;
     }))) found)
 
+-- the run of inputs that are compiled
 pub run-done : {E : Type 0} (inputs : List NamedFile) (o : MsgfmtOptions) (catalogues : List (List TextEntry)) (compiled : Compiled) (r : Result Run E)
     → AreRead (input_texts inputs) catalogues → IsCompilation (compile_options o) (joined_entries catalogues) compiled
     → (o.profile_check ≡ true → AreChecked o.use_fuzzy catalogues None)
@@ -88,7 +91,7 @@ refused inputs o unchecked run none same (inr (inr done)) bad = absurd (bad (ap 
 -- what is reported where an input can't be read is reported of the inputs before it
 pub before-reported : (r : Result Run ProgramFault) (inputs others : List NamedFile) (o : MsgfmtOptions) (given : Option ProgramFault) (fault : ProgramFault) → others ≡ inputs → given ≡ Some fault
     → IfErr r (λ reported. (reported ≡ OutOfMemory') ⊎ ((reported ≡ fault) × AreTaken others o))
-    → IfErr r (λ reported. (reported ≡ OutOfMemory') ⊎ ((reported ≡ WrongArguments) × IsOutside inputs) ⊎ ((given ≡ Some reported) × AreTaken inputs o))
+    → IfErr r (λ reported. (reported ≡ OutOfMemory') ⊎ ((reported ≡ WrongArguments) × AreNoneOrTooMany inputs) ⊎ ((given ≡ Some reported) × AreTaken inputs o))
 before-reported (Ok run) inputs others o given fault same is h = tt
 before-reported (Err reported) inputs others o given fault same is h =
     ⊎_elim (λ memory. inl memory)

@@ -19,6 +19,7 @@ pub selected_joined : (s : Selection) (before entries : List TextEntry) → sele
 selected_joined s before entries =
     sym (ap (map (changed s)) (filter-append (is_kept s) before entries) ∙ map-append (changed s) (filter (is_kept s) before) (filter (is_kept s) entries))
 
+-- a change leaves each entry its message
 changed_differ : (s : Selection) (entries : List TextEntry) → AllDiffer entries → AllDiffer (map (changed s) entries)
 changed_differ s entries differ =
     λ i j d below inside same.
@@ -30,9 +31,11 @@ changed_differ s entries differ =
       sym (ap (λ (e : TextEntry). e.id) first) ∙ same.1 ∙ ap (λ (e : TextEntry). e.id) second,
     )
 
+-- entries of different messages have no duplicate
 pub live_differ : (entries : List TextEntry) → AllDiffer entries → HasNoDuplicate entries
 live_differ entries differ = AllPairs-filter (λ a b. ¬ IsSameMessage a b) is_live entries differ
 
+-- nor have those that are selected of them
 selected_differ : (s : Selection) (entries : List TextEntry) → AllDiffer entries → HasNoDuplicate (selected s entries)
 selected_differ s entries differ =
     live_differ (selected s entries) (changed_differ s (filter (is_kept s) entries) (AllPairs-filter (λ a b. ¬ IsSameMessage a b) (is_kept s) entries differ))

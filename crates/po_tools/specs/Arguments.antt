@@ -37,11 +37,13 @@ abbrev pub or_zero : Option ℕ → ℕ
 or_zero None = 0
 or_zero (Some number) = number
 
+-- `--more-than`, and else 0
 pub record IsMoreThan (number : List ℕ → Option ℕ → Type 0) (value : ℕ) : Type 0 where
   pub given : Option ℕ
   pub given_is : number (codes "more-than") given
   pub value_is : value ≡ or_zero given
 
+-- each option of msgcat by its name
 pub record AreMergeOptions (flag : List ℕ → Bool → Type 0) (number : List ℕ → Option ℕ → Type 0) (o : MergeOptions) : Type 0 where
   pub more_than : IsMoreThan number o.more_than
   pub less_than : number (codes "less-than") o.less_than
@@ -53,11 +55,13 @@ abbrev pub order_of : Option (List ℕ) → Order
 order_of None = Little
 order_of (Some name) = if bytes_eq name (codes "big") then Big else Little
 
+-- the byte order that `--endianness` names
 pub record IsOrder (text : List ℕ → Option (List ℕ) → Type 0) (order : Order) : Type 0 where
   pub name : Option (List ℕ)
   pub name_is : text (codes "endianness") name
   pub order_is : order ≡ order_of name
 
+-- each option of msgfmt by its name
 pub record AreMsgfmtOptions (flag : List ℕ → Bool → Type 0) (text : List ℕ → Option (List ℕ) → Type 0) (o : MsgfmtOptions) : Type 0 where
   pub use_fuzzy : flag (codes "use-fuzzy") o.use_fuzzy
   pub order : IsOrder text o.order

@@ -51,6 +51,7 @@ stops_line o argument = o.expand && has_no_newline argument
 abbrev pub ends_line : GettextRequest → Bool
 ends_line o = o.shell && (not o.no_newline && not (list_any (stops_line o) o.arguments))
 
+-- the answers, and the newline where one ends the output
 abbrev pub gettext_output : List Contents → GettextRequest → List ℕ
 gettext_output chain o = answers chain o ++ (if ends_line o then 10 ∷ [] else [])
 
@@ -73,6 +74,7 @@ pub record NgettextRequest : Type 0 where
   pub plural : List ℕ
   pub count : List ℕ
 
+-- the answer to MSGID and MSGID-PLURAL at COUNT
 abbrev pub ngettext_output : List Contents → NgettextRequest → List ℕ
 ngettext_output chain o =
     (chain_answered chain (record { context = o.context; id = argument_text o.expand o.id; plural = Some (argument_text o.expand o.plural, count_in o.count) })).text

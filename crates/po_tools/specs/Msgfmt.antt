@@ -20,12 +20,15 @@ use Rattle.po_tools.specs.NamedFile.{NamedFile}
 use Rattle.po_tools.specs.Profile.{IsChecked, Reported}
 use Rattle.po_tools.specs.Run.{Report, refusal}
 
+-- the options that compiling asks for
 abbrev pub compile_options : MsgfmtOptions → Options
 compile_options o = record { use_fuzzy = o.use_fuzzy; order = o.order }
 
+-- the texts of the inputs
 abbrev pub input_texts : List NamedFile → List (List ℕ)
 input_texts inputs = map (λ file. file.bytes) inputs
 
+-- the name of the input of this index
 abbrev pub input_name : List NamedFile → ℕ → List ℕ
 input_name inputs i = option_map_or (λ file. file.name) (slice_get inputs i) []
 
@@ -118,9 +121,9 @@ IsMsgfmtRun inputs o run = IsRefused inputs o run ⊎ IsUnfit inputs o run ⊎ I
 abbrev pub AreTaken : List NamedFile → MsgfmtOptions → Type 0
 AreTaken inputs o = (inputs ≡ []) ⊎ ((compiled : Compiled) × AreCompiled (compile_options o) (input_texts inputs) compiled)
 
--- no command line of msgfmt names so many inputs: none, or 2^32 and more
-abbrev pub IsOutside : List NamedFile → Type 0
-IsOutside inputs = (inputs ≡ []) ⊎ (2 ^ 32 ≤ length inputs)
+-- the inputs are none, or 2^32 and more: no command line of msgfmt names so many
+abbrev pub AreNoneOrTooMany : List NamedFile → Type 0
+AreNoneOrTooMany inputs = (inputs ≡ []) ⊎ (2 ^ 32 ≤ length inputs)
 
 -- what a run of msgfmt comes to of one input with this name
 abbrev pub IsMsgfmtRunOf : List ℕ → MsgfmtOptions → List ℕ → Report → Type 0

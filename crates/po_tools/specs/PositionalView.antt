@@ -8,10 +8,10 @@ use Rattle.po_tools.specs.declared.positional.NgettextArguments.{NgettextArgumen
 use Rattle.po_tools.specs.Positional.{GettextForm, NgettextForm, EnvsubstForm, names, replaced}
 
 abbrev pub gettext_arguments : GettextArguments → GettextForm
-gettext_arguments w = record { domain = option_copied w.domain; messages = map (λ argument. argument.now) w.messages.now }
+gettext_arguments given = record { domain = option_copied given.domain; messages = map (λ argument. argument.now) given.messages.now }
 
 abbrev pub ngettext_arguments : NgettextArguments → NgettextForm
-ngettext_arguments w = record { domain = option_copied w.domain; id = w.id.now; plural = w.plural.now; count = w.count.now }
+ngettext_arguments given = record { domain = option_copied given.domain; id = given.id.now; plural = given.plural.now; count = given.count.now }
 
 abbrev pub envsubst_arguments : EnvsubstArguments → EnvsubstForm
 envsubst_arguments (Names format) = names format.now

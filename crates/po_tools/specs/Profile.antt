@@ -24,9 +24,11 @@ abbrev pub first_some : {A B : Type 0} → (A → Option B) → List A → Optio
 first_some f [] = None
 first_some f (x ∷ xs) = option_or (f x) (first_some f xs)
 
+-- the entry has a plural
 abbrev pub is_plural : InputEntry → Bool
 is_plural e = is_some e.entry.plural
 
+-- the entry is the header
 abbrev pub is_header_entry : InputEntry → Bool
 is_header_entry e = is_header e.entry
 
@@ -49,6 +51,7 @@ end_byte Ending text = slice_get text (length text - 1)
 abbrev pub has_newline : End → List ℕ → Bool
 has_newline end text = option_map_or (λ b. b == 10) (end_byte end text) false
 
+-- one of two is true, and the other isn't
 abbrev pub differ : Bool → Bool → Bool
 differ true b = not b
 differ false b = b
@@ -67,14 +70,16 @@ entry_fault nplurals e =
     else if differs_from_msgid Ending e.entry then Some (e.input, TrailingNewline e.entry.line)
     else None
 
--- the rule's value at a count is a form's index
+-- a value of the rule has to be a form's index
 abbrev pub value_fault : ℕ → ℕ → Option ℕ → Option Reported
 value_fault nplurals count None = Some (0, Undefined count)
 value_fault nplurals count (Some index) = if nat_lt index nplurals then None else Some (0, IndexOutside count)
 
+-- what is wrong with the rule's value at a count
 abbrev pub count_fault : Meaning → ℕ → Option Reported
 count_fault rule count = value_fault rule.nplurals count (value rule.tree count)
 
+-- the counts from 0 to below the end
 unfoldable pub counts_below : ℕ → List ℕ
 counts_below end = range_with_len 0 end
 

@@ -21,6 +21,7 @@ abbrev pub tool_mark : Option (List ℕ) → List ℕ
 tool_mark None = codes "pokit: "
 tool_mark (Some tool) = codes "pokit " ++ tool ++ codes ": "
 
+-- the line that reports a fault
 abbrev pub program_line : Option (List ℕ) → ProgramFault → List ℕ
 program_line tool fault = tool_mark tool ++ program_text fault ++ 10 ∷ []
 

@@ -8,18 +8,18 @@ use Rattle.po_select.specs.Selected.{selected}
 use Rattle.po_writer.specs.TextParts.{AreParts}
 use Rattle.po_writer.specs.WrittenText.{written_text}
 use Rattle.po_tools.specs.Digests.{digest}
-use Rattle.po_tools.specs.declared.selected_text.Passed.{Passed}
+use Rattle.po_tools.specs.declared.selected_text.SelectedSoFar.{SelectedSoFar}
 
--- of these entries those that are selected are written, and the digests are those of all
-pub record HavePassed (s : Selection) (entries : List TextEntry) (passed : Passed) : Type 0 where
-  pub parts : AreParts (selected s entries) passed.parts
-  pub digests : passed.digests.items ≡ map digest entries
+-- those of these entries that are selected are written, and the digests are those of all
+pub record AreSelected (s : Selection) (entries : List TextEntry) (so_far : SelectedSoFar) : Type 0 where
+  pub parts : AreParts (selected s entries) so_far.parts
+  pub digests : so_far.digests.items ≡ map digest entries
 
--- the entries of the text have passed
-pub record TextPassed (s : Selection) (text : List ℕ) (passed : Passed) : Type 0 where
+-- and they are all entries of the text
+pub record IsSelectedWhole (s : Selection) (text : List ℕ) (so_far : SelectedSoFar) : Type 0 where
   pub entries : List TextEntry
   pub reads : ReadsText text entries
-  pub have : HavePassed s entries passed
+  pub have : AreSelected s entries so_far
 
 -- the text reads as entries of different messages, and those that are selected are written
 pub record IsSelectedText (s : Selection) (text written : List ℕ) : Type 0 where

@@ -46,10 +46,7 @@ pub fn find_catalogues<S: InputSource + VariableSource>(
 fn bytes_of(text: Option<&str>) -> Option<&[u8]>
     ensures { option_copied result ≡ option_copied text.entry }
 {
-    match text {
-        Some(text) => Some(text.as_bytes()),
-        None => None,
-    }
+    text.map(|text| text.as_bytes())
 }
 
 /// Reads the catalogues of these paths, in order. One that can't be read is skipped and not

@@ -1,3 +1,4 @@
+//! The texts of faults, and the place in a file that a fault line begins with.
 ghost use Rattle.std.specs.Prelude.{◌≡◌, ◌++◌, decimal, OnOk};
 ghost use Rattle.po_tools.specs.FaultText.{location, mo_text, po_text};
 

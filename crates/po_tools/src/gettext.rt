@@ -1,3 +1,4 @@
+//! What gettext and ngettext write: the answers of a chain of catalogues.
 ghost use Rattle.std.specs.Prelude.{◌≡◌, ◌^◌, ◌<◌, ◌≤◌, ◌++◌, None, Some, length, IfOk, OnOk, OnErr, Err};
 ghost use Rattle.std.specs.List.{list_any};
 ghost use Rattle.std.specs.Option.{option_copied};
@@ -52,7 +53,9 @@ pub struct NgettextOptions<'a> {
 /// The catalogues of a chain, and the lines that report those that were refused.
 #[derive(Drop)]
 struct Opened<'a> {
+    /// The catalogues, in order.
     catalogs: Vec<Catalog<'a>>,
+    /// The lines.
     messages: Vec<u8>,
 }
 
@@ -113,7 +116,7 @@ fn open_all<'a>(
     Ok(opened)
 }
 
-/// Appends the answer to a msgid, and where a plural form is asked for to a plural and a count.
+/// Appends the answer to a msgid, or to a msgid, a plural and a count where a plural form is asked for.
 fn push_text<'a, 'q>(
     output: &mut Vec<u8>,
     chain: &Chain<'_, 'a>,

@@ -18,7 +18,7 @@ pub enum Unread {
     CannotOpen,
     /// It was opened, and reading it failed.
     ReadFault,
-    /// The allocation failed.
+    /// An allocation failed.
     OutOfMemory,
 }
 
@@ -61,7 +61,7 @@ pub struct Inputs<'a> {
 
 impl<'a> Inputs<'a> {
     /// Reads the file of each argument, or standard input for `-`, which is empty from the second time on.
-    /// The first that can't be read ends the inputs. Refused only where the allocation failed.
+    /// The first that can't be read ends the inputs. Refused only where an allocation failed.
     pub fn read<S: InputSource>(
         alloc: Global,
         source: &S,
@@ -111,13 +111,10 @@ pub fn read_one<'a, S: InputSource>(
     ensures fault { IfErr result (λ reported. (reported ≡ ProgramFault.OutOfMemory)
         ⊎ IsUnread (S.file source.now) (S.standard source.now) argument.now (program_text reported)) }
 {
-    match read_argument(alloc, source, argument, is_standard(argument), false) {
-        Ok(bytes) => Ok(bytes),
-        Err(why) => match fault_of(shown_name(argument), why) {
-            Some(fault) => Err(fault),
-            None => Err(ProgramFault::OutOfMemory),
-        },
-    }
+    read_argument(alloc, source, argument, is_standard(argument), false).map_err(|why| fault_of(
+        shown_name(argument),
+        why,
+    ).unwrap_or(ProgramFault::OutOfMemory))
 }
 
 /// What an open file holds, or standard input, or the first 2,147,483,648 bytes of it.
@@ -170,13 +167,8 @@ fn ended<'a>(
         × (option_map program_text inputs.fault ≡ Some (unread_text (shown_name argument.now) why))
         × (why ≢ Unread.OutOfMemory)) }
 {
-    match fault_of(shown_name(argument), why) {
-        Some(fault) => Ok(Inputs {
-            texts,
-            fault: Some(fault),
-        }),
-        None => Err(AllocError),
-    }
+    let fault = Some(fault_of(shown_name(argument), why).ok_or(AllocError)?);
+    Ok(Inputs { texts, fault })
 }
 
 /// The fault of an input that can't be read; a failed allocation is none of the input.

@@ -1,3 +1,4 @@
+//! What msgattrib writes and reports: the selected entries of a PO text.
 ghost use Rattle.std.specs.Prelude.{◌≡◌, ◌≢◌, ◌⊎◌, ◌+◌, ◌^◌, ◌<◌, ◌≤◌, IfOk, OnErr, IsErrOf, Err};
 ghost use Rattle.std.specs.Io.KnownBytes.{Keeps};
 ghost use Rattle.po_tools.specs.Delivered.{IsCut, IsDelivered};

@@ -1,3 +1,4 @@
+//! What msgfmt writes and reports: the MO file of PO texts.
 ghost use Rattle.std.specs.Prelude.{◌≡◌, ◌≢◌, ◌⊎◌, ◌+◌, ◌^◌, ◌<◌, ◌≤◌, ◌++◌, ◌∷◌, decimal, true, false, None, Some, length, MatchResult, IfOk, IfErr, OnOk, OnErr, IsErrOf, Err};
 ghost use Rattle.std.specs.Io.KnownBytes.{Keeps};
 ghost use Rattle.po_entry.specs.TextEntry.{slice_texts};

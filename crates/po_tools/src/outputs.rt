@@ -66,8 +66,8 @@ pub fn write_run<'a, T: OutputTarget>(
     }
 }
 
-/// Writes all of a run's output and then all of its messages, to what is open for them. Both are
-/// answered with what they took.
+/// Writes all of a run's output to one writer, and then all of its messages to the other. Both
+/// writers are returned.
 pub fn write_whole<O: Write + Drop, E: Write + Drop>(
     run: &Run,
     output: O,
@@ -81,8 +81,6 @@ pub fn write_whole<O: Write + Drop, E: Write + Drop>(
 {
     let mut output = Counted::new(output);
     let mut errors = Counted::new(errors);
-    match deliver(run, &mut output, &mut errors) {
-        Ok(()) => Ok((output.into_inner(), errors.into_inner())),
-        Err(_) => Err(Unwritten::WriteFault),
-    }
+    deliver(run, &mut output, &mut errors).map_err(|_| Unwritten::WriteFault)?;
+    Ok((output.into_inner(), errors.into_inner()))
 }

@@ -1,3 +1,4 @@
+//! What `--profile-check` finds wrong with the messages that are compiled.
 ghost use Rattle.std.specs.Prelude.{◌≡◌, find, option_map};
 ghost use Rattle.std.specs.List.{list_any};
 ghost use Rattle.po_entry.specs.TextEntry.{texts};

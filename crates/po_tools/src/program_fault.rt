@@ -31,7 +31,7 @@ pub enum ProgramFault<'a> {
     /// The output, or standard error, took no more.
     #[error("write fault")]
     WriteFault,
-    /// Memory couldn't grow.
+    /// An allocation failed.
     #[error("out of memory")]
     OutOfMemory,
 }
@@ -75,7 +75,7 @@ impl<T: Drop> From<AllocFailed<T>> for ProgramFault<'_> {
 }
 
 /// Writes the line of a fault after `pokit TOOL: `, or after `pokit: ` where no tool is known, in one
-/// piece; part by part where the allocation failed. A `WriteFault` comes where a call of the writer
+/// piece; part by part where an allocation failed. A `WriteFault` comes where a call of the writer
 /// failed or took no byte.
 pub fn report_fault<E: ByteOut>(
     alloc: Global,

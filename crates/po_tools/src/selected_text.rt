@@ -3,7 +3,7 @@
 
 ghost use Rattle.std.specs.Prelude.{◌++◌, IfOk, IfSome, List, OnOk};
 ghost use Rattle.po_entry.specs.TextEntry.{TextEntry};
-ghost use Rattle.po_tools.specs.SelectedText.{HavePassed, IsSelectedText, TextPassed};
+ghost use Rattle.po_tools.specs.SelectedText.{AreSelected, IsSelectedText, IsSelectedWhole};
 
 use crate::digests::{add_digests, are_distinct};
 use po_catalog::Catalogue;
@@ -13,9 +13,9 @@ use po_syntax::Pieces;
 use po_writer::TextParts;
 use std::alloc::{AllocError, Global};
 
-/// What is kept of entries that have been read.
+/// What is kept of the entries that have been read.
 #[derive(Drop)]
-pub(crate) struct Passed {
+pub(crate) struct SelectedSoFar {
     /// What is written of those that are selected.
     pub(crate) parts: TextParts,
     /// The digests of all.
@@ -23,36 +23,36 @@ pub(crate) struct Passed {
 }
 
 /// Selects the entries of a piece, and writes them.
-fn pass_piece(
-    passed: &mut Passed,
+fn select_piece(
+    so_far: &mut SelectedSoFar,
     piece: Catalogue,
     selection: &Selection,
 ) -> Result<(), AllocError>
-    ensures { OnOk result ((before : List TextEntry) → HavePassed selection.now before passed.old
-        → HavePassed selection.now (before ++ piece) passed.new) }
+    ensures { OnOk result ((before : List TextEntry) → AreSelected selection.now before so_far.old
+        → AreSelected selection.now (before ++ piece) so_far.new) }
 {
-    add_digests(&mut passed.digests, piece.entries())?;
+    add_digests(&mut so_far.digests, piece.entries())?;
     let Ok(selected) = select(piece, selection) else {
         return Err(AllocError);
     };
-    let Ok(()) = passed.parts.add(selected.entries()) else {
+    let Ok(()) = so_far.parts.add(selected.entries()) else {
         return Err(AllocError);
     };
     Ok(())
 }
 
-/// Passes the entries of a text, piece by piece; none where a piece isn't read.
-fn pass_text(
+/// Selects the entries of a text, piece by piece; none where a piece isn't read.
+fn select_pieces(
     alloc: Global,
     text: &[u8],
     selection: &Selection,
-) -> Result<Option<Passed>, AllocError>
-    ensures { IfOk result (λ found. IfSome found (TextPassed selection.now text.now)) }
+) -> Result<Option<SelectedSoFar>, AllocError>
+    ensures { IfOk result (λ found. IfSome found (IsSelectedWhole selection.now text.now)) }
 {
     let Ok(mut pieces) = Pieces::of(text) else {
         return Ok(None);
     };
-    let mut passed = Passed {
+    let mut so_far = SelectedSoFar {
         parts: TextParts::with_capacity(alloc, text.len())?,
         digests: Vec::new(alloc),
     };
@@ -60,9 +60,9 @@ fn pass_text(
         let Ok(piece) = next_catalogue(alloc, &mut pieces, PIECE) else {
             return Ok(None);
         };
-        pass_piece(&mut passed, piece, selection)?;
+        select_piece(&mut so_far, piece, selection)?;
     }
-    Ok(Some(passed))
+    Ok(Some(so_far))
 }
 
 /// What is written of a text whose entries are of different messages; none where a piece isn't read,
@@ -75,10 +75,10 @@ pub(crate) fn selected_text(
     ensures { IfOk result (λ found. IfSome found
         (λ written. IsSelectedText selection.now text.now written.items)) }
 {
-    let Some(passed) = pass_text(alloc, text, selection)? else {
+    let Some(so_far) = select_pieces(alloc, text, selection)? else {
         return Ok(None);
     };
-    let Passed { parts, digests } = passed;
+    let SelectedSoFar { parts, digests } = so_far;
     if !are_distinct(digests) {
         return Ok(None);
     }

@@ -5,7 +5,7 @@ ghost use Rattle.po_entry.specs.Bytes.{Lacks};
 ghost use Rattle.po_merge.specs.Inputs as merge;
 ghost use Rattle.po_tools.specs.Inputs.{named_inputs};
 ghost use Rattle.po_tools.specs.Msgcat.{AreReadAs, HasNulName, IsMsgcatRun, IsUnread};
-ghost use Rattle.po_tools.specs.Msgfmt.{AreTaken, IsMsgfmtRun, IsOutside, IsRefused};
+ghost use Rattle.po_tools.specs.Msgfmt.{AreTaken, AreNoneOrTooMany, IsMsgfmtRun, IsRefused};
 ghost use Rattle.po_tools.specs.NamedFile.{named_files};
 ghost use Rattle.po_tools.specs.ProgramFaults.{program_text};
 ghost use Rattle.po_tools.specs.Run.{report};
@@ -58,7 +58,7 @@ pub fn plan_msgfmt_of<'a>(
     ensures refused { inputs.now.fault ≢ None
         → IfOk result (λ run. IsRefused (named_inputs inputs.now.texts.items) options.now (report run)) }
     ensures fault { IfErr result (λ reported. (reported ≡ ProgramFault.OutOfMemory)
-        ⊎ ((reported ≡ ProgramFault.WrongArguments) × IsOutside (named_inputs inputs.now.texts.items))
+        ⊎ ((reported ≡ ProgramFault.WrongArguments) × AreNoneOrTooMany (named_inputs inputs.now.texts.items))
         ⊎ ((inputs.now.fault ≡ Some reported) × AreTaken (named_inputs inputs.now.texts.items) options.now)) }
 {
     let texts = inputs.lent(alloc)?;
@@ -85,10 +85,7 @@ fn plan_all<'a>(
     if inputs.is_empty() {
         return Err(ProgramFault::WrongArguments);
     }
-    match plan_msgfmt(alloc, inputs, options) {
-        Ok(run) => Ok(run),
-        Err(_) => Err(ProgramFault::OutOfMemory),
-    }
+    plan_msgfmt(alloc, inputs, options).map_err(|_| ProgramFault::OutOfMemory)
 }
 
 /// What `msgcat` comes to of the inputs that a command line names: the plan of all of them, or where
@@ -113,10 +110,7 @@ pub fn plan_msgcat_of<'a>(
     let texts = inputs.lent(alloc)?;
     match inputs.fault {
         Some(fault) => plan_msgcat_before(alloc, &texts, fault),
-        None => match plan_msgcat(alloc, &texts, options) {
-            Ok(run) => Ok(run),
-            Err(_) => Err(ProgramFault::OutOfMemory),
-        },
+        None => plan_msgcat(alloc, &texts, options).map_err(|_| ProgramFault::OutOfMemory),
     }
 }
 

@@ -2,16 +2,16 @@ use Rattle.std.proofs.Common.{subst}
 use Rattle.std.specs.Prelude.{IfSome}
 use Rattle.po_select.specs.Selected.{selected}
 use Rattle.po_tools.specs.Digests.{AreDistinct}
-use Rattle.po_tools.specs.SelectedText.{TextPassed}
+use Rattle.po_tools.specs.SelectedText.{IsSelectedWhole}
 use Rattle.po_tools.proofs.DigestLemmas.{digests_differ}
 use Rattle.po_tools.proofs.selected_text.selected_text.Goals as goal
 
 pub returns : goal.returns
 returns c =
-    let passed = subst (λ found. IfSome found (TextPassed c.args.selection.now c.args.text.now)) c.in-Some.is c.in_ok-passed.ensures in
+    let whole = subst (λ found. IfSome found (IsSelectedWhole c.args.selection.now c.args.text.now)) c.in-Some.is c.in_ok-so_far.ensures in
     record {
-      entries = passed.entries;
-      reads = passed.reads;
-      differ = digests_differ passed.entries (subst AreDistinct passed.have.digests (c.are_distinct.ensures c.if-not-are_distinct.false));
-      text_is = c.in-Ok.ensures.text (selected c.args.selection.now passed.entries) passed.have.parts;
+      entries = whole.entries;
+      reads = whole.reads;
+      differ = digests_differ whole.entries (subst AreDistinct whole.have.digests (c.are_distinct.ensures c.if-not-are_distinct.false));
+      text_is = c.in-Ok.ensures.text (selected c.args.selection.now whole.entries) whole.have.parts;
     }

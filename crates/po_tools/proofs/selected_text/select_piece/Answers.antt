@@ -4,7 +4,7 @@ use Rattle.po_select.specs.Selected.{selected}
 use Rattle.po_writer.specs.TextParts.{AreParts}
 use Rattle.po_tools.specs.Digests.{digest}
 use Rattle.po_tools.proofs.SelectedLemmas.{selected_joined}
-use Rattle.po_tools.proofs.selected_text.pass_piece.Goals as goal
+use Rattle.po_tools.proofs.selected_text.select_piece.Goals as goal
 
 pub returns : goal.returns
 returns c =

@@ -1,6 +1,6 @@
 use Rattle.std.proofs.Common.{[], ◌++◌, append-nil, append_assoc}
 use Rattle.po_reader.proofs.PieceReading.{left_over, whole_left}
-use Rattle.po_tools.proofs.selected_text.pass_text.Goals as goal
+use Rattle.po_tools.proofs.selected_text.select_pieces.Goals as goal
 
 pub loop-pieces-init : goal.loop-pieces-init
 loop-pieces-init c =
@@ -11,7 +11,7 @@ loop-pieces-preserved c =
     let so_far = c.loop-pieces.invariant in (
       so_far.0 ++ c.in-Ok-next_catalogue.piece,
       λ more h. rw append_assoc (so_far.1 (c.in-Ok-next_catalogue.piece ++ more) (c.in-Ok-next_catalogue.ensures.found more h)),
-      c.in_ok-pass_piece.ensures so_far.0 so_far.2,
+      c.in_ok-select_piece.ensures so_far.0 so_far.2,
     )
 
 pub returns : goal.returns
