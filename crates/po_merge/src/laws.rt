@@ -3,7 +3,9 @@
 ghost use Rattle.std.specs.Prelude.{ℕ, Bool, List, Option};
 ghost use Rattle.po_merge.specs.declared.input.MergeOptions.{MergeOptions};
 ghost use Rattle.po_merge.specs.Inputs.{Input, NamedEntry};
+ghost use Rattle.po_entry.specs.TextEntry.{TextEntry};
 ghost use Rattle.po_merge.specs.MergeLaws.{FormsAreOfOne, KeptMessagesStand, MergedAreEntries, MergedCanStand, MessagesStandOnce, OneDefinitionStays, OneInputStays, WithItself};
+ghost use Rattle.po_merge.specs.Woven.{Stretched, WovenAreAdmitted, WovenAreMerged};
 
 /// What one definition of a message is merged to is its entry.
 pub fn one_definition_stays()
@@ -39,4 +41,13 @@ pub fn with_itself()
 /// Where different translations of a message aren't joined, its forms are those of one of its definitions.
 pub fn forms_are_of_an_input()
     ensures { (options : MergeOptions) (definitions : List NamedEntry) → FormsAreOfOne options definitions }
+{}
+
+/// Entries of several inputs may be merged without most of them: if numbers show that these are each the only one of
+/// its message, they stay, and the others are merged alone.
+pub fn woven_entries_are_merged()
+    ensures merged { (use_first : Bool) (number : TextEntry → ℕ) (entries : List Stretched) (rest : List NamedEntry)
+        → WovenAreMerged use_first number entries rest }
+    ensures admitted { (number : TextEntry → ℕ) (entries : List Stretched) (merged : List TextEntry)
+        (rest : List NamedEntry) → WovenAreAdmitted number entries merged rest }
 {}

@@ -11,9 +11,8 @@ use Rattle.po_merge.specs.Inputs.{Input, NamedEntry}
 use Rattle.po_merge.specs.Groups.{definitions, groups}
 use Rattle.po_merge.specs.Merged.{merged, merged_messages}
 use Rattle.po_merge.specs.MergeLaws.{keep_all}
-use Rattle.po_merge.specs.Woven.{Stretched, lasts, unnamed, woven}
+use Rattle.po_merge.specs.Woven.{Stretched, WovenAreAdmitted, WovenAreMerged, lasts, unnamed, woven}
 use Rattle.po_merge.specs.declared.input.MergeOptions.{MergeOptions}
-use Rattle.po_merge.proofs.Weaving.{weave, woven_all}
 use Rattle.po_writer.specs.Separated.{with_entry}
 use Rattle.po_writer.specs.TextParts.{AreParts}
 use Rattle.po_writer.specs.WrittenText.{in_order, written_text}
@@ -68,10 +67,12 @@ stretch_woven done t ts merged left next rest whole parts now is after added are
     ((done ++ unnamed t.0) ++ next_merged next merged, added (done ++ unnamed t.0) are, step_woven done t ts merged left next rest is after ∙ same)
 
 -- what is woven of entries whose digests show which of them are the only ones of their messages
-pub written_merged : (files : List NamedFile) (o : MergeOptions) (held : Held) (kept : List Input) (catalogue : List TextEntry) (digests written : List ℕ) (held_is : AreHeld files held kept) → keeps_all o ≡ true
+pub written_merged : (files : List NamedFile) (o : MergeOptions) (held : Held) (kept : List Input) (catalogue : List TextEntry) (digests written : List ℕ) (held_is : AreHeld files held kept)
+    → ((use_first : Bool) (number : TextEntry → ℕ) (entries : List Stretched) (rest : List NamedEntry) → WovenAreMerged use_first number entries rest)
+    → ((number : TextEntry → ℕ) (entries : List Stretched) (merged : List TextEntry) (rest : List NamedEntry) → WovenAreAdmitted number entries merged rest) → keeps_all o ≡ true
     → catalogue ≡ merged o kept → All IsCatalogueEntry catalogue → digests ≡ held.digests.items ++ map digest catalogue → AreDistinct digests
     → written ≡ written_text (woven digest held_is.holds.stretched catalogue held_is.holds.after) → IsMergedText files o written
-written_merged files o held kept catalogue digests written held_is all is valid digests_are distinct text =
+written_merged files o held kept catalogue digests written held_is are_merged are_admitted all is valid digests_are distinct text =
     let h = held_is.holds in
     let keep : o ≡ keep_all o.use_first = all_kept o.more_than o.less_than o.unique o.use_first all in
     let lasts_are : merged_messages (keep_all o.use_first) (map definitions (groups (lasts h.stretched))) ≡ catalogue =
@@ -80,12 +81,12 @@ written_merged files o held kept catalogue digests written held_is all is valid 
     let whole : merged o held_is.inputs ≡ woven digest h.stretched catalogue h.after =
     ap (λ (p : MergeOptions). merged p held_is.inputs) keep
     ∙ ap (λ (es : List NamedEntry). merged_messages (keep_all o.use_first) (map definitions (groups es))) (sym h.entries_are)
-    ∙ weave o.use_first digest same_digest h.stretched h.after apart
+    ∙ are_merged o.use_first digest h.stretched h.after same_digest apart
     ∙ ap (λ (l : List TextEntry). woven digest h.stretched l h.after) lasts_are in
     record {
       inputs = held_is.inputs;
       read = held_is.read;
       admitted = subst (All HasAdmittedCharset) (sym whole)
-          (woven_all HasAdmittedCharset digest h.stretched catalogue h.after h.admitted (All-weaker IsCatalogueEntry HasAdmittedCharset (λ e v. v.charset) catalogue valid));
+          (are_admitted digest h.stretched catalogue h.after h.admitted (All-weaker IsCatalogueEntry HasAdmittedCharset (λ e v. v.charset) catalogue valid));
       text_is = text ∙ ap written_text (sym whole);
     }

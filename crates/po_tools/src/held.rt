@@ -1,5 +1,5 @@
 //! What is kept of the entries of several texts until it is known what those of one message are merged to.
-ghost use Rattle.std.specs.Prelude.{◌≡◌, ◌++◌, ◌∷◌, ℕ, [], All, Err, IfOk, IfSome, List, OnErr, OnOk, map, true};
+ghost use Rattle.std.specs.Prelude.{◌≡◌, ◌++◌, ◌∷◌, ℕ, [], All, IfOk, IfSome, List, OnOk, map, true};
 ghost use Rattle.po_catalog.specs.Duplicate.{AllDiffer};
 ghost use Rattle.po_entry.specs.Bytes.{Lacks};
 ghost use Rattle.po_entry.specs.Header.{HasAdmittedCharset};
@@ -15,7 +15,6 @@ use crate::repeated::Place;
 use po_catalog::{Catalogue, Entry};
 use po_merge::Named;
 use po_reader::{PIECE, next_catalogue};
-use po_shell::ToolFault;
 use po_syntax::Pieces;
 use po_writer::TextParts;
 use std::alloc::{AllocError, Global};
@@ -42,6 +41,25 @@ pub(crate) struct Held {
     pub(crate) digests: Vec<u64>,
 }
 
+/// The places from this one on, of places in order.
+fn places_from(places: &[Place], place: Place) -> &[Place] {
+    let mut left = places;
+    while let Some((first, others)) = left.split_first() {
+        if *first >= place {
+            break;
+        }
+        left = others;
+    }
+    left
+}
+
+/// The places from that of the first of these entries on, which are of the text of this index.
+fn places_of<'a>(places: &'a [Place], index: usize, entries: &[Entry]) -> &'a [Place] {
+    let line = entries.first().map_or(0, |entry| entry.line());
+    let start = places.partition_point(|place| *place < (index, line));
+    places.split_at(start).1
+}
+
 impl Held {
     /// No entries.
     fn new(alloc: Global) -> Result<Held, AllocError>
@@ -55,15 +73,14 @@ impl Held {
     }
 
     /// Writes an entry.
-    fn write(&mut self, entry: &Entry) -> Result<(), ToolFault>
+    fn write(&mut self, entry: &Entry) -> Result<(), AllocError>
         ensures written { OnOk result ((name : List ℕ) (entries kept : List NamedEntry) → HasAdmittedCharset entry.now
             → IsHeld self.old entries kept → IsHeld self.new (entries ++ named name entry.now ∷ []) kept) }
-        ensures memory { OnErr result (result ≡ Err ToolFault.OutOfMemory) }
     {
         self.digests.push(digest(entry))?;
         match self.rest.add(slice::from_ref(entry)) {
             Ok(()) => Ok(()),
-            Err(_) => Err(ToolFault::OutOfMemory),
+            Err(_) => Err(AllocError),
         }
     }
 
@@ -87,18 +104,17 @@ impl Held {
         current: &mut Catalogue,
         entry: Entry,
         is_kept: bool,
-    ) -> Result<(), ToolFault>
+    ) -> Result<(), AllocError>
         ensures added { OnOk result ((name : List ℕ) (entries kept : List NamedEntry) → HasAdmittedCharset entry
             → IsHeld self.old entries (kept ++ map (named name) current.old)
             → IsHeld self.new (entries ++ named name entry ∷ []) (kept ++ map (named name) current.new)) }
-        ensures memory { OnErr result (result ≡ Err ToolFault.OutOfMemory) }
     {
         if !is_kept {
             return self.write(&entry);
         }
         self.end_stretch(alloc, &entry)?;
         let Ok(()) = current.push(entry) else {
-            return Err(ToolFault::OutOfMemory);
+            return Err(AllocError);
         };
         Ok(())
     }
@@ -111,15 +127,16 @@ impl Held {
         piece: Catalogue,
         index: usize,
         places: &[Place],
-    ) -> Result<(), ToolFault>
+    ) -> Result<(), AllocError>
         ensures added { OnOk result ((name : List ℕ) (entries kept : List NamedEntry)
             → IsHeld self.old entries (kept ++ map (named name) current.old)
             → IsHeld self.new (entries ++ map (named name) piece) (kept ++ map (named name) current.new)) }
-        ensures memory { OnErr result (result ≡ Err ToolFault.OutOfMemory) }
     {
         let entries = piece.into_entries();
+        let mut left = places_of(places, index, &entries);
         for entry in entries {
-            let is_kept = places.binary_search(&(index, entry.line())).is_ok();
+            left = places_from(left, (index, entry.line()));
+            let is_kept = left.first() == Some(&(index, entry.line()));
             self.add(alloc, current, entry, is_kept)?;
         }
         Ok(())
@@ -134,13 +151,12 @@ impl Held {
         text: &[u8],
         index: usize,
         places: &[Place],
-    ) -> Result<bool, ToolFault>
+    ) -> Result<bool, AllocError>
         ensures added { IfOk result (λ done. done ≡ true → (read : List TextEntry) × ReadsText text.now read
             × AllDiffer read
             × ((name : List ℕ) (entries kept : List NamedEntry)
             → IsHeld self.old entries (kept ++ map (named name) current.old)
             → IsHeld self.new (entries ++ map (named name) read) (kept ++ map (named name) current.new))) }
-        ensures memory { OnErr result (result ≡ Err ToolFault.OutOfMemory) }
     {
         let Ok(mut pieces) = Pieces::of(text) else {
             return Ok(false);
@@ -163,12 +179,11 @@ pub(crate) fn hold_inputs<'a>(
     alloc: Global,
     inputs: &[(&'a str, &[u8])],
     places: &[Place],
-) -> Result<Option<(Held, Vec<Named<'a>>)>, ToolFault>
+) -> Result<Option<(Held, Vec<Named<'a>>)>, AllocError>
     requires { All (λ file. Lacks 0 file.name) (named_files inputs.now) }
     ensures held { IfOk result (λ found. IfSome found
         (λ p. AreHeld (named_files inputs.now) p.0 (inputs_view p.1.items))) }
     ensures names { IfOk result (λ found. IfSome found (λ p. All (λ input. Lacks 0 input.name.now) p.1.items)) }
-    ensures memory { OnErr result (result ≡ Err ToolFault.OutOfMemory) }
 {
     let mut held = Held::new(alloc)?;
     let mut kept = Vec::new(alloc);
@@ -183,7 +198,7 @@ pub(crate) fn hold_inputs<'a>(
         });
         match pushed {
             Ok(()) => {}
-            Err(_) => return Err(ToolFault::OutOfMemory),
+            Err(_) => return Err(AllocError),
         }
     }
     Ok(Some((held, kept)))

@@ -1,6 +1,6 @@
 //! Merging several texts without their catalogues: the entries that are each the only one of its message are written as
 //! they are read, and only the others are kept and merged.
-ghost use Rattle.std.specs.Prelude.{◌≡◌, ◌++◌, All, Err, IfOk, IfSome, List, OnErr, OnOk, true};
+ghost use Rattle.std.specs.Prelude.{◌≡◌, ◌++◌, All, IfOk, IfSome, List, OnOk, true};
 ghost use Rattle.std.specs.List.{AllZip};
 ghost use Rattle.po_entry.specs.Bytes.{Lacks};
 ghost use Rattle.po_entry.specs.TextEntry.{TextEntry};
@@ -17,8 +17,8 @@ use crate::digests::{add_digests, are_distinct, digest};
 use crate::held::{Held, Stretch, hold_inputs};
 use crate::repeated::repeated_places;
 use po_catalog::Entry;
+use po_merge::laws::woven_entries_are_merged;
 use po_merge::{MergeOptions, Named, merge};
-use po_shell::ToolFault;
 use po_writer::TextParts;
 use std::alloc::{AllocError, Global};
 use std::slice;
@@ -50,11 +50,10 @@ fn add_next<'a>(
     parts: &mut TextParts,
     merged: &'a [Entry],
     next: u64,
-) -> Result<&'a [Entry], ToolFault>
+) -> Result<&'a [Entry], AllocError>
     ensures added { OnOk result ((before : List TextEntry) → AreParts before parts.old
         → AreParts (before ++ next_merged next merged.now) parts.new) }
     ensures left { IfOk result (λ left. left.now ≡ after_next next merged.now) }
-    ensures memory { OnErr result (result ≡ Err ToolFault.OutOfMemory) }
 {
     let Some((entry, others)) = merged.split_first() else {
         return Ok(merged);
@@ -64,7 +63,7 @@ fn add_next<'a>(
     }
     match parts.add(slice::from_ref(entry)) {
         Ok(()) => Ok(others),
-        Err(_) => Err(ToolFault::OutOfMemory),
+        Err(_) => Err(AllocError),
     }
 }
 
@@ -74,11 +73,10 @@ fn weave(
     stretches: &[Stretch],
     rest: &TextParts,
     merged: &[Entry],
-) -> Result<TextParts, ToolFault>
+) -> Result<TextParts, AllocError>
     ensures parts { IfOk result (λ parts. (entries : List Stretched) (after : List NamedEntry)
         → AllZip IsStretch entries stretches.now
         → AreParts (unnamed after) rest.now → AreParts (woven digest entries merged.now after) parts) }
-    ensures memory { OnErr result (result ≡ Err ToolFault.OutOfMemory) }
 {
     let mut parts = TextParts::with_capacity(alloc, 0)?;
     let mut left = merged;
@@ -96,13 +94,13 @@ fn written<'a>(
     held: Held,
     kept: &'a [Named<'a>],
     options: &MergeOptions,
-) -> Result<Option<Vec<u8>>, ToolFault>
+) -> Result<Option<Vec<u8>>, AllocError>
     requires names { All (λ input. Lacks 0 input.name.now) kept.now }
     requires all { keeps_all options.now ≡ true }
     ensures written { IfOk result (λ found. IfSome found (λ text. (files : List NamedFile)
         → AreHeld files held (inputs_view kept.now) → IsMergedText files options.now text.items)) }
-    ensures memory { OnErr result (result ≡ Err ToolFault.OutOfMemory) }
 {
+    woven_entries_are_merged();
     let Held {
         stretches,
         rest,
@@ -118,7 +116,7 @@ fn written<'a>(
     let parts = weave(alloc, &stretches, &rest, merged.entries())?;
     match parts.join() {
         Ok(text) => Ok(Some(text)),
-        Err(_) => Err(ToolFault::OutOfMemory),
+        Err(_) => Err(AllocError),
     }
 }
 
@@ -128,12 +126,11 @@ pub(crate) fn merged_text(
     alloc: Global,
     inputs: &[(&str, &[u8])],
     options: &MergeOptions,
-) -> Result<Option<Vec<u8>>, ToolFault>
+) -> Result<Option<Vec<u8>>, AllocError>
     requires names { All (λ file. Lacks 0 file.name) (named_files inputs.now) }
     requires all { keeps_all options.now ≡ true }
     ensures written { IfOk result (λ found. IfSome found
         (λ text. IsMergedText (named_files inputs.now) options.now text.items)) }
-    ensures memory { OnErr result (result ≡ Err ToolFault.OutOfMemory) }
 {
     let places = repeated_places(alloc, inputs)?;
     let Some((held, kept)) = hold_inputs(alloc, inputs, &places)? else {

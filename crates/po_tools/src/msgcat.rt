@@ -143,7 +143,7 @@ fn text_of_pieces(
     one_input_stays();
     match inputs {
         [(_, text)] if keeps_all(options) => Ok(selected_text(alloc, text, &EVERY_ENTRY)?),
-        [_, _, ..] if keeps_all(options) => merged_text(alloc, inputs, options),
+        [_, _, ..] if keeps_all(options) => Ok(merged_text(alloc, inputs, options)?),
         _ => Ok(None),
     }
 }

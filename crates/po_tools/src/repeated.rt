@@ -95,16 +95,71 @@ fn add_messages(
     Ok(())
 }
 
-/// The places of the messages that stand more than once, in order.
-fn repeated(alloc: Global, found: &[(u64, Place)]) -> Result<Vec<Place>, AllocError> {
-    let mut places = Vec::new(alloc);
-    for i in 1..found.len() {
-        if found[i - 1].0 == found[i].0 {
-            places.push(found[i - 1].1)?;
-            places.push(found[i].1)?;
+/// How many numbers fell into each of some cells, up to two: twice for each number, by its lower and by its higher bits.
+#[derive(Drop)]
+struct Tally {
+    /// The cells by the lower bits.
+    low: Vec<u8>,
+    /// The cells by the higher bits.
+    high: Vec<u8>,
+    /// The bits of the index of a cell.
+    mask: usize,
+}
+
+/// Counts one more in a cell.
+fn count_in(cells: &mut [u8], index: usize) {
+    if let Some(cell) = cells.get_mut(index) {
+        *cell = if *cell == 0 { 1 } else { 2 };
+    }
+}
+
+/// Whether two numbers or more fell into a cell.
+fn is_shared(cells: &[u8], index: usize) -> bool {
+    cells.get(index) == Some(&2)
+}
+
+/// The index of a cell by the higher bits of a number.
+fn high_index(number: u64, mask: usize) -> usize {
+    (number >> 32) as usize & mask
+}
+
+impl Tally {
+    /// No numbers, with room for so many.
+    fn new(alloc: Global, count: usize) -> Result<Tally, AllocError> {
+        let zeros = (count.saturating_mul(8) | 7).leading_zeros();
+        let mask = usize::MAX.wrapping_shr(zeros);
+        Ok(Tally {
+            low: vec![in alloc; 0; mask.saturating_add(1)]?,
+            high: vec![in alloc; 0; mask.saturating_add(1)]?,
+            mask,
+        })
+    }
+
+    /// Counts the digests of messages.
+    fn count(&mut self, found: &[(u64, Place)]) {
+        for (digest, _) in found {
+            count_in(&mut self.low, *digest as usize & self.mask);
+            count_in(&mut self.high, high_index(*digest, self.mask));
         }
     }
-    places.sort_unstable();
+
+    /// Whether a number that was counted may have been counted twice.
+    fn is_repeated(&self, number: u64) -> bool {
+        is_shared(&self.low, number as usize & self.mask)
+            && is_shared(&self.high, high_index(number, self.mask))
+    }
+}
+
+/// The places of the messages that may stand more than once, in order.
+fn repeated(alloc: Global, found: &[(u64, Place)]) -> Result<Vec<Place>, AllocError> {
+    let mut tally = Tally::new(alloc, found.len())?;
+    tally.count(found);
+    let mut places = Vec::new(alloc);
+    for (digest, place) in found {
+        if tally.is_repeated(*digest) {
+            places.push(*place)?;
+        }
+    }
     Ok(places)
 }
 
@@ -118,6 +173,5 @@ pub(crate) fn repeated_places(
         let (_, text) = texts[index];
         add_messages(alloc, &mut found, text, index)?;
     }
-    found.sort_unstable();
     repeated(alloc, &found)
 }
