@@ -1,5 +1,5 @@
 -- One more entry among those that are grouped.
-use Rattle.std.proofs.Common.{◌≡◌, ℕ, ◌<◌, cond, List, [], ◌∷◌, ◌++◌, Some, None, sym, ap, ap₂, ◌∙◌, length, map, get_or, set, arith}
+use Rattle.std.proofs.Common.{◌≡◌, ℕ, Bool, ◌<◌, cond, List, [], ◌∷◌, ◌++◌, Some, None, sym, ap, ap₂, ◌∙◌, length, map, get_or, set, arith}
 use Rattle.std.specs.Global.{Vec}
 use Rattle.std.specs.BTreeMap.{is_at, get}
 use Rattle.std.proofs.lemmas.List.{map-set, map-append, length-map}
@@ -9,14 +9,14 @@ use Rattle.po_merge.specs.declared.grouping.Groups.{Groups as Grouped}
 use Rattle.po_merge.specs.Inputs.{NamedEntry}
 use Rattle.po_merge.specs.InputsView.{named_entry, named_entries}
 use Rattle.po_merge.specs.Groups.{same_message, first_ones, groups}
-use Rattle.po_merge.specs.Grouping.{Message, IsGrouped, is_message_of, message_cmp, index, group_entries}
+use Rattle.po_merge.specs.Grouping.{Key, Message, IsGrouped, is_message_of, key_cmp, key_of, message_cmp, index, group_entries}
 use Rattle.po_merge.proofs.FirstOnes.{group_of, apart_first_ones, firsts_same, firsts_more, grown, grouped_new, place_some, place_none}
-use Rattle.po_merge.proofs.Messages.{IsMessage, same_message_laws, message_of_entry, places_more}
+use Rattle.po_merge.proofs.Messages.{IsMessage, keys_tie, same_message_laws, message_of_entry, places_more}
 
 entries_of : Vec Definition → List NamedEntry
 entries_of group = named_entries group.items
 
-pub place_within : (grouped : Grouped) (es : List NamedEntry) (m : Message) (i : ℕ) → IsGrouped grouped es → Some i ≡ get message_cmp grouped.indices m → i < length grouped.groups.items
+pub place_within : (grouped : Grouped) (es : List NamedEntry) (m : Message) (i : ℕ) → IsGrouped grouped es → Some i ≡ get key_cmp grouped.indices (key_of m) → i < length grouped.groups.items
 place_within grouped es m i h looked =
     let at = place_some (is_message_of m) (first_ones same_message es) i (sym (h.are_places m) ∙ sym looked) in
     let long : length (group_entries grouped.groups.items) ≡ length (groups es) = ap length h.are_groups in
@@ -24,7 +24,7 @@ place_within grouped es m i h looked =
 
 -- an entry of a message that is there
 pub grown_grouped : (grouped new : Grouped) (es : List NamedEntry) (m : Message) (d : Definition) (i : ℕ) (v old : Vec Definition) → IsMessage m (named_entry d) → IsGrouped grouped es
-    → Some i ≡ get message_cmp grouped.indices m → new.indices ≡ grouped.indices → new.groups.items ≡ set grouped.groups.items i v
+    → Some i ≡ get key_cmp grouped.indices (key_of m) → new.indices ≡ grouped.indices → new.groups.items ≡ set grouped.groups.items i v
     → v.items ≡ old.items ++ d ∷ [] → get_or grouped.groups.items i old ≡ old → IsGrouped new (es ++ named_entry d ∷ [])
 grown_grouped grouped new es m d i v old is_message h looked same_places items pushed at =
     let e = named_entry d in
@@ -41,13 +41,13 @@ grown_grouped grouped new es m d i v old is_message h looked same_places items p
           ∙ ap₂ (λ (gs : List (List NamedEntry)) (g : List NamedEntry). set gs i g) h.are_groups group
           ∙ sym (grown same_message same_message_laws es e F i (named_entries old.items) (apart_first_ones same_message same_message_laws es) found)
           ∙ ap (λ (fs : List NamedEntry). map (group_of same_message (es ++ e ∷ [])) fs) (sym firsts);
-      are_places = λ q. ap (λ indices. get message_cmp indices q) same_places ∙ h.are_places q ∙ ap (index (is_message_of q)) (sym firsts);
+      are_places = λ q. ap (λ indices. get key_cmp indices (key_of q)) same_places ∙ h.are_places q ∙ ap (index (is_message_of q)) (sym firsts);
     }
 
 -- an entry of a message that is not there
 pub new_grouped : (grouped new : Grouped) (es : List NamedEntry) (m : Message) (d : Definition) (v : Vec Definition) (n : ℕ) → IsMessage m (named_entry d) → IsGrouped grouped es
-    → get message_cmp grouped.indices m ≡ None → n ≡ length grouped.groups.items
-    → ((q : Message) → get message_cmp new.indices q ≡ cond (is_at (message_cmp m) q) (Some n) (get message_cmp grouped.indices q))
+    → get key_cmp grouped.indices (key_of m) ≡ None → n ≡ length grouped.groups.items
+    → ((q : Key) → get key_cmp new.indices q ≡ cond (is_at (key_cmp (key_of m)) q) (Some n) (get key_cmp grouped.indices q))
     → new.groups.items ≡ grouped.groups.items ++ v ∷ [] → v.items ≡ d ∷ [] → IsGrouped new (es ++ named_entry d ∷ [])
 new_grouped grouped new es m d v n is_message h absent count updated items pushed =
     let e = named_entry d in
@@ -63,7 +63,8 @@ new_grouped grouped new es m d v n is_message h absent count updated items pushe
           ∙ sym (grouped_new same_message same_message_laws es e unmet)
           ∙ ap (λ (fs : List NamedEntry). map (group_of same_message (es ++ e ∷ [])) fs) (sym firsts);
       are_places = λ q.
-          places_more (get message_cmp grouped.indices) (get message_cmp new.indices) m e F is_message h.are_places absent
-          (λ r. updated r ∙ ap (λ (k : ℕ). cond (is_at (message_cmp m) r) (Some k) (get message_cmp grouped.indices r)) long) q
+          places_more (λ r. get key_cmp grouped.indices (key_of r)) (λ r. get key_cmp new.indices (key_of r)) m e F is_message h.are_places absent
+          (λ r. updated (key_of r) ∙ ap (λ (b : Bool). cond b (Some n) (get key_cmp grouped.indices (key_of r))) (keys_tie m r)
+          ∙ ap (λ (k : ℕ). cond (is_at (message_cmp m) r) (Some k) (get key_cmp grouped.indices (key_of r))) long) q
           ∙ ap (index (is_message_of q)) (sym firsts);
     }

@@ -1,5 +1,5 @@
 -- Each message that is kept stands once among the merged entries.
-use Rattle.std.proofs.Common.{◌≡◌, ℕ, ◌<◌, Bool, true, false, cond, ◌&&◌, ◌||◌, List, [], ◌∷◌, Option, Some, None, refl, sym, ap, ap₂, ◌∙◌, map, filter, length, get_or, arith}
+use Rattle.std.proofs.Common.{◌≡◌, ℕ, ◌<◌, Bool, true, false, cond, ◌&&◌, ◌||◌, List, [], ◌∷◌, Option, None, refl, sym, ap, ap₂, ◌∙◌, map, filter, length, get_or, arith}
 use Rattle.std.specs.Prelude.{All, bytes_eq, if◌then◌else◌}
 use Rattle.std.specs.List.{list_any}
 use Rattle.std.specs.Option.{option_eq}
@@ -18,15 +18,9 @@ use Rattle.po_merge.specs.MergedEntry.{merged_entry}
 use Rattle.po_merge.specs.Merged.{is_kept, merged_messages}
 use Rattle.po_merge.specs.MergeLaws.{is_of, has_message, MessagesStandOnce, KeptMessagesStand}
 use Rattle.po_merge.proofs.FirstOnes.{Apart, group_of, apart_first_ones, any_first_ones}
-use Rattle.po_merge.proofs.Messages.{same_message_laws}
+use Rattle.po_merge.proofs.Messages.{context_is, same_message_laws}
 use Rattle.po_merge.proofs.Valid.{first_keeps}
 use Rattle.po_merge.proofs.GroupsMerged.{some_passes, any_same}
-
-context_is : (a b : Option (List ℕ)) → option_eq bytes_eq a b ≡ true → a ≡ b
-context_is None None h = refl
-context_is None (Some y) h = cc
-context_is (Some x) None h = cc
-context_is (Some x) (Some y) h = ap (λ (t : List ℕ). Some t) ((bytes_eq-Decides x y).0 h)
 
 pub same_is : (a b : NamedEntry) → same_message a b ≡ true → IsSameMessage a.entry b.entry
 same_is a b h =

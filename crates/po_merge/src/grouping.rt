@@ -1,6 +1,6 @@
-ghost use Rattle.std.specs.Prelude.{◌≡◌, ◌++◌, ◌∷◌, ℕ, List, [], All, IfOk, IsUtf8, OnOk, map};
+ghost use Rattle.std.specs.Prelude.{◌≡◌, ◌++◌, ◌∷◌, ℕ, List, [], All, IfOk, IsUtf8, OnOk, map, option_copied};
 ghost use Rattle.po_entry.specs.Bytes.{Lacks};
-ghost use Rattle.po_merge.specs.Grouping.{IsGrouped, IsDefinition, group_entries};
+ghost use Rattle.po_merge.specs.Grouping.{IsGrouped, IsDefinition, digest, group_entries};
 ghost use Rattle.po_merge.specs.Groups.{groups};
 ghost use Rattle.po_merge.specs.Inputs.{NamedEntry, named, all_entries};
 ghost use Rattle.po_merge.specs.InputsView.{inputs_view, named_entry};
@@ -10,15 +10,29 @@ use crate::input::Named;
 use po_catalog::Entry;
 use std::alloc::{AllocError, Global};
 use std::collections::BTreeMap;
+use std::hash::{FoldHasher, Hasher};
 
-/// The context and the msgid of a message.
-type Message<'a> = (Option<&'a [u8]>, &'a [u8]);
+/// The digest of a message, and its context and msgid.
+type Key<'a> = (u64, Option<&'a [u8]>, &'a [u8]);
 
-/// Entries, grouped by their messages. The groups are found by comparing, so that no choice of msgids makes them slow.
+/// The digest of a message.
+fn digest(context: Option<&[u8]>, id: &[u8]) -> u64
+    ensures { result ≡ digest (option_copied context.entry) id.now }
+{
+    let mut hasher = FoldHasher::default();
+    hasher.write(id);
+    if let Some(context) = context {
+        hasher.write(context);
+    }
+    hasher.finish()
+}
+
+/// Entries, grouped by their messages. The groups are found by comparing, first the digests and then the messages
+/// themselves, so that no choice of msgids makes them slow.
 #[derive(Drop)]
 pub(crate) struct Groups<'a> {
     /// The index of each message's group.
-    indices: BTreeMap<Message<'a>, usize>,
+    indices: BTreeMap<Key<'a>, usize>,
     /// The entries of each message, in the order in which the messages first appear.
     groups: Vec<Vec<Definition<'a>>>,
 }
@@ -40,14 +54,16 @@ impl<'a> Groups<'a> {
         ensures { (entries : List NamedEntry) → IsGrouped self.old entries
             → OnOk result (IsGrouped self.new (entries ++ named_entry definition.entry ∷ [])) }
     {
-        let message = (definition.entry.context(), definition.entry.id());
-        if let Some(index) = self.indices.get(&message).copied() {
+        let context = definition.entry.context();
+        let id = definition.entry.id();
+        let key = (digest(context, id), context, id);
+        if let Some(index) = self.indices.get(&key).copied() {
             self.groups[index].push(definition)?;
             return Ok(());
         }
         let mut group = Vec::new(alloc);
         group.push(definition)?;
-        self.indices.insert(message, self.groups.len())?;
+        self.indices.insert(key, self.groups.len())?;
         self.groups.push(group)?;
         Ok(())
     }
