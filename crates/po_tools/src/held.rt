@@ -74,7 +74,7 @@ impl Held {
 
     /// Writes an entry.
     fn write(&mut self, entry: &Entry) -> Result<(), AllocError>
-        ensures written { OnOk result ((name : List ℕ) (entries kept : List NamedEntry) → HasAdmittedCharset entry.now
+        ensures { OnOk result ((name : List ℕ) (entries kept : List NamedEntry) → HasAdmittedCharset entry.now
             → IsHeld self.old entries kept → IsHeld self.new (entries ++ named name entry.now ∷ []) kept) }
     {
         self.digests.push(digest(entry))?;
@@ -105,7 +105,7 @@ impl Held {
         entry: Entry,
         is_kept: bool,
     ) -> Result<(), AllocError>
-        ensures added { OnOk result ((name : List ℕ) (entries kept : List NamedEntry) → HasAdmittedCharset entry
+        ensures { OnOk result ((name : List ℕ) (entries kept : List NamedEntry) → HasAdmittedCharset entry
             → IsHeld self.old entries (kept ++ map (named name) current.old)
             → IsHeld self.new (entries ++ named name entry ∷ []) (kept ++ map (named name) current.new)) }
     {
@@ -128,7 +128,7 @@ impl Held {
         index: usize,
         places: &[Place],
     ) -> Result<(), AllocError>
-        ensures added { OnOk result ((name : List ℕ) (entries kept : List NamedEntry)
+        ensures { OnOk result ((name : List ℕ) (entries kept : List NamedEntry)
             → IsHeld self.old entries (kept ++ map (named name) current.old)
             → IsHeld self.new (entries ++ map (named name) piece) (kept ++ map (named name) current.new)) }
     {
@@ -152,7 +152,7 @@ impl Held {
         index: usize,
         places: &[Place],
     ) -> Result<bool, AllocError>
-        ensures added { IfOk result (λ done. done ≡ true → (read : List TextEntry) × ReadsText text.now read
+        ensures { IfOk result (λ done. done ≡ true → (read : List TextEntry) × ReadsText text.now read
             × AllDiffer read
             × ((name : List ℕ) (entries kept : List NamedEntry)
             → IsHeld self.old entries (kept ++ map (named name) current.old)

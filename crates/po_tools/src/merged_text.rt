@@ -74,7 +74,7 @@ fn weave(
     rest: &TextParts,
     merged: &[Entry],
 ) -> Result<TextParts, AllocError>
-    ensures parts { IfOk result (λ parts. (entries : List Stretched) (after : List NamedEntry)
+    ensures { IfOk result (λ parts. (entries : List Stretched) (after : List NamedEntry)
         → AllZip IsStretch entries stretches.now
         → AreParts (unnamed after) rest.now → AreParts (woven digest entries merged.now after) parts) }
 {
@@ -97,7 +97,7 @@ fn written<'a>(
 ) -> Result<Option<Vec<u8>>, AllocError>
     requires names { All (λ input. Lacks 0 input.name.now) kept.now }
     requires all { keeps_all options.now ≡ true }
-    ensures written { IfOk result (λ found. IfSome found (λ text. (files : List NamedFile)
+    ensures { IfOk result (λ found. IfSome found (λ text. (files : List NamedFile)
         → AreHeld files held (inputs_view kept.now) → IsMergedText files options.now text.items)) }
 {
     woven_entries_are_merged();
@@ -129,7 +129,7 @@ pub(crate) fn merged_text(
 ) -> Result<Option<Vec<u8>>, AllocError>
     requires names { All (λ file. Lacks 0 file.name) (named_files inputs.now) }
     requires all { keeps_all options.now ≡ true }
-    ensures written { IfOk result (λ found. IfSome found
+    ensures { IfOk result (λ found. IfSome found
         (λ text. IsMergedText (named_files inputs.now) options.now text.items)) }
 {
     let places = repeated_places(alloc, inputs)?;

@@ -10,7 +10,7 @@ use Rattle.po_tools.proofs.held.hold_inputs.Goals as goal
 
 pub loop-name-preserved : goal.loop-name-preserved
 loop-name-preserved c =
-    let got = c.in_ok-add_text.ensures.added c.if-not-branch.false in
+    let got = c.in_ok-add_text.ensures c.if-not-branch.false in
     record {
       held = held_more c.args.inputs.now c.loop-name.name-index (record { ref_ptr = (0, 0); now = [] }, record { ref_ptr = (0, 0); now = [] }) c.loop-name.held c.add_text.new.self
           c.loop-name.kept.items c.push-pushed.new.self.items _ got.0 c.loop-name-test.true c.loop-name.invariant.held c.in-Ok.ensures.items refl got.1 got.2

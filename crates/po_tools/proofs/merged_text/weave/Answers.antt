@@ -21,8 +21,8 @@ loop-stretch-preserved c =
     stretch_woven so_far.0 at.0 (drop (i + 1) entries) _ _ s.next after _ c.append_parts.new.parts c.add_next.new.parts is.next c.in_ok-left.ensures.left c.in_ok-left.ensures.added
     (c.in_ok-append_parts.ensures so_far.0 (unnamed at.0.0) so_far.1 is.parts) (ap (λ ts. so_far.0 ++ woven digest ts c.loop-stretch.left.now after) (sym at.1) ∙ so_far.2)
 
-pub returns-clause-parts : goal.returns-clause-parts
-returns-clause-parts c =
+pub returns : goal.returns
+returns c =
     λ entries after zip rest.
     let so_far = c.loop-stretch.invariant entries after zip in
     let past : length c.args.stretches.now ≤ c.loop-stretch.stretch-index = omega (arith, c.loop-stretch-test.false) in

@@ -10,11 +10,11 @@ use Rattle.po_tools.specs.Held.{IsStretch}
 use Rattle.po_tools.proofs.WovenText.{written_merged}
 use Rattle.po_tools.proofs.merged_text.written.Goals as goal
 
-pub returns-in-Ok-join-clause-written : goal.returns-in-Ok-join-clause-written
-returns-in-Ok-join-clause-written c =
+pub returns-in-Ok-join : goal.returns-in-Ok-join
+returns-in-Ok-join c =
     λ files are.
     let h = are.holds in
-    let parts = c.in_ok-parts.ensures.parts h.stretched h.after (subst (AllZip IsStretch h.stretched) (sym c.deref.ensures.value) h.stretches) h.rest in
+    let parts = c.in_ok-parts.ensures h.stretched h.after (subst (AllZip IsStretch h.stretched) (sym c.deref.ensures.value) h.stretches) h.rest in
     written_merged files c.args.options.now c.args.held (inputs_view c.args.kept.now) c.in-Ok.merged c.add_digests.new.digests.items c.in-Ok-join.text.items are c.woven_entries_are_merged.ensures.merged c.woven_entries_are_merged.ensures.admitted c.requires.all c.in-Ok.ensures.merged
     (subst (All IsCatalogueEntry) c.entries.ensures.entries c.entries.ensures.valid)
     (c.in_ok-add_digests.ensures ∙ ap (λ l. c.args.held.digests.items ++ map digest l) c.entries.ensures.entries)

@@ -4,8 +4,8 @@ use Rattle.po_merge.specs.Inputs.{named}
 use Rattle.po_tools.specs.Held.{IsHeld}
 use Rattle.po_tools.proofs.held.Held.add.Goals as goal
 
-pub returns-clause-added : goal.returns-clause-added
-returns-clause-added c =
+pub returns : goal.returns
+returns c =
     λ name entries kept valid h.
     let before = c.args.current.now in
     let more = ap (λ l. kept ++ map (named name) l) c.in-Ok.ensures.ok ∙ ap (λ l. kept ++ l) (map-append (named name) before (c.args.entry ∷ [])) ∙ sym (append_assoc kept (map (named name) before) (named name c.args.entry ∷ [])) in

@@ -22,10 +22,10 @@ loop-entry-preserved c =
     let valid = subst IsCatalogueEntry (sym turn.1) (c.into_entries-entries.ensures.valid (length c.loop-entry.yielded) c.in-Some.entry turn.0) in
     λ name entries kept h.
     rw (count, sym is, taken, map-append, sym (append_assoc entries (map (named name) (take (length c.loop-entry.yielded) all)) (named name c.in-Some.entry ∷ [])))
-    (c.in_ok-add.ensures.added name (entries ++ map (named name) (take (length c.loop-entry.yielded) all)) kept valid.charset (rw (sym is) at (c.loop-entry.invariant name entries kept h)))
+    (c.in_ok-add.ensures name (entries ++ map (named name) (take (length c.loop-entry.yielded) all)) kept valid.charset (rw (sym is) at (c.loop-entry.invariant name entries kept h)))
 
-pub returns-clause-added : goal.returns-clause-added
-returns-clause-added c =
+pub returns : goal.returns
+returns c =
     let all = c.into_entries-entries.result.items in
     let is = c.into_entries-entries.ensures.entries in
     let given = c.into_iter-entry-iterator.ensures.into_iter_gives in

@@ -21,11 +21,11 @@ loop-pieces-preserved c =
       λ name entries kept h.
           subst (λ l. IsHeld c.add_piece.new.self l (kept ++ map (named name) c.add_piece.new.current))
           (append_assoc entries (map (named name) so_far.0) (map (named name) piece) ∙ ap (λ l. entries ++ l) (sym (map-append (named name) so_far.0 piece)))
-          (c.in_ok-add_piece.ensures.added name (entries ++ map (named name) so_far.0) kept (so_far.3 name entries kept h)),
+          (c.in_ok-add_piece.ensures name (entries ++ map (named name) so_far.0) kept (so_far.3 name entries kept h)),
     )
 
-pub returns-clause-added : goal.returns-clause-added
-returns-clause-added c =
+pub returns : goal.returns
+returns c =
     λ done.
     let so_far = c.loop-pieces.invariant in (
       so_far.0,
