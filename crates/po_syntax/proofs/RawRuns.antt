@@ -1,7 +1,8 @@
 -- Bytes that are written as they are.
-use Rattle.std.proofs.Common.{◌≡◌, ◌==◌, ◌||◌, ℕ, zero, suc, ◌<◌, ◌≤◌, true, false, nat_lt, List, [], ◌∷◌, length, get_or, take, arith, refl}
+use Rattle.std.proofs.Common.{◌≡◌, ◌==◌, ◌||◌, ℕ, zero, suc, ◌+◌, ◌<◌, ◌≤◌, Bool, true, false, cond, nat_lt, List, [], ◌∷◌, ◌++◌, length, get_or, take, arith, refl, sym, ap, ◌∙◌, subst}
 use Rattle.std.specs.List.{prefix_len}
 use Rattle.std.proofs.lemmas.Bool.{or_parts, not-true, ltb-false, ne_eqb}
+use Rattle.std.proofs.lemmas.List.{length_push, take_more}
 use Rattle.std.proofs.lemmas.List.Sums.{prefix_len_passes, prefix_len-le-length}
 use Rattle.po_syntax.specs.QuotedForm.{is_control, is_raw, written_byte, written_bytes}
 
@@ -28,3 +29,21 @@ written_run (suc n) (b ∷ text) raw within =
 pub written_prefix : (text : List ℕ) → written_bytes (take (prefix_len is_raw text) text) ≡ take (prefix_len is_raw text) text
 written_prefix text =
     written_run (prefix_len is_raw text) text (λ k less. prefix_len_passes is_raw text k 0 less) (prefix_len-le-length is_raw text)
+
+-- bytes that are all written as they are, and further ones
+pub raw_append : (xs ys : List ℕ) → prefix_len is_raw xs ≡ length xs → prefix_len is_raw (xs ++ ys) ≡ length xs + prefix_len is_raw ys
+raw_append [] ys h = omega arith
+raw_append (x ∷ xs) ys h = found (is_raw x) h (raw_append xs ys) where
+  found : (b : Bool) → cond b (1 + prefix_len is_raw xs) 0 ≡ suc (length xs)
+      → (prefix_len is_raw xs ≡ length xs → prefix_len is_raw (xs ++ ys) ≡ length xs + prefix_len is_raw ys)
+      → cond b (1 + prefix_len is_raw (xs ++ ys)) 0 ≡ suc (length xs) + prefix_len is_raw ys
+  found true e more =
+      let fewer : prefix_len is_raw xs ≡ length xs = omega (arith, e) in
+      omega (arith, more fewer)
+  found false e more = absurd (omega (arith, e))
+
+-- one byte more of them
+pub raw_more : (xs : List ℕ) (i d : ℕ) → i < length xs → prefix_len is_raw (take i xs) ≡ length (take i xs) → is_raw (get_or xs i d) ≡ true → prefix_len is_raw (take (i + 1) xs) ≡ length (take (i + 1) xs)
+raw_more xs i d below h raw =
+    subst (λ (l : List ℕ). prefix_len is_raw l ≡ length l) (sym (take_more xs i d below))
+    (raw_append (take i xs) (get_or xs i d ∷ []) h ∙ ap (λ (b : Bool). length (take i xs) + cond b 1 0) raw ∙ sym (length_push (take i xs) (get_or xs i d)))

@@ -1,4 +1,4 @@
-ghost use Rattle.std.specs.Prelude.{◌≡◌, ◌≤◌, ◌++◌, length, take, OnOk, OnErr, IfErr};
+ghost use Rattle.std.specs.Prelude.{◌≡◌, ◌+◌, ◌≤◌, ◌++◌, length, take, true, OnOk, OnErr, IfErr};
 ghost use Rattle.std.specs.List.{prefix_len};
 ghost use Rattle.po_syntax.specs.declared.fault.PoFault.TheVariants.{OutOfMemory};
 ghost use Rattle.po_syntax.specs.QuotedForm.{is_raw, quoted, written_byte, written_bytes};
@@ -13,12 +13,48 @@ fn is_raw(byte: u8) -> bool
     byte >= 32 && byte != b'"' && byte != b'\\' && byte != 127
 }
 
+/// Whether all bytes of a block stand in a quoted string as they are. All are tested, which takes few instructions,
+/// since a processor tests several at once.
+fn is_raw_block(block: &[u8; 16]) -> bool
+    ensures { result ≡ true → prefix_len is_raw block.now ≡ length block.now }
+{
+    let mut are_raw = true;
+    for byte in block {
+        are_raw &= is_raw(*byte);
+    }
+    are_raw
+}
+
+/// What is left after the first blocks whose bytes stand in a quoted string as they are.
+fn after_raw_blocks(bytes: &[u8]) -> &[u8]
+    ensures count { length bytes.now + prefix_len is_raw result.now ≡ length result.now + prefix_len is_raw bytes.now }
+    ensures within { length result.now ≤ length bytes.now }
+{
+    let mut rest = bytes;
+    while let Some((block, after)) = rest.split_first_chunk::<16>() {
+        if !is_raw_block(block) {
+            break;
+        }
+        rest = after;
+    }
+    rest
+}
+
+/// How many bytes at the beginning stand in a quoted string as they are, counted one by one.
+fn raw_bytes(bytes: &[u8]) -> usize
+    ensures count { result ≡ prefix_len is_raw bytes.now }
+    ensures within { result ≤ length bytes.now }
+{
+    bytes.iter().take_while(|b| is_raw(**b)).count()
+}
+
 /// How many bytes at the beginning stand in a quoted string as they are.
 fn raw_count(bytes: &[u8]) -> usize
     ensures count { result ≡ prefix_len is_raw bytes.now }
     ensures within { result ≤ length bytes.now }
 {
-    bytes.iter().take_while(|b| is_raw(**b)).count()
+    let rest = after_raw_blocks(bytes);
+    bytes.len() - rest.len() + raw_bytes(rest)
 }
 
 /// Splits off the bytes that are written as they are.

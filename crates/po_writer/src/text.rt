@@ -9,11 +9,16 @@ use po_entry::{Catalogue, Entry};
 use po_syntax::PoError;
 use std::alloc::{AllocError, Global};
 
+/// The room of most entries. A text that begins with it takes few reallocations until it has one.
+const ROOM: usize = 256;
+
 /// Appends an entry, after an empty line if it isn't the first.
 fn push_separated(out: &mut Vec<u8>, entry: &Entry) -> Result<(), AllocError>
     ensures appended { OnOk result (out.new.items ≡ with_entry out.old.items entry.now) }
 {
-    if !out.is_empty() {
+    if out.is_empty() {
+        out.reserve(ROOM)?;
+    } else {
         out.push(b'\n')?;
     }
     push_entry(out, entry)

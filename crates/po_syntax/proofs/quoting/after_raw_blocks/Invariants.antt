@@ -1,0 +1,13 @@
+use Rattle.std.proofs.Common.{◌≡◌, ◌+◌, ◌≤◌, length}
+use Rattle.std.specs.List.{prefix_len}
+use Rattle.po_syntax.specs.QuotedForm.{is_raw}
+use Rattle.po_syntax.proofs.quoting.after_raw_blocks.Given as goal
+
+abbrev pub invariant-loop-block : goal.invariant-loop-block
+invariant-loop-block l = record {
+  count : length l.bytes + prefix_len is_raw l.rest ≡ length l.rest + prefix_len is_raw l.bytes;
+  within : length l.rest ≤ length l.bytes;
+}
+
+abbrev pub decreases-loop-block : goal.decreases-loop-block
+decreases-loop-block l = length l.rest
