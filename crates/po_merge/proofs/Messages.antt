@@ -58,19 +58,19 @@ pub keys_tie : (m r : Message) → is_at (key_cmp (key_of m)) (key_of r) ≡ is_
 keys_tie m r =
     sym (both_tied _ _ (ordering_then digests contexts) ids (both_tied _ _ digests contexts refl refl) refl)
     ∙ and_assoc (is_eq digests) (is_eq contexts) (is_eq ids) ∙ ap (λ (b : Bool). is_eq digests && b) (both_tied _ _ contexts ids refl refl) ∙ found (is_eq (message_cmp m r)) refl where
-  digests : Ordering
-  digests = nat_cmp (key_of m).0 (key_of r).0
+      digests : Ordering
+      digests = nat_cmp (key_of m).0 (key_of r).0
 
-  contexts : Ordering
-  contexts = option_cmp (λ x y. slice_cmp nat_cmp x.now y.now) m.0 r.0
+      contexts : Ordering
+      contexts = option_cmp (λ x y. slice_cmp nat_cmp x.now y.now) m.0 r.0
 
-  ids : Ordering
-  ids = slice_cmp nat_cmp m.1.now r.1.now
+      ids : Ordering
+      ids = slice_cmp nat_cmp m.1.now r.1.now
 
-  found : (b : Bool) → is_eq (message_cmp m r) ≡ b → (is_eq (nat_cmp (key_of m).0 (key_of r).0) && b) ≡ b
-  found true e =
-      ap (λ (k : ℕ). is_eq (nat_cmp (key_of m).0 k) && true) (sym (same_digests m r (messages_tie m r ∙ e))) ∙ ap (λ (b : Bool). b && true) (ap is_eq (sym (nat_cmp_is (key_of m).0 (key_of m).0 Equal refl)))
-  found false e = and-false (is_eq (nat_cmp (key_of m).0 (key_of r).0))
+      found : (b : Bool) → is_eq (message_cmp m r) ≡ b → (is_eq (nat_cmp (key_of m).0 (key_of r).0) && b) ≡ b
+      found true e =
+          ap (λ (k : ℕ). is_eq (nat_cmp (key_of m).0 k) && true) (sym (same_digests m r (messages_tie m r ∙ e))) ∙ ap (λ (b : Bool). b && true) (ap is_eq (sym (nat_cmp_is (key_of m).0 (key_of m).0 Equal refl)))
+      found false e = and-false (is_eq (nat_cmp (key_of m).0 (key_of r).0))
 
 -- the message is that of the entry
 pub record IsMessage (m : Message) (e : NamedEntry) : Type 0 where

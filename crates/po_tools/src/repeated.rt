@@ -1,7 +1,7 @@
 //! A guess which entries of several texts are of one message, by a look at the lines alone. Nothing is
 //! built on the guess that isn't checked.
 
-use memchr::{memchr, memrchr};
+use memchr::{memchr_iter, memrchr};
 use std::alloc::{AllocError, Global};
 use std::hash::{FoldHasher, Hasher};
 
@@ -21,10 +21,13 @@ struct Spelling {
 
 /// What stands between the first and the last quote of a line.
 fn between_quotes(line: &[u8]) -> &[u8] {
-    let Some(start) = memchr(b'"', line) else {
+    let Some(start) = line.iter().position(|byte| *byte == b'"') else {
         return b"";
     };
     let after = line.split_at(start).1.split_at(1).1;
+    if let Some(inside) = after.strip_suffix(b"\"") {
+        return inside;
+    }
     match memrchr(b'"', after) {
         Some(end) => after.split_at(end).0,
         None => b"",
@@ -82,20 +85,22 @@ fn add_messages(
         line: 0,
         is_open: false,
     };
-    let mut rest = text.strip_prefix(b"\xef\xbb\xbf").unwrap_or(text);
+    let text = text.strip_prefix(b"\xef\xbb\xbf").unwrap_or(text);
+    let mut start = 0;
     let mut number = 1_u32;
-    while let Some(end) = memchr(b'\n', rest) {
-        let (line, after) = rest.split_at(end);
+    for end in memchr_iter(b'\n', text) {
+        let line = text.get(start..end).unwrap_or(b"");
         if let Some((digest, at)) = spelling.add_line(line, number)? {
             found.push((digest, (index, at)))?;
         }
-        rest = after.split_at(1).1;
+        start = end.saturating_add(1);
         number = number.wrapping_add(1);
     }
     Ok(())
 }
 
 /// How many numbers fell into each of some cells, up to two: twice for each number, by its lower and by its higher bits.
+/// A cell has two bits: whether a number fell into it, and whether another did.
 #[derive(Drop)]
 struct Tally {
     /// The cells by the lower bits.
@@ -108,14 +113,16 @@ struct Tally {
 
 /// Counts one more in a cell.
 fn count_in(cells: &mut [u8], index: usize) {
-    if let Some(cell) = cells.get_mut(index) {
-        *cell = if *cell == 0 { 1 } else { 2 };
+    if let Some(four) = cells.get_mut(index / 4) {
+        let met = 1_u8.wrapping_shl((index % 4 * 2) as u32);
+        *four |= met | (*four & met).wrapping_shl(1);
     }
 }
 
 /// Whether two numbers or more fell into a cell.
 fn is_shared(cells: &[u8], index: usize) -> bool {
-    cells.get(index) == Some(&2)
+    let again = 2_u8.wrapping_shl((index % 4 * 2) as u32);
+    cells.get(index / 4).is_some_and(|four| *four & again != 0)
 }
 
 /// The index of a cell by the higher bits of a number.
@@ -126,11 +133,11 @@ fn high_index(number: u64, mask: usize) -> usize {
 impl Tally {
     /// No numbers, with room for so many.
     fn new(alloc: Global, count: usize) -> Result<Tally, AllocError> {
-        let zeros = (count.saturating_mul(8) | 7).leading_zeros();
+        let zeros = (count.saturating_mul(16) | 15).leading_zeros();
         let mask = usize::MAX.wrapping_shr(zeros);
         Ok(Tally {
-            low: vec![in alloc; 0; mask.saturating_add(1)]?,
-            high: vec![in alloc; 0; mask.saturating_add(1)]?,
+            low: vec![in alloc; 0; mask / 4 + 1]?,
+            high: vec![in alloc; 0; mask / 4 + 1]?,
             mask,
         })
     }
