@@ -13,6 +13,9 @@ use po_reader::{PIECE, Refusal, next_messages};
 use po_syntax::Pieces;
 use std::alloc::{AllocError, Global};
 
+/// How many bytes of a text an entry usually takes, or more.
+const USUAL_LEN: usize = 128;
+
 /// How long the parts of a live entry's message are, in bytes, and how the entry counts.
 #[derive(Clone, Copy)]
 pub(crate) struct Lengths {
@@ -136,8 +139,8 @@ pub(crate) fn collect(alloc: Global, text: &[u8], use_fuzzy: bool) -> Result<Col
         Err(error) => return Err(Refusal::Fault(error)),
     };
     let mut collected = Collected {
-        bytes: Vec::new(alloc),
-        lengths: Vec::new(alloc),
+        bytes: Vec::with_capacity(alloc, text.len())?,
+        lengths: Vec::with_capacity(alloc, text.len() / USUAL_LEN)?,
     };
     while !pieces.are_over() {
         let piece = next_messages(alloc, &mut pieces, PIECE)?;

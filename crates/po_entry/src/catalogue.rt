@@ -1,4 +1,4 @@
-ghost use Rattle.std.specs.Prelude.{◌≡◌, IfErr, OnOk, OnErr, All, [], ◌∷◌, ◌++◌};
+ghost use Rattle.std.specs.Prelude.{◌≡◌, IfOk, IfErr, OnOk, OnErr, All, [], ◌∷◌, ◌++◌};
 ghost use Rattle.po_entry.specs.Header.{HasAdmittedCharset};
 ghost use Rattle.po_entry.specs.Validity.{IsCatalogueEntry, IsRefusedEntry};
 
@@ -35,6 +35,15 @@ impl Catalogue {
         Catalogue {
             entries: Vec::new(alloc),
         }
+    }
+
+    /// The empty catalogue, with room for this many entries.
+    pub fn with_capacity(alloc: Global, capacity: usize) -> Result<Catalogue, AllocError>
+        ensures { IfOk result (λ catalogue. catalogue ≡ []) }
+    {
+        Ok(Catalogue {
+            entries: Vec::with_capacity(alloc, capacity)?,
+        })
     }
 
     /// The catalogue of these entries, in each of which the charset of a header is admitted. It takes

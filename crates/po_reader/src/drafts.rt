@@ -18,6 +18,9 @@ use po_entry::Fields;
 use po_syntax::{Item, PoError, PoFault};
 use std::alloc::{AllocError, Global};
 
+/// How many items an entry has at least: two keywords and their strings.
+const LEAST_ITEMS: usize = 4;
+
 /// The parts of an entry, from its head and its body.
 fn fields_of(alloc: Global, head: Head, body: Body) -> Result<Fields, AllocError>
     ensures { IfOk result (λ fields. (comment_texts : List CommentText) (previous : List PreviousText)
@@ -73,7 +76,7 @@ pub(crate) fn drafts_of(
     ensures fault { IfErr result (IsStop (EntriesStop end (views items.now))) }
     ensures memory { IfErr result (λ e. e.kind ≡ PoFault.OutOfMemory → e.line ≡ 0) }
 {
-    let mut drafts = Vec::new(alloc);
+    let mut drafts = Vec::with_capacity(alloc, items.len() / LEAST_ITEMS)?;
     let mut rest = Rest::of(items);
     loop {
         let head = take_head(alloc, &mut rest, end, with_comments)?;

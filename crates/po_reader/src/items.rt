@@ -97,7 +97,7 @@ fn catalogue_of(alloc: Global, drafts: Vec<Fields>) -> Result<Catalogue, PoError
         × CharsetStops (map entry_view drafts.items) e.line) }
     ensures memory { IfErr result (λ e. e.kind ≡ PoFault.OutOfMemory → e.line ≡ 0) }
 {
-    let mut catalogue = Catalogue::new(alloc);
+    let mut catalogue = Catalogue::with_capacity(alloc, drafts.len())?;
     for draft in drafts {
         if let Err((_, error)) = catalogue.push(Entry::of(draft)) {
             return Err(error);

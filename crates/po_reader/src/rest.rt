@@ -55,6 +55,18 @@ impl<'i, 'a> Rest<'i, 'a> {
         self.at += 1;
     }
 
+    /// How many bytes the strings that stand first have.
+    pub(crate) fn strings_len(&self) -> usize {
+        let mut len: usize = 0;
+        for item in &self.items[self.at..] {
+            let Item::Str(bytes, ..) = item else {
+                return len;
+            };
+            len = len.saturating_add(bytes.as_slice().len());
+        }
+        len
+    }
+
     /// The fault of the first item; where there is none, on the line `end`, that of the text's last one.
     pub(crate) fn refusal(&self, end: u32, kind: PoFault) -> PoError
         ensures kind { result.kind ≡ kind }

@@ -66,7 +66,7 @@ pub(crate) fn take_strings(
     ensures fault { IfErr result (IsStop (StringsStop end marks rest.old)) }
     ensures memory { IfErr result (λ e. e.kind ≡ PoFault.OutOfMemory → e.line ≡ 0) }
 {
-    let mut text = Vec::new(alloc);
+    let mut text = Vec::with_capacity(alloc, rest.strings_len())?;
     loop {
         let bytes = match take_string(rest, marks) {
             Ok(bytes) => bytes,

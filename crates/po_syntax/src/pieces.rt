@@ -36,6 +36,9 @@ struct Piece<'a> {
     line: u32,
 }
 
+/// For how many items a piece has room at first.
+const FIRST_ROOM: usize = 128;
+
 /// Whether a line holds nothing but a CR, if that.
 fn is_empty_line(line: &[u8]) -> bool {
     matches!(line, [] | [b'\r'])
@@ -71,7 +74,7 @@ fn read_piece<'a>(
         → LinesStop number (lines_of text.now) e.kind e.line) }
     ensures memory { IfErr result (λ e. e.kind ≡ PoFault.OutOfMemory → e.line ≡ 0) }
 {
-    let mut items = Vec::new(alloc);
+    let mut items = Vec::with_capacity(alloc, FIRST_ROOM)?;
     let mut rest = text;
     let mut line = number;
     loop {

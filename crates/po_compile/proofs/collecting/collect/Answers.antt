@@ -12,7 +12,7 @@ returns-in-Err-clause-fault c = record {
 
 pub loop-pieces-init : goal.loop-pieces-init
 loop-pieces-init c = record {
-  reads = ([], whole_left c.args.text.now c.in-Ok.pieces c.in-Ok.ensures.found, record { bytes = c.new.ensures.items; lengths = c.new-2.ensures.items });
+  reads = ([], whole_left c.args.text.now c.in-Ok.pieces c.in-Ok.ensures.found, record { bytes = c.in_ok-with_capacity.ensures.items; lengths = c.in_ok-with_capacity-2.ensures.items });
   faults = fault_of_text c.args.text.now c.in-Ok.pieces c.in-Ok.ensures.found c.in-Ok.ensures.stops;
 }
 

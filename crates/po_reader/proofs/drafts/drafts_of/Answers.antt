@@ -13,7 +13,7 @@ use Rattle.po_reader.proofs.drafts.drafts_of.Goals as goal
 
 pub returns-in_err-head-clause-fault : goal.returns-in_err-head-clause-fault
 returns-in_err-head-clause-fault c =
-    let p = err_from_is_err_and c.from_residual.result c.from_residual.ensures.1 in
+    let p = err_from_is_err_and c.from_residual-in_err-head.result c.from_residual-in_err-head.ensures.1 in
     rw (p.1, p.2) (λ other. c.loop-drafts.invariant.stops _ _ (in_head (c.in_err-head.ensures.fault other)))
 
 pub returns-then-is_empty-clause-found : goal.returns-then-is_empty-clause-found
