@@ -11,7 +11,7 @@ use std::alloc::Global;
 
 /// How many bytes of a text are read at a time: few enough that what a piece takes stays in a
 /// processor's cache.
-pub const PIECE: usize = 4_096;
+pub const PIECE: usize = 2_048;
 
 /// Reads a PO text as a catalogue (GNU gettext manual, "The Format of PO Files").
 ///
