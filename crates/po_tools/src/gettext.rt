@@ -73,8 +73,8 @@ fn push_refusal(
     messages.extend_from_slice(b"\n")
 }
 
-/// Opens one more file: a catalogue joins the chain, and any other file is reported by a line. A catalogue is large, and
-/// lies in this function's frame alone.
+/// Opens one more file: a catalogue joins the chain, and any other file is reported by a line. A catalogue is
+/// large, and lies in this function's frame alone.
 #[inline(never)]
 fn open_file<'a>(
     opened: &mut Opened<'a>,

@@ -132,18 +132,17 @@ fn text_of_pieces(
     alloc: Global,
     inputs: &[(&str, &[u8])],
     options: &MergeOptions,
-) -> Result<Option<Vec<u8>>, ToolFault>
+) -> Result<Option<Vec<u8>>, AllocError>
     requires { All (λ file. Lacks 0 file.name) (named_files inputs.now) }
-    ensures written { IfOk result (λ found. IfSome found
+    ensures { IfOk result (λ found. IfSome found
         (λ written. IsMergedText (named_files inputs.now) options.now written.items)) }
-    ensures memory { OnErr result (result ≡ Err ToolFault.OutOfMemory) }
 {
     entries_can_stand();
     nothing_given_selects_all();
     one_input_stays();
     match inputs {
-        [(_, text)] if keeps_all(options) => Ok(selected_text(alloc, text, &EVERY_ENTRY)?),
-        [_, _, ..] if keeps_all(options) => Ok(merged_text(alloc, inputs, options)?),
+        [(_, text)] if keeps_all(options) => selected_text(alloc, text, &EVERY_ENTRY),
+        [_, _, ..] if keeps_all(options) => merged_text(alloc, inputs, options),
         _ => Ok(None),
     }
 }

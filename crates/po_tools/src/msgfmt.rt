@@ -7,7 +7,7 @@ ghost use Rattle.po_compile.specs.Accepted.{AreRead};
 ghost use Rattle.po_tools.specs.Delivered.{IsCut, IsDelivered};
 ghost use Rattle.po_tools.specs.FaultText.{duplicate_text};
 ghost use Rattle.po_tools.specs.NamedFile.{named_files};
-ghost use Rattle.po_tools.specs.Msgfmt.{AreChecked, IsMsgfmtRun, IsMsgfmtRunOf, across_text, check_line, line_of_fault, check_text, compiled_inputs, compiled_run, input_name, input_texts, join_line, join_text};
+ghost use Rattle.po_tools.specs.Msgfmt as Spec;
 ghost use Rattle.po_tools.specs.Run.{refusal, report};
 
 use crate::fault_text::{push_location, push_numbered, push_po_text};
@@ -40,7 +40,7 @@ fn compiled_entries<'a>(
     use_fuzzy: bool,
 ) -> Result<Vec<JoinedEntry<'a>>, AllocError>
     ensures { IfOk result (λ compiled. input_entries compiled.items
-        ≡ compiled_inputs use_fuzzy (input_entries entries.now)) }
+        ≡ Spec.compiled_inputs use_fuzzy (input_entries entries.now)) }
 {
     let mut compiled = Vec::with_capacity(alloc, entries.len())?;
     for joined in entries {
@@ -58,7 +58,7 @@ fn first_fault(
     use_fuzzy: bool,
 ) -> Result<Option<(u32, CheckFault)>, AllocError>
     requires { length catalogues.now < 2 ^ 32 }
-    ensures { IfOk result (AreChecked use_fuzzy catalogues.now) }
+    ensures { IfOk result (Spec.AreChecked use_fuzzy catalogues.now) }
 {
     let entries = joined(alloc, catalogues)?;
     let compiled = compiled_entries(alloc, &entries, use_fuzzy)?;
@@ -76,8 +76,9 @@ pub fn profile_check(
     use_fuzzy: bool,
 ) -> Result<(), (u32, CheckFault)>
     requires { length catalogues.now < 2 ^ 32 }
-    ensures { MatchResult result (λ _. AreChecked use_fuzzy catalogues.now None)
-        (λ reported. (reported ≡ (0, CheckFault.OutOfMemory)) ⊎ AreChecked use_fuzzy catalogues.now (Some reported)) }
+    ensures { MatchResult result (λ _. Spec.AreChecked use_fuzzy catalogues.now None)
+        (λ reported. (reported ≡ (0, CheckFault.OutOfMemory))
+        ⊎ Spec.AreChecked use_fuzzy catalogues.now (Some reported)) }
 {
     match first_fault(alloc, catalogues, use_fuzzy) {
         Ok(None) => Ok(()),
@@ -94,9 +95,9 @@ fn checked(
 ) -> Result<(), (u32, CheckFault)>
     requires { length catalogues.now < 2 ^ 32 }
     ensures fit { OnOk result (options.now.profile_check ≡ true
-        → AreChecked options.now.use_fuzzy catalogues.now None) }
+        → Spec.AreChecked options.now.use_fuzzy catalogues.now None) }
     ensures unfit { IfErr result (λ reported. (reported ≡ (0, CheckFault.OutOfMemory))
-        ⊎ ((options.now.profile_check ≡ true) × AreChecked options.now.use_fuzzy catalogues.now (Some reported))) }
+        ⊎ ((options.now.profile_check ≡ true) × Spec.AreChecked options.now.use_fuzzy catalogues.now (Some reported))) }
 {
     if options.profile_check {
         profile_check(alloc, catalogues, options.use_fuzzy)
@@ -107,7 +108,7 @@ fn checked(
 
 /// The texts of the inputs.
 fn texts_of<'a>(alloc: Global, inputs: &[(&str, &'a [u8])]) -> Result<Vec<&'a [u8]>, AllocError>
-    ensures { IfOk result (λ texts. slice_texts texts.items ≡ input_texts (named_files inputs.now)) }
+    ensures { IfOk result (λ texts. slice_texts texts.items ≡ Spec.input_texts (named_files inputs.now)) }
 {
     let mut texts = Vec::with_capacity(alloc, inputs.len())?;
     for (_, text) in inputs {
@@ -118,7 +119,7 @@ fn texts_of<'a>(alloc: Global, inputs: &[(&str, &'a [u8])]) -> Result<Vec<&'a [u
 
 /// The name of an input.
 fn input_name<'a>(inputs: &[(&'a str, &[u8])], input: u32) -> &'a str
-    ensures { result.now ≡ input_name (named_files inputs.now) input }
+    ensures { result.now ≡ Spec.input_name (named_files inputs.now) input }
 {
     match inputs.get(input as usize) {
         Some((name, _)) => name,
@@ -145,7 +146,7 @@ fn push_duplicate(out: &mut Vec<u8>, file: &str, line: u32) -> Result<(), AllocE
 
 /// Appends what is wrong, where a duplicate is of a message of another file.
 fn push_across_text(out: &mut Vec<u8>, file: &str, fault: PoFault) -> Result<(), AllocError>
-    ensures { OnOk result (out.new.items ≡ out.old.items ++ across_text file.now fault) }
+    ensures { OnOk result (out.new.items ≡ out.old.items ++ Spec.across_text file.now fault) }
 {
     match fault {
         PoFault::Duplicate(line) => push_duplicate(out, file, line),
@@ -159,7 +160,7 @@ fn push_join_text(
     inputs: &[(&str, &[u8])],
     error: JoinError,
 ) -> Result<(), AllocError>
-    ensures { OnOk result (out.new.items ≡ out.old.items ++ join_text (named_files inputs.now) error) }
+    ensures { OnOk result (out.new.items ≡ out.old.items ++ Spec.join_text (named_files inputs.now) error) }
 {
     if error.first_input == error.input {
         push_po_text(out, error.error.kind)
@@ -171,7 +172,7 @@ fn push_join_text(
 
 /// The line at which a fault of the check is reported; 0 is none.
 fn line_of_fault(fault: CheckFault) -> u32
-    ensures { result ≡ line_of_fault fault }
+    ensures { result ≡ Spec.line_of_fault fault }
 {
     match fault {
         CheckFault::NoRule(line, _)
@@ -184,7 +185,7 @@ fn line_of_fault(fault: CheckFault) -> u32
 
 /// Appends what is wrong with the messages that are compiled.
 fn push_check_text(out: &mut Vec<u8>, fault: CheckFault) -> Result<(), AllocError>
-    ensures { OnOk result (out.new.items ≡ out.old.items ++ check_text fault) }
+    ensures { OnOk result (out.new.items ≡ out.old.items ++ Spec.check_text fault) }
 {
     let text = match fault {
         CheckFault::NoHeader => "no header",
@@ -206,7 +207,7 @@ fn push_check_text(out: &mut Vec<u8>, fault: CheckFault) -> Result<(), AllocErro
 /// The run of inputs that aren't compiled.
 fn refused_run(alloc: Global, inputs: &[(&str, &[u8])], error: JoinError) -> Result<Run, AllocError>
     ensures { IfOk result (λ run. (error.error.kind ≢ PoFault.OutOfMemory)
-        × (report run ≡ refusal (join_line (named_files inputs.now) error))) }
+        × (report run ≡ refusal (Spec.join_line (named_files inputs.now) error))) }
 {
     if error.error.kind == PoFault::OutOfMemory {
         return Err(AllocError);
@@ -231,7 +232,7 @@ fn unfit_run(
     fault: CheckFault,
 ) -> Result<Run, AllocError>
     ensures { IfOk result (λ run. (fault ≢ CheckFault.OutOfMemory)
-        × (report run ≡ refusal (check_line (named_files inputs.now) (input, fault)))) }
+        × (report run ≡ refusal (Spec.check_line (named_files inputs.now) (input, fault)))) }
 {
     if fault == CheckFault::OutOfMemory {
         return Err(AllocError);
@@ -254,7 +255,7 @@ fn compiled_run(
     options: &MsgfmtOptions,
     compiled: Compiled,
 ) -> Result<Run, AllocError>
-    ensures { IfOk result (λ run. report run ≡ compiled_run options.now compiled) }
+    ensures { IfOk result (λ run. report run ≡ Spec.compiled_run options.now compiled) }
 {
     let messages = match options.statistics {
         true => compiled.stats.line(alloc).map_err(|_| AllocError)?,
@@ -282,8 +283,8 @@ fn plan_catalogues(
     options: &MsgfmtOptions,
 ) -> Result<Run, AllocError>
     requires few { length catalogues.items < 2 ^ 32 }
-    requires read { AreRead (input_texts (named_files inputs.now)) catalogues.items }
-    ensures { IfOk result (λ run. IsMsgfmtRun (named_files inputs.now) options.now (report run)) }
+    requires read { AreRead (Spec.input_texts (named_files inputs.now)) catalogues.items }
+    ensures { IfOk result (λ run. Spec.IsMsgfmtRun (named_files inputs.now) options.now (report run)) }
 {
     let checked = checked(alloc, &catalogues, options);
     let compile_options = Options {
@@ -308,9 +309,9 @@ fn plan_compiled(
     options: &MsgfmtOptions,
 ) -> Result<Run, AllocError>
     requires few { length texts.now < 2 ^ 32 }
-    requires texts { slice_texts texts.now ≡ input_texts (named_files inputs.now) }
+    requires texts { slice_texts texts.now ≡ Spec.input_texts (named_files inputs.now) }
     requires unchecked { options.now.profile_check ≡ false }
-    ensures { IfOk result (λ run. IsMsgfmtRun (named_files inputs.now) options.now (report run)) }
+    ensures { IfOk result (λ run. Spec.IsMsgfmtRun (named_files inputs.now) options.now (report run)) }
 {
     let compile_options = Options {
         use_fuzzy: options.use_fuzzy,
@@ -335,7 +336,7 @@ pub fn plan_msgfmt(
 ) -> Result<Run, ToolFault>
     requires some { 0 < length inputs.now }
     requires few { length inputs.now < 2 ^ 32 }
-    ensures run { IfOk result (λ run. IsMsgfmtRun (named_files inputs.now) options.now (report run)) }
+    ensures run { IfOk result (λ run. Spec.IsMsgfmtRun (named_files inputs.now) options.now (report run)) }
     ensures memory { OnErr result (result ≡ Err ToolFault.OutOfMemory) }
 {
     let texts = texts_of(alloc, inputs)?;
@@ -365,10 +366,10 @@ pub fn run_msgfmt<R: ByteIn, O: ByteOut, E: ByteOut>(
     requires err_failures { E.failures err.old < 2 ^ 63 }
     ensures calls { R.calls reader.new ≤ R.calls reader.old + 4294967296 }
     ensures delivered { IfOk result
-        (λ status. IsDelivered (IsMsgfmtRunOf name.now options.now) (R.remaining reader.old)
+        (λ status. IsDelivered (Spec.IsMsgfmtRunOf name.now options.now) (R.remaining reader.old)
         (O.contents out.old) (O.contents out.new) (E.contents err.old) (E.contents err.new) status) }
     ensures prefix { IsErrOf result ToolFault.WriteFault
-        → IsCut (IsMsgfmtRunOf name.now options.now) (R.remaining reader.old)
+        → IsCut (Spec.IsMsgfmtRunOf name.now options.now) (R.remaining reader.old)
         (O.contents out.old) (O.contents out.new) (E.contents err.old) (E.contents err.new) }
     ensures no_output { (result ≡ Err ToolFault.ReadFault) ⊎ (result ≡ Err ToolFault.OutOfMemory)
         → Keeps (O.contents out.old) (O.contents out.new) }

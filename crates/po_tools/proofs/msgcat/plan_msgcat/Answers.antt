@@ -9,5 +9,5 @@ use Rattle.po_tools.proofs.msgcat.plan_msgcat.Goals as goal
 pub returns-in-Some-clause-run : goal.returns-in-Some-clause-run
 returns-in-Some-clause-run c =
     merged_done (named_files c.args.inputs.now) c.args.options.now c.in-Some.output.items (report c.text_run.result)
-    (subst (λ found. IfSome found (λ written. IsMergedText (named_files c.args.inputs.now) c.args.options.now written.items)) c.in-Some.is c.in_ok-output.ensures.written)
+    (subst (λ found. IfSome found (λ written. IsMergedText (named_files c.args.inputs.now) c.args.options.now written.items)) c.in-Some.is c.in_ok-output.ensures)
     c.text_run.ensures
