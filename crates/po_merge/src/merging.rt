@@ -1,7 +1,6 @@
-ghost use Rattle.std.specs.Prelude.{◌≡◌, ◌<◌, ◌++◌, ◌∷◌, [], length, All, IfOk, IfErr, OnOk, IsOkUnless, map};
+ghost use Rattle.std.specs.Prelude.{◌≡◌, ◌<◌, ◌++◌, ◌∷◌, [], length, All, IfOk, IfErr, OnOk, map};
 ghost use Rattle.po_entry.specs.Bytes.{Lacks};
 ghost use Rattle.po_entry.specs.TextEntry.{texts};
-ghost use Rattle.po_entry.specs.Validity.{out_of_memory};
 ghost use Rattle.po_merge.specs.Grouping.{IsDefinition, IsGroup, group_entries};
 ghost use Rattle.po_merge.specs.InputsView.{inputs_view, named_entries};
 ghost use Rattle.po_merge.specs.MergedEntry.{merged_entry, taken};
@@ -87,16 +86,17 @@ fn merged_entry(
     alloc: Global,
     options: &MergeOptions,
     definitions: &[Definition<'_>],
-) -> Result<Entry, PoError>
+) -> Result<Entry, AllocError>
     requires some { 0 < length definitions.now }
     requires valid { All IsDefinition (named_entries definitions.now) }
-    ensures entry { IfOk result (λ entry. entry ≡ merged_entry options.now (named_entries definitions.now)) }
-    ensures memory { IsOkUnless result out_of_memory }
+    ensures { IfOk result (λ entry. entry ≡ merged_entry options.now (named_entries definitions.now)) }
 {
-    if definitions.len() == 1 {
-        definitions[0].entry.copy(alloc)
-    } else {
-        Ok(joined_entry(alloc, options, definitions)?)
+    if definitions.len() > 1 {
+        return joined_entry(alloc, options, definitions);
+    }
+    match definitions[0].entry.copy(alloc) {
+        Ok(entry) => Ok(entry),
+        Err(_) => Err(AllocError),
     }
 }
 
