@@ -6,15 +6,17 @@ use Rattle.plural_rule.specs.declared.operator.Operator.{Operator}
 use Rattle.plural_rule.specs.declared.operator.Operator.TheVariants.{Or, And, Equal, NotEqual, Less, Greater, AtMost, AtLeast, Add, Subtract, Multiply, Divide, Remainder}
 use Rattle.plural_rule.specs.declared.token.Token.{Token}
 use Rattle.plural_rule.specs.declared.token.Token.TheVariants.{Count, Number, Not, Binary, Question, Colon, Open, Close}
-use Rattle.std.specs.Str.Parse.{digits_value}
-use Rattle.plural_rule.specs.Tokens.{is_blank, is_digit, AllDigits, operator_bytes, IsSpelling, IsLongest, Lexes, end, blank, token}
+use Rattle.std.specs.Str.Parse.{AllDigits, digits_value}
+use Rattle.std.specs.Char.{is_ascii_digit}
+use Rattle.plural_rule.specs.Tokens.{is_blank, operator_bytes, IsSpelling, IsLongest, Lexes, end, blank, token}
+use Rattle.plural_rule.proofs.Numerals.{below_ten_digit}
 
 -- what is known of bytes that spell a token, by a function of the bytes
 abbrev pub first_byte : List ℕ → ℕ
 first_byte [] = 32
 first_byte (c ∷ rest) = c
 
-digit-not_blank : (c : ℕ) → is_digit c ≡ true → is_blank c ≡ false
+digit-not_blank : (c : ℕ) → is_ascii_digit c ≡ true → is_blank c ≡ false
 digit-not_blank c h = grind (arith, nat_tests)
 
 -- the token that one byte spells, and the operator that two bytes spell
@@ -32,11 +34,11 @@ of_two c =
 
 abbrev pub token_of : List ℕ → Token
 token_of [] = Count
-token_of (c ∷ []) = if is_digit c then Number (digits_value 10 (c ∷ [])) else of_one c
-token_of (c ∷ d ∷ rest) = if is_digit c then Number (digits_value 10 (c ∷ d ∷ rest)) else Binary (of_two c)
+token_of (c ∷ []) = if is_ascii_digit c then Number (digits_value 10 (c ∷ [])) else of_one c
+token_of (c ∷ d ∷ rest) = if is_ascii_digit c then Number (digits_value 10 (c ∷ d ∷ rest)) else Binary (of_two c)
 
 -- what the bytes of an operator are no spelling of, and what they are read as
-pub operator-facts : (op : Operator) → (is_blank (first_byte (operator_bytes op)) ≡ false) × (is_digit (first_byte (operator_bytes op)) ≡ false) × (token_of (operator_bytes op) ≡ Binary op)
+pub operator-facts : (op : Operator) → (is_blank (first_byte (operator_bytes op)) ≡ false) × (is_ascii_digit (first_byte (operator_bytes op)) ≡ false) × (token_of (operator_bytes op) ≡ Binary op)
 operator-facts Or = (refl, refl, refl)
 operator-facts And = (refl, refl, refl)
 operator-facts Equal = (refl, refl, refl)
@@ -52,9 +54,9 @@ operator-facts Divide = (refl, refl, refl)
 operator-facts Remainder = (refl, refl, refl)
 
 -- no spelling begins with a blank, or is empty
-digits-not_blank : (own : List ℕ) → own ≢ [] → AllDigits own → is_blank (first_byte own) ≡ false
+digits-not_blank : (own : List ℕ) → own ≢ [] → AllDigits 10 own → is_blank (first_byte own) ≡ false
 digits-not_blank [] n h = absurd (n refl)
-digits-not_blank (c ∷ rest) n h = digit-not_blank c h.0
+digits-not_blank (c ∷ rest) n h = digit-not_blank c (below_ten_digit c h.0)
 
 pub spelling-not_blank : (t : Token) (own : List ℕ) → IsSpelling t own → is_blank (first_byte own) ≡ false
 spelling-not_blank Count own h = ap (λ xs. is_blank (first_byte xs)) h
@@ -66,10 +68,10 @@ spelling-not_blank Colon own h = ap (λ xs. is_blank (first_byte xs)) h
 spelling-not_blank Open own h = ap (λ xs. is_blank (first_byte xs)) h
 spelling-not_blank Close own h = ap (λ xs. is_blank (first_byte xs)) h
 
-token_of-digits : (own : List ℕ) → own ≢ [] → AllDigits own → token_of own ≡ Number (digits_value 10 own)
+token_of-digits : (own : List ℕ) → own ≢ [] → AllDigits 10 own → token_of own ≡ Number (digits_value 10 own)
 token_of-digits [] n h = absurd (n refl)
-token_of-digits (c ∷ []) n h = rw (h.0)
-token_of-digits (c ∷ d ∷ rest) n h = rw (h.0)
+token_of-digits (c ∷ []) n h = rw (below_ten_digit c h.0)
+token_of-digits (c ∷ d ∷ rest) n h = rw (below_ten_digit c h.0)
 
 token_of-spelling : (t : Token) (own : List ℕ) → IsSpelling t own → token_of own ≡ t
 token_of-spelling Count own h = ap token_of h

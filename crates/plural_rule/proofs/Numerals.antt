@@ -1,31 +1,33 @@
 -- Numbers that decimal digits spell.
 use Rattle.std.proofs.Common.{◌≡◌, ℕ, zero, suc, ◌+◌, ◌*◌, ◌<◌, ◌≤◌, true, List, [], ◌∷◌, length, take, get_or, refl, sym, arith, Some}
-use Rattle.std.specs.Char.{digit_value}
-use Rattle.std.specs.Str.Parse.{digits_value}
+use Rattle.std.specs.Char.{digit_value, is_ascii_digit}
+use Rattle.std.specs.Str.Parse.{AllDigits, digits_value}
 use Rattle.std.proofs.lemmas.Int.Digits.{digits_value_more}
 use Rattle.std.proofs.lemmas.Str.{digit_value_digit}
-use Rattle.std.proofs.lemmas.Str.Parse.{digits_value-take-le}
+use Rattle.std.proofs.lemmas.Str.Parse.{digits_value-take-le, digit_from_value}
 use Rattle.std.proofs.lemmas.Bool.Decides.{nat_tests}
-use Rattle.plural_rule.specs.Tokens.{is_digit, AllDigits}
 use Rattle.plural_rule.specs.Header.{number_of_digits}
 
 -- the value of all digits is at least that of the first
 pub digits_value-grows : (digits : List ℕ) (i : ℕ) → i < length digits → digits_value 10 (take i digits) * 10 + digit_value (get_or digits i 0) ≤ digits_value 10 digits
 digits_value-grows digits i h = rw (sym (digits_value_more 10 digits i h)) (digits_value-take-le 10 digits (i + 1) (omega arith))
 
-pub AllDigits-get : (digits : List ℕ) (i : ℕ) → AllDigits digits → i < length digits → is_digit (get_or digits i 0) ≡ true
-AllDigits-get [] i h l = absurd (omega arith)
-AllDigits-get (c ∷ digits) zero h l = h.0
-AllDigits-get (c ∷ digits) (suc i) h l = AllDigits-get digits i h.1 (omega arith)
+-- a decimal digit is worth less than ten, and what is worth less than ten is one
+pub digit_below_ten : (c : ℕ) → is_ascii_digit c ≡ true → digit_value c < 10
+digit_below_ten c h =
+    let range : (48 ≤ c) × (c ≤ 57) = (grind (arith, nat_tests), grind (arith, nat_tests)) in
+    omega (arith, range.0, range.1, digit_value_digit c range)
 
-pub digit-range : (c : ℕ) → is_digit c ≡ true → (48 ≤ c) × (c ≤ 57)
-digit-range c h = (grind (arith, nat_tests), grind (arith, nat_tests))
+pub below_ten_digit : (c : ℕ) → digit_value c < 10 → is_ascii_digit c ≡ true
+below_ten_digit c h =
+    let range = digit_from_value c h in
+    grind (arith, nat_tests, range.0, range.1)
 
--- what a decimal digit is worth
-pub digit-value : (digits : List ℕ) (i : ℕ) → AllDigits digits → i < length digits → digit_value (get_or digits i 0) < 10
-digit-value digits i h inside =
-    let range = digit-range (get_or digits i 0) (AllDigits-get digits i h inside) in
-    omega (arith, range.0, range.1, digit_value_digit (get_or digits i 0) range)
+-- each of some decimal digits is worth less than ten
+pub digit-value : (digits : List ℕ) (i : ℕ) → AllDigits 10 digits → i < length digits → digit_value (get_or digits i 0) < 10
+digit-value [] i h l = absurd (omega arith)
+digit-value (c ∷ digits) zero h l = h.0
+digit-value (c ∷ digits) (suc i) h l = digit-value digits i h.1 (omega arith)
 
 pub number_of_digits-some : (digits : List ℕ) → 0 < length digits → number_of_digits digits ≡ Some (digits_value 10 digits)
 number_of_digits-some [] h = absurd (omega arith)

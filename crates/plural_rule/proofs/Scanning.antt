@@ -9,9 +9,11 @@ use Rattle.plural_rule.specs.declared.operator.Operator.{Operator}
 use Rattle.plural_rule.specs.declared.operator.Operator.TheVariants.{Or, And, Equal, NotEqual, Less, Greater, AtMost, AtLeast, Add, Subtract, Multiply, Divide, Remainder}
 use Rattle.plural_rule.specs.declared.token.Token.{Token}
 use Rattle.plural_rule.specs.declared.token.Token.TheVariants.{Count, Number, Not, Binary, Question, Colon, Open, Close}
-use Rattle.std.specs.Str.Parse.{digits_value}
-use Rattle.plural_rule.specs.Tokens.{is_digit, AllDigits, operator_bytes, IsSpelling, IsLongest}
+use Rattle.std.specs.Str.Parse.{AllDigits, digits_value}
+use Rattle.std.specs.Char.{is_ascii_digit}
+use Rattle.plural_rule.specs.Tokens.{operator_bytes, IsSpelling, IsLongest}
 use Rattle.plural_rule.specs.Scanner.{IsTokenAt, IsTooLarge, HasNoToken, BeginsWithDouble, HasNoDouble}
+use Rattle.plural_rule.proofs.Numerals.{digit_below_ten, below_ten_digit}
 use Rattle.plural_rule.proofs.Lexing.{one_prefix, first_byte, operator-facts, spelling-not_blank}
 
 -- two bytes or more that spell a token and begin with no digit are those of an operator
@@ -35,9 +37,9 @@ double-operator Multiply c d more h = absurd cc
 double-operator Divide c d more h = absurd cc
 double-operator Remainder c d more h = absurd cc
 
-pub double : (u : Token) (c d : ℕ) (more : List ℕ) → is_digit c ≡ false → IsSpelling u (c ∷ d ∷ more) → IsDouble u c d more
+pub double : (u : Token) (c d : ℕ) (more : List ℕ) → is_ascii_digit c ≡ false → IsSpelling u (c ∷ d ∷ more) → IsDouble u c d more
 double Count c d more n h = absurd cc
-double (Number v) c d more n h = absurd (false≢true (sym n ∙ h.1.0))
+double (Number v) c d more n h = absurd (false≢true (sym n ∙ below_ten_digit c h.1.0))
 double Not c d more n h = absurd cc
 double (Binary op) c d more n h = double-operator op c d more h
 double Question c d more n h = absurd cc
@@ -46,76 +48,76 @@ double Open c d more n h = absurd cc
 double Close c d more n h = absurd cc
 
 -- bytes that spell a token and begin with a digit are digits
-digits-only : (u : Token) (bytes : List ℕ) → is_digit (first_byte bytes) ≡ true → IsSpelling u bytes → AllDigits bytes
-digits-only Count bytes d h = absurd (false≢true (sym (ap (λ xs. is_digit (first_byte xs)) h) ∙ d))
+digits-only : (u : Token) (bytes : List ℕ) → is_ascii_digit (first_byte bytes) ≡ true → IsSpelling u bytes → AllDigits 10 bytes
+digits-only Count bytes d h = absurd (false≢true (sym (ap (λ xs. is_ascii_digit (first_byte xs)) h) ∙ d))
 digits-only (Number v) bytes d h = h.1
-digits-only Not bytes d h = absurd (false≢true (sym (ap (λ xs. is_digit (first_byte xs)) h) ∙ d))
-digits-only (Binary op) bytes d h = absurd (false≢true (sym (ap (λ xs. is_digit (first_byte xs)) h ∙ (operator-facts op).1) ∙ d))
-digits-only Question bytes d h = absurd (false≢true (sym (ap (λ xs. is_digit (first_byte xs)) h) ∙ d))
-digits-only Colon bytes d h = absurd (false≢true (sym (ap (λ xs. is_digit (first_byte xs)) h) ∙ d))
-digits-only Open bytes d h = absurd (false≢true (sym (ap (λ xs. is_digit (first_byte xs)) h) ∙ d))
-digits-only Close bytes d h = absurd (false≢true (sym (ap (λ xs. is_digit (first_byte xs)) h) ∙ d))
+digits-only Not bytes d h = absurd (false≢true (sym (ap (λ xs. is_ascii_digit (first_byte xs)) h) ∙ d))
+digits-only (Binary op) bytes d h = absurd (false≢true (sym (ap (λ xs. is_ascii_digit (first_byte xs)) h ∙ (operator-facts op).1) ∙ d))
+digits-only Question bytes d h = absurd (false≢true (sym (ap (λ xs. is_ascii_digit (first_byte xs)) h) ∙ d))
+digits-only Colon bytes d h = absurd (false≢true (sym (ap (λ xs. is_ascii_digit (first_byte xs)) h) ∙ d))
+digits-only Open bytes d h = absurd (false≢true (sym (ap (λ xs. is_ascii_digit (first_byte xs)) h) ∙ d))
+digits-only Close bytes d h = absurd (false≢true (sym (ap (λ xs. is_ascii_digit (first_byte xs)) h) ∙ d))
 
 -- the digits at the beginning of a text
-pub AllDigits-take_while : (text : List ℕ) → AllDigits (take_while is_digit text)
+pub AllDigits-take_while : (text : List ℕ) → AllDigits 10 (take_while is_ascii_digit text)
 AllDigits-take_while [] = tt
 AllDigits-take_while (c ∷ text) =
-    elim (cases_Bool (is_digit c)) [
+    elim (cases_Bool (is_ascii_digit c)) [
       | inl e ↦
-          let cons : take_while is_digit (c ∷ text) ≡ c ∷ take_while is_digit text = take_while-cons is_digit c text ∙ cond-true (is_digit c) _ _ e in
-          subst AllDigits (sym cons) (e, AllDigits-take_while text)
+          let cons : take_while is_ascii_digit (c ∷ text) ≡ c ∷ take_while is_ascii_digit text = take_while-cons is_ascii_digit c text ∙ cond-true (is_ascii_digit c) _ _ e in
+          subst (AllDigits 10) (sym cons) (digit_below_ten c e, AllDigits-take_while text)
       | inr e ↦
-          let none : take_while is_digit (c ∷ text) ≡ [] = take_while-cons is_digit c text ∙ cond-false (is_digit c) _ _ e in
-          subst AllDigits (sym none) tt
+          let none : take_while is_ascii_digit (c ∷ text) ≡ [] = take_while-cons is_ascii_digit c text ∙ cond-false (is_ascii_digit c) _ _ e in
+          subst (AllDigits 10) (sym none) tt
     ]
 
-AllDigits-append : (xs ys : List ℕ) → AllDigits (xs ++ ys) → AllDigits ys
+AllDigits-append : (xs ys : List ℕ) → AllDigits 10 (xs ++ ys) → AllDigits 10 ys
 AllDigits-append [] ys h = h
 AllDigits-append (x ∷ xs) ys h = AllDigits-append xs ys h.1
 
 -- no digit follows them
-stops : (text more after : List ℕ) → drop (prefix_len is_digit text) text ≡ more ++ after → AllDigits more → more ≡ []
+stops : (text more after : List ℕ) → drop (prefix_len is_ascii_digit text) text ≡ more ++ after → AllDigits 10 more → more ≡ []
 stops text [] after e a = refl
 stops text (m ∷ more) after e a =
-    let k = prefix_len is_digit text in
+    let k = prefix_len is_ascii_digit text in
     let lengths : length text - k ≡ suc (length (more ++ after)) = sym (length-drop k text) ∙ ap length e in
     let within : k < length text = omega arith in
     let prefix : drop k text ≡ get_or text k 0 ∷ drop (suc k) text = drop-cons text k 0 within in
     let same : get_or text k 0 ≡ m = cc in
-    absurd (false≢true (sym (prefix_len_stops is_digit text 0 within) ∙ ap is_digit same ∙ a.0))
+    absurd (false≢true (sym (prefix_len_stops is_ascii_digit text 0 within) ∙ ap is_ascii_digit same ∙ below_ten_digit m a.0))
 
 -- the digits at the beginning of a text, where there are some, are the longest that spell a token
 pub record Numeral (text : List ℕ) : Type 0 where
-  pub some : take_while is_digit text ≢ []
-  pub longest : IsLongest (take_while is_digit text) (drop (prefix_len is_digit text) text)
+  pub some : take_while is_ascii_digit text ≢ []
+  pub longest : IsLongest (take_while is_ascii_digit text) (drop (prefix_len is_ascii_digit text) text)
 
-first-digit : (text : List ℕ) (more : List ℕ) → is_digit (first_byte text) ≡ true → is_digit (first_byte (take_while is_digit text ++ more)) ≡ true
+first-digit : (text : List ℕ) (more : List ℕ) → is_ascii_digit (first_byte text) ≡ true → is_ascii_digit (first_byte (take_while is_ascii_digit text ++ more)) ≡ true
 first-digit [] more d = absurd (false≢true d)
 first-digit (c ∷ text) more d =
-    let cons : take_while is_digit (c ∷ text) ≡ c ∷ take_while is_digit text = take_while-cons is_digit c text ∙ cond-true (is_digit c) _ _ d in
+    let cons : take_while is_ascii_digit (c ∷ text) ≡ c ∷ take_while is_ascii_digit text = take_while-cons is_ascii_digit c text ∙ cond-true (is_ascii_digit c) _ _ d in
     rw cons d
 
 pub first_byte-get : (text : List ℕ) → 0 < length text → first_byte text ≡ get_or text 0 0
 first_byte-get [] h = absurd (omega arith)
 first_byte-get (c ∷ text) h = refl
 
-pub numeral : (text : List ℕ) → is_digit (first_byte text) ≡ true → Numeral text
+pub numeral : (text : List ℕ) → is_ascii_digit (first_byte text) ≡ true → Numeral text
 numeral text d =
     record {
-      some = λ e. false≢true (ap (λ xs. is_digit (first_byte (xs ++ []))) (sym e) ∙ first-digit text [] d);
+      some = λ e. false≢true (ap (λ xs. is_ascii_digit (first_byte (xs ++ []))) (sym e) ∙ first-digit text [] d);
       longest = λ u more after e n h.
-          n (stops text more after e (AllDigits-append (take_while is_digit text) more (digits-only u (take_while is_digit text ++ more) (first-digit text more d) h)));
+          n (stops text more after e (AllDigits-append (take_while is_ascii_digit text) more (digits-only u (take_while is_ascii_digit text ++ more) (first-digit text more d) h)));
     }
 
 -- the numeral at the beginning of a text
-pub numeral-token : (text : List ℕ) (v : ℕ) → is_digit (first_byte text) ≡ true → v ≡ digits_value 10 (take_while is_digit text) → IsTokenAt text (Number v) (length (take_while is_digit text))
+pub numeral-token : (text : List ℕ) (v : ℕ) → is_ascii_digit (first_byte text) ≡ true → v ≡ digits_value 10 (take_while is_ascii_digit text) → IsTokenAt text (Number v) (length (take_while is_ascii_digit text))
 numeral-token text v d e =
     let n = numeral text d in
-    let k : length (take_while is_digit text) ≡ prefix_len is_digit text = length-prefix_len is_digit text in
-    let some : 0 < length (take_while is_digit text) = nonempty (take_while is_digit text) n.some in
+    let k : length (take_while is_ascii_digit text) ≡ prefix_len is_ascii_digit text = length-prefix_len is_ascii_digit text in
+    let some : 0 < length (take_while is_ascii_digit text) = nonempty (take_while is_ascii_digit text) n.some in
     record {
       some = some;
-      within = omega (arith, prefix_len-le-length is_digit text);
+      within = omega (arith, prefix_len-le-length is_ascii_digit text);
       spelling = rw k (n.some, AllDigits-take_while text, sym e);
       longest = rw k n.longest;
     }
@@ -125,15 +127,15 @@ numeral-token text v d e =
     nonempty (x ∷ xs) h = omega arith
 
 -- a numeral at the beginning that doesn't fit 64 bits
-pub numeral-none : (text : List ℕ) → is_digit (first_byte text) ≡ true → 2 ^ 64 ≤ digits_value 10 (take_while is_digit text) → HasNoToken text
+pub numeral-none : (text : List ℕ) → is_ascii_digit (first_byte text) ≡ true → 2 ^ 64 ≤ digits_value 10 (take_while is_ascii_digit text) → HasNoToken text
 numeral-none text d large t own rest e spelt longest =
     let n = numeral text d in
-    let k = prefix_len is_digit text in
-    let same = one_prefix (Number (digits_value 10 (take_while is_digit text))) t (take_while is_digit text) (drop k text) own rest
+    let k = prefix_len is_ascii_digit text in
+    let same = one_prefix (Number (digits_value 10 (take_while is_ascii_digit text))) t (take_while is_ascii_digit text) (drop k text) own rest
     (n.some, AllDigits-take_while text, refl) n.longest spelt longest (take-append-drop k text ∙ e) in
     subst IsTooLarge same.same_token large
 
-pub double-token : (text : List ℕ) (op : Operator) → is_digit (get_or text 0 0) ≡ false → BeginsWithDouble text op → IsTokenAt text (Binary op) 2
+pub double-token : (text : List ℕ) (op : Operator) → is_ascii_digit (get_or text 0 0) ≡ false → BeginsWithDouble text op → IsTokenAt text (Binary op) 2
 double-token [] op n h = absurd (omega arith)
 double-token (c ∷ []) op n h = absurd (omega arith)
 double-token (c ∷ d ∷ rest) op n h =
@@ -144,7 +146,7 @@ double-token (c ∷ d ∷ rest) op n h =
       longest = λ u more after e s spelt. s (double u c d more n spelt).ends;
     }
 
-pub single-token : (text : List ℕ) (t : Token) → 0 < length text → is_digit (get_or text 0 0) ≡ false → IsSpelling t (get_or text 0 0 ∷ []) → HasNoDouble text → IsTokenAt text t 1
+pub single-token : (text : List ℕ) (t : Token) → 0 < length text → is_ascii_digit (get_or text 0 0) ≡ false → IsSpelling t (get_or text 0 0 ∷ []) → HasNoDouble text → IsTokenAt text t 1
 single-token [] t l n h no_double = absurd (omega arith)
 single-token (c ∷ rest) t l n h no_double =
     record { some = omega arith; within = omega arith; spelling = h; longest = λ u more after e s spelt. longest rest more after u no_double e s spelt }
@@ -157,7 +159,7 @@ single-token (c ∷ rest) t l n h no_double =
         let two = double u c m more n spelt in
         no_double two.operator (record { two = omega arith; bytes = two.bytes ∙ ap (λ x. c ∷ x ∷ []) same })
 
-pub single-none : (text : List ℕ) → 0 < length text → is_digit (get_or text 0 0) ≡ false → ((t : Token) → IsSpelling t (get_or text 0 0 ∷ []) → ⊥) → HasNoDouble text → HasNoToken text
+pub single-none : (text : List ℕ) → 0 < length text → is_ascii_digit (get_or text 0 0) ≡ false → ((t : Token) → IsSpelling t (get_or text 0 0 ∷ []) → ⊥) → HasNoDouble text → HasNoToken text
 single-none [] l n none no_double t own rest e spelt longest = absurd (omega arith)
 single-none (c ∷ text) l n none no_double t own rest e spelt longest = absurd (no-prefix text own t no_double e spelt)
   where
@@ -169,5 +171,5 @@ single-none (c ∷ text) l n none no_double t own rest e spelt longest = absurd 
     no-prefix (d ∷ text) (x ∷ y ∷ own) t no_double e spelt =
         let same : x ≡ c = cc in
         let same' : y ≡ d = cc in
-        let two = double t x y own (ap is_digit same ∙ n) spelt in
+        let two = double t x y own (ap is_ascii_digit same ∙ n) spelt in
         no_double two.operator (record { two = omega arith; bytes = two.bytes ∙ ap (λ z. z ∷ y ∷ []) same ∙ ap (λ z. c ∷ z ∷ []) same' })

@@ -3,7 +3,8 @@
 use Rattle.std.specs.Prelude.{ℕ, Bool, ◌||◌, ◌==◌, nat_eq, List, [], ◌∷◌, Option, Some, None, option_map, option_and_then, length, drop, take_while, if◌then◌else◌, codes}
 use Rattle.std.specs.List.{starts_with, prefix_len, before_first}
 use Rattle.std.specs.Str.Parse.{digits_value}
-use Rattle.plural_rule.specs.Tokens.{is_blank, is_digit}
+use Rattle.std.specs.Char.{is_ascii_digit}
+use Rattle.plural_rule.specs.Tokens.{is_blank}
 
 -- what stands after the first occurrence of a name in a text
 abbrev pub after_first : List ℕ → List ℕ → Option (List ℕ)
@@ -21,7 +22,7 @@ number_of_digits (c ∷ rest) = Some (digits_value 10 (c ∷ rest))
 
 -- the number at the beginning of a text, after blanks
 abbrev pub leading_number : List ℕ → Option ℕ
-leading_number text = number_of_digits (take_while is_digit (without_blanks text))
+leading_number text = number_of_digits (take_while is_ascii_digit (without_blanks text))
 
 -- the number of plural forms that a header names
 abbrev pub nplurals_of : List ℕ → Option ℕ

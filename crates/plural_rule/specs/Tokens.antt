@@ -1,7 +1,7 @@
 -- The tokens that a text spells, each the longest that fits, with blanks between them.
 -- GNU gettext manual, "Plural forms"; C standard, "Lexical elements".
-use Rattle.std.specs.Prelude.{◌≡◌, ◌≢◌, ℕ, Bool, ◌&&◌, ◌||◌, ◌==◌, nat_le, List, [], ◌∷◌, ◌++◌, IsTrue, codes}
-use Rattle.std.specs.Str.Parse.{digits_value}
+use Rattle.std.specs.Prelude.{◌≡◌, ◌≢◌, ℕ, Bool, ◌||◌, ◌==◌, List, [], ◌∷◌, ◌++◌, IsTrue, codes}
+use Rattle.std.specs.Str.Parse.{AllDigits, digits_value}
 use Rattle.plural_rule.specs.declared.operator.Operator.{Operator}
 use Rattle.plural_rule.specs.declared.operator.Operator.TheVariants.{Or, And, Equal, NotEqual, Less, Greater, AtMost, AtLeast, Add, Subtract, Multiply, Divide, Remainder}
 use Rattle.plural_rule.specs.declared.token.Token.{Token}
@@ -10,14 +10,6 @@ use Rattle.plural_rule.specs.declared.token.Token.TheVariants.{Count, Number, No
 -- a space or a TAB
 abbrev pub is_blank : ℕ → Bool
 is_blank c = c == 32 || c == 9
-
--- a decimal digit
-abbrev pub is_digit : ℕ → Bool
-is_digit c = nat_le 48 c && nat_le c 57
-
-abbrev pub AllDigits : List ℕ → Type 0
-AllDigits [] = Unit {0}
-AllDigits (c ∷ rest) = IsTrue (is_digit c) × AllDigits rest
 
 -- the bytes of an operator
 abbrev pub operator_bytes : Operator → List ℕ
@@ -38,7 +30,7 @@ operator_bytes Remainder = codes "%"
 -- the bytes spell the token: a numeral is one digit or more, every other token has one spelling
 abbrev pub IsSpelling : Token → List ℕ → Type 0
 IsSpelling Count bytes = bytes ≡ codes "n"
-IsSpelling (Number v) bytes = (bytes ≢ []) × AllDigits bytes × (digits_value 10 bytes ≡ v)
+IsSpelling (Number v) bytes = (bytes ≢ []) × AllDigits 10 bytes × (digits_value 10 bytes ≡ v)
 IsSpelling Not bytes = bytes ≡ codes "!"
 IsSpelling (Binary op) bytes = bytes ≡ operator_bytes op
 IsSpelling Question bytes = bytes ≡ codes "?"

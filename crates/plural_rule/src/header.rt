@@ -1,8 +1,7 @@
 //! The fields of a header text that make a plural rule.
 ghost use Rattle.std.specs.Prelude.{◌≡◌, ◌<◌, ◌≤◌, Some, None, length, MatchOption};
 ghost use Rattle.std.specs.List.{before_first};
-ghost use Rattle.std.specs.Str.Parse.{digits_value};
-ghost use Rattle.plural_rule.specs.Tokens.{AllDigits};
+ghost use Rattle.std.specs.Str.Parse.{AllDigits, digits_value};
 ghost use Rattle.plural_rule.specs.Header.{after_first, nplurals_of, is_end, expression_of};
 
 use crate::lexer;
@@ -23,7 +22,7 @@ fn after_first<'a>(text: &'a [u8], name: &[u8]) -> Option<&'a [u8]>
 /// The digits of the number of plural forms, of which there is one at least.
 pub(crate) fn number_digits(header: &[u8]) -> Option<&[u8]>
     ensures { MatchOption result (nplurals_of header.now ≡ None)
-        (λ digits. AllDigits digits.now × (nplurals_of header.now ≡ Some (digits_value 10 digits.now))) }
+        (λ digits. AllDigits 10 digits.now × (nplurals_of header.now ≡ Some (digits_value 10 digits.now))) }
 {
     let rest = after_first(header, b"nplurals=")?;
     let digits = lexer::leading_digits(lexer::without_blanks(rest));

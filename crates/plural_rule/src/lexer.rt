@@ -1,8 +1,9 @@
 //! The tokens of an expression's text, and the numerals and blanks of a header text.
 ghost use Rattle.std.specs.Prelude.{◌≡◌, ◌^◌, ◌<◌, ◌≤◌, [], ◌∷◌, length, take_while, slice_index, MatchOption, SomeIff, true, false};
 ghost use Rattle.std.specs.List.{prefix_len};
-ghost use Rattle.std.specs.Str.Parse.{digits_value};
-ghost use Rattle.plural_rule.specs.Tokens.{is_blank, is_digit, AllDigits, operator_bytes, IsSpelling};
+ghost use Rattle.std.specs.Str.Parse.{AllDigits, digits_value};
+ghost use Rattle.std.specs.Char.{is_ascii_digit};
+ghost use Rattle.plural_rule.specs.Tokens.{is_blank, operator_bytes, IsSpelling};
 ghost use Rattle.plural_rule.specs.Header.{without_blanks};
 ghost use Rattle.plural_rule.specs.Scanner.{IsTokenAt, HasNoToken, BeginsWithDouble, HasNoDouble};
 
@@ -31,7 +32,7 @@ fn blanks(text: &[u8]) -> usize
 
 /// How many decimal digits the text begins with.
 fn digits(text: &[u8]) -> usize
-    ensures count { result ≡ prefix_len is_digit text.now }
+    ensures count { result ≡ prefix_len is_ascii_digit text.now }
     ensures within { result ≤ length text.now }
 {
     for (index, byte) in text.iter().enumerate() {
@@ -52,14 +53,14 @@ pub(crate) fn without_blanks(text: &[u8]) -> &[u8]
 
 /// The decimal digits at the beginning of the text.
 pub(crate) fn leading_digits(text: &[u8]) -> &[u8]
-    ensures { result.now ≡ take_while is_digit text.now }
+    ensures { result.now ≡ take_while is_ascii_digit text.now }
 {
     &text[..digits(text)]
 }
 
 /// The number that decimal digits spell, or `None` where it is 2^64 or more.
 pub(crate) fn decimal_value(digits: &[u8]) -> Option<u64>
-    requires { AllDigits digits.now }
+    requires { AllDigits 10 digits.now }
     ensures { SomeIff result (digits_value 10 digits.now < 2 ^ 64) (digits_value 10 digits.now) }
 {
     let mut value: u64 = 0;
@@ -93,7 +94,7 @@ pub(crate) fn token(text: &[u8]) -> Option<(Token, usize)>
 /// The numeral at the beginning of a text that begins with a digit.
 fn numeral(text: &[u8]) -> Option<(Token, usize)>
     requires some { 0 < length text.now }
-    requires digit { is_digit (slice_index text.now 0) ≡ true }
+    requires digit { is_ascii_digit (slice_index text.now 0) ≡ true }
     ensures { MatchOption result (HasNoToken text.now) (λ r. IsTokenAt text.now r.0 r.1) }
 {
     let digits = leading_digits(text);
@@ -132,7 +133,7 @@ fn double(first: u8, second: u8) -> Option<Operator>
 
 /// The token that one byte spells, which isn't a digit.
 fn single(byte: u8) -> Option<Token>
-    requires { is_digit byte ≡ false }
+    requires { is_ascii_digit byte ≡ false }
     ensures { MatchOption result ((t : Token) → IsSpelling t (byte ∷ []) → ⊥) (λ t. IsSpelling t (byte ∷ [])) }
 {
     match byte {

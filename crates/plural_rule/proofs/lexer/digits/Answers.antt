@@ -1,12 +1,12 @@
 use Rattle.std.proofs.Common.{sym, arith}
 use Rattle.std.proofs.lemmas.List.Sums.{prefix_len_is}
-use Rattle.plural_rule.specs.Tokens.{is_digit}
+use Rattle.std.specs.Char.{is_ascii_digit}
 use Rattle.plural_rule.proofs.lexer.digits.Goals as goal
 
 pub returns-then-not-is_ascii_digit-clause-count : goal.returns-then-not-is_ascii_digit-clause-count
 returns-then-not-is_ascii_digit-clause-count c =
-    sym (prefix_len_is is_digit c.args.text.now c.loop-index.index 0 (omega arith) c.loop-index.invariant (λ _. sym c.if-not-is_ascii_digit.ensures.value))
+    sym (prefix_len_is is_ascii_digit c.args.text.now c.loop-index.index 0 (omega arith) c.loop-index.invariant (λ _. sym c.if-not-is_ascii_digit.ensures.value))
 
 pub returns-clause-count : goal.returns-clause-count
 returns-clause-count c =
-    sym (prefix_len_is is_digit c.args.text.now _ 0 (omega arith) (λ k h. c.loop-index.invariant k (omega arith)) (λ h. absurd (omega arith)))
+    sym (prefix_len_is is_ascii_digit c.args.text.now _ 0 (omega arith) (λ k h. c.loop-index.invariant k (omega arith)) (λ h. absurd (omega arith)))
