@@ -14,7 +14,7 @@ pub enum ToolFault {
     /// A write failed, or took no byte of a piece that isn't empty.
     #[error("write fault")]
     WriteFault,
-    /// Memory couldn't grow.
+    /// An allocation failed.
     #[error("out of memory")]
     OutOfMemory,
 }
