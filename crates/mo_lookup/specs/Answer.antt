@@ -6,13 +6,13 @@ use Rattle.mo_lookup.specs.declared.answer.Answer.{Answer}
 use Rattle.mo_lookup.specs.Query.{Query}
 
 -- the text, whether it is a translation, and how many nodes of the plural expression were evaluated for it
-pub record Outcome : Type 0 where
+pub record AnswerView : Type 0 where
   pub text : List ℕ
   pub found : Bool
   pub steps : ℕ
 
 -- what the result of a look-up says
-abbrev pub answer_view : Answer → Outcome
+abbrev pub answer_view : Answer → AnswerView
 answer_view answer = record { text = answer.text.now; found = answer.found; steps = answer.steps }
 
 -- a form of a translation
@@ -31,16 +31,16 @@ untranslated_text id None = id
 untranslated_text id (Some plural) = if plural.1 == 1 then id else plural.0
 
 -- the answer where there is no translation
-abbrev pub untranslated : Query → Outcome
+abbrev pub untranslated : Query → AnswerView
 untranslated query = record { text = untranslated_text query.id query.plural; found = false; steps = 0 }
 
 -- the answer from the forms of a translation
-abbrev pub translated : List (List ℕ) → Meaning → Option (List ℕ × ℕ) → Outcome
+abbrev pub translated : List (List ℕ) → Meaning → Option (List ℕ × ℕ) → AnswerView
 translated forms rule None = record { text = form_at forms 0; found = true; steps = 0 }
 translated forms rule (Some plural) =
     record { text = selected_form forms rule.nplurals (value rule.tree plural.1); found = true; steps = visited rule.tree plural.1 }
 
 -- the answer to a query, from the forms of its translation, where it has one, and the plural rule
-abbrev pub answer : Option (List (List ℕ)) → Meaning → Query → Outcome
+abbrev pub answer : Option (List (List ℕ)) → Meaning → Query → AnswerView
 answer None rule query = untranslated query
 answer (Some forms) rule query = translated forms rule query.plural

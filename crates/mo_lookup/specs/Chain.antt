@@ -8,11 +8,11 @@ use Rattle.mo_file.specs.Key.{keys}
 use Rattle.mo_lookup.specs.Bound.{search_bound}
 use Rattle.mo_lookup.specs.Comparisons.{comparisons, query_comparisons}
 use Rattle.mo_lookup.specs.Query.{Query, is_clean_key}
-use Rattle.mo_lookup.specs.Answer.{Outcome, untranslated}
+use Rattle.mo_lookup.specs.Answer.{AnswerView, untranslated}
 use Rattle.mo_lookup.specs.Contents.{Contents, forms_found, answered, translation_under}
 
 -- what the result of a look-up in a chain says
-abbrev pub chain_answer_view : ChainAnswer → Outcome
+abbrev pub chain_answer_view : ChainAnswer → AnswerView
 chain_answer_view answer = record { text = answer.text.now; found = answer.found; steps = answer.steps }
 
 -- whether a catalogue translates a query
@@ -20,7 +20,7 @@ abbrev pub translates : Query → Contents → Bool
 translates query contents = is_some (forms_found contents.messages query)
 
 -- what a chain answers
-abbrev pub chain_answered : List Contents → Query → Outcome
+abbrev pub chain_answered : List Contents → Query → AnswerView
 chain_answered chain query = option_map_or (λ contents. answered contents query) (find (translates query) chain) (untranslated query)
 
 -- how many catalogues of a chain are asked: those up to the first that translates the query, else all of them; none

@@ -7,7 +7,7 @@ use Rattle.plural_rule.specs.PluralRule.{Meaning, IsRuleOf, expression_limit}
 use Rattle.mo_file.specs.Key.{AreRising, is_nul, key_of, keys, query_key}
 use Rattle.mo_file.specs.Message.{Message}
 use Rattle.mo_lookup.specs.Query.{Query, is_clean_key}
-use Rattle.mo_lookup.specs.Answer.{Outcome, form_at, answer}
+use Rattle.mo_lookup.specs.Answer.{AnswerView, form_at, answer}
 
 -- the messages of a catalogue, and its plural rule
 pub record Contents : Type 0 where
@@ -38,5 +38,5 @@ forms_found messages query =
     else None
 
 -- what a catalogue answers
-abbrev pub answered : Contents → Query → Outcome
+abbrev pub answered : Contents → Query → AnswerView
 answered contents query = answer (forms_found contents.messages query) contents.rule query

@@ -4,7 +4,7 @@ use Rattle.std.specs.Option.{option_eq, option_map_or}
 use Rattle.std.specs.Str.{bytes_eq}
 use Rattle.plural_rule.specs.PluralRule.{Meaning, IsRuleOf, expression_limit}
 use Rattle.mo_file.specs.Message.{Message}
-use Rattle.mo_lookup.specs.Answer.{Outcome, answer}
+use Rattle.mo_lookup.specs.Answer.{AnswerView, answer}
 use Rattle.mo_lookup.specs.Contents.{AreContents, answered}
 use Rattle.mo_lookup.specs.Query.{Query, is_clean_key}
 use Rattle.po_entry.specs.TextEntry.{TextEntry}
@@ -27,7 +27,7 @@ abbrev pub IsRuleOfEntries : List TextEntry → Meaning → Type 0
 IsRuleOfEntries entries rule = IsRuleOf expression_limit (header_of entries) rule
 
 -- what the entries answer to a query under their rule
-abbrev pub meant : List TextEntry → Meaning → Query → Outcome
+abbrev pub meant : List TextEntry → Meaning → Query → AnswerView
 meant entries rule query = answer (option_map (λ entry. entry.forms) (definition entries query.context query.id)) rule query
 
 -- the answers of a file's messages are those of the entries

@@ -10,15 +10,15 @@ use Rattle.po_select.specs.declared.selection.Selection.{Selection}
 use Rattle.po_select.specs.Selected.{selected}
 use Rattle.po_tools.specs.declared.run.Run.{Run}
 use Rattle.po_tools.specs.Msgattrib.{IsMsgattribRun, error_line}
-use Rattle.po_tools.specs.Run.{refusal, report}
+use Rattle.po_tools.specs.Run.{refusal, run_view}
 
 -- it reports the duplicate, without a line
 pub run-repeating : {E : Type 0} (name text : List ℕ) (s : Selection) (entries : List TextEntry) (error : PoError) (r : Result Run E)
     → ReadsDistinct text entries → IsDuplicateErrorOf (selected s entries) error
-    → IfOk r (λ run. (error.kind ≢ OutOfMemory) × (report run ≡ refusal (error_line name (record error { line = 0 }))))
-    → IfOk r (λ run. IsMsgattribRun name s text (report run))
+    → IfOk r (λ run. (error.kind ≢ OutOfMemory) × (run_view run ≡ refusal (error_line name (record error { line = 0 }))))
+    → IfOk r (λ run. IsMsgattribRun name s text (run_view run))
 run-repeating name text s entries error r read fault =
-    IfOk-weaker r (λ run. (error.kind ≢ OutOfMemory) × (report run ≡ refusal (error_line name (record error { line = 0 })))) (λ run. IsMsgattribRun name s text (report run))
+    IfOk-weaker r (λ run. (error.kind ≢ OutOfMemory) × (run_view run ≡ refusal (error_line name (record error { line = 0 })))) (λ run. IsMsgattribRun name s text (run_view run))
     (λ run reported. ⊎_elim (λ memory. absurd (reported.0 (ap (λ e. e.kind) memory)))
     (λ found. inr (inl (record {
       entries = entries;
@@ -26,5 +26,5 @@ run-repeating name text s entries error r read fault =
       first = found.0;
       later = found.1;
       duplicate = found.2;
-      report = reported.1 ∙ ap (λ e. refusal (error_line name (record e { line = 0 }))) found.3;
+      run_is = reported.1 ∙ ap (λ e. refusal (error_line name (record e { line = 0 }))) found.3;
     }))) fault)

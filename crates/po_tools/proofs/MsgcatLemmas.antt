@@ -20,7 +20,7 @@ use Rattle.po_merge.specs.Merged.{merged, IsMergeFault}
 use Rattle.po_tools.specs.declared.run.Run.{Run}
 use Rattle.po_tools.specs.Msgcat.{IsReadAs, AreReadAs, IsFileFault, IsMsgcatRun, first_name, msgcat_line}
 use Rattle.po_tools.specs.NamedFile.{NamedFile, named_file, named_files}
-use Rattle.po_tools.specs.Run.{refusal, report}
+use Rattle.po_tools.specs.Run.{refusal, run_view}
 use Rattle.po_tools.specs.Written.{written_run}
 
 abbrev Files : Type 0
@@ -71,11 +71,11 @@ file_fault files i e inputs error l h fault =
     }
 
 pub foreign_run : {E : Type 0} (files : List NamedFile) (o : MergeOptions) (inputs : List Input) (name : List ℕ) (error : PoError) (r : Result Run E) → AreReadAs files inputs → IsMergeFault (merged o inputs) error → name ≡ first_name files
-    → IfOk r (λ run. (error.kind ≢ OutOfMemory) × (report run ≡ refusal (msgcat_line name error))) → IfOk r (λ run. IsMsgcatRun files o (report run))
+    → IfOk r (λ run. (error.kind ≢ OutOfMemory) × (run_view run ≡ refusal (msgcat_line name error))) → IfOk r (λ run. IsMsgcatRun files o (run_view run))
 foreign_run files o inputs name error (Err e) read fault name_is run = tt
 foreign_run files o inputs name error (Ok made) read (inl memory) name_is run = absurd (run.0 (ap (λ (e : PoError). e.kind) memory))
 foreign_run files o inputs name error (Ok made) read (inr foreign) name_is run =
-    inr (inl (record { inputs = inputs; read = read; foreign = foreign.0; report = run.1 ∙ ap₂ (λ (n : List ℕ) (e : PoError). refusal (msgcat_line n e)) name_is foreign.1 }))
+    inr (inl (record { inputs = inputs; read = read; foreign = foreign.0; run_is = run.1 ∙ ap₂ (λ (n : List ℕ) (e : PoError). refusal (msgcat_line n e)) name_is foreign.1 }))
 
 pub name_lacks : (files : Files) (i : ℕ) (e : Bor (List ℕ) × Bor (List ℕ)) → i < length files → All (λ file. Lacks 0 file.name) (named_files files) → Lacks 0 (get_or files i e).0.now
 name_lacks files i e l h =
@@ -83,8 +83,8 @@ name_lacks files i e l h =
     subst (λ (f : NamedFile). Lacks 0 f.name) (sym (file_at files i e l)) (h i (named_file (get_or files i e)) inside)
 
 pub merged_run : {E : Type 0} (files : List NamedFile) (o : MergeOptions) (inputs : List Input) (catalogue : List TextEntry) (r : Result Run E) → AreReadAs files inputs → catalogue ≡ merged o inputs
-    → OnOk r (All IsCatalogueEntry catalogue) → IfOk r (λ run. report run ≡ written_run catalogue) → IfOk r (λ run. IsMsgcatRun files o (report run))
+    → OnOk r (All IsCatalogueEntry catalogue) → IfOk r (λ run. run_view run ≡ written_run catalogue) → IfOk r (λ run. IsMsgcatRun files o (run_view run))
 merged_run files o inputs catalogue (Err e) read is valid run = tt
 merged_run files o inputs catalogue (Ok made) read is valid run =
     let admitted = All-weaker IsCatalogueEntry HasAdmittedCharset (λ e v. v.charset) catalogue valid in
-    inr (inr (record { inputs = inputs; read = read; admitted = subst (All HasAdmittedCharset) is admitted; report = run ∙ ap written_run is }))
+    inr (inr (record { inputs = inputs; read = read; admitted = subst (All HasAdmittedCharset) is admitted; run_is = run ∙ ap written_run is }))

@@ -36,14 +36,14 @@ OneFirstDuplicate = (entries : List InputEntry) (first later other last : InputE
 
 pub msgunfmt_once : CatalogIsUnique → NoFaultWhereUnformatted → OneText → OneUnformatFault → OneMsgunfmtRun
 msgunfmt_once unique no_fault one_text one_fault file run other (inl is) (inl also) =
-    is.report ∙ ap (λ (e : UnformatError). refusal (unformat_line file.name e)) (one_fault file.bytes is.error also.error is.fault also.fault is.not_memory also.not_memory) ∙ sym also.report
+    is.run_is ∙ ap (λ (e : UnformatError). refusal (unformat_line file.name e)) (one_fault file.bytes is.error also.error is.fault also.fault is.not_memory also.not_memory) ∙ sym also.run_is
 msgunfmt_once unique no_fault one_text one_fault file run other (inl is) (inr also) = absurd (is.not_memory (no_fault file.bytes also.text is.error also.unformatted is.fault))
 msgunfmt_once unique no_fault one_text one_fault file run other (inr is) (inl also) = absurd (also.not_memory (no_fault file.bytes is.text also.error is.unformatted also.fault))
 msgunfmt_once unique no_fault one_text one_fault file run other (inr is) (inr also) =
     let f = is.unformatted in
     let g = also.unformatted in
     let messages : f.messages ≡ g.messages = (unique file.bytes f.order g.order f.messages g.messages f.catalog g.catalog).1 in
-    is.report ∙ ap₂ (λ (m : List Message) (t : List ℕ). unformatted_run m t) messages (one_text file.bytes is.text also.text f g) ∙ sym also.report
+    is.run_is ∙ ap₂ (λ (m : List Message) (t : List ℕ). unformatted_run m t) messages (one_text file.bytes is.text also.text f g) ∙ sym also.run_is
 
 entries_in : (entries : List TextEntry) → entries_of (map (in_input 0) entries) ≡ entries
 entries_in [] = refl
@@ -51,7 +51,7 @@ entries_in (e ∷ entries) = ap (λ (l : List TextEntry). e ∷ l) (entries_in e
 
 pub msgattrib_once : OneReading → OneTextFault → NoFaultWhereDistinct → NoFirstDuplicate → OneFirstDuplicate → OneMsgattribRun
 msgattrib_once one one_fault no_fault no_first one_first name text s run other (inl is) (inl also) =
-    is.report ∙ ap (λ (e : PoError). refusal (error_line name e)) (one_fault text is.error also.error is.fault also.fault) ∙ sym also.report
+    is.run_is ∙ ap (λ (e : PoError). refusal (error_line name e)) (one_fault text is.error also.error is.fault also.fault) ∙ sym also.run_is
 msgattrib_once one one_fault no_fault no_first one_first name text s run other (inl is) (inr (inl also)) = absurd (no_fault text also.entries is.error also.read is.fault)
 msgattrib_once one one_fault no_fault no_first one_first name text s run other (inl is) (inr (inr also)) = absurd (no_fault text also.entries is.error also.read is.fault)
 msgattrib_once one one_fault no_fault no_first one_first name text s run other (inr (inl is)) (inl also) = absurd (no_fault text is.entries also.error is.read also.fault)
@@ -60,7 +60,7 @@ msgattrib_once one one_fault no_fault no_first one_first name text s run other (
     let same : also.entries ≡ is.entries = one text also.entries is.entries also.read.reads is.read.reads in
     let again = subst (λ list. IsFirstDuplicate (map (in_input 0) (selected s list)) also.first also.later) same also.duplicate in
     let first = (one_first (map (in_input 0) (selected s is.entries)) is.first is.later also.first also.later is.duplicate again).0 in
-    is.report ∙ ap (λ (e : InputEntry). refusal (error_line name (record { kind = Duplicate e.entry.line; line = 0 }))) first ∙ sym also.report
+    is.run_is ∙ ap (λ (e : InputEntry). refusal (error_line name (record { kind = Duplicate e.entry.line; line = 0 }))) first ∙ sym also.run_is
 msgattrib_once one one_fault no_fault no_first one_first name text s run other (inr (inl is)) (inr (inr also)) =
     let same : also.entries ≡ is.entries = one text also.entries is.entries also.read.reads is.read.reads in
     let distinct = subst (λ list. HasNoDuplicate (selected s list)) same also.distinct in
@@ -70,7 +70,7 @@ msgattrib_once one one_fault no_fault no_first one_first name text s run other (
     let distinct = subst (λ list. HasNoDuplicate (selected s list)) same is.distinct in
     absurd (no_first (map (in_input 0) (selected s also.entries)) also.first also.later (subst HasNoDuplicate (sym (entries_in (selected s also.entries))) distinct) also.duplicate)
 msgattrib_once one one_fault no_fault no_first one_first name text s run other (inr (inr is)) (inr (inr also)) =
-    is.report ∙ ap (λ (l : List TextEntry). written_run (selected s l)) (one text is.entries also.entries is.read.reads also.read.reads) ∙ sym also.report
+    is.run_is ∙ ap (λ (l : List TextEntry). written_run (selected s l)) (one text is.entries also.entries is.read.reads also.read.reads) ∙ sym also.run_is
 
 module _ (one : OneReading) (one_fault : OneTextFault) (no_fault : NoFaultWhereDistinct) where
   same_inputs : (files : List NamedFile) (some others : List Input) → AreReadAs files some → AreReadAs files others → some ≡ others
@@ -125,15 +125,15 @@ module _ (one : OneReading) (one_fault : OneTextFault) (no_fault : NoFaultWhereD
   pub msgcat_once : OneMsgcatRun
   msgcat_once files o run other (inl is) (inl also) =
       let same = unread_once files is.name also.name is.error also.error is.fault also.fault in
-      is.report ∙ ap₂ (λ (n : List ℕ) (e : PoError). refusal (msgcat_line n e)) same.0 same.1 ∙ sym also.report
+      is.run_is ∙ ap₂ (λ (n : List ℕ) (e : PoError). refusal (msgcat_line n e)) same.0 same.1 ∙ sym also.run_is
   msgcat_once files o run other (inl is) (inr (inl also)) = absurd (unread_only files is.name is.error also.inputs is.fault also.read)
   msgcat_once files o run other (inl is) (inr (inr also)) = absurd (unread_only files is.name is.error also.inputs is.fault also.read)
   msgcat_once files o run other (inr (inl is)) (inl also) = absurd (unread_only files also.name also.error is.inputs also.fault is.read)
   msgcat_once files o run other (inr (inr is)) (inl also) = absurd (unread_only files also.name also.error is.inputs also.fault is.read)
-  msgcat_once files o run other (inr (inl is)) (inr (inl also)) = is.report ∙ sym also.report
+  msgcat_once files o run other (inr (inl is)) (inr (inl also)) = is.run_is ∙ sym also.run_is
   msgcat_once files o run other (inr (inl is)) (inr (inr also)) =
       absurd (is.foreign (subst (λ list. All HasAdmittedCharset (merged o list)) (same_inputs files also.inputs is.inputs also.read is.read) also.admitted))
   msgcat_once files o run other (inr (inr is)) (inr (inl also)) =
       absurd (also.foreign (subst (λ list. All HasAdmittedCharset (merged o list)) (same_inputs files is.inputs also.inputs is.read also.read) is.admitted))
   msgcat_once files o run other (inr (inr is)) (inr (inr also)) =
-      is.report ∙ ap (λ (l : List Input). written_run (merged o l)) (same_inputs files is.inputs also.inputs is.read also.read) ∙ sym also.report
+      is.run_is ∙ ap (λ (l : List Input). written_run (merged o l)) (same_inputs files is.inputs also.inputs is.read also.read) ∙ sym also.run_is

@@ -24,7 +24,7 @@ use Rattle.po_tools.specs.Msgfmt.{AreChecked, IsRefused, check_line, compile_opt
 use Rattle.po_tools.specs.NamedFile.{NamedFile}
 use Rattle.po_tools.specs.Profile.{Reported, first_fault, is_header_entry}
 use Rattle.po_tools.specs.RunLaws.{OneMsgfmtRun}
-use Rattle.po_tools.specs.Run.{Report, refusal}
+use Rattle.po_tools.specs.Run.{RunView, refusal}
 
 abbrev OneRule : Type 0
 OneRule = (limit : ℕ) (header : List ℕ) (rule other : Meaning) → IsRuleOf limit header rule → IsRuleOf limit header other → rule ≡ other
@@ -61,17 +61,17 @@ module _ (unique : CatalogIsUnique) (no_fault : NoFaultOfCatalog) (one_fault : O
         ap (λ (f : MoError). fault_line tool file.name 0 (mo_text f) ++ reported) fault_is ∙ ap (λ (t : List ℕ). fault_line tool file.name 0 (mo_text fault') ++ t) rest.1,
       )
 
-  pub gettext_once : (files : List NamedFile) (o : GettextRequest) (run other : Report) → IsGettextRun files o run → IsGettextRun files o other → run ≡ other
+  pub gettext_once : (files : List NamedFile) (o : GettextRequest) (run other : RunView) → IsGettextRun files o run → IsGettextRun files o other → run ≡ other
   gettext_once files o run other is also =
       let same = one_chain (codes "gettext") files is.chain also.chain is.reported also.reported is.opens also.opens in
-      is.report ∙ ap (λ (chain : List Contents). answered (gettext_output chain o) is.reported) same.0
-      ∙ ap (λ (reported : List ℕ). answered (gettext_output also.chain o) reported) same.1 ∙ sym also.report
+      is.run_is ∙ ap (λ (chain : List Contents). answered (gettext_output chain o) is.reported) same.0
+      ∙ ap (λ (reported : List ℕ). answered (gettext_output also.chain o) reported) same.1 ∙ sym also.run_is
 
-  pub ngettext_once : (files : List NamedFile) (o : NgettextRequest) (run other : Report) → IsNgettextRun files o run → IsNgettextRun files o other → run ≡ other
+  pub ngettext_once : (files : List NamedFile) (o : NgettextRequest) (run other : RunView) → IsNgettextRun files o run → IsNgettextRun files o other → run ≡ other
   ngettext_once files o run other is also =
       let same = one_chain (codes "ngettext") files is.chain also.chain is.reported also.reported is.opens also.opens in
-      is.report ∙ ap (λ (chain : List Contents). answered (ngettext_output chain o) is.reported) same.0
-      ∙ ap (λ (reported : List ℕ). answered (ngettext_output also.chain o) reported) same.1 ∙ sym also.report
+      is.run_is ∙ ap (λ (chain : List Contents). answered (ngettext_output chain o) is.reported) same.0
+      ∙ ap (λ (reported : List ℕ). answered (ngettext_output also.chain o) reported) same.1 ∙ sym also.run_is
 
 -- what a header found or not found says of the check's fault
 abbrev CheckedBy : List InputEntry → Option Reported → Option InputEntry → Type 0
@@ -98,7 +98,7 @@ same_compiled one_list o entries a b is also =
 
 module _ (one_list : MessagesAreOne) (one_reading : CataloguesAreOne) (no_fault : NoFaultWhereAccepted) (one_fault : OneCompileFault) (one_rule : OneRule) where
   -- inputs that are refused aren't compiled
-  refused_only : (inputs : List NamedFile) (o : MsgfmtOptions) (run : Report) (catalogues : List (List TextEntry)) (compiled : Compiled) → IsRefused inputs o run
+  refused_only : (inputs : List NamedFile) (o : MsgfmtOptions) (run : RunView) (catalogues : List (List TextEntry)) (compiled : Compiled) → IsRefused inputs o run
       → AreRead (input_texts inputs) catalogues → IsCompilation (compile_options o) (joined_entries catalogues) compiled → ⊥
   refused_only inputs o run catalogues compiled reported read is =
       let accepted : AreAccepted (compile_options o) (input_texts inputs) catalogues =
@@ -120,7 +120,7 @@ module _ (one_list : MessagesAreOne) (one_reading : CataloguesAreOne) (no_fault 
       let error : is.error ≡ also.error =
       one_fault (compile_options o) (input_texts inputs) is.error also.error is.fault also.fault
       (λ memory. is.not_memory (ap (λ (e : JoinError). e.error.kind) memory)) (λ memory. also.not_memory (ap (λ (e : JoinError). e.error.kind) memory)) in
-      is.report ∙ ap (λ (e : JoinError). refusal (join_line inputs e)) error ∙ sym also.report
+      is.run_is ∙ ap (λ (e : JoinError). refusal (join_line inputs e)) error ∙ sym also.run_is
   msgfmt_once inputs o run other (inl is) (inr (inl also)) = absurd (refused_only inputs o run also.catalogues also.compiled is also.read also.is_compiled)
   msgfmt_once inputs o run other (inl is) (inr (inr also)) = absurd (refused_only inputs o run also.catalogues also.compiled is also.read also.is_compiled)
   msgfmt_once inputs o run other (inr (inl is)) (inl also) = absurd (refused_only inputs o other is.catalogues is.compiled also is.read is.is_compiled)
@@ -128,7 +128,7 @@ module _ (one_list : MessagesAreOne) (one_reading : CataloguesAreOne) (no_fault 
   msgfmt_once inputs o run other (inr (inl is)) (inr (inl also)) =
       let faults = same_check inputs o is.catalogues also.catalogues (Some is.fault) (Some also.fault) is.read also.read is.checked also.checked in
       let fault : is.fault ≡ also.fault = cc in
-      is.report ∙ ap (λ (reported : Reported). refusal (check_line inputs reported)) fault ∙ sym also.report
+      is.run_is ∙ ap (λ (reported : Reported). refusal (check_line inputs reported)) fault ∙ sym also.run_is
   msgfmt_once inputs o run other (inr (inl is)) (inr (inr also)) =
       let faults = same_check inputs o is.catalogues also.catalogues (Some is.fault) None is.read also.read is.checked (also.checked is.asked) in cc
   msgfmt_once inputs o run other (inr (inr is)) (inr (inl also)) =
@@ -136,4 +136,4 @@ module _ (one_list : MessagesAreOne) (one_reading : CataloguesAreOne) (no_fault 
   msgfmt_once inputs o run other (inr (inr is)) (inr (inr also)) =
       let catalogues : also.catalogues ≡ is.catalogues = one_reading (input_texts inputs) also.catalogues is.catalogues also.read is.read in
       let again = subst (λ (list : List (List TextEntry)). IsCompilation (compile_options o) (joined_entries list) also.compiled) catalogues also.is_compiled in
-      is.report ∙ same_compiled one_list o (joined_entries is.catalogues) is.compiled also.compiled is.is_compiled again ∙ sym also.report
+      is.run_is ∙ same_compiled one_list o (joined_entries is.catalogues) is.compiled also.compiled is.is_compiled again ∙ sym also.run_is

@@ -17,7 +17,7 @@ use Rattle.po_select.specs.Selected.{every_entry, selected}
 use Rattle.po_writer.specs.WrittenText.{written_text}
 use Rattle.po_tools.specs.Msgcat.{IsMergedText, IsMsgcatRun, keeps_all}
 use Rattle.po_tools.specs.NamedFile.{NamedFile, named_file, named_files}
-use Rattle.po_tools.specs.Run.{Report}
+use Rattle.po_tools.specs.Run.{RunView}
 use Rattle.po_tools.specs.SelectedText.{IsSelectedText}
 use Rattle.po_tools.specs.Written.{written_run}
 use Rattle.po_tools.proofs.SelectedLemmas.{live_differ}
@@ -56,7 +56,7 @@ one_input (file ∷ []) d o (Some written) some few all stand everything stays o
 one_input (file ∷ other ∷ files) d o found some few all stand everything stays of = absurd (omega arith)
 
 -- the run that writes it
-pub merged_done : (files : List NamedFile) (o : MergeOptions) (written : List ℕ) (run : Report) → IsMergedText files o written
+pub merged_done : (files : List NamedFile) (o : MergeOptions) (written : List ℕ) (run : RunView) → IsMergedText files o written
     → ((entries : List TextEntry) → written ≡ written_text entries → run ≡ written_run entries) → IsMsgcatRun files o run
-merged_done files o written run of report =
-    inr (inr (record { inputs = of.inputs; read = of.read; admitted = of.admitted; report = report (merged o of.inputs) of.text_is }))
+merged_done files o written run of run_is =
+    inr (inr (record { inputs = of.inputs; read = of.read; admitted = of.admitted; run_is = run_is (merged o of.inputs) of.text_is }))

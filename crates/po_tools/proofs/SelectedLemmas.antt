@@ -10,7 +10,7 @@ use Rattle.po_select.specs.declared.selection.Selection.{Selection}
 use Rattle.po_select.specs.Selected.{changed, is_kept, selected}
 use Rattle.po_writer.specs.WrittenText.{written_text}
 use Rattle.po_tools.specs.Msgattrib.{IsMsgattribRun}
-use Rattle.po_tools.specs.Run.{Report}
+use Rattle.po_tools.specs.Run.{RunView}
 use Rattle.po_tools.specs.SelectedText.{IsSelectedText}
 use Rattle.po_tools.specs.Written.{written_run}
 
@@ -41,12 +41,12 @@ selected_differ s entries differ =
     live_differ (selected s entries) (changed_differ s (filter (is_kept s) entries) (AllPairs-filter (λ a b. ¬ IsSameMessage a b) (is_kept s) entries differ))
 
 -- the run that writes what is selected
-pub run_done : (name text : List ℕ) (s : Selection) (written : List ℕ) (run : Report) → IsSelectedText s text written
+pub run_done : (name text : List ℕ) (s : Selection) (written : List ℕ) (run : RunView) → IsSelectedText s text written
     → ((entries : List TextEntry) → written ≡ written_text entries → run ≡ written_run entries) → IsMsgattribRun name s text run
-run_done name text s written run of report =
+run_done name text s written run of run_is =
     inr (inr (record {
       entries = of.entries;
       read = record { reads = of.reads; distinct = live_differ of.entries of.differ };
       distinct = selected_differ s of.entries of.differ;
-      report = report (selected s of.entries) of.text_is;
+      run_is = run_is (selected s of.entries) of.text_is;
     }))

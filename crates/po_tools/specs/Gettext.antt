@@ -11,7 +11,7 @@ use Rattle.po_shell.specs.Counts.{count_in}
 use Rattle.po_shell.specs.Escapes.{expansion, has_no_newline}
 use Rattle.po_tools.specs.FaultText.{fault_line, mo_text}
 use Rattle.po_tools.specs.NamedFile.{NamedFile}
-use Rattle.po_tools.specs.Run.{Report}
+use Rattle.po_tools.specs.Run.{RunView}
 
 -- The files that are catalogues make the chain, in order; each other one is reported by a line, in order.
 pub data Opens (tool : List ℕ) : List NamedFile → List Contents → List ℕ → Type 0 where
@@ -56,15 +56,15 @@ abbrev pub gettext_output : List Contents → GettextRequest → List ℕ
 gettext_output chain o = answers chain o ++ (if ends_line o then 10 ∷ [] else [])
 
 -- this output, and these lines about catalogues that were refused, which don't count as a failure
-abbrev pub answered : List ℕ → List ℕ → Report
+abbrev pub answered : List ℕ → List ℕ → RunView
 answered output reported = record { output = output; create = false; messages = reported; status = 0 }
 
 -- what a run of gettext comes to
-pub record IsGettextRun (files : List NamedFile) (o : GettextRequest) (run : Report) : Type 0 where
+pub record IsGettextRun (files : List NamedFile) (o : GettextRequest) (run : RunView) : Type 0 where
   pub chain : List Contents
   pub reported : List ℕ
   pub opens : Opens (codes "gettext") files chain reported
-  pub report : run ≡ answered (gettext_output chain o) reported
+  pub run_is : run ≡ answered (gettext_output chain o) reported
 
 -- what ngettext is asked for, besides the catalogues
 pub record NgettextRequest : Type 0 where
@@ -80,8 +80,8 @@ ngettext_output chain o =
     (chain_answered chain (record { context = o.context; id = argument_text o.expand o.id; plural = Some (argument_text o.expand o.plural, count_in o.count) })).text
 
 -- what a run of ngettext comes to
-pub record IsNgettextRun (files : List NamedFile) (o : NgettextRequest) (run : Report) : Type 0 where
+pub record IsNgettextRun (files : List NamedFile) (o : NgettextRequest) (run : RunView) : Type 0 where
   pub chain : List Contents
   pub reported : List ℕ
   pub opens : Opens (codes "ngettext") files chain reported
-  pub report : run ≡ answered (ngettext_output chain o) reported
+  pub run_is : run ≡ answered (ngettext_output chain o) reported

@@ -14,7 +14,7 @@ use Rattle.po_tools.specs.declared.inputs.Unread.TheVariants.{CannotOpen}
 use Rattle.po_tools.specs.FaultText.{text_line}
 use Rattle.po_tools.specs.Inputs.{unread_text}
 use Rattle.po_tools.specs.NamedFile.{NamedFile}
-use Rattle.po_tools.specs.Run.{Report, refusal}
+use Rattle.po_tools.specs.Run.{RunView, refusal}
 use Rattle.po_tools.specs.Written.{written_run}
 
 -- a file is read as the catalogue of an input, in which no live entry repeats an earlier one
@@ -41,33 +41,33 @@ abbrev pub msgcat_line : List ℕ → PoError → List ℕ
 msgcat_line name error = text_line (codes "msgcat") name error
 
 -- a file isn't read, which is reported of the first such file
-pub record IsUnread (files : List NamedFile) (run : Report) : Type 0 where
+pub record IsUnread (files : List NamedFile) (run : RunView) : Type 0 where
   pub name : List ℕ
   pub error : PoError
   pub fault : IsFileFault files name error
   pub not_memory : error.kind ≢ NoMemory
-  pub report : run ≡ refusal (msgcat_line name error)
+  pub run_is : run ≡ refusal (msgcat_line name error)
 
 abbrev pub first_name : List NamedFile → List ℕ
 first_name [] = []
 first_name (file ∷ files) = file.name
 
 -- the files are read, and a merged header names a charset that isn't admitted, which is reported with the first file's name
-pub record IsForeign (files : List NamedFile) (o : MergeOptions) (run : Report) : Type 0 where
+pub record IsForeign (files : List NamedFile) (o : MergeOptions) (run : RunView) : Type 0 where
   pub inputs : List Input
   pub read : AreReadAs files inputs
   pub foreign : All HasAdmittedCharset (merged o inputs) → ⊥
-  pub report : run ≡ refusal (msgcat_line (first_name files) (record { kind = ForeignCharset; line = 0 }))
+  pub run_is : run ≡ refusal (msgcat_line (first_name files) (record { kind = ForeignCharset; line = 0 }))
 
 -- the files are read, each merged header's charset is admitted, and what they are merged to is written
-pub record IsMerged (files : List NamedFile) (o : MergeOptions) (run : Report) : Type 0 where
+pub record IsMerged (files : List NamedFile) (o : MergeOptions) (run : RunView) : Type 0 where
   pub inputs : List Input
   pub read : AreReadAs files inputs
   pub admitted : All HasAdmittedCharset (merged o inputs)
-  pub report : run ≡ written_run (merged o inputs)
+  pub run_is : run ≡ written_run (merged o inputs)
 
 -- what a run of msgcat comes to
-abbrev pub IsMsgcatRun : List NamedFile → MergeOptions → Report → Type 0
+abbrev pub IsMsgcatRun : List NamedFile → MergeOptions → RunView → Type 0
 IsMsgcatRun files o run = IsUnread files run ⊎ (IsForeign files o run ⊎ IsMerged files o run)
 
 -- every message is kept

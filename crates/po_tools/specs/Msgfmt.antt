@@ -18,7 +18,7 @@ use Rattle.po_tools.specs.declared.profile.CheckFault.TheVariants.{NoHeader, NoR
 use Rattle.po_tools.specs.FaultText.{po_text, duplicate_text, fault_line}
 use Rattle.po_tools.specs.NamedFile.{NamedFile}
 use Rattle.po_tools.specs.Profile.{IsChecked, Reported}
-use Rattle.po_tools.specs.Run.{Report, refusal}
+use Rattle.po_tools.specs.Run.{RunView, refusal}
 
 -- the options that compiling asks for
 abbrev pub compile_options : MsgfmtOptions → Options
@@ -78,7 +78,7 @@ abbrev pub AreChecked : Bool → List (List TextEntry) → Option Reported → T
 AreChecked use_fuzzy catalogues fault = IsChecked (compiled_inputs use_fuzzy (joined catalogues)) fault
 
 -- the file where there is a message, and the statistics where they are asked for
-abbrev pub compiled_run : MsgfmtOptions → Compiled → Report
+abbrev pub compiled_run : MsgfmtOptions → Compiled → RunView
 compiled_run o compiled = record {
   output = if nat_lt 0 compiled.n then compiled.bytes.items else [];
   create = nat_lt 0 compiled.n;
@@ -87,14 +87,14 @@ compiled_run o compiled = record {
 }
 
 -- the inputs aren't compiled, which is reported before any fault of the check
-pub record IsRefused (inputs : List NamedFile) (o : MsgfmtOptions) (run : Report) : Type 0 where
+pub record IsRefused (inputs : List NamedFile) (o : MsgfmtOptions) (run : RunView) : Type 0 where
   pub error : JoinError
   pub fault : IsCompileFault (compile_options o) (input_texts inputs) error
   pub not_memory : error.error.kind ≢ NoMemory
-  pub report : run ≡ refusal (join_line inputs error)
+  pub run_is : run ≡ refusal (join_line inputs error)
 
 -- the inputs are compiled, and the check that is asked for reports a fault
-pub record IsUnfit (inputs : List NamedFile) (o : MsgfmtOptions) (run : Report) : Type 0 where
+pub record IsUnfit (inputs : List NamedFile) (o : MsgfmtOptions) (run : RunView) : Type 0 where
   pub catalogues : List (List TextEntry)
   pub read : AreRead (input_texts inputs) catalogues
   pub compiled : Compiled
@@ -102,19 +102,19 @@ pub record IsUnfit (inputs : List NamedFile) (o : MsgfmtOptions) (run : Report) 
   pub asked : o.profile_check ≡ true
   pub fault : Reported
   pub checked : AreChecked o.use_fuzzy catalogues (Some fault)
-  pub report : run ≡ refusal (check_line inputs fault)
+  pub run_is : run ≡ refusal (check_line inputs fault)
 
 -- the inputs are compiled, and where the check is asked for it reports no fault
-pub record IsDone (inputs : List NamedFile) (o : MsgfmtOptions) (run : Report) : Type 0 where
+pub record IsDone (inputs : List NamedFile) (o : MsgfmtOptions) (run : RunView) : Type 0 where
   pub catalogues : List (List TextEntry)
   pub read : AreRead (input_texts inputs) catalogues
   pub compiled : Compiled
   pub is_compiled : IsCompilation (compile_options o) (joined_entries catalogues) compiled
   pub checked : o.profile_check ≡ true → AreChecked o.use_fuzzy catalogues None
-  pub report : run ≡ compiled_run o compiled
+  pub run_is : run ≡ compiled_run o compiled
 
 -- what a run of msgfmt comes to
-abbrev pub IsMsgfmtRun : List NamedFile → MsgfmtOptions → Report → Type 0
+abbrev pub IsMsgfmtRun : List NamedFile → MsgfmtOptions → RunView → Type 0
 IsMsgfmtRun inputs o run = IsRefused inputs o run ⊎ IsUnfit inputs o run ⊎ IsDone inputs o run
 
 -- no input is refused: there is none, or they are compiled
@@ -126,5 +126,5 @@ abbrev pub AreNoneOrTooMany : List NamedFile → Type 0
 AreNoneOrTooMany inputs = (inputs ≡ []) ⊎ (2 ^ 32 ≤ length inputs)
 
 -- what a run of msgfmt comes to of one input with this name
-abbrev pub IsMsgfmtRunOf : List ℕ → MsgfmtOptions → List ℕ → Report → Type 0
+abbrev pub IsMsgfmtRunOf : List ℕ → MsgfmtOptions → List ℕ → RunView → Type 0
 IsMsgfmtRunOf name o text run = IsMsgfmtRun (record { name = name; bytes = text } ∷ []) o run

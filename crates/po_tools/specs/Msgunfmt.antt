@@ -6,7 +6,7 @@ use Rattle.po_unformat.specs.declared.fault.UnformatError.{UnformatError}
 use Rattle.po_unformat.specs.declared.fault.UnformatError.TheVariants.{Mo, NotUtf8, ForbiddenByte, ForeignCharset, OutOfMemory}
 use Rattle.po_tools.specs.FaultText.{fault_line, mo_text}
 use Rattle.po_tools.specs.NamedFile.{NamedFile}
-use Rattle.po_tools.specs.Run.{Report, refusal}
+use Rattle.po_tools.specs.Run.{RunView, refusal}
 
 -- why a file has no PO text
 abbrev pub unformat_text : UnformatError → List ℕ
@@ -21,26 +21,26 @@ abbrev pub unformat_line : List ℕ → UnformatError → List ℕ
 unformat_line name error = fault_line (codes "msgunfmt") name 0 (unformat_text error)
 
 -- the text, which is written where there is a message
-abbrev pub unformatted_run : List Message → List ℕ → Report
+abbrev pub unformatted_run : List Message → List ℕ → RunView
 unformatted_run messages text = record { output = text; create = nat_lt 0 (length messages); messages = []; status = 0 }
 
 -- the file has no text
-pub record HasNoText (file : NamedFile) (run : Report) : Type 0 where
+pub record HasNoText (file : NamedFile) (run : RunView) : Type 0 where
   pub error : UnformatError
   pub fault : IsUnformatFault file.bytes error
   pub not_memory : error ≢ OutOfMemory
-  pub report : run ≡ refusal (unformat_line file.name error)
+  pub run_is : run ≡ refusal (unformat_line file.name error)
 
 -- the file has a text
-pub record HasText (file : NamedFile) (run : Report) : Type 0 where
+pub record HasText (file : NamedFile) (run : RunView) : Type 0 where
   pub text : List ℕ
   pub unformatted : IsUnformatted file.bytes text
-  pub report : run ≡ unformatted_run unformatted.messages text
+  pub run_is : run ≡ unformatted_run unformatted.messages text
 
 -- what a run of msgunfmt comes to
-abbrev pub IsMsgunfmtRun : NamedFile → Report → Type 0
+abbrev pub IsMsgunfmtRun : NamedFile → RunView → Type 0
 IsMsgunfmtRun file run = HasNoText file run ⊎ HasText file run
 
 -- what a run of msgunfmt comes to of a file with this name
-abbrev pub IsMsgunfmtRunOf : List ℕ → List ℕ → Report → Type 0
+abbrev pub IsMsgunfmtRunOf : List ℕ → List ℕ → RunView → Type 0
 IsMsgunfmtRunOf name bytes run = IsMsgunfmtRun (record { name = name; bytes = bytes }) run

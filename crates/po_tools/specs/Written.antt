@@ -2,10 +2,10 @@
 use Rattle.std.specs.Prelude.{nat_lt, List, [], length}
 use Rattle.po_entry.specs.TextEntry.{TextEntry}
 use Rattle.po_writer.specs.WrittenText.{written_text}
-use Rattle.po_tools.specs.Run.{Report}
+use Rattle.po_tools.specs.Run.{RunView}
 
 -- the text of the entries, and a file where there is an entry
-abbrev pub written_run : List TextEntry → Report
+abbrev pub written_run : List TextEntry → RunView
 written_run entries = record {
   output = written_text entries;
   create = nat_lt 0 (length entries);

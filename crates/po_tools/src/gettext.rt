@@ -7,7 +7,7 @@ ghost use Rattle.mo_lookup.specs.Query.{given};
 ghost use Rattle.po_shell.specs.Counts.{count_in};
 ghost use Rattle.po_shell.specs.Escapes.{expansion, has_no_newline};
 ghost use Rattle.po_tools.specs.FaultText.{fault_line, mo_text};
-ghost use Rattle.po_tools.specs.Run.{report};
+ghost use Rattle.po_tools.specs.Run.{run_view};
 ghost use Rattle.po_tools.specs.Gettext as Spec;
 ghost use Rattle.po_tools.specs.GettextView.{gettext_view, ngettext_view};
 ghost use Rattle.po_tools.specs.NamedFile.{named_files};
@@ -226,7 +226,7 @@ pub fn plan_gettext(
 ) -> Result<Run, ToolFault>
     requires { length catalogues.now < 2 ^ 32 }
     ensures run { IfOk result (λ run. Spec.IsGettextRun (named_files catalogues.now) (gettext_view options.now)
-        (report run)) }
+        (run_view run)) }
     ensures fault { OnErr result (result ≡ Err ToolFault.OutOfMemory) }
 {
     let opened = open_all(alloc, "gettext", catalogues)?;
@@ -299,7 +299,7 @@ pub fn plan_ngettext(
 ) -> Result<Run, ToolFault>
     requires { length catalogues.now < 2 ^ 32 }
     ensures run { IfOk result (λ run. Spec.IsNgettextRun (named_files catalogues.now) (ngettext_view options.now)
-        (report run)) }
+        (run_view run)) }
     ensures fault { OnErr result (result ≡ Err ToolFault.OutOfMemory) }
 {
     let opened = open_all(alloc, "ngettext", catalogues)?;

@@ -3,7 +3,7 @@ ghost use Rattle.std.specs.Prelude.{◌≡◌, ◌≢◌, ◌⊎◌, ◌+◌, �
 ghost use Rattle.std.specs.Io.KnownBytes.{Keeps};
 ghost use Rattle.po_tools.specs.Delivered.{IsCut, IsDelivered};
 ghost use Rattle.po_tools.specs.Msgattrib.{IsMsgattribRun};
-ghost use Rattle.po_tools.specs.Run.{report};
+ghost use Rattle.po_tools.specs.Run.{run_view};
 
 use crate::run::{Run, deliver};
 use crate::selected_text::selected_text;
@@ -25,7 +25,7 @@ pub fn plan_msgattrib(
     name: &str,
     selection: &Selection,
 ) -> Result<Run, ToolFault>
-    ensures run { IfOk result (λ run. IsMsgattribRun name.now selection.now text.now (report run)) }
+    ensures run { IfOk result (λ run. IsMsgattribRun name.now selection.now text.now (run_view run)) }
     ensures memory { OnErr result (result ≡ Err ToolFault.OutOfMemory) }
 {
     match selected_text(alloc, text, selection)? {
@@ -41,7 +41,7 @@ fn plan_whole(
     name: &str,
     selection: &Selection,
 ) -> Result<Run, AllocError>
-    ensures { IfOk result (λ run. IsMsgattribRun name.now selection.now text.now (report run)) }
+    ensures { IfOk result (λ run. IsMsgattribRun name.now selection.now text.now (run_view run)) }
 {
     let catalogue = match read_distinct(alloc, text) {
         Ok(catalogue) => catalogue,

@@ -6,7 +6,7 @@ ghost use Rattle.po_merge.specs.Merged.{merged};
 ghost use Rattle.po_entry.specs.Validity.{out_of_memory};
 ghost use Rattle.po_tools.specs.Msgcat.{AreReadAs, IsFileFault, IsMergedText, IsMsgcatRun, IsUnread, first_name, keeps_all, msgcat_line};
 ghost use Rattle.po_tools.specs.NamedFile.{named_files};
-ghost use Rattle.po_tools.specs.Run.{refusal, report};
+ghost use Rattle.po_tools.specs.Run.{refusal, run_view};
 
 use crate::merged_text::merged_text;
 use crate::program_fault::ProgramFault;
@@ -99,7 +99,7 @@ pub fn plan_msgcat(
     options: &MergeOptions,
 ) -> Result<Run, ToolFault>
     requires { All (λ file. Lacks 0 file.name) (named_files inputs.now) }
-    ensures run { IfOk result (λ run. IsMsgcatRun (named_files inputs.now) options.now (report run)) }
+    ensures run { IfOk result (λ run. IsMsgcatRun (named_files inputs.now) options.now (run_view run)) }
     ensures memory { OnErr result (result ≡ Err ToolFault.OutOfMemory) }
 {
     match text_of_pieces(alloc, inputs, options)? {
@@ -115,7 +115,7 @@ fn plan_merged(
     options: &MergeOptions,
 ) -> Result<Run, AllocError>
     requires { All (λ file. Lacks 0 file.name) (named_files inputs.now) }
-    ensures { IfOk result (λ run. IsMsgcatRun (named_files inputs.now) options.now (report run)) }
+    ensures { IfOk result (λ run. IsMsgcatRun (named_files inputs.now) options.now (run_view run)) }
 {
     let catalogues = match read_files(alloc, inputs) {
         Ok(catalogues) => catalogues,
@@ -162,7 +162,7 @@ pub fn plan_msgcat_before<'a>(
     fault: ProgramFault<'a>,
 ) -> Result<Run, ProgramFault<'a>>
     requires { All (λ file. Lacks 0 file.name) (named_files inputs.now) }
-    ensures refused { IfOk result (λ run. IsUnread (named_files inputs.now) (report run)) }
+    ensures refused { IfOk result (λ run. IsUnread (named_files inputs.now) (run_view run)) }
     ensures fault { IfErr result (λ reported. (reported ≡ ProgramFault.OutOfMemory)
         ⊎ ((reported ≡ fault.entry) × ((read : List Input) × AreReadAs (named_files inputs.now) read))) }
 {

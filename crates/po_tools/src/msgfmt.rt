@@ -8,7 +8,7 @@ ghost use Rattle.po_tools.specs.Delivered.{IsCut, IsDelivered};
 ghost use Rattle.po_tools.specs.FaultText.{duplicate_text};
 ghost use Rattle.po_tools.specs.NamedFile.{named_files};
 ghost use Rattle.po_tools.specs.Msgfmt as Spec;
-ghost use Rattle.po_tools.specs.Run.{refusal, report};
+ghost use Rattle.po_tools.specs.Run.{refusal, run_view};
 
 use crate::fault_text::{push_location, push_numbered, push_po_text};
 use crate::profile::{CheckFault, check_entries};
@@ -207,7 +207,7 @@ fn push_check_text(out: &mut Vec<u8>, fault: CheckFault) -> Result<(), AllocErro
 /// The run of inputs that aren't compiled.
 fn refused_run(alloc: Global, inputs: &[(&str, &[u8])], error: JoinError) -> Result<Run, AllocError>
     ensures { IfOk result (λ run. (error.error.kind ≢ PoFault.OutOfMemory)
-        × (report run ≡ refusal (Spec.join_line (named_files inputs.now) error))) }
+        × (run_view run ≡ refusal (Spec.join_line (named_files inputs.now) error))) }
 {
     if error.error.kind == PoFault::OutOfMemory {
         return Err(AllocError);
@@ -232,7 +232,7 @@ fn unfit_run(
     fault: CheckFault,
 ) -> Result<Run, AllocError>
     ensures { IfOk result (λ run. (fault ≢ CheckFault.OutOfMemory)
-        × (report run ≡ refusal (Spec.check_line (named_files inputs.now) (input, fault)))) }
+        × (run_view run ≡ refusal (Spec.check_line (named_files inputs.now) (input, fault)))) }
 {
     if fault == CheckFault::OutOfMemory {
         return Err(AllocError);
@@ -255,7 +255,7 @@ fn compiled_run(
     options: &MsgfmtOptions,
     compiled: Compiled,
 ) -> Result<Run, AllocError>
-    ensures { IfOk result (λ run. report run ≡ Spec.compiled_run options.now compiled) }
+    ensures { IfOk result (λ run. run_view run ≡ Spec.compiled_run options.now compiled) }
 {
     let messages = match options.statistics {
         true => compiled.stats.line(alloc).map_err(|_| AllocError)?,
@@ -284,7 +284,7 @@ fn plan_catalogues(
 ) -> Result<Run, AllocError>
     requires few { length catalogues.items < 2 ^ 32 }
     requires read { AreRead (Spec.input_texts (named_files inputs.now)) catalogues.items }
-    ensures { IfOk result (λ run. Spec.IsMsgfmtRun (named_files inputs.now) options.now (report run)) }
+    ensures { IfOk result (λ run. Spec.IsMsgfmtRun (named_files inputs.now) options.now (run_view run)) }
 {
     let checked = checked(alloc, &catalogues, options);
     let compile_options = Options {
@@ -311,7 +311,7 @@ fn plan_compiled(
     requires few { length texts.now < 2 ^ 32 }
     requires texts { slice_texts texts.now ≡ Spec.input_texts (named_files inputs.now) }
     requires unchecked { options.now.profile_check ≡ false }
-    ensures { IfOk result (λ run. Spec.IsMsgfmtRun (named_files inputs.now) options.now (report run)) }
+    ensures { IfOk result (λ run. Spec.IsMsgfmtRun (named_files inputs.now) options.now (run_view run)) }
 {
     let compile_options = Options {
         use_fuzzy: options.use_fuzzy,
@@ -336,7 +336,7 @@ pub fn plan_msgfmt(
 ) -> Result<Run, ToolFault>
     requires some { 0 < length inputs.now }
     requires few { length inputs.now < 2 ^ 32 }
-    ensures run { IfOk result (λ run. Spec.IsMsgfmtRun (named_files inputs.now) options.now (report run)) }
+    ensures run { IfOk result (λ run. Spec.IsMsgfmtRun (named_files inputs.now) options.now (run_view run)) }
     ensures memory { OnErr result (result ≡ Err ToolFault.OutOfMemory) }
 {
     let texts = texts_of(alloc, inputs)?;

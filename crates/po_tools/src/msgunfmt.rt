@@ -4,7 +4,7 @@ ghost use Rattle.std.specs.Io.KnownBytes.{Keeps};
 ghost use Rattle.po_unformat.specs.Unformatting.{IsUnformatted};
 ghost use Rattle.po_tools.specs.Delivered.{IsCut, IsDelivered};
 ghost use Rattle.po_tools.specs.Msgunfmt.{IsMsgunfmtRun, IsMsgunfmtRunOf, unformat_line, unformat_text, unformatted_run};
-ghost use Rattle.po_tools.specs.Run.{refusal, report};
+ghost use Rattle.po_tools.specs.Run.{refusal, run_view};
 
 use crate::fault_text::{push_location, push_mo_text, push_numbered};
 use crate::run::{Run, deliver, refused};
@@ -34,7 +34,7 @@ fn push_unformat_text(out: &mut Vec<u8>, error: UnformatError) -> Result<(), All
 /// The run of a file that has no text.
 fn refused_run(alloc: Global, name: &str, error: UnformatError) -> Result<Run, AllocError>
     ensures { IfOk result (λ run. (error ≢ UnformatError.OutOfMemory)
-        × (report run ≡ refusal (unformat_line name.now error))) }
+        × (run_view run ≡ refusal (unformat_line name.now error))) }
 {
     if error == UnformatError::OutOfMemory {
         return Err(AllocError);
@@ -49,7 +49,7 @@ fn refused_run(alloc: Global, name: &str, error: UnformatError) -> Result<Run, A
 /// The run of a file that has a text.
 fn unformatted_run(alloc: Global, text: Vec<u8>) -> Run
     ensures { (bytes : List ℕ) (file : IsUnformatted bytes text.items)
-        → report result ≡ unformatted_run file.messages text.items }
+        → run_view result ≡ unformatted_run file.messages text.items }
 {
     empty_text();
     let create = text.len() > 0;
@@ -64,7 +64,7 @@ fn unformatted_run(alloc: Global, text: Vec<u8>) -> Run
 /// What `msgunfmt` writes and reports of a file with this name: its PO text, where it has a message. A file that has no
 /// text is reported by one line, with status 1. Refused only where an allocation failed.
 pub fn plan_msgunfmt(alloc: Global, bytes: &[u8], name: &str) -> Result<Run, ToolFault>
-    ensures run { IfOk result (λ run. IsMsgunfmtRun (record { name = name.now; bytes = bytes.now }) (report run)) }
+    ensures run { IfOk result (λ run. IsMsgunfmtRun (record { name = name.now; bytes = bytes.now }) (run_view run)) }
     ensures memory { OnErr result (result ≡ Err ToolFault.OutOfMemory) }
 {
     match unformat(alloc, bytes) {

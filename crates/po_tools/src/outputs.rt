@@ -3,7 +3,7 @@ ghost use Rattle.std.specs.Prelude.{◌≡◌, None, Some, Err, IfErr, IfOk, Mat
 ghost use Rattle.std.specs.Io.KnownBytes.{Appends};
 ghost use Rattle.po_tools.specs.Outputs.{IsUnwritten, Writes};
 ghost use Rattle.po_tools.specs.ProgramFaults.{program_text};
-ghost use Rattle.po_tools.specs.Run.{report};
+ghost use Rattle.po_tools.specs.Run.{run_view};
 
 use crate::program_fault::ProgramFault;
 use crate::run::{Run, deliver};
@@ -22,25 +22,25 @@ pub enum Unwritten {
 /// Where runs are written: the files of a system, its standard output and its standard error.
 pub trait OutputTarget {
     ghost use Rattle.std.specs.Prelude.{ℕ, List, Option};
-    ghost use Rattle.po_tools.specs.Run.{Report};
+    ghost use Rattle.po_tools.specs.Run.{RunView};
     ghost use Rattle.po_tools.specs.declared.outputs.Unwritten.{Unwritten};
 
     // What writing a run to the file of a name may come to: all of it, or why not.
-    ghost file: { Self → List ℕ → Report → Option Unwritten → Type 0 };
+    ghost file: { Self → List ℕ → RunView → Option Unwritten → Type 0 };
 
     // What writing a run to standard output may come to.
-    ghost standard: { Self → Report → Option Unwritten → Type 0 };
+    ghost standard: { Self → RunView → Option Unwritten → Type 0 };
 
     /// Makes the file of this name, and writes the run's output to it and its messages to standard
     /// error.
     fn write_file(self, run: &Run, name: &str) -> Result<(), Unwritten>
-        ensures { MatchResult result (λ _. file self name.now (report run.now) None)
-            (λ why. file self name.now (report run.now) (Some why)) };
+        ensures { MatchResult result (λ _. file self name.now (run_view run.now) None)
+            (λ why. file self name.now (run_view run.now) (Some why)) };
 
     /// Writes the run's output to standard output and its messages to standard error.
     fn write_standard(self, run: &Run) -> Result<(), Unwritten>
-        ensures { MatchResult result (λ _. standard self (report run.now) None)
-            (λ why. standard self (report run.now) (Some why)) };
+        ensures { MatchResult result (λ _. standard self (run_view run.now) None)
+            (λ why. standard self (run_view run.now) (Some why)) };
 }
 
 /// Writes a run by the argument for its output: to the file that is made for it, or to standard
@@ -50,10 +50,11 @@ pub fn write_run<'a, T: OutputTarget>(
     run: &Run,
     argument: &'a str,
 ) -> Result<u8, ProgramFault<'a>>
-    ensures written { IfOk result (λ _. Writes (T.file target) (T.standard target) argument.now (report run.now) None) }
-    ensures status { IfOk result (λ status. status ≡ (report run.now).status) }
+    ensures written { IfOk result (λ _. Writes (T.file target) (T.standard target) argument.now (run_view run.now)
+        None) }
+    ensures status { IfOk result (λ status. status ≡ (run_view run.now).status) }
     ensures fault { IfErr result (λ reported.
-        IsUnwritten (T.file target) (T.standard target) argument.now (report run.now) (program_text reported)) }
+        IsUnwritten (T.file target) (T.standard target) argument.now (run_view run.now) (program_text reported)) }
 {
     let written = match run.output_file(argument) {
         Some(name) => target.write_file(run, name),
@@ -74,9 +75,9 @@ pub fn write_whole<O: Write + Drop, E: Write + Drop>(
     errors: E,
 ) -> Result<(O, E), Unwritten>
     ensures output { IfOk result (λ written. Appends (O.contents output) (O.contents written.0)
-        (report run.now).output) }
+        (run_view run.now).output) }
     ensures messages { IfOk result (λ written.
-        Appends (E.contents errors) (E.contents written.1) (report run.now).messages) }
+        Appends (E.contents errors) (E.contents written.1) (run_view run.now).messages) }
     ensures fault { OnErr result (result ≡ Err Unwritten.WriteFault) }
 {
     let mut output = Counted::new(output);

@@ -2,7 +2,7 @@
 ghost use Rattle.std.specs.Prelude.{◌≡◌, ◌+◌, ◌^◌, ◌<◌, Err, OnOk, OnErr};
 ghost use Rattle.std.specs.Io.KnownBytes.{Appends};
 ghost use Rattle.std.specs.Option.{option_copied};
-ghost use Rattle.po_tools.specs.Run.{report, output_file, refusal, shown_name, DeliversPrefix};
+ghost use Rattle.po_tools.specs.Run.{run_view, output_file, refusal, shown_name, DeliversPrefix};
 
 use po_shell::{ByteOut, ToolFault, put_all};
 use std::alloc::Global;
@@ -42,7 +42,7 @@ impl Run {
     /// The file that is made for the output, by the argument for it, where there is something to write
     /// and the argument isn't that for standard output.
     pub fn output_file<'a>(&self, argument: &'a str) -> Option<&'a str>
-        ensures { option_copied result ≡ output_file (report self.now) argument.now }
+        ensures { option_copied result ≡ output_file (run_view self.now) argument.now }
     {
         if self.create && argument != STANDARD {
             Some(argument)
@@ -55,7 +55,7 @@ impl Run {
 /// The run of inputs that are refused: nothing is written, and these messages report why. It takes no
 /// memory.
 pub(crate) fn refused(alloc: Global, messages: Vec<u8>) -> Run
-    ensures { report result ≡ refusal messages.items }
+    ensures { run_view result ≡ refusal messages.items }
 {
     Run {
         output: Vec::new(alloc),
@@ -71,10 +71,10 @@ pub(crate) fn refused(alloc: Global, messages: Vec<u8>) -> Run
 pub fn deliver<O: ByteOut, E: ByteOut>(run: &Run, out: &mut O, err: &mut E) -> Result<(), ToolFault>
     requires out { O.failures out.old < 2 ^ 63 }
     requires err { E.failures err.old < 2 ^ 63 }
-    ensures output { OnOk result (Appends (O.contents out.old) (O.contents out.new) (report run.now).output) }
-    ensures messages { OnOk result (Appends (E.contents err.old) (E.contents err.new) (report run.now).messages) }
+    ensures output { OnOk result (Appends (O.contents out.old) (O.contents out.new) (run_view run.now).output) }
+    ensures messages { OnOk result (Appends (E.contents err.old) (E.contents err.new) (run_view run.now).messages) }
     ensures prefix { OnErr result (DeliversPrefix (O.contents out.old) (O.contents out.new) (E.contents err.old)
-        (E.contents err.new) (report run.now)) }
+        (E.contents err.new) (run_view run.now)) }
     ensures fault { OnErr result (result ≡ Err ToolFault.WriteFault) }
     ensures out_failures { OnOk result (O.failures out.new ≡ O.failures out.old) }
     ensures err_failures { OnOk result (E.failures err.new ≡ E.failures err.old) }

@@ -8,7 +8,7 @@ ghost use Rattle.po_tools.specs.Msgcat.{AreReadAs, HasNulName, IsMsgcatRun, IsUn
 ghost use Rattle.po_tools.specs.Msgfmt.{AreTaken, AreNoneOrTooMany, IsMsgfmtRun, IsRefused};
 ghost use Rattle.po_tools.specs.NamedFile.{named_files};
 ghost use Rattle.po_tools.specs.ProgramFaults.{program_text};
-ghost use Rattle.po_tools.specs.Run.{report};
+ghost use Rattle.po_tools.specs.Run.{run_view};
 
 use crate::inputs::{Input, Inputs};
 use crate::msgcat::{plan_msgcat, plan_msgcat_before};
@@ -28,7 +28,7 @@ pub fn plan_msgfmt_before<'a>(
     options: &MsgfmtOptions,
 ) -> Result<Run, ProgramFault<'a>>
     requires { length inputs.now < 2 ^ 32 }
-    ensures refused { IfOk result (λ run. IsRefused (named_files inputs.now) options.now (report run)) }
+    ensures refused { IfOk result (λ run. IsRefused (named_files inputs.now) options.now (run_view run)) }
     ensures fault { IfErr result (λ reported. (reported ≡ ProgramFault.OutOfMemory)
         ⊎ ((reported ≡ fault.entry) × AreTaken (named_files inputs.now) options.now)) }
 {
@@ -54,9 +54,9 @@ pub fn plan_msgfmt_of<'a>(
     options: &MsgfmtOptions,
 ) -> Result<Run, ProgramFault<'a>>
     ensures whole { inputs.now.fault ≡ None
-        → IfOk result (λ run. IsMsgfmtRun (named_inputs inputs.now.texts.items) options.now (report run)) }
+        → IfOk result (λ run. IsMsgfmtRun (named_inputs inputs.now.texts.items) options.now (run_view run)) }
     ensures refused { inputs.now.fault ≢ None
-        → IfOk result (λ run. IsRefused (named_inputs inputs.now.texts.items) options.now (report run)) }
+        → IfOk result (λ run. IsRefused (named_inputs inputs.now.texts.items) options.now (run_view run)) }
     ensures fault { IfErr result (λ reported. (reported ≡ ProgramFault.OutOfMemory)
         ⊎ ((reported ≡ ProgramFault.WrongArguments) × AreNoneOrTooMany (named_inputs inputs.now.texts.items))
         ⊎ ((inputs.now.fault ≡ Some reported) × AreTaken (named_inputs inputs.now.texts.items) options.now)) }
@@ -78,7 +78,7 @@ fn plan_all<'a>(
     options: &MsgfmtOptions,
 ) -> Result<Run, ProgramFault<'a>>
     requires { length inputs.now < 2 ^ 32 }
-    ensures run { IfOk result (λ run. IsMsgfmtRun (named_files inputs.now) options.now (report run)) }
+    ensures run { IfOk result (λ run. IsMsgfmtRun (named_files inputs.now) options.now (run_view run)) }
     ensures fault { IfErr result (λ reported. (reported ≡ ProgramFault.OutOfMemory)
         ⊎ ((reported ≡ ProgramFault.WrongArguments) × (named_files inputs.now ≡ []))) }
 {
@@ -96,9 +96,9 @@ pub fn plan_msgcat_of<'a>(
     options: &MergeOptions,
 ) -> Result<Run, ProgramFault<'a>>
     ensures whole { inputs.now.fault ≡ None
-        → IfOk result (λ run. IsMsgcatRun (named_inputs inputs.now.texts.items) options.now (report run)) }
+        → IfOk result (λ run. IsMsgcatRun (named_inputs inputs.now.texts.items) options.now (run_view run)) }
     ensures refused { inputs.now.fault ≢ None
-        → IfOk result (λ run. IsUnread (named_inputs inputs.now.texts.items) (report run)) }
+        → IfOk result (λ run. IsUnread (named_inputs inputs.now.texts.items) (run_view run)) }
     ensures fault { IfErr result (λ reported. (reported ≡ ProgramFault.OutOfMemory)
         ⊎ (HasNulName (named_inputs inputs.now.texts.items) (program_text reported))
         ⊎ ((inputs.now.fault ≡ Some reported)

@@ -3,7 +3,7 @@ ghost use Rattle.std.specs.Prelude.{◌≡◌, ◌≢◌, All, IfOk, List, OnOk}
 ghost use Rattle.po_entry.specs.TextEntry.{TextEntry};
 ghost use Rattle.po_entry.specs.Validity.{IsCatalogueEntry};
 ghost use Rattle.po_tools.specs.FaultText.{text_line};
-ghost use Rattle.po_tools.specs.Run.{refusal, report};
+ghost use Rattle.po_tools.specs.Run.{refusal, run_view};
 ghost use Rattle.po_tools.specs.Written.{written_run};
 ghost use Rattle.po_writer.specs.WrittenText.{written_text};
 
@@ -22,7 +22,7 @@ pub(crate) fn refused_text(
     error: PoError,
 ) -> Result<Run, AllocError>
     ensures run { IfOk result (λ run. (error.kind ≢ PoFault.OutOfMemory)
-        × (report run ≡ refusal (text_line tool.now name.now error))) }
+        × (run_view run ≡ refusal (text_line tool.now name.now error))) }
 {
     if error.kind == PoFault::OutOfMemory {
         return Err(AllocError);
@@ -36,7 +36,7 @@ pub(crate) fn refused_text(
 
 /// The run of a tool that writes this catalogue: its text, and a file where it has an entry.
 pub(crate) fn written_run(alloc: Global, catalogue: &Catalogue) -> Result<Run, AllocError>
-    ensures run { IfOk result (λ run. report run ≡ written_run catalogue.now) }
+    ensures run { IfOk result (λ run. run_view run ≡ written_run catalogue.now) }
     ensures valid { OnOk result (All IsCatalogueEntry catalogue.now) }
 {
     let output = write(alloc, catalogue).map_err(|_| AllocError)?;
@@ -50,7 +50,7 @@ pub(crate) fn written_run(alloc: Global, catalogue: &Catalogue) -> Result<Run, A
 
 /// The run of a tool that writes this text of a catalogue.
 pub(crate) fn text_run(alloc: Global, output: Vec<u8>) -> Run
-    ensures { (entries : List TextEntry) → output.items ≡ written_text entries → report result ≡ written_run entries }
+    ensures { (entries : List TextEntry) → output.items ≡ written_text entries → run_view result ≡ written_run entries }
 {
     some_entry_is_written();
     let create = output.len() > 0;

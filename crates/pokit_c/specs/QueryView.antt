@@ -1,6 +1,6 @@
 -- What C asks, and what it is answered, in the words of mo_lookup.
 use Rattle.std.specs.Prelude.{Some, None, if◌then◌else◌}
-use Rattle.mo_lookup.specs.Answer.{Outcome}
+use Rattle.mo_lookup.specs.Answer.{AnswerView}
 use Rattle.mo_lookup.specs.Query.{Query}
 use Rattle.pokit_c.specs.declared.query.PokitAnswer.{PokitAnswer}
 use Rattle.pokit_c.specs.declared.query.PokitQuery.{PokitQuery}
@@ -14,5 +14,5 @@ query_view query = record {
 }
 
 -- what an answer says
-abbrev pub answer_view : PokitAnswer → Outcome
+abbrev pub answer_view : PokitAnswer → AnswerView
 answer_view answer = record { text = answer.text.now; found = answer.found; steps = answer.steps }

@@ -1,12 +1,12 @@
 use Rattle.std.proofs.Common.{subst}
 use Rattle.std.specs.Prelude.{IfSome}
-use Rattle.po_tools.specs.Run.{report}
+use Rattle.po_tools.specs.Run.{run_view}
 use Rattle.po_tools.specs.SelectedText.{IsSelectedText}
 use Rattle.po_tools.proofs.SelectedLemmas.{run_done}
 use Rattle.po_tools.proofs.msgattrib.plan_msgattrib.Goals as goal
 
 pub returns-in-Some-clause-run : goal.returns-in-Some-clause-run
 returns-in-Some-clause-run c =
-    run_done c.args.name.now c.args.text.now c.args.selection.now c.in-Some.output.items (report c.text_run.result)
+    run_done c.args.name.now c.args.text.now c.args.selection.now c.in-Some.output.items (run_view c.text_run.result)
     (subst (λ found. IfSome found (λ written. IsSelectedText c.args.selection.now c.args.text.now written.items)) c.in-Some.is c.in_ok-output.ensures)
     c.text_run.ensures

@@ -12,5 +12,5 @@ returns-clause-run c =
       error = c.in-Err.error;
       fault = inl (rw (c.deref-2.ensures.value, c.in_ok-texts.ensures) at c.in-Err.ensures);
       not_memory = c.in_ok-refused_run-in-Err.ensures.0;
-      report = c.in_ok-refused_run-in-Err.ensures.1;
+      run_is = c.in_ok-refused_run-in-Err.ensures.1;
     })
