@@ -1,4 +1,5 @@
--- What spells a string between double quotes, with a case for each escape (manual, "The Format of PO Files").
+-- What spells a string between double quotes, with a case for each escape (manual, "The Format of
+-- PO Files").
 use Rattle.std.specs.Prelude.{◌≡◌, ◌≢◌, ◌⊎◌, ℕ, ◌<◌, ◌≤◌, List, [], ◌∷◌, ◌++◌, length}
 use Rattle.std.specs.Char.{digit_value}
 use Rattle.std.specs.Str.Parse.{IsNumeral, digits_value}
@@ -12,8 +13,9 @@ NoDigitFirst base (b ∷ text) = base ≤ digit_value b
 abbrev pub IsByteNumber : ℕ → Type 0
 IsByteNumber number = (0 < number) × (number < 256)
 
--- After a backslash the text spells this byte, and the rest stands after the escape. One to three octal digits
--- number the byte, as many as there are up to three, or `x` and hex digits, all that follow.
+-- After a backslash the text spells this byte, and the rest stands after the escape. One to three
+-- octal digits number the byte, as many as there are up to three, or `x` and hex digits, all that
+-- follow.
 pub data SpellsEscape : List ℕ → ℕ → List ℕ → Type 0 where
   alert : {rest : List ℕ} → SpellsEscape (97 ∷ rest) 7 rest
   backspace : {rest : List ℕ} → SpellsEscape (98 ∷ rest) 8 rest

@@ -16,7 +16,8 @@ pub record IsComment (text : List ℕ) : Type 0 where
   pub one_line : All (λ b. b ≢ 10) text
   pub no_final_return : trim_returns text ≡ text
 
--- A comment of this kind. A translator's begins with no character that marks another kind of line: none of `.:,|~`.
+-- A comment of this kind. A translator's begins with no character that marks another kind of line:
+-- none of `.:,|~`.
 pub record IsCommentOf (kind : CommentKind) (text : List ℕ) : Type 0 where
   pub comment : IsComment text
   pub plain : kind ≡ Translator → (b : ℕ) (rest : List ℕ) → text ≡ b ∷ rest → Contains (codes ".:,|~") b → ⊥

@@ -1,4 +1,6 @@
 -- The lines of a PO text: comments, and tokens under marks (manual, "The Format of PO Files").
+-- This is how a line is read, token by token; `Spelling` has what spells it, with a case for each
+-- form, and `LineFaults` its first fault.
 use Rattle.std.specs.Prelude.{◌≡◌, ℕ, ◌-◌, ◌==◌, true, false, if◌then◌else◌, List, [], ◌∷◌, length, take}
 use Rattle.std.specs.List.{suffix_len}
 use Rattle.po_syntax.specs.declared.fault.PoFault.{PoFault}

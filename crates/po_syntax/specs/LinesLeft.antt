@@ -1,4 +1,5 @@
--- The lines of a text that are left to be read, for a text that is read in pieces (manual, "The Format of PO Files").
+-- The lines of a text that are left to be read, for a text that is read in pieces (manual, "The
+-- Format of PO Files").
 use Rattle.std.specs.Prelude.{ℕ, ◌+◌, ◌≤◌, ◌^◌, List, [], ◌∷◌, length, Option, Some, None}
 use Rattle.std.specs.Borrow.{Bor}
 use Rattle.po_syntax.specs.PoText.{SpellsLines, LinesStop, lines_of}

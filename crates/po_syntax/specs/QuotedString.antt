@@ -1,5 +1,6 @@
 -- A string between double quotes, with the escapes of C (manual, "The Format of PO Files").
--- A text here is what is left of a line, so that its end is the line's end.
+-- A text here is what is left of a line, so that its end is the line's end. This is how a string is
+-- read, step by step; `Escapes` has what spells it, with a case for each escape.
 use Rattle.std.specs.Prelude.{◌≡◌, ℕ, ◌==◌, nat_lt, if◌then◌else◌, List, [], ◌∷◌, take, drop, Option, Some, None}
 use Rattle.std.specs.List.{prefix_len}
 use Rattle.std.specs.Char.{is_digit}

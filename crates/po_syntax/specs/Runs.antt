@@ -1,4 +1,5 @@
--- The runs at the start and at the end of a list, of the elements that pass a test. Lemmas over any test, which no clause can say.
+-- The runs at the start and at the end of a list, of the elements that pass a test. Lemmas over any
+-- test, which no clause can say.
 use Rattle.std.proofs.Common.{◌≡◌, ◌∙◌, refl, sym, ap, subst, ℕ, suc, ◌+◌, ◌-◌, ◌≤◌, Bool, true, false, cond, List, [], ◌∷◌, ◌++◌, append_assoc, append-nil, take, drop, length, reverse, All, arith}
 use Rattle.std.specs.List.{prefix_len, suffix_len, list_all}
 use Rattle.std.proofs.lemmas.Bool.{and_parts, cond-true, cond-false}

@@ -1,4 +1,5 @@
--- What spells the items of a line, with a case for each form of a line and of a token (manual, "The Format of PO Files").
+-- What spells the items of a line, with a case for each form of a line and of a token (manual, "The
+-- Format of PO Files").
 use Rattle.std.specs.Prelude.{◌≡◌, ◌≢◌, ℕ, ◌^◌, ◌<◌, ◌≤◌, Bool, true, false, List, [], ◌∷◌, ◌++◌, All, codes}
 use Rattle.std.specs.Str.Parse.{IsNumeral, digits_value}
 use Rattle.po_syntax.specs.declared.item.CommentKind.{CommentKind}
@@ -33,7 +34,8 @@ EndsWord (b ∷ text) = IsWordByte b → ⊥
 abbrev pub HasNoBracket : List ℕ → Type 0
 HasNoBracket text = (blanks rest : List ℕ) → All IsBlank blanks → text ≡ blanks ++ 91 ∷ rest → ⊥
 
--- The text begins with this keyword, and the rest stands after it. After `msgstr` a bracket, an index and a closing bracket may follow, with blanks before and between them.
+-- The text begins with this keyword, and the rest stands after it. After `msgstr` a bracket, an
+-- index and a closing bracket may follow, with blanks before and between them.
 pub data SpellsKeyword : List ℕ → Keyword → List ℕ → Type 0 where
   msgctxt : {rest : List ℕ} → EndsWord rest → SpellsKeyword (codes "msgctxt" ++ rest) MsgCtxt rest
   msgid : {rest : List ℕ} → EndsWord rest → SpellsKeyword (codes "msgid" ++ rest) MsgId rest
@@ -78,7 +80,8 @@ pub record IsWithoutReturns (text kept : List ℕ) : Type 0 where
 abbrev pub marked : Bool → Bool → Marks
 marked obsolete previous = record { obsolete = obsolete; previous = previous }
 
--- the line of this number holds these items: tokens, which are marked after `#|`, `#~` and `#~|`, or a comment, which may stand after `#~`
+-- the line of this number holds these items: tokens, which are marked after `#|`, `#~` and `#~|`,
+-- or a comment, which may stand after `#~`
 pub data HoldsItems (line : ℕ) : List ℕ → List TextItem → Type 0 where
   indented : {b : ℕ} {text : List ℕ} {items : List TextItem} → IsBlank b → HoldsItems line text items → HoldsItems line (b ∷ text) items
   comment : {kind : CommentKind} {text rest shown : List ℕ} → SpellsComment text kind rest → IsWithoutReturns rest shown → HoldsItems line (35 ∷ text) (Comment kind shown line ∷ [])

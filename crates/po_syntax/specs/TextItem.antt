@@ -7,7 +7,8 @@ use Rattle.po_syntax.specs.declared.item.Marks.{Marks}
 use Rattle.po_syntax.specs.declared.item.Item.{Item}
 use Rattle.po_syntax.specs.declared.item.Item.TheVariants as code
 
--- An item, with its line: a comment with its text, a keyword, or the bytes that a quoted string spells.
+-- An item, with its line: a comment with its text, a keyword, or the bytes that a quoted string
+-- spells.
 pub data TextItem : Type 0 where
   Comment : CommentKind → List ℕ → ℕ → TextItem
   Word : Keyword → Marks → ℕ → TextItem

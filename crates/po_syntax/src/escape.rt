@@ -33,7 +33,8 @@ pub(crate) fn number_of(base: u32, digits: &[u8]) -> Option<u32>
     Some(number)
 }
 
-/// The byte that the first `count` bytes of the text, digits of the base, number.
+/// The byte whose number the first `count` bytes of the text write, which are digits of the base.
+/// Refused with `ForbiddenByte` for 0, and with `BadEscape` above 255.
 fn numbered_byte(base: u32, count: usize, text: &[u8]) -> Result<(u8, &[u8]), PoFault>
     requires least { 2 ≤ base }
     requires most { base ≤ 36 }

@@ -10,7 +10,7 @@ pub enum PoFault {
     /// The text, or a joined text of an entry, is not UTF-8.
     #[error("not UTF-8")]
     NotUtf8,
-    /// No token, keyword or prefix of a line stands there.
+    /// A byte or word where no comment, keyword, index or string of a line goes on.
     #[error("unexpected byte or word")]
     BadToken,
     /// A line or the text ends inside a quoted string.
@@ -28,7 +28,7 @@ pub enum PoFault {
     /// The index of a `msgstr` is not the next one, or is above 4,294,967,295.
     #[error("wrong plural index")]
     BadPluralIndex,
-    /// An entry's own lines are partly obsolete, partly not.
+    /// The lines of an entry's body are partly obsolete, partly live.
     #[error("live and obsolete lines mixed")]
     MixedObsolete,
     /// A live entry has the context and msgid of an earlier one, which begins at this line.

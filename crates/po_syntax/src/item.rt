@@ -5,11 +5,11 @@ use std::borrow::CowSlice;
 pub enum Keyword {
     /// `msgctxt`: a context follows.
     MsgCtxt,
-    /// `msgid`: an original follows.
+    /// `msgid`: a msgid follows.
     MsgId,
-    /// `msgid_plural`: the plural of an original follows.
+    /// `msgid_plural`: the plural of a msgid follows.
     MsgIdPlural,
-    /// `msgstr` without an index: a translation follows.
+    /// `msgstr` without an index: the only form follows.
     MsgStr,
     /// `msgstr[i]`: the plural form with this index, counted from 0, follows.
     MsgStrAt(u32),
@@ -18,11 +18,11 @@ pub enum Keyword {
 /// What a comment is for, by the character after its `#`.
 #[derive(Clone, Copy, Debug, PartialEq, Eq)]
 pub enum CommentKind {
-    /// `#` and any other character: a comment of the translator.
+    /// `#` at the line's end, or before a byte other than `.:,|~`: a translator's comment.
     Translator,
     /// `#.`: a comment extracted from the program.
     Extracted,
-    /// `#:`: references to the program.
+    /// `#:`: references to places in the program.
     Reference,
     /// `#,`: flags.
     Flags,
@@ -33,7 +33,7 @@ pub enum CommentKind {
 pub struct Marks {
     /// `#~`: the line belongs to an obsolete entry.
     pub obsolete: bool,
-    /// `#|` or `#~|`: the line gives a previous context or original.
+    /// `#|` or `#~|`: the line belongs to a previous text.
     pub previous: bool,
 }
 

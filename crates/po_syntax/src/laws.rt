@@ -66,8 +66,9 @@ pub fn lines_are_spelt()
         → SpellsLine line text items ↔ HoldsItems line text items }
 {}
 
-/// A line is read up to its first fault: the first place where no form of a line, a keyword, an index,
-/// a string or an escape goes on. It has one such fault at most, and none where it holds items.
+/// A line is read up to its first fault: the first place where no form of a line, a keyword, an
+/// index, a string or an escape goes on. It has one such fault at most, and none where it holds
+/// items.
 pub fn line_faults_are_first()
     ensures { (text : List ℕ) (fault : PoFault) → LineFault text fault → LineStops text fault }
 {}

@@ -12,8 +12,8 @@ use crate::text::{add_numbered_line, checked, first_line};
 use std::alloc::Global;
 use std::marker::Model;
 
-/// A PO text that is read in pieces, each of which ends after an entry: what of it is left to be read, and the number
-/// of the next line, counted from 1 (manual, "The Format of PO Files").
+/// A PO text that is read in pieces, each of which ends after an entry: the text that is left to be
+/// read, and the number of its first line, counted from 1 (manual, "The Format of PO Files").
 #[derive(Drop)]
 pub struct Pieces<'a> {
     rest: Option<&'a [u8]>,
@@ -51,7 +51,8 @@ fn ends_in_string(items: &[Item<'_>]) -> bool
     matches!(items.last(), Some(Item::Str(..)))
 }
 
-/// The items of the lines from the one with this number on, up to an empty line after an entry of a piece of this size.
+/// The items of the lines from the one with this number on: of this many bytes, and of all that
+/// follow up to an empty line after a string, or to the end of the text.
 fn read_piece<'a>(
     alloc: Global,
     text: &'a [u8],
@@ -103,8 +104,9 @@ fn read_piece<'a>(
 }
 
 impl<'a> Pieces<'a> {
-    /// The whole text, of which nothing is read yet. Refused with `TooLarge`, without a line, above 2,147,483,647
-    /// bytes; with `NotUtf8` at the first byte that is not; with `ForbiddenByte` at the first NUL.
+    /// The whole text, of which nothing is read yet. Refused with `TooLarge`, without a line, above
+    /// 2,147,483,647 bytes; with `NotUtf8` at the first byte that is not; with `ForbiddenByte` at
+    /// the first NUL.
     pub fn of(text: &'a [u8]) -> Result<Pieces<'a>, PoError>
         ensures found { IfOk result (λ left. (items : List TextItem) → SpellsLeft left items
             → SpellsText text.now items) }
@@ -128,10 +130,11 @@ impl<'a> Pieces<'a> {
         self.rest.is_none()
     }
 
-    /// The items of the next piece: of this many bytes, and of all that follow up to an empty line after a string, or to
-    /// the end of the text. A comment is in one piece with the entry after it. Where the lines that are left spell
-    /// items, they spell those of the piece and then those of the rest. Refused with the leftmost fault of a line, or
-    /// as out of memory, and then as much is left as before.
+    /// The items of the next piece: of this many bytes, and of all that follow up to an empty line
+    /// after a string, or to the end of the text. A comment is in one piece with the entry after
+    /// it. Where the lines that are left spell items, they spell those of the piece and then those
+    /// of the rest. Refused with the leftmost fault of the first line that has one, or with
+    /// `OutOfMemory`; then as much is left as before.
     pub fn next(&mut self, alloc: Global, size: usize) -> Result<Vec<Item<'a>>, PoError>
         ensures found { IfOk result (λ items. (more : List TextItem) → SpellsLeft self.new more
             → SpellsLeft self.old (views items.items ++ more)) }

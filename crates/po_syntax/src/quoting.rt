@@ -13,8 +13,8 @@ fn is_raw(byte: u8) -> bool
     byte >= 32 && byte != b'"' && byte != b'\\' && byte != 127
 }
 
-/// Whether all bytes of a block stand in a quoted string as they are. All are tested, which takes few instructions,
-/// since a processor tests several at once.
+/// Whether all bytes of a block stand in a quoted string as they are. All are tested, which takes
+/// few instructions, since a processor tests several at once.
 fn is_raw_block(block: &[u8; 16]) -> bool
     ensures { result ≡ true → prefix_len is_raw block.now ≡ length block.now }
 {

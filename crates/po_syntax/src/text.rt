@@ -95,7 +95,8 @@ fn read_lines(alloc: Global, text: &[u8]) -> Result<Vec<Item<'_>>, PoError>
     }
 }
 
-/// The text after a byte order mark at its start, where the whole is within its limit, UTF-8 and without NUL.
+/// The text after a byte order mark at its start. Refused with `TooLarge`, `NotUtf8` or
+/// `ForbiddenByte`, as `items` is.
 pub(crate) fn checked(text: &[u8]) -> Result<&[u8], PoError>
     ensures found { IfOk result (λ rest. rest.now ≡ without_mark text.now) }
     ensures small { OnOk result (IsSmall text.now) }
@@ -130,10 +131,10 @@ pub(crate) fn checked(text: &[u8]) -> Result<&[u8], PoError>
 /// Reads the items of a PO text (manual, "The Format of PO Files").
 ///
 /// Refusals, the first that holds: `TooLarge`, without a line, above 2,147,483,647 bytes; `NotUtf8`
-/// at the first byte that is not; `ForbiddenByte` at the first NUL; then the leftmost fault of a
-/// line, `BadToken`, `BadEscape`, `ForbiddenByte` for an escape of value 0, `BadPluralIndex`, or
-/// `UnterminatedString` on the line of its opening quote. `OutOfMemory`, without a line, may come
-/// in place of any answer.
+/// at the first byte that is not; `ForbiddenByte` at the first NUL; then the leftmost fault of the
+/// first line that has one: `BadToken`, `BadEscape`, `ForbiddenByte` for an escape of value 0,
+/// `BadPluralIndex` for an index above 4,294,967,295, or `UnterminatedString` at an opening quote.
+/// `OutOfMemory`, without a line, may come in place of any answer.
 pub fn items(alloc: Global, text: &[u8]) -> Result<Vec<Item<'_>>, PoError>
     ensures found { IfOk result (λ items. SpellsText text.now (views items.items)) }
     ensures fault { IfErr result (λ e. e.kind ≢ PoFault.OutOfMemory → TextFault text.now e.kind e.line) }
