@@ -1,4 +1,5 @@
--- The texts of an entry have one fault at most, none where they can stand in it, and never out of memory.
+-- The texts of an entry have one fault at most, none where they can stand in it, and never out of
+-- memory.
 use Rattle.std.proofs.Common.{◌≡◌, ◌≢◌, refl}
 use Rattle.po_syntax.specs.declared.fault.PoFault.{PoFault}
 use Rattle.po_syntax.specs.declared.fault.PoFault.TheVariants.{OutOfMemory}

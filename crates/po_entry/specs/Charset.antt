@@ -1,5 +1,5 @@
--- The name of a charset in a header's text, with a case each for a header that names one and one that doesn't
--- (manual, "Filling in the Header Entry").
+-- The name of a charset in a header's text, with a case each for a header that names one and one
+-- that doesn't (manual, "Filling in the Header Entry").
 use Rattle.std.specs.Prelude.{◌≡◌, ℕ, ◌≤◌, List, [], ◌∷◌, ◌++◌, All, length, codes}
 
 -- a space, TAB, CR, LF or semicolon ends a charset's name
@@ -19,7 +19,8 @@ pub data IsAfterName : List ℕ → Type 0 where
 abbrev pub IsAround : List ℕ → List ℕ → List ℕ → Type 0
 IsAround text before rest = text ≡ before ++ (codes "charset=" ++ rest)
 
--- the text names this charset: the bytes after its first `charset=`, or none where it has no `charset=`
+-- the text names this charset: the bytes after its first `charset=`, or none where it has no
+-- `charset=`
 pub data NamesCharset : List ℕ → List ℕ → Type 0 where
   unnamed : {text : List ℕ} → ((before rest : List ℕ) → IsAround text before rest → ⊥) → NamesCharset text []
   named : {text name : List ℕ} (before rest : List ℕ) → IsAround text before (name ++ rest) → ((other more : List ℕ) → IsAround text other more → length before ≤ length other)

@@ -1,4 +1,5 @@
--- The references and flags that comment lines list, with a case for each form (manual, "The Format of PO Files").
+-- The references and flags that comment lines list, with a case for each form (manual, "The Format
+-- of PO Files").
 use Rattle.std.specs.Prelude.{◌≡◌, ◌≢◌, ℕ, List, [], ◌∷◌, ◌++◌, All, Contains, codes}
 use Rattle.po_syntax.specs.Spelling.{IsBlank}
 use Rattle.po_entry.specs.Bytes.{Lacks}
@@ -35,7 +36,8 @@ pub data ListsFlags : List ℕ → List (List ℕ) → Type 0 where
   last : {text : List ℕ} {flags : List (List ℕ)} → Lacks 44 text → NamesFlag text flags → ListsFlags text flags
   more : {text rest : List ℕ} {here later : List (List ℕ)} → Lacks 44 text → NamesFlag text here → ListsFlags rest later → ListsFlags (text ++ 44 ∷ rest) (here ++ later)
 
--- the flags that an entry keeps of all that its lines name: each where it first stands, and never `fuzzy`
+-- the flags that an entry keeps of all that its lines name: each where it first stands, and never
+-- `fuzzy`
 pub data KeepsFlags : List (List ℕ) → List (List ℕ) → Type 0 where
   none : KeepsFlags [] []
   first : {named kept : List (List ℕ)} {flag : List ℕ} → KeepsFlags named kept → flag ≢ codes "fuzzy" → (Contains named flag → ⊥) → KeepsFlags (named ++ flag ∷ []) (kept ++ flag ∷ [])

@@ -1,4 +1,5 @@
--- What the items of an entry say, part by part: its comments, its previous texts, and its own lines (manual, "The Format of PO Files").
+-- What the items of an entry say, part by part: its comments, its previous texts, and its own lines
+-- (manual, "The Format of PO Files").
 use Rattle.std.specs.Prelude.{ℕ, Bool, List, Option}
 use Rattle.po_syntax.specs.declared.item.CommentKind.{CommentKind}
 use Rattle.po_syntax.specs.declared.item.Keyword.{Keyword}
@@ -14,7 +15,8 @@ pub record PreviousText : Type 0 where
   pub keyword : Keyword
   pub text : List ℕ
 
--- The rank of a keyword among the previous texts: each stands at most once, and in this order. The others, of rank 0, are no previous texts.
+-- The rank of a keyword among the previous texts: each stands at most once, and in this order. The
+-- others, of rank 0, are no previous texts.
 abbrev pub rank : Keyword → ℕ
 rank MsgCtxt = 1
 rank MsgId = 2

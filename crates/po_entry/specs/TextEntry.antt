@@ -1,4 +1,5 @@
--- What contracts see of an entry of a catalogue: its texts are lists of bytes (manual, "The Format of PO Files").
+-- What contracts see of an entry of a catalogue: its texts are lists of bytes (manual, "The Format
+-- of PO Files").
 use Rattle.std.specs.Prelude.{◌≡◌, ℕ, Bool, false, List, [], ◌∷◌, ◌++◌, map, Option, None, option_map, option_to_list}
 use Rattle.std.specs.Global.{Vec}
 use Rattle.std.specs.Borrow.{Bor}
@@ -12,7 +13,8 @@ pub record TextPrevious : Type 0 where
 abbrev pub no_previous : TextPrevious
 no_previous = record { context = None; id = None; plural = None }
 
--- The fields of an entry. `flags` are those other than `fuzzy`; `line` is the line of its msgid, 0 where it has none.
+-- The fields of an entry. `flags` are those other than `fuzzy`; `line` is the line of its msgid, 0
+-- where it has none.
 pub record TextEntry : Type 0 where
   pub comments : List (List ℕ)
   pub extracted : List (List ℕ)

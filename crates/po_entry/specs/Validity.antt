@@ -54,7 +54,8 @@ pub record IsClean (entry : TextEntry) : Type 0 where
   pub context : IfSome entry.context (Lacks 4)
   pub id : Lacks 4 entry.id
 
--- why an entry can't have these texts: one is not UTF-8; or all are, and one holds a byte that it may not hold
+-- why an entry can't have these texts: one is not UTF-8; or all are, and one holds a byte that it
+-- may not hold
 pub data TextsFault (entry : TextEntry) : PoFault → Type 0 where
   not_utf8 : (All IsUtf8 (quoted_texts entry) → ⊥) → TextsFault entry NotUtf8
   forbidden : All IsUtf8 (quoted_texts entry) → (IsClean entry → ⊥) → TextsFault entry ForbiddenByte
@@ -67,11 +68,13 @@ pub record HasTexts (entry : TextEntry) : Type 0 where
 abbrev pub out_of_memory : PoError
 out_of_memory = record { kind = OutOfMemory; line = 0 }
 
--- An entry comes back from a catalogue with its line, as a header whose charset is not admitted, or where an allocation failed.
+-- why a catalogue refuses an entry: it is a header whose charset is not admitted, which is reported
+-- on its line; or an allocation failed
 abbrev pub IsRefusedEntry : TextEntry → PoError → Type 0
 IsRefusedEntry entry error =
     ((HasAdmittedCharset entry → ⊥) × (error ≡ record { kind = ForeignCharset; line = entry.line })) ⊎ (error ≡ out_of_memory)
 
--- A built entry is refused without a line: for its texts, or where an allocation failed.
+-- why no entry is made of texts that are given: one can't stand in it, or an allocation failed;
+-- there is no line
 abbrev pub RefusesMessage : TextEntry → PoError → Type 0
 RefusesMessage entry error = (error.line ≡ 0) × ((error.kind ≡ OutOfMemory) ⊎ TextsFault entry error.kind)

@@ -28,7 +28,7 @@ impl Model for Catalogue {
 }
 
 impl Catalogue {
-    /// The empty catalogue. It takes no memory.
+    /// The empty catalogue. Nothing is allocated.
     pub fn new(alloc: Global) -> Catalogue
         ensures { result ≡ [] }
     {
@@ -46,8 +46,7 @@ impl Catalogue {
         })
     }
 
-    /// The catalogue of these entries, in each of which the charset of a header is admitted. It takes
-    /// no memory.
+    /// The catalogue of these entries, each of which can stand in one. Nothing is allocated.
     pub fn of(entries: Vec<Entry>) -> Catalogue
         requires { All IsCatalogueEntry entries.items }
         ensures { result ≡ entries.items }
@@ -64,7 +63,7 @@ impl Catalogue {
     }
 
     /// Adds an entry at the end. It comes back where it is refused: with `ForeignCharset` and its
-    /// line where it is a header whose charset is not admitted, or where an allocation failed.
+    /// line where it is a header whose charset is not admitted, or with `OutOfMemory`.
     pub fn push(&mut self, entry: Entry) -> Result<(), (Entry, PoError)>
         ensures ok { OnOk result (self.new ≡ self.old ++ entry ∷ []) }
         ensures admitted { OnOk result (HasAdmittedCharset entry) }
@@ -95,7 +94,8 @@ impl Catalogue {
         }
     }
 
-    /// Moves the entries of another catalogue after its own. Where an allocation fails, it stays as it was.
+    /// Moves the entries of another catalogue after those of this one, which stays as it was where
+    /// an allocation fails.
     pub fn append(&mut self, mut other: Catalogue) -> Result<(), AllocError>
         ensures ok { OnOk result (self.new ≡ self.old ++ other) }
         ensures unchanged { OnErr result (self.new ≡ self.old) }

@@ -3,8 +3,8 @@ ghost use Rattle.po_entry.specs.Header.{HasAdmittedCharset, IsAdmittedName, char
 
 use crate::entry::Entry;
 
-/// Whether the charset of an entry is admitted, if the entry is a header (GNU gettext manual, "Filling
-/// in the Header Entry").
+/// Whether the charset of an entry is admitted, if the entry is a header (GNU gettext manual,
+/// "Filling in the Header Entry").
 pub fn has_admitted_charset(entry: &Entry) -> bool
     ensures { IsTrue result ↔ HasAdmittedCharset entry.now }
 {

@@ -13,9 +13,9 @@ use po_syntax::PoError;
 use std::alloc::Global;
 use std::marker::Model;
 
-/// An entry of a catalogue: its comments, its texts and its marks (GNU gettext manual, "The
-/// Format of PO Files"). No text holds a NUL, all are UTF-8, and each part can be written so that
-/// it reads back.
+/// An entry of a catalogue: its comments, its texts, and whether it is fuzzy and obsolete (GNU
+/// gettext manual, "The Format of PO Files"). No text holds a NUL, all are UTF-8, and each part can
+/// be written so that it reads back.
 #[derive(Debug, Drop)]
 pub struct Entry {
     fields: Fields,
@@ -35,8 +35,8 @@ impl Model for Entry {
 
 impl Entry {
     /// A live entry of these texts, without comments, at line 0. Refused with `NotUtf8` where a
-    /// text is not UTF-8, then with `ForbiddenByte` for a NUL, or for an EOT in the context or the
-    /// msgid.
+    /// text is not UTF-8, then with `ForbiddenByte` for a NUL, or for an EOT (byte 4) in the
+    /// context or the msgid; and with `OutOfMemory`.
     pub fn message(
         alloc: Global,
         context: Option<&[u8]>,
@@ -153,7 +153,7 @@ impl Entry {
         &self.fields.references
     }
 
-    /// Whether the entry is marked as fuzzy: its translation may not fit its original any more.
+    /// Whether the entry has the flag `fuzzy`: its translation has to be checked.
     pub fn fuzzy(&self) -> bool
         ensures { result ≡ self.now.fuzzy }
     {
@@ -195,14 +195,14 @@ impl Entry {
         self.fields.plural.as_deref()
     }
 
-    /// The translation: one form, or the plural forms from index 0 on.
+    /// The plural forms, from index 0 on; the only form, where the entry has no plural.
     pub fn forms(&self) -> &[Vec<u8>]
         ensures { texts result.now ≡ self.now.forms }
     {
         &self.fields.forms
     }
 
-    /// Whether the entry is obsolete, and stands on `#~` lines.
+    /// Whether the entry is obsolete: it stands on `#~` lines.
     pub fn obsolete(&self) -> bool
         ensures { result ≡ self.now.obsolete }
     {
@@ -216,7 +216,8 @@ impl Entry {
         self.fields.line
     }
 
-    /// Whether the entry is a header: without a context, and with an empty msgid. It may be obsolete.
+    /// Whether the entry is a header: without a context, and with an empty msgid. It may be
+    /// obsolete.
     pub fn is_header(&self) -> bool
         ensures { result ≡ is_header self.now }
     {
@@ -230,7 +231,7 @@ impl Entry {
         let _ = &self.fields;
     }
 
-    /// Marks the entry as fuzzy, or takes the mark away.
+    /// Gives the entry the flag `fuzzy`, or takes it away.
     pub fn set_fuzzy(&mut self, fuzzy: bool)
         ensures { self.new ≡ record self.old { fuzzy = fuzzy } }
     {

@@ -14,8 +14,9 @@ const NUL: u8 = 0;
 
 const EOT: u8 = 4;
 
-/// Whether an entry can have these texts: `NotUtf8` where a text of its quoted strings is not
-/// UTF-8, then `ForbiddenByte` for a NUL in one, or for an EOT in its own context or msgid.
+/// Whether an entry can have these texts. Refused with `NotUtf8` where a text of its quoted strings
+/// is not UTF-8, then with `ForbiddenByte` for a NUL in one, or for an EOT (byte 4) in its context
+/// or msgid; a previous text may hold an EOT.
 pub fn check_texts(fields: &Fields) -> Result<(), PoFault>
     ensures { MatchResult result (λ _. HasTexts (entry_view fields.now)) (TextsFault (entry_view fields.now)) }
 {
