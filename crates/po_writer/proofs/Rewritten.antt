@@ -1,4 +1,5 @@
--- What is written of the arranged entries, whatever their lines are, is what is written of the entries.
+-- What is written of the arranged entries, whatever their lines are, is what is written of the
+-- entries.
 use Rattle.std.proofs.Common.{◌≡◌, ◌∙◌, not, refl, sym, ap, Bool, true, false, cond, List, [], ◌∷◌, ◌++◌, map, filter}
 use Rattle.std.specs.List.{flat_map, join_by}
 use Rattle.std.proofs.lemmas.List.{append-nil, map-append}

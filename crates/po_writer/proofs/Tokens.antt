@@ -15,7 +15,8 @@ use Rattle.po_syntax.specs.Token.{Open, Key, token_at, is_blank, skip_blanks, fi
 abbrev pub QuotedFormsSpell : Type 0
 QuotedFormsSpell = (bytes rest : List ℕ) → All (λ b. (0 < b) × (b < 256)) bytes → (inside : List ℕ) × (token_at (quoted bytes ++ rest) ≡ Open inside) × IsQuoted inside bytes rest
 
--- before a text that begins with neither a blank nor `#`, the prefix gives these marks and nothing else
+-- before a text that begins with neither a blank nor `#`, the prefix gives these marks and nothing
+-- else
 abbrev pub IsPrefix : List ℕ → Marks → Type 0
 IsPrefix prefix marks =
     (b : ℕ) (rest : List ℕ) → is_blank b ≡ false → (b == 35) ≡ false → (text : List ℕ) × (shape_of (prefix ++ b ∷ rest) ≡ Tokens marks text) × (token_at text ≡ token_at (b ∷ rest))

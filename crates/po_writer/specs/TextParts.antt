@@ -1,4 +1,5 @@
--- A written text in two parts, the live entries and the obsolete ones (manual, "The Format of PO Files").
+-- A written text in two parts, the live entries and the obsolete ones (manual, "The Format of PO
+-- Files").
 use Rattle.std.specs.Prelude.{◌≡◌, List, not, filter}
 use Rattle.po_entry.specs.TextEntry.{TextEntry}
 use Rattle.po_writer.specs.WrittenText.{in_order}

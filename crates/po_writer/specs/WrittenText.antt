@@ -13,7 +13,8 @@ cut (b ∷ text) = if b == 10 then (10 ∷ []) ∷ cut text else onto_first b (c
 abbrev pub string_line : List ℕ → List ℕ → List ℕ
 string_line prefix piece = prefix ++ quoted piece ++ 10 ∷ []
 
--- What stands after a keyword: the text as one string; or where a LF stands before its last byte, an empty string and then one string a line.
+-- What stands after a keyword: the text as one string; or where a LF stands before its last byte,
+-- an empty string and then one string a line.
 abbrev pub text_lines : List ℕ → List ℕ → List ℕ
 text_lines prefix text =
     if nat_lt 1 (length (cut text)) then string_line [] [] ++ flat_map (string_line prefix) (cut text)

@@ -26,7 +26,7 @@ fn has_lines(text: &[u8]) -> bool
     !split_line(text).1.is_empty()
 }
 
-/// Appends the quoted form of a piece on a line of its own.
+/// Appends a prefix, the quoted form of a text or of a part of one, and a LF.
 fn push_string(out: &mut Vec<u8>, prefix: &[u8], piece: &[u8]) -> Result<(), AllocError>
     ensures appended { OnOk result (out.new.items ≡ out.old.items ++ string_line prefix.now piece.now) }
 {

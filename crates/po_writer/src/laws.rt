@@ -19,8 +19,8 @@ pub fn written_text_reads()
     quoted_form_spells();
 }
 
-/// What is written of entries that were read from a written text, and so are its entries but for
-/// their lines, is that text again.
+/// Entries that are a list's arranged ones but for their lines, as those that are read from its
+/// written text are, are written as the same text again.
 pub fn written_text_again()
     ensures { (entries read : List TextEntry) → map (with_line 0) read ≡ map (with_line 0) (arranged entries)
         → written_text read ≡ written_text entries }
@@ -31,7 +31,7 @@ pub fn live_entries_stay()
     ensures { (entries : List TextEntry) → All (λ e. e.obsolete ≡ false) entries → arranged entries ≡ entries }
 {}
 
-/// No entry at all is written as the empty text, and some entries are not.
+/// Only a list without entries is written as the empty text.
 pub fn some_entry_is_written()
     ensures { (entries : List TextEntry) → written_text entries ≡ [] → entries ≡ [] }
 {}

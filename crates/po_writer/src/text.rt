@@ -9,7 +9,7 @@ use po_entry::{Catalogue, Entry};
 use po_syntax::PoError;
 use std::alloc::{AllocError, Global};
 
-/// The room of most entries. A text that begins with it takes few reallocations until it has one.
+/// A text gets room for this many bytes with its first entry, as most entries take fewer.
 const ROOM: usize = 256;
 
 /// Appends an entry, after an empty line if it isn't the first.
@@ -41,8 +41,8 @@ pub(crate) fn push_entries(
     Ok(())
 }
 
-/// Appends a live entry to the text of live entries, after an empty line if it isn't the first. Refused
-/// only where an allocation failed; then the text may end within the entry.
+/// Appends a live entry to the text of live entries, after an empty line if it isn't the first.
+/// Refused only where an allocation failed; then the text may end within the entry.
 pub fn append(text: &mut Vec<u8>, entry: &Entry) -> Result<(), PoError>
     requires { entry.now.obsolete ≡ false }
     ensures appended { OnOk result ((entries : List TextEntry) → All (λ e. e.obsolete ≡ false) entries
@@ -54,8 +54,8 @@ pub fn append(text: &mut Vec<u8>, entry: &Entry) -> Result<(), PoError>
 }
 
 /// The text of a catalogue (GNU gettext manual, "The Format of PO Files"): the live entries in
-/// order, then the obsolete ones in order, with an empty line between two. An allocation that failed is the
-/// only refusal.
+/// order, then the obsolete ones in order, with an empty line between two. An allocation that
+/// failed is the only refusal.
 pub fn write(alloc: Global, catalogue: &Catalogue) -> Result<Vec<u8>, PoError>
     ensures text { IfOk result (λ text. text.items ≡ written_text catalogue.now) }
     ensures memory { IfErr result (λ e. e ≡ out_of_memory) }
