@@ -33,7 +33,8 @@ entries_from input headed entries inputs =
     let rest = joined_from (input + 1) (headed || list_any is_live_header entries) inputs in
     map-append (λ (e : InputEntry). e.entry) (map (in_input input) kept) rest ∙ ap (λ l. l ++ entries_of rest) (entries_of_input input kept)
 
--- what is there with an input's entries, and what the inputs after it add, where `headed` says whether one so far has a live header
+-- what is there with an input's entries, and what the inputs after it add, where `headed` says
+-- whether one so far has a live header
 pub joined_more : (before after : List TextEntry) (input : ℕ) (headed : Bool) (headed_then : Bool) (entries : List TextEntry) (inputs : List (List TextEntry)) → after ≡ before ++ kept_entries headed entries
     → headed_then ≡ (headed || list_any is_live_header entries) → after ++ entries_of (joined_from (input + 1) headed_then inputs) ≡ before ++ entries_of (joined_from input headed (entries ∷ inputs))
 joined_more before after input headed headed_then entries inputs is then =

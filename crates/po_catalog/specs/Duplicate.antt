@@ -1,4 +1,5 @@
--- Live entries with one context and msgid (manual, "The Format of PO Files": a msgid may appear twice only under another context).
+-- Live entries with one context and msgid (manual, "The Format of PO Files": a msgid may appear
+-- twice only under another context).
 use Rattle.std.specs.Prelude.{◌≡◌, ◌⊎◌, List, ◌∷◌, ◌++◌, map, filter, AllPairs}
 use Rattle.po_entry.specs.TextEntry.{TextEntry}
 use Rattle.po_entry.specs.Validity.{out_of_memory}

@@ -1,4 +1,5 @@
--- The joined list of the catalogues of several inputs (manual, "Invoking the msgfmt Program": several input files).
+-- The joined list of the catalogues of several inputs (manual, "Invoking the msgfmt Program":
+-- several input files).
 use Rattle.std.specs.Prelude.{ℕ, ◌+◌, Bool, false, not, ◌&&◌, ◌||◌, List, [], ◌∷◌, ◌++◌, map, filter, if◌then◌else◌}
 use Rattle.std.specs.List.{list_any}
 use Rattle.po_entry.specs.TextEntry.{TextEntry}
@@ -23,13 +24,15 @@ in_input input entry = record { input = input; entry = entry }
 abbrev pub kept_entries : Bool → List TextEntry → List TextEntry
 kept_entries headed entries = if headed then filter (λ e. not (is_live_header e)) entries else entries
 
--- the entries of the inputs from this one on, where `headed` says whether an earlier one has a live header
+-- the entries of the inputs from this one on, where `headed` says whether an earlier one has a live
+-- header
 abbrev pub joined_from : ℕ → Bool → List (List TextEntry) → List InputEntry
 joined_from input headed [] = []
 joined_from input headed (entries ∷ inputs) =
     map (in_input input) (kept_entries headed entries) ++ joined_from (input + 1) (headed || list_any is_live_header entries) inputs
 
--- the entries of all inputs in order, without the live headers of an input if an earlier input has a live header
+-- the entries of all inputs in order, without the live headers of an input if an earlier input has
+-- a live header
 abbrev pub joined : List (List TextEntry) → List InputEntry
 joined inputs = joined_from 0 false inputs
 

@@ -1,4 +1,5 @@
--- Which entries the joined list of several inputs omits, said of all their entries at once (manual, "Invoking the msgfmt Program": several input files).
+-- Which entries the joined list of several inputs omits, said of all their entries at once (manual,
+-- "Invoking the msgfmt Program": several input files).
 use Rattle.std.specs.Prelude.{◌≡◌, ℕ, ◌+◌, Bool, not, ◌&&◌, nat_lt, List, [], ◌∷◌, ◌++◌, map, filter}
 use Rattle.std.specs.List.{list_any}
 use Rattle.po_entry.specs.TextEntry.{TextEntry}

@@ -62,9 +62,9 @@ pub fn duplicates(alloc: Global, catalogue: &Catalogue) -> Result<(), PoError>
     }
 }
 
-/// Whether no live entry of the joined list repeats an earlier live one, by context and msgid. Refused
-/// with `Duplicate`, which names the input and the line of the earlier entry, at the input and the
-/// line of the earliest entry that repeats one; and where an allocation failed.
+/// Whether no live entry of the joined list repeats an earlier live one, by context and msgid.
+/// Refused with `Duplicate`, which names the input and the line of the earlier entry, at the input
+/// and the line of the earliest entry that repeats one; and where an allocation failed.
 pub fn joined_duplicates(alloc: Global, catalogues: &[Catalogue]) -> Result<(), JoinError>
     requires { length catalogues.now < 2 ^ 32 }
     ensures exact { MatchResult result (λ _. HasNoDuplicate (joined_entries catalogues.now))

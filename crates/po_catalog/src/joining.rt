@@ -33,8 +33,9 @@ pub fn joined(alloc: Global, catalogues: &[Catalogue]) -> Result<Vec<JoinedEntry
     Ok(joined)
 }
 
-/// The joined list of catalogues, which gives them up: the entries of several inputs in order, without the live
-/// headers of an input where an earlier input has a live header. The entries are moved, and none is copied.
+/// The joined list of catalogues, which gives them up: the entries of several inputs in order,
+/// without the live headers of an input where an earlier input has a live header. The entries are
+/// moved, and none is copied.
 pub fn into_joined(alloc: Global, catalogues: Vec<Catalogue>) -> Result<Vec<Entry>, AllocError>
     ensures list { IfOk result (λ entries. entries.items ≡ joined_entries catalogues.items) }
     ensures valid { OnOk result (All IsCatalogueEntry (joined_entries catalogues.items)) }
@@ -50,7 +51,8 @@ pub fn into_joined(alloc: Global, catalogues: Vec<Catalogue>) -> Result<Vec<Entr
     Ok(joined)
 }
 
-/// Moves the entries of an input after others, without its live headers where an earlier input has one.
+/// Moves the entries of an input after others, without its live headers where an earlier input has
+/// one.
 fn move_entries(
     joined: &mut Vec<Entry>,
     entries: Vec<Entry>,

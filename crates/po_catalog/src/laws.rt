@@ -56,8 +56,8 @@ pub fn one_first_duplicate()
         → (first ≡ other) × (later ≡ last) }
 {}
 
-/// Of all entries of several inputs, in order, their joined list omits just the live headers where an earlier input,
-/// whichever it is, has a live header.
+/// Of all entries of several inputs, in order, their joined list omits just the live headers for
+/// which an earlier input, whichever it is, has a live header.
 pub fn later_headers_are_omitted()
     ensures { (inputs : List (List TextEntry)) → OmitsLaterHeaders inputs }
 {}

@@ -55,14 +55,16 @@ impl Stats {
     }
 }
 
-/// How many live messages of a catalogue are translated, fuzzy and untranslated. The header isn't counted.
+/// How many live messages of a catalogue are translated, fuzzy and untranslated. The header isn't
+/// counted.
 pub fn statistics(catalogue: &Catalogue) -> Stats
     ensures { result ≡ stats_of catalogue.now }
 {
     entry_statistics(catalogue.entries())
 }
 
-/// How many live ones of some entries are translated, fuzzy and untranslated. A header isn't counted.
+/// How many live ones of some entries are translated, fuzzy and untranslated. A header isn't
+/// counted.
 pub fn entry_statistics(entries: &[Entry]) -> Stats
     ensures { result ≡ stats_of entries.now }
 {
