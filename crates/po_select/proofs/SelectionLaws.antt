@@ -1,5 +1,5 @@
--- What is selected: all where nothing is given, the same again by conditions alone, entries that can stand in a
--- catalogue, and a live header always.
+-- What is selected: all where nothing is given, the same again by conditions alone, entries that
+-- can stand in a catalogue, and a live header always.
 use Rattle.std.proofs.Common.{◌≡◌, Bool, true, false, not, ◌&&◌, ◌||◌, List, [], ◌∷◌, map, filter, refl, if◌then◌else◌}
 use Rattle.std.specs.Prelude.{All}
 use Rattle.std.proofs.lemmas.List.Elements.{All-head, All-tail, All-nil, All-cons, All-filter, filter_passes}
