@@ -36,6 +36,7 @@ merged_messages o messages = map (merged_entry o) (filter (is_kept o) messages)
 abbrev pub merged : MergeOptions → List Input → List TextEntry
 merged o inputs = merged_messages o (messages inputs)
 
--- why entries can't stand in a catalogue: a header's charset isn't admitted, or an allocation failed
+-- why entries can't stand in a catalogue: a header's charset isn't admitted, or an allocation
+-- failed
 abbrev pub IsMergeFault : List TextEntry → PoError → Type 0
 IsMergeFault merged error = (error ≡ out_of_memory) ⊎ ((All HasAdmittedCharset merged → ⊥) × (error ≡ record { kind = ForeignCharset; line = 0 }))

@@ -27,8 +27,8 @@ fn digest(context: Option<&[u8]>, id: &[u8]) -> u64
     hasher.finish()
 }
 
-/// Entries, grouped by their messages. The groups are found by comparing, first the digests and then the messages
-/// themselves, so that no choice of msgids makes them slow.
+/// Entries, grouped by their messages. The groups are found by comparing, first the digests and
+/// then the messages themselves, so that no choice of msgids makes them slow.
 #[derive(Drop)]
 pub(crate) struct Groups<'a> {
     /// The index of each message's group.

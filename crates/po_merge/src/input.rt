@@ -9,8 +9,9 @@ pub struct Named<'a> {
     pub catalogue: Catalogue,
 }
 
-/// Which messages are kept, and how their definitions are merged. A definition of a message is a live entry, or, where
-/// no live entry has the message, an obsolete one.
+/// Which messages are kept, and how their definitions are merged. A definition of a message is a
+/// live entry, or, where no live entry has the message, an obsolete one. The message of a header is
+/// kept, however many definitions it has.
 #[derive(Clone, Copy, Debug)]
 pub struct MergeOptions {
     /// `--more-than`: messages with more definitions than this.

@@ -99,7 +99,8 @@ fn longer<'a>(
     Ok(found)
 }
 
-/// The forms of the translations, joined index by index. Those that have no more forms are dropped on the way.
+/// The forms of the translations, joined index by index. Those that have no more forms are dropped
+/// on the way.
 pub(crate) fn joined_forms(
     alloc: Global,
     translations: Vec<Definition<'_>>,

@@ -17,7 +17,8 @@ use po_entry::{copy_optional, copy_texts};
 use po_syntax::{CommentKind, PoError, PoFault};
 use std::alloc::{AllocError, Global};
 
-/// The forms of the first translation, or else of the first definition, and whether that definition is fuzzy.
+/// The forms of the first translation, or else of the first definition, and whether that definition
+/// is fuzzy.
 fn taken_forms(
     alloc: Global,
     definitions: &[Definition<'_>],
@@ -177,10 +178,12 @@ fn merge_groups(
     Ok(merged)
 }
 
-/// Merges catalogues, message by message: the entries of each message become one, which keeps what each of its
-/// definitions says, and marks what they say differently with the names of their inputs. The messages stand in the
-/// order in which they first appear. Refused with `ForeignCharset`, without a line, where a merged header names a
-/// charset that isn't admitted; and with `OutOfMemory`. (GNU gettext manual, "Invoking the msgcat Program".)
+/// Merges catalogues, message by message: the definitions of each message become one entry, with
+/// the comments, references and flags of all. Translations that differ are joined, each under the
+/// name of its input; with `use_first` the first one is taken, with its comments, references and
+/// flags. The messages stand in the order in which they first appear. Refused with
+/// `ForeignCharset`, without a line, where a merged header names a charset that isn't admitted; and
+/// with `OutOfMemory`. (GNU gettext manual, "Invoking the msgcat Program".)
 pub fn merge<'a>(
     alloc: Global,
     inputs: &'a [Named<'a>],
