@@ -103,7 +103,8 @@ option_decides None (Some y) = (λ h. cc, λ h. cc)
 option_decides (Some x) None = (λ h. cc, λ h. cc)
 option_decides (Some x) (Some y) = Decides-like (bytes_eq x y) (λ e. ap Some e) (λ e. cc) (bytes_eq-Decides x y)
 
--- the message of an entry stands under a clean key exactly where the entry has its context and msgid
+-- the message of an entry stands under a clean key exactly where the entry has its context and
+-- msgid
 same_test : (context : Option (List ℕ)) (id : List ℕ) → is_clean_key context id ≡ true → (entry : TextEntry) → LacksSeparators entry
     → has_key (query_key context id) (message_of entry) ≡ is_message context id entry
 same_test context id clean entry c =

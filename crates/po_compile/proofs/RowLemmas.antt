@@ -1,4 +1,5 @@
--- The rows of live entries, sorted by their keys: neighbours show duplicates, and those that are compiled are the messages.
+-- The rows of live entries, sorted by their keys: neighbours show duplicates, and those that are
+-- compiled are the messages.
 use Rattle.std.proofs.Common.{◌≡◌, ◌≢◌, refl, sym, ap, ap₂, subst, ◌∙◌, ℕ, zero, suc, ◌<◌, Bool, true, false, ◌&&◌, cond, List, [], ◌∷◌, length, get_or, map, filter, arith, add-one, All, AllPairs, IsPermutation, count_by}
 use Rattle.std.specs.Ordering.{ordering_reverse}
 use Rattle.std.specs.declared.cmp.Ordering.TheVariants.{Less, Greater}

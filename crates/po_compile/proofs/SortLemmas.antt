@@ -1,4 +1,5 @@
--- Sorting the messages of entries of which no two are of one message brings their keys into rising order.
+-- Sorting the messages of entries of which no two are of one message brings their keys into rising
+-- order.
 use Rattle.std.proofs.Common.{◌≡◌, ◌≢◌, ℕ, ◌+◌, ◌<◌, zero, suc, Bool, true, false, ◌&&◌, ◌||◌, not, ◌≤◌, length-append, cond, List, [], ◌∷◌, ◌++◌, Option, None, Some, refl, sym, ap, ◌∙◌, subst, length, get_or, filter, arith, All, AllPairs, IsPermutation, inl, inr}
 use Rattle.std.specs.Cmp.Lexicographic.{slice_cmp}
 use Rattle.std.specs.List.Sorted.{IsSortedBy}

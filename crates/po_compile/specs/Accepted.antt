@@ -1,5 +1,5 @@
--- Which texts are accepted, and which fault is reported of those that aren't (manual, "The Format of PO Files" and
--- "Invoking the msgfmt Program").
+-- Which texts are accepted, and which fault is reported of those that aren't (manual, "The Format
+-- of PO Files" and "Invoking the msgfmt Program").
 use Rattle.std.specs.Prelude.{◌≡◌, ◌⊎◌, ◌^◌, ◌<◌, ℕ, List, ◌∷◌, ◌++◌, map, length}
 use Rattle.std.specs.List.{AllZip}
 use Rattle.mo_file.specs.Message.{Message}
@@ -24,7 +24,8 @@ pub record ReadsDistinct (text : List ℕ) (entries : List TextEntry) : Type 0 w
   pub reads : ReadsText text entries
   pub distinct : HasNoDuplicate entries
 
--- the texts read as these catalogues, in each of which and in whose joined list no two live entries are of one message
+-- the texts read as these catalogues, in each of which and in whose joined list no two live entries
+-- are of one message
 pub record AreRead (texts : List (List ℕ)) (catalogues : List (List TextEntry)) : Type 0 where
   pub each : AllZip ReadsDistinct texts catalogues
   pub distinct : HasNoDuplicate (joined_entries catalogues)

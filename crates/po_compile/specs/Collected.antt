@@ -1,5 +1,5 @@
--- What is collected of a text that is compiled: the messages of its live entries, one after another (manual, "The
--- Format of GNU MO Files").
+-- What is collected of a text that is compiled: the messages of its live entries, one after another
+-- (manual, "The Format of GNU MO Files").
 use Rattle.std.specs.Prelude.{◌≡◌, ℕ, Bool, List, ◌++◌, map, filter, length, count_by, All}
 use Rattle.std.specs.List.{flat_map}
 use Rattle.mo_file.specs.Message.{Message}
@@ -104,7 +104,8 @@ counts_of lengths = record {
 abbrev pub OfAll : Collected → (Bool → List TextEntry → Type 0) → Type 0
 OfAll collected Holds = (use_fuzzy : Bool) (entries : List TextEntry) → HoldsEntries use_fuzzy entries collected → Holds use_fuzzy entries
 
--- no live entry repeats another, and the layout of the compiled ones' messages is too large, which is the fault
+-- no live entry repeats another, and the layout of the compiled ones' messages is too large, which
+-- is the fault
 pub record IsLargeText (options : Options) (entries : List TextEntry) (error : PoError) : Type 0 where
   pub distinct : HasNoDuplicate entries
   pub layout : HasLargeLayout options entries

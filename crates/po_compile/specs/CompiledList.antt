@@ -1,13 +1,13 @@
--- Which entries of a catalogue are compiled (manual, "Invoking the msgfmt Program": fuzzy, obsolete and
--- untranslated entries).
+-- Which entries of a catalogue are compiled (manual, "Invoking the msgfmt Program": fuzzy, obsolete
+-- and untranslated entries).
 use Rattle.std.specs.Prelude.{Bool, not, ◌&&◌, ◌||◌, List, filter}
 use Rattle.po_entry.specs.TextEntry.{TextEntry}
 use Rattle.po_entry.specs.Header.{is_header}
 use Rattle.po_catalog.specs.Joined.{is_live}
 use Rattle.po_catalog.specs.Statistics.{has_translation}
 
--- A live entry whose first form isn't empty, and that isn't fuzzy, unless fuzzy entries are asked for. A header's fuzziness
--- is ignored.
+-- A live entry whose first form isn't empty, and that isn't fuzzy, unless fuzzy entries are asked
+-- for. A header's fuzziness is ignored.
 abbrev pub is_compiled : Bool → TextEntry → Bool
 is_compiled use_fuzzy entry =
     is_live entry && (has_translation entry && (use_fuzzy || not entry.fuzzy || is_header entry))

@@ -1,4 +1,5 @@
--- What a list of entries is compiled to, and when it is refused (manual, "Invoking the msgfmt Program").
+-- What a list of entries is compiled to, and when it is refused (manual, "Invoking the msgfmt
+-- Program").
 use Rattle.std.specs.Prelude.{◌≡◌, ◌⊎◌, ◌^◌, ◌<◌, ◌≤◌, List, length}
 use Rattle.mo_file.specs.Message.{Message}
 use Rattle.mo_file.specs.Layout.{layout}
@@ -16,8 +17,8 @@ use Rattle.po_compile.specs.Meaning.{MeansEntries}
 use Rattle.po_compile.specs.declared.options.Options.{Options}
 use Rattle.po_compile.specs.declared.options.Compiled.{Compiled}
 
--- The file is the layout of the compiled entries' messages. It is valid, holds these messages, and answers each query as
--- the entries do. With it go their number and the statistics of all entries.
+-- The file is the layout of the compiled entries' messages. It is valid, holds these messages, and
+-- answers each query as the entries do. With it go their number and the statistics of all entries.
 pub record IsCompilation (options : Options) (entries : List TextEntry) (compiled : Compiled) : Type 0 where
   pub messages : List Message
   pub are_messages : AreMessagesOf (compiled_list options.use_fuzzy entries) messages
@@ -38,12 +39,14 @@ pub record HasLargeLayout (options : Options) (entries : List TextEntry) : Type 
 abbrev pub layout_fault : JoinError
 layout_fault = record { input = 0; first_input = 0; error = record { kind = TooLarge; line = 0 } }
 
--- what is reported of a file that isn't built of messages; those that are sorted are never out of order
+-- what is reported of a file that isn't built of messages; those that are sorted are never out of
+-- order
 abbrev pub IsLayoutError : BuildError → JoinError → Type 0
 IsLayoutError Large error = error ≡ layout_fault
 IsLayoutError NotSorted error = ⊥
 IsLayoutError NoMemory error = error ≡ join_out_of_memory
 
--- why entries of which no two live ones are of one message aren't compiled: their layout, or out of memory
+-- why entries of which no two live ones are of one message aren't compiled: their layout, or out of
+-- memory
 abbrev pub IsLayoutFault : Options → List TextEntry → JoinError → Type 0
 IsLayoutFault options entries error = (error ≡ join_out_of_memory) ⊎ ((error ≡ layout_fault) × HasLargeLayout options entries)

@@ -26,8 +26,8 @@ MessagesMeanEntries =
     (entries : List TextEntry) (messages : List Message) → All IsEntry entries
     → AreMessagesOf entries messages → MeansEntries entries messages
 
--- For texts that are accepted: the layout of their messages is a valid file, and what is looked up in it is what their
--- entries mean.
+-- For texts that are accepted: the layout of their messages is a valid file, and what is looked up
+-- in it is what their entries mean.
 abbrev pub LookUpMeansEntries : Type 0
 LookUpMeansEntries =
     (options : Options) (texts : List (List ℕ)) (catalogues : List (List TextEntry)) (messages : List Message)
@@ -35,7 +35,8 @@ LookUpMeansEntries =
     → IsCatalog options.order (layout options.order messages) messages
     × MeansEntries (compiled_list options.use_fuzzy (joined_entries catalogues)) messages
 
--- Texts that are accepted have no fault; what may be reported in place of their file is out of memory alone.
+-- Texts that are accepted have no fault; what may be reported in place of their file is out of
+-- memory alone.
 abbrev pub NoFaultWhereAccepted : Type 0
 NoFaultWhereAccepted =
     (options : Options) (texts : List (List ℕ)) (catalogues : List (List TextEntry)) (error : JoinError)

@@ -14,11 +14,13 @@ use Rattle.po_entry.specs.Header.{first_form}
 abbrev pub is_message : Option (List ℕ) → List ℕ → TextEntry → Bool
 is_message context id entry = option_eq bytes_eq entry.context context && bytes_eq entry.id id
 
--- the entry that defines a context and msgid: the first that has them, and none where they aren't clean
+-- the entry that defines a context and msgid: the first that has them, and none where they aren't
+-- clean
 abbrev pub definition : List TextEntry → Option (List ℕ) → List ℕ → Option TextEntry
 definition entries context id = if is_clean_key context id then find (is_message context id) entries else None
 
--- the text of the header: the first form of the entry of the empty msgid without a context, or the empty text
+-- the text of the header: the first form of the entry of the empty msgid without a context, or the
+-- empty text
 abbrev pub header_of : List TextEntry → List ℕ
 header_of entries = option_map_or (λ header. first_form header.forms) (definition entries None []) []
 

@@ -1,4 +1,5 @@
--- The beginning of a key as a number, which orders keys as they are ordered wherever two such numbers differ.
+-- The beginning of a key as a number, which orders keys as they are ordered wherever two such
+-- numbers differ.
 use Rattle.std.specs.Prelude.{ℕ, zero, suc, ◌+◌, ◌*◌, ◌^◌, List, [], ◌∷◌, drop}
 
 -- the first bytes as so many digits of base 256; a shorter text goes on with zeros

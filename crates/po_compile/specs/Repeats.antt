@@ -1,4 +1,5 @@
--- Live entries that repeat earlier ones, in rows that are sorted by their keys (manual, "The Format of PO Files").
+-- Live entries that repeat earlier ones, in rows that are sorted by their keys (manual, "The Format
+-- of PO Files").
 use Rattle.std.specs.Prelude.{◌≡◌, ◌⊎◌, ◌≤◌, ◌<◌, ℕ, suc, List, Option, None, Some, length, get_or}
 use Rattle.std.specs.List.Sorted.{IsSortedBy}
 use Rattle.std.specs.Ordering.{is_lt, nat_cmp, ordering_then}
@@ -18,11 +19,13 @@ AreSorted rows = IsSortedBy (λ a b. is_lt (row_cmp a b)) rows
 abbrev pub ArePlaced : List Row → Type 0
 ArePlaced rows = (i : ℕ) (d : Row) → i < length rows → (get_or rows i d).place ≡ i
 
--- of two neighbours the second key is above the first; or it is the same, and stands at this place of the text or after it
+-- of two neighbours the second key is above the first; or it is the same, and stands at this place
+-- of the text or after it
 abbrev pub IsStep : ℕ → Row → Row → Type 0
 IsStep place a b = (key_cmp a.key.now b.key.now ≡ Less) ⊎ ((a.key.now ≡ b.key.now) × (place ≤ b.place))
 
--- of the rows before an index that have the key of the row before them, the one at this index stands first in the text
+-- of the rows before an index that have the key of the row before them, the one at this index
+-- stands first in the text
 pub record IsEarliestRepeat (rows : List Row) (end index : ℕ) : Type 0 where
   pub before : ℕ
   pub next : index ≡ suc before

@@ -128,8 +128,8 @@ fn add_messages(
     Ok(())
 }
 
-/// Collects the messages of the live entries of a text, piece by piece. Comments and references aren't read, and what
-/// else an entry holds is let go before the next piece is read.
+/// Collects the messages of the live entries of a text, piece by piece. Comments and references
+/// aren't read, and what else an entry holds is let go before the next piece is read.
 pub(crate) fn collect(alloc: Global, text: &[u8], use_fuzzy: bool) -> Result<Collected, Refusal>
     ensures found { IfOk result (ReadsLive use_fuzzy text.now) }
     ensures fault { IfErr result (IsTextRefusal text.now) }

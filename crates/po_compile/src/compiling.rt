@@ -22,9 +22,9 @@ use std::alloc::Global;
 
 /// Compiles PO texts to one MO file. An empty list of texts is compiled as one empty text is.
 ///
-/// Refused, input by input, with the fault of `read`, then of `duplicates`; then with that of `joined_duplicates`;
-/// then with `TooLarge`, at line 0 of input 0, where the file would have more than 4,294,967,295 bytes.
-/// `OutOfMemory`, at line 0 of input 0, may come in place of any answer.
+/// Refused, input by input, with the fault of `read`, then of `duplicates`; then with that of
+/// `joined_duplicates`; then with `TooLarge`, at line 0 of input 0, where the file would have more
+/// than 4,294,967,295 bytes. `OutOfMemory`, at line 0 of input 0, may come in place of any answer.
 pub fn compile_all(alloc: Global, texts: &[&[u8]], options: Options) -> Result<Compiled, JoinError>
     requires { length texts.now < 2 ^ 32 }
     ensures { MatchResult result (AreCompiled options (slice_texts texts.now))
@@ -53,9 +53,9 @@ fn fault_of_only_input(error: PoError) -> JoinError
     }
 }
 
-/// Compiles a PO text to an MO file, as `compile_all` does where it is the only one. Refused with the fault of `read`,
-/// then of `duplicates`; then with `TooLarge`, at line 0, where the file would have more than 4,294,967,295 bytes.
-/// `OutOfMemory`, at line 0, may come in place of any answer.
+/// Compiles a PO text to an MO file, as `compile_all` does where it is the only one. Refused with
+/// the fault of `read`, then of `duplicates`; then with `TooLarge`, at line 0, where the file would
+/// have more than 4,294,967,295 bytes. `OutOfMemory`, at line 0, may come in place of any answer.
 pub fn compile(alloc: Global, text: &[u8], options: Options) -> Result<Compiled, PoError>
     ensures { MatchResult result (AreCompiled options (text.now ∷ []))
         (λ e. IsCompileFault options (text.now ∷ []) (fault_of_only_input e)) }
@@ -124,10 +124,10 @@ fn compile_whole(alloc: Global, text: &[u8], options: Options) -> Result<Compile
     }
 }
 
-/// Compiles the joined list of catalogues, in which `joined_duplicates` finds none. It gives the catalogues up: their
-/// texts are moved into the messages, and what else they hold is free before the file is laid out. Refused with
-/// `TooLarge`, at line 0 of input 0, where the file would have more than 4,294,967,295 bytes, and where an allocation
-/// failed.
+/// Compiles the joined list of catalogues, in which `joined_duplicates` finds none. It gives the
+/// catalogues up: their texts are moved into the messages, and what else they hold is free before
+/// the file is laid out. Refused with `TooLarge`, at line 0 of input 0, where the file would have
+/// more than 4,294,967,295 bytes, and where an allocation failed.
 pub fn compile_catalogues(
     alloc: Global,
     catalogues: Vec<Catalogue>,

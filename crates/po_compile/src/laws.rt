@@ -21,8 +21,8 @@ pub fn messages_are_one()
     ensures { MessagesAreOne }
 {}
 
-/// For texts that are accepted the layout of their messages is a valid file, and what is looked up in it is what
-/// their entries mean.
+/// For texts that are accepted the layout of their messages is a valid file, and what is looked up
+/// in it is what their entries mean.
 pub fn look_up_means_entries()
     ensures { LookUpMeansEntries }
 {
@@ -32,7 +32,8 @@ pub fn look_up_means_entries()
     messages_are_one();
 }
 
-/// Texts that are accepted have no fault, so that compiling them answers the file, or out of memory.
+/// Texts that are accepted have no fault, so that compiling them answers the file, or out of
+/// memory.
 pub fn no_fault_where_accepted()
     ensures { NoFaultWhereAccepted }
 {
@@ -107,7 +108,7 @@ pub fn joined_entries_can_stand()
     entries_can_stand();
 }
 
-/// A text without duplicate is read as its entries, where it is the only one.
+/// A text without a duplicate is read as its entries, where it is the only one.
 pub fn one_text_is_read()
     ensures { OneTextIsRead }
 {}

@@ -13,8 +13,8 @@ use po_catalog::has_translation;
 use po_entry::{Entry, Fields};
 use std::alloc::{AllocError, Global};
 
-/// Whether an entry of a joined list is compiled: it is live and translated, and not marked as fuzzy where fuzzy
-/// entries are omitted. A header's mark is ignored.
+/// Whether an entry of a joined list is compiled: it is live and translated, and not fuzzy, unless
+/// fuzzy entries are compiled too. A header's flag `fuzzy` is ignored.
 pub fn is_compiled(entry: &Entry, use_fuzzy: bool) -> bool
     ensures { result ≡ is_compiled use_fuzzy entry.now }
 {

@@ -13,7 +13,8 @@ fn byte_at(text: &[u8], place: usize) -> u8
     }
 }
 
-/// The first sixteen bytes of a key as a number, the first byte its highest digit. A shorter key goes on with zeros.
+/// The first sixteen bytes of a key as a number, the first byte its highest digit. A shorter key
+/// goes on with zeros.
 pub(crate) fn prefix_of(key: &[u8]) -> u128
     ensures { result ≡ prefix_of key.now }
 {

@@ -9,8 +9,8 @@ use po_reader::{read, read_whole};
 use po_syntax::{PoError, PoFault};
 use std::alloc::Global;
 
-/// The catalogues of several texts. Refused, input by input, with the fault of `read`, then of `duplicates`; then
-/// with that of `joined_duplicates`; and where an allocation failed.
+/// The catalogues of several texts. Refused, input by input, with the fault of `read`, then of
+/// `duplicates`; then with that of `joined_duplicates`; and where an allocation failed.
 pub fn read_all(alloc: Global, texts: &[&[u8]]) -> Result<Vec<Catalogue>, JoinError>
     requires { length texts.now < 2 ^ 32 }
     ensures { MatchResult result (λ catalogues. AreRead (slice_texts texts.now) catalogues.items)
@@ -31,8 +31,8 @@ pub fn read_all(alloc: Global, texts: &[&[u8]]) -> Result<Vec<Catalogue>, JoinEr
     Ok(catalogues)
 }
 
-/// The catalogue of a text, in which no live entry repeats an earlier one. Refused with the fault of `read`, then of
-/// `duplicates`; `OutOfMemory`, without a line, may come in place of any answer.
+/// The catalogue of a text, in which no live entry repeats an earlier one. Refused with the fault
+/// of `read`, then of `duplicates`; `OutOfMemory`, without a line, may come in place of any answer.
 pub fn read_distinct(alloc: Global, text: &[u8]) -> Result<Catalogue, PoError>
     ensures { MatchResult result (ReadsDistinct text.now) (λ e. (e ≡ out_of_memory)
         ⊎ ((e.kind ≢ PoFault.OutOfMemory) × IsTextFault text.now e)) }

@@ -4,11 +4,14 @@ ghost use Rattle.po_compile.specs.Prefix.{prefix_of, second_of};
 
 use std::cmp::Ordering;
 
-/// A live entry's message, whose parts stand in what was collected. By the first bytes of their keys, in two numbers,
-/// most rows are compared without a look at the keys themselves, which lie anywhere in memory.
+/// A live entry's message, whose parts stand in what was collected. By the first bytes of their
+/// keys, in two numbers, most rows are compared without a look at the keys themselves, which lie
+/// anywhere in memory.
 #[derive(Clone, Copy)]
 pub(crate) struct Row<'b> {
+    /// The first sixteen bytes of the key, as a number.
     pub(crate) prefix: u128,
+    /// The next sixteen bytes of the key, as a number.
     pub(crate) second: u128,
     pub(crate) key: &'b [u8],
     pub(crate) original: &'b [u8],

@@ -86,7 +86,8 @@ pub(crate) fn sort_rows(rows: &mut Vec<Row<'_>>)
     rows.sort_unstable_by(|a, b| compare_rows(a, b));
 }
 
-/// Of sorted rows that have the key of the row before them, the index of the one that stands first in the text.
+/// Of sorted rows that have the key of the row before them, the index of the one that stands first
+/// in the text.
 pub(crate) fn earliest_repeat(rows: &[Row<'_>]) -> Option<usize>
     requires { AreSorted rows.now }
     ensures rising { result ≡ None → AreRising (map (λ r. r.key.now) rows.now) }
@@ -103,7 +104,8 @@ pub(crate) fn earliest_repeat(rows: &[Row<'_>]) -> Option<usize>
     earliest
 }
 
-/// Of the row that was found, if any, and the row at an index, the index of the one that stands first in the text.
+/// Of the row that was found, if any, and the row at an index, the index of the one that stands
+/// first in the text.
 fn earlier(rows: &[Row<'_>], found: Option<usize>, i: usize) -> usize
     requires inside { i < length rows.now }
     requires found { IfSome found (λ index. index < length rows.now) }

@@ -11,8 +11,9 @@ use po_catalog::Stats;
 use po_syntax::{PoError, PoFault};
 use std::alloc::Global;
 
-/// The messages that are compiled, in the order of their keys. The keys of all live entries are sorted once, and then
-/// only neighbours can be equal. Refused with the fault of `duplicates`, and where an allocation failed.
+/// The messages that are compiled, in the order of their keys. The keys of all live entries are
+/// sorted once, and then only neighbours can be equal. Refused with the fault of `duplicates`, and
+/// where an allocation failed.
 pub(crate) fn sorted_pairs(
     alloc: Global,
     collected: &Collected,
@@ -35,7 +36,7 @@ pub(crate) fn sorted_pairs(
     }
 }
 
-/// How many messages were translated, fuzzy and untranslated.
+/// How many messages are translated, fuzzy and untranslated.
 pub(crate) fn statistics_of(lengths: &[Lengths]) -> Stats
     ensures { result ≡ counts_of lengths.now }
 {
@@ -46,21 +47,21 @@ pub(crate) fn statistics_of(lengths: &[Lengths]) -> Stats
     }
 }
 
-/// How many messages were translated.
+/// How many messages are translated.
 fn translated_count(lengths: &[Lengths]) -> u64
     ensures { result ≡ count_by (λ (l : LengthsSeen). l.translated) lengths.now }
 {
     lengths.iter().filter(|l| l.translated).count() as u64
 }
 
-/// How many messages were fuzzy.
+/// How many messages are fuzzy.
 fn fuzzy_count(lengths: &[Lengths]) -> u64
     ensures { result ≡ count_by (λ (l : LengthsSeen). l.fuzzy) lengths.now }
 {
     lengths.iter().filter(|l| l.fuzzy).count() as u64
 }
 
-/// How many messages were untranslated.
+/// How many messages are untranslated.
 fn untranslated_count(lengths: &[Lengths]) -> u64
     ensures { result ≡ count_by (λ (l : LengthsSeen). l.untranslated) lengths.now }
 {
