@@ -15,15 +15,16 @@ pub record CompilesTo (options : Options) (text bytes : List ℕ) : Type 0 where
   pub accepted : AreAccepted options (text ∷ []) catalogues
   pub same_bytes : (compiled : Compiled) → AreCompiled options (text ∷ []) compiled → compiled.bytes.items ≡ bytes
 
--- What texts are compiled to has a PO text, which compiles to the same bytes in the same byte order where it isn't too
--- large for a PO text, whether fuzzy entries are compiled or not.
+-- What texts are compiled to has a PO text, which compiles to the same bytes in the same byte order
+-- where it isn't too large for a PO text, whether fuzzy entries are compiled or not.
 abbrev pub UnformatThenCompile : Type 0
 UnformatThenCompile =
     (options : Options) (texts : List (List ℕ)) (compiled : Compiled) → AreCompiled options texts compiled
     → (text : List ℕ) × IsUnformatted compiled.bytes.items text
     × (IsSmall text → (use_fuzzy : Bool) → CompilesTo (record { use_fuzzy = use_fuzzy; order = options.order }) text compiled.bytes.items)
 
--- bytes that have a PO text have no fault; what may be reported in place of the text is out of memory alone
+-- bytes that have a PO text have no fault; what may be reported in place of the text is out of
+-- memory alone
 abbrev pub NoFaultWhereUnformatted : Type 0
 NoFaultWhereUnformatted =
     (bytes text : List ℕ) (error : UnformatError) → IsUnformatted bytes text → IsUnformatFault bytes error → error ≡ OutOfMemory

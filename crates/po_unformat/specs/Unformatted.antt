@@ -1,4 +1,5 @@
--- The entries of an MO file's messages (manual, "Invoking the msgunfmt Program" and "The Format of GNU MO Files").
+-- The entries of an MO file's messages (manual, "Invoking the msgunfmt Program" and "The Format of
+-- GNU MO Files").
 use Rattle.std.specs.Prelude.{ℕ, ◌==◌, Bool, List, map, take, Option, None, Some, slice_get, if◌then◌else◌}
 use Rattle.std.specs.List.{list_any, before_first, after_first, slice_split}
 use Rattle.mo_file.specs.Key.{is_nul, key_of}
@@ -21,7 +22,7 @@ id_of key = if list_any is_eot key then after_first is_eot key else key
 abbrev pub plural_of : List ℕ → Option (List ℕ)
 plural_of original = slice_get (slice_split is_nul original) 1
 
--- with a plural all pieces of a translation are forms, without one its first piece is the only form
+-- with a plural all parts of a translation are forms, without one its first part is the only form
 abbrev pub taken_forms : Option (List ℕ) → List (List ℕ) → List (List ℕ)
 taken_forms None pieces = take 1 pieces
 taken_forms (Some plural) pieces = pieces

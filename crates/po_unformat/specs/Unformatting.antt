@@ -42,8 +42,8 @@ pub record HasForeignCharset (messages : List Message) : Type 0 where
 abbrev pub IsUnformatted : List ℕ → List ℕ → Type 0
 IsUnformatted bytes text = IsFileOf bytes (AreWrittenAs text)
 
--- Why bytes have no PO text: the first fault of an MO file; then the first message whose texts can't stand in an entry;
--- then the charset of a header.
+-- Why bytes have no PO text: the first fault of an MO file; then the first message whose texts
+-- can't stand in an entry; then the charset of a header.
 abbrev pub IsUnformatFault : List ℕ → UnformatError → Type 0
 IsUnformatFault bytes (Mo fault) = IsFirstFault bytes fault
 IsUnformatFault bytes (NotUtf8 i) = IsFileOf bytes (HasFirstTextsFault i BadText)

@@ -14,7 +14,8 @@ pub enum UnformatError {
     /// A text that the entry of this message takes isn't UTF-8.
     #[error("string {0} is not UTF-8")]
     NotUtf8(u32),
-    /// A text that the entry of this message takes holds a byte that it may not hold: an EOT in the msgid.
+    /// A text that the entry of this message takes holds a byte that it may not hold: an EOT in the
+    /// msgid.
     #[error("string {0} has a forbidden byte")]
     ForbiddenByte(u32),
     /// A header names a charset other than UTF-8 and ASCII.

@@ -11,7 +11,8 @@ use po_compile::laws::{
 use po_reader::laws::{entries_can_stand, one_reading};
 use po_writer::laws::{live_entries_stay, some_entry_is_written, written_text_reads};
 
-/// A compiled file has a PO text, which compiles to the same bytes in the same byte order.
+/// A compiled file has a PO text, which compiles to the same bytes in the same byte order, if it is
+/// not too large.
 pub fn unformat_then_compile()
     ensures { UnformatThenCompile }
 {

@@ -1,4 +1,4 @@
-//! The parts of originals and translations ("The Format of GNU MO Files").
+//! The parts of originals and translations (GNU gettext manual, "The Format of GNU MO Files").
 
 ghost use Rattle.std.specs.Prelude.{◌≡◌, ◌++◌, [], ◌∷◌, IfOk, MatchOption, take};
 ghost use Rattle.std.specs.Option.{option_copied};
@@ -14,7 +14,7 @@ use std::alloc::{AllocError, Global};
 /// The byte between a context and a msgid.
 const EOT: u8 = 4;
 
-/// The byte between a key and a plural, and between the pieces of a translation.
+/// The byte between a key and a plural, and between the parts of a translation.
 const NUL: u8 = 0;
 
 /// What stands before the first such byte and after it, where there is one.
@@ -58,7 +58,7 @@ pub(crate) fn first_piece(text: &[u8]) -> &[u8]
     }
 }
 
-/// The pieces between the NULs of a translation.
+/// The parts of a translation between its NULs.
 pub(crate) fn pieces(alloc: Global, translation: &[u8]) -> Result<Vec<&[u8]>, AllocError>
     ensures { IfOk result (λ pieces. slice_texts pieces.items ≡ forms translation.now) }
 {

@@ -9,8 +9,8 @@ use po_entry::has_admitted_charset;
 use po_writer::append;
 use std::alloc::Global;
 
-/// The text of the entries of a file, in a buffer that has room for so many bytes at first. One entry
-/// is held at a time.
+/// The text of the entries of a file, in a buffer that has room for so many bytes at first. One
+/// entry is held at a time.
 fn text_of(alloc: Global, view: &MoView<'_>, room: usize) -> Result<Vec<u8>, UnformatError>
     ensures { MatchResult result (λ text. AreWrittenAs text.items view.now) (RefusesMessages view.now) }
 {
@@ -30,12 +30,13 @@ fn text_of(alloc: Global, view: &MoView<'_>, room: usize) -> Result<Vec<u8>, Unf
     }
 }
 
-/// The PO text of an MO file of any origin, in either byte order: a live entry for each message, in the
-/// order of the file (GNU gettext manual, "Invoking the msgunfmt Program").
+/// The PO text of an MO file of any origin, in either byte order: a live entry for each message, in
+/// the order of the file (GNU gettext manual, "Invoking the msgunfmt Program").
 ///
-/// Refused with `Mo` and the first fault of the file; then with `NotUtf8` or `ForbiddenByte` and the
-/// first message, counted from 0, whose texts can't stand in an entry; then with `ForeignCharset`, where
-/// a header names a charset other than UTF-8 and ASCII. `OutOfMemory` may come in place of any answer.
+/// Refused with `Mo` and the first fault of the file; then with `NotUtf8` or `ForbiddenByte` and
+/// the first message, counted from 0, whose texts can't stand in an entry; then with
+/// `ForeignCharset`, where a header names a charset other than UTF-8 and ASCII. `OutOfMemory` may
+/// come in place of any answer.
 pub fn unformat(alloc: Global, bytes: &[u8]) -> Result<Vec<u8>, UnformatError>
     ensures { MatchResult result (λ text. IsUnformatted bytes.now text.items) (IsUnformatFault bytes.now) }
 {
