@@ -19,7 +19,7 @@ Shown most b = (32 ≤ b) × (b < most)
 none_shown : (most : ℕ) → All (Shown most) []
 none_shown most = λ k d inside. absurd (omega arith)
 
--- a backslash and a letter or mark
+-- a backslash and a letter, a backslash or a quote
 letter_shown : (most letter : ℕ) → 128 ≤ most → 32 ≤ letter → letter < 128 → All (Shown most) (92 ∷ letter ∷ [])
 letter_shown most letter bound low high =
     All-cons (Shown most) 92 (letter ∷ []) (omega arith, omega arith) (All-cons (Shown most) letter [] (low, omega arith) (none_shown most))

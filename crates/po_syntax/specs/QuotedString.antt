@@ -30,7 +30,7 @@ numbered number rest =
 abbrev pub number_step : ℕ → ℕ → List ℕ → Step
 number_step base count text = numbered (digits_value base (take count text)) (drop count text)
 
--- the byte that a letter or mark after a backslash stands for: `a b f n r t v`, `\` and `"`
+-- the byte that a letter, a backslash or a quote after a backslash stands for
 abbrev pub letter_value : ℕ → Option ℕ
 letter_value letter =
     if letter == 97 then Some 7

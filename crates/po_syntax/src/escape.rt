@@ -49,7 +49,7 @@ fn numbered_byte(base: u32, count: usize, text: &[u8]) -> Result<(u8, &[u8]), Po
     }
 }
 
-/// The byte that a letter or mark after a backslash stands for.
+/// The byte that a letter, a backslash or a quote after a backslash stands for.
 fn letter_value(letter: u8) -> Option<u8>
     ensures { result ≡ letter_value letter }
 {
