@@ -62,8 +62,8 @@ pub data SpellsTranslation (obsolete : Bool) : List TextItem → Option (List �
   plural : {line : ℕ} {own items : List TextItem} {text : List ℕ} {forms : List (List ℕ)} → SpellsKeywordText MsgIdPlural (own_marks obsolete) line own text → SpellsForms obsolete 0 items forms
       → SpellsTranslation obsolete (own ++ items) (Some text) forms
 
--- an entry's own lines: its context, if any, its msgid with its line, and its translation, all
--- obsolete or none
+-- an entry's own lines: its context, if any, its msgid with its line, its plural, if any, and its
+-- forms, all obsolete or none
 pub data SpellsBody : List TextItem → Body → Type 0 where
   own_lines : {obsolete : Bool} {line : ℕ} {first own last : List TextItem} {context : Option (List ℕ)} {id : List ℕ} {plural : Option (List ℕ)} {forms : List (List ℕ)} → SpellsContext obsolete first context
       → SpellsKeywordText MsgId (own_marks obsolete) line own id → SpellsTranslation obsolete last plural forms
