@@ -50,7 +50,7 @@ forms_block law keywords prefix obsolete index form (next ∷ forms) p h few =
     (λ here rest h g. spell.more_forms h.1 g) (text_block law prefix (codes "msgstr[" ++ decimal index ++ codes "]") (MsgStrAt index) (own_marks obsolete) form p (keywords index (omega (arith, few))) (All-head IsQuotable form (next ∷ forms) h))
     (forms_block law keywords prefix obsolete (index + 1) next forms p (All-tail IsQuotable form (next ∷ forms) h) (omega (arith, few)))
 
--- the items are a translation
+-- the items are the plural, if any, and the forms
 abbrev TranslationPart : Bool → Option (List ℕ) → List (List ℕ) → List TextItem → Type 0
 TranslationPart obsolete plural forms here = SpellsTranslation obsolete here plural forms
 

@@ -60,7 +60,7 @@ form_lines prefix index [] = []
 form_lines prefix index (form ∷ forms) =
     keyword_lines prefix (codes "msgstr[" ++ decimal index ++ codes "]") form ++ form_lines prefix (index + 1) forms
 
--- the translation: `msgstr`, or the plural and its forms
+-- the only form after `msgstr`, or the plural and the plural forms
 abbrev pub translation_lines : List ℕ → Option (List ℕ) → List (List ℕ) → List ℕ
 translation_lines prefix None forms = flat_map (keyword_lines prefix (codes "msgstr")) forms
 translation_lines prefix (Some plural) forms = keyword_lines prefix (codes "msgid_plural") plural ++ form_lines prefix 0 forms

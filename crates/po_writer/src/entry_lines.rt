@@ -110,7 +110,7 @@ fn push_single(out: &mut Vec<u8>, prefix: &[u8], forms: &[Vec<u8>]) -> Result<()
     Ok(())
 }
 
-/// Appends the translation, with the plural where there is one.
+/// Appends the plural, where there is one, and the forms.
 fn push_translation(
     out: &mut Vec<u8>,
     prefix: &[u8],
