@@ -11,9 +11,9 @@ use std::alloc::{AllocError, Global};
 /// msgfmt Program", `--statistics`).
 #[derive(Clone, Copy, Debug, PartialEq, Eq)]
 pub struct Stats {
-    /// Messages with a translation that is not marked as fuzzy.
+    /// Messages whose first form isn't empty, without the flag `fuzzy`.
     pub translated: u64,
-    /// Messages with a translation that is marked as fuzzy.
+    /// Messages whose first form isn't empty, with the flag `fuzzy`.
     pub fuzzy: u64,
     /// Messages whose first form is empty.
     pub untranslated: u64,
