@@ -1,4 +1,4 @@
--- Internal: sets of texts and of form lists, which say what was met so far.
+-- Internal: sets of texts and of form lists, which say what was seen so far.
 use Rattle.std.specs.Prelude.{◌≡◌, ℕ, List, bytes_eq, filter, length, nat_lt}
 use Rattle.std.specs.List.{list_any}
 use Rattle.std.specs.Ordering.{nat_cmp}

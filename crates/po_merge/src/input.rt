@@ -3,7 +3,7 @@ use po_catalog::Catalogue;
 /// A catalogue that is merged with others.
 #[derive(Debug, Drop)]
 pub struct Named<'a> {
-    /// The name of the input, which stands where a different translation of it is marked.
+    /// The name of the input, under which its forms stand where different translations are joined.
     pub name: &'a str,
     /// The catalogue.
     pub catalogue: Catalogue,
