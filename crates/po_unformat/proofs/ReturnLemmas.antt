@@ -122,7 +122,7 @@ all_returned parts use_fuzzy entries messages valid are =
     returned parts e (can_stand i d inside) (left (has_translation e) (use_fuzzy || not e.fuzzy || is_header e) wanted) in
     All-permutation IsReturned (messages_of_entries list) messages are.all (All-map IsReturned message_of list each)
 
--- a test that each entry passes leaves none out
+-- a test that each entry passes omits none
 kept : (test : TextEntry → Bool) (entries : List TextEntry) → All (λ e. test e ≡ true) entries → filter test entries ≡ entries
 kept test [] passes = refl
 kept test (entry ∷ entries) passes =
