@@ -63,7 +63,7 @@ first_row : (rows : List Row) → 0 < length rows → Row
 first_row [] some = absurd (omega arith)
 first_row (row ∷ rows) some = row
 
--- the place of a row, as a text
+-- the place of a row, as a list of one number
 abbrev place_text : Row → List ℕ
 place_text row = row.place ∷ []
 

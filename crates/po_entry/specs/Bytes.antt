@@ -1,4 +1,5 @@
--- Texts, as the parts of an entry are distinguished (manual, "The Format of PO Files").
+-- The bytes and blanks of texts, of which the parts of an entry consist (manual, "The Format of PO
+-- Files").
 use Rattle.std.specs.Prelude.{◌≢◌, ℕ, ◌-◌, List, [], ◌∷◌, All, Contains, length, take}
 use Rattle.std.specs.List.{suffix_len}
 use Rattle.po_syntax.specs.Token.{is_blank, skip_blanks}
