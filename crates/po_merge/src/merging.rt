@@ -101,8 +101,8 @@ fn merged_entry(
     }
 }
 
-/// Adds an entry to those that are merged. Refused, without a line, with `ForeignCharset` for a header
-/// whose charset isn't admitted, or with `OutOfMemory`.
+/// Adds an entry to those that are merged. Refused, without a line, with `ForeignCharset` for a
+/// header whose charset isn't admitted, or with `OutOfMemory`.
 fn push_entry(catalogue: &mut Catalogue, entry: Entry) -> Result<(), PoError>
     ensures pushed { OnOk result (catalogue.new ≡ catalogue.old ++ entry ∷ []) }
     ensures fault { IfErr result (IsMergeFault (entry ∷ [])) }
