@@ -5,7 +5,7 @@ use Rattle.mo_file.specs.declared.header.Header.{Header}
 use Rattle.mo_file.specs.Header.{Shows, revision, message_count, originals_table, translations_table}
 use Rattle.mo_file.specs.Fault.{IsOutside, IsUnterminated, IsUnsorted}
 
--- the header is that of these bytes, and both tables lie inside the file
+-- the file header is that of these bytes, and both tables lie inside the file
 pub record IsHeader (header : Header) (bytes : List ℕ) : Type 0 where
   pub long : 28 ≤ length bytes
   pub shows : Shows header.order bytes
@@ -21,7 +21,7 @@ pub record HasStrings (order : Order) (bytes : List ℕ) : Type 0 where
   pub inside : (i : ℕ) → i < message_count order bytes → ¬ IsOutside order bytes i
   pub terminated : (i : ℕ) → i < message_count order bytes → ¬ IsUnterminated order bytes i
 
--- the keys of the messages before this one rise
+-- the keys of the first n messages rise
 abbrev pub IsSortedBelow : Order → List ℕ → ℕ → Type 0
 IsSortedBelow order bytes n = (i : ℕ) → i + 1 < n → ¬ IsUnsorted order bytes i
 

@@ -74,7 +74,7 @@ index (NotSorted i) = i
 abbrev pub IsBefore : MoError → MoError → Type 0
 IsBefore f e = (kind f < kind e) ⊎ ((kind f ≡ kind e) × (index f < index e))
 
--- the fault that is reported of these bytes
+-- the fault that is reported for these bytes
 pub record IsFirstFault (bytes : List ℕ) (e : MoError) : Type 0 where
   pub holds : HasFault bytes e
   pub first : (f : MoError) → IsBefore f e → ¬ HasFault bytes f

@@ -1,5 +1,5 @@
--- The header of an MO file: the magic number, the revision, the number of messages, and where the
--- tables of the originals and of the translations begin. Two more words, for a hash table, are
+-- The file header of an MO file: the magic number, the revision, the number of messages, and where
+-- the tables of the originals and of the translations begin. Two more words, for a hash table, are
 -- ignored ("The Format of GNU MO Files").
 use Rattle.std.specs.Prelude.{◌≡◌, ℕ, List, [], ◌∷◌, take}
 use Rattle.mo_file.specs.declared.byte_order.Order.{Order}

@@ -1,5 +1,5 @@
--- The key by which a message is looked up ("The Format of GNU MO Files"): a context stands before
--- the msgid with a byte 4 (EOT) between them, and a plural form stands after it after a NUL.
+-- The key by which a message is looked up ("The Format of GNU MO Files"): the msgid, or the
+-- context, a byte 4 (EOT) and the msgid. In an original a NUL and the plural may follow the key.
 use Rattle.std.specs.Prelude.{◌≡◌, ℕ, ◌+◌, ◌<◌, ◌==◌, Bool, List, [], ◌∷◌, ◌++◌, length, map, slice_index_or, Option, None, Some}
 use Rattle.std.specs.Ordering.{nat_cmp}
 use Rattle.std.specs.declared.cmp.Ordering.{Ordering}
@@ -20,7 +20,7 @@ abbrev pub query_key : Option (List ℕ) → List ℕ → List ℕ
 query_key None id = id
 query_key (Some context) id = context ++ 4 ∷ id
 
--- how two keys stand to each other: by unsigned bytes, a prefix before what is longer
+-- how two keys compare: by unsigned bytes, a prefix before what is longer
 abbrev pub key_cmp : List ℕ → List ℕ → Ordering
 key_cmp x y = slice_cmp nat_cmp x y
 

@@ -12,7 +12,7 @@ message pair = record { original = pair.original.items; translation = pair.trans
 abbrev pub messages_of_pairs : List Pair → List Message
 messages_of_pairs pairs = map message pairs
 
--- the same of pairs whose strings are lent
+-- the same of pairs whose strings are borrowed
 abbrev pub lent_message : LentPair → Message
 lent_message pair = record { original = pair.original.now; translation = pair.translation.now }
 

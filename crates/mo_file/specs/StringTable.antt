@@ -1,5 +1,5 @@
--- The tables of an MO file: for each message the length of a string, without its NUL, and its offset
--- from the start of the file ("The Format of GNU MO Files").
+-- The tables of an MO file: for each message the length of a string, without its NUL, and its
+-- offset from the start of the file ("The Format of GNU MO Files").
 use Rattle.std.specs.Prelude.{ℕ, ◌+◌, ◌*◌, List, map}
 use Rattle.std.specs.List.{range_with_len, slice_range}
 use Rattle.mo_file.specs.declared.byte_order.Order.{Order}

@@ -4,7 +4,7 @@ ghost use Rattle.mo_file.specs.Agreement.{IsAgreement, IsAgreementIn, first_set}
 
 use std::simd::prelude::*;
 
-/// How many bytes two texts have in common at their start, up to the first that is `stop`.
+/// The length of the common prefix of two texts, which ends before the first byte that is `stop`.
 #[inline(always)]
 pub(crate) fn agreement_len(stop: u8, first: &[u8], second: &[u8]) -> usize
     ensures { IsAgreement stop first.now second.now result }
@@ -23,7 +23,8 @@ pub(crate) fn agreement_len(stop: u8, first: &[u8], second: &[u8]) -> usize
     }
 }
 
-/// In how many bytes two texts agree that may agree for long, as the rests of a file do.
+/// The same for texts whose common prefix may be long, such as two rests of a file: texts of 32
+/// bytes and more are compared 32 bytes at a time.
 #[inline(always)]
 pub(crate) fn long_agreement_len(stop: u8, first: &[u8], second: &[u8]) -> usize
     ensures { IsAgreement stop first.now second.now result }
@@ -36,8 +37,8 @@ pub(crate) fn long_agreement_len(stop: u8, first: &[u8], second: &[u8]) -> usize
     }
 }
 
-/// In how many of their first `len` bytes two texts agree, compared `LANES` at a time: the last of these may be
-/// such as were compared before.
+/// The same within the first `len` bytes, compared `LANES` at a time. The last group ends at `len`,
+/// so it may begin with bytes of the group before it.
 #[inline(always)]
 fn agreement_within<const LANES: usize>(stop: u8, first: &[u8], second: &[u8], len: usize) -> usize
     requires lanes { (0 < LANES) × (LANES ≤ 64) }
@@ -58,7 +59,8 @@ fn agreement_within<const LANES: usize>(stop: u8, first: &[u8], second: &[u8], l
     last + agreement_at::<LANES>(stop, first, second, last)
 }
 
-/// How many of the `LANES` bytes from an index on are the same in both texts, up to the first that is `stop`.
+/// How many of the `LANES` bytes from `at` on are the same in both texts, up to the first that is
+/// `stop`.
 #[inline(always)]
 fn agreement_at<const LANES: usize>(stop: u8, first: &[u8], second: &[u8], at: usize) -> usize
     requires lanes { LANES ≤ 64 }
@@ -84,7 +86,7 @@ fn first_set(mask: u64, lanes: usize) -> usize
     }
 }
 
-/// The byte at an index of a text, or 0 after its end, as where a NUL ends it.
+/// The byte at an index of a text, or 0 after its end, as if a NUL followed the text.
 #[inline(always)]
 pub(crate) fn byte_at(text: &[u8], at: usize) -> u8
     ensures { result ≡ slice_index text.now at }
@@ -92,7 +94,7 @@ pub(crate) fn byte_at(text: &[u8], at: usize) -> u8
     text.get(at).copied().unwrap_or(0)
 }
 
-/// The index of the first byte of a text that is this one. A text agrees with itself up to there.
+/// The index of the first `byte` in a text. The text is compared with itself, which ends there.
 #[inline(always)]
 pub fn find_byte(byte: u8, text: &[u8]) -> Option<usize>
     ensures { IsFirstByte (is_byte byte) text.now result }

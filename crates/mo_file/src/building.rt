@@ -11,7 +11,8 @@ use crate::writing::{originals_offset, push_header, push_strings, push_table};
 use std::alloc::{AllocError, Global};
 use thiserror::Error;
 
-/// What a file has for each pair beside the bytes of its strings: two entries and two NULs.
+/// How many bytes a file has for each pair besides those of its strings: 8 in each table, and two
+/// NULs.
 const PAIR_OVERHEAD: u64 = 18;
 
 /// Why no file is built. Of two reasons that hold the first in this order is reported.
@@ -39,9 +40,10 @@ impl From<AllocError> for BuildError {
     }
 }
 
-/// The MO file of pairs that are sorted by their keys: the header, the table of the originals, that of
-/// the translations, all originals and all translations, each followed by a NUL, without padding and
-/// without a hash table ("The Format of GNU MO Files"). The words are written in the given byte order.
+/// The MO file of pairs that are sorted by their keys: the header, the table of the originals, that
+/// of the translations, all originals and all translations, each followed by a NUL, without padding
+/// and without a hash table ("The Format of GNU MO Files"). The words are written in the given byte
+/// order.
 pub fn build(alloc: Global, order: Order, pairs: &[Pair]) -> Result<Vec<u8>, BuildError>
     ensures layout { IfOk result (λ bytes. bytes.items ≡ layout order (messages_of_pairs pairs.now)) }
     ensures fits { OnOk result (LayoutFits order (messages_of_pairs pairs.now)) }
@@ -78,7 +80,7 @@ pub fn build_sorted(
     Ok(laid_out(alloc, order, pairs, len as u32)?)
 }
 
-/// The length of a file with one more pair, or 2^64 - 1 where it is longer.
+/// The length of a file of `len` bytes with one more pair, or 2^64 - 1 where it is longer.
 fn with_pair(len: u64, original: &[u8], translation: &[u8]) -> u64
     ensures { result ≡ min (len + 18 + length original.now + length translation.now) (2 ^ 64 - 1) }
 {
@@ -99,7 +101,7 @@ fn layout_len(pairs: &[Pair]) -> u64
     len
 }
 
-/// The length of the file of lent pairs, in either byte order, or 2^64 - 1 where it is longer.
+/// The length of the file of borrowed pairs, in either byte order, or 2^64 - 1 where it is longer.
 fn lent_len(pairs: &[LentPair<'_>]) -> u64
     ensures { (order : Order)
         → result ≡ min (length (layout order (messages_of_lent pairs.now))) (2 ^ 64 - 1) }

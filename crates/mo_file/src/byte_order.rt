@@ -11,8 +11,8 @@ pub(crate) const LITTLE_MAGIC: [u8; 4] = [0xde, 0x12, 0x04, 0x95];
 /// The first four bytes of a file in big endian order.
 pub(crate) const BIG_MAGIC: [u8; 4] = [0x95, 0x04, 0x12, 0xde];
 
-/// The byte order of the 32-bit words of an MO file ("The Format of GNU MO Files"): the machine that
-/// reads a file knows it from the magic number.
+/// The byte order of the 32-bit words of an MO file ("The Format of GNU MO Files"): the machine
+/// that reads a file knows it from the magic number.
 #[derive(Clone, Copy, Debug, PartialEq, Eq)]
 pub enum Order {
     /// The lowest byte of a word first.
@@ -51,7 +51,7 @@ impl Order {
     }
 }
 
-/// The word at an offset.
+/// The 32-bit word at an offset, in this byte order.
 #[tactic(auto, unfolding(crate::specs::Word::word_at))]
 pub(crate) fn word(order: Order, bytes: &[u8], at: usize) -> u32
     requires { at + 4 ≤ length bytes.now }
@@ -63,7 +63,7 @@ pub(crate) fn word(order: Order, bytes: &[u8], at: usize) -> u32
     }
 }
 
-/// Appends a word.
+/// Appends a 32-bit word in this byte order.
 #[tactic(auto, unfolding(crate::specs::Word::word_bytes))]
 pub(crate) fn push_word(out: &mut Vec<u8>, order: Order, number: u32) -> Result<(), AllocError>
     ensures { OnOk result (out.new.items ≡ out.old.items ++ word_bytes order number) }

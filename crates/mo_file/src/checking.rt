@@ -8,7 +8,8 @@ use crate::header::Header;
 use crate::key::is_below;
 use crate::strings::{range_at, text_at};
 
-/// Sees that each string lies inside the file and that a NUL follows it.
+/// Checks that each string lies inside the file and that a NUL follows it. A string outside the
+/// file is reported before a missing NUL, whichever message has it.
 pub(crate) fn check_strings(header: Header, bytes: &[u8]) -> Result<(), MoError>
     requires { IsHeader header bytes.now }
     ensures exact { MatchResult result
@@ -41,7 +42,7 @@ fn is_nul(bytes: &[u8], at: usize) -> bool
     bytes.get(at) == Some(&0)
 }
 
-/// Sees that the keys rise strictly, by one look at each two neighbours.
+/// Checks that each key is above the one before it, by one comparison for each two neighbours.
 pub(crate) fn check_order(header: Header, bytes: &[u8], meter: &mut Meter) -> Result<(), MoError>
     requires read { IsHeader header bytes.now }
     requires strings { HasStrings header.order bytes.now }

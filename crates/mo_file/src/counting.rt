@@ -2,9 +2,9 @@ ghost use Rattle.std.specs.Prelude.{◌≡◌, ℕ, ◌+◌, ◌-◌, ◌^◌, �
 
 use std::marker::Model;
 
-/// Counts looks at original strings: one for each comparison of a message's key, and one for each
-/// original that is handed out. While a file is opened, one tick is one comparison of two
-/// neighbouring keys.
+/// Counts looks at originals. Comparing the key of a message with that of a query is one look, and
+/// so is reading an original. Opening a file counts one for each comparison of two neighbouring
+/// keys.
 #[derive(Drop)]
 pub struct Meter {
     ticks: u64,

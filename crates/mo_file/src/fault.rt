@@ -1,11 +1,11 @@
 use thiserror::Error;
 
 /// Why bytes aren't an MO file ("The Format of GNU MO Files"). Of the faults that a file has, the
-/// first kind in this order is reported, at its smallest message, counted from 0. Places and lengths are
-/// added up without wrapping.
+/// first kind in this order is reported, with the index of the first message that has it, counted
+/// from 0. Offsets and lengths are added without wrapping around.
 #[derive(Clone, Copy, Debug, PartialEq, Eq, Error)]
 pub enum MoError {
-    /// The file is shorter than its header of seven words, 28 bytes.
+    /// The file is shorter than the file header of seven words, 28 bytes.
     #[error("file too short")]
     TooShort,
     /// The file begins with the magic number in neither byte order.

@@ -8,13 +8,13 @@ ghost use Rattle.mo_file.specs.Checking.{IsChecked, IsHeader};
 use crate::byte_order::{Order, word};
 use crate::fault::MoError;
 
-/// The length of a header: seven words of 4 bytes.
+/// The length of the file header in bytes: seven words of 4.
 pub(crate) const HEADER_LEN: u32 = 28;
 
-/// The length of what a table has for a string: a word for its length and one for its offset.
+/// How many bytes a table has for a string: a word for its length, and one for its offset.
 pub(crate) const ENTRY_LEN: u32 = 8;
 
-/// The words of a header that say where the strings of a file stand.
+/// The words of the file header that say where the strings of a file stand.
 #[derive(Clone, Copy)]
 pub(crate) struct Header {
     pub(crate) order: Order,
@@ -27,7 +27,7 @@ pub(crate) struct Header {
 }
 
 impl Header {
-    /// Reads the header and sees that both tables lie inside the file.
+    /// Reads the file header, and checks that both tables lie inside the file.
     pub(crate) fn read(bytes: &[u8]) -> Result<Header, MoError>
         ensures exact { MatchResult result
             (λ header. IsHeader header bytes.now)
@@ -58,7 +58,7 @@ impl Header {
         })
     }
 
-    /// Reads the header of a file that has been checked, and checks nothing.
+    /// Reads the file header of a file that has been checked, and checks nothing.
     pub(crate) fn of_checked(bytes: &[u8]) -> Header
         requires { (order : Order) × (messages : List Message) × IsCatalog order bytes.now messages }
         ensures { (order : Order) (messages : List Message) → IsCatalog order bytes.now messages

@@ -19,9 +19,9 @@ pub(crate) fn key_of(original: &[u8]) -> &[u8]
     }
 }
 
-/// Where the key of an original stands against the key that a query asks for: by unsigned bytes, a
-/// prefix before what is longer. The query's key is `id` alone, or the context, a byte 4 (EOT) and
-/// `id`; it is compared in place and never built ("The Format of GNU MO Files").
+/// Compares the key of an original with the key that a query asks for, by unsigned bytes; a prefix
+/// comes before what is longer. The query's key is `id` alone, or the context, a byte 4 (EOT) and
+/// `id`. It is compared in place and never built ("The Format of GNU MO Files").
 #[inline(always)]
 pub fn compare_key(original: &[u8], context: Option<&[u8]>, id: &[u8]) -> Ordering
     ensures { result
@@ -40,7 +40,7 @@ pub fn compare_key(original: &[u8], context: Option<&[u8]>, id: &[u8]) -> Orderi
     }
 }
 
-/// Where the key of an original stands against that of a query without a context.
+/// Compares the key of an original with that of a query without a context.
 #[inline(always)]
 fn compare_id(original: &[u8], id: &[u8]) -> Ordering
     ensures { result ≡ key_cmp (key_of original.now) id.now }

@@ -2,10 +2,10 @@
 //! unknown origin is checked and then read in place ("The Format of GNU MO Files" in the GNU
 //! gettext manual).
 //!
-//! [`build`] lays out a file, and [`build_sorted`] one of strings that stand elsewhere.
-//! [`MoView::open`] checks one, and the view then reads its messages, which stand in rising order
-//! of their keys. A [`Meter`] counts the looks at originals, so that a search can promise how few
-//! it needs.
+//! [`build`] lays out a file, and [`build_sorted`] one of borrowed strings whose keys are known to
+//! rise. [`MoView::open`] checks a file, and the view then reads its messages, which stand in
+//! rising order of their keys. A [`Meter`] counts the looks at originals, so that a search can
+//! promise how few it needs.
 //!
 //! To read a file: `fault`, `byte_order`, `header`, `strings`, `agreement`, `key`, `counting`,
 //! `checking`, `view`. To build one: `pairs`, `writing`, `building`. Then `laws`.

@@ -12,9 +12,9 @@ use std::cmp::Ordering;
 /// between them ("The Format of GNU MO Files").
 #[derive(Debug, Drop)]
 pub struct Pair {
-    /// What is looked up, and the plural after it.
+    /// The key, and where there is a plural a NUL and the plural.
     pub original: Vec<u8>,
-    /// What stands in its place.
+    /// The forms, with a NUL between two.
     pub translation: Vec<u8>,
 }
 
@@ -25,19 +25,19 @@ pub(crate) enum Part {
     Translation,
 }
 
-/// A pair whose strings stand elsewhere.
+/// A pair whose strings are borrowed.
 #[derive(Clone, Copy, Debug)]
 pub struct LentPair<'a> {
-    /// What is looked up, and after it the plural.
+    /// The key, and where there is a plural a NUL and the plural.
     pub original: &'a [u8],
-    /// What stands in its place.
+    /// The forms, with a NUL between two.
     pub translation: &'a [u8],
 }
 
 impl<'a> LentPair<'a> {
     ghost use Rattle.mo_file.specs.Pairs.{string_of};
 
-    /// The string of the pair that this part is.
+    /// The original or the translation, as `part` says.
     pub(crate) fn string(&self, part: Part) -> &'a [u8]
         ensures { result.now ≡ string_of part self.now }
     {
@@ -48,7 +48,7 @@ impl<'a> LentPair<'a> {
     }
 }
 
-/// The pairs, whose strings stay where they are.
+/// The same pairs, with their strings borrowed.
 pub(crate) fn lend(alloc: Global, pairs: &[Pair]) -> Result<Vec<LentPair<'_>>, AllocError>
     ensures { IfOk result (λ lent. messages_of_lent lent.items ≡ messages_of_pairs pairs.now) }
 {

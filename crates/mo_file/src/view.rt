@@ -37,11 +37,11 @@ impl<'a> Model for MoView<'a> {
 }
 
 impl<'a> MoView<'a> {
-    /// Checks bytes of any origin, in either byte order, and takes no memory. Strings and tables may
-    /// lie anywhere in the file and may overlap; a hash table and all other bytes are ignored.
+    /// Checks bytes of any origin, in either byte order, and takes no memory. Strings and tables
+    /// may lie anywhere in the file and may overlap; a hash table and all other bytes are ignored.
     ///
-    /// One tick of the meter is one comparison of two neighbouring keys: one less than there are
-    /// messages, `i` where [`MoError::NotSorted`] names message `i`, and none on another refusal.
+    /// The meter counts the comparisons of two neighbouring keys: one less than there are messages,
+    /// `i` where [`MoError::NotSorted`] names message `i`, and none on any other refusal.
     pub fn open(bytes: &'a [u8], meter: &mut Meter) -> Result<MoView<'a>, MoError>
         requires { meter.old < 2 ^ 63 }
         ensures exact { MatchResult result
@@ -61,8 +61,8 @@ impl<'a> MoView<'a> {
         Ok(MoView { bytes, header })
     }
 
-    /// The view of bytes that [`MoView::open`] has accepted, and that haven't changed since: it reads the
-    /// header and checks nothing.
+    /// The view of bytes that [`MoView::open`] has accepted, and that haven't changed since. It
+    /// reads the file header and checks nothing.
     pub fn reopen(bytes: &'a [u8]) -> MoView<'a>
         requires { (order : Order) × (messages : List Message) × IsCatalog order bytes.now messages }
         ensures { (order : Order) (messages : List Message)
@@ -82,8 +82,8 @@ impl<'a> MoView<'a> {
         self.header.count
     }
 
-    /// Where the key of message `i` stands against the key that a query asks for, as [`compare_key`]
-    /// answers. It is one look.
+    /// Compares the key of message `i` with the key that a query asks for, as [`compare_key`] does.
+    /// The meter counts one.
     #[inline(always)]
     pub fn compare(&self, i: u32, context: Option<&[u8]>, id: &[u8], meter: &mut Meter) -> Ordering
         requires inside { i < length self.now }
@@ -96,8 +96,8 @@ impl<'a> MoView<'a> {
         compare_key(text_at(self.header, self.bytes, i), context, id)
     }
 
-    /// The original of message `i`: its key, and for an entry with a plural a NUL and the plural. It
-    /// is one look.
+    /// The original of message `i`: its key, and where there is a plural a NUL and the plural. The
+    /// meter counts one.
     pub fn original(&self, i: u32, meter: &mut Meter) -> &'a [u8]
         requires inside { i < length self.now }
         requires room { meter.old < 2 ^ 64 - 1 }

@@ -7,7 +7,7 @@ use crate::header::{ENTRY_LEN, HEADER_LEN};
 use crate::pairs::{LentPair, Part};
 use std::alloc::AllocError;
 
-/// Where the originals begin in a file of so many messages: after the header and both tables.
+/// Where the originals begin in a file of so many messages: after the file header and both tables.
 pub(crate) fn originals_offset(count: u32) -> u32
     requires { 28 + 16 * count < 2 ^ 32 }
     ensures { result ≡ 28 + 16 * count }
@@ -15,7 +15,7 @@ pub(crate) fn originals_offset(count: u32) -> u32
     HEADER_LEN + 2 * ENTRY_LEN * count
 }
 
-/// Appends the header of a file of so many messages.
+/// Appends the file header of a file of so many messages.
 pub(crate) fn push_header(out: &mut Vec<u8>, order: Order, count: u32) -> Result<(), AllocError>
     requires { 28 + 16 * count < 2 ^ 32 }
     ensures { OnOk result (out.new.items ≡ out.old.items ++ header order count) }
@@ -33,8 +33,8 @@ pub(crate) fn push_header(out: &mut Vec<u8>, order: Order, count: u32) -> Result
     push_word(out, order, originals_offset(count))
 }
 
-/// Appends the table of strings of which the first is to stand at an offset, and gives the offset after
-/// the NUL of the last.
+/// Appends the table of strings of which the first is to stand at `offset`, and returns the offset
+/// after the NUL of the last.
 pub(crate) fn push_table(
     out: &mut Vec<u8>,
     order: Order,
