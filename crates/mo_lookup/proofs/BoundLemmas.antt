@@ -1,4 +1,5 @@
--- The bound of a search: it doesn't depend on the allowance of its recursion, rises, and is a logarithm.
+-- The bound of a search: it doesn't depend on the allowance of its recursion, rises, and is a
+-- logarithm.
 use Rattle.std.proofs.Common.{ℕ, zero, suc, ◌≡◌, ◌+◌, ◌-◌, ◌*◌, ◌/◌, ◌^◌, ◌<◌, ◌≤◌, refl, ap, arith, max, one-add}
 use Rattle.std.proofs.Math.Nat.{pow-succ'}
 use Rattle.mo_lookup.specs.Bound.{halvings_within, search_bound}

@@ -15,7 +15,8 @@ pub not_true : (b : Bool) → (b ≡ true → ⊥) → b ≡ false
 not_true true fails = absurd (fails refl)
 not_true false fails = refl
 
--- a translation with a NUL: its first form stands before it, the others are the forms of what stands after it
+-- a translation with a NUL: its first form stands before it, the others are the forms of what
+-- stands after it
 pub forms-first : (text : List ℕ) (end : ℕ) → NoneBefore (Passes (is_byte 0) text) 0 (length text) end → Passes (is_byte 0) text end →
     forms text ≡ take end text ∷ forms (drop (end + 1) text)
 forms-first text end none here =

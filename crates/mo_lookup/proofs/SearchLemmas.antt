@@ -1,4 +1,4 @@
--- The search by halves: what holds of a range of keys, at its start and after each comparison.
+-- The binary search: what holds of a range of keys, at its start and after each comparison.
 use Rattle.std.proofs.Common.{◌≡◌, ◌≢◌, ℕ, ◌+◌, ◌-◌, ◌/◌, ◌^◌, ◌<◌, ◌≤◌, List, Some, length, sym, ◌∙◌, arith}
 use Rattle.std.specs.declared.cmp.Ordering.{Ordering}
 use Rattle.std.specs.declared.cmp.Ordering.TheVariants.{Less, Equal, Greater}
@@ -10,7 +10,8 @@ use Rattle.mo_lookup.proofs.BoundLemmas.{search_bound-small}
 use Rattle.mo_lookup.proofs.ComparisonLemmas.{AreCompared, AreCompared-less, AreCompared-greater, AreCompared-equal, AreCompared-none, comparisons-bound}
 use Rattle.mo_lookup.proofs.RisingLemmas.{equal_is_same, none_up_to, none_from}
 
--- no key outside the range from low to high is the one, and what was counted leaves the comparisons of the range
+-- no key outside the range from low to high is the one, and what was counted leaves the comparisons
+-- of the range
 pub record IsSearch (ks : List (List ℕ)) (key : List ℕ) (now : List (List ℕ)) (began counted low high : ℕ) : Type 0 where
   pub same : now ≡ ks
   pub rising : AreRising ks

@@ -5,7 +5,8 @@ use Rattle.plural_rule.specs.PluralRule.{Meaning}
 use Rattle.mo_lookup.specs.declared.answer.Answer.{Answer}
 use Rattle.mo_lookup.specs.Query.{Query}
 
--- the text, whether it is a translation, and how many nodes of the plural expression were evaluated for it
+-- the text, whether it is a translation, and how many nodes of the plural expression were evaluated
+-- for it
 pub record AnswerView : Type 0 where
   pub text : List ℕ
   pub found : Bool
@@ -19,8 +20,8 @@ answer_view answer = record { text = answer.text.now; found = answer.found; step
 abbrev pub form_at : List (List ℕ) → ℕ → List ℕ
 form_at forms index = slice_index_or forms index []
 
--- the form that the value of a rule selects: form 0 where the value is undefined, isn't below the rule's number of forms,
--- or isn't below the number of forms that are there
+-- the form that the value of a rule selects: form 0 where the value is undefined, isn't below the
+-- rule's number of forms, or isn't below the number of forms that are there
 abbrev pub selected_form : List (List ℕ) → ℕ → Option ℕ → List ℕ
 selected_form forms nplurals None = form_at forms 0
 selected_form forms nplurals (Some index) = if nat_lt index (min nplurals (length forms)) then form_at forms index else form_at forms 0

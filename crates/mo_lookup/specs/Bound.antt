@@ -7,7 +7,7 @@ halvings_within zero n = 0
 halvings_within (suc most) zero = 0
 halvings_within (suc most) (suc n) = 1 + halvings_within most (suc n / 2)
 
--- the most comparisons that a search of n keys by halves makes
+-- the most comparisons that a binary search of n keys makes
 unfoldable pub search_bound : ℕ → ℕ
 search_bound n = halvings_within n n
 
@@ -15,6 +15,6 @@ search_bound n = halvings_within n n
 abbrev pub BoundHalves : Type 0
 BoundHalves = (search_bound 0 ≡ 0) × ((n : ℕ) → 0 < n → search_bound n ≡ 1 + search_bound (n / 2))
 
--- so it is the whole part of the binary logarithm of n, and one
+-- so it is floor(log2 n) + 1
 abbrev pub BoundIsLogarithm : Type 0
 BoundIsLogarithm = (n : ℕ) → 0 < n → (2 ^ (search_bound n - 1) ≤ n) × (n < 2 ^ search_bound n)

@@ -1,4 +1,5 @@
--- What a chain of catalogues answers: the first one that translates a query does (GNU gettext manual, "The LANGUAGE variable").
+-- What a chain of catalogues answers: the first one that translates a query does (GNU gettext
+-- manual, "The LANGUAGE variable").
 use Rattle.std.specs.Prelude.{◌≡◌, ℕ, ◌+◌, Bool, List, Some, length, min, slice_get, if◌then◌else◌}
 use Rattle.std.specs.List.{find, position_or_len, sum_by}
 use Rattle.std.specs.Option.{is_some, option_map_or}
@@ -23,8 +24,8 @@ translates query contents = is_some (forms_found contents.messages query)
 abbrev pub chain_answered : List Contents → Query → AnswerView
 chain_answered chain query = option_map_or (λ contents. answered contents query) (find (translates query) chain) (untranslated query)
 
--- how many catalogues of a chain are asked: those up to the first that translates the query, else all of them; none
--- where the query isn't clean
+-- how many catalogues of a chain are asked: those up to the first that translates the query, else
+-- all of them; none where the query isn't clean
 abbrev pub asked : List Contents → Query → ℕ
 asked chain query =
     if is_clean_key query.context query.id then min (length chain) (position_or_len (translates query) chain + 1) else 0
@@ -49,7 +50,8 @@ has_key key contents = is_some (translation_under key contents.messages)
 abbrev pub key_comparisons : List ℕ → List Contents → ℕ
 key_comparisons key catalogues = sum_by (λ contents. comparisons (keys contents.messages) key) catalogues
 
--- internal: the first catalogue of a chain that has a key, its index, and its translation under the key
+-- internal: the first catalogue of a chain that has a key, its index, and its translation under the
+-- key
 pub record IsFirstWith (key : List ℕ) (chain : List Contents) (index : ℕ) (contents : Contents) (translation : List ℕ) : Type 0 where
   pub first : index ≡ position_or_len (has_key key) chain
   pub there : slice_get chain index ≡ Some contents

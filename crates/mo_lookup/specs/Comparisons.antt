@@ -7,7 +7,8 @@ use Rattle.mo_file.specs.Key.{key_at, key_cmp, keys, query_key}
 use Rattle.mo_lookup.specs.Bound.{search_bound}
 use Rattle.mo_lookup.specs.Query.{Query, is_clean_key}
 
--- where the key in the middle is below the one that is searched, the keys after it; where it is above, those before it
+-- where the key in the middle is below the one that is searched, the keys after it; where it is
+-- above, those before it
 abbrev pub half : Ordering → List (List ℕ) → List (List ℕ)
 half Less ks = drop (length ks / 2 + 1) ks
 half Equal ks = []
@@ -23,11 +24,12 @@ comparisons_within zero ks key = 0
 comparisons_within (suc most) [] key = 0
 comparisons_within (suc most) (k ∷ ks) key = 1 + comparisons_within most (keys_left (k ∷ ks) key) key
 
--- how many of these keys a search by halves compares with the one that is searched
+-- how many of these keys a binary search compares with the one that is searched
 unfoldable pub comparisons : List (List ℕ) → List ℕ → ℕ
 comparisons ks key = comparisons_within (length ks) ks key
 
--- none of no keys; else the one in the middle, and those that the search among the keys left compares
+-- none of no keys; else the one in the middle, and those that the search among the keys left
+-- compares
 abbrev pub SearchHalves : Type 0
 SearchHalves =
     ((key : List ℕ) → comparisons [] key ≡ 0)

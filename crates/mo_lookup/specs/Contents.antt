@@ -1,4 +1,5 @@
--- What the messages of an MO file answer (GNU gettext manual, "The Format of GNU MO Files" and "Plural forms").
+-- What the messages of an MO file answer (GNU gettext manual, "The Format of GNU MO Files" and
+-- "Plural forms").
 use Rattle.std.specs.Prelude.{ℕ, List, [], Option, None, option_map, if◌then◌else◌}
 use Rattle.std.specs.List.{find, slice_split}
 use Rattle.std.specs.Option.{option_map_or}

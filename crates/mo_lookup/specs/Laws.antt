@@ -1,4 +1,5 @@
--- What is found under a key in a list of messages (GNU gettext manual, "The Format of GNU MO Files").
+-- What is found under a key in a list of messages (GNU gettext manual, "The Format of GNU MO
+-- Files").
 use Rattle.std.specs.Prelude.{◌≡◌, ◌≢◌, ℕ, ◌<◌, List, None, length, slice_get}
 use Rattle.mo_file.specs.Message.{Message, translations}
 use Rattle.mo_file.specs.Key.{AreRising, key_at, keys}

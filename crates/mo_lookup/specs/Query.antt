@@ -18,14 +18,16 @@ given plural = option_map (λ p. (p.0.now, p.1)) plural
 abbrev pub query : Option (Bor (List ℕ)) → List ℕ → Option (Bor (List ℕ) × ℕ) → Query
 query context id plural = record { context = option_copied context; id = id; plural = given plural }
 
--- a byte that no context and no msgid holds: NUL ends a string of the file, and EOT (4) ends a context
+-- a byte that no context and no msgid of a file contains: NUL ends a string, and EOT (4) ends a
+-- context
 abbrev pub is_separator : ℕ → Bool
 is_separator byte = byte == 0 || byte == 4
 
--- whether a text holds no separator
+-- whether a text contains no separator
 abbrev pub is_clean : List ℕ → Bool
 is_clean text = not (list_any is_separator text)
 
--- whether a context and a msgid hold no separator; what isn't clean, no catalogue translates
+-- whether neither a context nor a msgid contains a separator; a query that isn't clean has no
+-- translation
 abbrev pub is_clean_key : Option (List ℕ) → List ℕ → Bool
 is_clean_key context id = is_clean (unwrap_or context []) && is_clean id

@@ -23,8 +23,8 @@ use plural_rule::Rule;
 use std::cmp::Ordering;
 use std::marker::Model;
 
-/// A catalogue of translations in the bytes of an MO file, of whatever origin, in which messages are looked up
-/// ("The Format of GNU MO Files" and "Plural forms").
+/// A catalogue of translations in the bytes of an MO file, of whatever origin, in which messages
+/// are looked up ("The Format of GNU MO Files" and "Plural forms").
 #[derive(Drop)]
 pub struct Catalog<'a> {
     view: MoView<'a>,
@@ -45,8 +45,8 @@ impl<'a> Model for Catalog<'a> {
     ghost invariant = { λ c. AreContents c.view c.rule };
 }
 
-/// The text of a file's header entry, which stands under the empty key and so first; empty where there is none.
-/// For a file with messages this is one comparison.
+/// The text of a file's header entry, which stands under the empty key and so first; empty where
+/// there is none. For a file with messages this is one comparison.
 #[inline(never)]
 fn header_text<'a>(view: &MoView<'a>, meter: &mut Meter) -> &'a [u8]
     requires { meter.old < 2 ^ 63 + length view.now }
@@ -65,10 +65,11 @@ fn header_text<'a>(view: &MoView<'a>, meter: &mut Meter) -> &'a [u8]
 }
 
 impl<'a> Catalog<'a> {
-    /// Opens the bytes of an MO file in either byte order. They are checked whole, and refused with the first fault
-    /// in the order of `MoError` exactly where they are no valid file. The meter rises by at most the number of
-    /// messages; where a key is out of order, by at most the index of the message that is reported; else where the
-    /// bytes are refused, not at all. Before the call its count is below 2^63.
+    /// Opens the bytes of an MO file in either byte order. They are checked whole, and refused with
+    /// the first fault in the order of `MoError` exactly where they are no valid file. The meter
+    /// rises by at most the number of messages. Where message `i` is refused as out of order it
+    /// rises by at most `i`, and on any other refusal not at all. Before the call its count is
+    /// below 2^63.
     #[inline(always)]
     pub fn open(bytes: &'a [u8], meter: &mut Meter) -> Result<Catalog<'a>, MoError>
         requires { meter.old < 2 ^ 63 }
@@ -103,12 +104,13 @@ impl<'a> Catalog<'a> {
         &self.rule
     }
 
-    /// Looks up the message of a context, or of none, and a msgid. Where a plural and a count are given, the count
-    /// selects the plural form; the given plural isn't compared with the catalogue's.
+    /// Looks up the message of a context, or of none, and a msgid. Where a plural and a count are
+    /// given, the count selects the plural form; the given plural isn't compared with the
+    /// catalogue's.
     ///
-    /// A message that isn't there is answered by the msgid, or by the plural for a count that isn't 1, and so is
-    /// without a comparison a context or a msgid that holds a byte 0 or 4. The meter counts the comparisons; before
-    /// the call its count is below 2^63.
+    /// A message that isn't there is answered by the msgid, or for a count that isn't 1 by the
+    /// plural. A context or a msgid that contains a byte 0 or 4 is answered in the same way, without
+    /// a comparison. The meter counts the comparisons; before the call its count is below 2^63.
     pub fn look<'q>(
         &self,
         context: Option<&[u8]>,
@@ -138,7 +140,8 @@ impl<'a> Catalog<'a> {
         )
     }
 
-    /// The translation under the key of a context and a msgid, which the search finds or not.
+    /// The translation under the key of a context and a msgid, or None where no message has that
+    /// key.
     pub(crate) fn translation(
         &self,
         context: Option<&[u8]>,
@@ -157,7 +160,8 @@ impl<'a> Catalog<'a> {
         translation(&self.view, context, id, meter)
     }
 
-    /// The form of a translation, form 0 where no plural is asked for, and the nodes that were evaluated for it.
+    /// The form of a translation, which is form 0 where no plural is given, and how many nodes were
+    /// evaluated for it.
     pub(crate) fn form(
         &self,
         translation: &'a [u8],

@@ -12,18 +12,20 @@ use crate::query::{is_clean_key, untranslated_text};
 use mo_file::Meter;
 use std::marker::Model;
 
-/// What a look-up in a chain answers: a slice of a catalogue's bytes or of the query, and what it took.
+/// What a look-up in a chain answers: a slice of a catalogue's bytes or of the query, and what it
+/// cost.
 #[derive(Clone, Copy, Debug, PartialEq, Eq)]
 pub struct ChainAnswer<'q> {
-    /// The translation's form, or where no catalogue has one the msgid or the plural that was asked for.
+    /// The translation's form, or where no catalogue has one the msgid or the plural that was asked
+    /// for.
     pub text: &'q [u8],
     /// Whether a catalogue of the chain has a translation.
     pub found: bool,
-    /// How many keys of the catalogues that were asked were compared with the query's.
+    /// How many keys were compared with the query's, in all catalogues that were asked.
     pub comparisons: u64,
     /// How many nodes of the answering catalogue's plural expression were evaluated.
     pub steps: u32,
-    /// How many catalogues were asked: with a translation, the number of the one that has it, counted from 1.
+    /// How many catalogues were asked. Where there is a translation, the last of them has it.
     pub asked: u32,
 }
 
@@ -57,9 +59,10 @@ impl<'c, 'a> Chain<'c, 'a> {
         Chain { members }
     }
 
-    /// Looks up a message as `Catalog::look` does, in one catalogue after the other up to the first that has it,
-    /// whose plural rule then selects the form. A context or a msgid that holds a byte 0 or 4 is asked of none. The
-    /// meter counts the comparisons; before the call its count is below 2^62.
+    /// Looks up a message as `Catalog::look` does, in one catalogue after the other up to the first
+    /// that has it, whose plural rule then selects the form. For a context or a msgid that contains
+    /// a byte 0 or 4 no catalogue is asked. The meter counts the comparisons; before the call its
+    /// count is below 2^62.
     pub fn look<'q>(
         &self,
         context: Option<&[u8]>,
@@ -111,7 +114,8 @@ impl<'c, 'a> Chain<'c, 'a> {
     }
 }
 
-/// The first catalogue that has a key, its index counted from 0, and its translation under the key.
+/// The first catalogue that has a key, with its index, counted from 0, and its translation under
+/// the key.
 #[derive(Drop)]
 struct First<'c, 'a> {
     index: u32,
@@ -119,7 +123,7 @@ struct First<'c, 'a> {
     translation: &'a [u8],
 }
 
-/// The first of some catalogues that has the key of a context and a msgid.
+/// The first catalogue that has the key of a context and a msgid.
 fn first_with<'c, 'a>(
     catalogs: &'c [Catalog<'a>],
     context: Option<&[u8]>,

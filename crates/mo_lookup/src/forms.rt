@@ -41,7 +41,9 @@ fn form(translation: &[u8], index: u64) -> Option<&[u8]>
     Some(before_nul(rest))
 }
 
-/// The form that a rule with `nplurals` forms selects for a count, and the nodes of its expression that were evaluated.
+/// The form that a rule with `nplurals` forms selects for a count, and how many nodes of its
+/// expression were evaluated. Form 0 is selected where the value is undefined, isn't below
+/// `nplurals`, or has no form in this translation.
 pub(crate) fn selected_form<'t>(
     translation: &'t [u8],
     nplurals: u64,

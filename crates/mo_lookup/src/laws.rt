@@ -5,25 +5,24 @@ ghost use Rattle.mo_lookup.specs.Bound.{BoundHalves, BoundIsLogarithm};
 ghost use Rattle.mo_lookup.specs.Comparisons.{SearchHalves, SearchIsBounded};
 ghost use Rattle.mo_lookup.specs.Laws.{EachKeyFindsItsTranslation, OtherKeysFindNone};
 
-/// The most comparisons of a search are 0 for no keys, and else one more than for half as many.
+/// The bound of a search is 0 for no keys, and else one more than for half as many.
 pub fn bound_halves()
     ensures { BoundHalves }
 {}
 
-/// The most comparisons of a search of one key or more are the whole part of the binary logarithm of their number,
-/// and one.
+/// The bound of a search of N keys, one at least, is floor(log2 N) + 1.
 pub fn bound_is_logarithm()
     ensures { BoundIsLogarithm }
 {}
 
-/// A search compares none of no keys, and else the one in the middle and those that a search among the keys compares
-/// that are left: those after the middle where it is below the key that is searched, those before it where it is above,
-/// and none where it is that key.
+/// A search makes no comparison among no keys. Else it compares the key in the middle, and goes on
+/// among the keys that are left: those after the middle where it is below the key that is searched,
+/// those before it where it is above, and none where it is that key.
 pub fn search_halves()
     ensures { SearchHalves }
 {}
 
-/// A search never compares more keys than the bound.
+/// A search never makes more comparisons than its bound.
 pub fn search_is_bounded()
     ensures { SearchIsBounded }
 {}

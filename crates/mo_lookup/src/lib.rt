@@ -1,13 +1,14 @@
-//! Look-up in the catalogues of GNU gettext's MO files: the text that a context, a msgid and a count select.
+//! Look-up in the catalogues of GNU gettext's MO files: the text that a context, a msgid and a
+//! count select.
 //!
-//! [`Catalog::open`] checks bytes of any origin once and reads the plural rule of their header entry. [`Catalog::look`]
-//! then answers a query by at most floor(log2 N) + 1 comparisons among N keys, and visits each node of the plural
-//! expression at most once. A [`Chain`] asks one catalogue after the other. None of them takes memory: texts are
-//! slices of the file or of the query. [`find`] is the search over any list of [`Keys`], which it sees by comparing
-//! alone.
+//! [`Catalog::open`] checks bytes of any origin once and reads the plural rule of their header
+//! entry. [`Catalog::look`] then answers a query by at most floor(log2 N) + 1 comparisons among N
+//! keys, and visits each node of the plural expression at most once. A [`Chain`] asks one catalogue
+//! after the other. None of them allocates: texts are slices of the file or of the query. [`find`]
+//! is the binary search over any list of [`Keys`], which it only compares.
 //!
-//! The modules in reading order: `query`, `search`, `view_keys`, `forms`, `answer`, `looking`, `catalog`, `chain`,
-//! `laws`.
+//! The modules in reading order: `query`, `search`, `view_keys`, `forms`, `answer`, `looking`,
+//! `catalog`, `chain`, `laws`.
 
 #![tactic(auto)]
 

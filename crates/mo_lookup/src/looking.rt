@@ -1,4 +1,5 @@
-//! Looking up a message in the view of a file, by the number of plural forms and the table of its rule.
+//! Looking up a message in the view of a file, by the number of plural forms and the table of its
+//! rule.
 
 ghost use Rattle.std.specs.Prelude.{◌≡◌, ◌+◌, ◌^◌, ◌<◌, ◌≤◌, length, false};
 ghost use Rattle.std.specs.Option.{option_copied};
@@ -21,8 +22,9 @@ use crate::view_keys::ViewKeys;
 use mo_file::{Meter, MoView};
 use plural_rule::Node;
 
-/// Looks up a message as [`Catalog::look`](crate::Catalog::look) does, in the messages of a view, with a rule of
-/// `nplurals` forms whose expression stands in `table`. The table is that of a rule of at most 4,096 nodes.
+/// Looks up a message as [`Catalog::look`](crate::Catalog::look) does, in the messages of a view,
+/// with a rule of `nplurals` forms whose expression stands in `table`, as `Rule::table` gives it:
+/// at most 4,096 nodes.
 pub fn look<'a, 'q>(
     view: &MoView<'a>,
     nplurals: u64,
@@ -68,7 +70,7 @@ where
     }
 }
 
-/// The translation under the key of a context and a msgid, which the search finds or not.
+/// The translation under the key of a context and a msgid, or None where no message has that key.
 pub(crate) fn translation<'a>(
     view: &MoView<'a>,
     context: Option<&[u8]>,
@@ -83,13 +85,15 @@ pub(crate) fn translation<'a>(
     ensures cost { meter.new ≤ meter.old + search_bound (length view.now) }
     ensures small { meter.new ≤ meter.old + 32 }
 {
+    // Called for its clause that the keys rise.
     let _rising = view.len();
     let mut keys = ViewKeys { view, meter };
     let index = find(&mut keys, context, id)?;
     Some(view.translation(index))
 }
 
-/// The form of a translation, form 0 where no plural is asked for, and the nodes that were evaluated for it.
+/// The form of a translation, which is form 0 where no plural is given, and how many nodes were
+/// evaluated for it.
 pub(crate) fn form<'a>(
     nplurals: u64,
     table: &[Node],

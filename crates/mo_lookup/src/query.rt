@@ -7,7 +7,8 @@ ghost use Rattle.mo_lookup.specs.Answer.{untranslated_text};
 
 use mo_file::find_byte;
 
-/// Whether a text holds neither a NUL, which ends a string of an MO file, nor an EOT, which ends a context.
+/// Whether a text contains neither a NUL, which ends a string of an MO file, nor an EOT (4), which
+/// ends a context.
 fn is_clean(text: &[u8]) -> bool
     ensures { result ≡ is_clean text.now }
 {
@@ -21,7 +22,7 @@ pub(crate) fn is_clean_key(context: Option<&[u8]>, id: &[u8]) -> bool
     is_clean(context.unwrap_or(b"")) && is_clean(id)
 }
 
-/// The text of a message that has no translation: the msgid, or for a count that isn't 1 the plural.
+/// The answer where there is no translation: the msgid, or for a count that isn't 1 the plural.
 pub(crate) fn untranslated_text<'q>(id: &'q [u8], plural: Option<(&'q [u8], u64)>) -> &'q [u8]
     ensures { result.now ≡ untranslated_text id.now (given plural.entry) }
 {

@@ -9,7 +9,8 @@ ghost use Rattle.mo_lookup.specs.Index.{IsIndexOf};
 
 use std::cmp::Ordering;
 
-/// A list of keys in strictly rising order, which a search sees by comparing alone, and a count of the comparisons.
+/// A list of keys in strictly rising order, which a search only compares, and a count of the
+/// comparisons.
 pub trait Keys {
     /// The keys.
     ghost listed: { Self → List (List ℕ) };
@@ -25,7 +26,8 @@ pub trait Keys {
         ensures count { result ≡ length (listed self.now) }
         ensures rising { AreRising (listed self.now) };
 
-    /// How key `i` stands against the key of `context` and `id`, by unsigned bytes; this is one comparison.
+    /// Compares key `i` with the key of `context` and `id`, by unsigned bytes, and counts one
+    /// comparison.
     fn compare(&mut self, i: u32, context: Option<&[u8]>, id: &[u8]) -> Ordering
         requires inside { i < length (listed self.old) }
         requires room { counted self.old < 2 ^ 64 - 1 }
@@ -39,8 +41,9 @@ pub trait Keys {
         ensures { result ≡ counted self.now };
 }
 
-/// The index of the key of `context` and `id`, found by halves, or None where no key is it. It makes at most one
-/// comparison for each time that the number of keys can be halved, and ends at the key.
+/// The index of the key of `context` and `id`, found by binary search, or None where no key is it.
+/// It makes at most one comparison for each time that the number of keys can be halved, and ends at
+/// the key.
 pub fn find<K: Keys>(keys: &mut K, context: Option<&[u8]>, id: &[u8]) -> Option<u32>
     requires { K.counted keys.old < 2 ^ 63 }
     ensures index { IsIndexOf (K.listed keys.old) (query_key (option_copied context.entry) id.now) result }

@@ -6,7 +6,7 @@ use crate::search::Keys;
 use mo_file::{Meter, MoView};
 use std::cmp::Ordering;
 
-/// The keys of a file, and the meter on which each comparison counts.
+/// The keys of a file, and the meter that counts each comparison.
 #[derive(Drop)]
 pub(crate) struct ViewKeys<'v, 'a, 'm> {
     pub(crate) view: &'v MoView<'a>,
