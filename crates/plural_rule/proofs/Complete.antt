@@ -27,7 +27,8 @@ level-range op = elim op as (λ v. (1 ≤ level v) × (level v ≤ 6)) [
   | Remainder ↦ (omega arith, omega arith)
 ]
 
--- an operand of level k may stand after what waits: only `!` and operators that bind less tight are on top
+-- an operand of level k may stand after what waits: only `!` and operators that bind less tight are
+-- on top
 abbrev pub Fits : ℕ → List Waiting → Type 0
 Fits k [] = Unit {0}
 Fits k (WaitNot ∷ stack) = 7 ≤ k
@@ -59,7 +60,8 @@ reduce-fits k (WaitQuestion a ∷ stack) t low high f = refl
 reduce-fits k (WaitColon a b ∷ stack) t low high f =
     let e : (k == 0) ≡ false = grind (arith, nat_tests) in rw e
 
--- after the tokens of an operand it is complete, and what binds less tight than its level finds it as it is
+-- after the tokens of an operand it is complete, and what binds less tight than its level finds it
+-- as it is
 pub record Reads (k : ℕ) (st : List Waiting) (t : Tree) (ts rest : List Token) : Type 0 where
   pub stack : List Waiting
   pub tree : Tree

@@ -65,7 +65,8 @@ abbrev pub binary_value : Operator → Option ℕ → Option ℕ → Option ℕ
 binary_value op None right = None
 binary_value op (Some x) right = if needs_right op x then option_and_then (combined op x) right else Some (settled op)
 
--- the second of three where the condition isn't 0, the third where it is, and `undefined` where it has no value
+-- the second of three where the condition isn't 0, the third where it is, and `undefined` where it
+-- has no value
 abbrev pub chosen : {A : Type 0} → Option ℕ → A → A → A → A
 chosen None then_case else_case undefined = undefined
 chosen (Some x) then_case else_case undefined = if is_zero x then else_case else then_case
@@ -83,12 +84,14 @@ value (Not a) n = negated (value a n)
 value (Binary op a b) n = binary_value op (value a n) (value b n)
 value (Conditional a b c) n = chosen (value a n) (value b n) (value c n) None
 
--- the nodes visited in a second operand that has `steps` of them, where the first one's value is known
+-- the nodes visited in a second operand that has `steps` of them, where the first one's value is
+-- known
 abbrev pub visited_right : Operator → Option ℕ → ℕ → ℕ
 visited_right op None steps = 0
 visited_right op (Some x) steps = if needs_right op x then steps else 0
 
--- how many nodes the evaluation at a count visits: operands from the left, none that isn't needed, and none after an undefined one
+-- how many nodes the evaluation at a count visits: operands from the left, none that isn't needed,
+-- and none after an undefined one
 abbrev pub visited : Tree → ℕ → ℕ
 visited Count n = 1
 visited (Number v) n = 1

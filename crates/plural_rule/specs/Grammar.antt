@@ -1,5 +1,6 @@
 -- The trees that tokens spell, by levels of precedence.
--- GNU gettext manual, "Plural forms"; C standard, "Expressions": from "Conditional operator" (level 0) to "Unary operators" (level 7).
+-- GNU gettext manual, "Plural forms"; C standard, "Expressions": from "Conditional operator" (level
+-- 0) to "Unary operators" (level 7).
 use Rattle.std.specs.Prelude.{ℕ, suc, ◌^◌, ◌<◌, List, [], ◌∷◌, ◌++◌}
 use Rattle.plural_rule.specs.declared.operator.Operator.{Operator}
 use Rattle.plural_rule.specs.declared.operator.Operator.TheVariants.{Or, And, Equal, NotEqual, Less, Greater, AtMost, AtLeast, Add, Subtract, Multiply, Divide, Remainder}
@@ -24,7 +25,8 @@ level Multiply = 6
 level Divide = 6
 level Remainder = 6
 
--- the tokens spell the tree as an operand of this level; operators of two operands group to the left, `?:` to the right
+-- the tokens spell the tree as an operand of this level; operators of two operands group to the
+-- left, `?:` to the right
 pub data Spells : ℕ → List Token → Tree → Type 0 where
   tighter : {k : ℕ} {ts : List Token} {t : Tree} → Spells (suc k) ts t → Spells k ts t
   conditional : {xs ys zs : List Token} {a b c : Tree} → Spells 1 xs a → Spells 0 ys b → Spells 0 zs c

@@ -28,7 +28,8 @@ default_tree = Binary NotEqual Count (Number 1)
 abbrev pub default_rule : Reason → Meaning
 default_rule reason = record { source = Default reason; nplurals = 2; tree = default_tree }
 
--- the header names a number that fits 64 bits, and an expression within the limit that spells the tree
+-- the header names a number that fits 64 bits, and an expression within the limit that spells the
+-- tree
 pub record IsReadable (limit : ℕ) (header : List ℕ) (nplurals : ℕ) (tree : Tree) : Type 0 where
   pub text : List ℕ
   pub nplurals_is : nplurals_of header ≡ Some nplurals
@@ -51,7 +52,8 @@ pub record IsTooLong (limit : ℕ) (header : List ℕ) : Type 0 where
   pub text_is : expression_of header ≡ Some text
   pub text_fits_not : limit < length text
 
--- the header names a number and an expression within the limit, and the number is too large or the expression spells no tree
+-- the header names a number and an expression within the limit, and the number is too large or the
+-- expression spells no tree
 pub record IsUnreadable (limit : ℕ) (header : List ℕ) : Type 0 where
   pub nplurals : ℕ
   pub text : List ℕ
@@ -76,6 +78,7 @@ Gives limit header rule (Default reason) = IsReason limit header reason × (rule
 abbrev pub IsRuleOf : ℕ → List ℕ → Meaning → Type 0
 IsRuleOf limit header rule = Gives limit header rule rule.source
 
--- what the header says is within the limit: an expression that isn't longer, or no rule whatever the limit is
+-- what the header says is within the limit: an expression that isn't longer, or no rule whatever
+-- the limit is
 abbrev pub IsWithin : ℕ → List ℕ → Type 0
 IsWithin limit header = (nplurals_of header ≡ None) ⊎ ((text : List ℕ) → expression_of header ≡ Some text → length text ≤ limit)

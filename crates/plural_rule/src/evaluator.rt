@@ -1,7 +1,7 @@
 //! The value of an expression at a count.
 //!
-//! What waits for an operand stands in a stack of fixed size, so the machine's stack doesn't grow with
-//! the expression.
+//! What waits for an operand stands in a stack of fixed size, so the machine's stack doesn't grow
+//! with the expression.
 ghost use Rattle.std.specs.Prelude.{◌≡◌, ℕ, ◌+◌, ◌<◌, ◌≤◌, Some, length};
 ghost use Rattle.arrayvec.specs.ArrayVec.{array_vec_len};
 ghost use Rattle.plural_rule.specs.Expression.{Tree, nodes, value, visited};
@@ -21,8 +21,8 @@ pub(crate) enum Frame {
     Not,
     /// An operator before its first operand, with the index of the second.
     First(Operator, u16),
-    /// An operator before its second operand, with the value of the first in four parts of 16 bits, the highest
-    /// first: so a frame has no gap, and an empty stack is cleared as one block.
+    /// An operator before its second operand, with the value of the first in four parts of 16 bits,
+    /// the highest first: so a frame has no gap, and an empty stack is cleared as one block.
     Second(Operator, u16, u16, u16, u16),
     /// `a ? b : c` before `a`, with the indices of `b` and `c`.
     Condition(u16, u16),
@@ -44,10 +44,11 @@ impl Default for Frame {
     }
 }
 
-/// The nodes that wait, the last one for the operand that is evaluated next.
+/// The nodes that wait; the last one waits for the operand that is evaluated next.
 type Frames<const DEPTH: usize> = ArrayVec<Frame, DEPTH>;
 
-/// The most nodes of an expression that is evaluated with the smaller stack, which costs less to set up.
+/// The most nodes of an expression that is evaluated with the smaller stack, which costs less to
+/// set up.
 const SHORT: usize = 64;
 
 /// What to do next.
@@ -59,9 +60,11 @@ pub(crate) enum Step {
     Stop(Option<u64>),
 }
 
-/// The value of the expression in `table` at `count`, or `None` where it is undefined, and how many nodes were visited.
+/// The value of the expression in `table` at `count`, or `None` where it divides by 0, and how many
+/// nodes were visited.
 ///
-/// The table is that of a rule: each node stands after its operands, and the whole expression's last.
+/// The table is that of a rule: each node stands after its operands, and the whole expression's
+/// last.
 pub fn evaluate(table: &[Node], count: u64) -> (Option<u64>, u32)
     requires laid { table.now ≡ post_order 0 (tree_of table.now) }
     requires limit { length table.now ≤ expression_limit }
@@ -76,7 +79,7 @@ pub fn evaluate(table: &[Node], count: u64) -> (Option<u64>, u32)
     }
 }
 
-/// The value and the steps of an expression's table, with room for `DEPTH` nodes that wait.
+/// The same as `evaluate`, with room for `DEPTH` nodes that wait.
 #[inline(never)]
 fn evaluate_within<const DEPTH: usize>(table: &[Node], count: u64) -> (Option<u64>, u32)
     requires laid { table.now ≡ post_order 0 (tree_of table.now) }
@@ -109,7 +112,8 @@ fn node_at(table: &[Node], index: usize) -> Shape
     table[index].shape()
 }
 
-/// Visits the node at an index: a leaf has its value, and any other node waits for its first operand.
+/// Visits the node at an index: a leaf has its value, and any other node waits for its first
+/// operand.
 #[tactic(auto, using(crate::proofs::Frames::visits_not, crate::proofs::Frames::visits_binary, crate::proofs::Frames::visits_conditional, crate::proofs::Frames::remaining_more, crate::proofs::Frames::frames_more))]
 #[inline(always)]
 fn visit<const DEPTH: usize>(

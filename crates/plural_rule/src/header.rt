@@ -7,7 +7,7 @@ ghost use Rattle.plural_rule.specs.Header.{after_first, nplurals_of, is_end, exp
 use crate::lexer;
 use memchr::{memchr2, memmem};
 
-/// The text after the first `name` in it.
+/// What follows the first `name` in a text.
 fn after_first<'a>(text: &'a [u8], name: &[u8]) -> Option<&'a [u8]>
     requires { 0 < length name.now }
     ensures { MatchOption result (after_first name.now text.now ≡ None)
@@ -19,7 +19,8 @@ fn after_first<'a>(text: &'a [u8], name: &[u8]) -> Option<&'a [u8]>
     }
 }
 
-/// The digits of the number of plural forms, of which there is one at least.
+/// The decimal digits of the number of plural forms, one at least: after the first `nplurals=` and
+/// blanks.
 pub(crate) fn number_digits(header: &[u8]) -> Option<&[u8]>
     ensures { MatchOption result (nplurals_of header.now ≡ None)
         (λ digits. AllDigits 10 digits.now × (nplurals_of header.now ≡ Some (digits_value 10 digits.now))) }
@@ -33,7 +34,7 @@ pub(crate) fn number_digits(header: &[u8]) -> Option<&[u8]>
     }
 }
 
-/// The text of the expression.
+/// The text of the expression: what follows the first `plural=`.
 pub(crate) fn expression(header: &[u8]) -> Option<&[u8]>
     ensures { MatchOption result (expression_of header.now ≡ None)
         (λ text. expression_of header.now ≡ Some text.now) }

@@ -73,7 +73,7 @@ pub(crate) fn decimal_value(digits: &[u8]) -> Option<u64>
 
 /// The token at the beginning of a text, the longest that fits, and how many bytes it has.
 ///
-/// There is none where no token begins the text, or only a numeral of 2^64 or more.
+/// `None` where no token begins the text, or only a numeral of 2^64 or more.
 pub(crate) fn token(text: &[u8]) -> Option<(Token, usize)>
     requires { 0 < length text.now }
     ensures { MatchOption result (HasNoToken text.now) (λ r. IsTokenAt text.now r.0 r.1) }

@@ -1,9 +1,9 @@
 //! Plural rules of GNU gettext catalogues: read from a header text, and evaluated.
 //!
-//! The GNU gettext manual, "Plural forms", says what stands in a header, as in `Plural-Forms:
-//! nplurals=2; plural=n != 1;`. The expression is one of C, over unsigned numbers of 64 bits. A
-//! rule holds a fixed table of nodes, so neither reading nor evaluating takes memory, and neither
-//! uses more of the machine's stack for a deeper expression.
+//! The GNU gettext manual, "Plural forms", says what stands in a header, such as
+//! `nplurals=2; plural=n != 1;`. The expression is one of C, over unsigned numbers of 64 bits. A
+//! rule contains a table of fixed size for its nodes, so neither reading nor evaluating allocates,
+//! and neither takes more of the machine's stack for a deeper expression.
 //!
 //! [`Rule::parse`] reads a rule, and [`evaluate`] computes its value at a count.
 //!

@@ -6,18 +6,18 @@ use crate::operator::Operator;
 use crate::rule::EXPRESSION_LIMIT;
 use arrayvec::ArrayVec;
 
-/// A node of an expression as it stands in a table, after its operands: plain numbers, so that C can
-/// hold a table too.
+/// A node of an expression as it stands in a table, after its operands: plain numbers, so that C
+/// can hold a table too.
 ///
 /// An operand is named by its index in the table. What isn't named below is 0.
 #[repr(C)]
 #[derive(Clone, Copy, Debug, Drop)]
 pub struct Node {
-    /// 0 for `n`, the count that the rule is asked for; 1 for a numeral; 2 for `!`; 3 for an operator of two
-    /// operands; 4 for `a ? b : c`.
+    /// 0 for `n`, the count that the rule is asked for; 1 for a numeral; 2 for `!`; 3 for an
+    /// operator of two operands; 4 for `a ? b : c`.
     pub kind: u8,
-    /// Of an operator of two operands: 0 to 12 for `||`, `&&`, `==`, `!=`, `<`, `>`, `<=`, `>=`, `+`, `-`, `*`,
-    /// `/`, `%`.
+    /// Of an operator of two operands: 0 to 12 for `||`, `&&`, `==`, `!=`, `<`, `>`, `<=`, `>=`,
+    /// `+`, `-`, `*`, `/`, `%`.
     pub operator: u8,
     /// The index of the first operand, or the highest 16 bits of a numeral.
     pub first: u16,
@@ -45,7 +45,7 @@ pub(crate) enum Shape {
 }
 
 impl Node {
-    /// The node of `n`, which is also what the unused places of a table hold.
+    /// The node of `n`. The unused part of a table is filled with it.
     pub const COUNT: Node = Node {
         kind: 0,
         operator: 0,
@@ -122,7 +122,7 @@ impl Node {
     }
 }
 
-/// The numeral of four parts, the highest first.
+/// The numeral of four parts of 16 bits, the highest first.
 pub(crate) fn numeral(first: u16, second: u16, third: u16, fourth: u16) -> u64
     ensures { result ≡ numeral first second third fourth }
 {
@@ -135,5 +135,5 @@ impl Default for Node {
     }
 }
 
-/// The nodes of an expression, the whole one's last.
+/// The nodes of an expression, each after its operands, so that of the whole expression is last.
 pub(crate) type Table = ArrayVec<Node, EXPRESSION_LIMIT>;

@@ -50,7 +50,7 @@ impl Operator {
         }
     }
 
-    /// The number of the operator in a node.
+    /// The number that stands for the operator in a node.
     pub(crate) fn code(self) -> u8
         ensures { result ≡ operator_code self }
     {
@@ -71,7 +71,7 @@ impl Operator {
         }
     }
 
-    /// The operator of a number.
+    /// The operator for which a number stands; any number above 11 stands for `%`.
     pub(crate) fn of_code(code: u8) -> Operator
         ensures { result ≡ operator_of code }
     {
@@ -92,7 +92,7 @@ impl Operator {
         }
     }
 
-    /// Whether the second operand is evaluated, where the first one's value is `left`.
+    /// Whether the second operand is evaluated, where the value of the first is `left`.
     pub(crate) fn needs_right(self, left: u64) -> bool
         ensures { result ≡ needs_right self left }
     {
@@ -103,7 +103,7 @@ impl Operator {
         }
     }
 
-    /// The value where the second operand isn't evaluated.
+    /// The value of `||` or `&&` where the second operand isn't evaluated.
     pub(crate) fn settled(self) -> u64
         ensures { result ≡ settled self }
     {

@@ -1,6 +1,7 @@
 //! Reads an expression by operator precedence.
 //!
-//! The grammar is C's, as the GNU gettext manual has it in "Plural forms", with the loosest operators first:
+//! The grammar is C's, as the GNU gettext manual has it in "Plural forms", with the loosest
+//! operators first:
 //!
 //! ```text
 //! expression     = or | or "?" expression ":" expression
@@ -13,8 +14,8 @@
 //! unary          = "!" unary | "(" expression ")" | "n" | numeral
 //! ```
 //!
-//! What waits for an operand stands in a stack of fixed size, so the machine's stack doesn't grow with
-//! the expression. Each operand that is complete stands at the end of the table.
+//! What waits for an operand stands in a stack of fixed size, so the machine's stack doesn't grow
+//! with the expression. Each operand that is complete stands at the end of the table.
 ghost use Rattle.std.specs.Prelude.{◌≡◌, ◌+◌, ◌-◌, ◌<◌, ◌≤◌, List, [], Some, None, true, length, MatchBool};
 ghost use Rattle.arrayvec.specs.ArrayVec.{array_vec_len};
 ghost use Rattle.plural_rule.specs.Expression.{Tree};
@@ -51,14 +52,15 @@ impl Default for Pending {
     }
 }
 
-/// What waits, the last one for the operand that is read next.
+/// What waits; the last one waits for the operand that is read next.
 type Stack<const DEPTH: usize> = ArrayVec<Pending, DEPTH>;
 
 /// The most bytes of a text that is read with the smaller stack, which costs less to set up.
 const SHORT: usize = 256;
 
 impl Pending {
-    /// The node that the operand at index `last` completes, where an operator of level `loosest` follows it.
+    /// The node that the operand at index `last` completes, where an operator of level `loosest`
+    /// follows it.
     fn completed(self, loosest: u8, last: u16) -> Option<Node>
         ensures { result ≡ completed_node loosest self last }
     {
@@ -145,8 +147,8 @@ fn take_operand<const DEPTH: usize>(
     }
 }
 
-/// Reads a token after a complete operand: whether one is complete after the token too, or `None` where it can't
-/// stand here.
+/// Reads a token after a complete operand: whether one is complete after the token too, or `None`
+/// where it can't stand here.
 fn take_operator<const DEPTH: usize>(
     table: &mut Table,
     stack: &mut Stack<DEPTH>,
@@ -193,7 +195,8 @@ fn take_operator<const DEPTH: usize>(
     }
 }
 
-/// Reads a token: whether an operand is complete after it, or `None` where the token can't stand here.
+/// Reads a token: whether an operand is complete after it, or `None` where the token can't stand
+/// here.
 fn take<const DEPTH: usize>(
     table: &mut Table,
     stack: &mut Stack<DEPTH>,

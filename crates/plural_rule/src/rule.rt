@@ -23,15 +23,16 @@ pub enum Source {
     Default(Reason),
 }
 
-/// Why a header text gives the default rule. Where several hold, the first of `NoNumber`, `NoExpression`,
-/// `TooLong`, `Unreadable` is reported.
+/// Why a header text gives the default rule. Where several hold, the first of `NoNumber`,
+/// `NoExpression`, `TooLong`, `Unreadable` is reported.
 #[derive(Clone, Copy, Debug, PartialEq, Eq, Drop)]
 pub enum Reason {
     /// There is no `nplurals=` with a number after it.
     NoNumber,
     /// There is no `plural=`.
     NoExpression,
-    /// The number of plural forms or a numeral is 2^64 or more, or the expression isn't one of the grammar.
+    /// The number of plural forms or a numeral is 2^64 or more, or the expression isn't one of the
+    /// grammar.
     Unreadable,
     /// The expression has more than `EXPRESSION_LIMIT` bytes.
     TooLong,
@@ -39,8 +40,8 @@ pub enum Reason {
 
 /// A plural rule: the number of plural forms, and the expression that chooses one for a count.
 ///
-/// It takes no memory of its own: its table lies in the value, which is large, so pass it by reference.
-/// See the GNU gettext manual, "Plural forms".
+/// It allocates nothing: its table is part of the value, which has about 41 KB, so pass it by
+/// reference. See the GNU gettext manual, "Plural forms".
 #[derive(Drop)]
 pub struct Rule {
     source: Source,
@@ -105,8 +106,8 @@ impl Rule {
         self.table.len() as u32
     }
 
-    /// The value of the expression at a count, or `None` where it is undefined, and the number of
-    /// nodes that were evaluated.
+    /// The value of the expression at a count, or `None` where it divides by 0, and how many nodes
+    /// were evaluated.
     pub fn eval(&self, count: u64) -> (Option<u64>, u32)
         ensures value { result.0 ≡ value self.now.tree count }
         ensures steps { result.1 ≡ visited self.now.tree count }
@@ -115,8 +116,8 @@ impl Rule {
         evaluate(self.table(), count)
     }
 
-    /// The nodes of the expression, as [`evaluate`] takes them: each one after its operands, and the whole
-    /// expression's last.
+    /// The nodes of the expression, as [`evaluate`] takes them: each one after its operands, and
+    /// the whole expression's last.
     pub fn table(&self) -> &[Node]
         ensures laid { result.now ≡ post_order 0 self.now.tree }
         ensures tree { tree_of result.now ≡ self.now.tree }
@@ -126,8 +127,8 @@ impl Rule {
     }
 }
 
-/// Writes the expression of a header's rule into the empty `table`, and says where the rule comes from and its
-/// number of plural forms.
+/// Writes the expression of a header's rule into the empty `table`, and says where the rule comes
+/// from and its number of plural forms.
 #[inline(never)]
 fn fill(header: &[u8], table: &mut Table) -> (Source, u64)
     requires { table.old.items ≡ [] }
