@@ -1,4 +1,4 @@
-/* Asks messages of a catalogue, which is mapped and checked once.
+/* Looks three messages up in a catalogue, which is mapped and checked once.
  *
  *     cc -o lookup lookup.c -lpokit
  *     ./lookup locale/de/LC_MESSAGES/bookshelf.mo 3 */

@@ -1,4 +1,4 @@
-"""Asks a message of a catalogue: lookup.py build/libpokit.so FILE.mo MSGID PLURAL COUNT"""
+"""Looks a message up in a catalogue: lookup.py build/libpokit.so FILE.mo MSGID PLURAL COUNT"""
 import ctypes as c
 import sys
 

@@ -46,7 +46,7 @@ extern "C" {
  * it holds. */
 enum pokit_error {
     POKIT_OK = 0,
-    POKIT_TOO_SHORT = 1,      /* shorter than the 28 bytes of a header */
+    POKIT_TOO_SHORT = 1,      /* shorter than the 28 bytes of the file header */
     POKIT_BAD_MAGIC = 2,      /* the magic number is that of neither byte order */
     POKIT_BAD_REVISION = 3,   /* the major revision isn't 0 or 1 */
     POKIT_TABLE_OUTSIDE = 4,  /* a table of strings ends after the file's end */
@@ -61,7 +61,8 @@ typedef struct pokit_bytes {
     size_t len;
 } pokit_bytes;
 
-/* A node of a plural expression. */
+/* A node of a plural expression, as plural_rule's Node documents it: `operation` is its operator, `parts` are its first
+ * to fourth. */
 typedef struct pokit_node {
     uint8_t kind;
     uint8_t operation;
@@ -73,7 +74,7 @@ typedef struct pokit_node {
 typedef struct pokit_catalog {
     pokit_bytes bytes;
     uint64_t nplurals;
-    uint32_t used; /* 0 in a catalogue that isn't open */
+    uint32_t used; /* how many nodes the expression has; 0 in a catalogue that isn't open */
     pokit_node nodes[4096];
 } pokit_catalog;
 

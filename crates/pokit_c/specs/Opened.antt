@@ -1,5 +1,5 @@
--- What opening leaves in the memory of the caller, and so what a C program owes at each look-up (GNU gettext manual,
--- "The Format of GNU MO Files" and "Plural forms").
+-- What opening leaves in the memory of the caller, and so what a C program has to keep for each
+-- look-up (GNU gettext manual, "The Format of GNU MO Files" and "Plural forms").
 use Rattle.std.specs.Prelude.{◌≡◌, ◌≤◌, take}
 use Rattle.plural_rule.specs.PostOrder.{post_order}
 use Rattle.mo_file.specs.declared.byte_order.Order.{Order}
@@ -7,7 +7,8 @@ use Rattle.mo_file.specs.Catalog.{IsCatalog}
 use Rattle.mo_lookup.specs.Contents.{AreContents, Contents}
 use Rattle.pokit_c.specs.declared.catalog.PokitCatalog.{PokitCatalog}
 
--- the bytes are a valid file with these messages, and number and nodes are the rule of its header entry
+-- the bytes are a valid file with these messages, and `nplurals` and the nodes are the rule of its
+-- header entry
 pub record IsOpened (catalog : PokitCatalog) (contents : Contents) : Type 0 where
   pub file : (order : Order) × IsCatalog order catalog.bytes.now contents.messages
   pub rule : AreContents contents.messages contents.rule

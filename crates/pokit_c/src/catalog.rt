@@ -2,8 +2,8 @@
 
 use plural_rule::Node;
 
-/// A catalogue that [`pokit_catalog_open`](crate::opening::pokit_catalog_open) has opened. It is never changed
-/// afterwards, and neither are its bytes, which outlive it.
+/// A catalogue that [`pokit_catalog_open`](crate::opening::pokit_catalog_open) has opened. It is
+/// never changed afterwards, and neither are its bytes, which outlive it.
 #[repr(C)]
 #[derive(Drop)]
 pub struct PokitCatalog<'a> {
@@ -11,7 +11,8 @@ pub struct PokitCatalog<'a> {
     pub bytes: &'a [u8],
     /// The number of plural forms that the header entry names.
     pub nplurals: u64,
-    /// How many nodes the plural expression has.
+    /// How many nodes the plural expression has. The functions of include/pokit.h take a catalogue
+    /// with 0 nodes as one that isn't open.
     pub used: u32,
     /// The nodes of the plural expression, and after them nodes without a meaning.
     pub nodes: [Node; 4096],

@@ -5,7 +5,8 @@ ghost use Rattle.mo_file.specs.Fault.{kind, index};
 
 use mo_file::MoError;
 
-/// The number of a fault, from 1 to 7 in the order in which faults are reported.
+/// The number of a fault: from 1 to 7, in the order in which faults are reported, as
+/// `enum pokit_error` of include/pokit.h has them.
 pub(crate) fn number(fault: MoError) -> u32
     ensures { result ≡ kind fault }
 {

@@ -13,8 +13,8 @@ use crate::query::{PokitAnswer, PokitQuery};
 use mo_file::{Meter, MoView};
 use mo_lookup::look;
 
-/// Looks up a message in a catalogue that was opened, as mo_lookup's `Catalog::look` does. The text of `answer` lies in
-/// the bytes of the file or is the query's own ("Plural forms").
+/// Looks up a message in a catalogue that was opened, as mo_lookup's `Catalog::look` does ("Plural
+/// forms"). The text of `answer` is part of the file's bytes, or the query's msgid or plural.
 #[unsafe(no_mangle)]
 pub extern "C" fn pokit_catalog_look<'a, 'q>(
     catalog: &PokitCatalog<'a>,

@@ -14,9 +14,10 @@ use crate::fault::{index, number};
 use mo_file::{Meter, MoView};
 use mo_lookup::Catalog;
 
-/// Checks the bytes of an MO file and makes `room` the catalogue of its messages: 0, or where the bytes are no valid
-/// file, the number of the first fault, whose message `message` then names, counted from 0. On a fault `room` is as it
-/// was ("The Format of GNU MO Files").
+/// Checks the bytes of an MO file ("The Format of GNU MO Files"). Where they are valid, `room`
+/// becomes the catalogue of its messages, and the result is 0. Else the result is the number of the
+/// first fault, `message` is the index of the message that has it, counted from 0, and `room` stays
+/// as it was.
 #[unsafe(no_mangle)]
 pub extern "C" fn pokit_catalog_open<'a>(
     room: &mut PokitCatalog<'a>,

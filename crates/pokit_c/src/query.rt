@@ -5,7 +5,8 @@ ghost use Rattle.pokit_c.specs.QueryView.{query_view};
 ghost use Rattle.mo_lookup.specs.Query.{given};
 ghost use Rattle.std.specs.Option.{option_copied};
 
-/// A query: a msgid, and where they are given, a context, and a plural with a count. None holds the NUL that ends it.
+/// A query: a msgid, and where they are given, a context, and a plural with a count. No text
+/// includes the NUL that may follow it.
 #[repr(C)]
 #[derive(Clone, Copy, Drop)]
 pub struct PokitQuery<'q> {
@@ -23,11 +24,12 @@ pub struct PokitQuery<'q> {
     pub has_plural: bool,
 }
 
-/// An answer.
+/// An answer, and what it cost.
 #[repr(C)]
 #[derive(Clone, Copy, Drop)]
 pub struct PokitAnswer<'q> {
-    /// The translation's form, in the bytes of the file; or where there is no translation the query's msgid or plural.
+    /// The form of the translation, in the bytes of the file; or where there is no translation, the
+    /// query's msgid or plural.
     pub text: &'q [u8],
     /// How many keys were compared with the query's.
     pub comparisons: u32,
