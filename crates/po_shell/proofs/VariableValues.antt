@@ -1,4 +1,5 @@
--- What references to a name become is the value that the variables give it, if the name is replaced.
+-- What references to a name become is the value that the variables give it, if the name is
+-- replaced.
 use Rattle.std.proofs.Common.{◌≡◌, ◌≢◌, ◌∙◌, refl, sym, ap, subst, inl, inr, ℕ, true, List, [], ◌∷◌, ◌++◌, All, Option, Some, None}
 use Rattle.std.specs.Prelude.{◌↔◌, Contains}
 use Rattle.std.specs.Str.{bytes_eq}

@@ -1,10 +1,12 @@
--- Where the catalogues of a text domain lie ("Invoking the gettext program" and "Locating Message Catalog Files" of the GNU gettext manual).
+-- Where the catalogues of a text domain lie ("Invoking the gettext program" and "Locating Message
+-- Catalog Files" of the GNU gettext manual).
 use Rattle.std.specs.Prelude.{ℕ, if◌then◌else◌, List, [], ◌++◌, map, Option, Some, None, unwrap_or, codes}
 use Rattle.std.specs.Option.{option_or, option_copied}
 use Rattle.po_shell.specs.Locales.{non_empty, is_path_part, candidates_of}
 use Rattle.po_shell.specs.declared.locale.candidates.Environment.{Environment}
 
--- the text domain: the one among the arguments, else that of `-d`, else that of TEXTDOMAIN, each also where it is empty
+-- the text domain: the one among the arguments, else that of `-d`, else that of TEXTDOMAIN, each
+-- also where it is empty
 abbrev pub domain_of : Option (List ℕ) → Option (List ℕ) → Environment → Option (List ℕ)
 domain_of word option env = option_or word (option_or option (option_copied env.textdomain))
 

@@ -12,6 +12,6 @@ are_digits text = list_all (λ b. is_digit b 10) text
 abbrev pub is_count : List ℕ → Bool
 is_count text = (not (length text == 0) && are_digits text) && nat_lt (digits_value 10 text) 18446744073709551616
 
--- the number that a COUNT gives: any other text is taken as 99
+-- the count that the argument COUNT gives: any other text is taken as 99
 unfoldable pub count_in : List ℕ → ℕ
 count_in text = if is_count text then digits_value 10 text else 99

@@ -8,7 +8,8 @@ abbrev pub failure_of_read : {T E : Type 0} → Result T E → ℕ
 failure_of_read (Ok _) = 0
 failure_of_read (Err _) = 1
 
--- how many failures a call of a writer is: an `Err` is one, and so is an `Ok` that took no byte of a piece that isn't empty
+-- how many failures a call of a writer is: an `Err` is one, and so is an `Ok` that took no byte of
+-- a piece that isn't empty
 abbrev pub failure_of_write : {E : Type 0} → Result ℕ E → List ℕ → ℕ
 failure_of_write (Ok n) piece = if nat_eq n 0 && not (nat_eq (length piece) 0) then 1 else 0
 failure_of_write (Err _) piece = 1

@@ -1,4 +1,5 @@
--- The environment variables that choose a catalogue ("Locale Environment Variables" and "Locating Message Catalog Files" of the GNU gettext manual).
+-- The environment variables that choose a catalogue ("Locale Environment Variables" and "Locating
+-- Message Catalog Files" of the GNU gettext manual).
 use Rattle.std.specs.Prelude.{ℕ, List, Option, option_map, codes}
 use Rattle.std.specs.Option.{option_copied}
 use Rattle.po_shell.specs.declared.locale.environment.OwnedEnvironment.{OwnedEnvironment}

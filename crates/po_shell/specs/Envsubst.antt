@@ -1,4 +1,5 @@
--- What a run of envsubst writes, by what its reader had ("Invoking the envsubst program" of the GNU gettext manual).
+-- What a run of envsubst writes, by what its reader had ("Invoking the envsubst program" of the GNU
+-- gettext manual).
 use Rattle.std.specs.Prelude.{ℕ, List, Option, IfSome}
 use Rattle.std.specs.Io.KnownBytes.{Appends, Consumes}
 use Rattle.po_shell.specs.Device.{AppendsPrefix}

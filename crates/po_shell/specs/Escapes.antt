@@ -3,6 +3,7 @@ use Rattle.std.specs.Prelude.{ℕ, zero, suc, ◌+◌, ◌-◌, ◌*◌, ◌%◌
 use Rattle.std.specs.List.{filter_map, list_any}
 use Rattle.po_shell.specs.declared.arguments.escape.Escape.{Escape}
 
+-- an octal digit
 abbrev pub is_octal : ℕ → Bool
 is_octal b = nat_le 48 b && nat_le b 55
 
@@ -18,6 +19,7 @@ with_octal n digit = (n * 8 + (digit - 48)) % 256
 abbrev pub octal_value : List ℕ → ℕ
 octal_value digits = fold with_octal 0 digits
 
+-- an escape of one letter that gives this byte, or none
 abbrev pub letter : Option ℕ → Option Escape
 letter byte = Some (record { byte = byte; size = 1 })
 
@@ -47,7 +49,8 @@ abbrev pub unit : ℕ → Option Escape → (ℕ → List (Option ℕ)) → List
 unit b None later = Some b ∷ later 0
 unit b (Some e) later = e.byte ∷ later e.size
 
--- what the bytes give, with their escapes expanded; the first `skip` bytes belong to an escape that began before them
+-- what the bytes give, with their escapes expanded; the first `skip` bytes belong to an escape that
+-- began before them
 unfoldable pub units_after : ℕ → List ℕ → List (Option ℕ)
 units_after skip [] = []
 units_after (suc skip) (b ∷ bs) = units_after skip bs

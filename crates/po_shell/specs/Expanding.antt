@@ -1,4 +1,5 @@
--- A text with its escapes expanded, with a case for each escape ("Invoking the gettext program" of the GNU gettext manual).
+-- A text with its escapes expanded, with a case for each escape ("Invoking the gettext program" of
+-- the GNU gettext manual).
 use Rattle.std.specs.Prelude.{◌≢◌, ℕ, ◌+◌, ◌*◌, ◌%◌, ◌<◌, ◌≤◌, Bool, true, false, List, [], ◌∷◌}
 
 -- no octal digit stands first
@@ -6,7 +7,8 @@ abbrev pub NoOctalFirst : List ℕ → Type 0
 NoOctalFirst [] = Unit {0}
 NoOctalFirst (b ∷ text) = 48 ≤ b → b ≤ 55 → ⊥
 
--- After a backslash the text spells this byte, and the rest stands after the escape: a letter, a backslash, or one to three octal digits, as many as there are up to three.
+-- After a backslash the text spells this byte, and the rest stands after the escape: a letter, a
+-- backslash, or one to three octal digits, as many as there are up to three.
 pub data SpellsByte : List ℕ → ℕ → List ℕ → Type 0 where
   alert : {rest : List ℕ} → SpellsByte (97 ∷ rest) 7 rest
   backspace : {rest : List ℕ} → SpellsByte (98 ∷ rest) 8 rest
@@ -25,7 +27,8 @@ pub record IsNoEscape (text : List ℕ) : Type 0 where
   pub no_byte : (b : ℕ) (rest : List ℕ) → SpellsByte text b rest → ⊥
   pub no_mark : (rest : List ℕ) → text ≢ 99 ∷ rest
 
--- The text with its escapes expanded, and whether it holds `\c`, which gives no byte. Any other backslash stays.
+-- The text with its escapes expanded, and whether it holds `\c`, which gives no byte. Any other
+-- backslash stays.
 pub data Expands : List ℕ → List ℕ → Bool → Type 0 where
   nothing : Expands [] [] false
   plain : {b : ℕ} {text bytes : List ℕ} {is_marked : Bool} → b ≢ 92 → Expands text bytes is_marked → Expands (b ∷ text) (b ∷ bytes) is_marked

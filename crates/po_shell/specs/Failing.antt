@@ -1,4 +1,5 @@
--- What a failing device shows: the device below, how many calls come before the one that fails, if one is still to fail, and how many bytes a call moves at most.
+-- What a failing device shows: the device below, how many calls come before the one that fails, if
+-- one is still to fail, and how many bytes a call moves at most.
 use Rattle.std.specs.Prelude.{ℕ, suc, zero, Option, Some, None}
 use Rattle.po_shell.specs.declared.devices.failing.Failing.{Failing}
 
@@ -11,7 +12,8 @@ failing_calls_before f = f.calls_before
 abbrev pub failing_most : {D : Type 0} → Failing D → ℕ
 failing_most f = f.most
 
--- how many calls come before the one that fails, after one more call: the call that fails is the last that counts
+-- how many calls come before the one that fails, after one more call: the call that fails is the
+-- last that counts
 abbrev pub calls_after : Option ℕ → Option ℕ
 calls_after None = None
 calls_after (Some zero) = None

@@ -1,4 +1,5 @@
--- The locales whose catalogues are looked for ("Locale Environment Variables" and "Specifying a Priority List of Languages" of the GNU gettext manual).
+-- The locales whose catalogues are looked for ("Locale Environment Variables" and "Specifying a
+-- Priority List of Languages" of the GNU gettext manual).
 use Rattle.std.specs.Prelude.{ℕ, Bool, not, ◌&&◌, ◌||◌, ◌==◌, if◌then◌else◌, List, [], ◌∷◌, ◌++◌, length, take, drop, fold, filter, take_while, Option, Some, None, codes}
 use Rattle.std.specs.Borrow.{Bor}
 use Rattle.std.specs.List.{list_any, flat_map, slice_split, position_or_len}
@@ -31,7 +32,8 @@ before a name = take (position_or_len (is_byte a) name) name
 unfoldable pub from_first : ℕ → List ℕ → List ℕ
 from_first a name = drop (position_or_len (is_byte a) name) name
 
--- of L[_T][.C][@M], which is cut at the first `@`, then the first `.`, then the first `_`: the name, L_T@M, L@M, L_T and L
+-- of L[_T][.C][@M], which is cut at the first `@`, then the first `.`, then the first `_`: the
+-- name, L_T@M, L@M, L_T and L
 unfoldable pub variants : List ℕ → List (List ℕ)
 variants name =
     let modifier = from_first 64 name in

@@ -1,4 +1,5 @@
--- What spells a reference, and a text with its references replaced, with a case each ("Invoking the envsubst program" of the GNU gettext manual).
+-- What spells a reference, and a text with its references replaced, with a case each ("Invoking the
+-- envsubst program" of the GNU gettext manual).
 use Rattle.std.specs.Prelude.{◌≡◌, ℕ, ◌≤◌, List, [], ◌∷◌, ◌++◌, length, All, Option, Some, ◌≢◌, None, Contains}
 use Rattle.po_shell.specs.Substitution.{Values}
 
@@ -32,7 +33,8 @@ pub data SpellsReference : List ℕ → List ℕ → List ℕ → Type 0 where
 abbrev pub BeginsNoReplaced : Values → List ℕ → Type 0
 BeginsNoReplaced values text = (name value rest : List ℕ) → SpellsReference text name rest → values name ≡ Some value → ⊥
 
--- the text with its references replaced: each byte stands for itself, but for those of a reference to a name that is replaced
+-- the text with its references replaced: each byte stands for itself, but for those of a reference
+-- to a name that is replaced
 pub data Replaces (values : Values) : List ℕ → List ℕ → Type 0 where
   nothing : Replaces values [] []
   copied : {b : ℕ} {text result : List ℕ} → BeginsNoReplaced values (b ∷ text) → Replaces values text result → Replaces values (b ∷ text) (b ∷ result)
@@ -44,7 +46,8 @@ pub data HoldsNames : List ℕ → List (List ℕ) → Type 0 where
   no_reference : {b : ℕ} {text : List ℕ} {names : List (List ℕ)} → ((name rest : List ℕ) → SpellsReference (b ∷ text) name rest → ⊥) → HoldsNames text names → HoldsNames (b ∷ text) names
   reference : {b : ℕ} {text name rest : List ℕ} {names : List (List ℕ)} → SpellsReference (b ∷ text) name rest → HoldsNames text names → HoldsNames (b ∷ text) (name ∷ names)
 
--- among variables the value of a name: that of the first of this name, and nothing where there is none
+-- among variables the value of a name: that of the first of this name, and nothing where there is
+-- none
 pub data HasValue (name : List ℕ) : List (List ℕ × List ℕ) → List ℕ → Type 0 where
   unset : {vars : List (List ℕ × List ℕ)} → All (λ v. v.0 ≢ name) vars → HasValue name vars []
   set : {vars : List (List ℕ × List ℕ)} {value : List ℕ} (before after : List (List ℕ × List ℕ)) → vars ≡ before ++ (name, value) ∷ after → All (λ v. v.0 ≢ name) before → HasValue name vars value

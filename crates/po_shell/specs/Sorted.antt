@@ -1,4 +1,4 @@
--- Internal: variables and names in the order in which they are found by halves.
+-- Internal: variables and names that are sorted, and so found by binary search.
 use Rattle.std.specs.Prelude.{ℕ, List, Option}
 use Rattle.std.specs.Borrow.{Bor}
 use Rattle.std.specs.Cmp.Lexicographic.{slice_cmp}
@@ -7,7 +7,7 @@ use Rattle.std.specs.Ordering.{is_lt, nat_cmp}
 use Rattle.std.specs.declared.cmp.Ordering.{Ordering}
 use Rattle.po_shell.specs.Substitution.{Values, values_of}
 
--- how two names stand to each other, by unsigned bytes
+-- how two names compare, by unsigned bytes
 abbrev pub name_cmp : List ℕ → List ℕ → Ordering
 name_cmp a b = slice_cmp nat_cmp a b
 

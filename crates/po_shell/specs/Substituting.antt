@@ -2,7 +2,8 @@
 use Rattle.std.specs.Prelude.{ℕ, Bool, List, Option}
 use Rattle.po_shell.specs.Substitution.{Values, values_of}
 
--- the variables, the names to be replaced if they are given, the bytes held back, and whether a write has failed
+-- the variables, the names to be replaced if they are given, the bytes held back, and whether a
+-- write has failed
 pub record Substituting : Type 0 where
   pub vars : List (List ℕ × List ℕ)
   pub only : Option (List (List ℕ))

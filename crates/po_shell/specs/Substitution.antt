@@ -34,12 +34,14 @@ unfoldable pub replacement_of : Values → Option Reference → Option Replaceme
 replacement_of values None = None
 replacement_of values (Some r) = option_map (λ v. record { value = v; size = r.size }) (values r.name)
 
--- what stands for one byte: itself, or the value of the reference that it begins, of which the next bytes are then skipped
+-- what stands for one byte: itself, or the value of the reference that it begins, of which the next
+-- bytes are then skipped
 abbrev pub substituted : ℕ → Option Replacement → (ℕ → List ℕ) → List ℕ
 substituted b None later = b ∷ later 0
 substituted b (Some r) later = r.value ++ later r.size
 
--- the text, with its references replaced; the first `skip` bytes belong to a reference that began before them
+-- the text, with its references replaced; the first `skip` bytes belong to a reference that began
+-- before them
 unfoldable pub substitution_after : Values → ℕ → List ℕ → List ℕ
 substitution_after values skip [] = []
 substitution_after values (suc skip) (b ∷ bs) = substitution_after values skip bs

@@ -1,4 +1,5 @@
--- The variables of an environment (manual of the C library, "Environment Variables": each entry is `NAME=VALUE`).
+-- The variables of an environment (manual of the C library, "Environment Variables": each entry is
+-- `NAME=VALUE`).
 use Rattle.std.specs.Prelude.{ℕ, ◌+◌, ◌==◌, List, Option, option_map, position, take, drop}
 use Rattle.std.specs.List.{flat_map}
 use Rattle.std.specs.Option.{option_to_list}

@@ -1,5 +1,7 @@
-//! The substitution of variables: `variable`, `reference`, `sorted`, `replacements`, `holding`,
-//! `substituter`, `run`, in reading order.
+//! The substitution of variables.
+//!
+//! The modules in reading order: `variable`, `reference`, `sorted`, `replacements`, `holding`,
+//! `substituter`, `run`.
 pub(crate) mod holding;
 pub(crate) mod reference;
 pub(crate) mod replacements;

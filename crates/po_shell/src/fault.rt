@@ -1,14 +1,14 @@
-//! The ways in which a tool can be refused by its surroundings.
+//! The faults of a tool's surroundings: of its reader, its writers and the allocator.
 ghost use Rattle.std.specs.Prelude.{◌≡◌};
 ghost use Rattle.po_shell.specs.declared.fault.ToolFault.TheVariants.{OutOfMemory};
 
 use std::alloc::{AllocError, AllocFailed};
 use thiserror::Error;
 
-/// Why a tool gave up, whatever its input says.
+/// Why a tool stopped, whatever its input says.
 #[derive(Clone, Copy, Debug, PartialEq, Eq, Error)]
 pub enum ToolFault {
-    /// A read failed, or a reader was called as often as it may be and had no end.
+    /// A read failed, or a reader was called as often as it may be and came to no end.
     #[error("read fault")]
     ReadFault,
     /// A write failed, or took no byte of a piece that isn't empty.

@@ -1,5 +1,5 @@
-//! What the shell tools of a catalogue stand on: readers and writers that count their failures, the
-//! locales to look for, escapes, counts, and the substitution of variables.
+//! What gettext, ngettext and envsubst stand on: readers and writers that count their failures, the
+//! locales and the paths of their catalogues, escapes, counts, and the substitution of variables.
 //!
 //! The modules in reading order: `fault`, `devices` (with `Failing` for tests), `search`, `locale`,
 //! `arguments`, `envsubst`, `laws`.

@@ -1,4 +1,4 @@
-//! Where a byte stands first.
+//! Where a byte stands first in a text.
 ghost use Rattle.std.specs.Prelude.{◌≡◌, ◌≤◌, length};
 ghost use Rattle.std.specs.List.{position_or_len};
 ghost use Rattle.memchr.specs.Find.{is_byte};

@@ -3,10 +3,10 @@ ghost use Rattle.std.specs.Prelude.{◌≡◌, ◌^◌, ◌<◌, true, SomeIff};
 ghost use Rattle.std.specs.Str.Parse.{digits_value};
 ghost use Rattle.po_shell.specs.Counts.{are_digits, count_in};
 
-/// What a COUNT is taken as where it isn't decimal digits alone, or is 2^64 or more.
+/// What a COUNT is taken as where it isn't decimal digits alone, one at least, or is 2^64 or more.
 pub const OTHER_COUNT: u64 = 99;
 
-/// The number that a COUNT gives.
+/// The count that the argument COUNT gives: its number, or `OTHER_COUNT`.
 pub fn count_of(text: &[u8]) -> u64
     ensures { result ≡ count_in text.now }
 {
@@ -17,7 +17,7 @@ pub fn count_of(text: &[u8]) -> u64
     }
 }
 
-/// The number that decimal digits write, where nothing else stands there and it is below 2^64.
+/// The number that decimal digits spell, or `None` where a byte is no digit or it is 2^64 or more.
 fn decimal(digits: &[u8]) -> Option<u64>
     ensures { SomeIff result ((are_digits digits.now ≡ true) × (digits_value 10 digits.now < 2 ^ 64))
         (digits_value 10 digits.now) }

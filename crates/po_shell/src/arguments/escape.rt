@@ -1,4 +1,5 @@
-//! The escapes that `gettext -e` expands ("Invoking the gettext program" of the GNU gettext manual).
+//! The escapes that `gettext -e` expands ("Invoking the gettext program" of the GNU gettext
+//! manual).
 ghost use Rattle.std.specs.Prelude.{◌≡◌, ◌≤◌, length, IfSome, IfOk, OnErr, Err};
 ghost use Rattle.po_shell.specs.Escapes as spec;
 
@@ -9,7 +10,7 @@ use std::alloc::Global;
 /// A text with its escapes expanded.
 #[derive(Debug, Drop)]
 pub struct Expanded {
-    /// The text's bytes, without those of its escapes and with what these give.
+    /// The text's bytes, each escape replaced by the byte that it gives.
     pub bytes: Vec<u8>,
     /// Whether a `\c` stands in the text, so that no newline is to be written after it.
     pub no_newline: bool,
@@ -78,7 +79,7 @@ fn is_octal(byte: u8) -> bool
     matches!(byte, b'0'..=b'7')
 }
 
-/// Up to three octal digits at the beginning.
+/// The octal digits at the beginning of a text, up to three.
 fn octal_run(bytes: &[u8]) -> &[u8]
     ensures run { result.now ≡ spec.octal_run bytes.now }
     ensures within { length result.now ≤ length bytes.now }

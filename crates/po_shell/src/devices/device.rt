@@ -13,8 +13,10 @@ pub trait ByteIn {
     // The bytes that calls will give from here on, where they are known.
     ghost remaining: { Self → Option (List ℕ) };
 
+    // How often it was called.
     ghost calls: { Self → ℕ };
 
+    // How many of the calls failed.
     ghost failures: { Self → ℕ };
 
     /// Reads as `Read::read` does: `Ok(n)` gives the first n bytes of `buf`, and no byte only at
@@ -30,9 +32,10 @@ pub trait ByteIn {
 
 /// A writer that counts the calls that failed.
 pub trait ByteOut {
-    // The bytes that the writer holds, where they are known.
+    // The bytes that the writer has taken, where they are known.
     ghost contents: { Self → Option (List ℕ) };
 
+    // How many calls failed.
     ghost failures: { Self → ℕ };
 
     /// Writes as `Write::write` does: `Ok(n)` took the first n bytes of `piece`. A call that takes
@@ -44,8 +47,8 @@ pub trait ByteOut {
         ensures fails { failures self.new ≡ failures self.old + failure_of_write result piece.now };
 }
 
-/// A device with counts of its calls and of those that failed: a `ByteIn` over any `Read`, a
-/// `ByteOut` over any `Write`.
+/// A reader or writer with counts of its calls and of those that failed: a `ByteIn` over any
+/// `Read`, a `ByteOut` over any `Write`. Calls of a writer aren't counted.
 #[derive(Drop)]
 pub struct Counted<D> {
     inner: D,

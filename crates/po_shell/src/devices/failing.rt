@@ -1,4 +1,4 @@
-//! A device over memory that fails as a test wants it to.
+//! A reader or writer over memory that fails as a test wants it to.
 ghost use Rattle.std.specs.Prelude.{◌≡◌, ◌≢◌, ◌↔◌, ◌-◌, ◌==◌, IsTrue, IfOk, IfErr, IsErr, Ok, Some, length, min, max, if◌then◌else◌};
 ghost use Rattle.std.specs.Io.{ReadsAtMost, WritesAtMost};
 ghost use Rattle.std.specs.Io.KnownBytes.{ReadConsumes, WriteAppends};
@@ -18,8 +18,9 @@ pub struct Failing<D> {
 }
 
 impl<D> Failing<D> {
-    /// The device that fails at the call of this number, counted from 1, and at no other; 0 is no
-    /// call. Each other call moves `most` bytes at most, and a reader at least one.
+    /// The device that fails at the call of this number, counted from 1, and at no other; with 0 no
+    /// call fails. Each other call moves `most` bytes at most; a reader moves one where `most` is
+    /// 0.
     pub fn new(inner: D, failing_call: u64, most: usize) -> Self
         ensures inner { failing_inner result ≡ inner }
         ensures call { failing_calls_before result

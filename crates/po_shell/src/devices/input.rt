@@ -9,6 +9,7 @@ use std::alloc::Global;
 /// How many bytes of an input are read at most: 2,147,483,648.
 pub const INPUT_LIMIT: usize = 1 << 31;
 
+/// How many bytes a call of the reader may give: 16 KB.
 const PIECE: usize = 1 << 14;
 
 /// The whole input, or its first `INPUT_LIMIT` bytes where it has more. A `ReadFault` comes where

@@ -74,8 +74,8 @@ pub(crate) fn begun(held: &[u8]) -> (bool, &[u8])
     }
 }
 
-/// How many bytes at the beginning are a begun name that the next byte decides; none where no name
-/// can begin so, or where the bytes end with it.
+/// How many bytes at the beginning are a begun name after which a byte stands that decides on it.
+/// `None` where no name can begin so, or where the bytes end with it.
 fn begun_name_len(bytes: &[u8]) -> Option<usize>
     ensures begun { IfSome result (λ len. is_begun_name (take len bytes.now) ≡ true) }
     ensures bound { IfSome result (λ len. len < length bytes.now) }
@@ -94,8 +94,8 @@ fn begun_name_len(bytes: &[u8]) -> Option<usize>
     }
 }
 
-/// How many bytes at the beginning of a piece are a begun reference that the next byte decides; none
-/// where the piece doesn't begin with `$`, or ends with the reference.
+/// How many bytes at the beginning of a piece are a begun reference after which a byte stands that
+/// decides on it. `None` where the piece doesn't begin with `$`, or ends with the reference.
 pub(crate) fn begun_len(piece: &[u8]) -> Option<usize>
     ensures some { IfSome result (λ len. 0 < len) }
     ensures bound { IfSome result (λ len. len < length piece.now) }
@@ -137,7 +137,7 @@ fn replace<'a>(replacements: &Replacements<'a>, name: &[u8], taken: usize) -> Ef
     }
 }
 
-/// What stands for the bytes held back at the end of the text, where it isn't the bytes themselves.
+/// What the bytes held back become at the end of the text; `None` where they are copied.
 pub(crate) fn ending<'a>(replacements: &Replacements<'a>, held: &[u8]) -> Option<&'a [u8]>
     requires { is_undecided held.now ≡ true }
     ensures { Ending (values_by replacements.now) held.now result }

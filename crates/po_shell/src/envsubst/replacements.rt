@@ -1,4 +1,5 @@
-//! What the references to a name become ("Invoking the envsubst program" of the GNU gettext manual).
+//! What the references to a name become ("Invoking the envsubst program" of the GNU gettext
+//! manual).
 ghost use Rattle.std.specs.Prelude.{◌≡◌};
 ghost use Rattle.std.specs.Option.{option_map};
 ghost use Rattle.po_shell.specs.Sorted.{values_by};
@@ -7,8 +8,8 @@ ghost use Rattle.po_shell.specs.Substitution.{is_replaced, names_given, pairs_in
 use crate::envsubst::sorted::{are_names_sorted, are_variables_sorted, is_in_sorted, sorted_value};
 use std::marker::Model;
 
-/// Variables, and the names to be replaced if they are given. What is in the order of its names is
-/// searched by halves.
+/// Variables, and the names to be replaced if they are given. What is sorted by name is searched by
+/// binary search, all else from the beginning.
 #[derive(Drop)]
 pub(crate) struct Replacements<'a> {
     vars: &'a [(&'a [u8], &'a [u8])],
@@ -31,8 +32,9 @@ impl<'a> Model for Replacements<'a> {
 }
 
 impl<'a> Replacements<'a> {
-    /// By these pairs of name and value, of which the first with a name counts, and by nothing for a
-    /// name without one. Where `only` is given, references to other names aren't replaced.
+    /// References are replaced by the values of these pairs of name and value, of which the first
+    /// with a name counts; a name without a pair is replaced by nothing. Where `only` is given,
+    /// references to other names aren't replaced.
     pub(crate) fn new(vars: &'a [(&'a [u8], &'a [u8])], only: Option<&'a [&'a [u8]]>) -> Self
         ensures vars { result.vars ≡ pairs_in vars.now }
         ensures only { result.only ≡ names_given only.entry }
@@ -49,7 +51,7 @@ impl<'a> Replacements<'a> {
         }
     }
 
-    /// What a reference to this name becomes, where it is replaced.
+    /// What a reference to this name becomes, or `None` where it isn't replaced.
     #[tactic(auto, unfolding(crate::specs::Substitution::values_of))]
     pub(crate) fn value_for(&self, name: &[u8]) -> Option<&'a [u8]>
         ensures { option_map (λ value. value.now) result ≡ values_by self.now name.now }
@@ -74,7 +76,7 @@ impl<'a> Replacements<'a> {
         }
     }
 
-    /// The value of the first variable of that name, and nothing where it is unset.
+    /// The value of the first variable of that name; empty where there is none.
     fn value_of(&self, name: &[u8]) -> &'a [u8]
         ensures { result.now ≡ value_of self.now.vars name.now }
     {
@@ -86,7 +88,8 @@ impl<'a> Replacements<'a> {
     }
 }
 
-/// The value of the first variable of that name, and nothing where it is unset.
+/// The value of the first variable of that name, found from the beginning; empty where there is
+/// none.
 fn first_value<'a>(vars: &[(&'a [u8], &'a [u8])], name: &[u8]) -> &'a [u8]
     ensures { result.now ≡ value_of (pairs_in vars.now) name.now }
 {

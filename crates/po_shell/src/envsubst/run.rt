@@ -15,8 +15,10 @@ use std::io::{BufWriter, Write};
 /// How often a reader is called at most for a piece of an input: 4,294,967,296 times.
 pub const MOST_READS: u64 = 1 << 32;
 
+/// How many bytes a call of the reader may give: 64 KB.
 const PIECE: usize = 1 << 16;
 
+/// How many bytes of output are gathered for one call of the writer: 64 KB.
 const BLOCK: usize = 1 << 16;
 
 /// Writes the input with its references replaced, as [`Substituter`] replaces them. A `ReadFault`
@@ -72,10 +74,11 @@ pub fn run_envsubst<R: ByteIn, W: ByteOut>(
     Err(ToolFault::ReadFault)
 }
 
-/// Writes the input with its references replaced, as `run_envsubst` does, with the output gathered in blocks, for a
-/// writer of which each call is dear, and with variables and names sorted, so that each is found by halves. All of
-/// the output has gone into the writer that is answered. After a `ReadFault` what was gathered is written too, after a
-/// `WriteFault` nothing more.
+/// Writes the input with its references replaced, as `run_envsubst` does. The output is gathered in
+/// blocks, for a writer of which each call costs much. Variables and names are sorted first, so
+/// that each is found by binary search. All of the output has gone into the writer that is
+/// returned. After a `ReadFault` what was gathered is written too; after a `WriteFault` nothing
+/// more is written.
 pub fn run_envsubst_in_blocks<R: ByteIn, W: Write + Drop>(
     alloc: Global,
     reader: &mut R,
@@ -112,7 +115,7 @@ pub fn run_envsubst_in_blocks<R: ByteIn, W: Write + Drop>(
     }
 }
 
-/// Writes in blocks.
+/// The same with variables and names that are sorted.
 fn substitute_in_blocks<R: ByteIn, W: Write + Drop>(
     alloc: Global,
     reader: &mut R,

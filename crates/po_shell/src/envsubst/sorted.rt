@@ -1,4 +1,4 @@
-//! Variables and names in the order in which they are found by halves.
+//! Variables and names that are sorted, and so found by binary search.
 ghost use Rattle.std.specs.Prelude.{◌≡◌, ℕ, List, Some, map, true, IfOk};
 ghost use Rattle.std.specs.List.{list_any};
 ghost use Rattle.std.specs.Str.{bytes_eq};
@@ -51,7 +51,7 @@ pub(crate) fn sorted_names<'a>(
     Ok(sorted)
 }
 
-/// The value of the first variable of that name, found by halves, and nothing where it is unset.
+/// The value of the first variable of that name, found by binary search; empty where there is none.
 pub(crate) fn sorted_value<'a>(vars: &[(&'a [u8], &'a [u8])], name: &[u8]) -> &'a [u8]
     requires { AreVariablesSorted vars.now }
     ensures { result.now ≡ value_of (pairs_in vars.now) name.now }
@@ -63,7 +63,7 @@ pub(crate) fn sorted_value<'a>(vars: &[(&'a [u8], &'a [u8])], name: &[u8]) -> &'
     }
 }
 
-/// Whether a name is among the names, found by halves.
+/// Whether a name is among the names, found by binary search.
 pub(crate) fn is_in_sorted(names: &[&[u8]], name: &[u8]) -> bool
     requires { AreNamesSorted names.now }
     ensures { result ≡ list_any (λ n. bytes_eq n.now name.now) names.now }

@@ -1,5 +1,5 @@
-//! Substitution in one pass, whatever the pieces ("Invoking the envsubst program" of the GNU gettext
-//! manual).
+//! Substitution in one pass, whatever the pieces ("Invoking the envsubst program" of the GNU
+//! gettext manual).
 ghost use Rattle.std.specs.Prelude.{◌≡◌, ◌+◌, ◌-◌, ◌*◌, ◌^◌, ◌<◌, ◌≤◌, min, true, false, [], ◌++◌, take, drop, length, if◌then◌else◌, is_err, IsErr, IfOk, OnOk, OnErr, Err};
 ghost use Rattle.std.specs.Io.KnownBytes.{Appends, Keeps};
 ghost use Rattle.po_shell.specs.Device.{AppendsPrefix};
@@ -21,7 +21,7 @@ use std::marker::Model;
 type Held = ArrayVec<u8, 257>;
 
 /// Replaces the references `$NAME` and `${NAME}` of a text that comes in pieces. It holds back the
-/// bytes at a piece's end that may begin a reference, and nothing else, and takes no memory.
+/// bytes at a piece's end that may begin a reference, and nothing else, and doesn't allocate.
 #[derive(Drop)]
 pub struct Substituter<'a> {
     replacements: Replacements<'a>,
@@ -47,9 +47,10 @@ impl<'a> Model for Substituter<'a> {
 }
 
 impl<'a> Substituter<'a> {
-    /// Replaces by these pairs of name and value, of which the first with a name counts, and a
-    /// name without one by nothing. Where `only` is given, references to other names are copied.
-    /// Pairs in the order of their names, and names in order, are searched by halves.
+    /// Replaces references by the values of these pairs of name and value, of which the first with
+    /// a name counts; a name without a pair is replaced by nothing. Where `only` is given,
+    /// references to other names are copied. Pairs that are sorted by name, and sorted names, are
+    /// searched by binary search.
     pub fn new(vars: &'a [(&'a [u8], &'a [u8])], only: Option<&'a [&'a [u8]]>) -> Self
         ensures vars { result.vars ≡ pairs_in vars.now }
         ensures only { result.only ≡ names_given only.entry }
@@ -63,8 +64,8 @@ impl<'a> Substituter<'a> {
         }
     }
 
-    /// Takes one more piece of the text. After a `WriteFault`, here or in an earlier call, each
-    /// call answers `WriteFault` and writes nothing.
+    /// Takes one more piece of the text. After a `WriteFault` each later call returns `WriteFault`
+    /// and writes nothing.
     pub fn feed<W: ByteOut>(&mut self, piece: &[u8], writer: &mut W) -> Result<(), ToolFault>
         requires failures { W.failures writer.old < 2 ^ 63 }
         ensures ok { OnOk result (Advances (values_in self.old) (self.old.held ++ piece.now) self.new.held
@@ -91,7 +92,7 @@ impl<'a> Substituter<'a> {
         outcome
     }
 
-    /// Ends the text: what is held back comes out, with the reference that it is, if it is one.
+    /// Ends the text: what is held back is written, and replaced if it is a reference.
     pub fn finish<W: ByteOut>(self, writer: &mut W) -> Result<(), ToolFault>
         requires failures { W.failures writer.old < 2 ^ 63 }
         ensures ok { OnOk result (Appends (W.contents writer.old) (W.contents writer.new)
@@ -141,7 +142,7 @@ fn pass<W: ByteOut>(
     Ok(())
 }
 
-/// Takes some bytes of a piece, or lets go those that are held. Answers how many were taken.
+/// Takes some bytes of a piece, or writes those that are held back. Returns how many were taken.
 fn advance<W: ByteOut>(
     replacements: &Replacements<'_>,
     held: &mut Held,
@@ -188,7 +189,7 @@ fn advance<W: ByteOut>(
     }
 }
 
-/// Takes a begun reference of so many bytes, which a piece has whole, by the byte after it.
+/// Takes the begun reference of `len` bytes that a piece begins with, as the byte after it decides.
 fn take_reference<W: ByteOut>(
     replacements: &Replacements<'_>,
     held: &mut Held,

@@ -8,7 +8,8 @@ use std::alloc::{AllocError, Global};
 
 const EQUALS: u8 = b'=';
 
-/// The name and the value of an entry of the environment, `NAME=VALUE`, where there is a `=`.
+/// The name and the value of an entry of the environment, `NAME=VALUE`: what stands before and
+/// after its first `=`. `None` where it has no `=`.
 pub fn name_and_value(entry: &[u8]) -> Option<(&[u8], &[u8])>
     ensures parts { IfSome result (λ v. entry.now ≡ v.0.now ++ 61 ∷ v.1.now) }
     ensures first { IfSome result (λ v. All (λ b. b ≢ 61) v.0.now) }

@@ -14,11 +14,11 @@ use std::collections::BTreeSet;
 /// The environment variables that choose a catalogue, as bytes; an unset one is `None`.
 #[derive(Clone, Copy)]
 pub struct Environment<'a> {
-    /// LC_ALL, which names the locale before all others.
+    /// LC_ALL, which names the locale if it is set and not empty.
     pub lc_all: Option<&'a [u8]>,
-    /// LC_MESSAGES, which names it where LC_ALL is unset or empty.
+    /// LC_MESSAGES, which names it if LC_ALL doesn't.
     pub lc_messages: Option<&'a [u8]>,
-    /// LANG, which names it where both are.
+    /// LANG, which names it if neither does.
     pub lang: Option<&'a [u8]>,
     /// LANGUAGE: languages in order of preference, with a colon between two.
     pub language: Option<&'a [u8]>,
@@ -28,8 +28,9 @@ pub struct Environment<'a> {
     pub textdomaindir: Option<&'a [u8]>,
 }
 
-/// The locales whose catalogues are looked for, the first to be asked first, none twice. There is
-/// none without a locale, in `C` and `POSIX`, and in a locale whose name has a slash.
+/// The names of the locales whose catalogues are looked for, the first to be asked first, none
+/// twice. There are none without a locale, in `C` and `POSIX`, and in a locale whose name has a
+/// slash.
 pub fn locale_candidates(
     alloc: Global,
     environment: &Environment<'_>,
@@ -41,7 +42,7 @@ pub fn locale_candidates(
     Ok(candidate_names(alloc, environment)?)
 }
 
-/// The candidates, refused only where an allocation failed.
+/// The same, with the error of a failed allocation.
 pub(crate) fn candidate_names(
     alloc: Global,
     environment: &Environment<'_>,
@@ -61,7 +62,8 @@ pub(crate) fn candidate_names(
     distinct(alloc, &names)
 }
 
-/// The names of the languages that are asked for, with repeats: those of LANGUAGE, or the locale.
+/// The candidates of the languages that are asked for, with repeats: those of LANGUAGE, or else of
+/// the locale.
 fn names_of(
     alloc: Global,
     locale: &[u8],
@@ -78,8 +80,8 @@ fn names_of(
     Ok(names)
 }
 
-/// Each name where it first stands. A tree finds the names seen before, so that no choice of names
-/// makes this slow.
+/// The names without repeats, each where it stands first. The names seen are kept in a tree, so
+/// that no choice of names makes this slow.
 fn distinct(alloc: Global, names: &[Vec<u8>]) -> Result<Vec<Vec<u8>>, AllocError>
     ensures { IfOk result (λ v. map (λ name. name.items) v.items
         ≡ spec.distinct (map (λ name. name.items) names.now)) }
@@ -95,7 +97,7 @@ fn distinct(alloc: Global, names: &[Vec<u8>]) -> Result<Vec<Vec<u8>>, AllocError
     Ok(kept)
 }
 
-/// A variable that is set and not empty.
+/// The value of a variable, where it is set and not empty.
 pub(crate) fn non_empty(variable: Option<&[u8]>) -> Option<&[u8]>
     ensures { option_map (λ value. value.now) result ≡ spec.non_empty variable.entry }
 {
@@ -105,7 +107,7 @@ pub(crate) fn non_empty(variable: Option<&[u8]>) -> Option<&[u8]>
     }
 }
 
-/// The first of LC_ALL, LC_MESSAGES and LANG that is given.
+/// The first of LC_ALL, LC_MESSAGES and LANG that is set and not empty.
 fn locale_of<'a>(environment: &Environment<'a>) -> Option<&'a [u8]>
     ensures { option_map (λ value. value.now) result ≡ spec.locale_of environment.now }
 {
@@ -126,21 +128,21 @@ fn is_untranslated(name: &[u8]) -> bool
     name == b"C".as_slice() || name == b"POSIX".as_slice()
 }
 
-/// Whether the name has a slash, and so can't be a part of a path.
+/// Whether the name has a slash.
 fn has_slash(name: &[u8]) -> bool
     ensures { result ≡ spec.has_slash name.now }
 {
     name.contains(&b'/')
 }
 
-/// Whether a name can stand in a path.
+/// Whether a name can stand in a path: it isn't empty and has no slash.
 pub(crate) fn is_path_part(name: &[u8]) -> bool
     ensures { result ≡ spec.is_path_part name.now }
 {
     !name.is_empty() && !has_slash(name)
 }
 
-/// Adds the candidates of the parts of LANGUAGE.
+/// Adds the candidates of the parts of LANGUAGE, up to the first `C` or `POSIX`.
 fn add_languages(
     alloc: Global,
     names: &mut Vec<Vec<u8>>,
@@ -163,7 +165,7 @@ fn add_languages(
     }
 }
 
-/// Adds the candidates of one part of LANGUAGE, if it counts.
+/// Adds the candidates of one part of LANGUAGE, if it can stand in a path.
 fn add_language(alloc: Global, names: &mut Vec<Vec<u8>>, part: &[u8]) -> Result<(), AllocError>
     ensures { OnOk result (map (λ name. name.items) names.new.items
         ≡ map (λ name. name.items) names.old.items ++ variants_in part.now) }
@@ -175,9 +177,10 @@ fn add_language(alloc: Global, names: &mut Vec<Vec<u8>>, part: &[u8]) -> Result<
     }
 }
 
-/// Adds the candidates of a name `L[_T][.C][@M]`, the most exact first: the name itself, `L[_T][@M]`, `L[@M]`,
-/// `L[_T]` and `L`. For `sr_RS.UTF-8@latin` they are `sr_RS.UTF-8@latin`, `sr_RS@latin`, `sr@latin`, `sr_RS` and `sr`.
-/// Those that are equal are dropped later, by `distinct`.
+/// Adds the candidates of a name `L[_T][.C][@M]`, the most exact first: the name itself,
+/// `L[_T][@M]`, `L[@M]`, `L[_T]` and `L`. For `sr_RS.UTF-8@latin` they are `sr_RS.UTF-8@latin`,
+/// `sr_RS@latin`, `sr@latin`, `sr_RS` and `sr`. Those that are equal are dropped later, by
+/// `distinct`.
 fn add_variants(alloc: Global, names: &mut Vec<Vec<u8>>, name: &[u8]) -> Result<(), AllocError>
     ensures { OnOk result (map (λ name. name.items) names.new.items
         ≡ map (λ name. name.items) names.old.items ++ spec.variants name.now) }
@@ -193,7 +196,7 @@ fn add_variants(alloc: Global, names: &mut Vec<Vec<u8>>, name: &[u8]) -> Result<
     Ok(())
 }
 
-/// What stands before the first `byte`, or all.
+/// What stands before the first `byte`, or all where there is none.
 #[tactic(auto, unfolding(crate::specs::Locales::before))]
 fn before(byte: u8, name: &[u8]) -> &[u8]
     ensures { result.now ≡ spec.before byte name.now }
@@ -201,7 +204,7 @@ fn before(byte: u8, name: &[u8]) -> &[u8]
     &name[..len_before(byte, name)]
 }
 
-/// What stands from the first `byte` on, or nothing.
+/// What stands from the first `byte` on, or nothing where there is none.
 #[tactic(auto, unfolding(crate::specs::Locales::from_first))]
 fn from_first(byte: u8, name: &[u8]) -> &[u8]
     ensures { result.now ≡ spec.from_first byte name.now }

@@ -35,7 +35,7 @@ pub struct OwnedEnvironment {
 }
 
 impl OwnedEnvironment {
-    /// Reads each variable. Refused only where an allocation failed.
+    /// Reads each variable of the source.
     pub fn read<S: VariableSource>(
         alloc: Global,
         source: &S,
@@ -52,7 +52,7 @@ impl OwnedEnvironment {
         })
     }
 
-    /// These values, lent.
+    /// The same values, borrowed.
     pub fn lent(&self) -> Environment<'_>
         ensures { environment_view result ≡ owned_environment_view self.now }
     {
@@ -67,7 +67,7 @@ impl OwnedEnvironment {
     }
 }
 
-/// A variable's bytes, lent, where it is set.
+/// The value of a variable, borrowed, where it is set.
 fn lent_value(value: &Option<Vec<u8>>) -> Option<&[u8]>
     ensures { option_copied result ≡ option_map (λ v. v.items) value.now }
 {

@@ -9,13 +9,13 @@ use crate::fault::ToolFault;
 use crate::locale::candidates::{Environment, candidate_names, is_path_part, non_empty};
 use std::alloc::{AllocError, Global};
 
-/// The folder that the catalogues lie below where TEXTDOMAINDIR names none.
+/// The folder that the catalogues lie below where TEXTDOMAINDIR is unset or empty.
 pub const DEFAULT_FOLDER: &[u8] = b"/usr/share/locale";
 
-/// The paths of the catalogues of a text domain, the first to be asked first. The domain is the
-/// one among the arguments, else that of `-d`, else that of TEXTDOMAIN; there is no path where there is
-/// none, nor where it is empty or has a slash. The folder is that of TEXTDOMAINDIR, or
-/// `DEFAULT_FOLDER`.
+/// The paths of the catalogues of a text domain, the first to be asked first. The domain is `word`,
+/// the one among the arguments, else `option`, that of `-d`, else that of TEXTDOMAIN. There is no
+/// path where there is no domain, or where it is empty or has a slash. The folder is that of
+/// TEXTDOMAINDIR, or `DEFAULT_FOLDER` where that is unset or empty.
 pub fn catalogue_paths(
     alloc: Global,
     word: Option<&[u8]>,
@@ -46,7 +46,7 @@ pub fn catalogue_path(
     Ok(path_of(alloc, dir, locale, domain)?)
 }
 
-/// The path that `catalogue_path` gives, refused only where an allocation failed.
+/// The same, with the error of a failed allocation.
 fn path_of(alloc: Global, dir: &[u8], locale: &[u8], domain: &[u8]) -> Result<Vec<u8>, AllocError>
     ensures { IfOk result (λ path. path.items ≡ path_of dir.now locale.now domain.now) }
 {
@@ -59,7 +59,7 @@ fn path_of(alloc: Global, dir: &[u8], locale: &[u8], domain: &[u8]) -> Result<Ve
     Ok(path)
 }
 
-/// The paths of the catalogues of a domain that can stand in one.
+/// The paths of the catalogues of a domain that can stand in a path.
 fn domain_paths(
     alloc: Global,
     domain: &[u8],
