@@ -245,7 +245,7 @@ fn envsubst<'a>(alloc: Global) -> Result<Command<'a>, AllocError> {
         .short('v'))
 }
 
-/// What gettext and ngettext share.
+/// The options that gettext and ngettext share.
 fn look_up<'a>(alloc: Global, name: &'a str, about: &'a str) -> Result<Command<'a>, AllocError> {
     Command::new(alloc, name)
         .about(about)

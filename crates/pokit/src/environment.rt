@@ -1,12 +1,13 @@
-//! The arguments, which are text, and the environment's variables, whose values are bytes and needn't
-//! be text.
+//! The arguments, which are text, and the environment's variables, whose values are bytes and
+//! needn't be text.
 use crate::files::System;
 use po_shell::VariableSource;
 use po_tools::ProgramFault;
 use std::alloc::{AllocError, Global};
 use std::env::{Env, FillError};
 
-/// What of the environment is asked for.
+/// What is asked of the system: a variable by its name, or an entry of the environment or an
+/// argument by its index.
 #[derive(Clone, Copy)]
 enum Query<'a> {
     Variable(&'a str),
@@ -16,6 +17,7 @@ enum Query<'a> {
 
 const PROGRAM: &str = "pokit";
 
+/// How many bytes there is room for when a value is first asked for.
 const FIRST_CAPACITY: usize = 256;
 
 // No contract can say what the environment holds.
@@ -59,7 +61,7 @@ pub(crate) fn arguments(
     Ok(arguments)
 }
 
-/// Doubles the room until the answer fits.
+/// Asks, with twice the room each time until the answer fits. `None` where there is no such value.
 fn ask(alloc: Global, env: &impl Env, query: Query<'_>) -> Result<Option<Vec<u8>>, AllocError> {
     let mut capacity = FIRST_CAPACITY;
     for _ in 0..usize::BITS {
@@ -76,7 +78,7 @@ fn ask(alloc: Global, env: &impl Env, query: Query<'_>) -> Result<Option<Vec<u8>
     Err(AllocError)
 }
 
-/// Puts the answer into the room, and returns its length.
+/// Writes the answer into `room`, and returns its length.
 fn fill(env: &impl Env, query: Query<'_>, room: &mut [u8]) -> Result<usize, FillError> {
     match query {
         Query::Variable(name) => env.var(name, room),

@@ -26,7 +26,7 @@ impl<'r, R: Files + Input> InputSource for System<'r, R> {
     }
 }
 
-/// The bytes of the only input.
+/// The bytes of the input of a tool that takes one.
 pub(crate) fn read_one<'a, R: Files + Input>(
     alloc: Global,
     rt: &R,
@@ -72,7 +72,7 @@ impl<'r, R: Files + Print, E: Write + Drop> OutputTarget for Outputs<'r, R, E> {
     }
 }
 
-/// Writes a run, and gives its status.
+/// Writes the output and the messages of a run, and returns its status.
 pub(crate) fn write_run<'a, R: Files + Print, E: Write + Drop>(
     rt: &R,
     errors: E,

@@ -1,5 +1,5 @@
-//! What stands after the options in each tool's help: the arguments of tools that take them in several
-//! forms, examples, and what the exit status is.
+//! What stands after the options in each tool's help: the arguments of tools that take them in
+//! several forms, examples, and what the exit status is.
 
 pub(crate) const PROGRAM: &str =
     "'pokit TOOL --help' and 'pokit help TOOL' show the options of a tool.

@@ -1,7 +1,7 @@
 //! `pokit`: the GNU gettext catalogue tools in one program, a subcommand for each.
 //!
-//! Only this crate touches arguments, files, streams and the environment; what a tool does stands
-//! in po_tools. The modules in reading order: `streams`, `environment`, `commands`, `help`,
+//! Only this crate touches arguments, files, streams and the environment; what a tool does is in
+//! po_tools. The modules in reading order: `streams`, `environment`, `commands`, `help`,
 //! `usage`, `options`, `files`, `tools`.
 
 #![tactic(auto)]
@@ -34,7 +34,7 @@ fn main(rt: HostRuntime) -> ExitCode {
     }
 }
 
-/// Parses the arguments and runs the tool; help and usage faults are written here.
+/// Parses the arguments and runs the tool. Help and usage faults are written here.
 fn run(rt: &HostRuntime, arguments: &[&str]) -> ExitCode {
     let first = arguments
         .get(1)
@@ -87,7 +87,7 @@ fn report_fault(rt: &HostRuntime, tool: Option<&str>, fault: ProgramFault<'_>) -
     ExitCode::FAILURE
 }
 
-/// Status 0 if it is well, else 1.
+/// Status 0 where `is_well`, else 1.
 fn exit_code(is_well: bool) -> ExitCode {
     if is_well {
         ExitCode::SUCCESS

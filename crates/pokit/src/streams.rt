@@ -3,13 +3,14 @@
 use std::os::fd::{AsFd, AsRawFd, IntoRawFd};
 use std::{fs, io};
 
-/// What takes the place of a closed stream: a folder, which can be neither read nor written, so that
-/// each use of the stream is a fault.
+/// What takes the place of a closed stream: a folder, which can be neither read nor written, so
+/// that each use of the stream is a fault.
 pub(crate) const HELD: &str = "/";
 
+/// The number of standard error.
 const LAST_STREAM: i32 = 2;
 
-/// Holds the numbers of the standard streams that are closed, up to the end of the program.
+/// Opens `HELD` under the number of each standard stream that is closed, and leaves it open.
 pub(crate) fn hold_closed(rt: &HostRuntime) -> io::Result<()> {
     if is_open(&rt.stdin()) && is_open(&rt.stdout()) && is_open(&rt.stderr()) {
         return Ok(());

@@ -1,4 +1,4 @@
-//! The tools, each with what stands between its arguments and its run.
+//! The tools: each makes its plan of the arguments and the inputs, and writes the run.
 pub(crate) mod envsubst;
 pub(crate) mod gettext;
 pub(crate) mod msgattrib;

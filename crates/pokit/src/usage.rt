@@ -2,8 +2,10 @@
 use clap::Error;
 use std::alloc::{AllocError, Global};
 
+/// How clap's text of an unknown option begins.
 const UNKNOWN: &str = "error: unexpected argument '";
 
+/// How clap's advice to pass an option as a file begins.
 const AS_A_VALUE: &str = "  tip: to pass '";
 
 /// Options of GNU's msgfmt that check a text, or show its version.
@@ -18,6 +20,7 @@ static CHECKS: [&str; 8] = [
     "--version'",
 ];
 
+/// The advice in place of clap's where one of `CHECKS` was given.
 const CHECK_TIP: &str =
     "  tip: '--profile-check' checks headers, plural forms and newlines; the msgfmt that
        'make install' puts into libexec/pokit takes GNU's '-c', '--check' and '--version'
@@ -42,8 +45,9 @@ pub(crate) fn spelled_out(alloc: Global, arguments: &[String]) -> Result<Vec<&st
     Ok(spelled)
 }
 
-/// The text of a fault of the command line, without the advice to give a tool of files an unknown
-/// option as a file.
+/// The text of a fault of the command line. For a tool that takes files it omits clap's advice to
+/// pass an unknown option as a file; for an option of GNU's msgfmt that checks a text it has
+/// `CHECK_TIP`.
 pub(crate) fn text_of(
     alloc: Global,
     tool: Option<&str>,

@@ -1,4 +1,4 @@
-//! Puts the values of variables into a text.
+//! Replaces the references to variables in a text.
 use crate::environment::entries;
 use clap::ArgMatches;
 use po_shell::{
@@ -36,7 +36,7 @@ fn print_names(alloc: Global, rt: &impl Print, format: &str) -> Result<(), ToolF
     put_all(&mut Counted::new(io::writer(rt)), lines.as_slice())
 }
 
-/// Copies standard input to standard output, with the values of variables.
+/// Copies standard input to standard output, with its references to variables replaced.
 fn substitute<R: Env + Input + Print>(
     alloc: Global,
     rt: &R,

@@ -1,4 +1,4 @@
-//! Gives the PO text of an MO file.
+//! Writes the PO text of an MO file.
 use crate::files::{read_one, write_run};
 use clap::ArgMatches;
 use po_tools::{ProgramFault, STANDARD, plan_msgunfmt, shown_name};
