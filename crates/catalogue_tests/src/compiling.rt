@@ -124,8 +124,8 @@ fn files(rt: HostRuntime) {
     }
 }
 
-/// Texts with their options, the context, msgid and msgid_plural with its count that are looked up, the answer, and
-/// whether it was found.
+/// Texts with their options, the context, msgid and msgid_plural with its count that are looked up,
+/// the answer, and whether it was found.
 const LOOKS: &[(
     &[u8],
     Options,

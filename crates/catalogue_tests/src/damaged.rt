@@ -1,6 +1,6 @@
-//! Every truncation of some texts, and every change of one byte to one that the format gives a meaning to. The first
-//! fault of the items is reported, and what is accepted is written so that it reads back: the live entries in order,
-//! then the obsolete ones.
+//! Every truncation of some texts, and every change of one byte to one that the format gives a
+//! meaning to. The first fault of the items is reported, and what is accepted is written so that it
+//! reads back: the live entries in order, then the obsolete ones.
 
 mod first_fault;
 

@@ -6,8 +6,8 @@ use std::alloc::Global;
 use std::fmt::Write;
 use std::test::Fail;
 
-/// The items of a text, each on a line of its own: its line, marks and kind, and its bytes in Rust's
-/// escapes.
+/// The items of a text, each on a line of its own: its line, marks and kind, and its bytes in
+/// Rust's escapes.
 fn show(alloc: Global, text: &[u8]) -> Result<String, Fail> {
     let mut shown = String::new(alloc);
     for item in items(alloc, text)? {

@@ -58,8 +58,8 @@ fn written_message(alloc: Global, id: &[u8], form: &[u8]) -> Result<Vec<u8>, Fai
     })
 }
 
-/// Messages without a plural, each with what is written of it: a form with a LF inside, and one with a LF at its
-/// end alone.
+/// Messages without a plural, each with what is written of it: a form with a LF inside, and one
+/// with a LF at its end alone.
 const MESSAGES: &[(&[u8], &[u8], &[u8])] = &[
     (
         b"k",

@@ -1,5 +1,6 @@
-//! Opening and looking up over every truncation and every change of one byte of three MO files. What is refused must
-//! have the fault that a plain reading of the format finds first; what is accepted is looked up.
+//! Opening and looking up over every truncation and every change of one byte of three MO files.
+//! What is refused must have the fault that a plain reading of the format finds first; what is
+//! accepted is looked up.
 
 mod plain;
 
@@ -15,7 +16,7 @@ fn bound(count: u32) -> u32 {
     u32::BITS - count.leading_zeros()
 }
 
-/// Whether each key of a file, and three msgids, are answered as its plain reading has them.
+/// Whether each key of a file, and three msgids, are answered as its plain reading answers them.
 fn is_looked_up<'x>(file: Plain<'x>, catalog: &Catalog<'x>) -> bool {
     let bound = bound(file.count());
     if catalog.len() != file.count() {
@@ -40,7 +41,7 @@ fn is_looked_up<'x>(file: Plain<'x>, catalog: &Catalog<'x>) -> bool {
     true
 }
 
-/// Whether what comes of opening bytes is what comes of the plain reading.
+/// Whether opening bytes has the outcome of their plain reading.
 fn is_read(bytes: &[u8]) -> bool {
     match (plain::read(bytes), Catalog::open(bytes, &mut Meter::new())) {
         (Ok(file), Ok(catalog)) => is_looked_up(file, &catalog),

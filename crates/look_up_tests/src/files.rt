@@ -69,7 +69,8 @@ fn refuses_pairs_out_of_order(rt: HostRuntime) {
     assert!(rt; matches!(twice, Err(BuildError::NotSorted)));
 }
 
-/// Whether a file has the strings of `CONTEXTS`, and its keys compare as they should, each at the cost of one.
+/// Whether a file has the strings of `CONTEXTS`, and its keys compare as they should, each at the
+/// cost of one.
 fn has_contexts(bytes: &[u8]) -> bool {
     let mut meter = Meter::new();
     let Ok(view) = MoView::open(bytes, &mut meter) else {
@@ -124,7 +125,8 @@ fn reports_the_byte_order(rt: HostRuntime) {
     }
 }
 
-/// An offset in the file of one message, the bytes that are put there, and how many messages it has then or its fault.
+/// An offset in the file of one message, the bytes that are put there, and how many messages it has
+/// then or its fault.
 const CHANGES: &[(usize, &[u8], Result<u32, MoError>)] = &[
     (48, &[], Ok(1)),
     (0, &[0xdf, 0x12, 0x04, 0x95], Err(MoError::BadMagic)),

@@ -11,7 +11,8 @@ use mo_file::{Meter, Order};
 use mo_lookup::{Catalog, Chain, Keys, Reason, Source, find};
 use std::test::Fail;
 
-/// Whether a query is answered with this text and within the bound, or with the msgid where there is no text.
+/// Whether a query is answered with this text and within the bound, or with the msgid where there
+/// is no text.
 pub(crate) fn answers<'x>(
     catalog: &Catalog<'x>,
     context: Option<&[u8]>,
@@ -25,8 +26,8 @@ pub(crate) fn answers<'x>(
         && answer.comparisons <= bound
 }
 
-/// The context, the msgid, the plural and its count, and of the answer the text, whether it was found, the least and
-/// the most comparisons, and the steps.
+/// The context, the msgid, the plural and its count, and of the answer the text, whether it was
+/// found, the least and the most comparisons, and the steps.
 type Query = (
     Option<&'static [u8]>,
     &'static [u8],
@@ -37,10 +38,12 @@ type Query = (
     u32,
 );
 
-/// How many messages a file has, the most comparisons of opening it, the source of its rule, and queries to it.
+/// How many messages a file has, the most comparisons of opening it, the source of its rule, and
+/// queries to it.
 type Opened = (u32, u64, Source, &'static [Query]);
 
-/// The index of the first query that isn't answered as it says, or their number where the file isn't as it should be.
+/// The index of the first query that isn't answered as it says, or their number where the file
+/// isn't as it should be.
 fn first_wrong(bytes: &[u8], (count, most, source, queries): Opened) -> Option<usize> {
     let mut meter = Meter::new();
     let Ok(catalog) = Catalog::open(bytes, &mut meter) else {
@@ -200,8 +203,8 @@ fn contexts_and_forms(rt: HostRuntime) -> Result<(), Fail> {
     Ok(())
 }
 
-/// The msgid, the plural and its count, and of the answer the text, whether it was found, how many catalogues were
-/// asked, the most comparisons, and the steps.
+/// The msgid, the plural and its count, and of the answer the text, whether it was found, how many
+/// catalogues were asked, the most comparisons, and the steps.
 type ChainQuery = (
     &'static [u8],
     Option<(&'static [u8], u64)>,

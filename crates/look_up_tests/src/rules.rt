@@ -22,7 +22,8 @@ fn is_named(rule: &Rule, forms: u64) -> bool {
 const THREE_FORMS: &str =
     "nplurals=3; plural=n%10==1 && n%100!=11 ? 0 : n%10>=2 && n%10<=4 && (n%100<10 || n%100>=20) ? 1 : 2;";
 
-/// The header text, the forms and the nodes, and a count, the value there and the nodes that are visited.
+/// The header text, the forms and the nodes, and a count, the value there and the nodes that are
+/// visited.
 const EXPRESSIONS: &[(&str, u64, u32, u64, Option<u64>, u32)] = &[
     (THREE_FORMS, 3, 39, 0, Some(2), 16),
     (THREE_FORMS, 3, 39, 1, Some(0), 13),
@@ -191,8 +192,8 @@ fn header(
     Ok(text)
 }
 
-/// What is repeated how often before and after what, and the nodes, a count, the value there and the nodes that are
-/// visited, or why it gives the default rule.
+/// What is repeated how often before and after what, and the nodes, a count, the value there and
+/// the nodes that are visited, or why it gives the default rule.
 const LONG_EXPRESSIONS: &[(
     usize,
     (&str, &str, &str),

@@ -1,5 +1,6 @@
-//! Every truncation and every change of one byte of three MO files, as msgunfmt takes them: what opens as no catalogue
-//! is refused with its fault; what is given as a text compiles, and from then on text and file come back unchanged.
+//! Every truncation and every change of one byte of three MO files, as msgunfmt takes them: what
+//! opens as no catalogue is refused with its fault; what is given as a text compiles, and from then
+//! on text and file come back unchanged.
 
 use mo_file::{Meter, MoView, Order};
 use po_tools::{Options, UnformatError, compile, unformat};

@@ -32,8 +32,8 @@ const REPLACED: &[u8] = b"v and v";
 
 const WRITE_FAULT: Result<(), ToolFault> = Err(ToolFault::WriteFault);
 
-/// The call of the reader that fails, how many bytes a call gives, the text, what `$A` stands for, what is reported, and
-/// what has gone out.
+/// The call of the reader that fails, how many bytes a call gives, the text, what `$A` stands for,
+/// what is reported, and what has gone out.
 const READS: &[(
     u64,
     usize,
@@ -51,7 +51,8 @@ const READS: &[(
     (4, 1, THREE_BYTES, &[], Err(ToolFault::ReadFault), b"ab"),
 ];
 
-/// The call of the writer that fails, how many bytes a call takes, what is reported, and what has gone out.
+/// The call of the writer that fails, how many bytes a call takes, what is reported, and what has
+/// gone out.
 const WRITES: &[(u64, usize, Result<(), ToolFault>, &[u8])] = &[
     (0, 1, Ok(()), b"ab"),
     (2, 1, WRITE_FAULT, b"a"),
@@ -59,8 +60,8 @@ const WRITES: &[(u64, usize, Result<(), ToolFault>, &[u8])] = &[
     (0, 0, WRITE_FAULT, b""),
 ];
 
-/// The same of the writers of the output and of the messages: calls, bytes a call, what is reported, and what has gone
-/// out.
+/// The same of the writers of the output and of the messages: calls, bytes a call, what is
+/// reported, and what has gone out.
 const DELIVERIES: &[(u64, u64, usize, Result<(), ToolFault>, &[u8], &[u8])] = &[
     (0, 0, 1, Ok(()), b"ab", b"c"),
     (2, 0, 1, WRITE_FAULT, b"a", b""),
@@ -105,8 +106,8 @@ fn puts(
     outcome == reported && gone_out.as_slice() == written
 }
 
-/// Whether a run with the output `ab` and the message `c`, delivered to such writers, reports this, and this has gone
-/// out to each.
+/// Whether a run with the output `ab` and the message `c`, delivered to such writers, reports this,
+/// and this has gone out to each.
 fn delivers(
     alloc: Global,
     out: Failing<Vec<u8>>,
@@ -187,7 +188,8 @@ fn reports_a_writer_that_fails(rt: HostRuntime) {
     }
 }
 
-/// What envsubst reports over devices that move one byte a call, of which these calls fail, and what has gone out.
+/// What envsubst reports over devices that move one byte a call, of which these calls fail, and
+/// what has gone out.
 fn substituted(alloc: Global, read: u64, write: u64) -> (Result<(), ToolFault>, Vec<u8>) {
     let mut reader = Counted::new(Failing::new(REFERENCES, read, 1));
     let mut writer = Counted::new(Failing::new(Vec::new(alloc), write, 1));
@@ -195,8 +197,8 @@ fn substituted(alloc: Global, read: u64, write: u64) -> (Result<(), ToolFault>, 
     (outcome, writer.into_inner().into_inner())
 }
 
-/// Whether envsubst with its output in blocks, over a writer that takes so many bytes a call, reports this; where it
-/// reports no fault, all has gone out.
+/// Whether envsubst with its output in blocks, over a writer that takes so many bytes a call,
+/// reports this; where it reports no fault, all has gone out.
 fn substitutes_in_blocks(
     alloc: Global,
     read: u64,

@@ -28,8 +28,8 @@ struct Row {
     status: u8,
 }
 
-/// The call that fails of the reader, of the writer of the output and of that of the messages, 0 for none; and how many
-/// bytes a call of each moves.
+/// The call that fails of the reader, of the writer of the output and of that of the messages, 0
+/// for none; and how many bytes a call of each moves.
 #[derive(Clone, Copy)]
 struct Calls {
     input: u64,
@@ -202,8 +202,8 @@ fn leaves(
     reported == outcome && gone_out.as_slice() == output && gone_to_err.as_slice() == messages
 }
 
-/// The first call of the reader at which a row doesn't leave what it should, where one does: a read fault and nothing
-/// written, up to the call that finds the end, and after it the whole run.
+/// The first call of the reader at which a row doesn't leave what it should, where one does: a read
+/// fault and nothing written, up to the call that finds the end, and after it the whole run.
 fn wrong_read(alloc: Global, row: &Row) -> Option<u64> {
     let last = row.input.len() as u64 + 1;
     for input in 1..=last {

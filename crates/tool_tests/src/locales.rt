@@ -90,7 +90,8 @@ const IN_THE_DEFAULT_FOLDER: Names = &[
     b"/usr/share/locale/de/LC_MESSAGES/w.mo",
 ];
 
-/// The text domain as an argument, of the option, and TEXTDOMAIN; TEXTDOMAINDIR; and the catalogues for de_AT.
+/// The text domain as an argument, of the option, and TEXTDOMAIN; TEXTDOMAINDIR; and the catalogues
+/// for de_AT.
 const DOMAINS: &[(Variable, Variable, Variable, Variable, Names)] = &[
     (Some(b"w"), Some(b"o"), Some(b"v"), Some(b"/d"), OF_W),
     (Some(b"w"), None, None, Some(b"/d"), OF_W),

@@ -1,3 +1,5 @@
+//! The first fault of a text, found byte by byte, with no code of po_syntax.
+
 use po_syntax::{PoError, PoFault};
 
 /// Where a reader of single bytes stands on a line.

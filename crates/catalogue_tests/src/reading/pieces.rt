@@ -7,8 +7,8 @@ use po_syntax::{PoError, PoFault};
 use std::alloc::Global;
 use std::test::Fail;
 
-/// Texts with the summaries of their entries. An empty line stands inside an entry, before and after comments, and
-/// between the strings of a text; lines end with CR LF after a byte order mark.
+/// Texts with the summaries of their entries. An empty line stands inside an entry, before and
+/// after comments, and between the strings of a text; lines end with CR LF after a byte order mark.
 const TEXTS: &[(&[u8], &[u8])] = &[
     (
         b"# one\n\nmsgid \"a\"\n\nmsgstr \"A\"\n\n# two\n\n#. e\nmsgid \"b\"\nmsgstr \"B\"\n\"C\"\n\n\n#~ msgid \"d\"\n#~ msgstr \"D\"\n\n# end\n",

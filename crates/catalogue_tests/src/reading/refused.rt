@@ -1,4 +1,5 @@
-//! Texts that are refused for their bytes, the spelling of their items, or the texts of their entries.
+//! Texts that are refused for their bytes, the spelling of their items, or the texts of their
+//! entries.
 
 use po_reader::read;
 use po_syntax::{PoError, PoFault};

@@ -1,4 +1,5 @@
-//! MO files as a plain reading of "The Format of GNU MO Files" has them, without a thought for speed.
+//! MO files as a plain reading of "The Format of GNU MO Files" has them, with no code of mo_file
+//! and without a thought for speed.
 
 use mo_file::MoError;
 
@@ -10,7 +11,8 @@ pub(super) struct Plain<'a> {
 }
 
 impl<'a> Plain<'a> {
-    /// The file of these bytes, in the order that its magic number shows, or None where it shows none.
+    /// The file of these bytes, in the byte order that its magic number shows, or None where it
+    /// shows none.
     fn new(bytes: &'a [u8]) -> Option<Plain<'a>> {
         let big = Plain {
             bytes,
@@ -41,7 +43,7 @@ impl<'a> Plain<'a> {
         word
     }
 
-    /// How many messages the header names.
+    /// How many messages the file header names.
     pub(super) fn count(&self) -> u32 {
         self.word(8)
     }
@@ -53,7 +55,8 @@ impl<'a> Plain<'a> {
         (start, start + u64::from(self.word(entry)))
     }
 
-    /// String `i` of the table whose offset stands at `table`, empty where it isn't inside the file.
+    /// String `i` of the table whose offset stands at `table`, empty where it isn't inside the
+    /// file.
     fn string(&self, table: u64, i: u32) -> &'a [u8] {
         let (start, end) = self.range(table, i);
         self.bytes.get(start as usize..end as usize).unwrap_or(b"")

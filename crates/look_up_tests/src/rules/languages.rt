@@ -1,4 +1,5 @@
-//! The plural rules of languages, as the GNU gettext manual and Unicode's list of plural rules give them.
+//! The plural rules of languages, as the GNU gettext manual and Unicode's list of plural rules give
+//! them.
 use super::is_named;
 use plural_rule::Rule;
 
@@ -353,7 +354,8 @@ const LANGUAGES: &[(&str, &str, u64, Family)] = &[
     ),
 ];
 
-/// The first count at which a rule doesn't choose the form of the family, or 201 where it does at each up to 200.
+/// The first count at which a rule doesn't choose the form of the family, or 201 where it does at
+/// each up to 200.
 fn first_wrong(rule: &Rule, family: Family) -> u64 {
     for count in 0..=200 {
         if rule.eval(count).0 != Some(family.form(count)) {
