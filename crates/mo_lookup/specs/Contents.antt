@@ -19,7 +19,7 @@ pub record Contents : Type 0 where
 abbrev pub translation_under : List ℕ → List Message → Option (List ℕ)
 translation_under key messages = option_map (λ m. m.translation) (find (λ m. bytes_eq (key_of m.original) key) messages)
 
--- the forms of a translation: the pieces between its NULs
+-- the forms of a translation: the parts between its NULs
 abbrev pub forms : List ℕ → List (List ℕ)
 forms translation = slice_split is_nul translation
 

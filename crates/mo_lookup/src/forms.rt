@@ -1,4 +1,4 @@
-//! The forms of a translation ("Plural forms"): the pieces between its NULs.
+//! The forms of a translation ("Plural forms"): the parts between its NULs.
 
 ghost use Rattle.std.specs.Prelude.{◌≡◌, ◌≤◌, [], ◌∷◌, length, slice_get, MatchOption};
 ghost use Rattle.std.specs.Option.{option_copied};
