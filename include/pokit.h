@@ -115,7 +115,7 @@ static inline pokit_bytes pokit_bytes_of(const void *ptr, size_t len)
     return bytes;
 }
 
-/* Opens the `len` bytes of a file. On a fault `*message` is the number of the message that has it, counted from 0, and
+/* Opens the `len` bytes of a file. On a fault `*message` is the index of the message that has it, counted from 0, and
  * the catalogue is one that isn't open: it has no message. Neither pointer is NULL, but `bytes` may be, and is then a
  * file of no bytes; `message` may be NULL. */
 static inline enum pokit_error pokit_open(pokit_catalog *catalog, const void *bytes, size_t len, uint32_t *message)
