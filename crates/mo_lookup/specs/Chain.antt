@@ -1,5 +1,5 @@
 -- What a chain of catalogues answers: the first one that translates a query does (GNU gettext
--- manual, "The LANGUAGE variable").
+-- manual, "Specifying a Priority List of Languages").
 use Rattle.std.specs.Prelude.{◌≡◌, ℕ, ◌+◌, Bool, List, Some, length, min, slice_get, if◌then◌else◌}
 use Rattle.std.specs.List.{find, position_or_len, sum_by}
 use Rattle.std.specs.Option.{is_some, option_map_or}

@@ -1,4 +1,4 @@
--- Variables and names that are sorted: the same values, found by halves.
+-- Variables and names that are sorted: the same values, found by binary search.
 use Rattle.std.proofs.Common.{◌≡◌, ◌∙◌, refl, sym, ap, ap₂, inl, inr, ℕ, zero, suc, ◌+◌, ◌<◌, ◌≤◌, Bool, true, false, not, ◌&&◌, cond, List, [], ◌∷◌, length, drop, map, filter, get_or, Option, Some, None, IsPermutation, arith}
 use Rattle.std.proofs.Math.Path.{fun_ext}
 use Rattle.std.specs.Borrow.{Bor}
