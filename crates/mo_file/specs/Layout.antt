@@ -1,5 +1,5 @@
--- How a list of messages is laid out as an MO file: the header, the two tables, all originals and
--- all translations, without padding and without a hash table ("The Format of GNU MO Files").
+-- How a list of messages is laid out as an MO file: the file header, the two tables, all originals
+-- and all translations, without padding and without a hash table ("The Format of GNU MO Files").
 use Rattle.std.specs.Prelude.{ℕ, ◌+◌, ◌*◌, ◌^◌, ◌<◌, List, [], ◌∷◌, ◌++◌, length}
 use Rattle.mo_file.specs.declared.byte_order.Order.{Order}
 use Rattle.mo_file.specs.Word.{word_bytes}

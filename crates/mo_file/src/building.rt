@@ -40,10 +40,10 @@ impl From<AllocError> for BuildError {
     }
 }
 
-/// The MO file of pairs that are sorted by their keys: the header, the table of the originals, that
-/// of the translations, all originals and all translations, each followed by a NUL, without padding
-/// and without a hash table ("The Format of GNU MO Files"). The words are written in the given byte
-/// order.
+/// The MO file of pairs that are sorted by their keys: the file header, the table of the originals,
+/// that of the translations, all originals and all translations, each followed by a NUL, without
+/// padding and without a hash table ("The Format of GNU MO Files"). The words are written in the
+/// given byte order.
 pub fn build(alloc: Global, order: Order, pairs: &[Pair]) -> Result<Vec<u8>, BuildError>
     ensures layout { IfOk result (λ bytes. bytes.items ≡ layout order (messages_of_pairs pairs.now)) }
     ensures fits { OnOk result (LayoutFits order (messages_of_pairs pairs.now)) }

@@ -11,8 +11,8 @@ pub(crate) const LITTLE_MAGIC: [u8; 4] = [0xde, 0x12, 0x04, 0x95];
 /// The first four bytes of a file in big endian order.
 pub(crate) const BIG_MAGIC: [u8; 4] = [0x95, 0x04, 0x12, 0xde];
 
-/// The byte order of the 32-bit words of an MO file ("The Format of GNU MO Files"): the machine
-/// that reads a file knows it from the magic number.
+/// The byte order of the 32-bit words of an MO file ("The Format of GNU MO Files"), which the magic
+/// number shows.
 #[derive(Clone, Copy, Debug, PartialEq, Eq)]
 pub enum Order {
     /// The lowest byte of a word first.
