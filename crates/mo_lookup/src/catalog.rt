@@ -109,8 +109,9 @@ impl<'a> Catalog<'a> {
     /// catalogue's.
     ///
     /// A message that isn't there is answered by the msgid, or for a count that isn't 1 by the
-    /// plural. A context or a msgid that contains a byte 0 or 4 is answered in the same way, without
-    /// a comparison. The meter counts the comparisons; before the call its count is below 2^63.
+    /// plural. A context or a msgid that contains a byte 0 or 4 is answered in the same way,
+    /// without a comparison. The meter counts the comparisons; before the call its count is below
+    /// 2^63.
     pub fn look<'q>(
         &self,
         context: Option<&[u8]>,
