@@ -43,7 +43,7 @@ fn push_others<'a>(
 }
 
 /// Adds texts to a set of them.
-fn comment_texts<'a>(seen: &mut BTreeSet<&'a [u8]>, others: &'a [Vec<u8>]) -> Result<(), AllocError>
+fn add_seen<'a>(seen: &mut BTreeSet<&'a [u8]>, others: &'a [Vec<u8>]) -> Result<(), AllocError>
     ensures { (done : List (List ℕ)) → HoldsTexts seen.old done
         → OnOk result (HoldsTexts seen.new (done ++ texts others.now)) }
 {
@@ -66,7 +66,7 @@ fn collected(
     for definition in definitions {
         let others = texts_of(definition.entry, kind);
         push_others(alloc, &mut all, &seen, others)?;
-        comment_texts(&mut seen, others)?;
+        add_seen(&mut seen, others)?;
     }
     Ok(all)
 }
