@@ -5,7 +5,7 @@ ghost use Rattle.po_entry.specs.Header.{is_header};
 ghost use Rattle.po_entry.specs.Validity.{IsEntry, RefusesMessage, out_of_memory};
 
 use crate::copies::{copy_optional, copy_slices, empty_texts};
-use crate::equality::{same_comments, same_message, same_previous};
+use crate::equality::{same_body, same_comments, same_previous};
 use crate::fields::Fields;
 use crate::previous::Previous;
 use crate::texts::check_texts;
@@ -273,6 +273,6 @@ impl PartialEq for Entry {
     fn eq(&self, other: &Entry) -> bool {
         same_comments(&self.fields, &other.fields)
             && same_previous(&self.fields.previous, &other.fields.previous)
-            && same_message(&self.fields, &other.fields)
+            && same_body(&self.fields, &other.fields)
     }
 }

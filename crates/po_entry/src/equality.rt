@@ -1,5 +1,5 @@
 ghost use Rattle.std.specs.Prelude.{◌≡◌, option_copied};
-ghost use Rattle.po_entry.specs.Equality.{texts_eq, optional_eq, previous_eq, comments_eq, messages_eq};
+ghost use Rattle.po_entry.specs.Equality.{texts_eq, optional_eq, previous_eq, comments_eq, bodies_eq};
 ghost use Rattle.po_entry.specs.TextEntry.{texts};
 ghost use Rattle.po_entry.specs.EntryView.{entry_view};
 
@@ -45,8 +45,8 @@ pub(crate) fn same_comments(a: &Fields, b: &Fields) -> bool
 }
 
 /// Whether the context, msgid, plural, forms and the obsolete mark are the same.
-pub(crate) fn same_message(a: &Fields, b: &Fields) -> bool
-    ensures { result ≡ messages_eq (entry_view a.now) (entry_view b.now) }
+pub(crate) fn same_body(a: &Fields, b: &Fields) -> bool
+    ensures { result ≡ bodies_eq (entry_view a.now) (entry_view b.now) }
 {
     same_optional(a.context.as_deref(), b.context.as_deref())
         && a.id == b.id
