@@ -12,7 +12,7 @@ use std::alloc::{AllocError, Global};
 use std::cmp::Ordering;
 
 /// Cuts off so many bytes, or all where there are fewer.
-fn cut(bytes: &[u8], len: usize) -> (&[u8], &[u8])
+fn split_at_most(bytes: &[u8], len: usize) -> (&[u8], &[u8])
     ensures first { result.0.now ≡ take len bytes.now }
     ensures rest { result.1.now ≡ drop len bytes.now }
 {
@@ -58,9 +58,9 @@ pub(crate) fn rows_of<'b>(
     let mut rows = Vec::with_capacity(alloc, lengths.len())?;
     let mut rest = bytes;
     for parts in lengths {
-        let (original, after) = cut(rest, parts.original);
-        let (translation, next) = cut(after, parts.translation);
-        let (key, _) = cut(original, parts.key);
+        let (original, after) = split_at_most(rest, parts.original);
+        let (translation, next) = split_at_most(after, parts.translation);
+        let (key, _) = split_at_most(original, parts.key);
         let row = row_of(rows.len(), key, original, translation, parts);
         rows.push(row)?;
         rest = next;

@@ -18,7 +18,7 @@ const EOT: u8 = 4;
 const NUL: u8 = 0;
 
 /// What stands before the first such byte and after it, where there is one.
-fn cut(byte: u8, text: &[u8]) -> Option<(&[u8], &[u8])>
+fn split_once_at(byte: u8, text: &[u8]) -> Option<(&[u8], &[u8])>
     ensures { MatchOption result (Lacks byte text.now) (λ parts. (text.now ≡ parts.0.now ++ byte ∷ parts.1.now)
         × Lacks byte parts.0.now) }
 {
@@ -31,7 +31,7 @@ pub(crate) fn key_parts(key: &[u8]) -> (Option<&[u8]>, &[u8])
     ensures context { option_copied result.0 ≡ context_of key.now }
     ensures id { result.1.now ≡ id_of key.now }
 {
-    match cut(EOT, key) {
+    match split_once_at(EOT, key) {
         Some((context, id)) => (Some(context), id),
         None => (None, key),
     }
@@ -42,7 +42,7 @@ pub(crate) fn original_parts(original: &[u8]) -> (&[u8], Option<&[u8]>)
     ensures key { result.0.now ≡ key_of original.now }
     ensures plural { option_copied result.1 ≡ plural_of original.now }
 {
-    match cut(NUL, original) {
+    match split_once_at(NUL, original) {
         Some((key, rest)) => (key, Some(first_piece(rest))),
         None => (original, None),
     }
@@ -52,7 +52,7 @@ pub(crate) fn original_parts(original: &[u8]) -> (&[u8], Option<&[u8]>)
 pub(crate) fn first_piece(text: &[u8]) -> &[u8]
     ensures { take 1 (forms text.now) ≡ result.now ∷ [] }
 {
-    match cut(NUL, text) {
+    match split_once_at(NUL, text) {
         Some((piece, _)) => piece,
         None => text,
     }
@@ -64,7 +64,7 @@ pub(crate) fn pieces(alloc: Global, translation: &[u8]) -> Result<Vec<&[u8]>, Al
 {
     let mut pieces = Vec::new(alloc);
     let mut rest = translation;
-    while let Some((piece, next)) = cut(NUL, rest) {
+    while let Some((piece, next)) = split_once_at(NUL, rest) {
         pieces.push(piece)?;
         rest = next;
     }

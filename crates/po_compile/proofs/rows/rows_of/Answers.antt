@@ -18,13 +18,13 @@ loop-parts-preserved c = record {
       let parts = get_or c.args.lengths.now i none in
       let row = row_at use_fuzzy live c.args.lengths.now i none c.loop-parts.rest.now lengths c.loop-parts-test.true so_far.1 in
       let made = row.2 in
-      let original : c.cut.result.0.now ≡ original_of row.0 = c.cut.ensures.first ∙ made.original in
-      let after : c.cut.result.1.now ≡ drop parts.original c.loop-parts.rest.now = c.cut.ensures.rest in
-      let translation : c.cut-in-loop-parts.result.0.now ≡ translation_of row.0 = c.cut-in-loop-parts.ensures.first ∙ ap (take parts.translation) after ∙ made.translation in
-      let key : c.cut-in-loop-parts-2.result.0.now ≡ query_key row.0.context row.0.id = c.cut-in-loop-parts-2.ensures.first ∙ ap (take parts.key) original ∙ made.key in
+      let original : c.split_at_most.result.0.now ≡ original_of row.0 = c.split_at_most.ensures.first ∙ made.original in
+      let after : c.split_at_most.result.1.now ≡ drop parts.original c.loop-parts.rest.now = c.split_at_most.ensures.rest in
+      let translation : c.split_at_most-in-loop-parts.result.0.now ≡ translation_of row.0 = c.split_at_most-in-loop-parts.ensures.first ∙ ap (take parts.translation) after ∙ made.translation in
+      let key : c.split_at_most-in-loop-parts-2.result.0.now ≡ query_key row.0.context row.0.id = c.split_at_most-in-loop-parts-2.ensures.first ∙ ap (take parts.key) original ∙ made.key in
       let seen = row_view_is use_fuzzy row.0 c.row_of-row.result (c.row_of-row.ensures.key ∙ key) (c.row_of-row.ensures.original ∙ original) (c.row_of-row.ensures.translation ∙ translation) (c.row_of-row.ensures.line ∙ made.line) (c.row_of-row.ensures.compiled ∙ made.compiled) in (
         ap (map row_view) c.in_ok-push.ensures.items ∙ map_push row_view c.loop-parts.rows.items _ ∙ ap₂ (λ a b. a ++ b ∷ []) so_far.0 seen
             ∙ sym (ap (map (live_message use_fuzzy)) row.1 ∙ map_push (live_message use_fuzzy) (take i live) row.0),
-        c.cut-in-loop-parts.ensures.rest ∙ ap (drop parts.translation) after ∙ made.rest,
+        c.split_at_most-in-loop-parts.ensures.rest ∙ ap (drop parts.translation) after ∙ made.rest,
       );
 }
