@@ -22,7 +22,7 @@ fn split_plain(text: &[u8]) -> (&[u8], &[u8])
 }
 
 /// Appends what the text spells up to the closing quote, and gives the text after that.
-fn add_pieces<'a>(bytes: &mut Vec<u8>, text: &'a [u8]) -> Result<&'a [u8], PoFault>
+fn add_bytes<'a>(bytes: &mut Vec<u8>, text: &'a [u8]) -> Result<&'a [u8], PoFault>
     ensures found { IfOk result (λ rest. (spelt : List ℕ)
         × IsQuoted text.now spelt rest.now × (bytes.new.items ≡ bytes.old.items ++ spelt)) }
     ensures fault { IfErr result (λ e. e ≢ PoFault.OutOfMemory → QuotedStops text.now e) }
@@ -60,6 +60,6 @@ pub(crate) fn quoted_string(
         return Ok((CowSlice::Borrowed(plain), after));
     }
     let mut bytes = Vec::with_capacity(alloc, plain.len() + 1)?;
-    let rest = add_pieces(&mut bytes, text)?;
+    let rest = add_bytes(&mut bytes, text)?;
     Ok((CowSlice::Owned(bytes), rest))
 }

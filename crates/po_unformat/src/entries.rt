@@ -7,7 +7,7 @@ ghost use Rattle.po_unformat.specs.Refused.{RefusesEntry, error_at};
 ghost use Rattle.po_unformat.specs.Unformatted.{entry_of_message, unformatted};
 
 use crate::fault::UnformatError;
-use crate::parts::{first_piece, key_parts, original_parts, pieces};
+use crate::parts::{first_part, forms_of, key_parts, original_parts};
 use mo_file::{Meter, MoView};
 use po_entry::Entry;
 use po_syntax::{PoError, PoFault};
@@ -24,9 +24,9 @@ fn entry_of_message(alloc: Global, original: &[u8], translation: &[u8]) -> Resul
     let (key, plural) = original_parts(original);
     let (context, id) = key_parts(key);
     if plural.is_none() {
-        Entry::message(alloc, context, id, None, &[first_piece(translation)])
+        Entry::message(alloc, context, id, None, &[first_part(translation)])
     } else {
-        let forms = pieces(alloc, translation)?;
+        let forms = forms_of(alloc, translation)?;
         Entry::message(alloc, context, id, plural, &forms)
     }
 }

@@ -43,13 +43,13 @@ pub(crate) fn original_parts(original: &[u8]) -> (&[u8], Option<&[u8]>)
     ensures plural { option_copied result.1 ≡ plural_of original.now }
 {
     match split_once_at(NUL, original) {
-        Some((key, rest)) => (key, Some(first_piece(rest))),
+        Some((key, rest)) => (key, Some(first_part(rest))),
         None => (original, None),
     }
 }
 
 /// What stands before the first NUL, or all.
-pub(crate) fn first_piece(text: &[u8]) -> &[u8]
+pub(crate) fn first_part(text: &[u8]) -> &[u8]
     ensures { take 1 (forms text.now) ≡ result.now ∷ [] }
 {
     match split_once_at(NUL, text) {
@@ -59,7 +59,7 @@ pub(crate) fn first_piece(text: &[u8]) -> &[u8]
 }
 
 /// The parts of a translation between its NULs.
-pub(crate) fn pieces(alloc: Global, translation: &[u8]) -> Result<Vec<&[u8]>, AllocError>
+pub(crate) fn forms_of(alloc: Global, translation: &[u8]) -> Result<Vec<&[u8]>, AllocError>
     ensures { IfOk result (λ pieces. slice_texts pieces.items ≡ forms translation.now) }
 {
     let mut pieces = Vec::new(alloc);

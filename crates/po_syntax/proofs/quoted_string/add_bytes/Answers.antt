@@ -2,7 +2,7 @@ use Rattle.std.proofs.Common.{◌∙◌, [], ◌∷◌, ◌++◌, append_assoc, 
 use Rattle.std.proofs.lemmas.Result.{err_from_is_err_and}
 use Rattle.po_syntax.specs.QuotedString.{ended, spelt, here, later}
 use Rattle.po_syntax.proofs.QuotedStrings.{quote_ends, escape_begins, stops_at_end, escape-rest}
-use Rattle.po_syntax.proofs.quoted_string.add_pieces.Goals as goal
+use Rattle.po_syntax.proofs.quoted_string.add_bytes.Goals as goal
 
 pub returns-in_default-clause-fault : goal.returns-in_default-clause-fault
 returns-in_default-clause-fault c = λ _. c.loop-mark.invariant.3 _ (c.split_plain.ensures.stops _ (stops_at_end _ c.in_default.ensures.cases))

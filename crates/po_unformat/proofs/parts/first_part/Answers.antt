@@ -1,7 +1,7 @@
 use Rattle.std.proofs.Common.{ap, ◌∙◌, take}
 use Rattle.mo_lookup.specs.Contents.{forms}
 use Rattle.po_unformat.proofs.CutLemmas.{first_all, first_cut}
-use Rattle.po_unformat.proofs.parts.first_piece.Goals as goal
+use Rattle.po_unformat.proofs.parts.first_part.Goals as goal
 
 pub returns-in-Some : goal.returns-in-Some
 returns-in-Some c = let parts = c.in-Some.ensures in ap (λ t. take 1 (forms t)) parts.0 ∙ first_cut _ _ parts.1

@@ -1,7 +1,7 @@
 use Rattle.std.proofs.Common.{◌≡◌, ℕ, ◌++◌, List, length}
 use Rattle.po_syntax.specs.declared.fault.PoFault.{PoFault}
 use Rattle.po_syntax.specs.QuotedString.{IsQuoted, QuotedStops}
-use Rattle.po_syntax.proofs.quoted_string.add_pieces.Given as goal
+use Rattle.po_syntax.proofs.quoted_string.add_bytes.Given as goal
 
 abbrev pub invariant-loop-mark : goal.invariant-loop-mark
 invariant-loop-mark l =

@@ -2,7 +2,7 @@ use Rattle.std.proofs.Common.{ap, ◌∙◌, ◌++◌}
 use Rattle.mo_lookup.specs.Contents.{forms}
 use Rattle.po_entry.specs.TextEntry.{slice_texts}
 use Rattle.po_unformat.proofs.CutLemmas.{last_piece, more_pieces}
-use Rattle.po_unformat.proofs.parts.pieces.Goals as goal
+use Rattle.po_unformat.proofs.parts.forms_of.Goals as goal
 
 pub loop-piece-preserved : goal.loop-piece-preserved
 loop-piece-preserved c =

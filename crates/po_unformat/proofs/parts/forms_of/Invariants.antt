@@ -1,7 +1,7 @@
 use Rattle.std.proofs.Common.{◌≡◌, ◌++◌, length}
 use Rattle.mo_lookup.specs.Contents.{forms}
 use Rattle.po_entry.specs.TextEntry.{slice_texts}
-use Rattle.po_unformat.proofs.parts.pieces.Given as goal
+use Rattle.po_unformat.proofs.parts.forms_of.Given as goal
 
 -- the pieces so far, and those of the rest, are all
 abbrev pub invariant-loop-piece : goal.invariant-loop-piece
