@@ -17,7 +17,7 @@ use Rattle.std.specs.Cmp.Lexicographic.{slice_cmp, texts_ties}
 use Rattle.std.proofs.lemmas.Slice.Eq.{bytes_eq-Decides}
 use Rattle.po_entry.specs.TextEntry.{TextEntry}
 use Rattle.po_catalog.specs.Joined.{InputEntry, is_live, in_input, entries_of}
-use Rattle.po_catalog.specs.Duplicate.{IsSameMessage, AllDiffer, HasNoDuplicate, live_entries, IsFirstDuplicate, IsDuplicateFault, duplicate_error, join_out_of_memory}
+use Rattle.po_catalog.specs.Duplicate.{IsSameMessage, AllDiffer, HasNoDuplicate, live_entries, IsFirstDuplicate, IsDuplicateFault, duplicate_fault, join_out_of_memory}
 use Rattle.po_catalog.specs.declared.duplicate.JoinError.{JoinError}
 use Rattle.po_syntax.specs.declared.fault.PoFault.TheVariants.{Duplicate}
 
@@ -207,9 +207,9 @@ IsSeen-all locations xs i past seen =
     subst AllDiffer (sym (live_of_entries xs)) (subst (λ l. AllDiffer (entries_of (live_entries l))) (take_all i xs past) seen.differ)
 
 -- what is reported of a duplicate, from what the map has and the later entry
-pub duplicate_error_is : (first later : InputEntry) (location : ℕ × ℕ) (at : ℕ) → location ≡ (first.input, first.entry.line) → at ≡ later.entry.line
-    → error_at later.input location.0 location.1 at ≡ duplicate_error first later
-duplicate_error_is first later location at e e' =
+pub duplicate_fault_is : (first later : InputEntry) (location : ℕ × ℕ) (at : ℕ) → location ≡ (first.input, first.entry.line) → at ≡ later.entry.line
+    → error_at later.input location.0 location.1 at ≡ duplicate_fault first later
+duplicate_fault_is first later location at e e' =
     ap (λ (p : ℕ × ℕ). error_at later.input p.0 p.1 at) e ∙ ap (λ n. error_at later.input first.input first.entry.line n) e'
 
 pub entries_of_input : (input : ℕ) (xs : List TextEntry) → entries_of (map (in_input input) xs) ≡ xs

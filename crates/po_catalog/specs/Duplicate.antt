@@ -32,8 +32,8 @@ pub record IsFirstDuplicate (entries : List InputEntry) (first later : InputEntr
   pub differ : AllDiffer (entries_of (before ++ first ∷ between))
 
 -- what is reported of a duplicate: where the later entry stands, and where the first
-abbrev pub duplicate_error : InputEntry → InputEntry → JoinError
-duplicate_error first later = record { input = later.input; first_input = first.input; error = record { kind = Duplicate first.entry.line; line = later.entry.line } }
+abbrev pub duplicate_fault : InputEntry → InputEntry → JoinError
+duplicate_fault first later = record { input = later.input; first_input = first.input; error = record { kind = Duplicate first.entry.line; line = later.entry.line } }
 
 -- out of memory, which has no line and no input
 abbrev pub join_out_of_memory : JoinError
@@ -42,10 +42,10 @@ join_out_of_memory = record { input = 0; first_input = 0; error = out_of_memory 
 -- why a joined list is refused: its first duplicate, or out of memory
 abbrev pub IsDuplicateFault : List InputEntry → JoinError → Type 0
 IsDuplicateFault entries error =
-    (error ≡ join_out_of_memory) ⊎ ((first later : InputEntry) × IsFirstDuplicate entries first later × (error ≡ duplicate_error first later))
+    (error ≡ join_out_of_memory) ⊎ ((first later : InputEntry) × IsFirstDuplicate entries first later × (error ≡ duplicate_fault first later))
 
 -- why the entries of one catalogue are refused
-abbrev pub IsDuplicateErrorOf : List TextEntry → PoError → Type 0
-IsDuplicateErrorOf entries error =
+abbrev pub IsDuplicateFaultOf : List TextEntry → PoError → Type 0
+IsDuplicateFaultOf entries error =
     (error ≡ out_of_memory)
-    ⊎ ((first later : InputEntry) × IsFirstDuplicate (map (in_input 0) entries) first later × (error ≡ (duplicate_error first later).error))
+    ⊎ ((first later : InputEntry) × IsFirstDuplicate (map (in_input 0) entries) first later × (error ≡ (duplicate_fault first later).error))

@@ -1,7 +1,7 @@
 ghost use Rattle.std.specs.Prelude.{◌≡◌, ◌<◌, ◌^◌, length, MatchResult, IsOkUnless};
 ghost use Rattle.po_catalog.specs.JoinedView.{input_entries};
 ghost use Rattle.po_catalog.specs.Joined.{joined, joined_entries, entries_of};
-ghost use Rattle.po_catalog.specs.Duplicate.{HasNoDuplicate, IsDuplicateFault, IsDuplicateErrorOf, join_out_of_memory};
+ghost use Rattle.po_catalog.specs.Duplicate.{HasNoDuplicate, IsDuplicateFault, IsDuplicateFaultOf, join_out_of_memory};
 ghost use Rattle.po_entry.specs.Validity.{out_of_memory};
 
 use crate::joining::{JoinedEntry, add_entries, is_live, joined};
@@ -51,7 +51,7 @@ impl<T: Drop> From<AllocFailed<T>> for JoinError {
 /// with `Duplicate`, which names the line of the earlier entry, at the line of the earliest entry
 /// that repeats one; and where an allocation failed.
 pub fn duplicates(alloc: Global, catalogue: &Catalogue) -> Result<(), PoError>
-    ensures exact { MatchResult result (λ _. HasNoDuplicate catalogue.now) (IsDuplicateErrorOf catalogue.now) }
+    ensures exact { MatchResult result (λ _. HasNoDuplicate catalogue.now) (IsDuplicateFaultOf catalogue.now) }
     ensures only { HasNoDuplicate catalogue.now → IsOkUnless result out_of_memory }
 {
     let mut entries = Vec::new(alloc);

@@ -12,7 +12,7 @@ use Rattle.po_entry.specs.ReadsText.{ReadsText}
 use Rattle.po_entry.specs.Validity.{IsEntry}
 use Rattle.po_reader.specs.Faults.{IsReadFault}
 use Rattle.po_catalog.specs.Joined.{InputEntry, in_input, joined, joined_entries, entries_of}
-use Rattle.po_catalog.specs.Duplicate.{HasNoDuplicate, IsFirstDuplicate, duplicate_error, join_out_of_memory}
+use Rattle.po_catalog.specs.Duplicate.{HasNoDuplicate, IsFirstDuplicate, duplicate_fault, join_out_of_memory}
 use Rattle.po_catalog.specs.declared.duplicate.JoinError.{JoinError}
 use Rattle.po_compile.specs.Accepted.{ReadsDistinct, AreRead, AreAccepted, IsTextFault, IsFaultOfInput, IsCompileFault}
 use Rattle.po_compile.specs.Compiling.{layout_fault}
@@ -40,7 +40,7 @@ text_settled reads reported none_or_first text = elim (reads text) [
   | inl read ↦ elim (none_or_first (map (in_input 0) read.0)) [
     | inl distinct ↦ inl (read.0, record { reads = read.1; distinct = subst HasNoDuplicate (entries_of_input 0 read.0) distinct })
     | inr found ↦
-        let error = (duplicate_error found.0 found.1).error in
+        let error = (duplicate_fault found.0 found.1).error in
         inr (error, inr (record { entries = read.0; reads = read.1; first = found.0; later = found.1; duplicate = found.2; error_is = refl }), λ e. cc)
   ]
   | inr found ↦ let error : PoError = record { kind = found.0; line = found.1 } in inr (error, inl found.2, reported text found.0 found.1 found.2)
@@ -110,7 +110,7 @@ accepted_or_fault reads reported none_or_first stand options texts = elim (texts
       | inr found ↦ inr found
     ]
     | inr found ↦
-        let error = duplicate_error found.0 found.1 in
+        let error = duplicate_fault found.0 found.1 in
         inr (
           error,
           inl (inr (inr (record { catalogues = read.0; each = read.1; first = found.0; later = found.1; duplicate = found.2; error_is = refl }))),

@@ -15,7 +15,7 @@ use Rattle.po_syntax.specs.declared.fault.PoFault.TheVariants.{Duplicate}
 use Rattle.po_entry.specs.TextEntry.{TextEntry}
 use Rattle.po_entry.specs.Validity.{IsCatalogueEntry}
 use Rattle.po_catalog.specs.Joined.{is_live, in_input, entries_of}
-use Rattle.po_catalog.specs.Duplicate.{AllDiffer, IsDuplicateErrorOf, live_entries}
+use Rattle.po_catalog.specs.Duplicate.{AllDiffer, IsDuplicateFaultOf, live_entries}
 use Rattle.po_compile.specs.Collected.{LiveMessage, live_message, row_view}
 use Rattle.po_compile.specs.Repeats.{ArePlaced, AreSorted, IsEarliestRepeat}
 use Rattle.po_compile.specs.declared.row.Row.{Row}
@@ -119,7 +119,7 @@ module _ (use_fuzzy : Bool) (live : List TextEntry) (rows sorted : List Row) (ma
 -- the fault that the earliest repeating row shows
 pub repeat_fault : (use_fuzzy : Bool) (entries : List TextEntry) (rows sorted : List Row) (index : ℕ) (a b : Row) → All IsCatalogueEntry entries → map row_view rows ≡ map (live_message use_fuzzy) (filter is_live entries)
     → ArePlaced rows → IsPermutation rows sorted → AreSorted sorted → IsEarliestRepeat sorted (length sorted) index
-    → a ≡ get_or sorted (index - 1) a → b ≡ get_or sorted index b → IsDuplicateErrorOf entries (record { kind = Duplicate a.line; line = b.line })
+    → a ≡ get_or sorted (index - 1) a → b ≡ get_or sorted index b → IsDuplicateFaultOf entries (record { kind = Duplicate a.line; line = b.line })
 repeat_fault use_fuzzy entries rows sorted index a b valid made placed permuted in_order found first_row_is last_row_is =
     let live = filter is_live entries in
     let inside = found.inside in

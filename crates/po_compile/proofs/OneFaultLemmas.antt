@@ -6,7 +6,7 @@ use Rattle.po_syntax.specs.declared.fault.PoFault.{PoFault}
 use Rattle.po_entry.specs.TextEntry.{TextEntry}
 use Rattle.po_reader.specs.Faults.{IsReadFault}
 use Rattle.po_catalog.specs.Joined.{InputEntry, in_input, joined}
-use Rattle.po_catalog.specs.Duplicate.{IsFirstDuplicate, duplicate_error}
+use Rattle.po_catalog.specs.Duplicate.{IsFirstDuplicate, duplicate_fault}
 use Rattle.po_catalog.specs.declared.duplicate.JoinError.{JoinError}
 use Rattle.po_compile.specs.Accepted.{ReadsDistinct, IsTextFault, IsFaultOfInput, HasJoinedDuplicate}
 use Rattle.po_compile.specs.Headline.{OneCompileFault}
@@ -18,9 +18,9 @@ OneReadFault = (text : List ℕ) (fault other : PoFault) (line place : ℕ) → 
 abbrev pub OneFirstDuplicate : Type 0
 OneFirstDuplicate = (entries : List InputEntry) (first later other last : InputEntry) → IsFirstDuplicate entries first later → IsFirstDuplicate entries other last → (first ≡ other) × (later ≡ last)
 
-same_duplicate : (first later other last : InputEntry) → first ≡ other → later ≡ last → duplicate_error first later ≡ duplicate_error other last
+same_duplicate : (first later other last : InputEntry) → first ≡ other → later ≡ last → duplicate_fault first later ≡ duplicate_fault other last
 same_duplicate first later other last p q =
-    ap (λ (e : InputEntry). duplicate_error e later) p ∙ ap (λ (e : InputEntry). duplicate_error other e) q
+    ap (λ (e : InputEntry). duplicate_fault e later) p ∙ ap (λ (e : InputEntry). duplicate_fault other e) q
 
 same_error : (a b : PoError) → a.kind ≡ b.kind → a.line ≡ b.line → a ≡ b
 same_error a b kind line =

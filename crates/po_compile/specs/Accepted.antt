@@ -11,7 +11,7 @@ use Rattle.po_entry.specs.TextEntry.{TextEntry}
 use Rattle.po_entry.specs.ReadsText.{ReadsText}
 use Rattle.po_reader.specs.Faults.{IsReadFault}
 use Rattle.po_catalog.specs.Joined.{InputEntry, in_input, joined, joined_entries}
-use Rattle.po_catalog.specs.Duplicate.{HasNoDuplicate, IsFirstDuplicate, duplicate_error, join_out_of_memory}
+use Rattle.po_catalog.specs.Duplicate.{HasNoDuplicate, IsFirstDuplicate, duplicate_fault, join_out_of_memory}
 use Rattle.po_catalog.specs.declared.duplicate.JoinError.{JoinError}
 use Rattle.po_compile.specs.CompiledList.{compiled_list}
 use Rattle.po_compile.specs.CompiledMessages.{AreMessagesOf}
@@ -54,7 +54,7 @@ pub record HasDuplicate (text : List ℕ) (error : PoError) : Type 0 where
   pub first : InputEntry
   pub later : InputEntry
   pub duplicate : IsFirstDuplicate (map (in_input 0) entries) first later
-  pub error_is : error ≡ (duplicate_error first later).error
+  pub error_is : error ≡ (duplicate_fault first later).error
 
 -- the first fault of a text: why it doesn't read, or its first duplicate
 abbrev pub IsTextFault : List ℕ → PoError → Type 0
@@ -91,7 +91,7 @@ pub record HasJoinedDuplicate (texts : List (List ℕ)) (error : JoinError) : Ty
   pub first : InputEntry
   pub later : InputEntry
   pub duplicate : IsFirstDuplicate (joined catalogues) first later
-  pub error_is : error ≡ duplicate_error first later
+  pub error_is : error ≡ duplicate_fault first later
 
 -- why texts aren't read: a fault of an input, a duplicate across inputs, or out of memory
 abbrev pub IsReadingFault : List (List ℕ) → JoinError → Type 0

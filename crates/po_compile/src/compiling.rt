@@ -1,7 +1,7 @@
 ghost use Rattle.std.specs.Prelude.{◌≡◌, ◌≢◌, ◌⊎◌, ◌<◌, ◌^◌, [], ◌∷◌, List, length, IfOk, IfErr, MatchResult};
 ghost use Rattle.po_entry.specs.TextEntry.{TextEntry, slice_texts};
 ghost use Rattle.po_catalog.specs.Joined.{joined_entries};
-ghost use Rattle.po_catalog.specs.Duplicate.{HasNoDuplicate, IsDuplicateErrorOf};
+ghost use Rattle.po_catalog.specs.Duplicate.{HasNoDuplicate, IsDuplicateFaultOf};
 ghost use Rattle.po_compile.specs.Collected.{HoldsEntries, IsLargeText, ReadsLive};
 ghost use Rattle.po_compile.specs.Accepted.{AreCompiled, IsCompileFault, fault_of_only_input};
 ghost use Rattle.po_compile.specs.Compiling.{IsCompilation, IsLayoutFault, IsLayoutError};
@@ -93,7 +93,7 @@ fn compile_collected(
         → HoldsEntries options.use_fuzzy entries collected.now
         → HasNoDuplicate entries × IsCompilation options entries compiled) }
     ensures fault { IfErr result (λ e. (entries : List TextEntry)
-        → HoldsEntries options.use_fuzzy entries collected.now → IsDuplicateErrorOf entries e
+        → HoldsEntries options.use_fuzzy entries collected.now → IsDuplicateFaultOf entries e
         ⊎ IsLargeText options entries e) }
 {
     let pairs = sorted_pairs(alloc, collected)?;

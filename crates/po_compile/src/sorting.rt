@@ -1,6 +1,6 @@
 ghost use Rattle.std.specs.Prelude.{◌≡◌, count_by, IfOk, IfErr};
 ghost use Rattle.mo_file.specs.Pairs.{messages_of_lent};
-ghost use Rattle.po_catalog.specs.Duplicate.{IsDuplicateErrorOf};
+ghost use Rattle.po_catalog.specs.Duplicate.{IsDuplicateFaultOf};
 ghost use Rattle.po_compile.specs.declared.collecting.Lengths.{Lengths as LengthsSeen};
 ghost use Rattle.po_compile.specs.Collected.{OfAll, IsSortedOf, counts_of};
 
@@ -20,7 +20,7 @@ pub(crate) fn sorted_pairs(
 ) -> Result<Vec<LentPair<'_>>, PoError>
     ensures messages { IfOk result (λ pairs. OfAll collected.now
         (λ f es. IsSortedOf f es (messages_of_lent pairs.items))) }
-    ensures fault { IfErr result (λ e. OfAll collected.now (λ _ entries. IsDuplicateErrorOf entries e)) }
+    ensures fault { IfErr result (λ e. OfAll collected.now (λ _ entries. IsDuplicateFaultOf entries e)) }
 {
     let mut rows = rows_of(alloc, &collected.bytes, &collected.lengths)?;
     sort_rows(&mut rows);

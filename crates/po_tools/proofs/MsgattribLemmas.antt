@@ -4,7 +4,7 @@ use Rattle.std.proofs.lemmas.Result.{IfOk-weaker}
 use Rattle.po_syntax.specs.declared.fault.PoError.{PoError}
 use Rattle.po_syntax.specs.declared.fault.PoFault.TheVariants.{OutOfMemory}
 use Rattle.po_entry.specs.TextEntry.{TextEntry}
-use Rattle.po_catalog.specs.Duplicate.{IsDuplicateErrorOf}
+use Rattle.po_catalog.specs.Duplicate.{IsDuplicateFaultOf}
 use Rattle.po_compile.specs.Accepted.{ReadsDistinct}
 use Rattle.po_select.specs.declared.selection.Selection.{Selection}
 use Rattle.po_select.specs.Selected.{selected}
@@ -14,7 +14,7 @@ use Rattle.po_tools.specs.Run.{refusal, run_view}
 
 -- it reports the duplicate, without a line
 pub run-repeating : {E : Type 0} (name text : List ℕ) (s : Selection) (entries : List TextEntry) (error : PoError) (r : Result Run E)
-    → ReadsDistinct text entries → IsDuplicateErrorOf (selected s entries) error
+    → ReadsDistinct text entries → IsDuplicateFaultOf (selected s entries) error
     → IfOk r (λ run. (error.kind ≢ OutOfMemory) × (run_view run ≡ refusal (error_line name (record error { line = 0 }))))
     → IfOk r (λ run. IsMsgattribRun name s text (run_view run))
 run-repeating name text s entries error r read fault =

@@ -3,7 +3,7 @@ use Rattle.std.specs.BTreeMap.{get, is_at}
 use Rattle.std.proofs.lemmas.List.{length-map}
 use Rattle.std.proofs.Math.ListN.{get_or-map}
 use Rattle.po_catalog.specs.JoinedView.{input_entry, input_entries}
-use Rattle.po_catalog.proofs.DuplicateLemmas.{IsSeen-none, IsSeen-skip, IsSeen-more, IsSeen-repeats, IsSeen-all, IsKeyOf, message_cmp, duplicate_error_is}
+use Rattle.po_catalog.proofs.DuplicateLemmas.{IsSeen-none, IsSeen-skip, IsSeen-more, IsSeen-repeats, IsSeen-all, IsKeyOf, message_cmp, duplicate_fault_is}
 use Rattle.po_catalog.proofs.duplicate.first_duplicate.Goals as goal
 
 pub loop-joined-init : goal.loop-joined-init
@@ -23,7 +23,7 @@ returns-in-Some c =
     let looked = sym c.in_ok-first_input.ensures.old ∙ c.in-Some.is in
     let found = IsSeen-repeats _ _ _ (input_entry c.joined-item.result) inside here c.loop-joined.invariant (sym c.if-not-is_live.ensures) _ key
     (c.in-Some.first_input, c.in-Some.line) looked in
-    record { exact = inr (found.0, input_entry c.joined-item.result, found.1, duplicate_error_is found.0 (input_entry c.joined-item.result) (c.in-Some.first_input, c.in-Some.line) _ found.2 c.line-in-Some.ensures) }
+    record { exact = inr (found.0, input_entry c.joined-item.result, found.1, duplicate_fault_is found.0 (input_entry c.joined-item.result) (c.in-Some.first_input, c.in-Some.line) _ found.2 c.line-in-Some.ensures) }
 
 pub loop-joined-preserved : goal.loop-joined-preserved
 loop-joined-preserved c =

@@ -2,7 +2,7 @@ use Rattle.std.proofs.Common.{◌≡◌, ◌≢◌, [], ◌∷◌, ap, subst, sy
 use Rattle.po_syntax.specs.declared.fault.PoError.{PoError}
 use Rattle.po_syntax.specs.declared.fault.PoFault.TheVariants.{Duplicate, OutOfMemory}
 use Rattle.po_entry.specs.TextEntry.{TextEntry}
-use Rattle.po_catalog.specs.Duplicate.{IsDuplicateErrorOf}
+use Rattle.po_catalog.specs.Duplicate.{IsDuplicateFaultOf}
 use Rattle.po_entry.specs.ReadsText.{ReadsText}
 use Rattle.po_reader.proofs.Results.{ok_step, err_step}
 use Rattle.po_compile.specs.Accepted.{AreCompiled, IsCompileFault, fault_of_only_input}
@@ -20,7 +20,7 @@ both : {T E : Type 0} (P : T → Type 0) (Q : E → Type 0) (r : Result T E) →
 both P Q (Ok x) p q = p
 both P Q (Err e) p q = q
 
-duplicate_refused : (options : Options) (text : List ℕ) (entries : List TextEntry) (error : PoError) → ReadsText text entries → IsDuplicateErrorOf entries error → IsCompileFault options (text ∷ []) (fault_of_only_input error)
+duplicate_refused : (options : Options) (text : List ℕ) (entries : List TextEntry) (error : PoError) → ReadsText text entries → IsDuplicateFaultOf entries error → IsCompileFault options (text ∷ []) (fault_of_only_input error)
 duplicate_refused options text entries error reads (inl memory) = only_refused text options error (inl memory)
 duplicate_refused options text entries error reads (inr found) =
     let other : error.kind ≢ OutOfMemory = λ memory. let kind : error.kind ≡ Duplicate found.0.entry.line = ap (λ (e : PoError). e.kind) found.3 in absurd (cc (memory, kind)) in
