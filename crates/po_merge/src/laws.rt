@@ -40,7 +40,7 @@ pub fn with_itself()
 
 /// Where different translations of a message aren't joined, its forms are those of one of its
 /// definitions.
-pub fn forms_are_of_an_input()
+pub fn forms_are_of_one_definition()
     ensures { (options : MergeOptions) (definitions : List NamedEntry) → FormsAreOfOne options definitions }
 {}
 
