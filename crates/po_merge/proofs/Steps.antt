@@ -15,7 +15,7 @@ use Rattle.po_merge.specs.Inputs.{NamedEntry}
 use Rattle.po_merge.specs.InputsView.{named_entry, named_entries}
 use Rattle.po_merge.specs.Groups.{with_new, first_ones}
 use Rattle.po_merge.specs.MergedEntry.{with_others, collected, same_forms, translations, form_count, joined_form, marked}
-use Rattle.po_merge.specs.Sets.{longer}
+use Rattle.po_merge.specs.Sets.{with_form}
 use Rattle.po_merge.proofs.FirstOnes.{fold_push}
 
 pub others_more : (done now : List (List ℕ)) (others : List (Vec ℕ)) (i : ℕ) (x : Vec ℕ) (b : Bool) → i < length others → x ≡ get_or others i x → list_any (bytes_eq x.items) done ≡ b
@@ -76,26 +76,26 @@ joined_form_more ds i index d form below at is =
     ∙ flat_map_push (λ (t : NamedEntry). option_map_or (marked t.name) (slice_get t.entry.forms index) []) (named_entries (take i ds)) (named_entry d)
     ∙ ap (λ (o : Option (List ℕ)). joined_form (named_entries (take i ds)) index ++ option_map_or (marked d.name.now) o []) is
 
-pub longer_more : (ds : List Definition) (i index : ℕ) (d : Definition) (b : Bool) → i < length ds → d ≡ get_or ds i d → nat_lt index (length d.entry.now.forms) ≡ b
-    → longer index (named_entries (take (i + 1) ds)) ≡ cond b (longer index (named_entries (take i ds)) ++ named_entry d ∷ []) (longer index (named_entries (take i ds)))
-longer_more ds i index d b below at is =
-    ap (longer index) (named_more ds i d below at) ∙ filter-append (λ (t : NamedEntry). nat_lt index (length t.entry.forms)) (named_entries (take i ds)) (named_entry d ∷ [])
-    ∙ ap (λ (t : Bool). longer index (named_entries (take i ds)) ++ cond t (named_entry d ∷ []) []) is ∙ found b where
-      found : (t : Bool) → longer index (named_entries (take i ds)) ++ cond t (named_entry d ∷ []) [] ≡ cond t (longer index (named_entries (take i ds)) ++ named_entry d ∷ []) (longer index (named_entries (take i ds)))
+pub with_form_more : (ds : List Definition) (i index : ℕ) (d : Definition) (b : Bool) → i < length ds → d ≡ get_or ds i d → nat_lt index (length d.entry.now.forms) ≡ b
+    → with_form index (named_entries (take (i + 1) ds)) ≡ cond b (with_form index (named_entries (take i ds)) ++ named_entry d ∷ []) (with_form index (named_entries (take i ds)))
+with_form_more ds i index d b below at is =
+    ap (with_form index) (named_more ds i d below at) ∙ filter-append (λ (t : NamedEntry). nat_lt index (length t.entry.forms)) (named_entries (take i ds)) (named_entry d ∷ [])
+    ∙ ap (λ (t : Bool). with_form index (named_entries (take i ds)) ++ cond t (named_entry d ∷ []) []) is ∙ found b where
+      found : (t : Bool) → with_form index (named_entries (take i ds)) ++ cond t (named_entry d ∷ []) [] ≡ cond t (with_form index (named_entries (take i ds)) ++ named_entry d ∷ []) (with_form index (named_entries (take i ds)))
       found true = refl
-      found false = append-nil (longer index (named_entries (take i ds)))
+      found false = append-nil (with_form index (named_entries (take i ds)))
 
 -- dropping what has no form of this index, nor of a later one, changes no such form
-pub longer_keeps : (index j : ℕ) (ts : List NamedEntry) → index ≤ j → joined_form (longer index ts) j ≡ joined_form ts j
-longer_keeps index j [] h = refl
-longer_keeps index j (t ∷ ts) h = found (nat_lt index (length t.entry.forms)) refl (longer_keeps index j ts h) where
+pub with_form_keeps : (index j : ℕ) (ts : List NamedEntry) → index ≤ j → joined_form (with_form index ts) j ≡ joined_form ts j
+with_form_keeps index j [] h = refl
+with_form_keeps index j (t ∷ ts) h = found (nat_lt index (length t.entry.forms)) refl (with_form_keeps index j ts h) where
   nothing : (forms : List (List ℕ)) (k : ℕ) → length forms ≤ k → slice_get forms k ≡ None
   nothing [] k l = refl
   nothing (f ∷ forms) zero l = absurd (omega (arith, l))
   nothing (f ∷ forms) (suc k) l = let less : length forms ≤ k = omega (arith, l) in nothing forms k less
 
-  found : (b : Bool) → nat_lt index (length t.entry.forms) ≡ b → joined_form (longer index ts) j ≡ joined_form ts j
-      → joined_form (cond b (t ∷ longer index ts) (longer index ts)) j ≡ option_map_or (marked t.name) (slice_get t.entry.forms j) [] ++ joined_form ts j
+  found : (b : Bool) → nat_lt index (length t.entry.forms) ≡ b → joined_form (with_form index ts) j ≡ joined_form ts j
+      → joined_form (cond b (t ∷ with_form index ts) (with_form index ts)) j ≡ option_map_or (marked t.name) (slice_get t.entry.forms j) [] ++ joined_form ts j
   found true e more = ap (λ (l : List ℕ). option_map_or (marked t.name) (slice_get t.entry.forms j) [] ++ l) more
   found false e more =
       let short : length t.entry.forms ≤ index = ltb-false index (length t.entry.forms) e in

@@ -21,5 +21,5 @@ HasForms seen found =
     (q : Bor (List (Vec ℕ))) → contains (λ x y. slice_cmp (λ v w. slice_cmp nat_cmp v.items w.items) x.now y.now) seen q ≡ list_any (λ d. texts_eq (texts q.now) d.entry.forms) found
 
 -- the translations that have a form of this index
-abbrev pub longer : ℕ → List NamedEntry → List NamedEntry
-longer index ts = filter (λ t. nat_lt index (length t.entry.forms)) ts
+abbrev pub with_form : ℕ → List NamedEntry → List NamedEntry
+with_form index ts = filter (λ t. nat_lt index (length t.entry.forms)) ts

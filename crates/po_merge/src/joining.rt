@@ -1,7 +1,7 @@
 ghost use Rattle.std.specs.Prelude.{◌≡◌, ◌<◌, ◌++◌, length, IfOk, OnOk};
 ghost use Rattle.po_entry.specs.TextEntry.{texts};
 ghost use Rattle.po_merge.specs.InputsView.{named_entries};
-ghost use Rattle.po_merge.specs.Sets.{longer};
+ghost use Rattle.po_merge.specs.Sets.{with_form};
 ghost use Rattle.po_merge.specs.MergedEntry.{ended, form_count, joined_form, joined_forms, marked, translations};
 
 use crate::definition::Definition;
@@ -83,12 +83,12 @@ fn joined_form(
 }
 
 /// The translations that have a form of this index.
-fn longer<'a>(
+fn with_form<'a>(
     alloc: Global,
     translations: &[Definition<'a>],
     index: usize,
 ) -> Result<Vec<Definition<'a>>, AllocError>
-    ensures { IfOk result (λ found. named_entries found.items ≡ longer index (named_entries translations.now)) }
+    ensures { IfOk result (λ found. named_entries found.items ≡ with_form index (named_entries translations.now)) }
 {
     let mut found = Vec::new(alloc);
     for translation in translations {
@@ -112,7 +112,7 @@ pub(crate) fn joined_forms(
     let mut forms = Vec::with_capacity(alloc, count)?;
     for index in 0..count {
         forms.push(joined_form(alloc, &translations, index)?)?;
-        translations = longer(alloc, &translations, index + 1)?;
+        translations = with_form(alloc, &translations, index + 1)?;
     }
     Ok(forms)
 }

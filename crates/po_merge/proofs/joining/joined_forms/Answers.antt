@@ -4,7 +4,7 @@ use Rattle.std.proofs.lemmas.List.FromFn.{map-range_with_len_more}
 use Rattle.po_entry.specs.TextEntry.{texts}
 use Rattle.po_merge.specs.InputsView.{named_entries}
 use Rattle.po_merge.specs.MergedEntry.{joined_form}
-use Rattle.po_merge.proofs.Steps.{longer_keeps}
+use Rattle.po_merge.proofs.Steps.{with_form_keeps}
 use Rattle.po_merge.proofs.joining.joined_forms.Goals as goal
 
 pub loop-index-preserved : goal.loop-index-preserved
@@ -15,5 +15,5 @@ loop-index-preserved c =
     let form = c.in_ok-joined_form.ensures ∙ ap (λ ts. joined_form (named_entries ts) i) c.deref-in-loop-index.ensures.value ∙ inv.others i (omega arith) in
     record {
       are_joined = ap texts c.in_ok-push.ensures.items ∙ map-append (λ v. v.items) c.loop-index.forms.items (c.in_ok-joined_form.field-0 ∷ []) ∙ ap₂ (λ (l : List (List ℕ)) (f : List ℕ). l ++ f ∷ []) inv.are_joined form ∙ sym (map-range_with_len_more all 0 i i (omega arith));
-      others = λ j h. ap (λ ts. joined_form ts j) c.in_ok-translations.ensures ∙ longer_keeps (i + 1) j _ h ∙ ap (λ ts. joined_form (named_entries ts) j) c.deref-in-loop-index-2.ensures.value ∙ inv.others j (omega (arith, h));
+      others = λ j h. ap (λ ts. joined_form ts j) c.in_ok-translations.ensures ∙ with_form_keeps (i + 1) j _ h ∙ ap (λ ts. joined_form (named_entries ts) j) c.deref-in-loop-index-2.ensures.value ∙ inv.others j (omega (arith, h));
     }
