@@ -10,7 +10,7 @@ use Rattle.std.proofs.lemmas.Cmp.{ranked, nat_list_cmp_total}
 use Rattle.std.proofs.lemmas.List.Elements.{All-head, All-tail}
 use Rattle.mo_file.specs.Key.{key_cmp}
 use Rattle.mo_lookup.proofs.RisingLemmas.{equal_is_same}
-use Rattle.po_compile.specs.Prefix.{digits, prefix_of, second_of}
+use Rattle.po_compile.specs.Prefix.{digits, prefix_of, second_prefix_of}
 
 abbrev pub Bytes : List ℕ → Type 0
 Bytes text = All (λ byte. byte < 256) text
@@ -166,10 +166,10 @@ same_prefix f m n = by_parts (nat_cmp m n) (ranked m n (nat_cmp m n) refl) where
     by_whole Equal g h = absurd (omega (arith, g, h))
     by_whole Greater g h = refl
 
-pub second_decides : (m n : ℕ) (a b : List ℕ) → m ≡ second_of a → n ≡ second_of b → prefix_of a ≡ prefix_of b → Bytes a → Bytes b → (order : Ordering) → order ≡ nat_cmp m n → order ≢ Equal → order ≡ key_cmp a b
+pub second_decides : (m n : ℕ) (a b : List ℕ) → m ≡ second_prefix_of a → n ≡ second_prefix_of b → prefix_of a ≡ prefix_of b → Bytes a → Bytes b → (order : Ordering) → order ≡ nat_cmp m n → order ≢ Equal → order ≡ key_cmp a b
 second_decides m n a b first second same in_a in_b order is other =
-    let whole_a : digits 32 a ≡ prefix_of a * 256 ^ 16 + second_of a = digits_split 16 32 16 a refl in
-    let whole_b : digits 32 b ≡ prefix_of a * 256 ^ 16 + second_of b = digits_split 16 32 16 b refl ∙ ap (λ p. p * 256 ^ 16 + second_of b) (sym same) in
+    let whole_a : digits 32 a ≡ prefix_of a * 256 ^ 16 + second_prefix_of a = digits_split 16 32 16 a refl in
+    let whole_b : digits 32 b ≡ prefix_of a * 256 ^ 16 + second_prefix_of b = digits_split 16 32 16 b refl ∙ ap (λ p. p * 256 ^ 16 + second_prefix_of b) (sym same) in
     let by_digits : order ≡ nat_cmp (digits 32 a) (digits 32 b) =
-    is ∙ ap₂ nat_cmp first second ∙ sym (same_prefix (prefix_of a * 256 ^ 16) (second_of a) (second_of b)) ∙ sym (ap₂ nat_cmp whole_a whole_b) in
+    is ∙ ap₂ nat_cmp first second ∙ sym (same_prefix (prefix_of a * 256 ^ 16) (second_prefix_of a) (second_prefix_of b)) ∙ sym (ap₂ nat_cmp whole_a whole_b) in
     then_decided order (key_cmp a b) other (ap (λ o. ordering_then o (key_cmp a b)) by_digits ∙ digits_first a b in_a in_b)

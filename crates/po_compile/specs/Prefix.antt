@@ -13,5 +13,5 @@ abbrev pub prefix_of : List ℕ → ℕ
 prefix_of key = digits 16 key
 
 -- the sixteen bytes after them
-abbrev pub second_of : List ℕ → ℕ
-second_of key = digits 16 (drop 16 key)
+abbrev pub second_prefix_of : List ℕ → ℕ
+second_prefix_of key = digits 16 (drop 16 key)

@@ -1,5 +1,5 @@
 ghost use Rattle.std.specs.Prelude.{◌≡◌, slice_index_or};
-ghost use Rattle.po_compile.specs.Prefix.{prefix_of, second_of};
+ghost use Rattle.po_compile.specs.Prefix.{prefix_of, second_prefix_of};
 
 const PREFIX_LEN: usize = 16;
 
@@ -26,8 +26,8 @@ pub(crate) fn prefix_of(key: &[u8]) -> u128
 }
 
 /// The sixteen bytes after them, likewise.
-pub(crate) fn second_of(key: &[u8]) -> u128
-    ensures { result ≡ second_of key.now }
+pub(crate) fn second_prefix_of(key: &[u8]) -> u128
+    ensures { result ≡ second_prefix_of key.now }
 {
     let (_, rest) = key.split_at(PREFIX_LEN.min(key.len()));
     prefix_of(rest)

@@ -1,6 +1,6 @@
 ghost use Rattle.std.specs.Prelude.{◌≡◌, ◌<◌, All};
 ghost use Rattle.mo_file.specs.Key.{key_cmp};
-ghost use Rattle.po_compile.specs.Prefix.{prefix_of, second_of};
+ghost use Rattle.po_compile.specs.Prefix.{prefix_of, second_prefix_of};
 
 use std::cmp::Ordering;
 
@@ -12,7 +12,7 @@ pub(crate) struct Row<'b> {
     /// The first sixteen bytes of the key, as a number.
     pub(crate) prefix: u128,
     /// The next sixteen bytes of the key, as a number.
-    pub(crate) second: u128,
+    pub(crate) second_prefix: u128,
     pub(crate) key: &'b [u8],
     pub(crate) original: &'b [u8],
     pub(crate) translation: &'b [u8],
@@ -23,7 +23,7 @@ pub(crate) struct Row<'b> {
     pub(crate) compiled: bool,
     ghost bytes: { All (λ byte. byte < 256) key.now },
     ghost first: { prefix ≡ prefix_of key.now },
-    ghost next: { second ≡ second_of key.now },
+    ghost next: { second_prefix ≡ second_prefix_of key.now },
 }
 
 /// How the keys of two rows stand to each other.
@@ -31,7 +31,7 @@ pub(crate) fn compare(a: &Row<'_>, b: &Row<'_>) -> Ordering
     ensures { result ≡ key_cmp a.now.key.now b.now.key.now }
 {
     match a.prefix.cmp(&b.prefix) {
-        Ordering::Equal => match a.second.cmp(&b.second) {
+        Ordering::Equal => match a.second_prefix.cmp(&b.second_prefix) {
             Ordering::Equal => a.key.cmp(b.key),
             other => other,
         },

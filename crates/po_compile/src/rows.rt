@@ -5,7 +5,7 @@ ghost use Rattle.po_compile.specs.Collected.{row_view, AreRowsOf, compiled_of};
 ghost use Rattle.po_compile.specs.Repeats.{ArePlaced, AreSorted, IsEarlier, IsEarliestRepeat, row_cmp};
 
 use crate::collecting::Lengths;
-use crate::prefix::{prefix_of, second_of};
+use crate::prefix::{prefix_of, second_prefix_of};
 use crate::row::{Row, compare};
 use mo_file::LentPair;
 use std::alloc::{AllocError, Global};
@@ -36,7 +36,7 @@ fn row_of<'b>(
 {
     Row {
         prefix: prefix_of(key),
-        second: second_of(key),
+        second_prefix: second_prefix_of(key),
         key,
         original,
         translation,
