@@ -101,8 +101,8 @@ counts_of lengths = record {
 }
 
 -- what holds of all entries that may have been collected
-abbrev pub OfAll : Collected → (Bool → List TextEntry → Type 0) → Type 0
-OfAll collected Holds = (use_fuzzy : Bool) (entries : List TextEntry) → HoldsEntries use_fuzzy entries collected → Holds use_fuzzy entries
+abbrev pub OfAllCollected : Collected → (Bool → List TextEntry → Type 0) → Type 0
+OfAllCollected collected Holds = (use_fuzzy : Bool) (entries : List TextEntry) → HoldsEntries use_fuzzy entries collected → Holds use_fuzzy entries
 
 -- no live entry repeats another, and the layout of the compiled ones' messages is too large, which
 -- is the fault

@@ -2,7 +2,7 @@ ghost use Rattle.std.specs.Prelude.{◌≡◌, count_by, IfOk, IfErr};
 ghost use Rattle.mo_file.specs.Pairs.{messages_of_lent};
 ghost use Rattle.po_catalog.specs.Duplicate.{IsDuplicateFaultOf};
 ghost use Rattle.po_compile.specs.declared.collecting.Lengths.{Lengths as LengthsSeen};
-ghost use Rattle.po_compile.specs.Collected.{OfAll, IsSortedOf, counts_of};
+ghost use Rattle.po_compile.specs.Collected.{OfAllCollected, IsSortedOf, counts_of};
 
 use crate::collecting::{Collected, Lengths};
 use crate::rows::{compiled_pairs, earliest_repeat, rows_of, sort_rows};
@@ -18,9 +18,9 @@ pub(crate) fn sorted_pairs(
     alloc: Global,
     collected: &Collected,
 ) -> Result<Vec<LentPair<'_>>, PoError>
-    ensures messages { IfOk result (λ pairs. OfAll collected.now
+    ensures messages { IfOk result (λ pairs. OfAllCollected collected.now
         (λ f es. IsSortedOf f es (messages_of_lent pairs.items))) }
-    ensures fault { IfErr result (λ e. OfAll collected.now (λ _ entries. IsDuplicateFaultOf entries e)) }
+    ensures fault { IfErr result (λ e. OfAllCollected collected.now (λ _ entries. IsDuplicateFaultOf entries e)) }
 {
     let mut rows = rows_of(alloc, &collected.bytes, &collected.lengths)?;
     sort_rows(&mut rows);
