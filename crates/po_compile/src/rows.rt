@@ -25,14 +25,14 @@ fn row_of<'b>(
     key: &'b [u8],
     original: &'b [u8],
     translation: &'b [u8],
-    parts: &Lengths,
+    lengths: &Lengths,
 ) -> Row<'b>
     ensures place { result.place ≡ place }
     ensures key { result.key.now ≡ key.now }
     ensures original { result.original.now ≡ original.now }
     ensures translation { result.translation.now ≡ translation.now }
-    ensures line { result.line ≡ parts.now.line }
-    ensures compiled { result.compiled ≡ parts.now.compiled }
+    ensures line { result.line ≡ lengths.now.line }
+    ensures compiled { result.compiled ≡ lengths.now.compiled }
 {
     Row {
         prefix: prefix_of(key),
@@ -41,8 +41,8 @@ fn row_of<'b>(
         original,
         translation,
         place,
-        line: parts.line,
-        compiled: parts.compiled,
+        line: lengths.line,
+        compiled: lengths.compiled,
     }
 }
 
