@@ -40,7 +40,7 @@ const OBSOLETE_PREVIOUS: Marks = Marks {
 };
 
 /// The comment after its `#`; none at `#|` and `#~`.
-fn comment(text: &[u8]) -> Option<Shape<'_>>
+fn comment_shape(text: &[u8]) -> Option<Shape<'_>>
     ensures { IsShapeOf (comment_shape text.now) result }
 {
     match text.split_first() {
@@ -54,7 +54,7 @@ fn comment(text: &[u8]) -> Option<Shape<'_>>
 
 /// The shape of a line, read after `#~`.
 #[tactic(auto, unfolding(crate::specs::Line::tilde_shape, crate::specs::Line::obsolete_shape))]
-fn obsolete(text: &[u8]) -> Option<Shape<'_>>
+fn tilde_shape(text: &[u8]) -> Option<Shape<'_>>
     ensures { IsShapeOf (tilde_shape text.now) result }
 {
     if let Some((b'|', rest)) = text.split_first() {
@@ -62,20 +62,20 @@ fn obsolete(text: &[u8]) -> Option<Shape<'_>>
     }
     let text = skip_blanks(text);
     match text.split_first() {
-        Some((b'#', rest)) => comment(rest),
+        Some((b'#', rest)) => comment_shape(rest),
         _ => Some(Shape::Tokens(OBSOLETE, text)),
     }
 }
 
 /// The shape of a line, read after its first `#`.
 #[tactic(auto, unfolding(crate::specs::Line::hash_shape))]
-fn hash(text: &[u8]) -> Option<Shape<'_>>
+fn hash_shape(text: &[u8]) -> Option<Shape<'_>>
     ensures { IsShapeOf (hash_shape text.now) result }
 {
     match text.split_first() {
         Some((b'|', rest)) => Some(Shape::Tokens(PREVIOUS, rest)),
-        Some((b'~', rest)) => obsolete(rest),
-        _ => comment(text),
+        Some((b'~', rest)) => tilde_shape(rest),
+        _ => comment_shape(text),
     }
 }
 
@@ -86,7 +86,7 @@ fn shape_of(line: &[u8]) -> Option<Shape<'_>>
 {
     let text = skip_blanks(line);
     match text.split_first() {
-        Some((b'#', rest)) => hash(rest),
+        Some((b'#', rest)) => hash_shape(rest),
         _ => Some(Shape::Tokens(LIVE, text)),
     }
 }
