@@ -6,7 +6,7 @@ use Rattle.std.proofs.lemmas.List.{length-map}
 use Rattle.std.proofs.lemmas.List.Sums.{prefix_len-le-length, prefix_len_passes, prefix_len_stops}
 use Rattle.std.specs.List.{prefix_len}
 use lib.Lanes.{chunk, zip2, mask_l, top}
-use Rattle.mo_file.specs.Agreement.{IsAgreementIn, first_set, part_at}
+use Rattle.mo_file.specs.Agreement.{IsCommonPrefixIn, first_set, part_at}
 
 module _ (stop : ℕ) (or ne eq : ℕ → ℕ → ℕ) (tops : (a b : ℕ) → top 7 (or (ne a b) (eq a stop)) ≡ (not (a == b) || a == stop))
     (x y : List ℕ) (i n r : ℕ) (room_x : i + n ≤ length x) (room_y : i + n ≤ length y) (few : n ≤ 64) where
@@ -53,8 +53,8 @@ module _ (stop : ℕ) (or ne eq : ℕ → ℕ → ℕ) (tops : (a b : ℕ) → t
         ∙ first_set_mask_l (top 7) lanes n long few
 
     -- so the first lane that is set is the first place where they part
-    pub agreement_in : IsAgreementIn stop x y i n r
-    agreement_in = record {
+    pub common_prefix_in : IsCommonPrefixIn stop x y i n r
+    common_prefix_in = record {
       within = omega (arith, counted, long, prefix_len-le-length unset lanes);
       agree = λ k from to.
           let back : i + (k - i) ≡ k = omega arith in

@@ -10,7 +10,7 @@ use Rattle.std.specs.Option.{unwrap_or}
 use Rattle.std.proofs.lemmas.Option.{unwrap_or-slice_get}
 use Rattle.std.proofs.lemmas.List.{append-nil, drop_all, get_or-drop, length-drop, take_all}
 use Rattle.mo_file.specs.Key.{is_nul, key_of, key_cmp}
-use Rattle.mo_file.specs.Agreement.{AgreeBetween, IsAgreement}
+use Rattle.mo_file.specs.Agreement.{AgreeBetween, IsCommonPrefix}
 
 key_of-cut : (a : ℕ) (xs : List ℕ) (b : Bool) → (a == 0) ≡ b → key_of (a ∷ xs) ≡ take (cond (not b) (1 + prefix_len (λ x. not (is_nul x)) xs) 0) (a ∷ xs)
 key_of-cut a xs b is = ap (λ c. take (cond (not c) (1 + prefix_len (λ x. not (is_nul x)) xs) 0) (a ∷ xs)) is
@@ -199,8 +199,8 @@ drop_after zero x = refl
 drop_after (suc n) [] = let e : suc n + 1 ≡ suc (n + 1) = omega arith in rw e refl
 drop_after (suc n) (a ∷ xs) = let e : suc n + 1 ≡ suc (n + 1) = omega arith in rw e (drop_after n xs)
 
--- what is part of both texts after the agreement parts them
-part_after : (x y : List ℕ) (n : ℕ) → IsAgreement 0 x y n → 0 < length (drop n x) → 0 < length (drop n y) →
+-- the two rests after the common prefix part at once, where neither is empty
+part_after : (x y : List ℕ) (n : ℕ) → IsCommonPrefix 0 x y n → 0 < length (drop n x) → 0 < length (drop n y) →
     (not (get_or (drop n x) 0 0 == get_or (drop n y) 0 0) || get_or (drop n x) 0 0 == 0) ≡ true
 part_after x y n is some_x some_y =
     rw (at-drop n x, at-drop n y) (is.part (omega (arith, length-drop n x)) (omega (arith, length-drop n y)))
@@ -210,7 +210,7 @@ before_some : (x y more : List ℕ) → 0 < length y → (0 < length x → 0 < l
 before_some x [] more some part = absurd (omega arith)
 before_some x (b ∷ ys) more some part = before_byte x b (ys ++ more) (λ some_x. part some_x (omega arith))
 
-module _ (x y : List ℕ) (n : ℕ) (is : IsAgreement 0 x y n) where
+module _ (x y : List ℕ) (n : ℕ) (is : IsCommonPrefix 0 x y n) where
   -- where the second text goes on, its next byte decides
   pub decided_within : (more : List ℕ) → n < length y →
       key_cmp (key_of x) (y ++ more) ≡ ordering_then (nat_cmp (get_or x n 0) (get_or y n 0)) Less

@@ -10,14 +10,15 @@ part_at stop x y k = not (slice_index x k == slice_index y k) || slice_index x k
 abbrev pub AgreeBetween : ℕ → List ℕ → List ℕ → ℕ → ℕ → Type 0
 AgreeBetween stop x y i j = (k : ℕ) → i ≤ k → k < j → part_at stop x y k ≡ false
 
--- of the n bytes from i on, the texts agree in so many, up to the first where they part
-pub record IsAgreementIn (stop : ℕ) (x y : List ℕ) (i n many : ℕ) : Type 0 where
+-- of the n bytes from i on, the texts have so many in common, up to the first where they part
+pub record IsCommonPrefixIn (stop : ℕ) (x y : List ℕ) (i n many : ℕ) : Type 0 where
   pub within : many ≤ n
   pub agree : AgreeBetween stop x y i (i + many)
   pub part : many < n → part_at stop x y (i + many) ≡ true
 
--- the texts agree in so many bytes, up to the first where they part or one of them ends
-pub record IsAgreement (stop : ℕ) (x y : List ℕ) (many : ℕ) : Type 0 where
+-- the common prefix of the texts has so many bytes, up to the first where they part or one of them
+-- ends
+pub record IsCommonPrefix (stop : ℕ) (x y : List ℕ) (many : ℕ) : Type 0 where
   pub within_first : many ≤ length x
   pub within_second : many ≤ length y
   pub agree : AgreeBetween stop x y 0 many

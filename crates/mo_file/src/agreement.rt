@@ -1,23 +1,23 @@
 ghost use Rattle.std.specs.Prelude.{◌≡◌, ◌+◌, ◌≤◌, ◌<◌, length, slice_index};
 ghost use Rattle.memchr.specs.Find.{IsFirstByte, is_byte};
-ghost use Rattle.mo_file.specs.Agreement.{IsAgreement, IsAgreementIn, first_set};
+ghost use Rattle.mo_file.specs.Agreement.{IsCommonPrefix, IsCommonPrefixIn, first_set};
 
 use std::simd::prelude::*;
 
 /// The length of the common prefix of two texts, which ends before the first byte that is `stop`.
 #[inline(always)]
-pub(crate) fn agreement_len(stop: u8, first: &[u8], second: &[u8]) -> usize
-    ensures { IsAgreement stop first.now second.now result }
+pub(crate) fn common_prefix_len(stop: u8, first: &[u8], second: &[u8]) -> usize
+    ensures { IsCommonPrefix stop first.now second.now result }
 {
     let len = first.len().min(second.len());
     if len >= 16 {
-        agreement_within::<16>(stop, first, second, len)
+        common_prefix_within::<16>(stop, first, second, len)
     } else if len >= 8 {
-        agreement_within::<8>(stop, first, second, len)
+        common_prefix_within::<8>(stop, first, second, len)
     } else if len >= 4 {
-        agreement_within::<4>(stop, first, second, len)
+        common_prefix_within::<4>(stop, first, second, len)
     } else if len >= 1 {
-        agreement_within::<1>(stop, first, second, len)
+        common_prefix_within::<1>(stop, first, second, len)
     } else {
         0
     }
@@ -26,47 +26,52 @@ pub(crate) fn agreement_len(stop: u8, first: &[u8], second: &[u8]) -> usize
 /// The same for texts whose common prefix may be long, such as two rests of a file: texts of 32
 /// bytes and more are compared 32 bytes at a time.
 #[inline(always)]
-pub(crate) fn long_agreement_len(stop: u8, first: &[u8], second: &[u8]) -> usize
-    ensures { IsAgreement stop first.now second.now result }
+pub(crate) fn long_common_prefix_len(stop: u8, first: &[u8], second: &[u8]) -> usize
+    ensures { IsCommonPrefix stop first.now second.now result }
 {
     let len = first.len().min(second.len());
     if len >= 32 {
-        agreement_within::<32>(stop, first, second, len)
+        common_prefix_within::<32>(stop, first, second, len)
     } else {
-        agreement_len(stop, first, second)
+        common_prefix_len(stop, first, second)
     }
 }
 
 /// The same within the first `len` bytes, compared `LANES` at a time. The last group ends at `len`,
 /// so it may begin with bytes of the group before it.
 #[inline(always)]
-fn agreement_within<const LANES: usize>(stop: u8, first: &[u8], second: &[u8], len: usize) -> usize
+fn common_prefix_within<const LANES: usize>(
+    stop: u8,
+    first: &[u8],
+    second: &[u8],
+    len: usize,
+) -> usize
     requires lanes { (0 < LANES) × (LANES ≤ 64) }
     requires long { LANES ≤ len }
     requires first { len ≤ length first.now }
     requires second { len ≤ length second.now }
-    ensures { IsAgreementIn stop first.now second.now 0 len result }
+    ensures { IsCommonPrefixIn stop first.now second.now 0 len result }
 {
     let last = len - LANES;
     let mut at = 0;
     'groups: while at < last {
-        let many = agreement_at::<LANES>(stop, first, second, at);
+        let many = common_prefix_at::<LANES>(stop, first, second, at);
         if many < LANES {
             return at + many;
         }
         at += LANES;
     }
-    last + agreement_at::<LANES>(stop, first, second, last)
+    last + common_prefix_at::<LANES>(stop, first, second, last)
 }
 
 /// How many of the `LANES` bytes from `at` on are the same in both texts, up to the first that is
 /// `stop`.
 #[inline(always)]
-fn agreement_at<const LANES: usize>(stop: u8, first: &[u8], second: &[u8], at: usize) -> usize
+fn common_prefix_at<const LANES: usize>(stop: u8, first: &[u8], second: &[u8], at: usize) -> usize
     requires lanes { LANES ≤ 64 }
     requires first { at + LANES ≤ length first.now }
     requires second { at + LANES ≤ length second.now }
-    ensures { IsAgreementIn stop first.now second.now at LANES result }
+    ensures { IsCommonPrefixIn stop first.now second.now at LANES result }
 {
     let ours = Simd::<u8, LANES>::from_slice(&first[at..]);
     let theirs = Simd::<u8, LANES>::from_slice(&second[at..]);
@@ -99,6 +104,6 @@ pub(crate) fn byte_at(text: &[u8], at: usize) -> u8
 pub fn find_byte(byte: u8, text: &[u8]) -> Option<usize>
     ensures { IsFirstByte (is_byte byte) text.now result }
 {
-    let end = agreement_len(byte, text, text);
+    let end = common_prefix_len(byte, text, text);
     if end < text.len() { Some(end) } else { None }
 }

@@ -3,7 +3,7 @@ ghost use Rattle.std.specs.Option.{option_copied};
 ghost use Rattle.std.specs.declared.cmp.Ordering.TheVariants.{Less};
 ghost use Rattle.mo_file.specs.Key.{key_cmp, key_of, query_key};
 
-use crate::agreement::{agreement_len, byte_at, find_byte, long_agreement_len};
+use crate::agreement::{byte_at, common_prefix_len, find_byte, long_common_prefix_len};
 use std::cmp::Ordering;
 
 /// The byte that stands between a context and a msgid.
@@ -30,7 +30,7 @@ pub fn compare_key(original: &[u8], context: Option<&[u8]>, id: &[u8]) -> Orderi
     let Some(context) = context else {
         return compare_id(original, id);
     };
-    let at = agreement_len(0, original, context);
+    let at = common_prefix_len(0, original, context);
     if at < context.len() {
         return byte_at(original, at).cmp(&context[at]).then(Ordering::Less);
     }
@@ -45,7 +45,7 @@ pub fn compare_key(original: &[u8], context: Option<&[u8]>, id: &[u8]) -> Orderi
 fn compare_id(original: &[u8], id: &[u8]) -> Ordering
     ensures { result ≡ key_cmp (key_of original.now) id.now }
 {
-    let at = agreement_len(0, original, id);
+    let at = common_prefix_len(0, original, id);
     if at < id.len() {
         return byte_at(original, at).cmp(&id[at]).then(Ordering::Less);
     }
@@ -56,6 +56,6 @@ fn compare_id(original: &[u8], id: &[u8]) -> Ordering
 pub(crate) fn is_below(original: &[u8], other: &[u8]) -> bool
     ensures { IsTrue result ↔ (key_cmp (key_of original.now) (key_of other.now) ≡ Less) }
 {
-    let at = long_agreement_len(0, original, other);
+    let at = long_common_prefix_len(0, original, other);
     byte_at(original, at) < byte_at(other, at)
 }

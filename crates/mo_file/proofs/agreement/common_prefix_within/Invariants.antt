@@ -1,6 +1,6 @@
 use Rattle.std.proofs.Common.{◌-◌, ◌≤◌}
 use Rattle.mo_file.specs.Agreement.{AgreeBetween}
-use Rattle.mo_file.proofs.agreement.agreement_within.Given as goal
+use Rattle.mo_file.proofs.agreement.common_prefix_within.Given as goal
 
 abbrev pub invariant-groups : goal.invariant-groups
 invariant-groups g l = record {

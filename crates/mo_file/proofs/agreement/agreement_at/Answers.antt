@@ -1,6 +1,0 @@
-use Rattle.std.proofs.Common.{◌==◌}
-use Rattle.mo_file.proofs.AgreementLemmas.{agreement_in, set_where}
-use Rattle.mo_file.proofs.agreement.agreement_at.Goals as goal
-
-pub returns : goal.returns
-returns g c = agreement_in c.args.stop _ _ _ (λ a b. set_where (a == b) (a == c.args.stop)) _ _ _ _ _ c.requires.first c.requires.second c.requires.lanes c.first_set.ensures
