@@ -6,7 +6,7 @@ use Rattle.std.proofs.lemmas.List.{length-map}
 use Rattle.std.proofs.lemmas.List.Sums.{prefix_len-le-length, prefix_len_passes, prefix_len_stops}
 use Rattle.std.specs.List.{prefix_len}
 use lib.Lanes.{chunk, zip2, mask_l, top}
-use Rattle.mo_file.specs.Agreement.{IsCommonPrefixIn, first_set, part_at}
+use Rattle.mo_file.specs.Agreement.{IsCommonPrefixIn, differs_or_stops_at, first_set}
 
 module _ (stop : ℕ) (or ne eq : ℕ → ℕ → ℕ) (tops : (a b : ℕ) → top 7 (or (ne a b) (eq a stop)) ≡ (not (a == b) || a == stop))
     (x y : List ℕ) (i n r : ℕ) (room_x : i + n ≤ length x) (room_y : i + n ≤ length y) (few : n ≤ 64) where
@@ -29,7 +29,7 @@ module _ (stop : ℕ) (or ne eq : ℕ → ℕ → ℕ) (tops : (a b : ℕ) → t
   long = length-zip2 or _ _ (long_ne ∙ sym long_eq) ∙ long_ne
 
   -- a lane is set where the texts part
-  lane : (k : ℕ) → k < n → top 7 (get_or lanes k 0) ≡ part_at stop x y (i + k)
+  lane : (k : ℕ) → k < n → top 7 (get_or lanes k 0) ≡ differs_or_stops_at stop x y (i + k)
   lane k below =
       let at_x = get_or-chunk i n x k 0 below in
       let at_y = get_or-chunk i n y k 0 below in
@@ -60,7 +60,7 @@ module _ (stop : ℕ) (or ne eq : ℕ → ℕ → ℕ) (tops : (a b : ℕ) → t
           let back : i + (k - i) ≡ k = omega arith in
           let inside : k - i < prefix_len unset lanes = omega (arith, counted) in
           let low : k - i < n = omega (arith, counted, long, prefix_len-le-length unset lanes) in
-          sym (lane (k - i) low ∙ ap (part_at stop x y) back) ∙ not-true _ (prefix_len_passes unset lanes (k - i) 0 inside);
+          sym (lane (k - i) low ∙ ap (differs_or_stops_at stop x y) back) ∙ not-true _ (prefix_len_passes unset lanes (k - i) 0 inside);
       part = λ short.
           let stops = not-false _ (prefix_len_stops unset lanes 0 (omega (arith, counted, long))) in
           sym (lane r short) ∙ ap (λ k. top 7 (get_or lanes k 0)) counted ∙ stops;

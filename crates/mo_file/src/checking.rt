@@ -6,7 +6,7 @@ use crate::counting::Meter;
 use crate::fault::MoError;
 use crate::header::Header;
 use crate::key::is_below;
-use crate::strings::{range_at, text_at};
+use crate::strings::{range_at, rest_at};
 
 /// Checks that each string lies inside the file and that a NUL follows it. A string outside the
 /// file is reported before a missing NUL, whichever message has it.
@@ -57,9 +57,9 @@ pub(crate) fn check_order(header: Header, bytes: &[u8], meter: &mut Meter) -> Re
     if header.count == 0 {
         return Ok(());
     }
-    let mut text = text_at(header, bytes, 0);
+    let mut text = rest_at(header, bytes, 0);
     for i in 0..header.count - 1 {
-        let next = text_at(header, bytes, i + 1);
+        let next = rest_at(header, bytes, i + 1);
         meter.add_one();
         if !is_below(text, next) {
             return Err(MoError::NotSorted(i + 1));

@@ -49,10 +49,10 @@ pub(crate) fn translation_at(header: Header, bytes: &[u8], i: u32) -> &[u8]
     string_at(header.order, bytes, header.translations, i)
 }
 
-/// The file from the original of message `i` on, where the NUL after it ends its key.
+/// The rest of the file from the original of message `i` on, where the NUL after it ends its key.
 #[tactic(auto, using(crate::proofs::KeyComparison::key_of_rest), unfolding(crate::specs::StringTable::string_at))]
 #[inline(always)]
-pub(crate) fn text_at(header: Header, bytes: &[u8], i: u32) -> &[u8]
+pub(crate) fn rest_at(header: Header, bytes: &[u8], i: u32) -> &[u8]
     requires read { IsHeader header bytes.now }
     requires strings { HasStrings header.order bytes.now }
     requires counted { i < header.count }

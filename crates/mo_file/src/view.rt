@@ -11,7 +11,7 @@ use crate::counting::Meter;
 use crate::fault::MoError;
 use crate::header::Header;
 use crate::key::compare_key;
-use crate::strings::{original_at, text_at, translation_at};
+use crate::strings::{original_at, rest_at, translation_at};
 use std::cmp::Ordering;
 use std::marker::Model;
 
@@ -93,7 +93,7 @@ impl<'a> MoView<'a> {
         ensures cost { meter.new ≡ meter.old + 1 }
     {
         meter.add_one();
-        compare_key(text_at(self.header, self.bytes, i), context, id)
+        compare_key(rest_at(self.header, self.bytes, i), context, id)
     }
 
     /// The original of message `i`: its key, and where there is a plural a NUL and the plural. The

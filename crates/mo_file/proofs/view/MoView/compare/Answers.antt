@@ -2,12 +2,12 @@ use Rattle.std.proofs.Common.{arith}
 use Rattle.mo_file.proofs.ViewLemmas.{length-messages_of, keys-at}
 use Rattle.mo_file.proofs.view.MoView.compare.Goals as goal
 
-pub text_at-requires-clause-counted : goal.text_at-requires-clause-counted
-text_at-requires-clause-counted c =
+pub rest_at-requires-clause-counted : goal.rest_at-requires-clause-counted
+rest_at-requires-clause-counted c =
     let inside = rw (← c.self.view_is, length-messages_of) at c.requires.inside in
     omega (arith, c.self.invariant.read.count)
 
 pub returns-clause-order : goal.returns-clause-order
 returns-clause-order c =
     let inside = rw (← c.self.view_is, length-messages_of) at c.requires.inside in
-    rw (← c.self.view_is, keys-at _ _ _ inside, ← c.text_at.ensures) c.compare_key.ensures
+    rw (← c.self.view_is, keys-at _ _ _ inside, ← c.rest_at.ensures) c.compare_key.ensures
