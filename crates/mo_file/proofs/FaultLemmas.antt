@@ -10,8 +10,8 @@ use Rattle.mo_file.specs.declared.header.Header.{Header}
 use Rattle.mo_file.specs.Header.{Shows, message_count, originals_table, translations_table}
 use Rattle.mo_file.specs.Message.{Message}
 use Rattle.mo_file.specs.Catalog.{IsCatalog}
-use Rattle.mo_file.specs.Fault.{HasFault, HasFaultIn, IsFirstFault, IsUnsorted}
-use Rattle.mo_file.specs.Checking.{HasStrings, IsChecked, IsHeader, IsSortedBelow}
+use Rattle.mo_file.specs.Fault.{HasFault, HasFaultIn, IsFirstFault, IsNotRising}
+use Rattle.mo_file.specs.Checking.{AreRisingBelow, HasStrings, IsChecked, IsHeader}
 
 pub not_below : (a b : ℕ) → ¬ (a < b) → b ≤ a
 not_below a b not = elim (cases_lt a b) [ inl below ↦ absurd (not below) | inr at ↦ omega (arith, at) ]
@@ -38,7 +38,7 @@ module _ (header : Header) (bytes : List ℕ) (read : IsHeader header bytes) (st
 
   -- only keys are left to be faulty
   only_keys : (f : MoError) → HasFault bytes f →
-      (i : ℕ) × (f ≡ NotSorted (i + 1)) × (i + 1 < header.count) × IsUnsorted header.order bytes i
+      (i : ℕ) × (f ≡ NotSorted (i + 1)) × (i + 1 < header.count) × IsNotRising header.order bytes i
   only_keys TooShort has = absurd (omega (arith, read.long))
   only_keys BadMagic has = absurd (has header.order read.shows)
   only_keys BadRevision has = let fault = shown BadRevision has in absurd (omega (arith, read.known))
@@ -53,8 +53,8 @@ module _ (header : Header) (bytes : List ℕ) (read : IsHeader header bytes) (st
       (fault.0, ap NotSorted fault.1, inside, fault.3)
 
   -- the first key that isn't above the one before it is reported
-  pub first_unsorted : (i : ℕ) → IsSortedBelow header.order bytes (i + 1) → i + 1 < header.count →
-      IsUnsorted header.order bytes i → IsFirstFault bytes (NotSorted (i + 1))
+  pub first_unsorted : (i : ℕ) → AreRisingBelow header.order bytes (i + 1) → i + 1 < header.count →
+      IsNotRising header.order bytes i → IsFirstFault bytes (NotSorted (i + 1))
   first_unsorted i sorted inside unsorted = record {
     holds = (header.order, read.shows, (i, refl, omega (arith, read.count), unsorted));
     first = λ f before has.
@@ -64,7 +64,7 @@ module _ (header : Header) (bytes : List ℕ) (read : IsHeader header bytes) (st
   }
 
   -- a file that has been checked has no fault
-  pub faultless : IsSortedBelow header.order bytes header.count → (f : MoError) → ¬ HasFault bytes f
+  pub faultless : AreRisingBelow header.order bytes header.count → (f : MoError) → ¬ HasFault bytes f
   faultless sorted f has = let fault = only_keys f has in sorted fault.0 fault.2 fault.3
 
 -- a header that was read from a valid file is that of a file that has been checked

@@ -12,7 +12,7 @@ use Rattle.mo_file.specs.StringTable.{end_at, original_at, messages_of}
 use Rattle.mo_file.specs.Key.{key_of, key_cmp}
 use Rattle.mo_file.specs.Message.{Message}
 use Rattle.mo_file.specs.Catalog.{IsCatalog}
-use Rattle.mo_file.specs.Fault.{HasFault, HasFaultIn, IsFirstFault, IsOutside, IsUnterminated, IsUnsorted, kind, index}
+use Rattle.mo_file.specs.Fault.{HasFault, HasFaultIn, IsFirstFault, IsNotRising, IsOutside, IsUnterminated, kind, index}
 use Rattle.mo_file.proofs.FaultLemmas.{HasFaultIn-shown}
 
 -- a fact holds or it doesn't
@@ -146,7 +146,7 @@ module _ (bytes : List ℕ) (order : Order) (shows : Shows order bytes) where
       either (zero_settled (slice_get bytes (end_at order bytes (originals_table order bytes) i)))
       (zero_settled (slice_get bytes (end_at order bytes (translations_table order bytes) i)))
 
-  unsorted_settled : (i : ℕ) → Settled (IsUnsorted order bytes i)
+  unsorted_settled : (i : ℕ) → Settled (IsNotRising order bytes i)
   unsorted_settled i = less_settled (key_cmp (key_of (original_at order bytes i)) (key_of (original_at order bytes (i + 1))))
 
   catalog : Clear bytes 8 → CatalogOrFaultOf bytes
@@ -157,7 +157,7 @@ module _ (bytes : List ℕ) (order : Order) (shows : Shows order bytes) where
   )
 
   sorted : Clear bytes 7 → CatalogOrFaultOf bytes
-  sorted clear = elim (first_below (λ i. IsUnsorted order bytes i) unsorted_settled (message_count order bytes - 1)) [
+  sorted clear = elim (first_below (λ i. IsNotRising order bytes i) unsorted_settled (message_count order bytes - 1)) [
     | inl none ↦
         catalog (clear_more bytes 7 clear (λ i has. let fault = shown (NotSorted i) has in none fault.0 (omega (arith, fault.1, fault.2)) fault.3))
     | inr first ↦

@@ -1,5 +1,5 @@
--- Reading what is laid out: where a part of a file stands, one word, one entry of a table with its
--- string.
+-- Reading what is laid out: where a part of a file stands, one word, one descriptor of a table with
+-- its string.
 use Rattle.std.proofs.Common.{◌≡◌, ℕ, zero, suc, ◌+◌, ◌*◌, ◌-◌, ◌^◌, ◌<◌, List, [], ◌∷◌, ◌++◌}
 use Rattle.std.proofs.Common.{length, take, drop, Some, refl, ◌∙◌, ap, arith, append_assoc, length-append}
 use Rattle.std.specs.List.{slice_get, slice_range}
@@ -75,7 +75,7 @@ pub record IsString (order : Order) (bytes : List ℕ) (at i : ℕ) (s : List �
   pub inside : end_at order bytes at i < length bytes
   pub terminated : slice_get bytes (end_at order bytes at i) ≡ Some 0
 
--- one string among others, with its entry in the table
+-- one string among others, with its descriptor in the table
 module _ (order : Order) (bytes : List ℕ) (at start : ℕ) (xs : List (List ℕ)) (s : List ℕ) (ys : List (List ℕ)) where
   abbrev after : ℕ
   after = start + length (terminated xs)

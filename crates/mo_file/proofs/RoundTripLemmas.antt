@@ -13,7 +13,7 @@ use Rattle.mo_file.specs.Message.{Message, originals, translations}
 use Rattle.mo_file.specs.Key.{AreRising, keys}
 use Rattle.mo_file.specs.StringTable.{messages_of, message_at}
 use Rattle.mo_file.specs.Layout.{header, layout, originals_offset, table, terminated, translations_offset}
-use Rattle.mo_file.specs.Checking.{HasStrings, IsHeader, IsSortedBelow}
+use Rattle.mo_file.specs.Checking.{AreRisingBelow, HasStrings, IsHeader}
 use Rattle.mo_file.specs.Laws.{LayoutIsCatalog}
 use Rattle.mo_file.proofs.BuildLemmas.{length-header, length-layout, length-magic, length-table, length-word_bytes}
 use Rattle.mo_file.proofs.FaultLemmas.{faultless}
@@ -212,7 +212,7 @@ module _ (order : Order) (messages : List Message) where
           elim unterminated [ inl h ↦ h both.2.terminated | inr h ↦ h both.3.terminated ];
     }
 
-    sorted : AreRising (keys messages) → IsSortedBelow order bytes count
+    sorted : AreRising (keys messages) → AreRisingBelow order bytes count
     sorted rising i lt unsorted =
         let P : List Message → Type 0 = λ ms. AreRising (keys ms) in
         let risen = subst P lists rising in

@@ -12,7 +12,7 @@ use Rattle.mo_file.specs.Message.{Message}
 use Rattle.mo_file.specs.Key.{key_of, keys, key_at, AreRising}
 use Rattle.mo_file.specs.Header.{message_count}
 use Rattle.mo_file.specs.StringTable.{message_at, messages_of, original_at}
-use Rattle.mo_file.specs.Checking.{IsSortedBelow}
+use Rattle.mo_file.specs.Checking.{AreRisingBelow}
 
 not_unequal : (order : Ordering) → ¬ (order ≢ Less) → order ≡ Less
 not_unequal Less less = refl
@@ -45,7 +45,7 @@ module _ (order : Order) (bytes : List ℕ) where
   pub length-keys-messages_of : length (keys (messages_of order bytes)) ≡ message_count order bytes
   length-keys-messages_of = length-map (messages_of order bytes) (λ m. key_of m.original) ∙ length-messages_of
 
-  pub AreRising-messages_of : IsSortedBelow order bytes (message_count order bytes) →
+  pub AreRising-messages_of : AreRisingBelow order bytes (message_count order bytes) →
       AreRising (keys (messages_of order bytes))
   AreRising-messages_of sorted = record {
     next = λ i lt.

@@ -3,7 +3,7 @@ use Rattle.std.specs.Prelude.{◌≡◌, ℕ, ◌+◌, ◌*◌, ◌/◌, ◌<◌
 use Rattle.mo_file.specs.declared.byte_order.Order.{Order}
 use Rattle.mo_file.specs.declared.header.Header.{Header}
 use Rattle.mo_file.specs.Header.{Shows, revision, message_count, originals_table, translations_table}
-use Rattle.mo_file.specs.Fault.{IsOutside, IsUnterminated, IsUnsorted}
+use Rattle.mo_file.specs.Fault.{IsNotRising, IsOutside, IsUnterminated}
 
 -- the file header is that of these bytes, and both tables lie inside the file
 pub record IsHeader (header : Header) (bytes : List ℕ) : Type 0 where
@@ -22,8 +22,8 @@ pub record HasStrings (order : Order) (bytes : List ℕ) : Type 0 where
   pub terminated : (i : ℕ) → i < message_count order bytes → ¬ IsUnterminated order bytes i
 
 -- the keys of the first n messages rise
-abbrev pub IsSortedBelow : Order → List ℕ → ℕ → Type 0
-IsSortedBelow order bytes n = (i : ℕ) → i + 1 < n → ¬ IsUnsorted order bytes i
+abbrev pub AreRisingBelow : Order → List ℕ → ℕ → Type 0
+AreRisingBelow order bytes n = (i : ℕ) → i + 1 < n → ¬ IsNotRising order bytes i
 
 -- the first index below n at which P holds
 abbrev pub IsFirstBelow : (ℕ → Type 0) → ℕ → Option ℕ → Type 0
@@ -34,4 +34,4 @@ IsFirstBelow P n (Some i) = (i < n) × P i × ((k : ℕ) → k < i → ¬ P k)
 pub record IsChecked (header : Header) (bytes : List ℕ) : Type 0 where
   pub read : IsHeader header bytes
   pub strings : HasStrings header.order bytes
-  pub sorted : IsSortedBelow header.order bytes header.count
+  pub sorted : AreRisingBelow header.order bytes header.count

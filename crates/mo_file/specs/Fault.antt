@@ -23,8 +23,8 @@ IsUnterminated order bytes i =
     ⊎ (slice_get bytes (end_at order bytes (translations_table order bytes) i) ≢ Some 0)
 
 -- the key of message i + 1 isn't above that of message i
-abbrev pub IsUnsorted : Order → List ℕ → ℕ → Type 0
-IsUnsorted order bytes i =
+abbrev pub IsNotRising : Order → List ℕ → ℕ → Type 0
+IsNotRising order bytes i =
     key_cmp (key_of (original_at order bytes i)) (key_of (original_at order bytes (i + 1))) ≢ Less
 
 -- the faults after the magic number, of bytes that are read in this order
@@ -38,7 +38,7 @@ HasFaultIn order bytes TableOutside =
 HasFaultIn order bytes (StringOutside i) = (i < message_count order bytes) × IsOutside order bytes i
 HasFaultIn order bytes (NoTerminator i) = (i < message_count order bytes) × IsUnterminated order bytes i
 HasFaultIn order bytes (NotSorted i) =
-    (j : ℕ) × (i ≡ j + 1) × (i < message_count order bytes) × IsUnsorted order bytes j
+    (j : ℕ) × (i ≡ j + 1) × (i < message_count order bytes) × IsNotRising order bytes j
 
 -- these bytes have this fault
 abbrev pub HasFault : List ℕ → MoError → Type 0

@@ -1,6 +1,6 @@
 ghost use Rattle.std.specs.Prelude.{◌≡◌, ◌+◌, ◌-◌, ◌^◌, ◌<◌, ◌↔◌, Some, IfErr, IsTrue, MatchResult, slice_get};
 ghost use Rattle.mo_file.specs.Fault.{IsFirstFault, comparisons_before};
-ghost use Rattle.mo_file.specs.Checking.{HasStrings, IsHeader, IsSortedBelow};
+ghost use Rattle.mo_file.specs.Checking.{AreRisingBelow, HasStrings, IsHeader};
 
 use crate::counting::Meter;
 use crate::fault::MoError;
@@ -43,12 +43,12 @@ fn is_nul(bytes: &[u8], at: usize) -> bool
 }
 
 /// Checks that each key is above the one before it, by one comparison for each two neighbours.
-pub(crate) fn check_order(header: Header, bytes: &[u8], meter: &mut Meter) -> Result<(), MoError>
+pub(crate) fn check_keys(header: Header, bytes: &[u8], meter: &mut Meter) -> Result<(), MoError>
     requires read { IsHeader header bytes.now }
     requires strings { HasStrings header.order bytes.now }
     requires room { meter.old < 2 ^ 63 }
     ensures sorted { MatchResult result
-        (λ _. IsSortedBelow header.order bytes.now header.count)
+        (λ _. AreRisingBelow header.order bytes.now header.count)
         (IsFirstFault bytes.now) }
     ensures cost { MatchResult result
         (λ _. meter.new ≡ meter.old + (header.count - 1))

@@ -11,8 +11,8 @@ use crate::fault::MoError;
 /// The length of the file header in bytes: seven words of 4.
 pub(crate) const HEADER_LEN: u32 = 28;
 
-/// How many bytes a table has for a string: a word for its length, and one for its offset.
-pub(crate) const ENTRY_LEN: u32 = 8;
+/// The length of the descriptor of a string in a table: a word for its length, one for its offset.
+pub(crate) const DESCRIPTOR_LEN: u32 = 8;
 
 /// The words of the file header that say where the strings of a file stand.
 #[derive(Clone, Copy)]
@@ -44,7 +44,7 @@ impl Header {
         let count = word(order, bytes, 8);
         let originals = word(order, bytes, 12);
         let translations = word(order, bytes, 16);
-        let table_len = ENTRY_LEN as usize * count as usize;
+        let table_len = DESCRIPTOR_LEN as usize * count as usize;
         if originals as usize + table_len > bytes.len()
             || translations as usize + table_len > bytes.len()
         {

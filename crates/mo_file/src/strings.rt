@@ -4,7 +4,7 @@ ghost use Rattle.mo_file.specs.StringTable.{end_at, offset_at, original_at, stri
 ghost use Rattle.mo_file.specs.Checking.{HasStrings, IsHeader};
 
 use crate::byte_order::{Order, word};
-use crate::header::{ENTRY_LEN, Header};
+use crate::header::{DESCRIPTOR_LEN, Header};
 use std::ops::Range;
 
 /// Where string `i` of a table stands, in bytes from the start of the file.
@@ -13,9 +13,9 @@ pub(crate) fn range_at(order: Order, bytes: &[u8], table: u32, i: u32) -> Range<
     ensures start { result.start ≡ offset_at order bytes.now table i }
     ensures end { result.end ≡ end_at order bytes.now table i }
 {
-    let entry = table as usize + ENTRY_LEN as usize * i as usize;
-    let len = word(order, bytes, entry) as usize;
-    let start = word(order, bytes, entry + 4) as usize;
+    let descriptor = table as usize + DESCRIPTOR_LEN as usize * i as usize;
+    let len = word(order, bytes, descriptor) as usize;
+    let start = word(order, bytes, descriptor + 4) as usize;
     start..start + len
 }
 

@@ -6,7 +6,7 @@ ghost use Rattle.mo_file.specs.Fault.{IsFirstFault, comparisons_before};
 ghost use Rattle.mo_file.specs.Key.{AreRising, key_at, key_cmp, keys, query_key};
 ghost use Rattle.mo_file.specs.Message.{Message, originals, translations};
 
-use crate::checking::{check_order, check_strings};
+use crate::checking::{check_keys, check_strings};
 use crate::counting::Meter;
 use crate::fault::MoError;
 use crate::header::Header;
@@ -57,7 +57,7 @@ impl<'a> MoView<'a> {
     {
         let header = Header::read(bytes)?;
         check_strings(header, bytes)?;
-        check_order(header, bytes, meter)?;
+        check_keys(header, bytes, meter)?;
         Ok(MoView { bytes, header })
     }
 

@@ -3,7 +3,7 @@ ghost use Rattle.mo_file.specs.Layout.{header, table, terminated};
 ghost use Rattle.mo_file.specs.Pairs.{strings_of};
 
 use crate::byte_order::{BIG_MAGIC, LITTLE_MAGIC, Order, push_word};
-use crate::header::{ENTRY_LEN, HEADER_LEN};
+use crate::header::{DESCRIPTOR_LEN, HEADER_LEN};
 use crate::pairs::{LentPair, Part};
 use std::alloc::AllocError;
 
@@ -12,7 +12,7 @@ pub(crate) fn originals_offset(count: u32) -> u32
     requires { 28 + 16 * count < 2 ^ 32 }
     ensures { result ≡ 28 + 16 * count }
 {
-    HEADER_LEN + 2 * ENTRY_LEN * count
+    HEADER_LEN + 2 * DESCRIPTOR_LEN * count
 }
 
 /// Appends the file header of a file of so many messages.
@@ -28,7 +28,7 @@ pub(crate) fn push_header(out: &mut Vec<u8>, order: Order, count: u32) -> Result
     push_word(out, order, 0)?;
     push_word(out, order, count)?;
     push_word(out, order, HEADER_LEN)?;
-    push_word(out, order, HEADER_LEN + ENTRY_LEN * count)?;
+    push_word(out, order, HEADER_LEN + DESCRIPTOR_LEN * count)?;
     push_word(out, order, 0)?;
     push_word(out, order, originals_offset(count))
 }

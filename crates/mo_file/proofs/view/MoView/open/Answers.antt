@@ -5,4 +5,4 @@ use Rattle.mo_file.proofs.view.MoView.open.Goals as goal
 pub returns-clause-cost : goal.returns-clause-cost
 returns-clause-cost c =
     let counted = length-messages_of c.in_ok-header.header.order c.args.bytes.now in
-    omega (arith, c.in_ok-check_order.ensures.cost, c.in_ok-header.ensures.exact.count)
+    omega (arith, c.in_ok-check_keys.ensures.cost, c.in_ok-header.ensures.exact.count)

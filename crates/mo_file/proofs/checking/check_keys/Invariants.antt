@@ -1,12 +1,12 @@
 use Rattle.std.proofs.Common.{◌≡◌, ◌+◌}
 use Rattle.mo_file.specs.Key.{key_of}
 use Rattle.mo_file.specs.StringTable.{original_at}
-use Rattle.mo_file.specs.Checking.{IsSortedBelow}
-use Rattle.mo_file.proofs.checking.check_order.Given as goal
+use Rattle.mo_file.specs.Checking.{AreRisingBelow}
+use Rattle.mo_file.proofs.checking.check_keys.Given as goal
 
 abbrev pub invariant-loop-i : goal.invariant-loop-i
 invariant-loop-i l = record {
-  sorted : IsSortedBelow l.header.order l.bytes (l.i + 1);
+  sorted : AreRisingBelow l.header.order l.bytes (l.i + 1);
   current : key_of l.text ≡ key_of (original_at l.header.order l.bytes l.i);
   cost : l.meter ≡ l.initial.meter + l.i;
 }

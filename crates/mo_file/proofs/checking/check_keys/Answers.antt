@@ -1,6 +1,6 @@
 use Rattle.std.proofs.Common.{arith}
 use Rattle.mo_file.proofs.FaultLemmas.{first_unsorted}
-use Rattle.mo_file.proofs.checking.check_order.Goals as goal
+use Rattle.mo_file.proofs.checking.check_keys.Goals as goal
 
 pub returns-then-not-is_below-clause-sorted : goal.returns-then-not-is_below-clause-sorted
 returns-then-not-is_below-clause-sorted c =
