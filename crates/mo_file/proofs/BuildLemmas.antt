@@ -7,7 +7,7 @@ use Rattle.std.proofs.lemmas.List.Sums.{sum_by-cons}
 use Rattle.mo_file.specs.declared.byte_order.Order.{Order}
 use Rattle.mo_file.specs.declared.byte_order.Order.TheVariants.{Little, Big}
 use Rattle.mo_file.specs.declared.pairs.Pair.{Pair}
-use Rattle.mo_file.specs.Header.{magic}
+use Rattle.mo_file.specs.FileHeader.{magic}
 use Rattle.mo_file.specs.Word.{word_bytes}
 use Rattle.mo_file.specs.Message.{Message, originals, translations}
 use Rattle.mo_file.specs.Layout.{layout, header, table, terminated}

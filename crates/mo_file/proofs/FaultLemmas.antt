@@ -6,8 +6,8 @@ use Rattle.mo_file.specs.declared.byte_order.Order.TheVariants.{Little, Big}
 use Rattle.mo_file.specs.declared.fault.MoError.{MoError}
 use Rattle.mo_file.specs.declared.fault.MoError.TheVariants.{TooShort, BadMagic, BadRevision, TableOutside}
 use Rattle.mo_file.specs.declared.fault.MoError.TheVariants.{StringOutside, NoTerminator, NotSorted}
-use Rattle.mo_file.specs.declared.header.Header.{Header}
-use Rattle.mo_file.specs.Header.{Shows, message_count, originals_table, translations_table}
+use Rattle.mo_file.specs.declared.file_header.FileHeader.{FileHeader}
+use Rattle.mo_file.specs.FileHeader.{Shows, message_count, originals_table, translations_table}
 use Rattle.mo_file.specs.Message.{Message}
 use Rattle.mo_file.specs.Catalog.{IsCatalog}
 use Rattle.mo_file.specs.Fault.{HasFault, HasFaultIn, IsFirstFault, IsNotRising}
@@ -31,7 +31,7 @@ HasFaultIn-shown bytes order f shows fault =
     let P : Order → Type 0 = λ o. HasFaultIn o bytes f in
     subst P (Shows-unique bytes order fault.0 shows fault.1) fault.2
 
-module _ (header : Header) (bytes : List ℕ) (read : IsHeader header bytes) (strings : HasStrings header.order bytes) where
+module _ (header : FileHeader) (bytes : List ℕ) (read : IsHeader header bytes) (strings : HasStrings header.order bytes) where
   shown : (f : MoError) → ((order' : Order) × Shows order' bytes × HasFaultIn order' bytes f) →
       HasFaultIn header.order bytes f
   shown f fault = HasFaultIn-shown bytes header.order f read.shows fault
@@ -68,7 +68,7 @@ module _ (header : Header) (bytes : List ℕ) (read : IsHeader header bytes) (st
   faultless sorted f has = let fault = only_keys f has in sorted fault.0 fault.2 fault.3
 
 -- a header that was read from a valid file is that of a file that has been checked
-pub checked : (header : Header) (bytes : List ℕ) (messages : List Message) → IsCatalog header.order bytes messages →
+pub checked : (header : FileHeader) (bytes : List ℕ) (messages : List Message) → IsCatalog header.order bytes messages →
     header.count ≡ message_count header.order bytes → header.originals ≡ originals_table header.order bytes →
     header.translations ≡ translations_table header.order bytes → IsChecked header bytes
 checked header bytes messages valid count originals translations =

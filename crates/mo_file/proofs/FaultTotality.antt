@@ -7,7 +7,7 @@ use Rattle.mo_file.specs.declared.byte_order.Order.{Order}
 use Rattle.mo_file.specs.declared.byte_order.Order.TheVariants.{Little, Big}
 use Rattle.mo_file.specs.declared.fault.MoError.{MoError}
 use Rattle.mo_file.specs.declared.fault.MoError.TheVariants.{TooShort, BadMagic, BadRevision, TableOutside, StringOutside, NoTerminator, NotSorted}
-use Rattle.mo_file.specs.Header.{Shows, magic, revision, message_count, originals_table, translations_table}
+use Rattle.mo_file.specs.FileHeader.{Shows, magic, revision, message_count, originals_table, translations_table}
 use Rattle.mo_file.specs.StringTable.{end_at, original_at, messages_of}
 use Rattle.mo_file.specs.Key.{key_of, key_cmp}
 use Rattle.mo_file.specs.Message.{Message}

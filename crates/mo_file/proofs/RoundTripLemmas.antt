@@ -6,9 +6,9 @@ use Rattle.std.specs.Option.{option_map}
 use Rattle.std.proofs.lemmas.List.{append-nil, length-map, take_at}
 use Rattle.std.proofs.lemmas.Option.{slice_get-map, slice_get_cases, slice_get_past}
 use Rattle.mo_file.specs.declared.byte_order.Order.{Order}
-use Rattle.mo_file.specs.declared.header.Header.{Header}
+use Rattle.mo_file.specs.declared.file_header.FileHeader.{FileHeader}
 use Rattle.mo_file.specs.Word.{word_bytes}
-use Rattle.mo_file.specs.Header.{Shows, magic, revision, message_count, originals_table, translations_table}
+use Rattle.mo_file.specs.FileHeader.{Shows, magic, revision, message_count, originals_table, translations_table}
 use Rattle.mo_file.specs.Message.{Message, originals, translations}
 use Rattle.mo_file.specs.Key.{AreRising, keys}
 use Rattle.mo_file.specs.StringTable.{messages_of, message_at}
@@ -172,7 +172,7 @@ module _ (order : Order) (messages : List Message) where
     lists = same_at_each messages (messages_of order bytes) at_each
 
     -- what the header of the layout is read as
-    abbrev read_header : Header
+    abbrev read_header : FileHeader
     read_header = record { order = order; count = count; originals = 28; translations = 28 + 8 * count }
 
     header_read : IsHeader read_header bytes

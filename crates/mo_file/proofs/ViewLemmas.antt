@@ -10,7 +10,7 @@ use Rattle.std.proofs.lemmas.Option.{slice_get-map, slice_get-get_or, get_or_fro
 use Rattle.mo_file.specs.declared.byte_order.Order.{Order}
 use Rattle.mo_file.specs.Message.{Message}
 use Rattle.mo_file.specs.Key.{key_of, keys, key_at, AreRising}
-use Rattle.mo_file.specs.Header.{message_count}
+use Rattle.mo_file.specs.FileHeader.{message_count}
 use Rattle.mo_file.specs.StringTable.{message_at, messages_of, original_at}
 use Rattle.mo_file.specs.Checking.{AreRisingBelow}
 

@@ -2,7 +2,7 @@
 use Rattle.std.specs.Prelude.{◌≡◌, ℕ, List}
 use Rattle.mo_file.specs.declared.byte_order.Order.{Order}
 use Rattle.mo_file.specs.declared.fault.MoError.{MoError}
-use Rattle.mo_file.specs.Header.{Shows}
+use Rattle.mo_file.specs.FileHeader.{Shows}
 use Rattle.mo_file.specs.StringTable.{messages_of}
 use Rattle.mo_file.specs.Fault.{HasFault}
 use Rattle.mo_file.specs.Message.{Message}

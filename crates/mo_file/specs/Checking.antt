@@ -1,12 +1,12 @@
 -- Internal: what has been checked of a file while it is opened.
 use Rattle.std.specs.Prelude.{◌≡◌, ℕ, ◌+◌, ◌*◌, ◌/◌, ◌<◌, ◌≤◌, List, length, Option, None, Some}
 use Rattle.mo_file.specs.declared.byte_order.Order.{Order}
-use Rattle.mo_file.specs.declared.header.Header.{Header}
-use Rattle.mo_file.specs.Header.{Shows, revision, message_count, originals_table, translations_table}
+use Rattle.mo_file.specs.declared.file_header.FileHeader.{FileHeader}
+use Rattle.mo_file.specs.FileHeader.{Shows, revision, message_count, originals_table, translations_table}
 use Rattle.mo_file.specs.Fault.{IsNotRising, IsOutside, IsUnterminated}
 
 -- the file header is that of these bytes, and both tables lie inside the file
-pub record IsHeader (header : Header) (bytes : List ℕ) : Type 0 where
+pub record IsHeader (header : FileHeader) (bytes : List ℕ) : Type 0 where
   pub long : 28 ≤ length bytes
   pub shows : Shows header.order bytes
   pub known : revision header.order bytes / 65536 ≤ 1
@@ -31,7 +31,7 @@ IsFirstBelow P n None = (k : ℕ) → k < n → ¬ P k
 IsFirstBelow P n (Some i) = (i < n) × P i × ((k : ℕ) → k < i → ¬ P k)
 
 -- all of the file has been checked
-pub record IsChecked (header : Header) (bytes : List ℕ) : Type 0 where
+pub record IsChecked (header : FileHeader) (bytes : List ℕ) : Type 0 where
   pub read : IsHeader header bytes
   pub strings : HasStrings header.order bytes
   pub sorted : AreRisingBelow header.order bytes header.count

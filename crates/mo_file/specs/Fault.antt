@@ -6,7 +6,7 @@ use Rattle.mo_file.specs.declared.byte_order.Order.{Order}
 use Rattle.mo_file.specs.declared.fault.MoError.{MoError}
 use Rattle.mo_file.specs.declared.fault.MoError.TheVariants.{TooShort, BadMagic, BadRevision, TableOutside}
 use Rattle.mo_file.specs.declared.fault.MoError.TheVariants.{StringOutside, NoTerminator, NotSorted}
-use Rattle.mo_file.specs.Header.{Shows, revision, message_count, originals_table, translations_table}
+use Rattle.mo_file.specs.FileHeader.{Shows, revision, message_count, originals_table, translations_table}
 use Rattle.mo_file.specs.StringTable.{end_at, original_at}
 use Rattle.mo_file.specs.Key.{key_of, key_cmp}
 

@@ -3,7 +3,7 @@
 use Rattle.std.specs.Prelude.{ℕ, ◌+◌, ◌*◌, ◌^◌, ◌<◌, List, [], ◌∷◌, ◌++◌, length}
 use Rattle.mo_file.specs.declared.byte_order.Order.{Order}
 use Rattle.mo_file.specs.Word.{word_bytes}
-use Rattle.mo_file.specs.Header.{magic}
+use Rattle.mo_file.specs.FileHeader.{magic}
 use Rattle.mo_file.specs.Message.{Message, originals, translations}
 
 -- the strings, each with its NUL

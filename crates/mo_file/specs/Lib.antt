@@ -2,7 +2,7 @@ pub mod Message
 pub mod Key
 pub mod Agreement
 pub mod Word
-pub mod Header
+pub mod FileHeader
 pub mod StringTable
 pub mod Fault
 pub mod Catalog

@@ -4,7 +4,7 @@ use Rattle.std.specs.Prelude.{ℕ, ◌+◌, ◌*◌, List, map}
 use Rattle.std.specs.List.{range_with_len, slice_range}
 use Rattle.mo_file.specs.declared.byte_order.Order.{Order}
 use Rattle.mo_file.specs.Word.{word_at}
-use Rattle.mo_file.specs.Header.{message_count, originals_table, translations_table}
+use Rattle.mo_file.specs.FileHeader.{message_count, originals_table, translations_table}
 use Rattle.mo_file.specs.Message.{Message}
 
 -- where string i of a table begins

@@ -5,7 +5,7 @@ ghost use Rattle.mo_file.specs.Layout.{LayoutFits, layout};
 ghost use Rattle.mo_file.specs.Pairs.{messages_of_lent, messages_of_pairs};
 
 use crate::byte_order::Order;
-use crate::header::HEADER_LEN;
+use crate::file_header::HEADER_LEN;
 use crate::pairs::{LentPair, Pair, Part, are_rising, lend};
 use crate::writing::{originals_offset, push_header, push_strings, push_table};
 use std::alloc::{AllocError, Global};

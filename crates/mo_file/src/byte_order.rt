@@ -1,5 +1,5 @@
 ghost use Rattle.std.specs.Prelude.{◌≡◌, ◌+◌, ◌≤◌, ◌++◌, length, MatchOption, OnOk};
-ghost use Rattle.mo_file.specs.Header.{Shows};
+ghost use Rattle.mo_file.specs.FileHeader.{Shows};
 ghost use Rattle.mo_file.specs.Word.{word_at, word_bytes};
 
 use byteorder::{BigEndian, ByteOrder, LittleEndian};

@@ -4,13 +4,13 @@ ghost use Rattle.mo_file.specs.Checking.{AreRisingBelow, HasStrings, IsHeader};
 
 use crate::counting::Meter;
 use crate::fault::MoError;
-use crate::header::Header;
+use crate::file_header::FileHeader;
 use crate::key::is_below;
 use crate::strings::{range_at, rest_at};
 
 /// Checks that each string lies inside the file and that a NUL follows it. A string outside the
 /// file is reported before a missing NUL, whichever message has it.
-pub(crate) fn check_strings(header: Header, bytes: &[u8]) -> Result<(), MoError>
+pub(crate) fn check_strings(header: FileHeader, bytes: &[u8]) -> Result<(), MoError>
     requires { IsHeader header bytes.now }
     ensures exact { MatchResult result
         (λ _. HasStrings header.order bytes.now)
@@ -43,7 +43,7 @@ fn is_nul(bytes: &[u8], at: usize) -> bool
 }
 
 /// Checks that each key is above the one before it, by one comparison for each two neighbours.
-pub(crate) fn check_keys(header: Header, bytes: &[u8], meter: &mut Meter) -> Result<(), MoError>
+pub(crate) fn check_keys(header: FileHeader, bytes: &[u8], meter: &mut Meter) -> Result<(), MoError>
     requires read { IsHeader header bytes.now }
     requires strings { HasStrings header.order bytes.now }
     requires room { meter.old < 2 ^ 63 }

@@ -7,7 +7,7 @@
 //! rising order of their keys. A [`Meter`] counts the looks at originals, so that a search can
 //! promise how few it needs.
 //!
-//! To read a file: `fault`, `byte_order`, `header`, `strings`, `agreement`, `key`, `counting`,
+//! To read a file: `fault`, `byte_order`, `file_header`, `strings`, `agreement`, `key`, `counting`,
 //! `checking`, `view`. To build one: `pairs`, `writing`, `building`. Then `laws`.
 
 #![tactic(auto)]
@@ -18,7 +18,7 @@ mod byte_order;
 mod checking;
 mod counting;
 mod fault;
-mod header;
+mod file_header;
 mod key;
 mod laws;
 mod pairs;

@@ -4,7 +4,7 @@ ghost use Rattle.mo_file.specs.StringTable.{end_at, offset_at, original_at, stri
 ghost use Rattle.mo_file.specs.Checking.{HasStrings, IsHeader};
 
 use crate::byte_order::{Order, word};
-use crate::header::{DESCRIPTOR_LEN, Header};
+use crate::file_header::{DESCRIPTOR_LEN, FileHeader};
 use std::ops::Range;
 
 /// Where string `i` of a table stands, in bytes from the start of the file.
@@ -30,7 +30,7 @@ fn string_at(order: Order, bytes: &[u8], table: u32, i: u32) -> &[u8]
 }
 
 /// The original of message `i`.
-pub(crate) fn original_at(header: Header, bytes: &[u8], i: u32) -> &[u8]
+pub(crate) fn original_at(header: FileHeader, bytes: &[u8], i: u32) -> &[u8]
     requires read { IsHeader header bytes.now }
     requires strings { HasStrings header.order bytes.now }
     requires counted { i < header.count }
@@ -40,7 +40,7 @@ pub(crate) fn original_at(header: Header, bytes: &[u8], i: u32) -> &[u8]
 }
 
 /// The translation of message `i`.
-pub(crate) fn translation_at(header: Header, bytes: &[u8], i: u32) -> &[u8]
+pub(crate) fn translation_at(header: FileHeader, bytes: &[u8], i: u32) -> &[u8]
     requires read { IsHeader header bytes.now }
     requires strings { HasStrings header.order bytes.now }
     requires counted { i < header.count }
@@ -52,7 +52,7 @@ pub(crate) fn translation_at(header: Header, bytes: &[u8], i: u32) -> &[u8]
 /// The rest of the file from the original of message `i` on, where the NUL after it ends its key.
 #[tactic(auto, using(crate::proofs::KeyComparison::key_of_rest), unfolding(crate::specs::StringTable::string_at))]
 #[inline(always)]
-pub(crate) fn rest_at(header: Header, bytes: &[u8], i: u32) -> &[u8]
+pub(crate) fn rest_at(header: FileHeader, bytes: &[u8], i: u32) -> &[u8]
     requires read { IsHeader header bytes.now }
     requires strings { HasStrings header.order bytes.now }
     requires counted { i < header.count }

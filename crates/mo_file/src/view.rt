@@ -9,7 +9,7 @@ ghost use Rattle.mo_file.specs.Message.{Message, originals, translations};
 use crate::checking::{check_keys, check_strings};
 use crate::counting::Meter;
 use crate::fault::MoError;
-use crate::header::Header;
+use crate::file_header::FileHeader;
 use crate::key::compare_key;
 use crate::strings::{original_at, rest_at, translation_at};
 use std::cmp::Ordering;
@@ -20,7 +20,7 @@ use std::marker::Model;
 #[derive(Drop)]
 pub struct MoView<'a> {
     bytes: &'a [u8],
-    header: Header,
+    header: FileHeader,
 }
 
 impl<'a> Model for MoView<'a> {
@@ -55,7 +55,7 @@ impl<'a> MoView<'a> {
             (λ messages. meter.new ≡ meter.old + (length messages - 1))
             (λ e. meter.new ≡ meter.old + comparisons_before e) }
     {
-        let header = Header::read(bytes)?;
+        let header = FileHeader::read(bytes)?;
         check_strings(header, bytes)?;
         check_keys(header, bytes, meter)?;
         Ok(MoView { bytes, header })
@@ -70,7 +70,7 @@ impl<'a> MoView<'a> {
     {
         MoView {
             bytes,
-            header: Header::of_checked(bytes),
+            header: FileHeader::of_checked(bytes),
         }
     }
 

@@ -3,7 +3,7 @@ ghost use Rattle.mo_file.specs.Layout.{header, table, terminated};
 ghost use Rattle.mo_file.specs.Pairs.{strings_of};
 
 use crate::byte_order::{BIG_MAGIC, LITTLE_MAGIC, Order, push_word};
-use crate::header::{DESCRIPTOR_LEN, HEADER_LEN};
+use crate::file_header::{DESCRIPTOR_LEN, HEADER_LEN};
 use crate::pairs::{LentPair, Part};
 use std::alloc::AllocError;
 

@@ -16,7 +16,7 @@ pub(crate) const DESCRIPTOR_LEN: u32 = 8;
 
 /// The words of the file header that say where the strings of a file stand.
 #[derive(Clone, Copy)]
-pub(crate) struct Header {
+pub(crate) struct FileHeader {
     pub(crate) order: Order,
     /// The number of messages.
     pub(crate) count: u32,
@@ -26,9 +26,9 @@ pub(crate) struct Header {
     pub(crate) translations: u32,
 }
 
-impl Header {
+impl FileHeader {
     /// Reads the file header, and checks that both tables lie inside the file.
-    pub(crate) fn read(bytes: &[u8]) -> Result<Header, MoError>
+    pub(crate) fn read(bytes: &[u8]) -> Result<FileHeader, MoError>
         ensures exact { MatchResult result
             (λ header. IsHeader header bytes.now)
             (IsFirstFault bytes.now) }
@@ -50,7 +50,7 @@ impl Header {
         {
             return Err(MoError::TableOutside);
         }
-        Ok(Header {
+        Ok(FileHeader {
             order,
             count,
             originals,
@@ -59,13 +59,13 @@ impl Header {
     }
 
     /// Reads the file header of a file that has been checked, and checks nothing.
-    pub(crate) fn of_checked(bytes: &[u8]) -> Header
+    pub(crate) fn of_checked(bytes: &[u8]) -> FileHeader
         requires { (order : Order) × (messages : List Message) × IsCatalog order bytes.now messages }
         ensures { (order : Order) (messages : List Message) → IsCatalog order bytes.now messages
             → (result.order ≡ order) × IsChecked result bytes.now }
     {
         let order = Order::of_checked(bytes);
-        Header {
+        FileHeader {
             order,
             count: word(order, bytes, 8),
             originals: word(order, bytes, 12),

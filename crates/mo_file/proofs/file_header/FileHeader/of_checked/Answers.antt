@@ -2,7 +2,7 @@ use Rattle.std.proofs.Common.{arith, sym, subst}
 use Rattle.mo_file.specs.declared.fault.MoError.TheVariants.{TooShort}
 use Rattle.mo_file.specs.Catalog.{IsCatalog}
 use Rattle.mo_file.proofs.FaultLemmas.{checked, not_below}
-use Rattle.mo_file.proofs.header.Header.of_checked.Goals as goal
+use Rattle.mo_file.proofs.file_header.FileHeader.of_checked.Goals as goal
 
 pub of_checked-order-requires : goal.of_checked-order-requires
 of_checked-order-requires c = (c.requires.0, c.requires.2.shows)
