@@ -7,9 +7,9 @@ use Rattle.std.proofs.lemmas.List.{take_all, drop-drop}
 use Rattle.std.proofs.lemmas.List.Splits.{slice_split_first, slice_split-cons_no}
 use Rattle.std.proofs.lemmas.List.Sums.{take_while-cons}
 use Rattle.memchr.specs.Find.{is_byte}
-use Rattle.po_shell.specs.Locales.{non_empty, locale_of, has_slash, languages, candidates_in, candidates_of, is_untranslated, before, from_first, variants, is_path_part, language_parts, with_name}
+use Rattle.po_shell.specs.Locales.{non_empty, locale_of, has_slash, languages, candidates_in, candidates_of, is_untranslated, before, from_first, candidates_of_name, is_path_part, language_parts, with_name}
 use Rattle.po_shell.specs.declared.locale.candidates.Environment.{Environment}
-use Rattle.po_shell.specs.LocaleSteps.{variants_in}
+use Rattle.po_shell.specs.LocaleSteps.{candidates_of_part}
 use Rattle.po_shell.proofs.SearchLemmas.{byte-here, byte-later}
 
 pub map-append : {V : Type 0} (f : V → List ℕ) (items : List V) (v : V) → map f (items ++ v ∷ []) ≡ map f items ++ f v ∷ []
@@ -22,8 +22,8 @@ five-more (n ∷ ns) a b c d e = ap (λ l. n ∷ l) (five-more ns a b c d e)
 
 -- the five names of a locale, one after another
 pub five-names : (name modifier unmodified base language : List ℕ) (n0 n1 n2 n3 n4 n5 : List (List ℕ)) → modifier ≡ from_first 64 name → unmodified ≡ before 64 name → base ≡ before 46 unmodified → language ≡ before 95 base
-    → n1 ≡ n0 ++ (name ++ []) ∷ [] → n2 ≡ n1 ++ (base ++ modifier) ∷ [] → n3 ≡ n2 ++ (language ++ modifier) ∷ [] → n4 ≡ n3 ++ (base ++ []) ∷ [] → n5 ≡ n4 ++ (language ++ []) ∷ [] → n5 ≡ n0 ++ variants name
-unfolding variants
+    → n1 ≡ n0 ++ (name ++ []) ∷ [] → n2 ≡ n1 ++ (base ++ modifier) ∷ [] → n3 ≡ n2 ++ (language ++ modifier) ∷ [] → n4 ≡ n3 ++ (base ++ []) ∷ [] → n5 ≡ n4 ++ (language ++ []) ∷ [] → n5 ≡ n0 ++ candidates_of_name name
+unfolding candidates_of_name
 five-names name modifier unmodified base language n0 n1 n2 n3 n4 n5 m u b l e1 e2 e3 e4 e5 =
     let a1 = append-nil name in
     let a2 = append-nil base in
@@ -45,30 +45,30 @@ split-last (b ∷ bs) e = elim (cases_Bool (eqb b 58)) [
 ]
 
 -- the candidates of a part that counts, and those after it
-counted-next : (part : List ℕ) (parts : List (List ℕ)) → flat_map variants (filter is_path_part (part ∷ parts)) ≡ variants_in part ++ flat_map variants (filter is_path_part parts)
+counted-next : (part : List ℕ) (parts : List (List ℕ)) → flat_map candidates_of_name (filter is_path_part (part ∷ parts)) ≡ candidates_of_part part ++ flat_map candidates_of_name (filter is_path_part parts)
 counted-next part parts = elim (cases_Bool (is_path_part part)) [
-  | inl e ↦ ap (flat_map variants) (cond-true (is_path_part part) (part ∷ filter is_path_part parts) (filter is_path_part parts) e) ∙ ap (λ l. l ++ flat_map variants (filter is_path_part parts)) (sym (cond-true (is_path_part part) (variants part) [] e))
-  | inr e ↦ ap (flat_map variants) (cond-false (is_path_part part) (part ∷ filter is_path_part parts) (filter is_path_part parts) e) ∙ ap (λ l. l ++ flat_map variants (filter is_path_part parts)) (sym (cond-false (is_path_part part) (variants part) [] e))
+  | inl e ↦ ap (flat_map candidates_of_name) (cond-true (is_path_part part) (part ∷ filter is_path_part parts) (filter is_path_part parts) e) ∙ ap (λ l. l ++ flat_map candidates_of_name (filter is_path_part parts)) (sym (cond-true (is_path_part part) (candidates_of_name part) [] e))
+  | inr e ↦ ap (flat_map candidates_of_name) (cond-false (is_path_part part) (part ∷ filter is_path_part parts) (filter is_path_part parts) e) ∙ ap (λ l. l ++ flat_map candidates_of_name (filter is_path_part parts)) (sym (cond-false (is_path_part part) (candidates_of_name part) [] e))
 ]
 
 -- a part, and those after it
 abbrev counts : List ℕ → Bool
 counts part = not (is_untranslated part)
 
-pub parts-next : (bs : List ℕ) (n : ℕ) → n ≡ position_or_len (is_byte 58) bs → n < length bs → is_untranslated (take n bs) ≡ false → flat_map variants (language_parts bs) ≡ variants_in (take n bs) ++ flat_map variants (language_parts (drop (n + 1) bs))
+pub parts-next : (bs : List ℕ) (n : ℕ) → n ≡ position_or_len (is_byte 58) bs → n < length bs → is_untranslated (take n bs) ≡ false → flat_map candidates_of_name (language_parts bs) ≡ candidates_of_part (take n bs) ++ flat_map candidates_of_name (language_parts (drop (n + 1) bs))
 unfolding language_parts
 parts-next bs n index l goes =
-    ap (λ parts. flat_map variants (filter is_path_part (take_while counts parts))) (split-next bs n index l)
-    ∙ ap (λ parts. flat_map variants (filter is_path_part parts)) (take_while-cons counts (take n bs) (slice_split (is_byte 58) (drop (n + 1) bs)) ∙ cond-true (counts (take n bs)) _ _ (ap not goes))
+    ap (λ parts. flat_map candidates_of_name (filter is_path_part (take_while counts parts))) (split-next bs n index l)
+    ∙ ap (λ parts. flat_map candidates_of_name (filter is_path_part parts)) (take_while-cons counts (take n bs) (slice_split (is_byte 58) (drop (n + 1) bs)) ∙ cond-true (counts (take n bs)) _ _ (ap not goes))
     ∙ counted-next (take n bs) (take_while counts (slice_split (is_byte 58) (drop (n + 1) bs)))
 
-pub parts-last : (bs : List ℕ) (n : ℕ) → n ≡ position_or_len (is_byte 58) bs → n ≡ length bs → is_untranslated (take n bs) ≡ false → flat_map variants (language_parts bs) ≡ variants_in (take n bs)
+pub parts-last : (bs : List ℕ) (n : ℕ) → n ≡ position_or_len (is_byte 58) bs → n ≡ length bs → is_untranslated (take n bs) ≡ false → flat_map candidates_of_name (language_parts bs) ≡ candidates_of_part (take n bs)
 unfolding language_parts
 parts-last bs n index end goes =
     let whole : take n bs ≡ bs = take_all n bs (omega (arith, end)) in
-    ap (λ parts. flat_map variants (filter is_path_part (take_while counts parts))) (split-last bs (sym index ∙ end) ∙ ap (λ part. part ∷ []) (sym whole))
-    ∙ ap (λ parts. flat_map variants (filter is_path_part parts)) (take_while-cons counts (take n bs) [] ∙ cond-true (counts (take n bs)) _ _ (ap not goes))
-    ∙ counted-next (take n bs) [] ∙ append-nil (variants_in (take n bs))
+    ap (λ parts. flat_map candidates_of_name (filter is_path_part (take_while counts parts))) (split-last bs (sym index ∙ end) ∙ ap (λ part. part ∷ []) (sym whole))
+    ∙ ap (λ parts. flat_map candidates_of_name (filter is_path_part parts)) (take_while-cons counts (take n bs) [] ∙ cond-true (counts (take n bs)) _ _ (ap not goes))
+    ∙ counted-next (take n bs) [] ∙ append-nil (candidates_of_part (take n bs))
 
 pub parts-stop : (bs : List ℕ) (n : ℕ) → n ≡ position_or_len (is_byte 58) bs → n ≤ length bs → is_untranslated (take n bs) ≡ true → language_parts bs ≡ []
 unfolding language_parts
@@ -99,12 +99,12 @@ candidates-barred env locale some barred =
     ∙ cond-true (is_untranslated locale || has_slash locale) _ _ (elim barred [ inl e ↦ or_left _ _ e | inr e ↦ or_right _ _ e ])
 
 pub candidates-some : (env : Environment) (locale : List ℕ) (language : Option (List ℕ)) → locale_of env ≡ Some locale → is_untranslated locale ≡ false → has_slash locale ≡ false → non_empty env.language ≡ language
-    → candidates_of env ≡ fold with_name [] (flat_map variants (languages language locale))
+    → candidates_of env ≡ fold with_name [] (flat_map candidates_of_name (languages language locale))
 unfolding candidates_of
 candidates-some env locale language some fine plain is =
     ap (candidates_in (non_empty env.language)) some
     ∙ cond-false (is_untranslated locale || has_slash locale) _ _ (or_from _ _ fine plain)
-    ∙ ap (λ l. fold with_name [] (flat_map variants (languages l locale))) is
+    ∙ ap (λ l. fold with_name [] (flat_map candidates_of_name (languages l locale))) is
 
 -- and where it is the last part
 pub names-last : (names more all : List (List ℕ)) (part whole : List (List ℕ)) → names ++ whole ≡ all → whole ≡ part → more ≡ names ++ part → more ≡ all
@@ -114,19 +114,19 @@ pub names-stop : (names all : List (List ℕ)) (whole : List (List ℕ)) → nam
 names-stop names all whole inv e = sym (append-nil names) ∙ ap (λ l. names ++ l) (sym e) ∙ inv
 
 -- the same, by what stands before the separator and from it on
-pub split-stop : (rest part after : List ℕ) (n : ℕ) → part ≡ take n rest → n ≡ position_or_len (is_byte 58) rest → n ≤ length rest → is_untranslated part ≡ true → flat_map variants (language_parts rest) ≡ []
-split-stop rest part after n p index l stops = ap (flat_map variants) (parts-stop rest n index l (ap is_untranslated (sym p) ∙ stops))
+pub split-stop : (rest part after : List ℕ) (n : ℕ) → part ≡ take n rest → n ≡ position_or_len (is_byte 58) rest → n ≤ length rest → is_untranslated part ≡ true → flat_map candidates_of_name (language_parts rest) ≡ []
+split-stop rest part after n p index l stops = ap (flat_map candidates_of_name) (parts-stop rest n index l (ap is_untranslated (sym p) ∙ stops))
 
 pub split-end : (rest part after : List ℕ) (n : ℕ) → part ≡ take n rest → after ≡ drop n rest → n ≡ position_or_len (is_byte 58) rest → n ≤ length rest → is_untranslated part ≡ false → eqb (length after) 0 ≡ true
-    → flat_map variants (language_parts rest) ≡ variants_in part
+    → flat_map candidates_of_name (language_parts rest) ≡ candidates_of_part part
 split-end rest part after n p b index l goes none =
     let past : n ≡ length rest = omega (arith, eqb-true (length after) 0 none, ap length b, length-drop n rest, l) in
-    parts-last rest n index past (ap is_untranslated (sym p) ∙ goes) ∙ ap variants_in (sym p)
+    parts-last rest n index past (ap is_untranslated (sym p) ∙ goes) ∙ ap candidates_of_part (sym p)
 
 pub split-more : (rest part after : List ℕ) (n : ℕ) → part ≡ take n rest → after ≡ drop n rest → n ≡ position_or_len (is_byte 58) rest → is_untranslated part ≡ false → eqb (length after) 0 ≡ false
-    → flat_map variants (language_parts rest) ≡ variants_in part ++ flat_map variants (language_parts (drop 1 after))
+    → flat_map candidates_of_name (language_parts rest) ≡ candidates_of_part part ++ flat_map candidates_of_name (language_parts (drop 1 after))
 split-more rest part after n p b index goes some =
     let short : n < length rest = omega (arith, eqb-false (length after) 0 some, ap length b, length-drop n rest) in
     parts-next rest n index short (ap is_untranslated (sym p) ∙ goes)
-    ∙ ap (λ l. variants_in l ++ flat_map variants (language_parts (drop (n + 1) rest))) (sym p)
-    ∙ ap (λ l. variants_in part ++ flat_map variants (language_parts l)) (sym (drop-drop 1 n rest) ∙ ap (drop 1) (sym b))
+    ∙ ap (λ l. candidates_of_part l ++ flat_map candidates_of_name (language_parts (drop (n + 1) rest))) (sym p)
+    ∙ ap (λ l. candidates_of_part part ++ flat_map candidates_of_name (language_parts l)) (sym (drop-drop 1 n rest) ∙ ap (drop 1) (sym b))

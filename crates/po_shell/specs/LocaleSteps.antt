@@ -6,10 +6,10 @@ use Rattle.std.specs.Cmp.Lexicographic.{slice_cmp}
 use Rattle.std.specs.Borrow.{Bor}
 use Rattle.std.specs.BTreeSet.{BTreeSet, contains}
 use Rattle.std.specs.Str.{bytes_eq}
-use Rattle.po_shell.specs.Locales.{variants, is_path_part}
+use Rattle.po_shell.specs.Locales.{candidates_of_name, is_path_part}
 
-abbrev pub variants_in : List ℕ → List (List ℕ)
-variants_in part = if is_path_part part then variants part else []
+abbrev pub candidates_of_part : List ℕ → List (List ℕ)
+candidates_of_part part = if is_path_part part then candidates_of_name part else []
 
 -- the tree has just these names
 abbrev pub HasNames : BTreeSet (Bor (List ℕ)) → List (List ℕ) → Type 0

@@ -34,8 +34,8 @@ from_first a name = drop (position_or_len (is_byte a) name) name
 
 -- of L[_T][.C][@M], which is cut at the first `@`, then the first `.`, then the first `_`: the
 -- name, L_T@M, L@M, L_T and L
-unfoldable pub variants : List ℕ → List (List ℕ)
-variants name =
+unfoldable pub candidates_of_name : List ℕ → List (List ℕ)
+candidates_of_name name =
     let modifier = from_first 64 name in
     let base = before 46 (before 64 name) in
     let language = before 95 base in
@@ -66,7 +66,7 @@ languages (Some text) locale = language_parts text
 abbrev pub candidates_in : Option (List ℕ) → Option (List ℕ) → List (List ℕ)
 candidates_in language None = []
 candidates_in language (Some locale) =
-    if is_untranslated locale || has_slash locale then [] else distinct (flat_map variants (languages language locale))
+    if is_untranslated locale || has_slash locale then [] else distinct (flat_map candidates_of_name (languages language locale))
 
 -- the candidates of an environment, the first to be asked first
 unfoldable pub candidates_of : Environment → List (List ℕ)

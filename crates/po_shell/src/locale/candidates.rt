@@ -4,7 +4,7 @@ ghost use Rattle.std.specs.Prelude.{◌≡◌, ◌++◌, ◌∷◌, [], map, fol
 ghost use Rattle.std.specs.List.{flat_map};
 ghost use Rattle.std.specs.Option.{option_map};
 ghost use Rattle.po_shell.specs.Locales as spec;
-ghost use Rattle.po_shell.specs.LocaleSteps.{variants_in};
+ghost use Rattle.po_shell.specs.LocaleSteps.{candidates_of_part};
 
 use crate::fault::ToolFault;
 use crate::search::len_before;
@@ -58,23 +58,23 @@ pub(crate) fn candidate_names(
     if has_slash(locale) {
         return Ok(Vec::new(alloc));
     }
-    let names = names_of(alloc, locale, environment.language)?;
+    let names = candidates_of_languages(alloc, locale, environment.language)?;
     distinct(alloc, &names)
 }
 
 /// The candidates of the languages that are asked for, with repeats: those of LANGUAGE, or else of
 /// the locale.
-fn names_of(
+fn candidates_of_languages(
     alloc: Global,
     locale: &[u8],
     language: Option<&[u8]>,
 ) -> Result<Vec<Vec<u8>>, AllocError>
     ensures { IfOk result (λ v. map (λ name. name.items) v.items
-        ≡ flat_map spec.variants (spec.languages (spec.non_empty language.entry) locale.now)) }
+        ≡ flat_map spec.candidates_of_name (spec.languages (spec.non_empty language.entry) locale.now)) }
 {
     let mut names = Vec::new(alloc);
     match non_empty(language) {
-        None => add_variants(alloc, &mut names, locale)?,
+        None => add_candidates_of_name(alloc, &mut names, locale)?,
         Some(languages) => add_languages(alloc, &mut names, languages)?,
     }
     Ok(names)
@@ -149,7 +149,8 @@ fn add_languages(
     languages: &[u8],
 ) -> Result<(), AllocError>
     ensures { OnOk result (map (λ name. name.items) names.new.items
-        ≡ map (λ name. name.items) names.old.items ++ flat_map spec.variants (spec.language_parts languages.now)) }
+        ≡ map (λ name. name.items) names.old.items
+        ++ flat_map spec.candidates_of_name (spec.language_parts languages.now)) }
 {
     let mut rest = languages;
     loop {
@@ -168,10 +169,10 @@ fn add_languages(
 /// Adds the candidates of one part of LANGUAGE, if it can stand in a path.
 fn add_language(alloc: Global, names: &mut Vec<Vec<u8>>, part: &[u8]) -> Result<(), AllocError>
     ensures { OnOk result (map (λ name. name.items) names.new.items
-        ≡ map (λ name. name.items) names.old.items ++ variants_in part.now) }
+        ≡ map (λ name. name.items) names.old.items ++ candidates_of_part part.now) }
 {
     if is_path_part(part) {
-        add_variants(alloc, names, part)
+        add_candidates_of_name(alloc, names, part)
     } else {
         Ok(())
     }
@@ -181,9 +182,13 @@ fn add_language(alloc: Global, names: &mut Vec<Vec<u8>>, part: &[u8]) -> Result<
 /// `L[_T][@M]`, `L[@M]`, `L[_T]` and `L`. For `sr_RS.UTF-8@latin` they are `sr_RS.UTF-8@latin`,
 /// `sr_RS@latin`, `sr@latin`, `sr_RS` and `sr`. Those that are equal are dropped later, by
 /// `distinct`.
-fn add_variants(alloc: Global, names: &mut Vec<Vec<u8>>, name: &[u8]) -> Result<(), AllocError>
+fn add_candidates_of_name(
+    alloc: Global,
+    names: &mut Vec<Vec<u8>>,
+    name: &[u8],
+) -> Result<(), AllocError>
     ensures { OnOk result (map (λ name. name.items) names.new.items
-        ≡ map (λ name. name.items) names.old.items ++ spec.variants name.now) }
+        ≡ map (λ name. name.items) names.old.items ++ spec.candidates_of_name name.now) }
 {
     let modifier = from_first(b'@', name);
     let base = before(b'.', before(b'@', name));

@@ -1,5 +1,5 @@
 use Rattle.po_shell.proofs.LocaleLemmas.{five-names}
-use Rattle.po_shell.proofs.locale.candidates.add_variants.Goals as goal
+use Rattle.po_shell.proofs.locale.candidates.add_candidates_of_name.Goals as goal
 
 pub returns : goal.returns
 returns c =
