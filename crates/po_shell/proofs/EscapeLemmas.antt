@@ -5,7 +5,7 @@ use Rattle.std.proofs.lemmas.Bool.{cond-false, cases_Bool}
 use Rattle.std.proofs.lemmas.List.{drop_all, take_min}
 use Rattle.memchr.specs.Find.{is_byte}
 use Rattle.po_shell.specs.declared.arguments.escape.Escape.{Escape}
-use Rattle.po_shell.specs.Escapes.{is_octal, octal_run, octal_value, letter_escape, escape_after, unit, units_after, expansion, has_no_newline}
+use Rattle.po_shell.specs.Escapes.{is_octal, octal_prefix, octal_value, letter_escape, escape_after, unit, units_after, expansion, has_no_newline}
 use Rattle.po_shell.proofs.SearchLemmas.{byte-here, byte-later, byte-at}
 
 -- skipped bytes leave the text after them
@@ -122,7 +122,7 @@ none-newline found all bs n e inv index short some is =
     ∙ ap (λ b. found || b) (sym (newline-at bs n index ∙ ap has_no_newline (byte-at 92 bs n index short) ∙ ap (list_any (λ u. is_none u)) units)) ∙ inv
 
 -- an escape by its first byte
-pub escape-first : (bs : List ℕ) → (bs ≡ [] → ⊥) → escape_after bs ≡ cond (is_octal (get_or bs 0 0)) (Some (record { byte = Some (octal_value (octal_run bs)); size = length (octal_run bs) })) (letter_escape (get_or bs 0 0))
+pub escape-first : (bs : List ℕ) → (bs ≡ [] → ⊥) → escape_after bs ≡ cond (is_octal (get_or bs 0 0)) (Some (record { byte = Some (octal_value (octal_prefix bs)); size = length (octal_prefix bs) })) (letter_escape (get_or bs 0 0))
 unfolding escape_after
 escape-first [] some = absurd (some refl)
 escape-first (b ∷ bs) some = refl
@@ -132,8 +132,8 @@ unfolding escape_after
 escape-none bs none = ap escape_after none
 
 -- the first three bytes, or all of them
-pub octal_run-prefix : (bs : List ℕ) (n : ℕ) → n ≡ min (length bs) 3 → take (prefix_len is_octal (take n bs)) (take n bs) ≡ octal_run bs
-octal_run-prefix bs n e =
+pub octal_prefix-taken : (bs : List ℕ) (n : ℕ) → n ≡ min (length bs) 3 → take (prefix_len is_octal (take n bs)) (take n bs) ≡ octal_prefix bs
+octal_prefix-taken bs n e =
     let prefix : take n bs ≡ take 3 bs = ap (λ m. take m bs) (e ∙ grind arith) ∙ take_min 3 bs in
     ap (λ l. take (prefix_len is_octal l) l) prefix
 

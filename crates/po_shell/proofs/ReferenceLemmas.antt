@@ -5,7 +5,7 @@ use Rattle.std.proofs.lemmas.Bool.{and_parts, and_from, and_left, and_right, con
 use Rattle.std.proofs.lemmas.Bool.Decides.{nat_tests}
 use Rattle.std.proofs.lemmas.List.{drop_at, drop-drop}
 use Rattle.std.proofs.lemmas.List.Sums.{take_while-cons}
-use Rattle.po_shell.specs.References.{is_letter, is_name_byte, is_name, name_run, begins_with, bare_reference, braced_reference, reference_after}
+use Rattle.po_shell.specs.References.{is_letter, is_name_byte, is_name, name_prefix, begins_with, bare_reference, braced_reference, reference_after}
 use Rattle.po_shell.specs.Holding.{is_begun_name, after_dollar, is_undecided_after, is_undecided}
 
 -- neither `$` nor a brace is a name byte
@@ -26,17 +26,17 @@ pub name_byte-not : (a b : ℕ) → is_name_byte a ≡ false → is_name_byte b 
 name_byte-not a b fails passes = ne_eqb b a (λ same. both_ways (is_name_byte b) (ap is_name_byte same ∙ fails) passes)
 
 -- a run goes on over name bytes, and ends before another byte
-pub name_run-append : (name xs : List ℕ) → list_all is_name_byte name ≡ true → name_run (name ++ xs) ≡ name ++ name_run xs
-name_run-append [] xs h = refl
-name_run-append (b ∷ bs) xs h =
+pub name_prefix-append : (name xs : List ℕ) → list_all is_name_byte name ≡ true → name_prefix (name ++ xs) ≡ name ++ name_prefix xs
+name_prefix-append [] xs h = refl
+name_prefix-append (b ∷ bs) xs h =
     let p = and_parts (is_name_byte b) (list_all is_name_byte bs) h in
-    take_while-cons is_name_byte b (bs ++ xs) ∙ cond-true (is_name_byte b) _ _ p.0 ∙ ap (λ l. b ∷ l) (name_run-append bs xs p.1)
+    take_while-cons is_name_byte b (bs ++ xs) ∙ cond-true (is_name_byte b) _ _ p.0 ∙ ap (λ l. b ∷ l) (name_prefix-append bs xs p.1)
 
-pub name_run-stop : (b : ℕ) (bs : List ℕ) → is_name_byte b ≡ false → name_run (b ∷ bs) ≡ []
-name_run-stop b bs h = take_while-cons is_name_byte b bs ∙ cond-false (is_name_byte b) _ _ h
+pub name_prefix-stop : (b : ℕ) (bs : List ℕ) → is_name_byte b ≡ false → name_prefix (b ∷ bs) ≡ []
+name_prefix-stop b bs h = take_while-cons is_name_byte b bs ∙ cond-false (is_name_byte b) _ _ h
 
-pub name_run-ends : (name : List ℕ) (b : ℕ) (bs : List ℕ) → list_all is_name_byte name ≡ true → is_name_byte b ≡ false → name_run (name ++ b ∷ bs) ≡ name
-name_run-ends name b bs h stop = name_run-append name (b ∷ bs) h ∙ ap (λ l. name ++ l) (name_run-stop b bs stop) ∙ append-nil name
+pub name_prefix-ends : (name : List ℕ) (b : ℕ) (bs : List ℕ) → list_all is_name_byte name ≡ true → is_name_byte b ≡ false → name_prefix (name ++ b ∷ bs) ≡ name
+name_prefix-ends name b bs h stop = name_prefix-append name (b ∷ bs) h ∙ ap (λ l. name ++ l) (name_prefix-stop b bs stop) ∙ append-nil name
 
 -- a begun name that has a byte is a name of name bytes alone
 pub begun-name : (b : ℕ) (bs : List ℕ) → is_begun_name (b ∷ bs) ≡ true → (is_name (b ∷ bs) ≡ true) × (list_all is_name_byte (b ∷ bs) ≡ true)
@@ -78,17 +78,17 @@ brace-undecided is_braced name b none brace bare =
     ∙ ap (λ (v : Bool). is_undecided (36 ∷ after_dollar v (123 ∷ []))) bare
 
 -- where the run isn't a name there is no reference
-pub unnamed : (is_braced : Bool) (xs : List ℕ) → is_name (name_run xs) ≡ false → (is_braced ≡ false → begins_with 123 xs ≡ false) → reference_after (after_dollar is_braced xs) ≡ None
+pub unnamed : (is_braced : Bool) (xs : List ℕ) → is_name (name_prefix xs) ≡ false → (is_braced ≡ false → begins_with 123 xs ≡ false) → reference_after (after_dollar is_braced xs) ≡ None
 unfolding reference_after bare_reference braced_reference
-unnamed true xs fails brace = cond-false _ _ _ (and_left _ (begins_with 125 (drop (length (name_run xs)) xs)) fails)
-unnamed false xs fails brace = cond-false (begins_with 123 xs) _ _ (brace refl) ∙ cond-false (is_name (name_run xs)) _ _ fails
+unnamed true xs fails brace = cond-false _ _ _ (and_left _ (begins_with 125 (drop (length (name_prefix xs)) xs)) fails)
+unnamed false xs fails brace = cond-false (begins_with 123 xs) _ _ (brace refl) ∙ cond-false (is_name (name_prefix xs)) _ _ fails
 
 -- no name begins with a byte that is no letter
-pub wrong-first : (b : ℕ) (bs : List ℕ) → is_letter b ≡ false → is_name (name_run (b ∷ bs)) ≡ false
+pub wrong-first : (b : ℕ) (bs : List ℕ) → is_letter b ≡ false → is_name (name_prefix (b ∷ bs)) ≡ false
 unfolding is_name
 wrong-first b bs fails =
     ap is_name (take_while-cons is_name_byte b bs)
-    ∙ cond_both (is_name_byte b) (b ∷ name_run bs) [] (λ (run : List ℕ). is_name run ≡ false) (λ _. and_left (is_letter b) _ fails) (λ _. refl)
+    ∙ cond_both (is_name_byte b) (b ∷ name_prefix bs) [] (λ (run : List ℕ). is_name run ≡ false) (λ _. and_left (is_letter b) _ fails) (λ _. refl)
 
 -- a letter is a name byte
 pub letter-name_byte : (b : ℕ) → is_letter b ≡ true → is_name_byte b ≡ true
@@ -109,10 +109,10 @@ long-no_name [] long = refl
 long-no_name (b ∷ bs) long = and_right (is_letter b) (ltb (length bs) 255) (le-ltb _ _ (omega arith))
 
 -- a run that is too long
-pub too-long : (name : List ℕ) (b : ℕ) (bs : List ℕ) → list_all is_name_byte name ≡ true → is_name_byte b ≡ true → 255 ≤ length name → is_name (name_run (name ++ b ∷ bs)) ≡ false
+pub too-long : (name : List ℕ) (b : ℕ) (bs : List ℕ) → list_all is_name_byte name ≡ true → is_name_byte b ≡ true → 255 ≤ length name → is_name (name_prefix (name ++ b ∷ bs)) ≡ false
 too-long name b bs all passes long =
-    let run = name_run-append name (b ∷ bs) all ∙ ap (λ l. name ++ l) (take_while-cons is_name_byte b bs ∙ cond-true (is_name_byte b) _ _ passes) in
-    ap is_name run ∙ long-no_name (name ++ b ∷ name_run bs) (omega (arith, length-append name (b ∷ name_run bs)))
+    let run = name_prefix-append name (b ∷ bs) all ∙ ap (λ l. name ++ l) (take_while-cons is_name_byte b bs ∙ cond-true (is_name_byte b) _ _ passes) in
+    ap is_name run ∙ long-no_name (name ++ b ∷ name_prefix bs) (omega (arith, length-append name (b ∷ name_prefix bs)))
 
 -- the byte after a name that ends there
 pub ends : (name : List ℕ) (b : ℕ) (bs : List ℕ) → is_begun_name name ≡ true → (name ≡ [] → ⊥) → is_name_byte b ≡ false → reference_after (name ++ b ∷ bs) ≡ Some (record { name = name; size = length name })
@@ -121,9 +121,9 @@ ends [] b bs h some stop = absurd (some refl)
 ends (c ∷ cs) b bs h some stop =
     let p = begun-name c cs h in
     let q = and_parts (is_name_byte c) (list_all is_name_byte cs) p.1 in
-    let run = name_run-ends (c ∷ cs) b bs p.1 stop in
+    let run = name_prefix-ends (c ∷ cs) b bs p.1 stop in
     cond-false (eqb c 123) _ _ (name_byte-not 123 c open-no_name q.0)
-    ∙ cond-true (is_name (name_run ((c ∷ cs) ++ b ∷ bs))) _ _ (ap is_name run ∙ p.0)
+    ∙ cond-true (is_name (name_prefix ((c ∷ cs) ++ b ∷ bs))) _ _ (ap is_name run ∙ p.0)
     ∙ ap (λ l. Some (record { name = l; size = length l })) run
 
 -- the brace after a name, or another byte
@@ -133,19 +133,19 @@ closes [] bs h some = absurd (some refl)
 closes (c ∷ cs) bs h some =
     let p = begun-name c cs h in
     let name = c ∷ cs in
-    let run = name_run-ends name 125 bs p.1 close-no_name in
-    let closed : begins_with 125 (drop (length (name_run (name ++ 125 ∷ bs))) (name ++ 125 ∷ bs)) ≡ true =
+    let run = name_prefix-ends name 125 bs p.1 close-no_name in
+    let closed : begins_with 125 (drop (length (name_prefix (name ++ 125 ∷ bs))) (name ++ 125 ∷ bs)) ≡ true =
     ap (λ l. begins_with 125 (drop (length l) (name ++ 125 ∷ bs))) run ∙ ap (begins_with 125) (drop_at name (125 ∷ bs) (length name) refl) in
-    cond-true (is_name (name_run (name ++ 125 ∷ bs)) && begins_with 125 (drop (length (name_run (name ++ 125 ∷ bs))) (name ++ 125 ∷ bs))) _ _ (and_from _ _ (ap is_name run ∙ p.0) closed)
+    cond-true (is_name (name_prefix (name ++ 125 ∷ bs)) && begins_with 125 (drop (length (name_prefix (name ++ 125 ∷ bs))) (name ++ 125 ∷ bs))) _ _ (and_from _ _ (ap is_name run ∙ p.0) closed)
     ∙ ap (λ l. Some (record { name = l; size = length l + 2 })) run
 
 pub not-closed : (name : List ℕ) (b : ℕ) (bs : List ℕ) → is_begun_name name ≡ true → is_name_byte b ≡ false → eqb b 125 ≡ false → reference_after (123 ∷ (name ++ b ∷ bs)) ≡ None
 unfolding reference_after braced_reference
 not-closed name b bs h stop other =
-    let run = name_run-ends name b bs (begun-bytes name h) stop in
-    let opened : begins_with 125 (drop (length (name_run (name ++ b ∷ bs))) (name ++ b ∷ bs)) ≡ false =
+    let run = name_prefix-ends name b bs (begun-bytes name h) stop in
+    let opened : begins_with 125 (drop (length (name_prefix (name ++ b ∷ bs))) (name ++ b ∷ bs)) ≡ false =
     ap (λ l. begins_with 125 (drop (length l) (name ++ b ∷ bs))) run ∙ ap (begins_with 125) (drop_at name (b ∷ bs) (length name) refl) ∙ other in
-    cond-false (is_name (name_run (name ++ b ∷ bs)) && begins_with 125 (drop (length (name_run (name ++ b ∷ bs))) (name ++ b ∷ bs))) _ _ (and_right _ _ opened)
+    cond-false (is_name (name_prefix (name ++ b ∷ bs)) && begins_with 125 (drop (length (name_prefix (name ++ b ∷ bs))) (name ++ b ∷ bs))) _ _ (and_right _ _ opened)
 
 -- a byte that begins neither a name nor a brace
 pub not-begun : (is_braced : Bool) (name : List ℕ) (b : ℕ) (bs : List ℕ) → name ≡ [] → is_letter b ≡ false → ((b ≡ 123) × (is_braced ≡ true)) ⊎ (b ≡ 123 → ⊥) → reference_after (after_dollar is_braced (name ++ b ∷ bs)) ≡ None
@@ -183,8 +183,8 @@ after-closed name b bs =
     ap (λ (n : ℕ). drop n (123 ∷ (name ++ b ∷ bs))) two ∙ sym (drop-drop 1 (length name) (name ++ b ∷ bs)) ∙ ap (drop 1) (drop_at name (b ∷ bs) (length name) refl)
 
 -- at the end of a text
-run-whole : (name : List ℕ) → is_begun_name name ≡ true → name_run (name ++ []) ≡ name
-run-whole name h = name_run-append name [] (begun-bytes name h) ∙ append-nil name
+run-whole : (name : List ℕ) → is_begun_name name ≡ true → name_prefix (name ++ []) ≡ name
+run-whole name h = name_prefix-append name [] (begun-bytes name h) ∙ append-nil name
 
 nothing-after : reference_after [] ≡ None
 unfolding reference_after bare_reference is_name
@@ -193,9 +193,9 @@ nothing-after = refl
 pub ending-none : (is_braced : Bool) (name : List ℕ) → is_begun_name name ≡ true → (is_braced ≡ true) ⊎ (name ≡ []) → reference_after (after_dollar is_braced (name ++ [])) ≡ None
 unfolding reference_after braced_reference bare_reference
 ending-none true name h which =
-    let opened : begins_with 125 (drop (length (name_run (name ++ []))) (name ++ [])) ≡ false =
+    let opened : begins_with 125 (drop (length (name_prefix (name ++ []))) (name ++ [])) ≡ false =
     ap (λ l. begins_with 125 (drop (length l) (name ++ []))) (run-whole name h) ∙ ap (begins_with 125) (drop_at name [] (length name) refl) in
-    cond-false (is_name (name_run (name ++ [])) && begins_with 125 (drop (length (name_run (name ++ []))) (name ++ []))) _ _ (and_right _ _ opened)
+    cond-false (is_name (name_prefix (name ++ [])) && begins_with 125 (drop (length (name_prefix (name ++ []))) (name ++ []))) _ _ (and_right _ _ opened)
 ending-none false name h which = elim which [ inl e ↦ absurd (false≢true e) | inr none ↦ ap (λ l. reference_after (l ++ [])) none ∙ nothing-after ]
 
 pub ending-some : (name : List ℕ) → is_begun_name name ≡ true → (name ≡ [] → ⊥) → reference_after (name ++ []) ≡ Some (record { name = name; size = length name })
@@ -206,7 +206,7 @@ ending-some (c ∷ cs) h some =
     let q = and_parts (is_name_byte c) (list_all is_name_byte cs) p.1 in
     let run = run-whole (c ∷ cs) h in
     cond-false (eqb c 123) _ _ (name_byte-not 123 c open-no_name q.0)
-    ∙ cond-true (is_name (name_run ((c ∷ cs) ++ []))) _ _ (ap is_name run ∙ p.0)
+    ∙ cond-true (is_name (name_prefix ((c ∷ cs) ++ []))) _ _ (ap is_name run ∙ p.0)
     ∙ ap (λ l. Some (record { name = l; size = length l })) run
 
 -- held bytes are at most 257: `${` and the longest name
@@ -238,28 +238,28 @@ unfolding is_undecided
 dollar-undecided = refl
 
 -- the run at the beginning of a text, where it is a name
-run-taken : (bs : List ℕ) → take (length (name_run bs)) bs ≡ name_run bs
+run-taken : (bs : List ℕ) → take (length (name_prefix bs)) bs ≡ name_prefix bs
 run-taken [] = refl
 run-taken (b ∷ bs) = elim (cases_Bool (is_name_byte b)) [
   | inl e ↦ let run = take_while-cons is_name_byte b bs ∙ cond-true (is_name_byte b) _ _ e in
       ap (λ l. take (length l) (b ∷ bs)) run ∙ ap (λ l. b ∷ l) (run-taken bs) ∙ sym run
-  | inr e ↦ let run = name_run-stop b bs e in ap (λ l. take (length l) (b ∷ bs)) run ∙ sym run
+  | inr e ↦ let run = name_prefix-stop b bs e in ap (λ l. take (length l) (b ∷ bs)) run ∙ sym run
 ]
 
-run-bytes : (bs : List ℕ) → list_all is_name_byte (name_run bs) ≡ true
+run-bytes : (bs : List ℕ) → list_all is_name_byte (name_prefix bs) ≡ true
 run-bytes [] = refl
 run-bytes (b ∷ bs) = elim (cases_Bool (is_name_byte b)) [
   | inl e ↦ ap (list_all is_name_byte) (take_while-cons is_name_byte b bs ∙ cond-true (is_name_byte b) _ _ e) ∙ and_from _ _ e (run-bytes bs)
-  | inr e ↦ ap (list_all is_name_byte) (name_run-stop b bs e)
+  | inr e ↦ ap (list_all is_name_byte) (name_prefix-stop b bs e)
 ]
 
 begun-from : (run : List ℕ) → is_name run ≡ true → list_all is_name_byte run ≡ true → is_begun_name run ≡ true
 begun-from [] named all = refl
 begun-from (b ∷ bs) named all = and_from _ _ named all
 
-pub run-begun : (bs run : List ℕ) → run ≡ name_run bs → is_name run ≡ true → is_begun_name (take (length run) bs) ≡ true
+pub run-begun : (bs run : List ℕ) → run ≡ name_prefix bs → is_name run ≡ true → is_begun_name (take (length run) bs) ≡ true
 run-begun bs run e named =
-    ap (λ l. is_begun_name (take (length l) bs)) e ∙ ap is_begun_name (run-taken bs) ∙ begun-from (name_run bs) (ap is_name (sym e) ∙ named) (run-bytes bs)
+    ap (λ l. is_begun_name (take (length l) bs)) e ∙ ap is_begun_name (run-taken bs) ∙ begun-from (name_prefix bs) (ap is_name (sym e) ∙ named) (run-bytes bs)
 
 -- a `$` and what is begun after it
 pub braced-taken : (bs : List ℕ) (n : ℕ) → begins_with 36 bs ≡ true → begins_with 123 (drop 1 bs) ≡ true → is_begun_name (take n (drop 1 (drop 1 bs))) ≡ true → is_undecided (take (n + 2) bs) ≡ true

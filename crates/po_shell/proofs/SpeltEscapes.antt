@@ -4,7 +4,7 @@ use Rattle.std.specs.List.{take_while}
 use Rattle.std.proofs.lemmas.Bool.{and_parts, and_from, cases_Bool, cond-true, cond-false, eqb-true, leb-true, le-leb, false_from_ne_true, false≢true}
 use Rattle.std.proofs.lemmas.List.Sums.{take_while-cons}
 use Rattle.po_shell.specs.declared.arguments.escape.Escape.{Escape}
-use Rattle.po_shell.specs.Escapes.{is_octal, octal_run, octal_value, letter, letter_escape, escape_after}
+use Rattle.po_shell.specs.Escapes.{is_octal, octal_prefix, octal_value, letter, letter_escape, escape_after}
 use Rattle.po_shell.specs.Expanding.{NoOctalFirst, SpellsByte, alert, backspace, form_feed, line_feed, carriage_return, tab, vertical_tab, backslash, one_digit, two_digits, three_digits}
 
 octal_digit : (a : ℕ) → a < 8 → is_octal (48 + a) ≡ true
@@ -31,14 +31,14 @@ run_ends zero text h = refl
 run_ends (suc n) [] h = refl
 run_ends (suc n) (b ∷ text) h = take_while-cons is_octal b (take n text) ∙ cond-false (is_octal b) _ _ (not_octal b h)
 
-one_run : (a : ℕ) (rest : List ℕ) → a < 8 → NoOctalFirst rest → octal_run ((48 + a) ∷ rest) ≡ (48 + a) ∷ []
+one_run : (a : ℕ) (rest : List ℕ) → a < 8 → NoOctalFirst rest → octal_prefix ((48 + a) ∷ rest) ≡ (48 + a) ∷ []
 one_run a rest l none = run_on a (take 2 rest) l ∙ ap (λ r. (48 + a) ∷ r) (run_ends 2 rest none)
 
-two_run : (a b : ℕ) (rest : List ℕ) → a < 8 → b < 8 → NoOctalFirst rest → octal_run ((48 + a) ∷ (48 + b) ∷ rest) ≡ (48 + a) ∷ (48 + b) ∷ []
+two_run : (a b : ℕ) (rest : List ℕ) → a < 8 → b < 8 → NoOctalFirst rest → octal_prefix ((48 + a) ∷ (48 + b) ∷ rest) ≡ (48 + a) ∷ (48 + b) ∷ []
 two_run a b rest l m none =
     run_on a ((48 + b) ∷ take 1 rest) l ∙ ap (λ r. (48 + a) ∷ r) (run_on b (take 1 rest) m ∙ ap (λ r. (48 + b) ∷ r) (run_ends 1 rest none))
 
-three_run : (a b c : ℕ) (rest : List ℕ) → a < 8 → b < 8 → c < 8 → octal_run ((48 + a) ∷ (48 + b) ∷ (48 + c) ∷ rest) ≡ (48 + a) ∷ (48 + b) ∷ (48 + c) ∷ []
+three_run : (a b c : ℕ) (rest : List ℕ) → a < 8 → b < 8 → c < 8 → octal_prefix ((48 + a) ∷ (48 + b) ∷ (48 + c) ∷ rest) ≡ (48 + a) ∷ (48 + b) ∷ (48 + c) ∷ []
 three_run a b c rest l m k =
     run_on a ((48 + b) ∷ (48 + c) ∷ []) l ∙ ap (λ r. (48 + a) ∷ r) (run_on b ((48 + c) ∷ []) m ∙ ap (λ r. (48 + b) ∷ r) (run_on c [] k))
 
@@ -54,10 +54,10 @@ three_value a b c l m k = omega (arith, l, m, k)
 abbrev gives : ℕ → ℕ → Option Escape
 gives b size = Some (record { byte = Some b; size = size })
 
-run_read : (a b size : ℕ) (text run : List ℕ) → a < 8 → octal_run ((48 + a) ∷ text) ≡ run → octal_value run ≡ b → length run ≡ size → escape_after ((48 + a) ∷ text) ≡ gives b size
+run_read : (a b size : ℕ) (text run : List ℕ) → a < 8 → octal_prefix ((48 + a) ∷ text) ≡ run → octal_value run ≡ b → length run ≡ size → escape_after ((48 + a) ∷ text) ≡ gives b size
 unfolding escape_after
 run_read a b size text run l is value long =
-    cond-true (is_octal (48 + a)) (Some (record { byte = Some (octal_value (octal_run ((48 + a) ∷ text))); size = length (octal_run ((48 + a) ∷ text)) })) _ (octal_digit a l)
+    cond-true (is_octal (48 + a)) (Some (record { byte = Some (octal_value (octal_prefix ((48 + a) ∷ text))); size = length (octal_prefix ((48 + a) ∷ text)) })) _ (octal_digit a l)
     ∙ ap (λ (r : List ℕ). gives (octal_value r) (length r)) is ∙ ap (λ (n : ℕ). gives n (length run)) value ∙ ap (λ (n : ℕ). gives b n) long
 
 one_read : (a : ℕ) (rest : List ℕ) → a < 8 → NoOctalFirst rest → escape_after ((48 + a) ∷ rest) ≡ gives a 1

@@ -6,7 +6,7 @@ use Rattle.std.proofs.lemmas.Bool.{and_parts, and_from, or_cases, or_left, or_ri
 use Rattle.std.proofs.lemmas.List.{drop_at, drop-drop}
 use Rattle.std.proofs.lemmas.List.Elements.{All-nil, All-cons, All-head, All-tail}
 use Rattle.std.proofs.lemmas.List.Sums.{take_while-cons}
-use Rattle.po_shell.specs.References.{Reference, is_letter, is_name_byte, is_name, name_run, begins_with, bare_reference, braced_reference, reference_after}
+use Rattle.po_shell.specs.References.{Reference, is_letter, is_name_byte, is_name, name_prefix, begins_with, bare_reference, braced_reference, reference_after}
 use Rattle.po_shell.specs.Holding.{is_begun_name}
 use Rattle.po_shell.specs.Replacing.{BeginsName, upper, lower, underscore, IsInName, begins, digit, IsName, NoNameGoesOn, SpellsReference, bare, braced}
 use Rattle.po_shell.proofs.ReferenceLemmas.{ends, closes, ending-some, after-closed, letter-name_byte}
@@ -114,12 +114,12 @@ reference_read (braced {name = name} {rest = rest} h) = record {
 abbrev RunAt : List ℕ → List ℕ → Type 0
 RunAt bytes run = (list_all is_name_byte run ≡ true) × NoNameGoesOn (drop (length run) bytes) × (run ++ drop (length run) bytes ≡ bytes)
 
-run_at : (bytes : List ℕ) → RunAt bytes (name_run bytes)
+run_at : (bytes : List ℕ) → RunAt bytes (name_prefix bytes)
 run_at [] = (refl, tt, refl)
 run_at (b ∷ bytes) =
     let later = run_at bytes in
     subst (RunAt (b ∷ bytes)) (sym (take_while-cons is_name_byte b bytes))
-    (cond_both (is_name_byte b) (b ∷ name_run bytes) [] (RunAt (b ∷ bytes))
+    (cond_both (is_name_byte b) (b ∷ name_prefix bytes) [] (RunAt (b ∷ bytes))
     (λ passes. (and_from _ _ passes later.0, later.1, ap (λ l. b ∷ l) later.2))
     (λ fails. (refl, λ h. both_ways (is_name_byte b) fails (byte_passes h), refl)))
 
@@ -132,8 +132,8 @@ bare_says : (bytes : List ℕ) → Says bytes (bare_reference bytes)
 unfolding bare_reference
 bare_says bytes =
     let run = run_at bytes in
-    cond_both (is_name (name_run bytes)) _ None (Says bytes)
-    (λ named. subst (λ text. SpellsReference (36 ∷ text) (name_run bytes) (drop (length (name_run bytes)) bytes)) run.2 (bare (name_says (name_run bytes) named run.0) run.1))
+    cond_both (is_name (name_prefix bytes)) _ None (Says bytes)
+    (λ named. subst (λ text. SpellsReference (36 ∷ text) (name_prefix bytes) (drop (length (name_prefix bytes)) bytes)) run.2 (bare (name_says (name_prefix bytes) named run.0) run.1))
     (λ _. tt)
 
 closed_by : (rest : List ℕ) → begins_with 125 rest ≡ true → rest ≡ 125 ∷ drop 1 rest
@@ -148,7 +148,7 @@ braced_says : (bytes : List ℕ) → Says (123 ∷ bytes) (braced_reference byte
 unfolding braced_reference
 braced_says bytes =
     let run = run_at bytes in
-    let name = name_run bytes in
+    let name = name_prefix bytes in
     let rest = drop (length name) bytes in
     cond_both (is_name name && begins_with 125 rest) _ None (Says (123 ∷ bytes))
     (λ both.

@@ -11,7 +11,7 @@ use Rattle.std.specs.Borrow.{Bor}
 use Rattle.po_shell.specs.declared.envsubst.holding.Decision.TheVariants.{Grows, Ends, Closes, Copies}
 use Rattle.po_shell.specs.declared.envsubst.holding.Effect.{Effect}
 use Rattle.po_shell.specs.declared.envsubst.holding.Effect.TheVariants.{Held, Copied, Replaced}
-use Rattle.po_shell.specs.Holding.{is_begun_name, after_dollar, is_undecided, Decides, ComesOut, Replaces, Ending}
+use Rattle.po_shell.specs.Holding.{is_begun_name, after_dollar, is_undecided, Decides, ComesOut, ReplacesName, Ending}
 use Rattle.po_shell.proofs.SearchLemmas.{byte-here, byte-later}
 use Rattle.po_shell.proofs.ReferenceLemmas.{name_byte-not, begun-bytes, dollar-no_name, ending-none, ending-some, after-closed}
 
@@ -107,7 +107,7 @@ out-held values is_braced held name next e grows = ap is_undecided (held-append 
 pub out-copied : (values : Values) (is_braced : Bool) (held name : List ℕ) (next : ℕ) → held ≡ 36 ∷ after_dollar is_braced name → is_begun_name name ≡ true → Decides is_braced name next Copies → ComesOut values held next Copied
 out-copied values is_braced held name next e h none = λ rest. held-copied values is_braced held name (next ∷ rest) e h (no-replacement values _ (none rest))
 
-pub out-ends : (values : Values) (is_braced : Bool) (held name : List ℕ) (next : ℕ) (o : Effect) → held ≡ 36 ∷ after_dollar is_braced name → is_begun_name name ≡ true → Decides is_braced name next Ends → Replaces values name 0 o → ComesOut values held next o
+pub out-ends : (values : Values) (is_braced : Bool) (held name : List ℕ) (next : ℕ) (o : Effect) → held ≡ 36 ∷ after_dollar is_braced name → is_begun_name name ≡ true → Decides is_braced name next Ends → ReplacesName values name 0 o → ComesOut values held next o
 out-ends values true held name next o e h ends r = absurd (true≢false ends.0)
 out-ends values false held name next Held e h ends r = absurd r
 out-ends values false held name next Copied e h ends r = λ rest. held-copied values false held name (next ∷ rest) e h (replacement-none values name (length name) _ (ends.1 rest) r)
@@ -117,7 +117,7 @@ out-ends values false held name next (Replaced value n) e h ends r = (
       ∙ ap (λ l. value.now ++ substitution values l) (drop_at name (next ∷ rest) (length name) refl ∙ ap (λ m. drop m (next ∷ rest)) (sym r.1)),
 )
 
-pub out-closes : (values : Values) (is_braced : Bool) (held name : List ℕ) (next : ℕ) (o : Effect) → held ≡ 36 ∷ after_dollar is_braced name → is_begun_name name ≡ true → Decides is_braced name next Closes → Replaces values name 1 o → ComesOut values held next o
+pub out-closes : (values : Values) (is_braced : Bool) (held name : List ℕ) (next : ℕ) (o : Effect) → held ≡ 36 ∷ after_dollar is_braced name → is_begun_name name ≡ true → Decides is_braced name next Closes → ReplacesName values name 1 o → ComesOut values held next o
 out-closes values false held name next o e h closes r = absurd (false≢true closes.0)
 out-closes values true held name next Held e h closes r = absurd r
 out-closes values true held name next Copied e h closes r = λ rest. held-copied values true held name (next ∷ rest) e h (replacement-none values name (length name + 2) _ (closes.1 rest) r)

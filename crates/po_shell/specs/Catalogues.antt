@@ -8,7 +8,7 @@ use Rattle.po_shell.specs.declared.locale.candidates.Environment.{Environment}
 -- the text domain: the one among the arguments, else that of `-d`, else that of TEXTDOMAIN, each
 -- also where it is empty
 abbrev pub domain_of : Option (List ℕ) → Option (List ℕ) → Environment → Option (List ℕ)
-domain_of word option env = option_or word (option_or option (option_copied env.textdomain))
+domain_of argument option env = option_or argument (option_or option (option_copied env.textdomain))
 
 -- the folder that the catalogues lie below: that of TEXTDOMAINDIR, where it counts
 abbrev pub folder_of : Environment → List ℕ
@@ -16,7 +16,7 @@ folder_of env = unwrap_or (non_empty env.textdomaindir) (codes "/usr/share/local
 
 -- where the catalogue of a domain lies for a locale
 abbrev pub path_of : List ℕ → List ℕ → List ℕ → List ℕ
-path_of dir locale domain = ((((dir ++ codes "/") ++ locale) ++ codes "/LC_MESSAGES/") ++ domain) ++ codes ".mo"
+path_of folder locale domain = ((((folder ++ codes "/") ++ locale) ++ codes "/LC_MESSAGES/") ++ domain) ++ codes ".mo"
 
 -- the catalogues of a domain, of which one that can't stand in a path has none
 abbrev pub paths_in : Environment → Option (List ℕ) → List (List ℕ)
@@ -25,4 +25,4 @@ paths_in env (Some domain) = if is_path_part domain then map (λ locale. path_of
 
 -- the catalogues to try, the first to be asked first
 abbrev pub paths_of : Option (List ℕ) → Option (List ℕ) → Environment → List (List ℕ)
-paths_of word option env = paths_in env (domain_of word option env)
+paths_of argument option env = paths_in env (domain_of argument option env)

@@ -8,8 +8,8 @@ abbrev pub is_octal : ℕ → Bool
 is_octal b = nat_le 48 b && nat_le b 55
 
 -- up to three octal digits at the beginning
-abbrev pub octal_run : List ℕ → List ℕ
-octal_run bs = take_while is_octal (take 3 bs)
+abbrev pub octal_prefix : List ℕ → List ℕ
+octal_prefix bs = take_while is_octal (take 3 bs)
 
 -- the byte with one more octal digit
 abbrev pub with_octal : ℕ → ℕ → ℕ
@@ -41,7 +41,7 @@ letter_escape b =
 unfoldable pub escape_after : List ℕ → Option Escape
 escape_after [] = None
 escape_after (b ∷ bs) =
-    if is_octal b then Some (record { byte = Some (octal_value (octal_run (b ∷ bs))); size = length (octal_run (b ∷ bs)) })
+    if is_octal b then Some (record { byte = Some (octal_value (octal_prefix (b ∷ bs))); size = length (octal_prefix (b ∷ bs)) })
     else letter_escape b
 
 -- what stands for one byte, with what stands for those after it

@@ -44,10 +44,10 @@ ComesOut values held next (Replaced value taken) = (taken ≤ 1)
     × ((rest : List ℕ) → substitution values (held ++ (next ∷ rest)) ≡ value.now ++ substitution values (drop taken (next ∷ rest)))
 
 -- what becomes of a reference to this name, which takes so many further bytes
-abbrev pub Replaces : Values → List ℕ → ℕ → Effect → Type 0
-Replaces values name taken Held = ⊥
-Replaces values name taken Copied = values name ≡ None
-Replaces values name taken (Replaced value n) = (values name ≡ Some value.now) × (n ≡ taken)
+abbrev pub ReplacesName : Values → List ℕ → ℕ → Effect → Type 0
+ReplacesName values name taken Held = ⊥
+ReplacesName values name taken Copied = values name ≡ None
+ReplacesName values name taken (Replaced value n) = (values name ≡ Some value.now) × (n ≡ taken)
 
 -- what becomes of the bytes held where nothing follows: this value, or the bytes themselves
 abbrev pub Ending : Values → List ℕ → Option (Bor (List ℕ)) → Type 0

@@ -18,8 +18,8 @@ is_name [] = false
 is_name (b ∷ bs) = is_letter b && nat_lt (length bs) 255
 
 -- the longest run of name bytes at the beginning of a text
-abbrev pub name_run : List ℕ → List ℕ
-name_run bs = take_while is_name_byte bs
+abbrev pub name_prefix : List ℕ → List ℕ
+name_prefix bs = take_while is_name_byte bs
 
 -- a reference: its name, and how many bytes it takes after its `$`
 pub record Reference : Type 0 where
@@ -33,13 +33,13 @@ begins_with a (b ∷ bs) = b == a
 
 -- `$NAME`, by the bytes after the `$`
 unfoldable pub bare_reference : List ℕ → Option Reference
-bare_reference bs = if is_name (name_run bs) then Some (record { name = name_run bs; size = length (name_run bs) }) else None
+bare_reference bs = if is_name (name_prefix bs) then Some (record { name = name_prefix bs; size = length (name_prefix bs) }) else None
 
 -- `${NAME}`, by the bytes after the `${`
 unfoldable pub braced_reference : List ℕ → Option Reference
 braced_reference bs =
-    if is_name (name_run bs) && begins_with 125 (drop (length (name_run bs)) bs)
-    then Some (record { name = name_run bs; size = length (name_run bs) + 2 }) else None
+    if is_name (name_prefix bs) && begins_with 125 (drop (length (name_prefix bs)) bs)
+    then Some (record { name = name_prefix bs; size = length (name_prefix bs) + 2 }) else None
 
 -- the reference that a `$` begins, by the bytes after it
 unfoldable pub reference_after : List ℕ → Option Reference

@@ -65,7 +65,7 @@ fn escape_after(after: &[u8]) -> Option<Escape>
     if !is_octal(after[0]) {
         return letter_escape(after[0]);
     }
-    let digits = octal_run(after);
+    let digits = octal_prefix(after);
     Some(Escape {
         byte: Some(octal_value(digits)),
         size: digits.len(),
@@ -80,8 +80,8 @@ fn is_octal(byte: u8) -> bool
 }
 
 /// The octal digits at the beginning of a text, up to three.
-fn octal_run(bytes: &[u8]) -> &[u8]
-    ensures run { result.now ≡ spec.octal_run bytes.now }
+fn octal_prefix(bytes: &[u8]) -> &[u8]
+    ensures run { result.now ≡ spec.octal_prefix bytes.now }
     ensures within { length result.now ≤ length bytes.now }
 {
     let prefix = &bytes[..bytes.len().min(3)];

@@ -1,10 +1,10 @@
 //! The bytes that may begin a reference, held back until the next ones decide.
 ghost use Rattle.std.specs.Prelude.{◌≡◌, ◌<◌, true, false, ◌∷◌, [], length, take, IfSome};
-ghost use Rattle.po_shell.specs.Holding.{Decides, ComesOut, Replaces, Ending, is_undecided, is_begun_name, after_dollar};
+ghost use Rattle.po_shell.specs.Holding.{Decides, ComesOut, ReplacesName, Ending, is_undecided, is_begun_name, after_dollar};
 ghost use Rattle.po_shell.specs.Sorted.{values_by};
 
 use crate::envsubst::reference::{
-    LONGEST_NAME, begins_with, is_letter, is_name, is_name_byte, name_run,
+    LONGEST_NAME, begins_with, is_letter, is_name, is_name_byte, name_prefix,
 };
 use crate::envsubst::replacements::Replacements;
 
@@ -80,7 +80,7 @@ fn begun_name_len(bytes: &[u8]) -> Option<usize>
     ensures begun { IfSome result (λ len. is_begun_name (take len bytes.now) ≡ true) }
     ensures bound { IfSome result (λ len. len < length bytes.now) }
 {
-    let name = name_run(bytes);
+    let name = name_prefix(bytes);
     if name.len() == bytes.len() {
         return None;
     }
@@ -129,7 +129,7 @@ pub(crate) fn effect_of<'a>(replacements: &Replacements<'a>, held: &[u8], next: 
 
 /// What becomes of a reference to this name, which takes so many further bytes.
 fn replace<'a>(replacements: &Replacements<'a>, name: &[u8], taken: usize) -> Effect<'a>
-    ensures { Replaces (values_by replacements.now) name.now taken result }
+    ensures { ReplacesName (values_by replacements.now) name.now taken result }
 {
     match replacements.value_for(name) {
         Some(value) => Effect::Replaced(value, taken),

@@ -46,8 +46,8 @@ pub(crate) fn begins_with(byte: u8, text: &[u8]) -> bool
 }
 
 /// The longest run of name bytes at the beginning.
-pub(crate) fn name_run(bytes: &[u8]) -> &[u8]
-    ensures { result.now ≡ spec.name_run bytes.now }
+pub(crate) fn name_prefix(bytes: &[u8]) -> &[u8]
+    ensures { result.now ≡ spec.name_prefix bytes.now }
 {
     for (len, byte) in bytes.iter().enumerate() {
         if !is_name_byte(*byte) {
@@ -65,17 +65,17 @@ fn reference_name(after: &[u8]) -> Option<&[u8]>
 {
     if begins_with(b'{', after) {
         let inner = &after[1..];
-        let name = name_run(inner);
+        let name = name_prefix(inner);
         let is_closed = begins_with(b'}', &inner[name.len()..]);
         (is_name(name) && is_closed).then_some(name)
     } else {
-        let name = name_run(after);
+        let name = name_prefix(after);
         is_name(name).then_some(name)
     }
 }
 
 /// What stands after the first `$`.
-fn after_dollar(text: &[u8]) -> Option<&[u8]>
+fn after_first_dollar(text: &[u8]) -> Option<&[u8]>
     ensures none { IfNone result (spec.names_in text.now ≡ []) }
     ensures names { IfSome result (λ after. spec.names_in text.now
         ≡ cons_option (option_map (λ r. r.name) (spec.reference_after after.now)) (spec.names_in after.now)) }
@@ -96,7 +96,7 @@ pub fn names(alloc: Global, format: &[u8]) -> Result<Vec<&[u8]>, ToolFault>
 {
     let mut names = Vec::new(alloc);
     let mut text = format;
-    while let Some(after) = after_dollar(text) {
+    while let Some(after) = after_first_dollar(text) {
         text = after;
         if let Some(name) = reference_name(after) {
             names.push(name)?;

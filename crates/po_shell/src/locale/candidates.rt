@@ -222,13 +222,13 @@ fn add_name(
     alloc: Global,
     names: &mut Vec<Vec<u8>>,
     prefix: &[u8],
-    back: &[u8],
+    rest: &[u8],
 ) -> Result<(), AllocError>
     ensures { OnOk result (map (λ name. name.items) names.new.items
-        ≡ map (λ name. name.items) names.old.items ++ (prefix.now ++ back.now) ∷ []) }
+        ≡ map (λ name. name.items) names.old.items ++ (prefix.now ++ rest.now) ∷ []) }
 {
     let mut name = Vec::from_slice(alloc, prefix)?;
-    name.extend_from_slice(back)?;
+    name.extend_from_slice(rest)?;
     names.push(name)?;
     Ok(())
 }

@@ -12,21 +12,21 @@ use std::alloc::{AllocError, Global};
 /// The folder that the catalogues lie below where TEXTDOMAINDIR is unset or empty.
 pub const DEFAULT_FOLDER: &[u8] = b"/usr/share/locale";
 
-/// The paths of the catalogues of a text domain, the first to be asked first. The domain is `word`,
-/// the one among the arguments, else `option`, that of `-d`, else that of TEXTDOMAIN. There is no
-/// path where there is no domain, or where it is empty or has a slash. The folder is that of
-/// TEXTDOMAINDIR, or `DEFAULT_FOLDER` where that is unset or empty.
+/// The paths of the catalogues of a text domain, the first to be asked first. The domain is
+/// `argument`, the one among the arguments, else `option`, that of `-d`, else that of TEXTDOMAIN.
+/// There is no path where there is no domain, or where it is empty or has a slash. The folder is
+/// that of TEXTDOMAINDIR, or `DEFAULT_FOLDER` where that is unset or empty.
 pub fn catalogue_paths(
     alloc: Global,
-    word: Option<&[u8]>,
+    argument: Option<&[u8]>,
     option: Option<&[u8]>,
     environment: &Environment<'_>,
 ) -> Result<Vec<Vec<u8>>, ToolFault>
     ensures paths { IfOk result (λ paths. map (λ path. path.items) paths.items
-        ≡ paths_of (option_copied word.entry) (option_copied option.entry) environment.now) }
+        ≡ paths_of (option_copied argument.entry) (option_copied option.entry) environment.now) }
     ensures fault { OnErr result (result ≡ Err ToolFault.OutOfMemory) }
 {
-    match word.or(option).or(environment.textdomain) {
+    match argument.or(option).or(environment.textdomain) {
         Some(domain) if is_path_part(domain) => Ok(domain_paths(alloc, domain, environment)?),
         _ => Ok(Vec::new(alloc)),
     }
@@ -47,10 +47,15 @@ pub fn catalogue_path(
 }
 
 /// The same, with the error of a failed allocation.
-fn path_of(alloc: Global, dir: &[u8], locale: &[u8], domain: &[u8]) -> Result<Vec<u8>, AllocError>
-    ensures { IfOk result (λ path. path.items ≡ path_of dir.now locale.now domain.now) }
+fn path_of(
+    alloc: Global,
+    folder: &[u8],
+    locale: &[u8],
+    domain: &[u8],
+) -> Result<Vec<u8>, AllocError>
+    ensures { IfOk result (λ path. path.items ≡ path_of folder.now locale.now domain.now) }
 {
-    let mut path = Vec::from_slice(alloc, dir)?;
+    let mut path = Vec::from_slice(alloc, folder)?;
     path.extend_from_slice(b"/")?;
     path.extend_from_slice(locale)?;
     path.extend_from_slice(b"/LC_MESSAGES/")?;

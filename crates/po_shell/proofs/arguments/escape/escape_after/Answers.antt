@@ -16,5 +16,5 @@ returns-then-not-is_octal-clause-escape c =
 pub returns-clause-escape : goal.returns-clause-escape
 returns-clause-escape c =
     let after = c.args.after.now in
-    octal-escape _ _ c.octal_value.result c.octal_value.ensures c.octal_run-digits.ensures.run
+    octal-escape _ _ c.octal_value.result c.octal_value.ensures c.octal_prefix-digits.ensures.run
     ∙ sym (escape-first after (some-from_length after (sym c.if-is_empty.ensures)) ∙ cond-true _ _ _ (sym c.is_octal.ensures ∙ c.if-not-is_octal.false))

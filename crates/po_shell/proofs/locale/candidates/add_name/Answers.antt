@@ -4,5 +4,5 @@ use Rattle.po_shell.proofs.locale.candidates.add_name.Goals as goal
 
 pub returns : goal.returns
 returns c =
-    let whole = c.in_ok-extend_from_slice.ensures.items ∙ ap (λ l. l ++ c.args.back.now) c.in_ok-name.ensures.items in
+    let whole = c.in_ok-extend_from_slice.ensures.items ∙ ap (λ l. l ++ c.args.rest.now) c.in_ok-name.ensures.items in
     ap (map (λ v. v.items)) c.in_ok-push.ensures.items ∙ map-append (λ v. v.items) _ _ ∙ ap (λ n. map (λ v. v.items) c.args.names.now.items ++ n ∷ []) whole

@@ -2,7 +2,7 @@ use Rattle.std.proofs.Common.{◌<◌, length, take, sym, ap, ◌∙◌, arith}
 use Rattle.std.proofs.lemmas.List.{take_all}
 use Rattle.std.proofs.lemmas.List.Sums.{prefix_len_is}
 use Rattle.po_shell.specs.References.{is_name_byte}
-use Rattle.po_shell.proofs.envsubst.reference.name_run.Goals as goal
+use Rattle.po_shell.proofs.envsubst.reference.name_prefix.Goals as goal
 
 pub returns-then-not-is_name_byte : goal.returns-then-not-is_name_byte
 returns-then-not-is_name_byte c =

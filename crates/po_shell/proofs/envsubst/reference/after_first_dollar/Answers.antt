@@ -1,6 +1,6 @@
 use Rattle.std.proofs.lemmas.List.{take_rest}
 use Rattle.po_shell.proofs.NameLemmas.{names-next, names-none}
-use Rattle.po_shell.proofs.envsubst.reference.after_dollar.Goals as goal
+use Rattle.po_shell.proofs.envsubst.reference.after_first_dollar.Goals as goal
 
 pub returns-then-plain-text-clause-names : goal.returns-then-plain-text-clause-names
 returns-then-plain-text-clause-names c =
