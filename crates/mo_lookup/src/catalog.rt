@@ -17,7 +17,7 @@ ghost use Rattle.mo_lookup.specs.Answer.{answer_view, translated};
 
 use crate::answer::Answer;
 use crate::forms::before_nul;
-use crate::looking::{form, look, translation};
+use crate::looking::{answered_form, look, translation};
 use mo_file::{Meter, MoError, MoView};
 use plural_rule::Rule;
 use std::cmp::Ordering;
@@ -163,7 +163,7 @@ impl<'a> Catalog<'a> {
 
     /// The form of a translation, which is form 0 where no plural is given, and how many nodes were
     /// evaluated for it.
-    pub(crate) fn form(
+    pub(crate) fn answered_form(
         &self,
         translation: &'a [u8],
         plural: Option<(&[u8], u64)>,
@@ -172,6 +172,6 @@ impl<'a> Catalog<'a> {
         ensures steps { result.1 ≡ (translated (forms translation.now) self.now.rule (given plural.entry)).steps }
         ensures nodes { result.1 ≤ nodes self.now.rule.tree }
     {
-        form(self.rule.nplurals(), self.rule.table(), translation, plural)
+        answered_form(self.rule.nplurals(), self.rule.table(), translation, plural)
     }
 }

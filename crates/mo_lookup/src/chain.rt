@@ -103,7 +103,7 @@ impl<'c, 'a> Chain<'c, 'a> {
                 asked: self.members.len() as u32,
             };
         };
-        let (text, steps) = first.catalog.form(first.translation, plural);
+        let (text, steps) = first.catalog.answered_form(first.translation, plural);
         ChainAnswer {
             text,
             found: true,

@@ -59,7 +59,7 @@ where
     };
     let comparisons = (meter.count() - before) as u32;
     let (text, steps) = match translation {
-        Some(translation) => form(nplurals, table, translation, plural),
+        Some(translation) => answered_form(nplurals, table, translation, plural),
         None => (untranslated_text(id, plural), 0),
     };
     Answer {
@@ -94,7 +94,7 @@ pub(crate) fn translation<'a>(
 
 /// The form of a translation, which is form 0 where no plural is given, and how many nodes were
 /// evaluated for it.
-pub(crate) fn form<'a>(
+pub(crate) fn answered_form<'a>(
     nplurals: u64,
     table: &[Node],
     translation: &'a [u8],

@@ -9,8 +9,8 @@ returns-clause-answered c =
     let clean = sym c.is_clean_key.ensures ∙ c.if-not-is_clean_key.false in
     rw (← c.self.view_is)
     (
-    Answers-answered _ asked _ _ _ _ _ (chain-found _ asked _ _ _ clean c.in-Some.ensures.found) c.form-steps.ensures.text
-    c.form-steps.ensures.steps
+    Answers-answered _ asked _ _ _ _ _ (chain-found _ asked _ _ _ clean c.in-Some.ensures.found) c.answered_form-steps.ensures.text
+    c.answered_form-steps.ensures.steps
     )
 
 pub returns-clause-asked : goal.returns-clause-asked
@@ -24,7 +24,7 @@ returns-clause-nodes c =
     let asked = query c.args.context c.args.id.now c.args.plural in
     let clean = sym c.is_clean_key.ensures ∙ c.if-not-is_clean_key.false in
     rw (← c.self.view_is)
-    (Answers-nodes _ asked _ _ _ _ (chain-found _ asked _ _ _ clean c.in-Some.ensures.found) c.form-steps.ensures.nodes)
+    (Answers-nodes _ asked _ _ _ _ (chain-found _ asked _ _ _ clean c.in-Some.ensures.found) c.answered_form-steps.ensures.nodes)
 
 pub returns-in_default-clause-answered : goal.returns-in_default-clause-answered
 returns-in_default-clause-answered c =
