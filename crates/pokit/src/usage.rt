@@ -64,12 +64,12 @@ pub(crate) fn text_of(
         if is_check && line.starts_with("Usage: ") {
             text.push_str(CHECK_TIP)?;
         }
-        let is_left_out = if is_check {
+        let is_omitted = if is_check {
             line.starts_with("  tip: ")
         } else {
             line.starts_with(AS_A_VALUE)
         };
-        if !is_left_out && !(is_blank && line == "\n") {
+        if !is_omitted && !(is_blank && line == "\n") {
             text.push_str(line)?;
             is_blank = line == "\n";
         }
