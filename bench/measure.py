@@ -22,6 +22,11 @@ def run(command, wanted, source, output):
         (posix.POSIX_SPAWN_OPEN, 1, output, posix.O_WRONLY | posix.O_CREAT | posix.O_TRUNC, 0o600),
         (posix.POSIX_SPAWN_OPEN, 2, "/dev/null", posix.O_WRONLY, 0),
     ]
+    # (what an earlier run wrote isn't this one's to remove)
+    try:
+        posix.unlink(output)
+    except FileNotFoundError:
+        pass
     begin = time.perf_counter()
     process = posix.posix_spawn(command[0], command, posix.environ, file_actions=actions)
     _, status, usage = posix.wait4(process, 0)
