@@ -13,15 +13,15 @@ use Rattle.mo_file.specs.Message.{Message, originals, translations}
 use Rattle.mo_file.specs.Layout.{layout, header, table, terminated}
 use Rattle.mo_file.specs.declared.pairs.Part.TheVariants.{Original, Translation}
 use Rattle.mo_file.specs.Key.{key_of, keys, key_at}
-use Rattle.mo_file.specs.declared.pairs.LentPair.{LentPair}
-use Rattle.mo_file.specs.Pairs.{message, messages_of_pairs, lent_message, messages_of_lent, strings_of}
+use Rattle.mo_file.specs.declared.pairs.BorrowedPair.{BorrowedPair}
+use Rattle.mo_file.specs.Pairs.{message, messages_of_pairs, borrowed_message, messages_of_borrowed, strings_of}
 
 -- what a pair adds to the length of a file
 abbrev pub pair_len : Pair → ℕ
 pair_len pair = 18 + length pair.original.items + length pair.translation.items
 
-abbrev pub lent_pair_len : LentPair → ℕ
-lent_pair_len pair = 18 + length pair.original.now + length pair.translation.now
+abbrev pub borrowed_pair_len : BorrowedPair → ℕ
+borrowed_pair_len pair = 18 + length pair.original.now + length pair.translation.now
 
 abbrev message_len : Message → ℕ
 message_len m = 18 + length m.original + length m.translation
@@ -48,14 +48,14 @@ pub length-layout : (order : Order) (messages : List Message) →
     length (layout order messages) ≡ 28 + 16 * length messages + length (terminated (originals messages)) + length (terminated (translations messages))
 length-layout order messages = simp (length-append, length-magic, length-word_bytes, length-table, length-map) (omega arith)
 
-originals-lent : (pairs : List LentPair) → originals (messages_of_lent pairs) ≡ strings_of Original pairs
-originals-lent [] = refl
-originals-lent (p ∷ ps) = ap (λ ss. p.original.now ∷ ss) (originals-lent ps)
+originals-borrowed : (pairs : List BorrowedPair) → originals (messages_of_borrowed pairs) ≡ strings_of Original pairs
+originals-borrowed [] = refl
+originals-borrowed (p ∷ ps) = ap (λ ss. p.original.now ∷ ss) (originals-borrowed ps)
 
-translations-lent : (pairs : List LentPair) →
-    translations (messages_of_lent pairs) ≡ strings_of Translation pairs
-translations-lent [] = refl
-translations-lent (p ∷ ps) = ap (λ ss. p.translation.now ∷ ss) (translations-lent ps)
+translations-borrowed : (pairs : List BorrowedPair) →
+    translations (messages_of_borrowed pairs) ≡ strings_of Translation pairs
+translations-borrowed [] = refl
+translations-borrowed (p ∷ ps) = ap (λ ss. p.translation.now ∷ ss) (translations-borrowed ps)
 
 pub keys-pairs : (pairs : List Pair) →
     keys (messages_of_pairs pairs) ≡ map (λ pair. key_of pair.original.items) pairs
@@ -63,12 +63,12 @@ keys-pairs [] = refl
 keys-pairs (p ∷ ps) = ap (λ ks. key_of p.original.items ∷ ks) (keys-pairs ps)
 
 -- how long the layout of pairs is, by its parts
-pub length-layout-strings : (order : Order) (pairs : List LentPair) →
-    length (layout order (messages_of_lent pairs))
+pub length-layout-strings : (order : Order) (pairs : List BorrowedPair) →
+    length (layout order (messages_of_borrowed pairs))
     ≡ 28 + 16 * length pairs + length (terminated (strings_of Original pairs))
     + length (terminated (strings_of Translation pairs))
 length-layout-strings order pairs =
-    length-layout order (messages_of_lent pairs) ∙ rw (originals-lent pairs, translations-lent pairs, length-map pairs lent_message)
+    length-layout order (messages_of_borrowed pairs) ∙ rw (originals-borrowed pairs, translations-borrowed pairs, length-map pairs borrowed_message)
 
 sum_by-message_len : (messages : List Message) →
     sum_by message_len messages
@@ -83,26 +83,26 @@ sum_by-pairs : (pairs : List Pair) → sum_by message_len (messages_of_pairs pai
 sum_by-pairs [] = refl
 sum_by-pairs (p ∷ ps) = sum_by-cons message_len (message p) (messages_of_pairs ps) ∙ ap (λ n. pair_len p + n) (sum_by-pairs ps) ∙ sym (sum_by-cons pair_len p ps)
 
-sum_by-lent : (pairs : List LentPair) → sum_by message_len (messages_of_lent pairs) ≡ sum_by lent_pair_len pairs
-sum_by-lent [] = refl
-sum_by-lent (p ∷ ps) = sum_by-cons message_len (lent_message p) (messages_of_lent ps) ∙ ap (λ n. lent_pair_len p + n) (sum_by-lent ps) ∙ sym (sum_by-cons lent_pair_len p ps)
+sum_by-borrowed : (pairs : List BorrowedPair) → sum_by message_len (messages_of_borrowed pairs) ≡ sum_by borrowed_pair_len pairs
+sum_by-borrowed [] = refl
+sum_by-borrowed (p ∷ ps) = sum_by-cons message_len (borrowed_message p) (messages_of_borrowed ps) ∙ ap (λ n. borrowed_pair_len p + n) (sum_by-borrowed ps) ∙ sym (sum_by-cons borrowed_pair_len p ps)
 
 -- the same, pair by pair
 pub length-layout-pairs : (order : Order) (pairs : List Pair) →
     length (layout order (messages_of_pairs pairs)) ≡ 28 + sum_by pair_len pairs
 length-layout-pairs order pairs = omega (arith, length-layout order (messages_of_pairs pairs), sum_by-message_len (messages_of_pairs pairs), sum_by-pairs pairs)
 
-pub length-layout-lent : (order : Order) (pairs : List LentPair) →
-    length (layout order (messages_of_lent pairs)) ≡ 28 + sum_by lent_pair_len pairs
-length-layout-lent order pairs = omega (arith, length-layout order (messages_of_lent pairs), sum_by-message_len (messages_of_lent pairs), sum_by-lent pairs)
+pub length-layout-borrowed : (order : Order) (pairs : List BorrowedPair) →
+    length (layout order (messages_of_borrowed pairs)) ≡ 28 + sum_by borrowed_pair_len pairs
+length-layout-borrowed order pairs = omega (arith, length-layout order (messages_of_borrowed pairs), sum_by-message_len (messages_of_borrowed pairs), sum_by-borrowed pairs)
 
 -- the layout of pairs, by its parts
-pub layout-pairs : (order : Order) (pairs : List LentPair) →
-    layout order (messages_of_lent pairs)
+pub layout-pairs : (order : Order) (pairs : List BorrowedPair) →
+    layout order (messages_of_borrowed pairs)
     ≡ header order (length pairs) ++ table order (28 + 16 * length pairs) (strings_of Original pairs)
     ++ table order (28 + 16 * length pairs + length (terminated (strings_of Original pairs))) (strings_of Translation pairs)
     ++ terminated (strings_of Original pairs) ++ terminated (strings_of Translation pairs)
-layout-pairs order pairs = rw (originals-lent pairs, translations-lent pairs, length-map pairs lent_message)
+layout-pairs order pairs = rw (originals-borrowed pairs, translations-borrowed pairs, length-map pairs borrowed_message)
 
 -- the key of a pair
 pub keys-pair : (pairs : List Pair) (i : ℕ) (pair : Pair) → i < length pairs → pair ≡ get_or pairs i pair →

@@ -7,9 +7,9 @@ use Rattle.mo_file.specs.declared.fault.MoError.{MoError}
 use Rattle.mo_file.specs.declared.fault.MoError.TheVariants.{TooShort, BadMagic, BadRevision, TableOutside}
 use Rattle.mo_file.specs.declared.fault.MoError.TheVariants.{StringOutside, NoTerminator, NotSorted}
 use Rattle.mo_file.specs.declared.file_header.FileHeader.{FileHeader}
-use Rattle.mo_file.specs.FileHeader.{Shows, message_count, originals_table, translations_table}
+use Rattle.mo_file.specs.FileHeader.{HasMagicOf, message_count, originals_table, translations_table}
 use Rattle.mo_file.specs.Message.{Message}
-use Rattle.mo_file.specs.Catalog.{IsCatalog}
+use Rattle.mo_file.specs.MoFile.{IsMoFile}
 use Rattle.mo_file.specs.Fault.{HasFault, HasFaultIn, IsFirstFault, IsNotRising}
 use Rattle.mo_file.specs.Checking.{AreRisingBelow, HasStrings, IsChecked, IsHeader}
 
@@ -17,22 +17,22 @@ pub not_below : (a b : ℕ) → ¬ (a < b) → b ≤ a
 not_below a b not = elim (cases_lt a b) [ inl below ↦ absurd (not below) | inr at ↦ omega (arith, at) ]
 
 -- a file shows one byte order
-pub Shows-unique : (bytes : List ℕ) (order order' : Order) → Shows order bytes → Shows order' bytes →
+pub HasMagicOf-unique : (bytes : List ℕ) (order order' : Order) → HasMagicOf order bytes → HasMagicOf order' bytes →
     order' ≡ order
-Shows-unique bytes Little Little shows shows' = refl
-Shows-unique bytes Big Big shows shows' = refl
-Shows-unique bytes Little Big shows shows' = cc
-Shows-unique bytes Big Little shows shows' = cc
+HasMagicOf-unique bytes Little Little shows shows' = refl
+HasMagicOf-unique bytes Big Big shows shows' = refl
+HasMagicOf-unique bytes Little Big shows shows' = cc
+HasMagicOf-unique bytes Big Little shows shows' = cc
 
 -- faults after the magic number are those in the order that it shows
-pub HasFaultIn-shown : (bytes : List ℕ) (order : Order) (f : MoError) → Shows order bytes →
-    ((order' : Order) × Shows order' bytes × HasFaultIn order' bytes f) → HasFaultIn order bytes f
+pub HasFaultIn-shown : (bytes : List ℕ) (order : Order) (f : MoError) → HasMagicOf order bytes →
+    ((order' : Order) × HasMagicOf order' bytes × HasFaultIn order' bytes f) → HasFaultIn order bytes f
 HasFaultIn-shown bytes order f shows fault =
     let P : Order → Type 0 = λ o. HasFaultIn o bytes f in
-    subst P (Shows-unique bytes order fault.0 shows fault.1) fault.2
+    subst P (HasMagicOf-unique bytes order fault.0 shows fault.1) fault.2
 
 module _ (header : FileHeader) (bytes : List ℕ) (read : IsHeader header bytes) (strings : HasStrings header.order bytes) where
-  shown : (f : MoError) → ((order' : Order) × Shows order' bytes × HasFaultIn order' bytes f) →
+  shown : (f : MoError) → ((order' : Order) × HasMagicOf order' bytes × HasFaultIn order' bytes f) →
       HasFaultIn header.order bytes f
   shown f fault = HasFaultIn-shown bytes header.order f read.shows fault
 
@@ -68,7 +68,7 @@ module _ (header : FileHeader) (bytes : List ℕ) (read : IsHeader header bytes)
   faultless sorted f has = let fault = only_keys f has in sorted fault.0 fault.2 fault.3
 
 -- a header that was read from a valid file is that of a file that has been checked
-pub checked : (header : FileHeader) (bytes : List ℕ) (messages : List Message) → IsCatalog header.order bytes messages →
+pub checked : (header : FileHeader) (bytes : List ℕ) (messages : List Message) → IsMoFile header.order bytes messages →
     header.count ≡ message_count header.order bytes → header.originals ≡ originals_table header.order bytes →
     header.translations ≡ translations_table header.order bytes → IsChecked header bytes
 checked header bytes messages valid count originals translations =

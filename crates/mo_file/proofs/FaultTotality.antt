@@ -7,11 +7,11 @@ use Rattle.mo_file.specs.declared.byte_order.Order.{Order}
 use Rattle.mo_file.specs.declared.byte_order.Order.TheVariants.{Little, Big}
 use Rattle.mo_file.specs.declared.fault.MoError.{MoError}
 use Rattle.mo_file.specs.declared.fault.MoError.TheVariants.{TooShort, BadMagic, BadRevision, TableOutside, StringOutside, NoTerminator, NotSorted}
-use Rattle.mo_file.specs.FileHeader.{Shows, magic, revision, message_count, originals_table, translations_table}
+use Rattle.mo_file.specs.FileHeader.{HasMagicOf, magic, revision, message_count, originals_table, translations_table}
 use Rattle.mo_file.specs.StringTable.{end_at, original_at, messages_of}
 use Rattle.mo_file.specs.Key.{key_of, key_cmp}
 use Rattle.mo_file.specs.Message.{Message}
-use Rattle.mo_file.specs.Catalog.{IsCatalog}
+use Rattle.mo_file.specs.MoFile.{IsMoFile}
 use Rattle.mo_file.specs.Fault.{HasFault, HasFaultIn, IsFirstFault, IsNotRising, IsOutside, IsUnterminated, kind, index}
 use Rattle.mo_file.proofs.FaultLemmas.{HasFaultIn-shown}
 
@@ -129,11 +129,11 @@ is_first bytes e clear least holds = record {
 }
 
 -- a valid file, or a first fault
-abbrev CatalogOrFaultOf : List ℕ → Type 0
-CatalogOrFaultOf bytes = ((order : Order) × (messages : List Message) × IsCatalog order bytes messages) ⊎ ((fault : MoError) × IsFirstFault bytes fault)
+abbrev MoFileOrFaultOf : List ℕ → Type 0
+MoFileOrFaultOf bytes = ((order : Order) × (messages : List Message) × IsMoFile order bytes messages) ⊎ ((fault : MoError) × IsFirstFault bytes fault)
 
-module _ (bytes : List ℕ) (order : Order) (shows : Shows order bytes) where
-  shown : (f : MoError) → ((order' : Order) × Shows order' bytes × HasFaultIn order' bytes f) → HasFaultIn order bytes f
+module _ (bytes : List ℕ) (order : Order) (shows : HasMagicOf order bytes) where
+  shown : (f : MoError) → ((order' : Order) × HasMagicOf order' bytes × HasFaultIn order' bytes f) → HasFaultIn order bytes f
   shown f has = HasFaultIn-shown bytes order f shows has
 
   outside_settled : (i : ℕ) → Settled (IsOutside order bytes i)
@@ -149,17 +149,17 @@ module _ (bytes : List ℕ) (order : Order) (shows : Shows order bytes) where
   unsorted_settled : (i : ℕ) → Settled (IsNotRising order bytes i)
   unsorted_settled i = less_settled (key_cmp (key_of (original_at order bytes i)) (key_of (original_at order bytes (i + 1))))
 
-  catalog : Clear bytes 8 → CatalogOrFaultOf bytes
-  catalog clear = inl (
+  valid : Clear bytes 8 → MoFileOrFaultOf bytes
+  valid clear = inl (
     order,
     messages_of order bytes,
     record { shows = shows; faultless = λ f. clear.none f (kind_within f).1; lists = refl },
   )
 
-  sorted : Clear bytes 7 → CatalogOrFaultOf bytes
+  sorted : Clear bytes 7 → MoFileOrFaultOf bytes
   sorted clear = elim (first_below (λ i. IsNotRising order bytes i) unsorted_settled (message_count order bytes - 1)) [
     | inl none ↦
-        catalog (clear_more bytes 7 clear (λ i has. let fault = shown (NotSorted i) has in none fault.0 (omega (arith, fault.1, fault.2)) fault.3))
+        valid (clear_more bytes 7 clear (λ i has. let fault = shown (NotSorted i) has in none fault.0 (omega (arith, fault.1, fault.2)) fault.3))
     | inr first ↦
         inr (
           NotSorted (first.0 + 1),
@@ -169,7 +169,7 @@ module _ (bytes : List ℕ) (order : Order) (shows : Shows order bytes) where
         )
   ]
 
-  terminated : Clear bytes 6 → CatalogOrFaultOf bytes
+  terminated : Clear bytes 6 → MoFileOrFaultOf bytes
   terminated clear = elim (first_below (λ i. IsUnterminated order bytes i) unterminated_settled (message_count order bytes)) [
     | inl none ↦ sorted (clear_more bytes 6 clear (λ i has. let fault = shown (NoTerminator i) has in none i fault.0 fault.1))
     | inr first ↦
@@ -179,7 +179,7 @@ module _ (bytes : List ℕ) (order : Order) (shows : Shows order bytes) where
         )
   ]
 
-  inside : Clear bytes 5 → CatalogOrFaultOf bytes
+  inside : Clear bytes 5 → MoFileOrFaultOf bytes
   inside clear = elim (first_below (λ i. IsOutside order bytes i) outside_settled (message_count order bytes)) [
     | inl none ↦ terminated (clear_more bytes 5 clear (λ i has. let fault = shown (StringOutside i) has in none i fault.0 fault.1))
     | inr first ↦
@@ -189,7 +189,7 @@ module _ (bytes : List ℕ) (order : Order) (shows : Shows order bytes) where
         )
   ]
 
-  tables : Clear bytes 4 → CatalogOrFaultOf bytes
+  tables : Clear bytes 4 → MoFileOrFaultOf bytes
   tables clear = elim (
       either (below_settled (length bytes) (originals_table order bytes + 8 * message_count order bytes))
       (below_settled (length bytes) (translations_table order bytes + 8 * message_count order bytes))
@@ -198,17 +198,17 @@ module _ (bytes : List ℕ) (order : Order) (shows : Shows order bytes) where
         | inr none ↦ inside (clear_more bytes 4 clear (λ i has. none (shown TableOutside has)))
       ]
 
-  known : Clear bytes 3 → CatalogOrFaultOf bytes
+  known : Clear bytes 3 → MoFileOrFaultOf bytes
   known clear = elim (below_settled 1 (revision order bytes / 65536)) [
     | inl fault ↦ inr (BadRevision, is_first bytes BadRevision clear (λ j less has. absurd (omega arith)) (order, shows, fault))
     | inr none ↦ tables (clear_more bytes 3 clear (λ i has. none (shown BadRevision has)))
   ]
 
-no_magic : (bytes : List ℕ) → (Shows Little bytes → ⊥) → (Shows Big bytes → ⊥) → HasFault bytes BadMagic
+no_magic : (bytes : List ℕ) → (HasMagicOf Little bytes → ⊥) → (HasMagicOf Big bytes → ⊥) → HasFault bytes BadMagic
 no_magic bytes little big Little = little
 no_magic bytes little big Big = big
 
-magical : (bytes : List ℕ) → Clear bytes 2 → CatalogOrFaultOf bytes
+magical : (bytes : List ℕ) → Clear bytes 2 → MoFileOrFaultOf bytes
 magical bytes clear = elim (same_settled (take 4 bytes) (magic Little)) [
   | inl little ↦ known bytes Little little (clear_more bytes 2 clear (λ i has. has Little little))
   | inr not_little ↦ elim (same_settled (take 4 bytes) (magic Big)) [
@@ -218,8 +218,8 @@ magical bytes clear = elim (same_settled (take 4 bytes) (magic Little)) [
   ]
 ]
 
-pub catalog_or_fault : (bytes : List ℕ) → CatalogOrFaultOf bytes
-catalog_or_fault bytes = elim (below_settled (length bytes) 28) [
+pub mo_file_or_fault : (bytes : List ℕ) → MoFileOrFaultOf bytes
+mo_file_or_fault bytes = elim (below_settled (length bytes) 28) [
   | inl short ↦ inr (TooShort, is_first bytes TooShort (clear_one bytes) (λ j less has. absurd (omega arith)) short)
   | inr long ↦ magical bytes (clear_more bytes 1 (clear_one bytes) (λ i has. long has))
 ]

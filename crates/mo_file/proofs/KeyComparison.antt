@@ -1,4 +1,4 @@
--- How the keys of two texts stand to each other, by where the texts part.
+-- How the keys of two texts compare, by where their common prefix ends.
 use Rattle.std.proofs.Common.{◌≡◌, ◌≢◌, ◌↔◌, Option, None, Some, IsTrue, ℕ, zero, suc, ◌+◌, ◌-◌, ◌<◌, ◌≤◌, ◌==◌, ◌||◌, nat_lt, Bool, true, false, cond, not, List, [], ◌∷◌, ◌++◌, length, take, drop, get_or, refl, sym, ap, ◌∙◌, arith, inl, inr}
 use Rattle.std.specs.Ordering.{nat_cmp, ordering_then}
 use Rattle.std.specs.declared.cmp.Ordering.{Ordering}
@@ -10,7 +10,7 @@ use Rattle.std.specs.Option.{unwrap_or}
 use Rattle.std.proofs.lemmas.Option.{unwrap_or-slice_get}
 use Rattle.std.proofs.lemmas.List.{append-nil, drop_all, get_or-drop, length-drop, take_all}
 use Rattle.mo_file.specs.Key.{is_nul, key_of, key_cmp}
-use Rattle.mo_file.specs.Agreement.{AgreeBetween, IsCommonPrefix}
+use Rattle.mo_file.specs.CommonPrefix.{AreEqualBetween, IsCommonPrefix}
 
 key_of-cut : (a : ℕ) (xs : List ℕ) (b : Bool) → (a == 0) ≡ b → key_of (a ∷ xs) ≡ take (cond (not b) (1 + prefix_len (λ x. not (is_nul x)) xs) 0) (a ∷ xs)
 key_of-cut a xs b is = ap (λ c. take (cond (not c) (1 + prefix_len (λ x. not (is_nul x)) xs) 0) (a ∷ xs)) is
@@ -75,44 +75,44 @@ then-unequal a b c d other =
       | inr not_less ↦ rw (cmp-greater a b (grind (arith, other, not_less))) refl
     ]
 
--- the first bytes where they don't part
+-- the first bytes where they neither differ nor stop
 alike : (a b : ℕ) → (not (a == b) || a == 0) ≡ false → (a ≡ b) × (a ≡ 0 → ⊥)
 alike a b none =
     elim (cases_eq a b) [
       | inl same ↦
-          (same, λ nul. (let part : (not (a == b) || a == 0) ≡ true = rw (eq-eqb a b same, eq-eqb a 0 nul) refl in absurd (cc)))
-      | inr other ↦ let part : (not (a == b) || a == 0) ≡ true = rw (ne_eqb a b other) refl in absurd (cc)
+          (same, λ nul. (let ends : (not (a == b) || a == 0) ≡ true = rw (eq-eqb a b same, eq-eqb a 0 nul) refl in absurd (cc)))
+      | inr other ↦ let ends : (not (a == b) || a == 0) ≡ true = rw (ne_eqb a b other) refl in absurd (cc)
     ]
 
 -- and where they do
 unlike : (a b : ℕ) → (not (a == b) || a == 0) ≡ true → (a ≡ 0 → ⊥) → a ≡ b → ⊥
-unlike a b part live same =
+unlike a b ends live same =
     let none : (not (a == b) || a == 0) ≡ false = rw (eq-eqb a b same, ne_eqb a 0 live) refl in
     cc
 
--- what agrees doesn't decide
-pub skip : (n : ℕ) (x y more : List ℕ) → AgreeBetween 0 x y 0 n → n ≤ length x → n ≤ length y →
+-- what is equal doesn't decide
+pub skip : (n : ℕ) (x y more : List ℕ) → AreEqualBetween 0 x y 0 n → n ≤ length x → n ≤ length y →
     key_cmp (key_of x) (y ++ more) ≡ key_cmp (key_of (drop n x)) (drop n y ++ more)
-skip zero x y more agree in_x in_y = refl
-skip (suc n) [] y more agree in_x in_y = absurd (omega arith)
-skip (suc n) (a ∷ xs) [] more agree in_x in_y = absurd (omega arith)
-skip (suc n) (a ∷ xs) (b ∷ ys) more agree in_x in_y =
-    let first = alike a b (agree 0 (omega arith) (omega arith)) in
+skip zero x y more equal in_x in_y = refl
+skip (suc n) [] y more equal in_x in_y = absurd (omega arith)
+skip (suc n) (a ∷ xs) [] more equal in_x in_y = absurd (omega arith)
+skip (suc n) (a ∷ xs) (b ∷ ys) more equal in_x in_y =
+    let first = alike a b (equal 0 (omega arith) (omega arith)) in
     ap (λ k. key_cmp k (b ∷ (ys ++ more))) (key_of-cons a xs first.1)
     ∙ ap (λ o. ordering_then o (key_cmp (key_of xs) (ys ++ more))) (cmp-same a b first.0)
-    ∙ skip n xs ys more (λ k from to. agree (suc k) (omega arith) (omega arith)) (omega arith) (omega arith)
+    ∙ skip n xs ys more (λ k from to. equal (suc k) (omega arith) (omega arith)) (omega arith) (omega arith)
 
-pub skip_keys : (n : ℕ) (x y : List ℕ) → AgreeBetween 0 x y 0 n → n ≤ length x → n ≤ length y →
+pub skip_keys : (n : ℕ) (x y : List ℕ) → AreEqualBetween 0 x y 0 n → n ≤ length x → n ≤ length y →
     key_cmp (key_of x) (key_of y) ≡ key_cmp (key_of (drop n x)) (key_of (drop n y))
-skip_keys zero x y agree in_x in_y = refl
-skip_keys (suc n) [] y agree in_x in_y = absurd (omega arith)
-skip_keys (suc n) (a ∷ xs) [] agree in_x in_y = absurd (omega arith)
-skip_keys (suc n) (a ∷ xs) (b ∷ ys) agree in_x in_y =
-    let first = alike a b (agree 0 (omega arith) (omega arith)) in
+skip_keys zero x y equal in_x in_y = refl
+skip_keys (suc n) [] y equal in_x in_y = absurd (omega arith)
+skip_keys (suc n) (a ∷ xs) [] equal in_x in_y = absurd (omega arith)
+skip_keys (suc n) (a ∷ xs) (b ∷ ys) equal in_x in_y =
+    let first = alike a b (equal 0 (omega arith) (omega arith)) in
     let live : b ≡ 0 → ⊥ = λ nul. first.1 (first.0 ∙ nul) in
     (λ i. key_cmp (key_of-cons a xs first.1 i) (key_of-cons b ys live i))
     ∙ ap (λ o. ordering_then o (key_cmp (key_of xs) (key_of ys))) (cmp-same a b first.0)
-    ∙ skip_keys n xs ys (λ k from to. agree (suc k) (omega arith) (omega arith)) (omega arith) (omega arith)
+    ∙ skip_keys n xs ys (λ k from to. equal (suc k) (omega arith) (omega arith)) (omega arith) (omega arith)
 
 least : (a b : ℕ) → a ≡ 0 → Less ≡ ordering_then (nat_cmp a b) Less
 least a b nul =
@@ -121,16 +121,16 @@ least a b nul =
       | inr at ↦ rw (cmp-same a b (omega (arith, nul, at))) refl
     ]
 
--- a text against bytes of which the first is b, where they part at once
+-- a text against bytes of which the first is b, where they differ or stop at once
 before_byte : (x : List ℕ) (b : ℕ) (more : List ℕ) → (0 < length x → (not (get_or x 0 0 == b) || get_or x 0 0 == 0) ≡ true) →
     key_cmp (key_of x) (b ∷ more) ≡ ordering_then (nat_cmp (get_or x 0 0) b) Less
-before_byte [] b more part = least 0 b refl
-before_byte (a ∷ xs) b more part =
+before_byte [] b more ends = least 0 b refl
+before_byte (a ∷ xs) b more ends =
     elim (cases_eq a 0) [
       | inl nul ↦ ap (λ k. key_cmp k (b ∷ more)) (key_of-nul a xs nul) ∙ least a b nul
       | inr live ↦
           ap (λ k. key_cmp k (b ∷ more)) (key_of-cons a xs live)
-          ∙ then-unequal a b (key_cmp (key_of xs) more) Less (unlike a b (part (omega arith)) live)
+          ∙ then-unequal a b (key_cmp (key_of xs) more) Less (unlike a b (ends (omega arith)) live)
     ]
 
 -- a text against no bytes
@@ -170,20 +170,20 @@ reports true same = (λ _. refl, λ _. refl)
 reports false true = (λ is. absurd (cc), λ is. absurd (cc))
 reports false false = (λ is. absurd (cc), λ is. absurd (cc))
 
--- two texts that part at once
+-- two texts that differ or stop at once
 before_text : (x y : List ℕ) → (0 < length x → 0 < length y → (not (get_or x 0 0 == get_or y 0 0) || get_or x 0 0 == 0) ≡ true) →
     key_cmp (key_of x) (key_of y) ≡ nat_cmp (get_or x 0 0) (get_or y 0 0)
-before_text x [] part = before_end x
-before_text [] (b ∷ ys) part =
+before_text x [] ends = before_end x
+before_text [] (b ∷ ys) ends =
     elim (cases_eq b 0) [
       | inl nul ↦ ap (key_cmp []) (key_of-nul b ys nul) ∙ sym (cmp-same 0 b (sym nul))
       | inr live ↦ ap (key_cmp []) (key_of-cons b ys live) ∙ sym (cmp-less 0 b (omega (arith, live)))
     ]
-before_text (a ∷ xs) (b ∷ ys) part =
+before_text (a ∷ xs) (b ∷ ys) ends =
     elim (cases_eq b 0) [
       | inl nul ↦ ap (key_cmp (key_of (a ∷ xs))) (key_of-nul b ys nul) ∙ before_end (a ∷ xs) ∙ ap (nat_cmp a) (sym nul)
       | inr live ↦
-          let first = part (omega arith) (omega arith) in
+          let first = ends (omega arith) (omega arith) in
           ap (key_cmp (key_of (a ∷ xs))) (key_of-cons b ys live)
           ∙ before_byte (a ∷ xs) b (key_of ys) (λ _. first)
           ∙ then-other a b (λ same. unlike a b first (λ nul. live (sym same ∙ nul)) same)
@@ -199,23 +199,23 @@ drop_after zero x = refl
 drop_after (suc n) [] = let e : suc n + 1 ≡ suc (n + 1) = omega arith in rw e refl
 drop_after (suc n) (a ∷ xs) = let e : suc n + 1 ≡ suc (n + 1) = omega arith in rw e (drop_after n xs)
 
--- the two rests after the common prefix part at once, where neither is empty
+-- the two rests after the common prefix differ or stop at once, where neither is empty
 part_after : (x y : List ℕ) (n : ℕ) → IsCommonPrefix 0 x y n → 0 < length (drop n x) → 0 < length (drop n y) →
     (not (get_or (drop n x) 0 0 == get_or (drop n y) 0 0) || get_or (drop n x) 0 0 == 0) ≡ true
 part_after x y n is some_x some_y =
-    rw (at-drop n x, at-drop n y) (is.part (omega (arith, length-drop n x)) (omega (arith, length-drop n y)))
+    rw (at-drop n x, at-drop n y) (is.ends (omega (arith, length-drop n x)) (omega (arith, length-drop n y)))
 
 before_some : (x y more : List ℕ) → 0 < length y → (0 < length x → 0 < length y → (not (get_or x 0 0 == get_or y 0 0) || get_or x 0 0 == 0) ≡ true) →
     key_cmp (key_of x) (y ++ more) ≡ ordering_then (nat_cmp (get_or x 0 0) (get_or y 0 0)) Less
-before_some x [] more some part = absurd (omega arith)
-before_some x (b ∷ ys) more some part = before_byte x b (ys ++ more) (λ some_x. part some_x (omega arith))
+before_some x [] more some ends = absurd (omega arith)
+before_some x (b ∷ ys) more some ends = before_byte x b (ys ++ more) (λ some_x. ends some_x (omega arith))
 
 module _ (x y : List ℕ) (n : ℕ) (is : IsCommonPrefix 0 x y n) where
   -- where the second text goes on, its next byte decides
   pub decided_within : (more : List ℕ) → n < length y →
       key_cmp (key_of x) (y ++ more) ≡ ordering_then (nat_cmp (get_or x n 0) (get_or y n 0)) Less
   decided_within more below =
-      skip n x y more is.agree is.within_first is.within_second
+      skip n x y more is.equal is.within_first is.within_second
       ∙ before_some (drop n x) (drop n y) more (omega (arith, length-drop n y)) (part_after x y n is)
       ∙ rw (at-drop n x, at-drop n y) refl
 
@@ -226,7 +226,7 @@ module _ (x y : List ℕ) (n : ℕ) (is : IsCommonPrefix 0 x y n) where
   pub decided_at_end : n ≡ length y → key_cmp (key_of x) y ≡ nat_cmp (get_or x n 0) 0
   decided_at_end end =
       ap (key_cmp (key_of x)) (sym (append-nil y))
-      ∙ skip n x y [] is.agree is.within_first is.within_second
+      ∙ skip n x y [] is.equal is.within_first is.within_second
       ∙ ap (λ l. key_cmp (key_of (drop n x)) (l ++ [])) (drop_all n y (omega arith))
       ∙ before_end (drop n x)
       ∙ ap (λ a. nat_cmp a 0) (at-drop n x)
@@ -235,7 +235,7 @@ module _ (x y : List ℕ) (n : ℕ) (is : IsCommonPrefix 0 x y n) where
   decided_after : (more : List ℕ) → n ≡ length y →
       key_cmp (key_of x) (y ++ 4 ∷ more) ≡ ordering_then (nat_cmp (get_or x n 0) 4) (key_cmp (key_of (drop (n + 1) x)) more)
   decided_after more end =
-      skip n x y (4 ∷ more) is.agree is.within_first is.within_second
+      skip n x y (4 ∷ more) is.equal is.within_first is.within_second
       ∙ ap (λ l. key_cmp (key_of (drop n x)) (l ++ 4 ∷ more)) (drop_all n y (omega arith))
       ∙ before_separator (drop n x) 4 more (omega arith)
       ∙ rw (at-drop n x, drop_after n x) refl
@@ -257,7 +257,7 @@ module _ (x y : List ℕ) (n : ℕ) (is : IsCommonPrefix 0 x y n) where
   -- two keys
   decided_keys : key_cmp (key_of x) (key_of y) ≡ nat_cmp (get_or x n 0) (get_or y n 0)
   decided_keys =
-      skip_keys n x y is.agree is.within_first is.within_second
+      skip_keys n x y is.equal is.within_first is.within_second
       ∙ before_text (drop n x) (drop n y) (part_after x y n is)
       ∙ rw (at-drop n x, at-drop n y) refl
 

@@ -121,12 +121,12 @@ split_at (x ∷ xs) zero s is = cc
 split_at (x ∷ xs) (suc i) s is = ap (λ rest. x ∷ rest) (split_at xs i s is)
 
 -- each string of a table that stands in a file, with the strings where the table says
-pub IsString-laid : (order : Order) (bytes : List ℕ) (at start : ℕ) (ss : List (List ℕ)) →
+pub IsString-laid_out : (order : Order) (bytes : List ℕ) (at start : ℕ) (ss : List (List ℕ)) →
     StandsAt bytes at (table order start ss) →
     StandsAt bytes start (terminated ss) → start + length (terminated ss) < 2 ^ 32 →
     (i : ℕ) (s : List ℕ) → slice_get ss i ≡ Some s → IsString order bytes at i s
 unfolding string_at
-IsString-laid order bytes at start ss in_table in_strings small i s here =
+IsString-laid_out order bytes at start ss in_table in_strings small i s here =
     let xs = take i ss in
     let ys = drop (suc i) ss in
     let split = split_at ss i s here in

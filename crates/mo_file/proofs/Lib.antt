@@ -1,4 +1,4 @@
-pub mod AgreementLemmas
+pub mod CommonPrefixLemmas
 pub mod KeyComparison
 pub mod KeyLemmas
 pub mod FaultLemmas

@@ -8,16 +8,16 @@ use Rattle.std.proofs.lemmas.Option.{slice_get-map, slice_get_cases, slice_get_p
 use Rattle.mo_file.specs.declared.byte_order.Order.{Order}
 use Rattle.mo_file.specs.declared.file_header.FileHeader.{FileHeader}
 use Rattle.mo_file.specs.Word.{word_bytes}
-use Rattle.mo_file.specs.FileHeader.{Shows, magic, revision, message_count, originals_table, translations_table}
+use Rattle.mo_file.specs.FileHeader.{HasMagicOf, magic, revision, message_count, originals_table, translations_table}
 use Rattle.mo_file.specs.Message.{Message, originals, translations}
 use Rattle.mo_file.specs.Key.{AreRising, keys}
 use Rattle.mo_file.specs.StringTable.{messages_of, message_at}
 use Rattle.mo_file.specs.Layout.{header, layout, originals_offset, table, terminated, translations_offset}
 use Rattle.mo_file.specs.Checking.{AreRisingBelow, HasStrings, IsHeader}
-use Rattle.mo_file.specs.Laws.{LayoutIsCatalog}
+use Rattle.mo_file.specs.Laws.{LayoutIsMoFile}
 use Rattle.mo_file.proofs.BuildLemmas.{length-header, length-layout, length-magic, length-table, length-word_bytes}
 use Rattle.mo_file.proofs.FaultLemmas.{faultless}
-use Rattle.mo_file.proofs.LayoutLemmas.{IsString, IsString-laid, StandsAt, word_at-StandsAt}
+use Rattle.mo_file.proofs.LayoutLemmas.{IsString, IsString-laid_out, StandsAt, word_at-StandsAt}
 use Rattle.mo_file.proofs.ViewLemmas.{keys-at, length-keys-messages_of, length-messages_of, messages_of-at}
 
 -- two lists with the same message at each index
@@ -74,7 +74,7 @@ module _ (order : Order) (messages : List Message) where
       StandsAt bytes offset part
   stands prefix part rest offset is after = record { prefix = prefix; rest = rest; is = is; after = after }
 
-  shows : Shows order bytes
+  shows : HasMagicOf order bytes
   shows =
       let rest = revision_word ++ (count_word ++ (originals_word ++ (translations_word ++ (hash_words ++ body)))) in
       let split : bytes ≡ magic order ++ rest = simp append_assoc in
@@ -145,7 +145,7 @@ module _ (order : Order) (messages : List Message) where
         IsString order bytes (originals_table order bytes) i m.original
     original_here i m is =
         let original = λ (x : Message). x.original in
-        IsString-laid order bytes (originals_table order bytes) (originals_offset messages) (originals messages) original_entries_stand
+        IsString-laid_out order bytes (originals_table order bytes) (originals_offset messages) (originals messages) original_entries_stand
         original_strings_stand (omega (arith, small)) i m.original
         (slice_get-map original messages i ∙ ap (option_map original) is)
 
@@ -153,7 +153,7 @@ module _ (order : Order) (messages : List Message) where
         IsString order bytes (translations_table order bytes) i m.translation
     translation_here i m is =
         let translation = λ (x : Message). x.translation in
-        IsString-laid order bytes (translations_table order bytes) (translations_offset messages) (translations messages) translation_entries_stand
+        IsString-laid_out order bytes (translations_table order bytes) (translations_offset messages) (translations messages) translation_entries_stand
         translation_strings_stand (omega (arith, small)) i m.translation
         (slice_get-map translation messages i ∙ ap (option_map translation) is)
 
@@ -220,8 +220,8 @@ module _ (order : Order) (messages : List Message) where
         let listed : i + 1 < length (keys (messages_of order bytes)) = omega (arith, length-keys-messages_of order bytes) in
         unsorted (rw (keys-at order bytes i (omega arith), keys-at order bytes (i + 1) inside) at (risen.next i listed))
 
-pub layout_is_catalog : LayoutIsCatalog
-layout_is_catalog order messages rising fits = record {
+pub layout_is_mo_file : LayoutIsMoFile
+layout_is_mo_file order messages rising fits = record {
   shows = shows order messages;
   faultless =
       faultless (read_header order messages fits) (bytes order messages) (header_read order messages fits)

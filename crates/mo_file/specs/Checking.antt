@@ -2,13 +2,13 @@
 use Rattle.std.specs.Prelude.{◌≡◌, ℕ, ◌+◌, ◌*◌, ◌/◌, ◌<◌, ◌≤◌, List, length, Option, None, Some}
 use Rattle.mo_file.specs.declared.byte_order.Order.{Order}
 use Rattle.mo_file.specs.declared.file_header.FileHeader.{FileHeader}
-use Rattle.mo_file.specs.FileHeader.{Shows, revision, message_count, originals_table, translations_table}
+use Rattle.mo_file.specs.FileHeader.{HasMagicOf, revision, message_count, originals_table, translations_table}
 use Rattle.mo_file.specs.Fault.{IsNotRising, IsOutside, IsUnterminated}
 
 -- the file header is that of these bytes, and both tables lie inside the file
 pub record IsHeader (header : FileHeader) (bytes : List ℕ) : Type 0 where
   pub long : 28 ≤ length bytes
-  pub shows : Shows header.order bytes
+  pub shows : HasMagicOf header.order bytes
   pub known : revision header.order bytes / 65536 ≤ 1
   pub count : header.count ≡ message_count header.order bytes
   pub originals : header.originals ≡ originals_table header.order bytes

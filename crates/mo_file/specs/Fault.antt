@@ -6,7 +6,7 @@ use Rattle.mo_file.specs.declared.byte_order.Order.{Order}
 use Rattle.mo_file.specs.declared.fault.MoError.{MoError}
 use Rattle.mo_file.specs.declared.fault.MoError.TheVariants.{TooShort, BadMagic, BadRevision, TableOutside}
 use Rattle.mo_file.specs.declared.fault.MoError.TheVariants.{StringOutside, NoTerminator, NotSorted}
-use Rattle.mo_file.specs.FileHeader.{Shows, revision, message_count, originals_table, translations_table}
+use Rattle.mo_file.specs.FileHeader.{HasMagicOf, revision, message_count, originals_table, translations_table}
 use Rattle.mo_file.specs.StringTable.{end_at, original_at}
 use Rattle.mo_file.specs.Key.{key_of, key_cmp}
 
@@ -43,12 +43,12 @@ HasFaultIn order bytes (NotSorted i) =
 -- these bytes have this fault
 abbrev pub HasFault : List ℕ → MoError → Type 0
 HasFault bytes TooShort = length bytes < 28
-HasFault bytes BadMagic = (order : Order) → ¬ Shows order bytes
-HasFault bytes BadRevision = (order : Order) × Shows order bytes × HasFaultIn order bytes BadRevision
-HasFault bytes TableOutside = (order : Order) × Shows order bytes × HasFaultIn order bytes TableOutside
-HasFault bytes (StringOutside i) = (order : Order) × Shows order bytes × HasFaultIn order bytes (StringOutside i)
-HasFault bytes (NoTerminator i) = (order : Order) × Shows order bytes × HasFaultIn order bytes (NoTerminator i)
-HasFault bytes (NotSorted i) = (order : Order) × Shows order bytes × HasFaultIn order bytes (NotSorted i)
+HasFault bytes BadMagic = (order : Order) → ¬ HasMagicOf order bytes
+HasFault bytes BadRevision = (order : Order) × HasMagicOf order bytes × HasFaultIn order bytes BadRevision
+HasFault bytes TableOutside = (order : Order) × HasMagicOf order bytes × HasFaultIn order bytes TableOutside
+HasFault bytes (StringOutside i) = (order : Order) × HasMagicOf order bytes × HasFaultIn order bytes (StringOutside i)
+HasFault bytes (NoTerminator i) = (order : Order) × HasMagicOf order bytes × HasFaultIn order bytes (NoTerminator i)
+HasFault bytes (NotSorted i) = (order : Order) × HasMagicOf order bytes × HasFaultIn order bytes (NotSorted i)
 
 -- the order in which kinds of faults are reported
 abbrev pub kind : MoError → ℕ

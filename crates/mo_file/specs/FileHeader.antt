@@ -12,8 +12,8 @@ magic Little = 0xde ∷ 0x12 ∷ 0x04 ∷ 0x95 ∷ []
 magic Big = 0x95 ∷ 0x04 ∷ 0x12 ∷ 0xde ∷ []
 
 -- the magic number of a file shows its byte order
-abbrev pub Shows : Order → List ℕ → Type 0
-Shows order bytes = take 4 bytes ≡ magic order
+abbrev pub HasMagicOf : Order → List ℕ → Type 0
+HasMagicOf order bytes = take 4 bytes ≡ magic order
 
 -- the major revision stands in the high 16 bits, the minor one in the low ones
 abbrev pub revision : Order → List ℕ → ℕ

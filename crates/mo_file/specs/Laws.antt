@@ -4,26 +4,26 @@ use Rattle.mo_file.specs.declared.byte_order.Order.{Order}
 use Rattle.mo_file.specs.declared.fault.MoError.{MoError}
 use Rattle.mo_file.specs.Key.{keys, AreRising}
 use Rattle.mo_file.specs.Layout.{layout, LayoutFits}
-use Rattle.mo_file.specs.Catalog.{IsCatalog}
+use Rattle.mo_file.specs.MoFile.{IsMoFile}
 use Rattle.mo_file.specs.Fault.{IsFirstFault}
 use Rattle.mo_file.specs.Message.{Message}
 
 -- what is laid out in the order of its keys is a valid file with these very messages
-abbrev pub LayoutIsCatalog : Type 0
-LayoutIsCatalog =
+abbrev pub LayoutIsMoFile : Type 0
+LayoutIsMoFile =
     (order : Order) (messages : List Message) → AreRising (keys messages) → LayoutFits order messages
-    → IsCatalog order (layout order messages) messages
+    → IsMoFile order (layout order messages) messages
 
 -- a file is valid in one byte order at most, and holds one list of messages
-abbrev pub CatalogIsUnique : Type 0
-CatalogIsUnique =
-    (bytes : List ℕ) (order order' : Order) (messages messages' : List Message) → IsCatalog order bytes messages
-    → IsCatalog order' bytes messages' → (order ≡ order') × (messages ≡ messages')
+abbrev pub OneMessageList : Type 0
+OneMessageList =
+    (bytes : List ℕ) (order order' : Order) (messages messages' : List Message) → IsMoFile order bytes messages
+    → IsMoFile order' bytes messages' → (order ≡ order') × (messages ≡ messages')
 
 -- every byte string is a valid file, or has a first fault
-abbrev pub CatalogOrFault : Type 0
-CatalogOrFault =
-    (bytes : List ℕ) → ((order : Order) × (messages : List Message) × IsCatalog order bytes messages) ⊎ ((fault : MoError) × IsFirstFault bytes fault)
+abbrev pub MoFileOrFault : Type 0
+MoFileOrFault =
+    (bytes : List ℕ) → ((order : Order) × (messages : List Message) × IsMoFile order bytes messages) ⊎ ((fault : MoError) × IsFirstFault bytes fault)
 
 -- a byte string has one first fault at most
 abbrev pub OneFirstFault : Type 0
@@ -31,7 +31,7 @@ OneFirstFault =
     (bytes : List ℕ) (fault fault' : MoError) → IsFirstFault bytes fault → IsFirstFault bytes fault' → fault ≡ fault'
 
 -- a valid file has no first fault
-abbrev pub NoFaultOfCatalog : Type 0
-NoFaultOfCatalog =
-    (bytes : List ℕ) (order : Order) (messages : List Message) (fault : MoError) → IsCatalog order bytes messages
+abbrev pub NoFaultOfMoFile : Type 0
+NoFaultOfMoFile =
+    (bytes : List ℕ) (order : Order) (messages : List Message) (fault : MoError) → IsMoFile order bytes messages
     → IsFirstFault bytes fault → ⊥

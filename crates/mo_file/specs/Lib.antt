@@ -1,11 +1,11 @@
 pub mod Message
 pub mod Key
-pub mod Agreement
+pub mod CommonPrefix
 pub mod Word
 pub mod FileHeader
 pub mod StringTable
 pub mod Fault
-pub mod Catalog
+pub mod MoFile
 pub mod Checking
 pub mod Layout
 pub mod Pairs

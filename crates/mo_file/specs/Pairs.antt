@@ -1,7 +1,7 @@
 -- The pairs that a file is built from, as messages.
 use Rattle.std.specs.Prelude.{ℕ, List, map}
 use Rattle.mo_file.specs.declared.pairs.Pair.{Pair}
-use Rattle.mo_file.specs.declared.pairs.LentPair.{LentPair}
+use Rattle.mo_file.specs.declared.pairs.BorrowedPair.{BorrowedPair}
 use Rattle.mo_file.specs.declared.pairs.Part.{Part}
 use Rattle.mo_file.specs.declared.pairs.Part.TheVariants.{Original, Translation}
 use Rattle.mo_file.specs.Message.{Message}
@@ -13,17 +13,17 @@ abbrev pub messages_of_pairs : List Pair → List Message
 messages_of_pairs pairs = map message pairs
 
 -- the same of pairs whose strings are borrowed
-abbrev pub lent_message : LentPair → Message
-lent_message pair = record { original = pair.original.now; translation = pair.translation.now }
+abbrev pub borrowed_message : BorrowedPair → Message
+borrowed_message pair = record { original = pair.original.now; translation = pair.translation.now }
 
-abbrev pub messages_of_lent : List LentPair → List Message
-messages_of_lent pairs = map lent_message pairs
+abbrev pub messages_of_borrowed : List BorrowedPair → List Message
+messages_of_borrowed pairs = map borrowed_message pairs
 
 -- one string of a pair
-abbrev pub string_of : Part → LentPair → List ℕ
+abbrev pub string_of : Part → BorrowedPair → List ℕ
 string_of Original pair = pair.original.now
 string_of Translation pair = pair.translation.now
 
 -- that string of each pair
-abbrev pub strings_of : Part → List LentPair → List (List ℕ)
+abbrev pub strings_of : Part → List BorrowedPair → List (List ℕ)
 strings_of part pairs = map (string_of part) pairs

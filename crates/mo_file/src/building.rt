@@ -2,11 +2,11 @@ ghost use Rattle.std.specs.Prelude.{◌≡◌, ◌+◌, ◌-◌, ◌^◌, ◌<�
 ghost use Rattle.mo_file.specs.Building.{IsBuildFault};
 ghost use Rattle.mo_file.specs.Key.{AreRising, keys};
 ghost use Rattle.mo_file.specs.Layout.{LayoutFits, layout};
-ghost use Rattle.mo_file.specs.Pairs.{messages_of_lent, messages_of_pairs};
+ghost use Rattle.mo_file.specs.Pairs.{messages_of_borrowed, messages_of_pairs};
 
 use crate::byte_order::Order;
 use crate::file_header::HEADER_LEN;
-use crate::pairs::{LentPair, Pair, Part, are_rising, lend};
+use crate::pairs::{BorrowedPair, Pair, Part, are_rising, borrowed_pairs};
 use crate::writing::{originals_offset, push_header, push_strings, push_table};
 use std::alloc::{AllocError, Global};
 use thiserror::Error;
@@ -21,7 +21,7 @@ pub enum BuildError {
     /// The file would have more than 4,294,967,295 bytes, so that 32 bits don't reach its end.
     #[error("too large")]
     TooLarge,
-    /// The keys of the pairs don't rise strictly by unsigned bytes, a prefix before what is longer.
+    /// A key isn't above the one before it, by unsigned bytes; a prefix is below what is longer.
     #[error("not sorted by key")]
     NotSorted,
     /// An allocation failed.
@@ -57,8 +57,8 @@ pub fn build(alloc: Global, order: Order, pairs: &[Pair]) -> Result<Vec<u8>, Bui
     if !are_rising(pairs) {
         return Err(BuildError::NotSorted);
     }
-    let lent = lend(alloc, pairs)?;
-    Ok(laid_out(alloc, order, &lent, len as u32)?)
+    let borrowed = borrowed_pairs(alloc, pairs)?;
+    Ok(laid_out(alloc, order, &borrowed, len as u32)?)
 }
 
 /// The MO file of pairs whose keys rise, as [`build`] lays it out. It doesn't check the keys again,
@@ -66,14 +66,14 @@ pub fn build(alloc: Global, order: Order, pairs: &[Pair]) -> Result<Vec<u8>, Bui
 pub fn build_sorted(
     alloc: Global,
     order: Order,
-    pairs: &[LentPair<'_>],
+    pairs: &[BorrowedPair<'_>],
 ) -> Result<Vec<u8>, BuildError>
-    requires { AreRising (keys (messages_of_lent pairs.now)) }
-    ensures layout { IfOk result (λ bytes. bytes.items ≡ layout order (messages_of_lent pairs.now)) }
-    ensures fits { OnOk result (LayoutFits order (messages_of_lent pairs.now)) }
-    ensures fault { IfErr result (IsBuildFault order (messages_of_lent pairs.now)) }
+    requires { AreRising (keys (messages_of_borrowed pairs.now)) }
+    ensures layout { IfOk result (λ bytes. bytes.items ≡ layout order (messages_of_borrowed pairs.now)) }
+    ensures fits { OnOk result (LayoutFits order (messages_of_borrowed pairs.now)) }
+    ensures fault { IfErr result (IsBuildFault order (messages_of_borrowed pairs.now)) }
 {
-    let len = lent_len(pairs);
+    let len = borrowed_layout_len(pairs);
     if len > u64::from(u32::MAX) {
         return Err(BuildError::TooLarge);
     }
@@ -102,9 +102,9 @@ fn layout_len(pairs: &[Pair]) -> u64
 }
 
 /// The length of the file of borrowed pairs, in either byte order, or 2^64 - 1 where it is longer.
-fn lent_len(pairs: &[LentPair<'_>]) -> u64
+fn borrowed_layout_len(pairs: &[BorrowedPair<'_>]) -> u64
     ensures { (order : Order)
-        → result ≡ min (length (layout order (messages_of_lent pairs.now))) (2 ^ 64 - 1) }
+        → result ≡ min (length (layout order (messages_of_borrowed pairs.now))) (2 ^ 64 - 1) }
 {
     let mut len = u64::from(HEADER_LEN);
     for pair in pairs {
@@ -117,11 +117,11 @@ fn lent_len(pairs: &[LentPair<'_>]) -> u64
 fn laid_out(
     alloc: Global,
     order: Order,
-    pairs: &[LentPair<'_>],
+    pairs: &[BorrowedPair<'_>],
     len: u32,
 ) -> Result<Vec<u8>, AllocError>
-    requires { len ≡ length (layout order (messages_of_lent pairs.now)) }
-    ensures { IfOk result (λ bytes. bytes.items ≡ layout order (messages_of_lent pairs.now)) }
+    requires { len ≡ length (layout order (messages_of_borrowed pairs.now)) }
+    ensures { IfOk result (λ bytes. bytes.items ≡ layout order (messages_of_borrowed pairs.now)) }
 {
     let count = pairs.len() as u32;
     let mut out = Vec::with_capacity(alloc, len as usize)?;

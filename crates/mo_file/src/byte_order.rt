@@ -1,5 +1,5 @@
 ghost use Rattle.std.specs.Prelude.{◌≡◌, ◌+◌, ◌≤◌, ◌++◌, length, MatchOption, OnOk};
-ghost use Rattle.mo_file.specs.FileHeader.{Shows};
+ghost use Rattle.mo_file.specs.FileHeader.{HasMagicOf};
 ghost use Rattle.mo_file.specs.Word.{word_at, word_bytes};
 
 use byteorder::{BigEndian, ByteOrder, LittleEndian};
@@ -26,8 +26,8 @@ impl Order {
     /// number stands there.
     pub fn of_file(bytes: &[u8]) -> Option<Order>
         ensures { MatchOption result
-            ((order : Order) → ¬ Shows order bytes.now)
-            (λ order. Shows order bytes.now) }
+            ((order : Order) → ¬ HasMagicOf order bytes.now)
+            (λ order. HasMagicOf order bytes.now) }
     {
         if bytes.starts_with(&LITTLE_MAGIC) {
             Some(Order::Little)
@@ -40,8 +40,8 @@ impl Order {
 
     /// The byte order of a file that has been checked.
     pub(crate) fn of_checked(bytes: &[u8]) -> Order
-        requires { (order : Order) × Shows order bytes.now }
-        ensures { (order : Order) → Shows order bytes.now → result ≡ order }
+        requires { (order : Order) × HasMagicOf order bytes.now }
+        ensures { (order : Order) → HasMagicOf order bytes.now → result ≡ order }
     {
         if bytes.starts_with(&LITTLE_MAGIC) {
             Order::Little

@@ -7,13 +7,13 @@ use std::marker::Model;
 /// keys.
 #[derive(Drop)]
 pub struct Meter {
-    ticks: u64,
+    count: u64,
 }
 
 impl Model for Meter {
     ghost Value = { ℕ };
 
-    ghost view = { λ meter. meter.ticks };
+    ghost view = { λ meter. meter.count };
 }
 
 impl Meter {
@@ -21,14 +21,14 @@ impl Meter {
     pub fn new() -> Self
         ensures { result ≡ 0 }
     {
-        Meter { ticks: 0 }
+        Meter { count: 0 }
     }
 
     /// How many looks it has counted so far.
     pub fn count(&self) -> u64
         ensures { result ≡ self.now }
     {
-        self.ticks
+        self.count
     }
 
     /// Counts one more.
@@ -36,6 +36,6 @@ impl Meter {
         requires { self.old < 2 ^ 64 - 1 }
         ensures { self.new ≡ self.old + 1 }
     {
-        self.ticks += 1;
+        self.count += 1;
     }
 }

@@ -1,6 +1,6 @@
 ghost use Rattle.std.specs.Prelude.{◌≡◌, List, IfErr, MatchResult};
 ghost use Rattle.mo_file.specs.declared.byte_order.Order.{Order};
-ghost use Rattle.mo_file.specs.Catalog.{IsCatalog};
+ghost use Rattle.mo_file.specs.MoFile.{IsMoFile};
 ghost use Rattle.mo_file.specs.Fault.{IsFirstFault, comparisons_before};
 ghost use Rattle.mo_file.specs.Message.{Message};
 ghost use Rattle.mo_file.specs.Checking.{IsChecked, IsHeader};
@@ -60,8 +60,8 @@ impl FileHeader {
 
     /// Reads the file header of a file that has been checked, and checks nothing.
     pub(crate) fn of_checked(bytes: &[u8]) -> FileHeader
-        requires { (order : Order) × (messages : List Message) × IsCatalog order bytes.now messages }
-        ensures { (order : Order) (messages : List Message) → IsCatalog order bytes.now messages
+        requires { (order : Order) × (messages : List Message) × IsMoFile order bytes.now messages }
+        ensures { (order : Order) (messages : List Message) → IsMoFile order bytes.now messages
             → (result.order ≡ order) × IsChecked result bytes.now }
     {
         let order = Order::of_checked(bytes);

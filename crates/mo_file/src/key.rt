@@ -3,7 +3,7 @@ ghost use Rattle.std.specs.Option.{option_copied};
 ghost use Rattle.std.specs.declared.cmp.Ordering.TheVariants.{Less};
 ghost use Rattle.mo_file.specs.Key.{key_cmp, key_of, query_key};
 
-use crate::agreement::{byte_at, common_prefix_len, find_byte, long_common_prefix_len};
+use crate::common_prefix::{byte_at, common_prefix_len, find_byte, long_common_prefix_len};
 use std::cmp::Ordering;
 
 /// The byte that stands between a context and a msgid.

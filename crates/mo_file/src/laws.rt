@@ -1,21 +1,21 @@
 //! Laws of MO files, each the contract of a function that does nothing: a call brings the law into
 //! a proof.
 
-ghost use Rattle.mo_file.specs.Laws.{CatalogIsUnique, CatalogOrFault, LayoutIsCatalog, NoFaultOfCatalog, OneFirstFault};
+ghost use Rattle.mo_file.specs.Laws.{OneMessageList, MoFileOrFault, LayoutIsMoFile, NoFaultOfMoFile, OneFirstFault};
 
 /// What is laid out in the order of its keys is a valid file with these very messages.
-pub fn layout_is_catalog()
-    ensures { LayoutIsCatalog }
+pub fn layout_is_mo_file()
+    ensures { LayoutIsMoFile }
 {}
 
 /// A file is valid in one byte order at most, and holds one list of messages.
-pub fn catalog_is_unique()
-    ensures { CatalogIsUnique }
+pub fn one_message_list()
+    ensures { OneMessageList }
 {}
 
 /// Every byte string is a valid file or has a first fault.
-pub fn catalog_or_fault()
-    ensures { CatalogOrFault }
+pub fn mo_file_or_fault()
+    ensures { MoFileOrFault }
 {}
 
 /// A byte string has one first fault at most.
@@ -24,6 +24,6 @@ pub fn one_first_fault()
 {}
 
 /// A valid file has no first fault.
-pub fn no_fault_of_catalog()
-    ensures { NoFaultOfCatalog }
+pub fn no_fault_of_mo_file()
+    ensures { NoFaultOfMoFile }
 {}

@@ -7,15 +7,15 @@
 //! rising order of their keys. A [`Meter`] counts the looks at originals, so that a search can
 //! promise how few it needs.
 //!
-//! To read a file: `fault`, `byte_order`, `file_header`, `strings`, `agreement`, `key`, `counting`,
-//! `checking`, `view`. To build one: `pairs`, `writing`, `building`. Then `laws`.
+//! To read a file: `fault`, `byte_order`, `file_header`, `strings`, `common_prefix`, `key`,
+//! `counting`, `checking`, `view`. To build one: `pairs`, `writing`, `building`. Then `laws`.
 
 #![tactic(auto)]
 
-mod agreement;
 mod building;
 mod byte_order;
 mod checking;
+mod common_prefix;
 mod counting;
 mod fault;
 mod file_header;
@@ -26,14 +26,14 @@ mod strings;
 mod view;
 mod writing;
 
-pub use agreement::find_byte;
 pub use building::{BuildError, build, build_sorted};
 pub use byte_order::Order;
+pub use common_prefix::find_byte;
 pub use counting::Meter;
 pub use fault::MoError;
 pub use key::compare_key;
 pub use laws::{
-    catalog_is_unique, catalog_or_fault, layout_is_catalog, no_fault_of_catalog, one_first_fault,
+    layout_is_mo_file, mo_file_or_fault, no_fault_of_mo_file, one_first_fault, one_message_list,
 };
-pub use pairs::{LentPair, Pair};
+pub use pairs::{BorrowedPair, Pair};
 pub use view::MoView;

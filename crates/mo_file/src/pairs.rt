@@ -1,13 +1,13 @@
 ghost use Rattle.std.specs.Prelude.{◌≡◌, ◌↔◌, IfOk, IsTrue};
 ghost use Rattle.mo_file.specs.Key.{AreRising, keys};
-ghost use Rattle.mo_file.specs.Pairs.{messages_of_lent, messages_of_pairs};
+ghost use Rattle.mo_file.specs.Pairs.{messages_of_borrowed, messages_of_pairs};
 
 use crate::key::key_of;
 use std::alloc::{AllocError, Global};
 use std::cmp::Ordering;
 
 /// An original and its translation, as they stand in a file, without the NUL that ends each. The
-/// original is the key, or for an entry with a plural the key, a NUL and the plural; the key is the
+/// original is the key, or for a message with a plural the key, a NUL and the plural; the key is the
 /// msgid, or the context, a byte 4 (EOT) and the msgid. The translation is the forms with a NUL
 /// between them ("The Format of GNU MO Files").
 #[derive(Debug, Drop)]
@@ -27,14 +27,14 @@ pub(crate) enum Part {
 
 /// A pair whose strings are borrowed.
 #[derive(Clone, Copy, Debug)]
-pub struct LentPair<'a> {
+pub struct BorrowedPair<'a> {
     /// The key, and where there is a plural a NUL and the plural.
     pub original: &'a [u8],
     /// The forms, with a NUL between two.
     pub translation: &'a [u8],
 }
 
-impl<'a> LentPair<'a> {
+impl<'a> BorrowedPair<'a> {
     ghost use Rattle.mo_file.specs.Pairs.{string_of};
 
     /// The original or the translation, as `part` says.
@@ -49,17 +49,20 @@ impl<'a> LentPair<'a> {
 }
 
 /// The same pairs, with their strings borrowed.
-pub(crate) fn lend(alloc: Global, pairs: &[Pair]) -> Result<Vec<LentPair<'_>>, AllocError>
-    ensures { IfOk result (λ lent. messages_of_lent lent.items ≡ messages_of_pairs pairs.now) }
+pub(crate) fn borrowed_pairs(
+    alloc: Global,
+    pairs: &[Pair],
+) -> Result<Vec<BorrowedPair<'_>>, AllocError>
+    ensures { IfOk result (λ borrowed. messages_of_borrowed borrowed.items ≡ messages_of_pairs pairs.now) }
 {
-    let mut lent = Vec::with_capacity(alloc, pairs.len())?;
+    let mut borrowed = Vec::with_capacity(alloc, pairs.len())?;
     for pair in pairs {
-        lent.push(LentPair {
+        borrowed.push(BorrowedPair {
             original: &pair.original,
             translation: &pair.translation,
         })?;
     }
-    Ok(lent)
+    Ok(borrowed)
 }
 
 /// Whether each key is above the one before it.

@@ -49,7 +49,8 @@ pub(crate) fn translation_at(header: FileHeader, bytes: &[u8], i: u32) -> &[u8]
     string_at(header.order, bytes, header.translations, i)
 }
 
-/// The rest of the file from the original of message `i` on, where the NUL after it ends its key.
+/// The rest of the file from the original of message `i` on. It has the original's key, which ends
+/// at the NUL after the original at the latest.
 #[tactic(auto, using(crate::proofs::KeyComparison::key_of_rest), unfolding(crate::specs::StringTable::string_at))]
 #[inline(always)]
 pub(crate) fn rest_at(header: FileHeader, bytes: &[u8], i: u32) -> &[u8]

@@ -1,7 +1,7 @@
 ghost use Rattle.std.specs.Prelude.{◌≡◌, ◌+◌, ◌-◌, ◌^◌, ◌<◌, ℕ, List, Some, length, IsOk, MatchResult, slice_get};
 ghost use Rattle.std.specs.Option.{option_copied};
 ghost use Rattle.mo_file.specs.declared.byte_order.Order.{Order};
-ghost use Rattle.mo_file.specs.Catalog.{IsCatalog};
+ghost use Rattle.mo_file.specs.MoFile.{IsMoFile};
 ghost use Rattle.mo_file.specs.Fault.{IsFirstFault, comparisons_before};
 ghost use Rattle.mo_file.specs.Key.{AreRising, key_at, key_cmp, keys, query_key};
 ghost use Rattle.mo_file.specs.Message.{Message, originals, translations};
@@ -37,7 +37,7 @@ impl<'a> Model for MoView<'a> {
 }
 
 impl<'a> MoView<'a> {
-    /// Checks bytes of any origin, in either byte order, and takes no memory. Strings and tables
+    /// Checks bytes of any origin, in either byte order, and allocates nothing. Strings and tables
     /// may lie anywhere in the file and may overlap; a hash table and all other bytes are ignored.
     ///
     /// The meter counts the comparisons of two neighbouring keys: one less than there are messages,
@@ -45,12 +45,12 @@ impl<'a> MoView<'a> {
     pub fn open(bytes: &'a [u8], meter: &mut Meter) -> Result<MoView<'a>, MoError>
         requires { meter.old < 2 ^ 63 }
         ensures exact { MatchResult result
-            (λ messages. (order : Order) × IsCatalog order bytes.now messages)
+            (λ messages. (order : Order) × IsMoFile order bytes.now messages)
             (IsFirstFault bytes.now) }
 
         // So a file that is refused is valid in no order and with no list of messages.
         ensures only { (order : Order) (messages : List Message)
-            → IsCatalog order bytes.now messages → IsOk result }
+            → IsMoFile order bytes.now messages → IsOk result }
         ensures cost { MatchResult result
             (λ messages. meter.new ≡ meter.old + (length messages - 1))
             (λ e. meter.new ≡ meter.old + comparisons_before e) }
@@ -64,9 +64,9 @@ impl<'a> MoView<'a> {
     /// The view of bytes that [`MoView::open`] has accepted, and that haven't changed since. It
     /// reads the file header and checks nothing.
     pub fn reopen(bytes: &'a [u8]) -> MoView<'a>
-        requires { (order : Order) × (messages : List Message) × IsCatalog order bytes.now messages }
+        requires { (order : Order) × (messages : List Message) × IsMoFile order bytes.now messages }
         ensures { (order : Order) (messages : List Message)
-            → IsCatalog order bytes.now messages → result ≡ messages }
+            → IsMoFile order bytes.now messages → result ≡ messages }
     {
         MoView {
             bytes,

@@ -4,7 +4,7 @@ ghost use Rattle.mo_file.specs.Pairs.{strings_of};
 
 use crate::byte_order::{BIG_MAGIC, LITTLE_MAGIC, Order, push_word};
 use crate::file_header::{DESCRIPTOR_LEN, HEADER_LEN};
-use crate::pairs::{LentPair, Part};
+use crate::pairs::{BorrowedPair, Part};
 use std::alloc::AllocError;
 
 /// Where the originals begin in a file of so many messages: after the file header and both tables.
@@ -38,7 +38,7 @@ pub(crate) fn push_header(out: &mut Vec<u8>, order: Order, count: u32) -> Result
 pub(crate) fn push_table(
     out: &mut Vec<u8>,
     order: Order,
-    pairs: &[LentPair<'_>],
+    pairs: &[BorrowedPair<'_>],
     part: Part,
     offset: u32,
 ) -> Result<u32, AllocError>
@@ -61,7 +61,7 @@ pub(crate) fn push_table(
 /// Appends the strings, each with its NUL.
 pub(crate) fn push_strings(
     out: &mut Vec<u8>,
-    pairs: &[LentPair<'_>],
+    pairs: &[BorrowedPair<'_>],
     part: Part,
 ) -> Result<(), AllocError>
     ensures { OnOk result (out.new.items ≡ out.old.items ++ terminated (strings_of part pairs.now)) }

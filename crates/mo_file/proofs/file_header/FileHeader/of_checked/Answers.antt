@@ -1,6 +1,6 @@
 use Rattle.std.proofs.Common.{arith, sym, subst}
 use Rattle.mo_file.specs.declared.fault.MoError.TheVariants.{TooShort}
-use Rattle.mo_file.specs.Catalog.{IsCatalog}
+use Rattle.mo_file.specs.MoFile.{IsMoFile}
 use Rattle.mo_file.proofs.FaultLemmas.{checked, not_below}
 use Rattle.mo_file.proofs.file_header.FileHeader.of_checked.Goals as goal
 
@@ -19,4 +19,4 @@ word-requires-3 c = let long = not_below _ _ (c.requires.2.faultless TooShort) i
 pub returns : goal.returns
 returns c order messages valid =
     let same = c.of_checked-order.ensures order valid.shows in
-    (same, checked _ c.args.bytes.now messages (subst (λ o. IsCatalog o c.args.bytes.now messages) (sym same) valid) c.word.ensures c.word-2.ensures c.word-3.ensures)
+    (same, checked _ c.args.bytes.now messages (subst (λ o. IsMoFile o c.args.bytes.now messages) (sym same) valid) c.word.ensures c.word-2.ensures c.word-3.ensures)

@@ -1,10 +1,10 @@
 use Rattle.std.proofs.Common.{◌-◌, ◌≤◌}
-use Rattle.mo_file.specs.Agreement.{AgreeBetween}
-use Rattle.mo_file.proofs.agreement.common_prefix_within.Given as goal
+use Rattle.mo_file.specs.CommonPrefix.{AreEqualBetween}
+use Rattle.mo_file.proofs.common_prefix.common_prefix_within.Given as goal
 
 abbrev pub invariant-groups : goal.invariant-groups
 invariant-groups g l = record {
-  agree : AgreeBetween l.stop l.first l.second 0 l.at;
+  equal : AreEqualBetween l.stop l.first l.second 0 l.at;
   inside : l.at ≤ l.len;
 }
 

@@ -1,6 +1,6 @@
 ghost use Rattle.std.specs.Prelude.{◌≡◌, ◌+◌, ◌≤◌, ◌<◌, length, slice_index};
 ghost use Rattle.memchr.specs.Find.{IsFirstByte, is_byte};
-ghost use Rattle.mo_file.specs.Agreement.{IsCommonPrefix, IsCommonPrefixIn, first_set};
+ghost use Rattle.mo_file.specs.CommonPrefix.{IsCommonPrefix, IsCommonPrefixIn, first_set};
 
 use std::simd::prelude::*;
 
@@ -64,8 +64,8 @@ fn common_prefix_within<const LANES: usize>(
     last + common_prefix_at::<LANES>(stop, first, second, last)
 }
 
-/// How many of the `LANES` bytes from `at` on are the same in both texts, up to the first that is
-/// `stop`.
+/// The length of the common prefix of the `LANES` bytes from `at` on in both texts, which ends
+/// before the first byte that is `stop`.
 #[inline(always)]
 fn common_prefix_at<const LANES: usize>(stop: u8, first: &[u8], second: &[u8], at: usize) -> usize
     requires lanes { LANES ≤ 64 }
@@ -75,8 +75,8 @@ fn common_prefix_at<const LANES: usize>(stop: u8, first: &[u8], second: &[u8], a
 {
     let ours = Simd::<u8, LANES>::from_slice(&first[at..]);
     let theirs = Simd::<u8, LANES>::from_slice(&second[at..]);
-    let parts = ours.simd_ne(theirs) | ours.simd_eq(Simd::splat(stop));
-    first_set(parts.to_bitmask(), LANES)
+    let ends = ours.simd_ne(theirs) | ours.simd_eq(Simd::splat(stop));
+    first_set(ends.to_bitmask(), LANES)
 }
 
 /// The index of the first lane that is set in the mask, or the number of lanes where none is.
@@ -99,7 +99,7 @@ pub(crate) fn byte_at(text: &[u8], at: usize) -> u8
     text.get(at).copied().unwrap_or(0)
 }
 
-/// The index of the first `byte` in a text. The text is compared with itself, which ends there.
+/// The index of the first `byte` in a text: the common prefix of the text and itself ends there.
 #[inline(always)]
 pub fn find_byte(byte: u8, text: &[u8]) -> Option<usize>
     ensures { IsFirstByte (is_byte byte) text.now result }

@@ -1,4 +1,4 @@
--- How far two texts agree: by the lanes of two vectors, and what it says of their keys.
+-- The common prefix of two texts, by the lanes of two vectors.
 use Rattle.std.proofs.Common.{◌≡◌, ℕ, ◌+◌, ◌-◌, ◌%◌, ◌^◌, ◌<◌, ◌≤◌, ◌==◌, ◌||◌, Bool, true, false, cond, not, bit_or, List, map, length, get_or, replicate, refl, sym, ap, ◌∙◌, arith}
 use Rattle.std.proofs.lemmas.Bool.{not-true, not-false}
 use Rattle.std.proofs.lemmas.Simd.{mask_l-mod, length-chunk, get_or-chunk, length-zip2, get_or-zip2, length-replicate, get_or-replicate, first_set_mask_l}
@@ -6,7 +6,7 @@ use Rattle.std.proofs.lemmas.List.{length-map}
 use Rattle.std.proofs.lemmas.List.Sums.{prefix_len-le-length, prefix_len_passes, prefix_len_stops}
 use Rattle.std.specs.List.{prefix_len}
 use lib.Lanes.{chunk, zip2, mask_l, top}
-use Rattle.mo_file.specs.Agreement.{IsCommonPrefixIn, differs_or_stops_at, first_set}
+use Rattle.mo_file.specs.CommonPrefix.{IsCommonPrefixIn, differs_or_stops_at, first_set}
 
 module _ (stop : ℕ) (or ne eq : ℕ → ℕ → ℕ) (tops : (a b : ℕ) → top 7 (or (ne a b) (eq a stop)) ≡ (not (a == b) || a == stop))
     (x y : List ℕ) (i n r : ℕ) (room_x : i + n ≤ length x) (room_y : i + n ≤ length y) (few : n ≤ 64) where
@@ -28,7 +28,7 @@ module _ (stop : ℕ) (or ne eq : ℕ → ℕ → ℕ) (tops : (a b : ℕ) → t
   long : length lanes ≡ n
   long = length-zip2 or _ _ (long_ne ∙ sym long_eq) ∙ long_ne
 
-  -- a lane is set where the texts part
+  -- a lane is set where the texts differ or stop
   lane : (k : ℕ) → k < n → top 7 (get_or lanes k 0) ≡ differs_or_stops_at stop x y (i + k)
   lane k below =
       let at_x = get_or-chunk i n x k 0 below in
@@ -52,16 +52,16 @@ module _ (stop : ℕ) (or ne eq : ℕ → ℕ → ℕ) (tops : (a b : ℕ) → t
         ∙ ap (λ m. first_set m n) (mask_l-mod (map (top 7) lanes) 64 (omega (arith, length-map lanes (top 7), long)))
         ∙ first_set_mask_l (top 7) lanes n long few
 
-    -- so the first lane that is set is the first place where they part
+    -- so the first lane that is set is where the common prefix ends
     pub common_prefix_in : IsCommonPrefixIn stop x y i n r
     common_prefix_in = record {
       within = omega (arith, counted, long, prefix_len-le-length unset lanes);
-      agree = λ k from to.
+      equal = λ k from to.
           let back : i + (k - i) ≡ k = omega arith in
           let inside : k - i < prefix_len unset lanes = omega (arith, counted) in
           let low : k - i < n = omega (arith, counted, long, prefix_len-le-length unset lanes) in
           sym (lane (k - i) low ∙ ap (differs_or_stops_at stop x y) back) ∙ not-true _ (prefix_len_passes unset lanes (k - i) 0 inside);
-      part = λ short.
+      ends = λ short.
           let stops = not-false _ (prefix_len_stops unset lanes 0 (omega (arith, counted, long))) in
           sym (lane r short) ∙ ap (λ k. top 7 (get_or lanes k 0)) counted ∙ stops;
     }
