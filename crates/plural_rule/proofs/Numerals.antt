@@ -6,7 +6,7 @@ use Rattle.std.proofs.lemmas.Int.Digits.{digits_value_more}
 use Rattle.std.proofs.lemmas.Str.{digit_value_digit}
 use Rattle.std.proofs.lemmas.Str.Parse.{digits_value-take-le, digit_from_value}
 use Rattle.std.proofs.lemmas.Bool.Decides.{nat_tests}
-use Rattle.plural_rule.specs.Header.{number_of_digits}
+use Rattle.plural_rule.specs.Header.{digits_number}
 
 -- the value of all digits is at least that of the first
 pub digits_value-grows : (digits : List ℕ) (i : ℕ) → i < length digits → digits_value 10 (take i digits) * 10 + digit_value (get_or digits i 0) ≤ digits_value 10 digits
@@ -29,6 +29,6 @@ digit-value [] i h l = absurd (omega arith)
 digit-value (c ∷ digits) zero h l = h.0
 digit-value (c ∷ digits) (suc i) h l = digit-value digits i h.1 (omega arith)
 
-pub number_of_digits-some : (digits : List ℕ) → 0 < length digits → number_of_digits digits ≡ Some (digits_value 10 digits)
-number_of_digits-some [] h = absurd (omega arith)
-number_of_digits-some (c ∷ digits) h = refl
+pub digits_number-some : (digits : List ℕ) → 0 < length digits → digits_number digits ≡ Some (digits_value 10 digits)
+digits_number-some [] h = absurd (omega arith)
+digits_number-some (c ∷ digits) h = refl

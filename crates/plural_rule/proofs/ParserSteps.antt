@@ -10,7 +10,7 @@ use Rattle.plural_rule.specs.Grammar.{level}
 use Rattle.plural_rule.specs.Node.{not_node, binary_node, conditional_node}
 use Rattle.plural_rule.specs.PostOrder.{post_order}
 use Rattle.plural_rule.specs.ShiftReduce.{Waiting, WaitNot, WaitOpen, WaitBinary, WaitQuestion, WaitColon, Operand, completed, reduce, reduce_by, at_colon}
-use Rattle.plural_rule.specs.ParserState.{size, laid, pending, pendings, completed_node, IsWaiting, IsOperand, Answers}
+use Rattle.plural_rule.specs.ParserState.{size, waiting_nodes, pending, pendings, completed_node, IsWaiting, IsOperand, Answers}
 
 pub length-post_order : (t : Tree) (base : ℕ) → length (post_order base t) ≡ nodes t
 length-post_order Count base = refl
@@ -21,20 +21,20 @@ length-post_order (Binary op a b) base =
 length-post_order (Conditional a b c) base =
     simp length-append (omega (arith, length-post_order a base, length-post_order b (base + nodes a), length-post_order c (base + nodes a + nodes b)))
 
-pub length-laid : (stack : List Waiting) → length (laid stack) ≡ size stack
-length-laid [] = refl
-length-laid (WaitNot ∷ stack) = length-laid stack
-length-laid (WaitOpen ∷ stack) = length-laid stack
-length-laid (WaitBinary op a ∷ stack) =
-    simp length-append (omega (arith, length-laid stack, length-post_order a (size stack)))
-length-laid (WaitQuestion a ∷ stack) =
-    simp length-append (omega (arith, length-laid stack, length-post_order a (size stack)))
-length-laid (WaitColon a b ∷ stack) =
-    simp length-append (omega (arith, length-laid stack, length-post_order a (size stack), length-post_order b (size stack + nodes a)))
+pub length-waiting_nodes : (stack : List Waiting) → length (waiting_nodes stack) ≡ size stack
+length-waiting_nodes [] = refl
+length-waiting_nodes (WaitNot ∷ stack) = length-waiting_nodes stack
+length-waiting_nodes (WaitOpen ∷ stack) = length-waiting_nodes stack
+length-waiting_nodes (WaitBinary op a ∷ stack) =
+    simp length-append (omega (arith, length-waiting_nodes stack, length-post_order a (size stack)))
+length-waiting_nodes (WaitQuestion a ∷ stack) =
+    simp length-append (omega (arith, length-waiting_nodes stack, length-post_order a (size stack)))
+length-waiting_nodes (WaitColon a b ∷ stack) =
+    simp length-append (omega (arith, length-waiting_nodes stack, length-post_order a (size stack), length-post_order b (size stack + nodes a)))
 
 pub length-operand : (table : List Node) (entries : List Pending) (stack : List Waiting) (t : Tree) → IsOperand table entries stack t → length table ≡ size stack + nodes t
 length-operand table entries stack t h =
-    ap length h.table_is ∙ length-append (laid stack) (post_order (size stack) t) ∙ omega (arith, length-laid stack, length-post_order t (size stack))
+    ap length h.table_is ∙ length-append (waiting_nodes stack) (post_order (size stack) t) ∙ omega (arith, length-waiting_nodes stack, length-post_order t (size stack))
 
 -- two lists with one more item each at their ends
 pub snoc-same : {A : Type 0} (xs ys : List A) (x y : A) → xs ++ x ∷ [] ≡ ys ++ y ∷ [] → (xs ≡ ys) × (x ≡ y)
@@ -71,12 +71,12 @@ top_of (w ∷ below) rest top e =
 pub record Completes (k : ℕ) (w : Waiting) (below : List Waiting) (t : Tree) (node : Node) : Type 0 where
   pub tree : Tree
   pub is : completed k w t ≡ Some tree
-  pub table_is : (laid (w ∷ below) ++ post_order (size (w ∷ below)) t) ++ node ∷ [] ≡ laid below ++ post_order (size below) tree
+  pub table_is : (waiting_nodes (w ∷ below) ++ post_order (size (w ∷ below)) t) ++ node ∷ [] ≡ waiting_nodes below ++ post_order (size below) tree
 
 pub completes : (k last : ℕ) (w : Waiting) (below : List Waiting) (t : Tree) (node : Node) → last ≡ size (w ∷ below) + nodes t - 1 → completed_node k (pending (size below) w) last ≡ Some node → Completes k w below t node
 completes k last WaitNot below t node l e =
     let is : node ≡ not_node (size below + nodes t - 1) = cc in
-    record { tree = Not t; is = refl; table_is = rw is (append_assoc (laid below) (post_order (size below) t) _) }
+    record { tree = Not t; is = refl; table_is = rw is (append_assoc (waiting_nodes below) (post_order (size below) t) _) }
 completes k last WaitOpen below t node l e = absurd cc
 completes k last (WaitBinary op a) below t node l e =
     elim (cases_Bool (nat_le k (level op))) [

@@ -289,5 +289,5 @@ of-node whole part (ConditionalShape i j k) s =
     (rw at p.within, rw at' q.within, rw at'' r.within, (cc))
 
 pub node_of : (table : List Node) (tree : Tree) (index : ℕ) (d : Node) → table ≡ post_order 0 tree → index < nodes tree → IsNodeOf tree (subtree tree index) (shape_of (get_or table index d))
-node_of table tree index d laid h =
-    of-node tree (subtree tree index) (shape_of (get_or table index d)) (subst (λ xs. StandsAt tree 0 xs index d) (sym laid) (node-at tree 0 index d h))
+node_of table tree index d is h =
+    of-node tree (subtree tree index) (shape_of (get_or table index d)) (subst (λ xs. StandsAt tree 0 xs index d) (sym is) (node-at tree 0 index d h))

@@ -10,7 +10,7 @@ use Rattle.plural_rule.specs.declared.rule.Reason.TheVariants.{NoNumber, NoExpre
 use Rattle.plural_rule.specs.Expression.{Tree, Count, Number, Not, Binary, Conditional, nodes, is_zero, needs_right, chosen, value, visited, visited_right}
 use Rattle.plural_rule.specs.Grammar.{Spelt}
 use Rattle.plural_rule.specs.Header.{nplurals_of, expression_of}
-use Rattle.plural_rule.specs.PluralRule.{Meaning, IsReadable, IsTooLong, IsUnreadable, IsReason, Gives, IsRuleOf, IsWithin, default_rule}
+use Rattle.plural_rule.specs.PluralRule.{RuleView, IsReadable, IsTooLong, IsUnreadable, IsReason, Gives, IsRuleOf, IsWithin, default_rule}
 use Rattle.plural_rule.proofs.Complete.{complete}
 use Rattle.plural_rule.proofs.Lexing.{one_list}
 use Rattle.plural_rule.specs.ShiftReduce.{outcome}
@@ -91,13 +91,13 @@ one_reason limit header TooLong NoExpression h k = absurd (named _ _ h.text_is k
 one_reason limit header TooLong Unreadable h k = absurd (fits-not_too_long limit header k h)
 one_reason limit header TooLong TooLong h k = refl
 
-same-rule : (rule other : Meaning) → rule.source ≡ other.source → rule.nplurals ≡ other.nplurals → rule.tree ≡ other.tree → rule ≡ other
+same-rule : (rule other : RuleView) → rule.source ≡ other.source → rule.nplurals ≡ other.nplurals → rule.tree ≡ other.tree → rule ≡ other
 same-rule rule other source nplurals tree =
     ap (λ x. record { source = x; nplurals = rule.nplurals; tree = rule.tree }) source
     ∙ ap (λ x. record { source = other.source; nplurals = x; tree = rule.tree }) nplurals
     ∙ ap (λ x. record { source = other.source; nplurals = other.nplurals; tree = x }) tree
 
-one_rule-by : (limit : ℕ) (header : List ℕ) (rule other : Meaning) (a b : Source) → rule.source ≡ a → other.source ≡ b → Gives limit header rule a → Gives limit header other b → rule ≡ other
+one_rule-by : (limit : ℕ) (header : List ℕ) (rule other : RuleView) (a b : Source) → rule.source ≡ a → other.source ≡ b → Gives limit header rule a → Gives limit header other b → rule ≡ other
 one_rule-by limit header rule other Header Header e e' h k =
     let text = same-text header h.text k.text h.text_is k.text_is in
     same-rule rule other (e ∙ sym e') (same-nplurals header rule.nplurals other.nplurals h.nplurals_is k.nplurals_is)
@@ -109,7 +109,7 @@ one_rule-by limit header rule other (Default reason) Header e e' h k =
 one_rule-by limit header rule other (Default reason) (Default reason') e e' h k =
     h.1 ∙ ap default_rule (one_reason limit header reason reason' h.0 k.0) ∙ sym k.1
 
-pub one_rule : (limit : ℕ) (header : List ℕ) (rule other : Meaning) → IsRuleOf limit header rule → IsRuleOf limit header other → rule ≡ other
+pub one_rule : (limit : ℕ) (header : List ℕ) (rule other : RuleView) → IsRuleOf limit header rule → IsRuleOf limit header other → rule ≡ other
 one_rule limit header rule other h k = one_rule-by limit header rule other rule.source other.source refl refl h k
 
 -- within a limit: the text that the header names fits it
@@ -138,17 +138,17 @@ shorter-reason limit longer header TooLong le w h =
     let fits_not = h.text_fits_not in
     absurd (omega arith)
 
-longer-by : (limit longer : ℕ) (header : List ℕ) (rule : Meaning) (source : Source) → limit ≤ longer → IsWithin limit header → Gives limit header rule source → Gives longer header rule source
+longer-by : (limit longer : ℕ) (header : List ℕ) (rule : RuleView) (source : Source) → limit ≤ longer → IsWithin limit header → Gives limit header rule source → Gives longer header rule source
 longer-by limit longer header rule Header le w h =
     let fits = h.text_fits in
     record { text = h.text; nplurals_is = h.nplurals_is; nplurals_fits = h.nplurals_fits; text_is = h.text_is; text_fits = omega arith; spelt = h.spelt }
 longer-by limit longer header rule (Default reason) le w h = (longer-reason limit longer header reason le w h.0, h.1)
 
-shorter-by : (limit longer : ℕ) (header : List ℕ) (rule : Meaning) (source : Source) → limit ≤ longer → IsWithin limit header → Gives longer header rule source → Gives limit header rule source
+shorter-by : (limit longer : ℕ) (header : List ℕ) (rule : RuleView) (source : Source) → limit ≤ longer → IsWithin limit header → Gives longer header rule source → Gives limit header rule source
 shorter-by limit longer header rule Header le w h =
     record { text = h.text; nplurals_is = h.nplurals_is; nplurals_fits = h.nplurals_fits; text_is = h.text_is; text_fits = within limit header h.text rule.nplurals w h.nplurals_is h.text_is; spelt = h.spelt }
 shorter-by limit longer header rule (Default reason) le w h = (shorter-reason limit longer header reason le w h.0, h.1)
 
-pub longer_limit : (limit longer : ℕ) (header : List ℕ) (rule : Meaning) → limit ≤ longer → IsWithin limit header → IsRuleOf limit header rule ↔ IsRuleOf longer header rule
+pub longer_limit : (limit longer : ℕ) (header : List ℕ) (rule : RuleView) → limit ≤ longer → IsWithin limit header → IsRuleOf limit header rule ↔ IsRuleOf longer header rule
 longer_limit limit longer header rule le w =
     (λ h. longer-by limit longer header rule rule.source le w h, λ h. shorter-by limit longer header rule rule.source le w h)

@@ -4,8 +4,8 @@ use Rattle.plural_rule.specs.declared.node.Shape.{Shape}
 use Rattle.plural_rule.specs.declared.node.Shape.TheVariants.{Count as CountShape, Number as NumberShape, Not as NotShape, Binary as BinaryShape, Conditional as ConditionalShape}
 use Rattle.plural_rule.specs.declared.evaluator.Frame.{Frame}
 use Rattle.plural_rule.specs.declared.evaluator.Frame.TheVariants.{Not as NotFrame, First, Second, Condition}
-use Rattle.plural_rule.specs.declared.evaluator.Step.{Step}
-use Rattle.plural_rule.specs.declared.evaluator.Step.TheVariants.{Visit, Stop}
+use Rattle.plural_rule.specs.declared.evaluator.Next.{Next}
+use Rattle.plural_rule.specs.declared.evaluator.Next.TheVariants.{Visit, Stop}
 use Rattle.plural_rule.specs.declared.operator.Operator.{Operator}
 use Rattle.plural_rule.specs.Node.{numeral, numeral_node}
 use Rattle.plural_rule.specs.Expression.{Tree, Count, Number, Not, Binary, Conditional, nodes, negated, binary_value, combined, chosen, value, visited, visited_right}
@@ -34,12 +34,12 @@ IsNodeOf whole part (ConditionalShape i j k) =
     (i < nodes whole) × (j < nodes whole) × (k < nodes whole)
     × (part ≡ Conditional (subtree whole i) (subtree whole j) (subtree whole k))
 
--- a value, and how many nodes were visited for it
+-- the outcome of an evaluation: a value, and how many nodes were visited for it
 pub record Evaluated : Type 0 where
   pub value : Option ℕ
   pub steps : ℕ
 
--- the outcome of a tree, after some steps
+-- the outcome of a tree, where so many nodes were visited before it
 abbrev pub evaluated : Tree → ℕ → ℕ → Evaluated
 evaluated tree n steps = record { value = value tree n; steps = steps + visited tree n }
 
@@ -69,11 +69,11 @@ finished whole n [] o = o
 finished whole n (frame ∷ frames) o = resumed whole n frame (finished whole n frames o)
 
 -- the same from what is done next
-abbrev pub finished_step : Tree → ℕ → List Frame → ℕ → Step → Evaluated
-finished_step whole n frames steps (Visit i) = finished whole n frames (evaluated (subtree whole i) n steps)
-finished_step whole n frames steps (Stop v) = record { value = v; steps = steps }
+abbrev pub finished_next : Tree → ℕ → List Frame → ℕ → Next → Evaluated
+finished_next whole n frames steps (Visit i) = finished whole n frames (evaluated (subtree whole i) n steps)
+finished_next whole n frames steps (Stop v) = record { value = v; steps = steps }
 
--- how many nodes may still be visited for what waits
+-- how many nodes may still be visited for a node that waits
 abbrev pub remaining_frame : Tree → Frame → ℕ
 remaining_frame whole NotFrame = 0
 remaining_frame whole (First op j) = nodes (subtree whole j)
@@ -85,11 +85,11 @@ remaining whole [] = 0
 remaining whole (frame ∷ frames) = remaining_frame whole frame + remaining whole frames
 
 -- the same for what is done next
-abbrev pub remaining_step : Tree → Step → ℕ
-remaining_step whole (Visit i) = nodes (subtree whole i)
-remaining_step whole (Stop v) = 0
+abbrev pub remaining_next : Tree → Next → ℕ
+remaining_next whole (Visit i) = nodes (subtree whole i)
+remaining_next whole (Stop v) = 0
 
--- the indices that what waits names are those of nodes
+-- a node that waits names indices of the whole tree's table
 abbrev pub IsFrameOf : Tree → Frame → Type 0
 IsFrameOf whole NotFrame = Unit {0}
 IsFrameOf whole (First op j) = j < nodes whole
@@ -100,6 +100,6 @@ abbrev pub AreFramesOf : Tree → List Frame → Type 0
 AreFramesOf whole [] = Unit {0}
 AreFramesOf whole (frame ∷ frames) = IsFrameOf whole frame × AreFramesOf whole frames
 
-abbrev pub IsStepOf : Tree → Step → Type 0
-IsStepOf whole (Visit i) = i < nodes whole
-IsStepOf whole (Stop v) = Unit {0}
+abbrev pub IsNextOf : Tree → Next → Type 0
+IsNextOf whole (Visit i) = i < nodes whole
+IsNextOf whole (Stop v) = Unit {0}

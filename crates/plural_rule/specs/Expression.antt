@@ -4,7 +4,7 @@ use Rattle.std.specs.Prelude.{ℕ, ◌+◌, ◌-◌, ◌*◌, ◌/◌, ◌%◌, 
 use Rattle.plural_rule.specs.declared.operator.Operator.{Operator}
 use Rattle.plural_rule.specs.declared.operator.Operator.TheVariants.{Or, And, Equal, NotEqual, Less, Greater, AtMost, AtLeast, Add, Subtract, Multiply, Divide, Remainder}
 
--- an expression: n, a numeral, `!a`, two operands, or `a ? b : c`
+-- an expression: n, a numeral, `!a`, an operator with two operands, or `a ? b : c`
 pub data Tree : Type 0 where
   Count : Tree
   Number : ℕ → Tree
@@ -36,11 +36,11 @@ needs_right And x = not (is_zero x)
 needs_right _ x = true
 
 -- the value where the second operand isn't evaluated
-abbrev pub settled : Operator → ℕ
-settled Or = 1
-settled _ = 0
+abbrev pub short_circuit_value : Operator → ℕ
+short_circuit_value Or = 1
+short_circuit_value _ = 0
 
--- x divided by y in some way, which is undefined for 0
+-- a quotient or a remainder by y, which is undefined where y is 0
 abbrev pub divided : ℕ → ℕ → Option ℕ
 divided y quotient = if is_zero y then None else Some quotient
 
@@ -60,13 +60,13 @@ combined Multiply x y = Some ((x * y) % 2 ^ 64)
 combined Divide x y = divided y (x / y)
 combined Remainder x y = divided y (x % y)
 
--- the value of two operands from theirs, the first one's first
+-- the value of an operator with two operands, from the values of the first and of the second
 abbrev pub binary_value : Operator → Option ℕ → Option ℕ → Option ℕ
 binary_value op None right = None
-binary_value op (Some x) right = if needs_right op x then option_and_then (combined op x) right else Some (settled op)
+binary_value op (Some x) right = if needs_right op x then option_and_then (combined op x) right else Some (short_circuit_value op)
 
--- the second of three where the condition isn't 0, the third where it is, and `undefined` where it
--- has no value
+-- `then_case` where the condition isn't 0, `else_case` where it is, and `undefined` where it has no
+-- value
 abbrev pub chosen : {A : Type 0} → Option ℕ → A → A → A → A
 chosen None then_case else_case undefined = undefined
 chosen (Some x) then_case else_case undefined = if is_zero x then else_case else then_case
@@ -84,8 +84,8 @@ value (Not a) n = negated (value a n)
 value (Binary op a b) n = binary_value op (value a n) (value b n)
 value (Conditional a b c) n = chosen (value a n) (value b n) (value c n) None
 
--- the nodes visited in a second operand that has `steps` of them, where the first one's value is
--- known
+-- how many nodes of a second operand are visited, by the value of the first: `steps` if the second
+-- is needed
 abbrev pub visited_right : Operator → Option ℕ → ℕ → ℕ
 visited_right op None steps = 0
 visited_right op (Some x) steps = if needs_right op x then steps else 0

@@ -16,13 +16,13 @@ abbrev pub without_blanks : List ℕ → List ℕ
 without_blanks text = drop (prefix_len is_blank text) text
 
 -- the number that one digit or more spell
-abbrev pub number_of_digits : List ℕ → Option ℕ
-number_of_digits [] = None
-number_of_digits (c ∷ rest) = Some (digits_value 10 (c ∷ rest))
+abbrev pub digits_number : List ℕ → Option ℕ
+digits_number [] = None
+digits_number (c ∷ rest) = Some (digits_value 10 (c ∷ rest))
 
 -- the number at the beginning of a text, after blanks
 abbrev pub leading_number : List ℕ → Option ℕ
-leading_number text = number_of_digits (take_while is_ascii_digit (without_blanks text))
+leading_number text = digits_number (take_while is_ascii_digit (without_blanks text))
 
 -- the number of plural forms that a header names
 abbrev pub nplurals_of : List ℕ → Option ℕ

@@ -19,16 +19,16 @@ size (WaitBinary op a ∷ stack) = size stack + nodes a
 size (WaitQuestion a ∷ stack) = size stack + nodes a
 size (WaitColon a b ∷ stack) = size stack + nodes a + nodes b
 
--- these nodes
-abbrev pub laid : List Waiting → List Node
-laid [] = []
-laid (WaitNot ∷ stack) = laid stack
-laid (WaitOpen ∷ stack) = laid stack
-laid (WaitBinary op a ∷ stack) = laid stack ++ post_order (size stack) a
-laid (WaitQuestion a ∷ stack) = laid stack ++ post_order (size stack) a
-laid (WaitColon a b ∷ stack) = (laid stack ++ post_order (size stack) a) ++ post_order (size stack + nodes a) b
+-- these nodes, in the order of the table
+abbrev pub waiting_nodes : List Waiting → List Node
+waiting_nodes [] = []
+waiting_nodes (WaitNot ∷ stack) = waiting_nodes stack
+waiting_nodes (WaitOpen ∷ stack) = waiting_nodes stack
+waiting_nodes (WaitBinary op a ∷ stack) = waiting_nodes stack ++ post_order (size stack) a
+waiting_nodes (WaitQuestion a ∷ stack) = waiting_nodes stack ++ post_order (size stack) a
+waiting_nodes (WaitColon a b ∷ stack) = (waiting_nodes stack ++ post_order (size stack) a) ++ post_order (size stack + nodes a) b
 
--- the parser's entry for what waits, whose operands stand in the table from index base on
+-- what waits, as the parser's stack has it; its operands stand in the table from index base on
 abbrev pub pending : ℕ → Waiting → Pending
 pending base WaitNot = NotPending
 pending base WaitOpen = OpenPending
@@ -51,12 +51,12 @@ completed_node k (ColonPending i j) last = if k == 0 then Some (conditional_node
 
 -- table and stack stand for what waits
 pub record IsWaiting (table : List Node) (entries : List Pending) (stack : List Waiting) : Type 0 where
-  pub table_is : table ≡ laid stack
+  pub table_is : table ≡ waiting_nodes stack
   pub entries_are : entries ≡ pendings stack
 
 -- table and stack stand for what waits and an operand after it
 pub record IsOperand (table : List Node) (entries : List Pending) (stack : List Waiting) (tree : Tree) : Type 0 where
-  pub table_is : table ≡ laid stack ++ post_order (size stack) tree
+  pub table_is : table ≡ waiting_nodes stack ++ post_order (size stack) tree
   pub entries_are : entries ≡ pendings stack
 
 -- table, stack and whether an operand is complete stand for a state

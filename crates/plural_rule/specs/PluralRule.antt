@@ -10,8 +10,8 @@ use Rattle.plural_rule.specs.Expression.{Tree, Count, Number, Binary}
 use Rattle.plural_rule.specs.Grammar.{Spelt}
 use Rattle.plural_rule.specs.Header.{nplurals_of, expression_of}
 
--- what a rule means: where it comes from, the number of plural forms, and the expression
-pub record Meaning : Type 0 where
+-- what clauses see of a rule: where it comes from, the number of plural forms, and the expression
+pub record RuleView : Type 0 where
   pub source : Source
   pub nplurals : ℕ
   pub tree : Tree
@@ -25,7 +25,7 @@ abbrev pub default_tree : Tree
 default_tree = Binary NotEqual Count (Number 1)
 
 -- the rule of a header without a readable one: two forms, and `n != 1`
-abbrev pub default_rule : Reason → Meaning
+abbrev pub default_rule : Reason → RuleView
 default_rule reason = record { source = Default reason; nplurals = 2; tree = default_tree }
 
 -- the header names a number that fits 64 bits, and an expression within the limit that spells the
@@ -70,15 +70,15 @@ IsReason limit header TooLong = IsTooLong limit header
 IsReason limit header Unreadable = IsUnreadable limit header
 
 -- the header gives the rule, whose source is this one
-abbrev pub Gives : ℕ → List ℕ → Meaning → Source → Type 0
+abbrev pub Gives : ℕ → List ℕ → RuleView → Source → Type 0
 Gives limit header rule Header = IsReadable limit header rule.nplurals rule.tree
 Gives limit header rule (Default reason) = IsReason limit header reason × (rule ≡ default_rule reason)
 
 -- the rule of a header text, within a limit on the bytes of its expression
-abbrev pub IsRuleOf : ℕ → List ℕ → Meaning → Type 0
+abbrev pub IsRuleOf : ℕ → List ℕ → RuleView → Type 0
 IsRuleOf limit header rule = Gives limit header rule rule.source
 
--- what the header says is within the limit: an expression that isn't longer, or no rule whatever
--- the limit is
+-- the limit changes nothing: the header names no number, and so has the default rule, or it names
+-- no expression past the limit
 abbrev pub IsWithin : ℕ → List ℕ → Type 0
 IsWithin limit header = (nplurals_of header ≡ None) ⊎ ((text : List ℕ) → expression_of header ≡ Some text → length text ≤ limit)

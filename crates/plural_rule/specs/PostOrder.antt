@@ -20,7 +20,8 @@ post_order base (Conditional a b c) =
     post_order base a ++ (post_order (base + nodes a) b ++ (post_order (base + nodes a + nodes b) c
     ++ conditional_node (base + nodes a - 1) (base + nodes a + nodes b - 1) (base + nodes a + nodes b + nodes c - 1) ∷ []))
 
--- the trees read so far, newest first, and one more node, by what it is
+-- the trees read so far, newest first, after one more node of this shape: its operands are the
+-- newest of them
 abbrev pub with_shape : Shape → List Tree → List Tree
 with_shape CountShape trees = Count ∷ trees
 with_shape (NumberShape a b c d) trees = Number (numeral a b c d) ∷ trees

@@ -32,11 +32,13 @@ completed k (WaitBinary op a) t = if nat_le k (level op) then Some (Binary op a 
 completed k (WaitQuestion a) t = None
 completed k (WaitColon a b) t = if k == 0 then Some (Conditional a b t) else None
 
--- the operand after what binds at least as tight as level k
+-- one step of `reduce`: where the operand completes nothing, it stays, and so does what waits
 abbrev pub reduce_by : (Tree → Operand) → Waiting → List Waiting → Tree → Option Tree → Operand
 reduce_by go w stack t None = record { stack = w ∷ stack; tree = t }
 reduce_by go w stack t (Some u) = go u
 
+-- a last operand completes what waits, newest first, while that binds at least as tight as level k:
+-- what then waits, and the operand
 abbrev pub reduce : ℕ → List Waiting → Tree → Operand
 reduce k [] t = record { stack = []; tree = t }
 reduce k (w ∷ stack) t = reduce_by (reduce k stack) w stack t (completed k w t)

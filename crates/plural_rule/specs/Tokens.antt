@@ -38,7 +38,7 @@ IsSpelling Colon bytes = bytes ≡ codes ":"
 IsSpelling Open bytes = bytes ≡ codes "("
 IsSpelling Close bytes = bytes ≡ codes ")"
 
--- no spelling is longer: with what follows, none begins with these bytes and goes on
+-- no longer spelling begins with these bytes: no token is spelt by them and some of what follows
 abbrev pub IsLongest : List ℕ → List ℕ → Type 0
 IsLongest own rest = (t : Token) (more after : List ℕ) → rest ≡ more ++ after → more ≢ [] → IsSpelling t (own ++ more) → ⊥
 

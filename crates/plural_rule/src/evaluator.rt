@@ -7,7 +7,7 @@ ghost use Rattle.arrayvec.specs.ArrayVec.{array_vec_len};
 ghost use Rattle.plural_rule.specs.Expression.{Tree, nodes, value, visited};
 ghost use Rattle.plural_rule.specs.PluralRule.{expression_limit};
 ghost use Rattle.plural_rule.specs.PostOrder.{post_order, tree_of};
-ghost use Rattle.plural_rule.specs.Evaluation.{second_frame, subtree, IsNodeOf, Evaluated, evaluated, finished, finished_step, remaining, remaining_step, AreFramesOf, IsStepOf};
+ghost use Rattle.plural_rule.specs.Evaluation.{second_frame, subtree, IsNodeOf, Evaluated, evaluated, finished, finished_next, remaining, remaining_next, AreFramesOf, IsNextOf};
 
 use crate::node::{Node, Shape, numeral};
 use crate::operator::{Operator, truth};
@@ -22,7 +22,7 @@ pub(crate) enum Frame {
     /// An operator before its first operand, with the index of the second.
     First(Operator, u16),
     /// An operator before its second operand, with the value of the first in four parts of 16 bits,
-    /// the highest first: so a frame has no gap, and an empty stack is cleared as one block.
+    /// the highest first: so a frame has no padding, and an empty stack is cleared as one block.
     Second(Operator, u16, u16, u16, u16),
     /// `a ? b : c` before `a`, with the indices of `b` and `c`.
     Condition(u16, u16),
@@ -53,7 +53,7 @@ const SHORT: usize = 64;
 
 /// What to do next.
 #[derive(Clone, Copy, Drop)]
-pub(crate) enum Step {
+pub(crate) enum Next {
     /// Evaluate the node at this index.
     Visit(u16),
     /// Stop, with the value of the whole expression.
@@ -61,12 +61,12 @@ pub(crate) enum Step {
 }
 
 /// The value of the expression in `table` at `count`, or `None` where it divides by 0, and how many
-/// nodes were visited.
+/// nodes were evaluated.
 ///
-/// The table is that of a rule: each node stands after its operands, and the whole expression's
-/// last.
+/// The table is that of a rule: each node stands after its operands, and the node of the whole
+/// expression is last.
 pub fn evaluate(table: &[Node], count: u64) -> (Option<u64>, u32)
-    requires laid { table.now ≡ post_order 0 (tree_of table.now) }
+    requires post_order { table.now ≡ post_order 0 (tree_of table.now) }
     requires limit { length table.now ≤ expression_limit }
     ensures value { result.0 ≡ value (tree_of table.now) count }
     ensures steps { result.1 ≡ visited (tree_of table.now) count }
@@ -82,7 +82,7 @@ pub fn evaluate(table: &[Node], count: u64) -> (Option<u64>, u32)
 /// The same as `evaluate`, with room for `DEPTH` nodes that wait.
 #[inline(never)]
 fn evaluate_within<const DEPTH: usize>(table: &[Node], count: u64) -> (Option<u64>, u32)
-    requires laid { table.now ≡ post_order 0 (tree_of table.now) }
+    requires post_order { table.now ≡ post_order 0 (tree_of table.now) }
     requires limit { nodes (tree_of table.now) ≤ expression_limit }
     requires depth { nodes (tree_of table.now) ≤ DEPTH }
     requires size { DEPTH ≤ expression_limit }
@@ -96,15 +96,15 @@ fn evaluate_within<const DEPTH: usize>(table: &[Node], count: u64) -> (Option<u6
     'visits: loop {
         steps += 1;
         match visit(table, index, count, &mut frames) {
-            Step::Visit(next) => index = next as usize,
-            Step::Stop(value) => return (value, steps),
+            Next::Visit(next) => index = next as usize,
+            Next::Stop(value) => return (value, steps),
         }
     }
 }
 
 /// What the node at an index is.
 fn node_at(table: &[Node], index: usize) -> Shape
-    requires laid { table.now ≡ post_order 0 (tree_of table.now) }
+    requires post_order { table.now ≡ post_order 0 (tree_of table.now) }
     requires limit { nodes (tree_of table.now) ≤ expression_limit }
     requires index { index < nodes (tree_of table.now) }
     ensures { IsNodeOf (tree_of table.now) (subtree (tree_of table.now) index) result }
@@ -121,20 +121,20 @@ fn visit<const DEPTH: usize>(
     index: usize,
     count: u64,
     frames: &mut Frames<DEPTH>,
-) -> Step
-    requires laid { table.now ≡ post_order 0 (tree_of table.now) }
+) -> Next
+    requires post_order { table.now ≡ post_order 0 (tree_of table.now) }
     requires limit { nodes (tree_of table.now) ≤ expression_limit }
     requires index { index < nodes (tree_of table.now) }
     requires room { array_vec_len frames.old < DEPTH }
     requires size { DEPTH ≤ expression_limit }
     requires frames { AreFramesOf (tree_of table.now) frames.old.items }
     ensures outcome { (steps : ℕ) →
-        finished_step (tree_of table.now) count frames.new.items (steps + 1) result
+        finished_next (tree_of table.now) count frames.new.items (steps + 1) result
         ≡ finished (tree_of table.now) count frames.old.items
         (evaluated (subtree (tree_of table.now) index) count steps) }
-    ensures remaining { remaining_step (tree_of table.now) result + remaining (tree_of table.now) frames.new.items + 1
+    ensures remaining { remaining_next (tree_of table.now) result + remaining (tree_of table.now) frames.new.items + 1
         ≤ nodes (subtree (tree_of table.now) index) + remaining (tree_of table.now) frames.old.items }
-    ensures step { IsStepOf (tree_of table.now) result }
+    ensures next { IsNextOf (tree_of table.now) result }
     ensures frames { AreFramesOf (tree_of table.now) frames.new.items }
     ensures size { array_vec_len frames.new ≤ array_vec_len frames.old + 1 }
 {
@@ -145,15 +145,15 @@ fn visit<const DEPTH: usize>(
         }
         Shape::Not(operand) => {
             frames.push(Frame::Not);
-            Step::Visit(operand)
+            Next::Visit(operand)
         }
         Shape::Binary(operator, left, right) => {
             frames.push(Frame::First(operator, right));
-            Step::Visit(left)
+            Next::Visit(left)
         }
         Shape::Conditional(condition, yes, no) => {
             frames.push(Frame::Condition(yes, no));
-            Step::Visit(condition)
+            Next::Visit(condition)
         }
     }
 }
@@ -161,15 +161,15 @@ fn visit<const DEPTH: usize>(
 /// Hands a value to the nodes that wait for it, up to one that needs a further operand.
 #[tactic(auto, using(crate::proofs::Frames::finished_more, crate::proofs::Frames::remaining_more, crate::proofs::Frames::frames_more, crate::proofs::Frames::frames_split, crate::proofs::Frames::finished_undefined, crate::proofs::Frames::resumed_second))]
 #[inline(always)]
-fn resume<const DEPTH: usize>(frames: &mut Frames<DEPTH>, operand: u64) -> Step
+fn resume<const DEPTH: usize>(frames: &mut Frames<DEPTH>, operand: u64) -> Next
     requires room { array_vec_len frames.old ≤ DEPTH }
     requires size { DEPTH ≤ expression_limit }
     ensures outcome { (whole : Tree) (n steps : ℕ) →
-        finished_step whole n frames.new.items steps result
+        finished_next whole n frames.new.items steps result
         ≡ finished whole n frames.old.items (record { value = Some operand; steps = steps }) }
     ensures remaining { (whole : Tree) →
-        remaining_step whole result + remaining whole frames.new.items ≤ remaining whole frames.old.items }
-    ensures step { (whole : Tree) → AreFramesOf whole frames.old.items → IsStepOf whole result }
+        remaining_next whole result + remaining whole frames.new.items ≤ remaining whole frames.old.items }
+    ensures next { (whole : Tree) → AreFramesOf whole frames.old.items → IsNextOf whole result }
     ensures frames { (whole : Tree) → AreFramesOf whole frames.old.items → AreFramesOf whole frames.new.items }
     ensures size { array_vec_len frames.new ≤ array_vec_len frames.old }
 {
@@ -180,19 +180,19 @@ fn resume<const DEPTH: usize>(frames: &mut Frames<DEPTH>, operand: u64) -> Step
             Frame::First(operator, right) => {
                 if operator.needs_right(value) {
                     frames.push(Frame::second(operator, value));
-                    return Step::Visit(right);
+                    return Next::Visit(right);
                 }
-                value = operator.settled();
+                value = operator.short_circuit_value();
             }
             Frame::Second(operator, first, second, third, fourth) => {
                 let left = numeral(first, second, third, fourth);
                 match operator.combined(left, value) {
                     Some(combined) => value = combined,
-                    None => return Step::Stop(None),
+                    None => return Next::Stop(None),
                 }
             }
-            Frame::Condition(yes, no) => return Step::Visit(if value == 0 { no } else { yes }),
+            Frame::Condition(yes, no) => return Next::Visit(if value == 0 { no } else { yes }),
         }
     }
-    Step::Stop(Some(value))
+    Next::Stop(Some(value))
 }

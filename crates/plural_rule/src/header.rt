@@ -21,7 +21,7 @@ fn after_first<'a>(text: &'a [u8], name: &[u8]) -> Option<&'a [u8]>
 
 /// The decimal digits of the number of plural forms, one at least: after the first `nplurals=` and
 /// blanks.
-pub(crate) fn number_digits(header: &[u8]) -> Option<&[u8]>
+pub(crate) fn nplurals_digits(header: &[u8]) -> Option<&[u8]>
     ensures { MatchOption result (nplurals_of header.now ≡ None)
         (λ digits. AllDigits 10 digits.now × (nplurals_of header.now ≡ Some (digits_value 10 digits.now))) }
 {
@@ -45,7 +45,7 @@ pub(crate) fn expression(header: &[u8]) -> Option<&[u8]>
     }
 }
 
-/// The text up to the first `;`, line feed or the end.
+/// The text up to the first `;` or LF, or to the end.
 fn first_statement(text: &[u8]) -> &[u8]
     ensures { result.now ≡ before_first is_end text.now }
 {

@@ -3,7 +3,7 @@
 ghost use Rattle.std.specs.Prelude.{◌≡◌, ◌≤◌, ◌↔◌, ℕ, List};
 ghost use Rattle.plural_rule.specs.Expression.{Tree, visited, nodes};
 ghost use Rattle.plural_rule.specs.Grammar.{Spelt};
-ghost use Rattle.plural_rule.specs.PluralRule.{Meaning, IsRuleOf, IsWithin};
+ghost use Rattle.plural_rule.specs.PluralRule.{RuleView, IsRuleOf, IsWithin};
 
 /// A text spells at most one expression.
 pub fn one_tree()
@@ -17,13 +17,13 @@ pub fn visited_at_most_nodes()
 
 /// A header text has one rule.
 pub fn one_rule()
-    ensures { (limit : ℕ) (header : List ℕ) (rule other : Meaning) →
+    ensures { (limit : ℕ) (header : List ℕ) (rule other : RuleView) →
         IsRuleOf limit header rule → IsRuleOf limit header other → rule ≡ other }
 {}
 
 /// A header text whose expression is within a limit has the same rule under every larger limit.
 pub fn longer_limit()
-    ensures { (limit longer : ℕ) (header : List ℕ) (rule : Meaning) →
+    ensures { (limit longer : ℕ) (header : List ℕ) (rule : RuleView) →
         limit ≤ longer → IsWithin limit header →
         IsRuleOf limit header rule ↔ IsRuleOf longer header rule }
 {}

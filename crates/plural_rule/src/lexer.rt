@@ -18,7 +18,7 @@ fn is_blank(byte: u8) -> bool
 }
 
 /// How many blanks the text begins with.
-fn blanks(text: &[u8]) -> usize
+fn leading_blank_count(text: &[u8]) -> usize
     ensures count { result ≡ prefix_len is_blank text.now }
     ensures within { result ≤ length text.now }
 {
@@ -31,7 +31,7 @@ fn blanks(text: &[u8]) -> usize
 }
 
 /// How many decimal digits the text begins with.
-fn digits(text: &[u8]) -> usize
+fn leading_digit_count(text: &[u8]) -> usize
     ensures count { result ≡ prefix_len is_ascii_digit text.now }
     ensures within { result ≤ length text.now }
 {
@@ -48,14 +48,14 @@ pub(crate) fn without_blanks(text: &[u8]) -> &[u8]
     ensures value { result.now ≡ without_blanks text.now }
     ensures shorter { length result.now ≤ length text.now }
 {
-    &text[blanks(text)..]
+    &text[leading_blank_count(text)..]
 }
 
 /// The decimal digits at the beginning of the text.
 pub(crate) fn leading_digits(text: &[u8]) -> &[u8]
     ensures { result.now ≡ take_while is_ascii_digit text.now }
 {
-    &text[..digits(text)]
+    &text[..leading_digit_count(text)]
 }
 
 /// The number that decimal digits spell, or `None` where it is 2^64 or more.

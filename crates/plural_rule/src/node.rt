@@ -135,5 +135,5 @@ impl Default for Node {
     }
 }
 
-/// The nodes of an expression, each after its operands, so that of the whole expression is last.
+/// The nodes of an expression, each after its operands: the node of the whole expression is last.
 pub(crate) type Table = ArrayVec<Node, EXPRESSION_LIMIT>;

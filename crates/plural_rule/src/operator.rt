@@ -1,6 +1,6 @@
 //! The operators of two operands in a plural expression.
 ghost use Rattle.std.specs.Prelude.{◌≡◌};
-ghost use Rattle.plural_rule.specs.Expression.{combined, needs_right, settled, truth};
+ghost use Rattle.plural_rule.specs.Expression.{combined, needs_right, short_circuit_value, truth};
 ghost use Rattle.plural_rule.specs.Grammar.{level};
 ghost use Rattle.plural_rule.specs.Node.{operator_code, operator_of};
 
@@ -104,8 +104,8 @@ impl Operator {
     }
 
     /// The value of `||` or `&&` where the second operand isn't evaluated.
-    pub(crate) fn settled(self) -> u64
-        ensures { result ≡ settled self }
+    pub(crate) fn short_circuit_value(self) -> u64
+        ensures { result ≡ short_circuit_value self }
     {
         match self {
             Operator::Or => 1,

@@ -59,17 +59,17 @@ type Stack<const DEPTH: usize> = ArrayVec<Pending, DEPTH>;
 const SHORT: usize = 256;
 
 impl Pending {
-    /// The node that the operand at index `last` completes, where an operator of level `loosest`
+    /// The node that the operand at index `last` completes, where an operator of level `next_level`
     /// follows it.
-    fn completed(self, loosest: u8, last: u16) -> Option<Node>
-        ensures { result ≡ completed_node loosest self last }
+    fn completed(self, next_level: u8, last: u16) -> Option<Node>
+        ensures { result ≡ completed_node next_level self last }
     {
         match self {
             Pending::Not => Some(Node::not(last)),
-            Pending::Binary(operator, left) if loosest <= operator.level() => {
+            Pending::Binary(operator, left) if next_level <= operator.level() => {
                 Some(Node::binary(operator, left, last))
             }
-            Pending::Colon(condition, yes) if loosest == 0 => {
+            Pending::Colon(condition, yes) if next_level == 0 => {
                 Some(Node::conditional(condition, yes, last))
             }
             _ => None,
@@ -85,22 +85,22 @@ fn last_index(table: &Table) -> u16
     (table.len() - 1) as u16
 }
 
-/// Completes what waits for the last operand and binds at least as tight as `loosest`.
-fn reduce<const DEPTH: usize>(table: &mut Table, stack: &mut Stack<DEPTH>, loosest: u8)
+/// Completes what waits for the last operand and binds at least as tight as `next_level`.
+fn reduce<const DEPTH: usize>(table: &mut Table, stack: &mut Stack<DEPTH>, next_level: u8)
     requires some { 0 < array_vec_len table.old }
     requires room { array_vec_len table.old + array_vec_len stack.old ≤ DEPTH }
     requires depth { DEPTH ≤ expression_limit }
     ensures reduced { (waiting : List Waiting) (tree : Tree) →
         IsOperand table.old.items stack.old.items waiting tree →
         IsOperand table.new.items stack.new.items
-        (reduce loosest waiting tree).stack (reduce loosest waiting tree).tree }
+        (reduce next_level waiting tree).stack (reduce next_level waiting tree).tree }
     ensures some { 0 < array_vec_len table.new }
     ensures size { array_vec_len table.new + array_vec_len stack.new
         ≡ array_vec_len table.old + array_vec_len stack.old }
 {
     while let Some(top) = stack.pop() {
         let last = last_index(table);
-        match top.completed(loosest, last) {
+        match top.completed(next_level, last) {
             Some(node) => table.push(node),
             None => {
                 stack.push(top);
@@ -171,7 +171,7 @@ fn take_operator<const DEPTH: usize>(
             Some(false)
         }
         Token::Question => {
-            // What waits after `:` binds no tighter than `?`, which groups to the right.
+            // `?:` groups to the right, so what waits after a `:` isn't completed here.
             reduce(table, stack, 1);
             stack.push(Pending::Question(last_index(table)));
             Some(false)

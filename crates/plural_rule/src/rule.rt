@@ -52,10 +52,10 @@ pub struct Rule {
 impl Model for Rule {
     ghost use Rattle.std.specs.Prelude.{◌≡◌};
     ghost use Rattle.std.specs.Coded.{codes};
-    ghost use Rattle.plural_rule.specs.PluralRule.{Meaning};
+    ghost use Rattle.plural_rule.specs.PluralRule.{RuleView};
     ghost use Rattle.plural_rule.specs.PostOrder.{post_order, tree_of, tree_code};
 
-    ghost Value = { Meaning };
+    ghost Value = { RuleView };
 
     ghost coded = { Prim.hlevel (codes, tree_code (Prim.hlevel codes)) };
 
@@ -68,8 +68,8 @@ impl Rule {
     /// The rule that a header text gives.
     ///
     /// The number of plural forms stands after the first `nplurals=`, and the expression after the
-    /// first `plural=`, up to `;`, a line feed or the end. Where one of them is missing or can't be
-    /// read, the rule is the default, and `source` says why.
+    /// first `plural=`, up to the first `;` or LF, or to the end. Where one of them is missing or
+    /// can't be read, the rule is the default, and `source` says why.
     #[inline(always)]
     pub fn parse(header: &[u8]) -> Rule
         ensures { IsRuleOf expression_limit header.now result }
@@ -116,10 +116,10 @@ impl Rule {
         evaluate(self.table(), count)
     }
 
-    /// The nodes of the expression, as [`evaluate`] takes them: each one after its operands, and
-    /// the whole expression's last.
+    /// The nodes of the expression, as [`evaluate`] takes them: each one after its operands, so the
+    /// node of the whole expression is last.
     pub fn table(&self) -> &[Node]
-        ensures laid { result.now ≡ post_order 0 self.now.tree }
+        ensures post_order { result.now ≡ post_order 0 self.now.tree }
         ensures tree { tree_of result.now ≡ self.now.tree }
         ensures limit { length result.now ≤ expression_limit }
     {
@@ -134,7 +134,7 @@ fn fill(header: &[u8], table: &mut Table) -> (Source, u64)
     requires { table.old.items ≡ [] }
     ensures rule { IsRuleOf expression_limit header.now
         (record { source = result.0; nplurals = result.1; tree = tree_of table.new.items }) }
-    ensures laid { table.new.items ≡ post_order 0 (tree_of table.new.items) }
+    ensures post_order { table.new.items ≡ post_order 0 (tree_of table.new.items) }
 {
     match read(header, table) {
         Ok(nplurals) => (Source::Header, nplurals),
@@ -145,13 +145,13 @@ fn fill(header: &[u8], table: &mut Table) -> (Source, u64)
     }
 }
 
-/// Reads a header's number, and its expression into the empty `table`.
+/// Reads the number of plural forms of a header, and its expression into the empty `table`.
 fn read(header: &[u8], table: &mut Table) -> Result<u64, Reason>
     requires { table.old.items ≡ [] }
     ensures { MatchResult result (λ nplurals. HoldsRule expression_limit header.now nplurals table.new.items)
         (λ reason. IsReason expression_limit header.now reason) }
 {
-    let digits = header::number_digits(header).ok_or(Reason::NoNumber)?;
+    let digits = header::nplurals_digits(header).ok_or(Reason::NoNumber)?;
     let text = header::expression(header).ok_or(Reason::NoExpression)?;
     if text.len() > EXPRESSION_LIMIT {
         return Err(Reason::TooLong);

@@ -6,18 +6,18 @@ use Rattle.plural_rule.proofs.ParserSteps.{length-post_order}
 use Rattle.plural_rule.proofs.evaluator.evaluate.Goals as goal
 
 count : (table : List Node) → table ≡ post_order 0 (tree_of table) → length table ≡ nodes (tree_of table)
-count table laid = ap length laid ∙ length-post_order (tree_of table) 0
+count table is = ap length is ∙ length-post_order (tree_of table) 0
 
 pub evaluate_within-requires-clause-limit : goal.evaluate_within-requires-clause-limit
-evaluate_within-requires-clause-limit c = omega (arith, count c.args.table.now c.requires.laid, c.requires.limit)
+evaluate_within-requires-clause-limit c = omega (arith, count c.args.table.now c.requires.post_order, c.requires.limit)
 
 pub evaluate_within-requires-clause-depth : goal.evaluate_within-requires-clause-depth
-evaluate_within-requires-clause-depth c = omega (arith, count c.args.table.now c.requires.laid)
+evaluate_within-requires-clause-depth c = omega (arith, count c.args.table.now c.requires.post_order)
 
 pub evaluate_within-requires-else-table-le-SHORT-clause-limit : goal.evaluate_within-requires-else-table-le-SHORT-clause-limit
 evaluate_within-requires-else-table-le-SHORT-clause-limit c =
-    omega (arith, count c.args.table.now c.requires.laid, c.requires.limit)
+    omega (arith, count c.args.table.now c.requires.post_order, c.requires.limit)
 
 pub evaluate_within-requires-else-table-le-SHORT-clause-depth : goal.evaluate_within-requires-else-table-le-SHORT-clause-depth
 evaluate_within-requires-else-table-le-SHORT-clause-depth c =
-    omega (arith, count c.args.table.now c.requires.laid, c.requires.limit)
+    omega (arith, count c.args.table.now c.requires.post_order, c.requires.limit)

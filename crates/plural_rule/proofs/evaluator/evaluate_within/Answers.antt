@@ -9,12 +9,12 @@ use Rattle.plural_rule.proofs.evaluator.evaluate_within.Goals as goal
 pub overflow_sub-index : goal.overflow_sub-index
 overflow_sub-index g c =
     let whole = tree_of c.args.table.now in
-    omega (arith, ap length c.requires.laid, length-post_order whole 0, nodes-positive whole)
+    omega (arith, ap length c.requires.post_order, length-post_order whole 0, nodes-positive whole)
 
 pub visits-init : goal.visits-init
 visits-init g c =
     let whole = tree_of c.args.table.now in
-    let count : length c.args.table.now ≡ nodes whole = ap length c.requires.laid ∙ length-post_order whole 0 in
+    let count : length c.args.table.now ≡ nodes whole = ap length c.requires.post_order ∙ length-post_order whole 0 in
     let last : subtree whole (length c.args.table.now - 1) ≡ whole = ap (λ n. subtree whole (n - 1)) count ∙ subtree-last whole in
     let positive = nodes-positive whole in
     record {
@@ -29,5 +29,5 @@ pub visit-requires : goal.visit-requires
 visit-requires g c =
     let positive = nodes-positive (subtree (tree_of c.args.table.now) c.visits.index) in (
       search rules,
-      (c.requires.laid, (c.requires.limit, (c.visits.invariant.index, (omega arith, (c.requires.size, c.visits.invariant.frames))))),
+      (c.requires.post_order, (c.requires.limit, (c.visits.invariant.index, (omega arith, (c.requires.size, c.visits.invariant.frames))))),
     )

@@ -8,9 +8,9 @@ use Rattle.plural_rule.proofs.evaluator.node_at.Goals as goal
 pub bounds-table-index : goal.bounds-table-index
 bounds-table-index c =
     let lengths : length c.args.table.now ≡ nodes (tree_of c.args.table.now) =
-    ap length c.requires.laid ∙ length-post_order (tree_of c.args.table.now) 0 in
+    ap length c.requires.post_order ∙ length-post_order (tree_of c.args.table.now) 0 in
     omega arith
 
 pub returns : goal.returns
 returns c =
-    rw c.shape.ensures (node_of c.args.table.now (tree_of c.args.table.now) c.args.index _ c.requires.laid c.requires.index)
+    rw c.shape.ensures (node_of c.args.table.now (tree_of c.args.table.now) c.args.index _ c.requires.post_order c.requires.index)

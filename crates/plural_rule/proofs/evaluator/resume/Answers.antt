@@ -14,8 +14,8 @@ loop-frame-preserved-in-Not g c =
       size = omega (arith, c.in-Some.ensures.len, c.loop-frame.invariant.size);
     }
 
-pub returns-then-needs_right-clause-step : goal.returns-then-needs_right-clause-step
-returns-then-needs_right-clause-step g c whole h =
+pub returns-then-needs_right-clause-next : goal.returns-then-needs_right-clause-next
+returns-then-needs_right-clause-next g c whole h =
     (frames_pop whole _ _ _ _ c.in-Some.ensures.items c.in-First.is (c.loop-frame.invariant.frames whole h)).1
 
 pub returns-then-needs_right-clause-frames : goal.returns-then-needs_right-clause-frames
@@ -31,7 +31,7 @@ loop-frame-preserved-in-First g c =
       outcome = λ whole n steps.
           let none : steps + 0 ≡ steps = omega arith in
           finished_pop whole n c.loop-frame.frames.items c.pop.new.self.items c.in-Some.frame _ _ _ split (c.loop-frame.invariant.outcome whole n steps)
-          (rw (c.in-First.is, no_right, c.settled-value.ensures, none) refl);
+          (rw (c.in-First.is, no_right, c.short_circuit_value-value.ensures, none) refl);
       remaining = λ whole. omega (arith, c.loop-frame.invariant.remaining whole, remaining_pop whole _ _ _ split);
       frames = λ whole h. (frames_pop whole _ _ _ _ split c.in-First.is (c.loop-frame.invariant.frames whole h)).0;
       size = omega (arith, c.in-Some.ensures.len, c.loop-frame.invariant.size);
@@ -54,16 +54,16 @@ pub returns-in-None-clause-frames : goal.returns-in-None-clause-frames
 returns-in-None-clause-frames g c whole h =
     (frames_pop whole _ _ _ _ c.in-Some.ensures.items c.in-Second.is (c.loop-frame.invariant.frames whole h)).0
 
-pub returns-then-value-eq0-clause-step : goal.returns-then-value-eq0-clause-step
-returns-then-value-eq0-clause-step g c whole h =
+pub returns-then-value-eq0-clause-next : goal.returns-then-value-eq0-clause-next
+returns-then-value-eq0-clause-next g c whole h =
     (frames_pop whole _ _ _ _ c.in-Some.ensures.items c.in-Condition.is (c.loop-frame.invariant.frames whole h)).1.1
 
 pub returns-then-value-eq0-clause-frames : goal.returns-then-value-eq0-clause-frames
 returns-then-value-eq0-clause-frames g c whole h =
     (frames_pop whole _ _ _ _ c.in-Some.ensures.items c.in-Condition.is (c.loop-frame.invariant.frames whole h)).0
 
-pub returns-else-value-eq0-clause-step : goal.returns-else-value-eq0-clause-step
-returns-else-value-eq0-clause-step g c whole h =
+pub returns-else-value-eq0-clause-next : goal.returns-else-value-eq0-clause-next
+returns-else-value-eq0-clause-next g c whole h =
     (frames_pop whole _ _ _ _ c.in-Some.ensures.items c.in-Condition.is (c.loop-frame.invariant.frames whole h)).1.0
 
 pub returns-else-value-eq0-clause-frames : goal.returns-else-value-eq0-clause-frames

@@ -10,7 +10,7 @@ invariant-loop-top g l =
     record {
       some : 0 < length l.table.items;
       size : length l.table.items + length l.stack.items ≡ length l.fn.table.items + length l.fn.stack.items;
-      reduces : (waiting : List Waiting) (tree : Tree) → IsOperand l.fn.table.items l.fn.stack.items waiting tree → Reduces l.fn.loosest l.table.items l.stack.items (reduce l.fn.loosest waiting tree);
+      reduces : (waiting : List Waiting) (tree : Tree) → IsOperand l.fn.table.items l.fn.stack.items waiting tree → Reduces l.fn.next_level l.table.items l.stack.items (reduce l.fn.next_level waiting tree);
     }
 
 abbrev pub decreases-loop-top : goal.decreases-loop-top

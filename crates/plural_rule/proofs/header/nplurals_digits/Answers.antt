@@ -1,10 +1,10 @@
 use Rattle.std.proofs.Common.{◌≡◌, ◌<◌, length, ap, ◌∙◌, sym, rules}
 use Rattle.std.specs.Prelude.{option_and_then, take_while}
 use Rattle.std.specs.Char.{is_ascii_digit}
-use Rattle.plural_rule.specs.Header.{without_blanks, leading_number, number_of_digits}
-use Rattle.plural_rule.proofs.Numerals.{number_of_digits-some}
+use Rattle.plural_rule.specs.Header.{without_blanks, leading_number, digits_number}
+use Rattle.plural_rule.proofs.Numerals.{digits_number-some}
 use Rattle.plural_rule.proofs.Scanning.{AllDigits-take_while}
-use Rattle.plural_rule.proofs.header.number_digits.Goals as goal
+use Rattle.plural_rule.proofs.header.nplurals_digits.Goals as goal
 
 pub returns-else-is_empty : goal.returns-else-is_empty
 returns-else-is_empty c =
@@ -12,5 +12,5 @@ returns-else-is_empty c =
     let digits : c.leading_digits-digits.result.now ≡ take_while is_ascii_digit (without_blanks c.in_ok-rest.rest.now) =
     c.leading_digits-digits.ensures ∙ ap (take_while is_ascii_digit) c.without_blanks.ensures.value in (
       rw digits (AllDigits-take_while (without_blanks c.in_ok-rest.rest.now)),
-      ap (option_and_then leading_number) c.in_ok-rest.ensures ∙ ap number_of_digits (sym digits) ∙ number_of_digits-some _ some,
+      ap (option_and_then leading_number) c.in_ok-rest.ensures ∙ ap digits_number (sym digits) ∙ digits_number-some _ some,
     )

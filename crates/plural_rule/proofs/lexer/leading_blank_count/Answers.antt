@@ -1,7 +1,7 @@
 use Rattle.std.proofs.Common.{sym, arith}
 use Rattle.std.proofs.lemmas.List.Sums.{prefix_len_is}
 use Rattle.plural_rule.specs.Tokens.{is_blank}
-use Rattle.plural_rule.proofs.lexer.blanks.Goals as goal
+use Rattle.plural_rule.proofs.lexer.leading_blank_count.Goals as goal
 
 pub returns-then-not-is_blank-clause-count : goal.returns-then-not-is_blank-clause-count
 returns-then-not-is_blank-clause-count c =
