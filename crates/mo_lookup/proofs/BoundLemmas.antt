@@ -40,9 +40,9 @@ search_bound-rises a b le =
     omega arith
 
 -- 32 comparisons at most where the number of keys fits 32 bits
-pub search_bound-small : (n : ℕ) → n < 2 ^ 32 → search_bound n ≤ 32
+pub search_bound-at_most_32 : (n : ℕ) → n < 2 ^ 32 → search_bound n ≤ 32
 unfolding search_bound
-search_bound-small n short =
+search_bound-at_most_32 n short =
     let largest : halvings_within 4294967295 4294967295 ≡ 32 = refl in
     let more : halvings_within n n ≡ halvings_within 4294967295 n = within_same n 4294967295 n (omega arith) (omega arith) in
     let rest : halvings_within 4294967295 n ≤ halvings_within 4294967295 4294967295 = within_rises 4294967295 n 4294967295 (omega arith) in

@@ -6,7 +6,7 @@ use Rattle.mo_file.specs.Key.{AreRising, key_at, key_cmp}
 use Rattle.mo_lookup.specs.Bound.{search_bound}
 use Rattle.mo_lookup.specs.Comparisons.{comparisons}
 use Rattle.mo_lookup.specs.Index.{IsIndexOf}
-use Rattle.mo_lookup.proofs.BoundLemmas.{search_bound-small}
+use Rattle.mo_lookup.proofs.BoundLemmas.{search_bound-at_most_32}
 use Rattle.mo_lookup.proofs.ComparisonLemmas.{AreCompared, AreCompared-less, AreCompared-greater, AreCompared-equal, AreCompared-none, comparisons-bound}
 use Rattle.mo_lookup.proofs.RisingLemmas.{equal_is_same, none_up_to, none_from}
 
@@ -20,7 +20,7 @@ pub record IsSearch (ks : List (List ℕ)) (key : List ℕ) (now : List (List �
   pub inside : high ≤ length ks
   pub below : (i : ℕ) → i < low → key_at ks i ≢ key
   pub above : (i : ℕ) → high ≤ i → i < length ks → key_at ks i ≢ key
-  pub rises : began ≤ counted
+  pub never_falls : began ≤ counted
   pub compared : AreCompared ks key began counted low high
 
 -- a comparison, as one with the list at the start
@@ -41,7 +41,7 @@ IsSearch-less ks key now after began counted low high middle is some in_middle l
   inside = is.inside;
   below = none_up_to ks key middle is.rising (omega arith) (at-start ks now key middle Less is.same less);
   above = is.above;
-  rises = omega arith;
+  never_falls = omega arith;
   compared =
       AreCompared-less ks key began counted low high middle is.compared some is.inside in_middle
       (at-start ks now key middle Less is.same less);
@@ -60,7 +60,7 @@ IsSearch-greater ks key now after began counted low high middle is some in_middl
   inside = omega arith;
   below = is.below;
   above = none_from ks key middle is.rising (at-start ks now key middle Greater is.same greater);
-  rises = omega arith;
+  never_falls = omega arith;
   compared =
       AreCompared-greater ks key began counted low high middle is.compared some is.inside in_middle
       (at-start ks now key middle Greater is.same greater);
@@ -68,15 +68,15 @@ IsSearch-greater ks key now after began counted low high middle is some in_middl
 
 -- what was counted is within the bound
 pub record IsCounted (ks : List (List ℕ)) (began counted : ℕ) : Type 0 where
-  pub cost : counted ≤ began + search_bound (length ks)
-  pub small : counted ≤ began + 32
+  pub bound : counted ≤ began + search_bound (length ks)
+  pub at_most_32 : counted ≤ began + 32
 
 counted-within : (ks : List (List ℕ)) (key : List ℕ) (began counted : ℕ) → length ks < 2 ^ 32 → counted ≤ began + comparisons ks key →
     IsCounted ks began counted
 counted-within ks key began counted short within =
-    let small : search_bound (length ks) ≤ 32 = search_bound-small (length ks) short in
+    let at_most_32 : search_bound (length ks) ≤ 32 = search_bound-at_most_32 (length ks) short in
     let bound : comparisons ks key ≤ search_bound (length ks) = comparisons-bound ks key in
-    record { cost = omega arith; small = omega arith }
+    record { bound = omega arith; at_most_32 = omega arith }
 
 pub IsSearch-counted : (ks : List (List ℕ)) (key : List ℕ) (now : List (List ℕ)) (began counted low high : ℕ) →
     IsSearch ks key now began counted low high → IsCounted ks began counted

@@ -1,7 +1,7 @@
 -- What a query is answered (GNU gettext manual, "Plural forms").
 use Rattle.std.specs.Prelude.{ℕ, ◌==◌, Bool, true, false, nat_lt, min, List, [], length, slice_index_or, Option, None, Some, if◌then◌else◌}
 use Rattle.plural_rule.specs.Expression.{value, visited}
-use Rattle.plural_rule.specs.PluralRule.{Meaning}
+use Rattle.plural_rule.specs.PluralRule.{RuleView}
 use Rattle.mo_lookup.specs.declared.answer.Answer.{Answer}
 use Rattle.mo_lookup.specs.Query.{Query}
 
@@ -36,12 +36,12 @@ abbrev pub untranslated : Query → AnswerView
 untranslated query = record { text = untranslated_text query.id query.plural; found = false; steps = 0 }
 
 -- the answer from the forms of a translation
-abbrev pub translated : List (List ℕ) → Meaning → Option (List ℕ × ℕ) → AnswerView
+abbrev pub translated : List (List ℕ) → RuleView → Option (List ℕ × ℕ) → AnswerView
 translated forms rule None = record { text = form_at forms 0; found = true; steps = 0 }
 translated forms rule (Some plural) =
     record { text = selected_form forms rule.nplurals (value rule.tree plural.1); found = true; steps = visited rule.tree plural.1 }
 
 -- the answer to a query, from the forms of its translation, where it has one, and the plural rule
-abbrev pub answer : Option (List (List ℕ)) → Meaning → Query → AnswerView
+abbrev pub answer : Option (List (List ℕ)) → RuleView → Query → AnswerView
 answer None rule query = untranslated query
 answer (Some forms) rule query = translated forms rule query.plural

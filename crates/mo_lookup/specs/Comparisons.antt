@@ -5,7 +5,7 @@ use Rattle.std.specs.declared.cmp.Ordering.TheVariants.{Less, Equal, Greater}
 use Rattle.mo_file.specs.Message.{Message}
 use Rattle.mo_file.specs.Key.{key_at, key_cmp, keys, query_key}
 use Rattle.mo_lookup.specs.Bound.{search_bound}
-use Rattle.mo_lookup.specs.Query.{Query, is_clean_key}
+use Rattle.mo_lookup.specs.Query.{Query, can_be_key}
 
 -- where the key in the middle is below the one that is searched, the keys after it; where it is
 -- above, those before it
@@ -39,7 +39,7 @@ SearchHalves =
 abbrev pub SearchIsBounded : Type 0
 SearchIsBounded = (ks : List (List ℕ)) (key : List ℕ) → comparisons ks key ≤ search_bound (length ks)
 
--- how many keys of a catalogue are compared for a query: none where it isn't clean
+-- how many keys of a catalogue are compared for a query: none where it can't be a key
 abbrev pub query_comparisons : List Message → Query → ℕ
 query_comparisons messages query =
-    if is_clean_key query.context query.id then comparisons (keys messages) (query_key query.context query.id) else 0
+    if can_be_key query.context query.id then comparisons (keys messages) (query_key query.context query.id) else 0

@@ -3,7 +3,7 @@
 use Rattle.std.specs.Prelude.{◌≡◌, ◌≢◌, ℕ, ◌<◌, List, None, length, slice_get}
 use Rattle.mo_file.specs.Message.{Message, translations}
 use Rattle.mo_file.specs.Key.{AreRising, key_at, keys}
-use Rattle.mo_lookup.specs.Contents.{translation_under}
+use Rattle.mo_lookup.specs.CatalogView.{translation_under}
 
 -- the key of a message finds the translation of that message, where the keys rise
 abbrev pub EachKeyFindsItsTranslation : Type 0

@@ -3,7 +3,7 @@ pub mod Index
 pub mod Query
 pub mod Comparisons
 pub mod Answer
-pub mod Contents
+pub mod CatalogView
 pub mod Chain
 pub mod Laws
 pub use Rattle.plural_rule.specs.Expression

@@ -18,16 +18,15 @@ given plural = option_map (λ p. (p.0.now, p.1)) plural
 abbrev pub query : Option (Bor (List ℕ)) → List ℕ → Option (Bor (List ℕ) × ℕ) → Query
 query context id plural = record { context = option_copied context; id = id; plural = given plural }
 
--- a byte that no context and no msgid of a file contains: NUL ends a string, and EOT (4) ends a
--- context
+-- a byte that ends a string of a file, NUL, or a context, EOT (4)
 abbrev pub is_separator : ℕ → Bool
 is_separator byte = byte == 0 || byte == 4
 
 -- whether a text contains no separator
-abbrev pub is_clean : List ℕ → Bool
-is_clean text = not (list_any is_separator text)
+abbrev pub has_no_separator : List ℕ → Bool
+has_no_separator text = not (list_any is_separator text)
 
--- whether neither a context nor a msgid contains a separator; a query that isn't clean has no
+-- whether neither a context nor a msgid contains a separator; where one does, the query has no
 -- translation
-abbrev pub is_clean_key : Option (List ℕ) → List ℕ → Bool
-is_clean_key context id = is_clean (unwrap_or context []) && is_clean id
+abbrev pub can_be_key : Option (List ℕ) → List ℕ → Bool
+can_be_key context id = has_no_separator (unwrap_or context []) && has_no_separator id

@@ -7,12 +7,12 @@ ghost use Rattle.plural_rule.specs.PluralRule.{IsRuleOf, expression_limit};
 ghost use Rattle.mo_file.specs.declared.byte_order.Order.{Order};
 ghost use Rattle.mo_file.specs.Message.{Message};
 ghost use Rattle.mo_file.specs.Key.{AreRising, keys, query_key};
-ghost use Rattle.mo_file.specs.Catalog.{IsCatalog};
+ghost use Rattle.mo_file.specs.MoFile.{IsMoFile};
 ghost use Rattle.mo_file.specs.Fault.{IsFirstFault, comparisons_before};
 ghost use Rattle.mo_lookup.specs.Bound.{search_bound};
 ghost use Rattle.mo_lookup.specs.Comparisons.{comparisons, query_comparisons};
-ghost use Rattle.mo_lookup.specs.Query.{query, given, is_clean_key};
-ghost use Rattle.mo_lookup.specs.Contents.{AreContents, header_text, forms, answered, translation_under};
+ghost use Rattle.mo_lookup.specs.Query.{query, given, can_be_key};
+ghost use Rattle.mo_lookup.specs.CatalogView.{IsCatalogView, header_text, forms, answered, translation_under};
 ghost use Rattle.mo_lookup.specs.Answer.{answer_view, translated};
 
 use crate::answer::Answer;
@@ -34,15 +34,15 @@ pub struct Catalog<'a> {
 impl<'a> Model for Catalog<'a> {
     ghost use Rattle.std.specs.Coded.{codes};
     ghost use Rattle.plural_rule.specs.contracts.rule.Rule.{the_row as rule_row};
-    ghost use Rattle.mo_lookup.specs.Contents.{Contents, AreContents};
+    ghost use Rattle.mo_lookup.specs.CatalogView.{CatalogView, IsCatalogView};
 
-    ghost Value = { Contents };
+    ghost Value = { CatalogView };
 
     ghost coded = { Prim.hlevel (codes, rule_row.coded) };
 
     ghost view = { λ c. record { messages = c.view; rule = c.rule } };
 
-    ghost invariant = { λ c. AreContents c.view c.rule };
+    ghost invariant = { λ c. IsCatalogView c.view c.rule };
 }
 
 /// The text of a file's header entry, which stands under the empty key and so first; empty where
@@ -52,8 +52,8 @@ fn header_text<'a>(view: &MoView<'a>, meter: &mut Meter) -> &'a [u8]
     requires { meter.old < 2 ^ 63 + length view.now }
     ensures text { result.now ≡ header_text view.now }
     ensures rising { AreRising (keys view.now) }
-    ensures rises { meter.old ≤ meter.new }
-    ensures cost { meter.new ≤ meter.old + min 1 (length view.now) }
+    ensures never_falls { meter.old ≤ meter.new }
+    ensures bound { meter.new ≤ meter.old + min 1 (length view.now) }
 {
     if view.len() == 0 {
         return b"";
@@ -73,13 +73,13 @@ impl<'a> Catalog<'a> {
     #[inline(always)]
     pub fn open(bytes: &'a [u8], meter: &mut Meter) -> Result<Catalog<'a>, MoError>
         requires { meter.old < 2 ^ 63 }
-        ensures exact { MatchResult result (λ catalog. (order : Order) × IsCatalog order bytes.now catalog.messages)
+        ensures exact { MatchResult result (λ catalog. (order : Order) × IsMoFile order bytes.now catalog.messages)
             (IsFirstFault bytes.now) }
-        ensures only { (order : Order) (messages : List Message) → IsCatalog order bytes.now messages → IsOk result }
-        ensures contents { IfOk result (λ catalog. AreContents catalog.messages catalog.rule) }
-        ensures cost { MatchResult result (λ catalog. meter.new ≤ meter.old + length catalog.messages)
+        ensures only { (order : Order) (messages : List Message) → IsMoFile order bytes.now messages → IsOk result }
+        ensures view { IfOk result (λ catalog. IsCatalogView catalog.messages catalog.rule) }
+        ensures bound { MatchResult result (λ catalog. meter.new ≤ meter.old + length catalog.messages)
             (λ fault. meter.new ≤ meter.old + comparisons_before fault) }
-        ensures rises { meter.old ≤ meter.new }
+        ensures never_falls { meter.old ≤ meter.new }
     {
         let view = MoView::open(bytes, meter)?;
         let header = header_text(&view, meter);
@@ -127,7 +127,7 @@ impl<'a> Catalog<'a> {
         ensures comparisons { result.comparisons
             ≡ query_comparisons self.now.messages (query context.entry id.now plural.entry) }
         ensures bound { result.comparisons ≤ search_bound (length self.now.messages) }
-        ensures unclean { is_clean_key (option_copied context.entry) id.now ≡ false → result.comparisons ≡ 0 }
+        ensures no_key { can_be_key (option_copied context.entry) id.now ≡ false → result.comparisons ≡ 0 }
         ensures nodes { result.steps ≤ nodes self.now.rule.tree }
     {
         look(
@@ -154,15 +154,15 @@ impl<'a> Catalog<'a> {
             ≡ translation_under (query_key (option_copied context.entry) id.now) self.now.messages }
         ensures comparisons { meter.new
             ≡ meter.old + comparisons (keys self.now.messages) (query_key (option_copied context.entry) id.now) }
-        ensures rises { meter.old ≤ meter.new }
-        ensures cost { meter.new ≤ meter.old + search_bound (length self.now.messages) }
-        ensures small { meter.new ≤ meter.old + 32 }
+        ensures never_falls { meter.old ≤ meter.new }
+        ensures bound { meter.new ≤ meter.old + search_bound (length self.now.messages) }
+        ensures at_most_32 { meter.new ≤ meter.old + 32 }
     {
         translation(&self.view, context, id, meter)
     }
 
-    /// The form of a translation, which is form 0 where no plural is given, and how many nodes were
-    /// evaluated for it.
+    /// The form of a translation that is the answer: form 0 where no plural is given, else the one
+    /// that the rule selects. And how many nodes were evaluated for it.
     pub(crate) fn answered_form(
         &self,
         translation: &'a [u8],

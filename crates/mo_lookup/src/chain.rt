@@ -8,7 +8,7 @@ ghost use Rattle.mo_lookup.specs.Query.{query};
 ghost use Rattle.mo_lookup.specs.Chain.{answering_nodes, asked, chain_bound, chain_answer_view, chain_answered, chain_comparisons, has_key, key_comparisons, IsFirstWith};
 
 use crate::catalog::Catalog;
-use crate::query::{is_clean_key, untranslated_text};
+use crate::query::{can_be_key, untranslated_text};
 use mo_file::Meter;
 use std::marker::Model;
 
@@ -39,9 +39,9 @@ impl<'c, 'a> Model for Chain<'c, 'a> {
     ghost use Rattle.std.specs.Prelude.{◌^◌, ◌<◌, List, length};
     ghost use Rattle.std.specs.Coded.{codes};
     ghost use Rattle.plural_rule.specs.contracts.rule.Rule.{the_row as rule_row};
-    ghost use Rattle.mo_lookup.specs.Contents.{Contents};
+    ghost use Rattle.mo_lookup.specs.CatalogView.{CatalogView};
 
-    ghost Value = { List Contents };
+    ghost Value = { List CatalogView };
 
     ghost coded = { Prim.hlevel (codes, rule_row.coded) };
 
@@ -82,7 +82,7 @@ impl<'c, 'a> Chain<'c, 'a> {
         ensures bound { result.comparisons ≤ chain_bound (take result.asked self.now) }
         ensures nodes { result.steps ≤ answering_nodes self.now (query context.entry id.now plural.entry) }
     {
-        if !is_clean_key(context, id) {
+        if !can_be_key(context, id) {
             return ChainAnswer {
                 text: untranslated_text(id, plural),
                 found: false,
@@ -135,7 +135,7 @@ fn first_with<'c, 'a>(
     ensures found { let key = query_key (option_copied context.entry) id.now in
         MatchOption result (position_or_len (has_key key) catalogs.now ≡ length catalogs.now)
         (λ first. IsFirstWith key catalogs.now first.index first.catalog.now first.translation.now) }
-    ensures rises { meter.old ≤ meter.new }
+    ensures never_falls { meter.old ≤ meter.new }
     ensures comparisons { let key = query_key (option_copied context.entry) id.now in
         let first = position_or_len (has_key key) catalogs.now in
         meter.new ≡ meter.old + key_comparisons key (take (first + 1) catalogs.now) }

@@ -6,7 +6,7 @@ ghost use Rattle.plural_rule.specs.Expression.{nodes, value, visited};
 ghost use Rattle.plural_rule.specs.PluralRule.{expression_limit};
 ghost use Rattle.plural_rule.specs.PostOrder.{post_order, tree_of};
 ghost use Rattle.mo_lookup.specs.Answer.{form_at, selected_form};
-ghost use Rattle.mo_lookup.specs.Contents.{forms};
+ghost use Rattle.mo_lookup.specs.CatalogView.{forms};
 
 use mo_file::find_byte;
 use plural_rule::{Node, evaluate};
@@ -50,7 +50,7 @@ pub(crate) fn selected_form<'t>(
     table: &[Node],
     count: u64,
 ) -> (&'t [u8], u32)
-    requires laid { table.now ≡ post_order 0 (tree_of table.now) }
+    requires post_order { table.now ≡ post_order 0 (tree_of table.now) }
     requires limit { length table.now ≤ expression_limit }
     ensures text { result.0.now ≡ selected_form (forms translation.now) nplurals (value (tree_of table.now) count) }
     ensures steps { result.1 ≡ visited (tree_of table.now) count }

@@ -3,9 +3,9 @@
 //!
 //! [`Catalog::open`] checks bytes of any origin once and reads the plural rule of their header
 //! entry. [`Catalog::look`] then answers a query by at most floor(log2 N) + 1 comparisons among N
-//! keys, and visits each node of the plural expression at most once. A [`Chain`] asks one catalogue
-//! after the other. None of them allocates: texts are slices of the file or of the query. [`find`]
-//! is the binary search over any list of [`Keys`], which it only compares.
+//! keys, and evaluates each node of the plural expression at most once. A [`Chain`] asks one
+//! catalogue after the other. None of them allocates: texts are slices of the file or of the query.
+//! [`find`] is the binary search over any list of [`Keys`], which it only compares.
 //!
 //! The modules in reading order: `query`, `search`, `view_keys`, `forms`, `answer`, `looking`,
 //! `catalog`, `chain`, `laws`.

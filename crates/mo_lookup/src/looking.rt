@@ -10,13 +10,13 @@ ghost use Rattle.plural_rule.specs.PostOrder.{post_order, tree_of};
 ghost use Rattle.mo_file.specs.Key.{keys, query_key};
 ghost use Rattle.mo_lookup.specs.Bound.{search_bound};
 ghost use Rattle.mo_lookup.specs.Comparisons.{comparisons, query_comparisons};
-ghost use Rattle.mo_lookup.specs.Query.{query, given, is_clean_key};
-ghost use Rattle.mo_lookup.specs.Contents.{forms, answered, translation_under};
+ghost use Rattle.mo_lookup.specs.Query.{query, given, can_be_key};
+ghost use Rattle.mo_lookup.specs.CatalogView.{forms, answered, translation_under};
 ghost use Rattle.mo_lookup.specs.Answer.{answer_view, translated};
 
 use crate::answer::Answer;
 use crate::forms::{before_nul, selected_form};
-use crate::query::{is_clean_key, untranslated_text};
+use crate::query::{can_be_key, untranslated_text};
 use crate::search::find;
 use crate::view_keys::ViewKeys;
 use mo_file::{Meter, MoView};
@@ -37,7 +37,7 @@ pub fn look<'a, 'q>(
 where
     'a: 'q,
     requires room { meter.old < 2 ^ 63 }
-    requires laid { table.now ≡ post_order 0 (tree_of table.now) }
+    requires post_order { table.now ≡ post_order 0 (tree_of table.now) }
     requires limit { length table.now ≤ expression_limit }
     ensures answered { (source : Source) → answer_view result
         ≡ answered (record {
@@ -48,11 +48,11 @@ where
     ensures counted { meter.new ≡ meter.old + result.comparisons }
     ensures comparisons { result.comparisons ≡ query_comparisons view.now (query context.entry id.now plural.entry) }
     ensures bound { result.comparisons ≤ search_bound (length view.now) }
-    ensures unclean { is_clean_key (option_copied context.entry) id.now ≡ false → result.comparisons ≡ 0 }
+    ensures no_key { can_be_key (option_copied context.entry) id.now ≡ false → result.comparisons ≡ 0 }
     ensures nodes { result.steps ≤ nodes (tree_of table.now) }
 {
     let before = meter.count();
-    let translation = if is_clean_key(context, id) {
+    let translation = if can_be_key(context, id) {
         translation(view, context, id, meter)
     } else {
         None
@@ -81,9 +81,9 @@ pub(crate) fn translation<'a>(
     ensures found { option_copied result ≡ translation_under (query_key (option_copied context.entry) id.now) view.now }
     ensures comparisons { meter.new
         ≡ meter.old + comparisons (keys view.now) (query_key (option_copied context.entry) id.now) }
-    ensures rises { meter.old ≤ meter.new }
-    ensures cost { meter.new ≤ meter.old + search_bound (length view.now) }
-    ensures small { meter.new ≤ meter.old + 32 }
+    ensures never_falls { meter.old ≤ meter.new }
+    ensures bound { meter.new ≤ meter.old + search_bound (length view.now) }
+    ensures at_most_32 { meter.new ≤ meter.old + 32 }
 {
     // Called for its clause that the keys rise.
     let _rising = view.len();
@@ -92,15 +92,15 @@ pub(crate) fn translation<'a>(
     Some(view.translation(index))
 }
 
-/// The form of a translation, which is form 0 where no plural is given, and how many nodes were
-/// evaluated for it.
+/// The form of a translation that is the answer: form 0 where no plural is given, else the one that
+/// the rule selects. And how many nodes were evaluated for it.
 pub(crate) fn answered_form<'a>(
     nplurals: u64,
     table: &[Node],
     translation: &'a [u8],
     plural: Option<(&[u8], u64)>,
 ) -> (&'a [u8], u32)
-    requires laid { table.now ≡ post_order 0 (tree_of table.now) }
+    requires post_order { table.now ≡ post_order 0 (tree_of table.now) }
     requires limit { length table.now ≤ expression_limit }
     ensures text { (source : Source) → result.0.now
         ≡ (translated (forms translation.now)

@@ -2,24 +2,25 @@
 
 ghost use Rattle.std.specs.Prelude.{◌≡◌};
 ghost use Rattle.std.specs.Option.{option_copied};
-ghost use Rattle.mo_lookup.specs.Query.{given, is_clean, is_clean_key};
+ghost use Rattle.mo_lookup.specs.Query.{given, has_no_separator, can_be_key};
 ghost use Rattle.mo_lookup.specs.Answer.{untranslated_text};
 
 use mo_file::find_byte;
 
 /// Whether a text contains neither a NUL, which ends a string of an MO file, nor an EOT (4), which
 /// ends a context.
-fn is_clean(text: &[u8]) -> bool
-    ensures { result ≡ is_clean text.now }
+fn has_no_separator(text: &[u8]) -> bool
+    ensures { result ≡ has_no_separator text.now }
 {
     find_byte(0, text).is_none() && find_byte(4, text).is_none()
 }
 
-/// Whether a catalogue can have a message with this context and msgid.
-pub(crate) fn is_clean_key(context: Option<&[u8]>, id: &[u8]) -> bool
-    ensures { result ≡ is_clean_key (option_copied context.entry) id.now }
+/// Whether neither the context nor the msgid contains a NUL or an EOT; where one does, the query
+/// has no translation.
+pub(crate) fn can_be_key(context: Option<&[u8]>, id: &[u8]) -> bool
+    ensures { result ≡ can_be_key (option_copied context.entry) id.now }
 {
-    is_clean(context.unwrap_or(b"")) && is_clean(id)
+    has_no_separator(context.unwrap_or(b"")) && has_no_separator(id)
 }
 
 /// The answer where there is no translation: the msgid, or for a count that isn't 1 the plural.

@@ -18,7 +18,7 @@ pub trait Keys {
     /// How many comparisons were made.
     ghost counted: { Self → ℕ };
 
-    /// The name of the loan of the counter, for keys that borrow it; any number where they own it.
+    /// Which borrowed counter it is, for keys that borrow one; any number where they own it.
     ghost counter: { Self → ℕ };
 
     /// How many keys there are.
@@ -50,9 +50,9 @@ pub fn find<K: Keys>(keys: &mut K, context: Option<&[u8]>, id: &[u8]) -> Option<
     ensures unchanged { K.listed keys.new ≡ K.listed keys.old }
     ensures comparisons { K.counted keys.new
         ≡ K.counted keys.old + comparisons (K.listed keys.old) (query_key (option_copied context.entry) id.now) }
-    ensures rises { K.counted keys.old ≤ K.counted keys.new }
-    ensures cost { K.counted keys.new ≤ K.counted keys.old + search_bound (length (K.listed keys.old)) }
-    ensures small { K.counted keys.new ≤ K.counted keys.old + 32 }
+    ensures never_falls { K.counted keys.old ≤ K.counted keys.new }
+    ensures bound { K.counted keys.new ≤ K.counted keys.old + search_bound (length (K.listed keys.old)) }
+    ensures at_most_32 { K.counted keys.new ≤ K.counted keys.old + 32 }
     ensures same_counter { K.counter keys.new ≡ K.counter keys.old }
 {
     let mut low = 0;

@@ -23,6 +23,6 @@ returns-in_default c = record {
       (none-empty _ c.len.ensures.rising (λ equal. c.in_default.not-Equal (c.compare.ensures.order ∙ equal)))
       );
   rising = c.len.ensures.rising;
-  rises = omega arith;
-  cost = omega arith;
+  never_falls = omega arith;
+  bound = omega arith;
 }

@@ -6,7 +6,7 @@ pub compare-requires-clause-room : goal.compare-requires-clause-room
 compare-requires-clause-room g c =
     let counted = IsSearch-counted _ _ _ _ _ _ _ c.halving.invariant.1 in
     let began = c.requires in
-    omega (arith, counted.small)
+    omega (arith, counted.at_most_32)
 
 pub returns-in-Equal-clause-index : goal.returns-in-Equal-clause-index
 returns-in-Equal-clause-index g c = IsSearch-found _ _ _ _ _ _ _ _ c.halving.invariant.1 (omega arith) c.in-Equal.ensures.order
@@ -16,15 +16,15 @@ returns-in-Equal-clause-comparisons g c =
     c.compare.ensures.cost
     ∙ IsSearch-last _ _ _ _ _ _ _ _ c.halving.invariant.1 c.halving-test.true (omega arith) c.in-Equal.ensures.order
 
-pub returns-in-Equal-clause-cost : goal.returns-in-Equal-clause-cost
-returns-in-Equal-clause-cost g c =
+pub returns-in-Equal-clause-bound : goal.returns-in-Equal-clause-bound
+returns-in-Equal-clause-bound g c =
     let counted = IsSearch-compared _ _ _ _ _ _ _ _ c.halving.invariant.1 c.halving-test.true (omega arith) c.in-Equal.ensures.order in
-    rw c.compare.ensures.cost counted.cost
+    rw c.compare.ensures.cost counted.bound
 
-pub returns-in-Equal-clause-small : goal.returns-in-Equal-clause-small
-returns-in-Equal-clause-small g c =
+pub returns-in-Equal-clause-at_most_32 : goal.returns-in-Equal-clause-at_most_32
+returns-in-Equal-clause-at_most_32 g c =
     let counted = IsSearch-compared _ _ _ _ _ _ _ _ c.halving.invariant.1 c.halving-test.true (omega arith) c.in-Equal.ensures.order in
-    rw c.compare.ensures.cost counted.small
+    rw c.compare.ensures.cost counted.at_most_32
 
 pub halving-preserved-in-Less : goal.halving-preserved-in-Less
 halving-preserved-in-Less g c = (
@@ -49,8 +49,8 @@ halving-preserved g c = (
 pub returns-clause-comparisons : goal.returns-clause-comparisons
 returns-clause-comparisons g c = IsSearch-none _ _ _ _ _ _ _ c.halving.invariant.1 (omega arith)
 
-pub returns-clause-cost : goal.returns-clause-cost
-returns-clause-cost g c = (IsSearch-counted _ _ _ _ _ _ _ c.halving.invariant.1).cost
+pub returns-clause-bound : goal.returns-clause-bound
+returns-clause-bound g c = (IsSearch-counted _ _ _ _ _ _ _ c.halving.invariant.1).bound
 
-pub returns-clause-small : goal.returns-clause-small
-returns-clause-small g c = (IsSearch-counted _ _ _ _ _ _ _ c.halving.invariant.1).small
+pub returns-clause-at_most_32 : goal.returns-clause-at_most_32
+returns-clause-at_most_32 g c = (IsSearch-counted _ _ _ _ _ _ _ c.halving.invariant.1).at_most_32

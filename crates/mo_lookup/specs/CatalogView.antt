@@ -4,16 +4,16 @@ use Rattle.std.specs.Prelude.{ℕ, List, [], Option, None, option_map, if◌then
 use Rattle.std.specs.List.{find, slice_split}
 use Rattle.std.specs.Option.{option_map_or}
 use Rattle.std.specs.Str.{bytes_eq}
-use Rattle.plural_rule.specs.PluralRule.{Meaning, IsRuleOf, expression_limit}
+use Rattle.plural_rule.specs.PluralRule.{RuleView, IsRuleOf, expression_limit}
 use Rattle.mo_file.specs.Key.{AreRising, is_nul, key_of, keys, query_key}
 use Rattle.mo_file.specs.Message.{Message}
-use Rattle.mo_lookup.specs.Query.{Query, is_clean_key}
+use Rattle.mo_lookup.specs.Query.{Query, can_be_key}
 use Rattle.mo_lookup.specs.Answer.{AnswerView, form_at, answer}
 
--- the messages of a catalogue, and its plural rule
-pub record Contents : Type 0 where
+-- what clauses see of a catalogue: its messages, and its plural rule
+pub record CatalogView : Type 0 where
   pub messages : List Message
-  pub rule : Meaning
+  pub rule : RuleView
 
 -- the translation that stands under a key
 abbrev pub translation_under : List ℕ → List Message → Option (List ℕ)
@@ -28,16 +28,17 @@ abbrev pub header_text : List Message → List ℕ
 header_text messages = option_map_or (λ translation. form_at (forms translation) 0) (translation_under [] messages) []
 
 -- the keys of the messages rise, and the rule is that of their header text
-pub record AreContents (messages : List Message) (rule : Meaning) : Type 0 where
+pub record IsCatalogView (messages : List Message) (rule : RuleView) : Type 0 where
   pub rising : AreRising (keys messages)
   pub rule_of_header : IsRuleOf expression_limit (header_text messages) rule
 
--- the forms that translate a query, none where it isn't clean
+-- the forms of the message that a query asks for, or none: where no message has the key, and where
+-- the query can't be a key
 abbrev pub forms_found : List Message → Query → Option (List (List ℕ))
 forms_found messages query =
-    if is_clean_key query.context query.id then option_map forms (translation_under (query_key query.context query.id) messages)
+    if can_be_key query.context query.id then option_map forms (translation_under (query_key query.context query.id) messages)
     else None
 
 -- what a catalogue answers
-abbrev pub answered : Contents → Query → AnswerView
-answered contents query = answer (forms_found contents.messages query) contents.rule query
+abbrev pub answered : CatalogView → Query → AnswerView
+answered catalog query = answer (forms_found catalog.messages query) catalog.rule query
