@@ -10,7 +10,7 @@ use Rattle.std.proofs.lemmas.Slice.Eq.{bytes_eq-Decides}
 use Rattle.std.proofs.lemmas.Str.{IsUtf8-take, IsUtf8-drop, IsUtf8-past_char, IsCharBoundary-after_ascii}
 use lib.Utf8.{encode}
 use Rattle.po_syntax.specs.CleanLine.{AreCleanLines}
-use Rattle.po_syntax.specs.PoText.{HasNoNul, lines_of, without_mark}
+use Rattle.po_syntax.specs.PoText.{HasNoNul, lines_of, without_byte_order_mark}
 
 abbrev is_feed : ℕ → Bool
 is_feed b = b == 10
@@ -63,6 +63,6 @@ no_nul_all text h =
       | inr none ↦ lacks_all 0 text none
     ]
 
-pub clean_lines : (text : List ℕ) → IsUtf8 text → HasNoNul text → AreCleanLines (lines_of (without_mark text))
+pub clean_lines : (text : List ℕ) → IsUtf8 text → HasNoNul text → AreCleanLines (lines_of (without_byte_order_mark text))
 clean_lines text utf8 no_nul =
-    lines_below (length (without_mark text) + 1) (without_mark text) (omega arith) (mark_cases text _ refl utf8) (after_mark (λ b. b ≢ 0) text _ (no_nul_all text no_nul))
+    lines_below (length (without_byte_order_mark text) + 1) (without_byte_order_mark text) (omega arith) (mark_cases text _ refl utf8) (after_mark (λ b. b ≢ 0) text _ (no_nul_all text no_nul))

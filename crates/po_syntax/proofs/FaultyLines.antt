@@ -16,7 +16,7 @@ use Rattle.po_syntax.specs.LineFaults.{StartsEscape, octal_digit, hexadecimal, a
 use Rattle.po_syntax.specs.QuotedString.{Stop, numbered, number_step, letter_value, letter_step, escape_at, step_at, QuotedStops, here, later}
 use Rattle.po_syntax.specs.Runs.{FailsFirst}
 use Rattle.po_syntax.specs.Spelling.{IsBlank, IsWordByte, EndsWord, marked}
-use Rattle.po_syntax.specs.Token.{Halt, is_blank, is_word_byte, skip_blanks, close_token, index_token, bracket_token, keyword_token, first_token, token_at}
+use Rattle.po_syntax.specs.Token.{WrongToken, is_blank, is_word_byte, skip_blanks, close_token, index_token, bracket_token, keyword_token, first_token, token_at}
 use Rattle.po_syntax.proofs.SpeltEscapes.{count_prefix, count_all, plain_read, backslash_read, spelt_quoted}
 use Rattle.po_syntax.proofs.SpeltKeywords.{blank_says, word_byte_says, word_byte_passes, skip_prefix, keyword_read, m_read, word_prefix, ends_before_bracket, blank_no_word, digits_no_blank}
 use Rattle.po_syntax.proofs.SpeltLines.{quote_opens, blank_skipped, hash_first, bar_first, tilde_first, tilde_bar_first, tilde_comment}
@@ -92,7 +92,7 @@ first_blank_fails (b ∷ rest) h = false_from_ne_true (is_blank b) (λ e. h (bla
 not_among : (word name : List ℕ) → word ≢ name → bytes_eq word name ≡ false
 not_among word name h = false_from_ne_true (bytes_eq word name) (λ e. h ((bytes_eq-Decides word name).0 e))
 
-no_keyword_token : (word rest : List ℕ) → IsNoKeyword word → keyword_token word rest ≡ Halt BadToken
+no_keyword_token : (word rest : List ℕ) → IsNoKeyword word → keyword_token word rest ≡ WrongToken BadToken
 unfolding keyword_token
 no_keyword_token word rest h =
     cond-false (bytes_eq word (codes "msgctxt")) _ _ (not_among word (codes "msgctxt") h.context) ∙ cond-false (bytes_eq word (codes "msgid")) _ _ (not_among word (codes "msgid") h.id)
@@ -113,24 +113,24 @@ word_token_at b word rest all ends =
       quote_no_word : IsWordByte 34 → ⊥
       quote_no_word is = let t = word_byte_passes is in cc
 
-opened : {fault : PoFault} (before inside index : List ℕ) → All IsBlank before → All IsBlank inside → FailsFirst is_blank index → index_token index ≡ Halt fault
-    → token_at (codes "msgstr" ++ (before ++ 91 ∷ (inside ++ index))) ≡ Halt fault
+opened : {fault : PoFault} (before inside index : List ℕ) → All IsBlank before → All IsBlank inside → FailsFirst is_blank index → index_token index ≡ WrongToken fault
+    → token_at (codes "msgstr" ++ (before ++ 91 ∷ (inside ++ index))) ≡ WrongToken fault
 unfolding keyword_token
 opened before inside index p q first stops =
     m_read (codes "sgstr") (before ++ 91 ∷ (inside ++ index)) refl (ends_before_bracket before (inside ++ index) p)
     ∙ ap (bracket_token (before ++ 91 ∷ (inside ++ index))) (skip_prefix before (91 ∷ (inside ++ index)) p refl) ∙ ap index_token (skip_prefix inside index q first) ∙ stops
 
-no_index_stops : (rest : List ℕ) → NoDigitFirst 10 rest → index_token rest ≡ Halt BadToken
+no_index_stops : (rest : List ℕ) → NoDigitFirst 10 rest → index_token rest ≡ WrongToken BadToken
 unfolding index_token
 no_index_stops rest none = rw (count_all 10 [] rest tt none) refl
 
-large_stops : (digits rest : List ℕ) → IsNumeral 10 digits → NoDigitFirst 10 rest → 2 ^ 32 ≤ digits_value 10 digits → index_token (digits ++ rest) ≡ Halt BadPluralIndex
+large_stops : (digits rest : List ℕ) → IsNumeral 10 digits → NoDigitFirst 10 rest → 2 ^ 32 ≤ digits_value 10 digits → index_token (digits ++ rest) ≡ WrongToken BadPluralIndex
 unfolding index_token
 large_stops digits rest numeral none past =
     let some = ne_eqb (length digits) 0 (λ same. omega (arith, same, numeral.0)) in
     rw (count_all 10 digits rest numeral.1 none, some, take-append_seam digits rest, le-ltb (digits_value 10 digits) (2 ^ 32) past) refl
 
-not_closing : (index : ℕ) (rest : List ℕ) → NoBracketFirst rest → close_token index rest ≡ Halt BadToken
+not_closing : (index : ℕ) (rest : List ℕ) → NoBracketFirst rest → close_token index rest ≡ WrongToken BadToken
 not_closing index [] h = refl
 not_closing index (b ∷ rest) h = cond-false (b == 93) _ _ (ne_eqb b 93 h.1)
 
@@ -138,14 +138,14 @@ bracket_fails : (rest : List ℕ) → NoBracketFirst rest → FailsFirst is_blan
 bracket_fails [] h = tt
 bracket_fails (b ∷ rest) h = false_from_ne_true (is_blank b) (λ e. h.0 (blank_says b e))
 
-open_stops : (digits after rest : List ℕ) → IsNumeral 10 digits → NoDigitFirst 10 (after ++ rest) → digits_value 10 digits < 2 ^ 32 → All IsBlank after → NoBracketFirst rest → index_token (digits ++ (after ++ rest)) ≡ Halt BadToken
+open_stops : (digits after rest : List ℕ) → IsNumeral 10 digits → NoDigitFirst 10 (after ++ rest) → digits_value 10 digits < 2 ^ 32 → All IsBlank after → NoBracketFirst rest → index_token (digits ++ (after ++ rest)) ≡ WrongToken BadToken
 unfolding index_token
 open_stops digits after rest numeral none fits all other =
     let some = ne_eqb (length digits) 0 (λ same. omega (arith, same, numeral.0)) in
     rw (count_all 10 digits (after ++ rest) numeral.1 none, some, take-append_seam digits (after ++ rest), drop-append_seam digits (after ++ rest), lt-ltb (digits_value 10 digits) (2 ^ 32) fits, skip_prefix after rest all (bracket_fails rest other))
     (not_closing (digits_value 10 digits) rest other)
 
-keyword_stops : {text : List ℕ} {fault : PoFault} → KeywordFault text fault → token_at text ≡ Halt fault
+keyword_stops : {text : List ℕ} {fault : PoFault} → KeywordFault text fault → token_at text ≡ WrongToken fault
 keyword_stops (no_keyword b word rest all ends none) = word_token_at b word rest all ends ∙ no_keyword_token (b ∷ word) rest none
 keyword_stops (no_index before inside rest p q first none) = opened before inside rest p q (first_blank_fails rest first) (no_index_stops rest none)
 keyword_stops (large_index before inside digits rest p q numeral none past) = opened before inside (digits ++ rest) p q (digits_no_blank digits rest numeral) (large_stops digits rest numeral none past)
@@ -154,7 +154,7 @@ keyword_stops (not_closed_index before inside digits after rest p q numeral none
 
 -- tokens
 
-no_token_stops : (b : ℕ) (text : List ℕ) → (IsBlank b → ⊥) → b ≢ 34 → (IsWordByte b → ⊥) → token_at (b ∷ text) ≡ Halt BadToken
+no_token_stops : (b : ℕ) (text : List ℕ) → (IsBlank b → ⊥) → b ≢ 34 → (IsWordByte b → ⊥) → token_at (b ∷ text) ≡ WrongToken BadToken
 unfolding first_token
 no_token_stops b text no_blank no_quote no_word =
     ap first_token (ap (λ n. drop n (b ∷ text)) (cond-false (is_blank b) _ 0 (false_from_ne_true (is_blank b) (λ e. no_blank (blank_says b e)))))

@@ -20,7 +20,7 @@ use Rattle.po_syntax.specs.CleanLine.{IsCleanLine, AreCleanLines}
 use Rattle.po_syntax.proofs.CleanLines.{clean_lines}
 use Rattle.po_syntax.proofs.QuotedStrings.{byte-rest, end-rest}
 use Rattle.po_syntax.proofs.Lines.{tokens-rest}
-use Rattle.po_syntax.proofs.Tokens.{skip_blanks-rest, key-rest, open-rest}
+use Rattle.po_syntax.proofs.Tokens.{skip_blanks-rest, keyword-rest, quote-rest}
 use Rattle.po_syntax.proofs.TrimmedReturns.{trim_end, trim_returns-utf8, trim_returns-twice}
 use Rattle.po_syntax.proofs.Rests.{IsRest, whole_rest, rest-tail, All-rest}
 
@@ -187,9 +187,9 @@ no_items = λ k d inside. absurd (omega arith)
 
 tokens_texts : {marks : Marks} {line : ℕ} {text : List ℕ} {items : List TextItem} → SpellsTokens marks line text items → HasNone text → All HoldsText items
 tokens_texts (none e) h = no_items
-tokens_texts (word {text = text} e more) h = All-cons HoldsText _ _ tt (tokens_texts more (All-rest (λ b. b ≢ 0) text h (key-rest text e)))
+tokens_texts (word {text = text} e more) h = All-cons HoldsText _ _ tt (tokens_texts more (All-rest (λ b. b ≢ 0) text h (keyword-rest text e)))
 tokens_texts (string {text = text} e quoted more) h =
-    let read = quoted_nonzero quoted (All-rest (λ b. b ≢ 0) text h (open-rest text e)) in
+    let read = quoted_nonzero quoted (All-rest (λ b. b ≢ 0) text h (quote-rest text e)) in
     All-cons HoldsText _ _ read.0 (tokens_texts more read.1)
 
 pub line_texts : {number : ℕ} {line : List ℕ} {items : List TextItem} → SpellsLine number line items → IsCleanLine line → All HoldsText items

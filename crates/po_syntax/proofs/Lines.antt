@@ -5,12 +5,12 @@ use Rattle.std.specs.List.{onto_first}
 use Rattle.po_syntax.specs.declared.item.CommentKind.TheVariants.{Translator, Extracted, Reference, Flags}
 use Rattle.po_syntax.specs.declared.item.Marks.{Marks}
 use Rattle.po_syntax.specs.Line.{Shape, CommentLine, Tokens, NoShape, comment_shape, obsolete_shape, tilde_shape, hash_shape, first_shape, shape_of, SpellsTokens, none, word, string, SpellsLine, comment, tokens}
-use Rattle.po_syntax.specs.PoText.{SpellsLines, lines_of, without_mark}
+use Rattle.po_syntax.specs.PoText.{SpellsLines, lines_of, without_byte_order_mark}
 use Rattle.po_syntax.specs.TextItem.{TextItem}
 use Rattle.po_syntax.specs.Token.{skip_blanks}
 use Rattle.po_syntax.proofs.Rests.{IsRest, whole_rest, rest-tail, rest-le}
 use Rattle.po_syntax.proofs.QuotedStrings.{quoted-shorter}
-use Rattle.po_syntax.proofs.Tokens.{skip_blanks-rest, key-shorter, open-shorter}
+use Rattle.po_syntax.proofs.Tokens.{skip_blanks-rest, keyword-shorter, quote-shorter}
 
 -- a shape leaves a rest of this text
 abbrev Within : List ℕ → Shape → Type 0
@@ -70,8 +70,8 @@ comment-some (b ∷ text) e = omega arith
 
 tokens-few : {marks : Marks} {line : ℕ} {text : List ℕ} {items : List TextItem} → SpellsTokens marks line text items → length items ≤ length text
 tokens-few (none e) = omega arith
-tokens-few (word {text = text} e h) = omega (arith, key-shorter text e, tokens-few h)
-tokens-few (string {text = text} e q h) = omega (arith, open-shorter text e, quoted-shorter q, tokens-few h)
+tokens-few (word {text = text} e h) = omega (arith, keyword-shorter text e, tokens-few h)
+tokens-few (string {text = text} e q h) = omega (arith, quote-shorter text e, quoted-shorter q, tokens-few h)
 
 pub line-few : {line : ℕ} {text : List ℕ} {items : List TextItem} → SpellsLine line text items → length items ≤ length text
 line-few (comment {text = text} e) = omega (arith, comment-some text e)
@@ -103,9 +103,9 @@ mark_cases : (marked : Bool) (text : List ℕ) → length (if marked then drop 3
 mark_cases true text = omega (arith, length-drop 3 text)
 mark_cases false text = omega arith
 
-pub without_mark-le : (text : List ℕ) → length (without_mark text) ≤ length text
-without_mark-le text = mark_cases _ text
+pub without_byte_order_mark-le : (text : List ℕ) → length (without_byte_order_mark text) ≤ length text
+without_byte_order_mark-le text = mark_cases _ text
 
-pub items-few : (text : List ℕ) (items : List TextItem) → SpellsLines 1 (lines_of (without_mark text)) items → length items ≤ length text
+pub items-few : (text : List ℕ) (items : List TextItem) → SpellsLines 1 (lines_of (without_byte_order_mark text)) items → length items ≤ length text
 items-few text items h =
-    omega (arith, lines-few 1 (lines_of (without_mark text)) items h, lines_of-bytes (without_mark text), without_mark-le text)
+    omega (arith, lines-few 1 (lines_of (without_byte_order_mark text)) items h, lines_of-bytes (without_byte_order_mark text), without_byte_order_mark-le text)

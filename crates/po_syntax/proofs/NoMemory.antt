@@ -8,7 +8,7 @@ use Rattle.po_syntax.specs.declared.fault.PoFault.TheVariants.{OutOfMemory}
 use Rattle.po_syntax.specs.Line.{TokensStop, halt, in_string, after_word, after_string, LineStops, no_shape, in_tokens}
 use Rattle.po_syntax.specs.PoText.{LinesStop, TextFault, too_large, not_utf8, nul, stops}
 use Rattle.po_syntax.specs.QuotedString.{Step, End, Byte, Stop, digit_count, numbered, letter_value, letter_step, escape_at, step_at, QuotedStops, here, later}
-use Rattle.po_syntax.specs.Token.{Token, Nothing, Open, Key, Halt, is_word_byte, skip_blanks, close_token, index_token, bracket_token, keyword_token, first_token}
+use Rattle.po_syntax.specs.Token.{Token, LineEnd, OpeningQuote, KeywordToken, WrongToken, is_word_byte, skip_blanks, close_token, index_token, bracket_token, keyword_token, first_token}
 
 abbrev IsReported : PoFault → Type 0
 IsReported fault = fault ≢ OutOfMemory
@@ -50,10 +50,10 @@ quoted_reported (later e s) = quoted_reported s
 
 -- the tokens of a line
 abbrev ReportsToken : Token → Type 0
-ReportsToken Nothing = Unit {0}
-ReportsToken (Open rest) = Unit {0}
-ReportsToken (Key keyword rest) = Unit {0}
-ReportsToken (Halt fault) = IsReported fault
+ReportsToken LineEnd = Unit {0}
+ReportsToken (OpeningQuote rest) = Unit {0}
+ReportsToken (KeywordToken keyword rest) = Unit {0}
+ReportsToken (WrongToken fault) = IsReported fault
 
 if_token : (test : Bool) (s t : Token) → ReportsToken s → ReportsToken t → ReportsToken (if test then s else t)
 if_token true s t p q = p

@@ -16,7 +16,7 @@ use Rattle.po_syntax.specs.Escapes.{NoDigitFirst}
 use Rattle.po_syntax.specs.QuotedString.{digit_count}
 use Rattle.po_syntax.specs.Runs.{FailsFirst, parts_of, run_length, all_pass}
 use Rattle.po_syntax.specs.Spelling.{IsBlank, space, tab, vertical_tab, form_feed, carriage_return, IsWordByte, upper, lower, digit, underscore, EndsWord, HasNoBracket, SpellsKeyword, msgctxt, msgid, msgid_plural, msgstr, form}
-use Rattle.po_syntax.specs.Token.{Token, Nothing, Open, Key, Halt, is_blank, is_word_byte, skip_blanks, close_token, index_token, bracket_token, keyword_token, word_token, first_token, token_at}
+use Rattle.po_syntax.specs.Token.{Token, LineEnd, OpeningQuote, KeywordToken, WrongToken, is_blank, is_word_byte, skip_blanks, close_token, index_token, bracket_token, keyword_token, word_token, first_token, token_at}
 use Rattle.po_syntax.proofs.Escapes.{all_digits, positive}
 use Rattle.po_syntax.proofs.SpeltEscapes.{count_all}
 
@@ -122,11 +122,11 @@ pub ends_before_bracket : (blanks rest : List ℕ) → All IsBlank blanks → En
 ends_before_bracket [] rest all = bracket_no_word
 ends_before_bracket (b ∷ blanks) rest all = blank_no_word (All-head IsBlank b blanks all)
 
-no_bracket_token : (rest after : List ℕ) → ((inside : List ℕ) → after ≡ 91 ∷ inside → ⊥) → bracket_token rest after ≡ Key MsgStr rest
+no_bracket_token : (rest after : List ℕ) → ((inside : List ℕ) → after ≡ 91 ∷ inside → ⊥) → bracket_token rest after ≡ KeywordToken MsgStr rest
 no_bracket_token rest [] none = refl
-no_bracket_token rest (b ∷ inside) none = cond-false (b == 91) (index_token (skip_blanks inside)) (Key MsgStr rest) (ne_eqb b 91 (λ is. none inside (ap (λ a. a ∷ inside) is)))
+no_bracket_token rest (b ∷ inside) none = cond-false (b == 91) (index_token (skip_blanks inside)) (KeywordToken MsgStr rest) (ne_eqb b 91 (λ is. none inside (ap (λ a. a ∷ inside) is)))
 
-bracket_missing : (rest : List ℕ) → HasNoBracket rest → bracket_token rest (skip_blanks rest) ≡ Key MsgStr rest
+bracket_missing : (rest : List ℕ) → HasNoBracket rest → bracket_token rest (skip_blanks rest) ≡ KeywordToken MsgStr rest
 bracket_missing rest none =
     let parts = skips rest in
     no_bracket_token rest (skip_blanks rest) (λ inside is. none parts.blanks inside parts.are_blanks (sym parts.whole ∙ ap (λ l. parts.blanks ++ l) is))
@@ -147,7 +147,7 @@ digits_no_blank [] rest numeral = absurd (omega (arith, numeral.0))
 digits_no_blank (d ∷ digits) rest numeral =
     false_from_ne_true (is_blank d) (λ passes. let most = numeral.1.0 in omega (arith, most, blank_no_digit (blank_says d passes)))
 
-index_read : (digits after rest : List ℕ) → IsNumeral 10 digits → digits_value 10 digits < 2 ^ 32 → All IsBlank after → index_token (digits ++ (after ++ 93 ∷ rest)) ≡ Key (MsgStrAt (digits_value 10 digits)) rest
+index_read : (digits after rest : List ℕ) → IsNumeral 10 digits → digits_value 10 digits < 2 ^ 32 → All IsBlank after → index_token (digits ++ (after ++ 93 ∷ rest)) ≡ KeywordToken (MsgStrAt (digits_value 10 digits)) rest
 unfolding index_token
 index_read digits after rest numeral fits all =
     let closing = after ++ 93 ∷ rest in
@@ -156,13 +156,13 @@ index_read digits after rest numeral fits all =
     rw (count, some, take-append_seam digits closing, drop-append_seam digits closing, lt-ltb (digits_value 10 digits) (2 ^ 32) fits, skip_prefix after (93 ∷ rest) all refl) refl
 
 form_read : (before inside digits after rest : List ℕ) → All IsBlank before → All IsBlank inside → IsNumeral 10 digits → digits_value 10 digits < 2 ^ 32 → All IsBlank after
-    → bracket_token (before ++ 91 ∷ (inside ++ (digits ++ (after ++ 93 ∷ rest)))) (skip_blanks (before ++ 91 ∷ (inside ++ (digits ++ (after ++ 93 ∷ rest))))) ≡ Key (MsgStrAt (digits_value 10 digits)) rest
+    → bracket_token (before ++ 91 ∷ (inside ++ (digits ++ (after ++ 93 ∷ rest)))) (skip_blanks (before ++ 91 ∷ (inside ++ (digits ++ (after ++ 93 ∷ rest))))) ≡ KeywordToken (MsgStrAt (digits_value 10 digits)) rest
 form_read before inside digits after rest p q numeral fits r =
     let index = digits ++ (after ++ 93 ∷ rest) in
     ap (bracket_token (before ++ 91 ∷ (inside ++ index))) (skip_prefix before (91 ∷ (inside ++ index)) p refl)
     ∙ ap index_token (skip_prefix inside index q (digits_no_blank digits (after ++ 93 ∷ rest) numeral)) ∙ index_read digits after rest numeral fits r
 
-pub keyword_read : {text rest : List ℕ} {word : Keyword} → SpellsKeyword text word rest → token_at text ≡ Key word rest
+pub keyword_read : {text rest : List ℕ} {word : Keyword} → SpellsKeyword text word rest → token_at text ≡ KeywordToken word rest
 unfolding keyword_token
 keyword_read (msgctxt {rest = rest} ends) = m_read (codes "sgctxt") rest refl ends
 keyword_read (msgid {rest = rest} ends) = m_read (codes "sgid") rest refl ends
@@ -174,10 +174,10 @@ keyword_read (form before inside digits after {rest = rest} p q numeral fits r) 
 
 -- what a token says of the text that it is read from
 abbrev pub TokenSays : List ℕ → Token → Type 0
-TokenSays text Nothing = text ≡ []
-TokenSays text (Open rest) = text ≡ 34 ∷ rest
-TokenSays text (Key word rest) = SpellsKeyword text word rest
-TokenSays text (Halt fault) = Unit {0}
+TokenSays text LineEnd = text ≡ []
+TokenSays text (OpeningQuote rest) = text ≡ 34 ∷ rest
+TokenSays text (KeywordToken word rest) = SpellsKeyword text word rest
+TokenSays text (WrongToken fault) = Unit {0}
 
 if_says : (text : List ℕ) (test : Bool) (s t : Token) → (test ≡ true → TokenSays text s) → (test ≡ false → TokenSays text t) → TokenSays text (if test then s else t)
 if_says text true s t p q = p refl
@@ -224,7 +224,7 @@ bracket_says whole rest text ends before [] is parts all =
       nil_no_cons : (inside : List ℕ) → [] ≡ 91 ∷ inside → ⊥
       nil_no_cons inside e = cc
 bracket_says whole rest text ends before (b ∷ inside) is parts all =
-    if_says whole (b == 91) _ (Key MsgStr rest)
+    if_says whole (b == 91) _ (KeywordToken MsgStr rest)
     (λ e.
     let more = skips inside in
     index_says whole before more.blanks (skip_blanks inside) (record {
@@ -240,10 +240,10 @@ keyword_says : (whole word rest : List ℕ) → whole ≡ word ++ rest → EndsW
 unfolding keyword_token
 keyword_says whole word rest text ends =
     let is = λ (name : List ℕ) (e : bytes_eq word name ≡ true). text ∙ ap (λ w. w ++ rest) ((bytes_eq-Decides word name).0 e) in
-    if_says whole (bytes_eq word (codes "msgctxt")) (Key MsgCtxt rest) _ (λ e. subst (λ t. SpellsKeyword t MsgCtxt rest) (sym (is (codes "msgctxt") e)) (msgctxt ends)) (λ _.
-    if_says whole (bytes_eq word (codes "msgid")) (Key MsgId rest) _ (λ e. subst (λ t. SpellsKeyword t MsgId rest) (sym (is (codes "msgid") e)) (msgid ends)) (λ _.
-    if_says whole (bytes_eq word (codes "msgid_plural")) (Key MsgIdPlural rest) _ (λ e. subst (λ t. SpellsKeyword t MsgIdPlural rest) (sym (is (codes "msgid_plural") e)) (msgid_plural ends)) (λ _.
-    if_says whole (bytes_eq word (codes "msgstr")) _ (Halt BadToken)
+    if_says whole (bytes_eq word (codes "msgctxt")) (KeywordToken MsgCtxt rest) _ (λ e. subst (λ t. SpellsKeyword t MsgCtxt rest) (sym (is (codes "msgctxt") e)) (msgctxt ends)) (λ _.
+    if_says whole (bytes_eq word (codes "msgid")) (KeywordToken MsgId rest) _ (λ e. subst (λ t. SpellsKeyword t MsgId rest) (sym (is (codes "msgid") e)) (msgid ends)) (λ _.
+    if_says whole (bytes_eq word (codes "msgid_plural")) (KeywordToken MsgIdPlural rest) _ (λ e. subst (λ t. SpellsKeyword t MsgIdPlural rest) (sym (is (codes "msgid_plural") e)) (msgid_plural ends)) (λ _.
+    if_says whole (bytes_eq word (codes "msgstr")) _ (WrongToken BadToken)
     (λ e. let parts = skips rest in bracket_says whole rest (is (codes "msgstr") e) ends parts.blanks (skip_blanks rest) refl (sym parts.whole) parts.are_blanks)
     (λ _. tt))))
 
@@ -251,7 +251,7 @@ pub first_says : (text : List ℕ) → TokenSays text (first_token text)
 unfolding first_token
 first_says [] = refl
 first_says (b ∷ rest) =
-    if_says (b ∷ rest) (b == 34) (Open rest) _ (λ e. ap (λ a. a ∷ rest) (eqb-true b 34 e)) (λ _.
+    if_says (b ∷ rest) (b == 34) (OpeningQuote rest) _ (λ e. ap (λ a. a ∷ rest) (eqb-true b 34 e)) (λ _.
     if_says (b ∷ rest) (is_word_byte b) _ _
     (λ _. let parts = parts_of is_word_byte (b ∷ rest) in keyword_says (b ∷ rest) _ _ (sym parts.whole) (fails_ends _ parts.ends))
     (λ _. tt))

@@ -13,7 +13,7 @@ use Rattle.po_syntax.specs.Line.{Shape, CommentLine, Tokens, NoShape, comment_sh
 use Rattle.po_syntax.specs.Runs.{end_parts, kept_is}
 use Rattle.po_syntax.specs.Spelling.{IsBlank, HoldsTokens, end, blank, keyword, string, IsMark, dot, colon, comma, bar, tilde, SpellsComment, extracted, reference, flags, translator, IsWithoutReturns, marked, HoldsItems, indented, comment, obsolete_comment, live, previous, obsolete, obsolete_previous}
 use Rattle.po_syntax.specs.TextItem.{TextItem, Comment, Str}
-use Rattle.po_syntax.specs.Token.{Token, Nothing, Open, Key, Halt, is_blank, skip_blanks, first_token, token_at}
+use Rattle.po_syntax.specs.Token.{Token, LineEnd, OpeningQuote, KeywordToken, WrongToken, is_blank, skip_blanks, first_token, token_at}
 use Rattle.po_syntax.proofs.Escapes.{quoted_spelt}
 use Rattle.po_syntax.proofs.SpeltEscapes.{spelt_quoted}
 use Rattle.po_syntax.proofs.SpeltKeywords.{blank_passes, skips, skip_prefix, keyword_read, TokenSays, first_says}
@@ -32,12 +32,12 @@ says_at : (text : List ℕ) (token : Token) → token_at text ≡ token → Toke
 says_at text token e = subst (TokenSays (skip_blanks text)) e (first_says (skip_blanks text))
 
 tokens_hold : {marks : Marks} {number : ℕ} {text : List ℕ} {items : List TextItem} → SpellsTokens marks number text items → HoldsTokens marks number text items
-tokens_hold {marks} {number} (none {text = text} e) = after_skipped text (subst (λ t. HoldsTokens marks number t []) (sym (says_at text Nothing e)) end)
-tokens_hold (word {text = text} {rest = rest} {keyword = key} e more) = after_skipped text (keyword (says_at text (Key key rest) e) (tokens_hold more))
+tokens_hold {marks} {number} (none {text = text} e) = after_skipped text (subst (λ t. HoldsTokens marks number t []) (sym (says_at text LineEnd e)) end)
+tokens_hold (word {text = text} {rest = rest} {keyword = key} e more) = after_skipped text (keyword (says_at text (KeywordToken key rest) e) (tokens_hold more))
 tokens_hold {marks} {number} (line.string {text = text} {inner = inner} {bytes = bytes} {rest = rest} {items = items} e quoted more) =
     let spelt = Str bytes marks number ∷ items in
     let read : HoldsTokens marks number (34 ∷ inner) spelt = string (quoted_spelt quoted) (tokens_hold more) in
-    after_skipped text (subst (λ t. HoldsTokens marks number t spelt) (sym (says_at text (Open inner) e)) read)
+    after_skipped text (subst (λ t. HoldsTokens marks number t spelt) (sym (says_at text (OpeningQuote inner) e)) read)
 
 -- a text whose first token is that of another spells the same tokens
 same_tokens : {marks : Marks} {number : ℕ} {text other : List ℕ} {items : List TextItem} → token_at text ≡ token_at other → SpellsTokens marks number other items → SpellsTokens marks number text items
@@ -50,11 +50,11 @@ blank_skipped b text h =
     let count = cond-true (is_blank b) (1 + prefix_len is_blank text) 0 (blank_passes h) ∙ one-add (prefix_len is_blank text) in
     ap (λ n. drop n (b ∷ text)) count
 
-pub quote_opens : (text : List ℕ) → token_at (34 ∷ text) ≡ Open text
+pub quote_opens : (text : List ℕ) → token_at (34 ∷ text) ≡ OpeningQuote text
 unfolding first_token
 quote_opens text = refl
 
-nothing_ends : token_at [] ≡ Nothing
+nothing_ends : token_at [] ≡ LineEnd
 unfolding first_token
 nothing_ends = refl
 
@@ -65,7 +65,7 @@ hold_tokens (keyword spelt more) = word (keyword_read spelt) (hold_tokens more)
 hold_tokens (string {text = text} spelt more) = line.string (quote_opens text) (spelt_quoted spelt) (hold_tokens more)
 
 -- a text whose first token is a fault spells none
-no_tokens : {marks : Marks} {number : ℕ} {text : List ℕ} {items : List TextItem} → SpellsTokens marks number text items → token_at text ≡ Halt BadToken → ⊥
+no_tokens : {marks : Marks} {number : ℕ} {text : List ℕ} {items : List TextItem} → SpellsTokens marks number text items → token_at text ≡ WrongToken BadToken → ⊥
 no_tokens (none e) h = cc
 no_tokens (word e more) h = cc
 no_tokens (line.string e quoted more) h = cc
@@ -247,11 +247,11 @@ tilde_comment (b ∷ blanks) text all =
     ∙ ap obsolete_shape (skip_prefix (b ∷ blanks) (35 ∷ text) all refl) ∙ obsolete_hash text
 
 -- tokens begin with no `#` and no `|`
-wrong_first : (b : ℕ) (text : List ℕ) → (b ≡ 35) → token_at (b ∷ text) ≡ Halt BadToken
+wrong_first : (b : ℕ) (text : List ℕ) → (b ≡ 35) → token_at (b ∷ text) ≡ WrongToken BadToken
 unfolding first_token
 wrong_first b text is = ap (λ a. token_at (a ∷ text)) is
 
-wrong_bar : (b : ℕ) (text : List ℕ) → (b ≡ 124) → token_at (b ∷ text) ≡ Halt BadToken
+wrong_bar : (b : ℕ) (text : List ℕ) → (b ≡ 124) → token_at (b ∷ text) ≡ WrongToken BadToken
 unfolding first_token
 wrong_bar b text is = ap (λ a. token_at (a ∷ text)) is
 

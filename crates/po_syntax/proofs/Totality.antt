@@ -8,12 +8,12 @@ use Rattle.po_syntax.specs.declared.fault.PoFault.{PoFault}
 use Rattle.po_syntax.specs.declared.fault.PoFault.TheVariants.{NotUtf8, BadToken, ForbiddenByte, TooLarge}
 use Rattle.po_syntax.specs.declared.item.Marks.{Marks}
 use Rattle.po_syntax.specs.Line.{Shape, CommentLine, Tokens, NoShape, shape_of, trim_returns, SpellsTokens, none, word, string, TokensStop, halt, in_string, after_word, after_string, SpellsLine, comment, tokens, LineStops, no_shape, in_tokens}
-use Rattle.po_syntax.specs.PoText.{IsSmall, line_number, without_mark, lines_of, SpellsLines, LinesStop, SpellsText, TextFault, too_large, not_utf8, nul, stops}
+use Rattle.po_syntax.specs.PoText.{IsSmall, line_number, without_byte_order_mark, lines_of, SpellsLines, LinesStop, SpellsText, TextFault, too_large, not_utf8, nul, stops}
 use Rattle.po_syntax.specs.QuotedString.{Step, End, Byte, Stop, step_at, IsQuoted, ended, spelt, QuotedStops, here, later}
 use Rattle.po_syntax.specs.TextItem.{TextItem, Comment, Word, Str}
-use Rattle.po_syntax.specs.Token.{Token, Nothing, Open, Key, Halt, token_at}
+use Rattle.po_syntax.specs.Token.{Token, LineEnd, OpeningQuote, KeywordToken, WrongToken, token_at}
 use Rattle.po_syntax.proofs.QuotedStrings.{byte-shorter, quoted-shorter}
-use Rattle.po_syntax.proofs.Tokens.{key-shorter, open-shorter}
+use Rattle.po_syntax.proofs.Tokens.{keyword-shorter, quote-shorter}
 
 -- after an opening quote
 abbrev QuotedEnds : List ℕ → Type 0
@@ -37,13 +37,13 @@ abbrev TokensEnd : Marks → ℕ → List ℕ → Type 0
 TokensEnd marks line text = ((items : List TextItem) × SpellsTokens marks line text items) ⊎ ((fault : PoFault) × TokensStop text fault)
 
 tokens_step : (marks : Marks) (line : ℕ) (text : List ℕ) → ((shorter : List ℕ) → length shorter < length text → TokensEnd marks line shorter) → (token : Token) → token_at text ≡ token → TokensEnd marks line text
-tokens_step marks line text below Nothing e = inl ([], none e)
-tokens_step marks line text below (Halt fault) e = inr (fault, halt e)
-tokens_step marks line text below (Key keyword rest) e =
-    elim (below rest (key-shorter text e)) [ inl found ↦ inl (Word keyword marks line ∷ found.0, word e found.1) | inr found ↦ inr (found.0, after_word e found.1) ]
-tokens_step marks line text below (Open inside) e =
+tokens_step marks line text below LineEnd e = inl ([], none e)
+tokens_step marks line text below (WrongToken fault) e = inr (fault, halt e)
+tokens_step marks line text below (KeywordToken keyword rest) e =
+    elim (below rest (keyword-shorter text e)) [ inl found ↦ inl (Word keyword marks line ∷ found.0, word e found.1) | inr found ↦ inr (found.0, after_word e found.1) ]
+tokens_step marks line text below (OpeningQuote inside) e =
     elim (quoted_ends inside) [
-      | inl read ↦ elim (below read.1 (omega (arith, open-shorter text e, quoted-shorter read.2))) [ inl found ↦ inl (Str read.0 marks line ∷ found.0, string e read.2 found.1) | inr found ↦ inr (found.0, after_string e read.2 found.1) ]
+      | inl read ↦ elim (below read.1 (omega (arith, quote-shorter text e, quoted-shorter read.2))) [ inl found ↦ inl (Str read.0 marks line ∷ found.0, string e read.2 found.1) | inr found ↦ inr (found.0, after_string e read.2 found.1) ]
       | inr found ↦ inr (found.0, in_string e found.1)
     ]
 
@@ -82,7 +82,7 @@ TextEnds text = ((items : List TextItem) × SpellsText text items) ⊎ ((fault :
 text_without_nul : (text : List ℕ) → IsSmall text → IsUtf8 text → (found : Option ℕ) → position (λ b. b == 0) text ≡ found → TextEnds text
 text_without_nul text small utf8 (Some index) e = inr (ForbiddenByte, line_number text index, nul small utf8 e refl)
 text_without_nul text small utf8 None e =
-    elim (lines_end 1 (lines_of (without_mark text))) [ inl found ↦ inl (found.0, record { small = small; utf8 = utf8; no_nul = e; lines = found.1 }) | inr found ↦ inr (found.0, found.1, stops small utf8 e found.2) ]
+    elim (lines_end 1 (lines_of (without_byte_order_mark text))) [ inl found ↦ inl (found.0, record { small = small; utf8 = utf8; no_nul = e; lines = found.1 }) | inr found ↦ inr (found.0, found.1, stops small utf8 e found.2) ]
 
 pub text_ends : (text : List ℕ) → TextEnds text
 text_ends text =

@@ -14,9 +14,9 @@ use Rattle.po_syntax.specs.TextItem.{TextItem, views}
 use Rattle.po_syntax.specs.Token as spec
 
 abbrev pub token_view : Token → spec.Token
-token_view token.End = spec.Nothing
-token_view (token.Quote rest) = spec.Open rest.now
-token_view (token.Word keyword rest) = spec.Key keyword rest.now
+token_view token.LineEnd = spec.LineEnd
+token_view (token.OpeningQuote rest) = spec.OpeningQuote rest.now
+token_view (token.Keyword keyword rest) = spec.KeywordToken keyword rest.now
 
 abbrev pub shape_view : Shape → line.Shape
 shape_view (shape.Comment kind text) = line.CommentLine kind text.now
@@ -29,18 +29,18 @@ IsByteOf step result = MatchResult result (λ p. step ≡ Byte p.0 p.1.now) (λ 
 -- the result is the keyword of this token, with the text after it, or its fault
 abbrev pub IsKeywordOf : spec.Token → Result (Keyword × Bor (List ℕ)) PoFault → Type 0
 IsKeywordOf token result =
-    MatchResult result (λ p. token ≡ spec.Key p.0 p.1.now) (λ fault. token ≡ spec.Halt fault)
+    MatchResult result (λ p. token ≡ spec.KeywordToken p.0 p.1.now) (λ fault. token ≡ spec.WrongToken fault)
 
 -- the result is this token, or its fault
 abbrev pub IsTokenOf : spec.Token → Result Token PoFault → Type 0
 IsTokenOf token result =
-    MatchResult result (λ read. token ≡ token_view read) (λ fault. token ≡ spec.Halt fault)
+    MatchResult result (λ read. token ≡ token_view read) (λ fault. token ≡ spec.WrongToken fault)
 
--- the result is this shape, and none where it is none
+-- the result is this shape, or none where the line has no shape
 abbrev pub IsShapeOf : line.Shape → Option Shape → Type 0
 IsShapeOf shape result =
     MatchOption result (shape ≡ line.NoShape) (λ read. shape ≡ shape_view read)
 
--- items that are spelt were added after the old ones
+-- the new items are the old ones and then items that are spelt
 abbrev pub AddsItems : (List TextItem → Type 0) → List Item → List Item → Type 0
 AddsItems Spells old new = (spelt : List TextItem) × Spells spelt × (views new ≡ views old ++ spelt)

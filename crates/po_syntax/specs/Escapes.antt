@@ -13,9 +13,9 @@ NoDigitFirst base (b ∷ text) = base ≤ digit_value b
 abbrev pub IsByteNumber : ℕ → Type 0
 IsByteNumber number = (0 < number) × (number < 256)
 
--- After a backslash the text spells this byte, and the rest stands after the escape. One to three
--- octal digits number the byte, as many as there are up to three, or `x` and hex digits, all that
--- follow.
+-- After a backslash the text spells this byte, and the rest stands after the escape. Octal digits
+-- give the byte's number, as many as stand there, up to three; or hex digits after an `x` do, all
+-- that stand there.
 pub data SpellsEscape : List ℕ → ℕ → List ℕ → Type 0 where
   alert : {rest : List ℕ} → SpellsEscape (97 ∷ rest) 7 rest
   backspace : {rest : List ℕ} → SpellsEscape (98 ∷ rest) 8 rest

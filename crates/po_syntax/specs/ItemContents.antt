@@ -22,7 +22,7 @@ pub record IsCommentOf (kind : CommentKind) (text : List ℕ) : Type 0 where
   pub comment : IsComment text
   pub plain : kind ≡ Translator → (b : ℕ) (rest : List ℕ) → text ≡ b ∷ rest → Contains (codes ".:,|~") b → ⊥
 
--- a comment is one of its kind, and the bytes of a string hold no NUL
+-- the text of a comment is one that its kind may have, and the bytes of a string hold no NUL
 abbrev pub HoldsText : TextItem → Type 0
 HoldsText (Comment kind text line) = IsCommentOf kind text
 HoldsText (Word keyword marks line) = Unit {0}

@@ -11,7 +11,7 @@ use Rattle.po_syntax.specs.declared.item.Keyword.{Keyword}
 use Rattle.po_syntax.specs.declared.item.Marks.{Marks}
 use Rattle.po_syntax.specs.QuotedString.{IsQuoted, QuotedStops}
 use Rattle.po_syntax.specs.TextItem.{TextItem, Comment, Word, Str}
-use Rattle.po_syntax.specs.Token.{Nothing, Open, Key, Halt, token_at, skip_blanks}
+use Rattle.po_syntax.specs.Token.{LineEnd, OpeningQuote, KeywordToken, WrongToken, token_at, skip_blanks}
 
 -- What a line is by its first bytes: a comment with its text; tokens under marks; or neither.
 pub data Shape : Type 0 where
@@ -58,7 +58,7 @@ first_shape (b ∷ rest) =
     if b == 35 then hash_shape rest
     else Tokens (record { obsolete = false; previous = false }) (b ∷ rest)
 
--- blanks may stand before a line
+-- the shape of a line, before which blanks may stand
 abbrev pub shape_of : List ℕ → Shape
 shape_of line = first_shape (skip_blanks line)
 
@@ -68,18 +68,18 @@ trim_returns text = take (length text - suffix_len (λ b. b == 13) text) text
 
 -- under these marks, on the line of this number, the text spells these items
 pub data SpellsTokens (marks : Marks) (line : ℕ) : List ℕ → List TextItem → Type 0 where
-  none : {text : List ℕ} → token_at text ≡ Nothing → SpellsTokens marks line text []
-  word : {text rest : List ℕ} {keyword : Keyword} {items : List TextItem} → token_at text ≡ Key keyword rest → SpellsTokens marks line rest items
+  none : {text : List ℕ} → token_at text ≡ LineEnd → SpellsTokens marks line text []
+  word : {text rest : List ℕ} {keyword : Keyword} {items : List TextItem} → token_at text ≡ KeywordToken keyword rest → SpellsTokens marks line rest items
       → SpellsTokens marks line text (Word keyword marks line ∷ items)
-  string : {text inner bytes rest : List ℕ} {items : List TextItem} → token_at text ≡ Open inner → IsQuoted inner bytes rest → SpellsTokens marks line rest items
+  string : {text inner bytes rest : List ℕ} {items : List TextItem} → token_at text ≡ OpeningQuote inner → IsQuoted inner bytes rest → SpellsTokens marks line rest items
       → SpellsTokens marks line text (Str bytes marks line ∷ items)
 
--- the first place where no token goes on has this fault
+-- the first place where no token can be read has this fault
 pub data TokensStop : List ℕ → PoFault → Type 0 where
-  halt : {text : List ℕ} {fault : PoFault} → token_at text ≡ Halt fault → TokensStop text fault
-  in_string : {text inner : List ℕ} {fault : PoFault} → token_at text ≡ Open inner → QuotedStops inner fault → TokensStop text fault
-  after_word : {text rest : List ℕ} {keyword : Keyword} {fault : PoFault} → token_at text ≡ Key keyword rest → TokensStop rest fault → TokensStop text fault
-  after_string : {text inner bytes rest : List ℕ} {fault : PoFault} → token_at text ≡ Open inner → IsQuoted inner bytes rest → TokensStop rest fault → TokensStop text fault
+  halt : {text : List ℕ} {fault : PoFault} → token_at text ≡ WrongToken fault → TokensStop text fault
+  in_string : {text inner : List ℕ} {fault : PoFault} → token_at text ≡ OpeningQuote inner → QuotedStops inner fault → TokensStop text fault
+  after_word : {text rest : List ℕ} {keyword : Keyword} {fault : PoFault} → token_at text ≡ KeywordToken keyword rest → TokensStop rest fault → TokensStop text fault
+  after_string : {text inner bytes rest : List ℕ} {fault : PoFault} → token_at text ≡ OpeningQuote inner → IsQuoted inner bytes rest → TokensStop rest fault → TokensStop text fault
 
 -- the line of this number spells these items
 pub data SpellsLine (line : ℕ) : List ℕ → List TextItem → Type 0 where

@@ -1,5 +1,5 @@
--- The first fault of a line, with a case for each place where no form goes on (manual, "The Format
--- of PO Files").
+-- The first fault of a line, with a case for each place that can have one (manual, "The Format of
+-- PO Files").
 use Rattle.std.specs.Prelude.{◌≡◌, ◌≢◌, ◌⊎◌, ℕ, ◌^◌, ◌<◌, ◌≤◌, List, [], ◌∷◌, ◌++◌, length, All, codes}
 use Rattle.std.specs.Char.{digit_value}
 use Rattle.std.specs.Str.Parse.{IsNumeral, digits_value}
@@ -60,8 +60,8 @@ pub record IsNoKeyword (word : List ℕ) : Type 0 where
   pub plural : word ≢ codes "msgid_plural"
   pub translation : word ≢ codes "msgstr"
 
--- the text begins with a word that is no keyword, or with `msgstr` and a bracket, and no index, one
--- that is too large, or one that no bracket closes
+-- the text begins with a word that is no keyword; or with `msgstr` and a bracket, after which there
+-- is no index, one that is too large, or one without a closing bracket
 pub data KeywordFault : List ℕ → PoFault → Type 0 where
   no_keyword : (b : ℕ) (word rest : List ℕ) → All IsWordByte (b ∷ word) → EndsWord rest → IsNoKeyword (b ∷ word) → KeywordFault ((b ∷ word) ++ rest) BadToken
   no_index : (before inside rest : List ℕ) → All IsBlank before → All IsBlank inside → BeginsWithNoBlank rest → NoDigitFirst 10 rest
@@ -89,8 +89,7 @@ abbrev pub BeginsWithNoBar : List ℕ → Type 0
 BeginsWithNoBar [] = Unit {0}
 BeginsWithNoBar (b ∷ text) = b ≢ 124
 
--- The first fault of a line: that of its tokens; or it is marked as obsolete, and then marked once
--- more.
+-- The first fault of a line: that of its tokens; or `#~` is followed by `#|` or by a second `#~`.
 pub data LineFault : List ℕ → PoFault → Type 0 where
   indented : {b : ℕ} {text : List ℕ} {fault : PoFault} → IsBlank b → LineFault text fault → LineFault (b ∷ text) fault
   previous_again : (blanks rest : List ℕ) → All IsBlank blanks → LineFault (35 ∷ 126 ∷ (blanks ++ 35 ∷ 124 ∷ rest)) BadToken

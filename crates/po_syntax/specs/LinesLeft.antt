@@ -15,7 +15,7 @@ pub record LinesLeft : Type 0 where
 abbrev pub SpellsLeft : LinesLeft → List TextItem → Type 0
 SpellsLeft left items = SpellsLines left.number left.lines items
 
--- the first of the lines left that spells nothing has this number and this fault
+-- the first of the lines left that has a fault has this number and this fault
 abbrev pub LeftStops : LinesLeft → PoFault → ℕ → Type 0
 LeftStops left fault at = LinesStop left.number left.lines fault at
 

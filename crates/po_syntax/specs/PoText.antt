@@ -19,8 +19,8 @@ abbrev pub line_number : List ℕ → ℕ → ℕ
 line_number text index = 1 + count_by (λ b. b == 10) (take index text)
 
 -- the text after a byte order mark at its start
-abbrev pub without_mark : List ℕ → List ℕ
-without_mark text = if starts_with nat_eq text (0xEF ∷ 0xBB ∷ 0xBF ∷ []) then drop 3 text else text
+abbrev pub without_byte_order_mark : List ℕ → List ℕ
+without_byte_order_mark text = if starts_with nat_eq text (0xEF ∷ 0xBB ∷ 0xBF ∷ []) then drop 3 text else text
 
 -- the lines of a text, cut at LF
 abbrev pub lines_of : List ℕ → List (List ℕ)
@@ -31,7 +31,8 @@ abbrev pub SpellsLines : ℕ → List (List ℕ) → List TextItem → Type 0
 SpellsLines number [] items = items ≡ []
 SpellsLines number (line ∷ lines) items = (here : List TextItem) × (later : List TextItem) × SpellsLine number line here × SpellsLines (number + 1) lines later × (items ≡ here ++ later)
 
--- the first line, from this number on, that spells nothing has this number and this fault
+-- of these lines, counted from `number` on, the first with a fault is the line `at`, and has this
+-- fault
 abbrev pub LinesStop : ℕ → List (List ℕ) → PoFault → ℕ → Type 0
 LinesStop number [] fault at = ⊥
 LinesStop number (line ∷ lines) fault at =
@@ -42,7 +43,7 @@ pub record SpellsText (text : List ℕ) (items : List TextItem) : Type 0 where
   pub small : IsSmall text
   pub utf8 : IsUtf8 text
   pub no_nul : HasNoNul text
-  pub lines : SpellsLines 1 (lines_of (without_mark text)) items
+  pub lines : SpellsLines 1 (lines_of (without_byte_order_mark text)) items
 
 -- The first fault of a text, with its line: it is too long; it is not UTF-8; it holds a NUL; or a
 -- line stops.
@@ -50,4 +51,4 @@ pub data TextFault : List ℕ → PoFault → ℕ → Type 0 where
   too_large : {text : List ℕ} → 2 ^ 31 ≤ length text → TextFault text TooLarge 0
   not_utf8 : {text : List ℕ} {line : ℕ} → IsSmall text → (IsUtf8 text → ⊥) → line ≡ line_number text (utf8_valid_len text) → TextFault text NotUtf8 line
   nul : {text : List ℕ} {line index : ℕ} → IsSmall text → IsUtf8 text → position (λ b. b == 0) text ≡ Some index → line ≡ line_number text index → TextFault text ForbiddenByte line
-  stops : {text : List ℕ} {fault : PoFault} {line : ℕ} → IsSmall text → IsUtf8 text → HasNoNul text → LinesStop 1 (lines_of (without_mark text)) fault line → TextFault text fault line
+  stops : {text : List ℕ} {fault : PoFault} {line : ℕ} → IsSmall text → IsUtf8 text → HasNoNul text → LinesStop 1 (lines_of (without_byte_order_mark text)) fault line → TextFault text fault line

@@ -26,7 +26,7 @@ numbered number rest =
     else if nat_lt number 256 then Byte number rest
     else Stop BadEscape
 
--- the byte whose number the first digits of the text write
+-- the byte whose number the first digits of the text stand for
 abbrev pub number_step : ℕ → ℕ → List ℕ → Step
 number_step base count text = numbered (digits_value base (take count text)) (drop count text)
 
@@ -48,8 +48,8 @@ abbrev pub letter_step : Option ℕ → List ℕ → Step
 letter_step None rest = Stop BadEscape
 letter_step (Some byte) rest = Byte byte rest
 
--- What stands after a backslash: one to three octal digits, as many as there are; `x` and hex
--- digits, all that follow, at least one; or a letter.
+-- What stands after a backslash: octal digits, as many as stand there, up to three; `x` and hex
+-- digits, all that stand there, at least one; or a letter.
 unfoldable pub escape_at : List ℕ → Step
 escape_at [] = Stop BadEscape
 escape_at (b ∷ text) =
@@ -67,7 +67,8 @@ pub data IsQuoted : List ℕ → List ℕ → List ℕ → Type 0 where
   ended : {text rest : List ℕ} → step_at text ≡ End rest → IsQuoted text [] rest
   spelt : {text next bytes rest : List ℕ} {b : ℕ} → step_at text ≡ Byte b next → IsQuoted next bytes rest → IsQuoted text (b ∷ bytes) rest
 
--- After an opening quote the first place where nothing goes on has this fault.
+-- After an opening quote the first place where no byte and no closing quote can be read has this
+-- fault.
 pub data QuotedStops : List ℕ → PoFault → Type 0 where
   here : {text : List ℕ} {fault : PoFault} → step_at text ≡ Stop fault → QuotedStops text fault
   later : {text next : List ℕ} {b : ℕ} {fault : PoFault} → step_at text ≡ Byte b next → QuotedStops next fault → QuotedStops text fault

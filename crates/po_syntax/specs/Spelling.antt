@@ -1,4 +1,4 @@
--- What spells the items of a line, with a case for each form of a line and of a token (manual, "The
+-- What spells the items of a line, with a case for each kind of line and of token (manual, "The
 -- Format of PO Files").
 use Rattle.std.specs.Prelude.{◌≡◌, ◌≢◌, ℕ, ◌^◌, ◌<◌, ◌≤◌, Bool, true, false, List, [], ◌∷◌, ◌++◌, All, codes}
 use Rattle.std.specs.Str.Parse.{IsNumeral, digits_value}
@@ -25,7 +25,7 @@ pub data IsWordByte : ℕ → Type 0 where
   digit : {b : ℕ} → 48 ≤ b → b ≤ 57 → IsWordByte b
   underscore : IsWordByte 95
 
--- a word ends before this text
+-- a word ends before this text, which is empty or begins with no byte of a word
 abbrev pub EndsWord : List ℕ → Type 0
 EndsWord [] = Unit {0}
 EndsWord (b ∷ text) = IsWordByte b → ⊥
@@ -44,14 +44,14 @@ pub data SpellsKeyword : List ℕ → Keyword → List ℕ → Type 0 where
   form : (before inside digits after : List ℕ) {rest : List ℕ} → All IsBlank before → All IsBlank inside → IsNumeral 10 digits → digits_value 10 digits < 2 ^ 32 → All IsBlank after
       → SpellsKeyword (codes "msgstr" ++ (before ++ 91 ∷ (inside ++ (digits ++ (after ++ 93 ∷ rest))))) (MsgStrAt (digits_value 10 digits)) rest
 
--- keywords and strings, with blanks between them where wanted
+-- keywords and strings, with any blanks before, between and after them
 pub data HoldsTokens (marks : Marks) (line : ℕ) : List ℕ → List TextItem → Type 0 where
   end : HoldsTokens marks line [] []
   blank : {b : ℕ} {text : List ℕ} {items : List TextItem} → IsBlank b → HoldsTokens marks line text items → HoldsTokens marks line (b ∷ text) items
   keyword : {word : Keyword} {text rest : List ℕ} {items : List TextItem} → SpellsKeyword text word rest → HoldsTokens marks line rest items → HoldsTokens marks line text (Word word marks line ∷ items)
   string : {text bytes rest : List ℕ} {items : List TextItem} → SpellsString text bytes rest → HoldsTokens marks line rest items → HoldsTokens marks line (34 ∷ text) (Str bytes marks line ∷ items)
 
--- what marks another line from that of a translator's comment: one of `.:,|~`
+-- a byte that after `#` marks another line than a translator's comment: one of `.:,|~`
 pub data IsMark : ℕ → Type 0 where
   dot : IsMark 46
   colon : IsMark 58
@@ -63,7 +63,7 @@ abbrev pub BeginsWithNoMark : List ℕ → Type 0
 BeginsWithNoMark [] = Unit {0}
 BeginsWithNoMark (b ∷ text) = IsMark b → ⊥
 
--- after a `#` a comment of this kind, and what follows its mark
+-- after a `#` the text is a comment of this kind, and the rest is what follows its mark
 pub data SpellsComment : List ℕ → CommentKind → List ℕ → Type 0 where
   extracted : {rest : List ℕ} → SpellsComment (46 ∷ rest) Extracted rest
   reference : {rest : List ℕ} → SpellsComment (58 ∷ rest) Reference rest
@@ -80,8 +80,8 @@ pub record IsWithoutReturns (text kept : List ℕ) : Type 0 where
 abbrev pub marked : Bool → Bool → Marks
 marked obsolete previous = record { obsolete = obsolete; previous = previous }
 
--- the line of this number holds these items: tokens, which are marked after `#|`, `#~` and `#~|`,
--- or a comment, which may stand after `#~`
+-- the line of this number holds these items: tokens, alone or after `#|`, `#~` or `#~|`; or a
+-- comment, alone or after `#~`
 pub data HoldsItems (line : ℕ) : List ℕ → List TextItem → Type 0 where
   indented : {b : ℕ} {text : List ℕ} {items : List TextItem} → IsBlank b → HoldsItems line text items → HoldsItems line (b ∷ text) items
   comment : {kind : CommentKind} {text rest shown : List ℕ} → SpellsComment text kind rest → IsWithoutReturns rest shown → HoldsItems line (35 ∷ text) (Comment kind shown line ∷ [])

@@ -13,10 +13,10 @@ use Rattle.po_syntax.specs.QuotedString.{digit_count}
 -- The next token of a line: none, at its end; an opening quote or a keyword, with the text after
 -- it; or a fault.
 pub data Token : Type 0 where
-  Nothing : Token
-  Open : List ℕ → Token
-  Key : Keyword → List ℕ → Token
-  Halt : PoFault → Token
+  LineEnd : Token
+  OpeningQuote : List ℕ → Token
+  KeywordToken : Keyword → List ℕ → Token
+  WrongToken : PoFault → Token
 
 -- space, TAB, VT, FF and CR
 abbrev pub is_blank : ℕ → Bool
@@ -29,45 +29,45 @@ skip_blanks text = drop (prefix_len is_blank text) text
 abbrev pub is_word_byte : ℕ → Bool
 is_word_byte b = is_ascii_alphanumeric b || b == 95
 
--- a closing bracket is wanted after an index
+-- after an index and blanks: the closing bracket
 abbrev pub close_token : ℕ → List ℕ → Token
-close_token index [] = Halt BadToken
-close_token index (b ∷ rest) = if b == 93 then Key (MsgStrAt index) rest else Halt BadToken
+close_token index [] = WrongToken BadToken
+close_token index (b ∷ rest) = if b == 93 then KeywordToken (MsgStrAt index) rest else WrongToken BadToken
 
 -- after an opening bracket and blanks: decimal digits, blanks and the closing bracket
 unfoldable pub index_token : List ℕ → Token
 index_token text =
     let count = digit_count 10 text in
     let index = digits_value 10 (take count text) in
-    if count == 0 then Halt BadToken
+    if count == 0 then WrongToken BadToken
     else if nat_lt index (2 ^ 32) then close_token index (skip_blanks (drop count text))
-    else Halt BadPluralIndex
+    else WrongToken BadPluralIndex
 
 -- `msgstr` alone, or with an index where an opening bracket is the next byte after blanks
 abbrev pub bracket_token : List ℕ → List ℕ → Token
-bracket_token rest [] = Key MsgStr rest
-bracket_token rest (b ∷ inside) = if b == 91 then index_token (skip_blanks inside) else Key MsgStr rest
+bracket_token rest [] = KeywordToken MsgStr rest
+bracket_token rest (b ∷ inside) = if b == 91 then index_token (skip_blanks inside) else KeywordToken MsgStr rest
 
 -- a word must be a keyword
 unfoldable pub keyword_token : List ℕ → List ℕ → Token
 keyword_token word rest =
-    if bytes_eq word (codes "msgctxt") then Key MsgCtxt rest
-    else if bytes_eq word (codes "msgid") then Key MsgId rest
-    else if bytes_eq word (codes "msgid_plural") then Key MsgIdPlural rest
+    if bytes_eq word (codes "msgctxt") then KeywordToken MsgCtxt rest
+    else if bytes_eq word (codes "msgid") then KeywordToken MsgId rest
+    else if bytes_eq word (codes "msgid_plural") then KeywordToken MsgIdPlural rest
     else if bytes_eq word (codes "msgstr") then bracket_token rest (skip_blanks rest)
-    else Halt BadToken
+    else WrongToken BadToken
 
--- a word is the longest run of its bytes
+-- the word at the start of the text is the longest run of bytes of a word
 abbrev pub word_token : List ℕ → Token
 word_token text =
     let count = prefix_len is_word_byte text in keyword_token (take count text) (drop count text)
 
 unfoldable pub first_token : List ℕ → Token
-first_token [] = Nothing
+first_token [] = LineEnd
 first_token (b ∷ rest) =
-    if b == 34 then Open rest
+    if b == 34 then OpeningQuote rest
     else if is_word_byte b then word_token (b ∷ rest)
-    else Halt BadToken
+    else WrongToken BadToken
 
 -- blanks may stand before a token
 abbrev pub token_at : List ℕ → Token

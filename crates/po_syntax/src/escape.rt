@@ -18,7 +18,7 @@ pub(crate) fn digit_count(base: u32, text: &[u8]) -> usize
         .count()
 }
 
-/// The number that digits of a base write; none from 2^32 on.
+/// The number that these digits of the base stand for; none from 2^32 on.
 pub(crate) fn number_of(base: u32, digits: &[u8]) -> Option<u32>
     requires least { 2 ≤ base }
     requires most { base ≤ 36 }
@@ -33,8 +33,8 @@ pub(crate) fn number_of(base: u32, digits: &[u8]) -> Option<u32>
     Some(number)
 }
 
-/// The byte whose number the first `count` bytes of the text write, which are digits of the base.
-/// Refused with `ForbiddenByte` for 0, and with `BadEscape` above 255.
+/// The byte whose number the first `count` bytes of the text stand for, which are digits of the
+/// base. Refused with `ForbiddenByte` for 0, and with `BadEscape` above 255.
 fn numbered_byte(base: u32, count: usize, text: &[u8]) -> Result<(u8, &[u8]), PoFault>
     requires least { 2 ≤ base }
     requires most { base ≤ 36 }

@@ -7,10 +7,10 @@ use thiserror::Error;
 /// What is wrong with a PO text (manual, "The Format of PO Files").
 #[derive(Clone, Copy, Debug, PartialEq, Eq, Error)]
 pub enum PoFault {
-    /// The text, or a joined text of an entry, is not UTF-8.
+    /// The PO text, or a text of an entry (its strings joined), is not UTF-8.
     #[error("not UTF-8")]
     NotUtf8,
-    /// A byte or word where no comment, keyword, index or string of a line goes on.
+    /// A byte or word of a line that is no part of a comment, keyword, index or string.
     #[error("unexpected byte or word")]
     BadToken,
     /// A line or the text ends inside a quoted string.
@@ -34,7 +34,7 @@ pub enum PoFault {
     /// A live entry has the context and msgid of an earlier one, which begins at this line.
     #[error("duplicate of the message at line {0}")]
     Duplicate(u32),
-    /// A header names a charset other than UTF-8 and its part ASCII.
+    /// A header names a charset other than UTF-8 and ASCII.
     #[error("charset is not UTF-8")]
     ForeignCharset,
     /// A text or a compiled catalogue is longer than its limit.

@@ -28,7 +28,7 @@ pub enum CommentKind {
     Flags,
 }
 
-/// The marks of a line, which its keywords and strings bear.
+/// The marks that the line of a keyword or string begins with.
 #[derive(Clone, Copy, Debug, PartialEq, Eq)]
 pub struct Marks {
     /// `#~`: the line belongs to an obsolete entry.
@@ -41,7 +41,7 @@ pub struct Marks {
 /// string's bytes only where an escape makes them differ from the text's.
 #[derive(Drop)]
 pub enum Item<'a> {
-    /// A comment: its text after the characters that mark its kind, without trailing CRs.
+    /// A comment: its text after its mark, without trailing CRs.
     Comment(CommentKind, &'a [u8], u32),
     /// A keyword, under the marks of its line.
     Word(Keyword, Marks, u32),

@@ -11,7 +11,7 @@ ghost use Rattle.po_syntax.specs.QuotedForm.{quoted};
 ghost use Rattle.po_syntax.specs.QuotedString.{IsQuoted};
 ghost use Rattle.po_syntax.specs.Spelling.{HoldsItems};
 ghost use Rattle.po_syntax.specs.TextItem.{TextItem};
-ghost use Rattle.po_syntax.specs.Token.{Open, token_at};
+ghost use Rattle.po_syntax.specs.Token.{OpeningQuote, token_at};
 
 /// A text spells at most one list of items.
 pub fn one_reading()
@@ -66,17 +66,18 @@ pub fn lines_are_spelt()
         → SpellsLine line text items ↔ HoldsItems line text items }
 {}
 
-/// A line is read up to its first fault: the first place where no form of a line, a keyword, an
-/// index, a string or an escape goes on. It has one such fault at most, and none where it holds
-/// items.
+/// The fault of a line is the one at which reading it stops: at the first place where no comment,
+/// keyword, index, string or escape can go on. So a line has at most one such fault, and none if it
+/// holds items.
 pub fn line_faults_are_first()
     ensures { (text : List ℕ) (fault : PoFault) → LineFault text fault → LineStops text fault }
 {}
 
-/// The quoted form of bytes without NUL spells just these bytes, and ends where it ends.
+/// The quoted form of bytes without NUL spells just these bytes, and its last byte is the closing
+/// quote.
 pub fn quoted_form_spells()
     ensures { (bytes rest : List ℕ) → All (λ b. (0 < b) × (b < 256)) bytes
-        → (inside : List ℕ) × (token_at (quoted bytes ++ rest) ≡ Open inside)
+        → (inside : List ℕ) × (token_at (quoted bytes ++ rest) ≡ OpeningQuote inside)
         × IsQuoted inside bytes rest }
 {}
 

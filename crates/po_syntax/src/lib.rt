@@ -2,8 +2,8 @@
 //! text (GNU gettext manual, "The Format of PO Files").
 //!
 //! [`items`] reads all items of a text, and [`Pieces`] those of one piece after another. [`quote`]
-//! writes a text as strings that read back. A refused text has a [`PoError`]: the first fault, and
-//! its line. [`is_blank`] and [`skip_blanks`] say what a blank is.
+//! writes a text as one string that reads back. A refused text has a [`PoError`]: the first fault,
+//! and its line. [`is_blank`] and [`skip_blanks`] say what a blank is.
 //!
 //! The modules in reading order: `item`, `fault`, `token`, `escape`, `quoted_string`, `line`,
 //! `text`, `pieces`, `quoting`, `laws`.

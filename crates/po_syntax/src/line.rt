@@ -15,7 +15,7 @@ enum Shape<'a> {
     Tokens(Marks, &'a [u8]),
 }
 
-/// A line without a prefix.
+/// A line without marks.
 const LIVE: Marks = Marks {
     obsolete: false,
     previous: false,
@@ -39,7 +39,7 @@ const OBSOLETE_PREVIOUS: Marks = Marks {
     previous: true,
 };
 
-/// The comment after its `#`; none at `#|` and `#~`.
+/// The comment, read after its `#`; none where `|` or `~` follows.
 fn comment_shape(text: &[u8]) -> Option<Shape<'_>>
     ensures { IsShapeOf (comment_shape text.now) result }
 {
@@ -79,7 +79,7 @@ fn hash_shape(text: &[u8]) -> Option<Shape<'_>>
     }
 }
 
-/// The shape of a line; none where it is no comment and bears no tokens.
+/// The shape of a line; none if it is neither a comment nor a line of tokens.
 #[tactic(auto, unfolding(crate::specs::Line::first_shape))]
 fn shape_of(line: &[u8]) -> Option<Shape<'_>>
     ensures { IsShapeOf (shape_of line.now) result }
@@ -121,13 +121,13 @@ fn add_tokens<'a>(
     let mut rest = text;
     loop {
         match next_token(rest)? {
-            Token::End => return Ok(()),
-            Token::Quote(inside) => {
+            Token::LineEnd => return Ok(()),
+            Token::OpeningQuote(inside) => {
                 let (bytes, after) = quoted_string(alloc, inside)?;
                 items.push(Item::Str(bytes, marks, line))?;
                 rest = after;
             }
-            Token::Word(keyword, after) => {
+            Token::Keyword(keyword, after) => {
                 items.push(Item::Word(keyword, marks, line))?;
                 rest = after;
             }

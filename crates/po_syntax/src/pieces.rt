@@ -12,8 +12,9 @@ use crate::text::{add_numbered_line, checked, first_line};
 use std::alloc::Global;
 use std::marker::Model;
 
-/// A PO text that is read in pieces, each of which ends after an entry: the text that is left to be
-/// read, and the number of its first line, counted from 1 (manual, "The Format of PO Files").
+/// A PO text that is read in pieces, each of which ends with an empty line after a string, or with
+/// the text itself: the text that is left to be read, and the number of its first line, counted
+/// from 1 (manual, "The Format of PO Files").
 #[derive(Drop)]
 pub struct Pieces<'a> {
     rest: Option<&'a [u8]>,
@@ -51,8 +52,8 @@ fn ends_in_string(items: &[Item<'_>]) -> bool
     matches!(items.last(), Some(Item::Str(..)))
 }
 
-/// The items of the lines from the one with this number on: of this many bytes, and of all that
-/// follow up to an empty line after a string, or to the end of the text.
+/// Reads the first piece of a text whose first line has this number: the shortest of at least this
+/// many bytes that ends with an empty line after a string; or all of the text.
 fn read_piece<'a>(
     alloc: Global,
     text: &'a [u8],
@@ -130,10 +131,10 @@ impl<'a> Pieces<'a> {
         self.rest.is_none()
     }
 
-    /// The items of the next piece: of this many bytes, and of all that follow up to an empty line
-    /// after a string, or to the end of the text. A comment is in one piece with the entry after
-    /// it. Where the lines that are left spell items, they spell those of the piece and then those
-    /// of the rest. Refused with the leftmost fault of the first line that has one, or with
+    /// The items of the next piece: the shortest of at least this many bytes that ends with an
+    /// empty line after a string; or all that is left. A comment is in one piece with the entry
+    /// after it. Where the lines that are left spell items, they spell those of the piece and then
+    /// those of the rest. Refused with the leftmost fault of the first line that has one, or with
     /// `OutOfMemory`; then as much is left as before.
     pub fn next(&mut self, alloc: Global, size: usize) -> Result<Vec<Item<'a>>, PoError>
         ensures found { IfOk result (λ items. (more : List TextItem) → SpellsLeft self.new more
@@ -146,7 +147,7 @@ impl<'a> Pieces<'a> {
         ensures fewer { OnOk result (self.old.lines ≢ [] → length self.new.lines < length self.old.lines) }
         ensures fault { IfErr result (λ e. e.kind ≢ PoFault.OutOfMemory → LeftStops self.old e.kind e.line) }
         ensures memory { IfErr result (λ e. e.kind ≡ PoFault.OutOfMemory → e.line ≡ 0) }
-        ensures err { OnErr result (self.new ≡ self.old) }
+        ensures unchanged { OnErr result (self.new ≡ self.old) }
     {
         let Some(text) = self.rest else {
             return Ok(Vec::new(alloc));

@@ -25,7 +25,7 @@ fn is_raw_block(block: &[u8; 16]) -> bool
     are_raw
 }
 
-/// What is left after the first blocks whose bytes stand in a quoted string as they are.
+/// The rest after the blocks at the beginning whose bytes all stand in a quoted string as they are.
 fn after_raw_blocks(bytes: &[u8]) -> &[u8]
     ensures count { length bytes.now + prefix_len is_raw result.now ≡ length result.now + prefix_len is_raw bytes.now }
     ensures within { length result.now ≤ length bytes.now }
@@ -69,7 +69,7 @@ fn split_raw(bytes: &[u8]) -> (&[u8], &[u8])
 #[tactic(auto, unfolding(crate::specs::QuotedForm::written_byte))]
 fn write_byte(byte: u8, out: &mut Vec<u8>) -> Result<(), AllocError>
     ensures ok { OnOk result (out.new.items ≡ out.old.items ++ written_byte byte) }
-    ensures err { OnErr result (out.new.items ≡ out.old.items) }
+    ensures unchanged { OnErr result (out.new.items ≡ out.old.items) }
 {
     match byte {
         7 => out.extend_from_slice(b"\\a"),
@@ -94,7 +94,7 @@ fn write_byte(byte: u8, out: &mut Vec<u8>) -> Result<(), AllocError>
 /// Appends the quoted form; after a refusal `out` begins with what it was.
 fn write_quoted(bytes: &[u8], out: &mut Vec<u8>) -> Result<(), AllocError>
     ensures ok { OnOk result (out.new.items ≡ out.old.items ++ quoted bytes.now) }
-    ensures err { OnErr result (take (length out.old.items) out.new.items ≡ out.old.items) }
+    ensures kept { OnErr result (take (length out.old.items) out.new.items ≡ out.old.items) }
 {
     out.extend_from_slice(b"\"")?;
     let mut rest = bytes;
@@ -111,10 +111,10 @@ fn write_quoted(bytes: &[u8], out: &mut Vec<u8>) -> Result<(), AllocError>
 }
 
 /// Appends the quoted form of a text, as PO files are written (manual, "The Format of PO Files").
-/// An allocation that failed is the only refusal, and it leaves `out` as it was.
+/// Refused only where an allocation failed; then `out` is as it was.
 pub fn quote(bytes: &[u8], out: &mut Vec<u8>) -> Result<(), PoError>
     ensures ok { OnOk result (out.new.items ≡ out.old.items ++ quoted bytes.now) }
-    ensures err { OnErr result (out.new.items ≡ out.old.items) }
+    ensures unchanged { OnErr result (out.new.items ≡ out.old.items) }
     ensures memory { IfErr result (λ e. e ≡ record { kind = OutOfMemory; line = 0 }) }
 {
     let len = out.len();

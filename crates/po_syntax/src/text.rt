@@ -1,5 +1,5 @@
 ghost use Rattle.std.specs.Prelude.{◌≡◌, ◌≢◌, ◌+◌, ◌<◌, ◌≤◌, ◌^◌, ◌∷◌, [], length, vec_len, IfOk, IfErr, IfSome, OnOk, IsUtf8, MatchOption};
-ghost use Rattle.po_syntax.specs.PoText.{SpellsText, TextFault, IsSmall, HasNoNul, SpellsLines, LinesStop, line_number, without_mark, lines_of};
+ghost use Rattle.po_syntax.specs.PoText.{SpellsText, TextFault, IsSmall, HasNoNul, SpellsLines, LinesStop, line_number, without_byte_order_mark, lines_of};
 ghost use Rattle.po_syntax.specs.Line.{SpellsLine, LineStops};
 ghost use Rattle.po_syntax.specs.CodeView.{AddsItems};
 ghost use Rattle.po_syntax.specs.TextItem.{views};
@@ -15,8 +15,8 @@ use std::alloc::Global;
 const MAX_LEN: usize = 2_147_483_647;
 
 /// The text after a byte order mark at its start.
-fn without_mark(text: &[u8]) -> &[u8]
-    ensures { result.now ≡ without_mark text.now }
+fn without_byte_order_mark(text: &[u8]) -> &[u8]
+    ensures { result.now ≡ without_byte_order_mark text.now }
 {
     text.strip_prefix(b"\xef\xbb\xbf").unwrap_or(text)
 }
@@ -98,7 +98,7 @@ fn read_lines(alloc: Global, text: &[u8]) -> Result<Vec<Item<'_>>, PoError>
 /// The text after a byte order mark at its start. Refused with `TooLarge`, `NotUtf8` or
 /// `ForbiddenByte`, as `items` is.
 pub(crate) fn checked(text: &[u8]) -> Result<&[u8], PoError>
-    ensures found { IfOk result (λ rest. rest.now ≡ without_mark text.now) }
+    ensures found { IfOk result (λ rest. rest.now ≡ without_byte_order_mark text.now) }
     ensures small { OnOk result (IsSmall text.now) }
     ensures utf8 { OnOk result (IsUtf8 text.now) }
     ensures no_nul { OnOk result (HasNoNul text.now) }
@@ -125,7 +125,7 @@ pub(crate) fn checked(text: &[u8]) -> Result<&[u8], PoError>
             line,
         });
     }
-    Ok(without_mark(text))
+    Ok(without_byte_order_mark(text))
 }
 
 /// Reads the items of a PO text (manual, "The Format of PO Files").
@@ -134,7 +134,7 @@ pub(crate) fn checked(text: &[u8]) -> Result<&[u8], PoError>
 /// at the first byte that is not; `ForbiddenByte` at the first NUL; then the leftmost fault of the
 /// first line that has one: `BadToken`, `BadEscape`, `ForbiddenByte` for an escape of value 0,
 /// `BadPluralIndex` for an index above 4,294,967,295, or `UnterminatedString` at an opening quote.
-/// `OutOfMemory`, without a line, may come in place of any answer.
+/// `OutOfMemory`, without a line, may come in place of any result.
 pub fn items(alloc: Global, text: &[u8]) -> Result<Vec<Item<'_>>, PoError>
     ensures found { IfOk result (λ items. SpellsText text.now (views items.items)) }
     ensures fault { IfErr result (λ e. e.kind ≢ PoFault.OutOfMemory → TextFault text.now e.kind e.line) }

@@ -10,11 +10,11 @@ use crate::item::Keyword;
 /// The next token of a line, with the text after it.
 pub(crate) enum Token<'a> {
     /// The line's end.
-    End,
+    LineEnd,
     /// An opening quote.
-    Quote(&'a [u8]),
-    /// A keyword, with the index of a plural form.
-    Word(Keyword, &'a [u8]),
+    OpeningQuote(&'a [u8]),
+    /// A keyword; `msgstr[i]` with its index.
+    Keyword(Keyword, &'a [u8]),
 }
 
 /// Whether the byte is a blank: a space, a tab, VT, FF or CR (GNU gettext manual, "The Format of PO
@@ -55,7 +55,7 @@ pub fn skip_blanks(text: &[u8]) -> &[u8]
     text.split_at(blank_count(text)).1
 }
 
-/// The keyword of a plural form, read after the bracket and the blanks before its index.
+/// The keyword `msgstr[i]`, read after its bracket and the blanks that follow.
 #[tactic(auto, unfolding(crate::specs::Token::index_token))]
 fn plural_form(text: &[u8]) -> Result<(Keyword, &[u8]), PoFault>
     ensures { IsKeywordOf (index_token text.now) result }
@@ -74,7 +74,7 @@ fn plural_form(text: &[u8]) -> Result<(Keyword, &[u8]), PoFault>
     }
 }
 
-/// The keyword that begins with `msgstr`, read after that word.
+/// The keyword `msgstr` or `msgstr[i]`, read after the word `msgstr`.
 fn translation(rest: &[u8]) -> Result<(Keyword, &[u8]), PoFault>
     ensures { IsKeywordOf (bracket_token rest.now (skip_blanks rest.now)) result }
 {
@@ -109,15 +109,15 @@ pub(crate) fn next_token(text: &[u8]) -> Result<Token<'_>, PoFault>
 {
     let text = skip_blanks(text);
     let Some((first, rest)) = text.split_first() else {
-        return Ok(Token::End);
+        return Ok(Token::LineEnd);
     };
     if *first == b'"' {
-        return Ok(Token::Quote(rest));
+        return Ok(Token::OpeningQuote(rest));
     }
     if !is_word_byte(*first) {
         return Err(PoFault::BadToken);
     }
     let (word, rest) = text.split_at(word_len(text));
     let (keyword, rest) = keyword(word, rest)?;
-    Ok(Token::Word(keyword, rest))
+    Ok(Token::Keyword(keyword, rest))
 }
