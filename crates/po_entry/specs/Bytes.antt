@@ -1,5 +1,5 @@
--- The bytes and blanks of texts, of which the parts of an entry consist (manual, "The Format of PO
--- Files").
+-- Texts that lack a byte, texts without the blanks at their ends, and texts that differ (manual,
+-- "The Format of PO Files").
 use Rattle.std.specs.Prelude.{◌≢◌, ℕ, ◌-◌, List, [], ◌∷◌, All, Contains, length, take}
 use Rattle.std.specs.List.{suffix_len}
 use Rattle.po_syntax.specs.Token.{is_blank, skip_blanks}

@@ -1,4 +1,5 @@
--- The fields that an entry's comments and previous texts make (manual, "The Format of PO Files").
+-- The fields of an entry that come from its comments and previous texts (manual, "The Format of PO
+-- Files").
 use Rattle.std.specs.Prelude.{ℕ, Bool, true, false, ◌||◌, ◌==◌, not, List, [], ◌∷◌, ◌++◌, Some, map, filter, flat_map, fold, bytes_eq, codes, length, if◌then◌else◌}
 use Rattle.std.specs.List.{slice_split, list_any}
 use Rattle.po_syntax.specs.declared.item.CommentKind.{CommentKind}
@@ -63,7 +64,7 @@ is_fuzzy_flag flag = bytes_eq flag (codes "fuzzy")
 abbrev pub fuzzy_of : List CommentText → Bool
 fuzzy_of comment_texts = list_any is_fuzzy_flag (all_listed_flags comment_texts)
 
--- flags with one more, unless it is `fuzzy`, or among them
+-- the flags and this one, unless it is `fuzzy` or already among them
 abbrev pub with_flag : List (List ℕ) → List ℕ → List (List ℕ)
 with_flag flags flag = if is_fuzzy_flag flag || list_any (bytes_eq flag) flags then flags else flags ++ flag ∷ []
 

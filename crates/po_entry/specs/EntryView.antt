@@ -39,6 +39,6 @@ entry_of_fields comments extracted references fuzzy flags previous context id pl
   line = line;
 }
 
--- the plain entry of texts that are lent
-abbrev pub lent_entry : Option (Bor (List ℕ)) → List ℕ → Option (Bor (List ℕ)) → List (Bor (List ℕ)) → TextEntry
-lent_entry context id plural forms = plain_entry (option_copied context) id (option_copied plural) (slice_texts forms)
+-- the plain entry of borrowed texts
+abbrev pub borrowed_entry : Option (Bor (List ℕ)) → List ℕ → Option (Bor (List ℕ)) → List (Bor (List ℕ)) → TextEntry
+borrowed_entry context id plural forms = plain_entry (option_copied context) id (option_copied plural) (slice_texts forms)

@@ -22,7 +22,7 @@ ends_name b = b == 32 || b == 9 || b == 13 || b == 10 || b == 59
 abbrev pub charset_of : List ℕ → List ℕ
 charset_of text = before_first ends_name (after_charset text)
 
--- no name, UTF-8, its part ASCII, and what stands in a template, in lowercase
+-- the names that are admitted, in lowercase: none, UTF-8, ASCII, and the `CHARSET` of a template
 abbrev pub admitted_names : List (List ℕ)
 admitted_names =
     [] ∷ codes "utf-8" ∷ codes "utf8" ∷ codes "us-ascii" ∷ codes "ascii" ∷ codes "charset" ∷ []

@@ -1,10 +1,10 @@
--- The references and flags that comment lines list, with a case for each form (manual, "The Format
--- of PO Files").
+-- The references and flags that comment lines list, with a case for each part of a line (manual,
+-- "The Format of PO Files").
 use Rattle.std.specs.Prelude.{◌≡◌, ◌≢◌, ℕ, List, [], ◌∷◌, ◌++◌, All, Contains, codes}
 use Rattle.po_syntax.specs.Spelling.{IsBlank}
 use Rattle.po_entry.specs.Bytes.{Lacks}
 
--- the text begins with a blank, or is at its end
+-- a reference ends before this text, which is empty or begins with a blank
 abbrev pub EndsReference : List ℕ → Type 0
 EndsReference [] = Unit {0}
 EndsReference (b ∷ text) = IsBlank b

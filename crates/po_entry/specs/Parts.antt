@@ -15,8 +15,8 @@ pub record PreviousText : Type 0 where
   pub keyword : Keyword
   pub text : List ℕ
 
--- The rank of a keyword among the previous texts: each stands at most once, and in this order. The
--- others, of rank 0, are no previous texts.
+-- The rank of a keyword among those of previous texts, each of which stands at most once, in this
+-- order; 0 for a keyword that no previous text has.
 abbrev pub rank : Keyword → ℕ
 rank MsgCtxt = 1
 rank MsgId = 2

@@ -1,5 +1,5 @@
--- What spells the entries of a PO text (manual, "The Format of PO Files"): their spellings, joined,
--- and then comments alone.
+-- What spells the entries of a PO text (manual, "The Format of PO Files"): the items of each entry
+-- in turn, and then comments that belong to no entry.
 use Rattle.std.specs.Prelude.{ℕ, ◌+◌, Bool, true, false, List, [], ◌∷◌, ◌++◌, map, Option, Some, None}
 use Rattle.po_syntax.specs.declared.item.CommentKind.{CommentKind}
 use Rattle.po_syntax.specs.declared.item.Keyword.{Keyword}
@@ -35,7 +35,7 @@ pub data SpellsHead : List TextItem → List CommentText → List PreviousText �
   previous_text : {keyword : Keyword} {obsolete : Bool} {line : ℕ} {text : List ℕ} {own items : List TextItem} {comment_texts : List CommentText} {others : List PreviousText} → SpellsKeywordText keyword (previous_marks obsolete) line own text → SpellsHead items comment_texts others
       → SpellsHead (own ++ items) comment_texts (record { keyword = keyword; text = text } ∷ others)
 
--- some of all these keywords, each where it stands among them
+-- the first list is some of the keywords of the second, in their order
 pub data AreSome : List Keyword → List Keyword → Type 0 where
   none : AreSome [] []
   with : {keyword : Keyword} {some all : List Keyword} → AreSome some all → AreSome (keyword ∷ some) (keyword ∷ all)
@@ -99,7 +99,7 @@ abbrev pub AreComments : List TextItem → Type 0
 AreComments [] = Unit {0}
 AreComments (item ∷ items) = IsCommentItem item × AreComments items
 
--- a spelling for each entry, joined, and then comments alone
+-- the items of each entry in turn, and then comments that belong to no entry
 pub data SpellsEntries : List TextItem → List TextEntry → Type 0 where
   comments : {items : List TextItem} → AreComments items → SpellsEntries items []
   entries : {own items : List TextItem} {first : TextEntry} {others : List TextEntry} → SpellsEntry own first → SpellsEntries items others → SpellsEntries (own ++ items) (first ∷ others)

@@ -4,7 +4,7 @@ use Rattle.std.specs.Prelude.{◌≡◌, ℕ, Bool, false, List, [], ◌∷◌, 
 use Rattle.std.specs.Global.{Vec}
 use Rattle.std.specs.Borrow.{Bor}
 
--- the previous context, msgid and msgid_plural of an entry, as far as it has them
+-- the previous context, msgid and plural of an entry, as far as it has them
 pub record TextPrevious : Type 0 where
   pub context : Option (List ℕ)
   pub id : Option (List ℕ)
@@ -41,7 +41,7 @@ optional_text vector = option_map (λ v. v.items) vector
 abbrev pub slice_texts : List (Bor (List ℕ)) → List (List ℕ)
 slice_texts slices = map (λ s. s.now) slices
 
--- a live entry of these texts, without comments, previous texts and a line
+-- a live entry of these texts, without comments and previous texts, at line 0
 abbrev pub plain_entry : Option (List ℕ) → List ℕ → Option (List ℕ) → List (List ℕ) → TextEntry
 plain_entry context id plural forms = record {
   comments = [];
@@ -58,7 +58,7 @@ plain_entry context id plural forms = record {
   line = 0;
 }
 
--- the entry, were it on this line
+-- the entry with this line in place of its own
 abbrev pub with_line : ℕ → TextEntry → TextEntry
 with_line line entry = record entry { line = line }
 

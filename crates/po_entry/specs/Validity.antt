@@ -30,7 +30,7 @@ pub record IsFlag (text : List ℕ) : Type 0 where
   pub one_line : Lacks 10 text
   pub not_fuzzy : text ≢ codes "fuzzy"
 
--- an entry, but for the charset of a header
+-- what holds of every entry; nothing is said of the charset that a header names
 pub record IsEntry (entry : TextEntry) : Type 0 where
   pub quoted_texts : All IsText (quoted_texts entry)
   pub comments : All IsTranslatorComment entry.comments

@@ -21,7 +21,7 @@ pub fn has_admitted_charset(entry: &Entry) -> bool
 fn is_admitted_name(name: &[u8]) -> bool
     ensures { IsTrue result ↔ IsAdmittedName name.now }
 {
-    // `|` and not `||`: a value without branches, which the proof joins operand by operand.
+    // `|` and not `||`: without branches, so that the proof takes one operand after another.
     name.is_empty()
         | name.eq_ignore_ascii_case(b"UTF-8")
         | name.eq_ignore_ascii_case(b"UTF8")

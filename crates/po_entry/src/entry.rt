@@ -1,6 +1,6 @@
 ghost use Rattle.std.specs.Prelude.{◌≡◌, ◌<◌, IfOk, IfErr, IsOkUnless, Some, None, IsTrue, ◌↔◌, map, [], true, false, length, option_copied};
 ghost use Rattle.po_entry.specs.TextEntry.{texts, no_previous};
-ghost use Rattle.po_entry.specs.EntryView.{entry_view, entry_of_fields, lent_entry};
+ghost use Rattle.po_entry.specs.EntryView.{entry_view, entry_of_fields, borrowed_entry};
 ghost use Rattle.po_entry.specs.Header.{is_header};
 ghost use Rattle.po_entry.specs.Validity.{IsEntry, RefusesMessage, out_of_memory};
 
@@ -46,10 +46,14 @@ impl Entry {
     ) -> Result<Entry, PoError>
         requires some_form { 0 < length forms.now }
         requires one_form { plural ≡ None → length forms.now ≡ 1 }
-        ensures entry { IfOk result (λ e. e ≡ lent_entry context.entry id.now plural.entry forms.now) }
+        ensures entry { IfOk result (λ e. e ≡ borrowed_entry context.entry id.now plural.entry forms.now) }
         ensures valid { IfOk result IsEntry }
-        ensures fault { IfErr result (λ e. RefusesMessage (lent_entry context.entry id.now plural.entry forms.now) e) }
+        ensures fault { IfErr result (λ e. RefusesMessage (borrowed_entry context.entry id.now plural.entry forms.now) e) }
     {
+        let context = copy_optional(alloc, context)?;
+        let id = id.to_vec(alloc)?;
+        let plural = copy_optional(alloc, plural)?;
+        let forms = copy_slices(alloc, forms)?;
         let fields = Fields {
             comments: Vec::new(alloc),
             extracted: Vec::new(alloc),
@@ -57,10 +61,10 @@ impl Entry {
             fuzzy: false,
             flags: Vec::new(alloc),
             previous: Previous::none(),
-            context: copy_optional(alloc, context)?,
-            id: id.to_vec(alloc)?,
-            plural: copy_optional(alloc, plural)?,
-            forms: copy_slices(alloc, forms)?,
+            context,
+            id,
+            plural,
+            forms,
             obsolete: false,
             line: 0,
         };
@@ -106,7 +110,7 @@ impl Entry {
         })
     }
 
-    /// The entry of these fields, which are those of an entry.
+    /// The entry of these fields, which are valid ones.
     pub fn of(fields: Fields) -> Entry
         requires { IsEntry (entry_view fields) }
         ensures { result ≡ entry_view fields }

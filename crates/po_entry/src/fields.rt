@@ -5,7 +5,7 @@ use crate::copies::{copy_optional, copy_texts};
 use crate::previous::Previous;
 use std::alloc::{AllocError, Global};
 
-/// The fields of an entry, before it is known that an entry can have them.
+/// The fields of an entry. Before their texts are checked they are a draft.
 #[derive(Debug, Drop)]
 pub struct Fields {
     /// The translator's comments, each without its `#`.

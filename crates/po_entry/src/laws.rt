@@ -43,8 +43,9 @@ pub fn flags_are_kept_once()
         → (flags ≡ flags_of comment_texts) ↔ KeepsFlags (all_listed_flags comment_texts) flags }
 {}
 
-/// The items of two pieces of a text, joined, spell the entries of both, joined, where those of the
-/// first end in a string: no comments are left for the entry after them.
+/// The items of two pieces, one after the other, spell the entries of the first and then those of
+/// the second, if the items of the first end in a string. So no comment at its end belongs to an
+/// entry of the second.
 pub fn joined_pieces()
     ensures { (prefix rest : List TextItem) (first others : List TextEntry)
         → SpellsEntries prefix first → EndsInString prefix → SpellsEntries rest others

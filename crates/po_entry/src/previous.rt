@@ -5,8 +5,8 @@ use crate::copies::copy_optional;
 use std::alloc::{AllocError, Global};
 use std::marker::Model;
 
-/// The previous texts of an entry, on its `#|` lines: what its context, msgid and msgid_plural
-/// were when it was last translated. Where all are `None`, it has no previous text.
+/// The previous texts of an entry, on its `#|` lines: what its context, msgid and plural were when
+/// it was last translated. Where all are `None`, it has no previous text.
 #[derive(Debug, Drop)]
 pub struct Previous {
     /// The previous `msgctxt`.

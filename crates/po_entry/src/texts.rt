@@ -33,7 +33,8 @@ pub fn check_texts(fields: &Fields) -> Result<(), PoFault>
 fn are_utf8(fields: &Fields) -> bool
     ensures { IsTrue result ↔ All IsUtf8 (quoted_texts (entry_view fields.now)) }
 {
-    // `&` here and below: a value without branches, which the proof joins operand by operand.
+    // `&` here and below, and not `&&`: without branches, so that the proof takes one operand after
+    // another.
     previous_is_utf8(&fields.previous)
         & optional_is_utf8(fields.context.as_deref())
         & is_utf8(&fields.id)
