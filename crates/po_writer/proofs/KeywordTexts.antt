@@ -12,8 +12,8 @@ use Rattle.po_syntax.specs.declared.item.Marks.{Marks}
 use Rattle.po_syntax.specs.QuotedForm.{quoted}
 use Rattle.po_syntax.specs.TextItem.{TextItem, Word, Str}
 use Rattle.po_entry.specs.Spelling.{SpellsStrings, last, more, SpellsKeywordText, keyword_text}
-use Rattle.po_writer.specs.WrittenText.{cut, string_line, keyword_lines}
-use Rattle.po_writer.proofs.Utf8.{IsLine, line-append, quoted_line, text_some, pieces_utf8, line-ascii, plain_one, no_text}
+use Rattle.po_writer.specs.WrittenText.{lines_with_ends, string_line, keyword_lines}
+use Rattle.po_writer.proofs.Utf8.{IsLine, line-append, quoted_line, text_some, lines_utf8, line-ascii, plain_one, no_text}
 use Rattle.po_writer.proofs.Blocks.{Block, BeginsLow, low-append, two_blocks, weaker_block, line_block}
 use Rattle.po_writer.proofs.Tokens.{QuotedFormsSpell, IsPrefix, IsKeyword, string_spells, keyword_spells}
 
@@ -72,9 +72,9 @@ feed_joined : (b : ℕ) (feed : Bool) (pieces : List (List ℕ)) → (feed ≡ t
 feed_joined b true pieces h = ap (λ c. c ∷ joined pieces) (sym (h refl))
 feed_joined b false pieces h = onto_joined b pieces
 
-joined_cut : (text : List ℕ) → joined (cut text) ≡ text
-joined_cut [] = refl
-joined_cut (b ∷ text) = feed_joined b (b == 10) (cut text) (λ e. eqb-true b 10 e) ∙ ap (λ t. b ∷ t) (joined_cut text)
+joined_lines : (text : List ℕ) → joined (lines_with_ends text) ≡ text
+joined_lines [] = refl
+joined_lines (b ∷ text) = feed_joined b (b == 10) (lines_with_ends text) (λ e. eqb-true b 10 e) ∙ ap (λ t. b ∷ t) (joined_lines text)
 
 quotable_pieces : (pieces : List (List ℕ)) → All IsUtf8 pieces → All (λ b. b ≢ 0) (joined pieces) → All IsQuotable pieces
 quotable_pieces [] h g = All-nil IsQuotable
@@ -119,14 +119,14 @@ one_line : QuotedFormsSpell → (prefix spelling : List ℕ) (keyword : Keyword)
 one_line law prefix spelling keyword marks text p k h =
     weaker_block (OneLine keyword marks text) (TextPart keyword marks text) ((prefix ++ spelling) ++ 32 ∷ string_line [] text) (λ items g. (g.0, rw g.1 (keyword_text last))) (keyword_line law prefix spelling keyword marks text p k h)
 
-text_cases : QuotedFormsSpell → (prefix spelling : List ℕ) (keyword : Keyword) (marks : Marks) (text : List ℕ) (several : Bool) → nat_lt 1 (length (cut text)) ≡ several → IsLinePrefix prefix marks → IsLineKeyword spelling keyword → IsQuotable text
-    → Block (TextPart keyword marks text) ((prefix ++ spelling) ++ 32 ∷ (if several then string_line [] [] ++ flat_map (string_line prefix) (cut text) else string_line [] text))
+text_cases : QuotedFormsSpell → (prefix spelling : List ℕ) (keyword : Keyword) (marks : Marks) (text : List ℕ) (several : Bool) → nat_lt 1 (length (lines_with_ends text)) ≡ several → IsLinePrefix prefix marks → IsLineKeyword spelling keyword → IsQuotable text
+    → Block (TextPart keyword marks text) ((prefix ++ spelling) ++ 32 ∷ (if several then string_line [] [] ++ flat_map (string_line prefix) (lines_with_ends text) else string_line [] text))
 text_cases law prefix spelling keyword marks text true e p k h =
-    several_lines law prefix spelling keyword marks text (cut text) p k (ltb-true 1 (length (cut text)) e) (quotable_pieces (cut text) (pieces_utf8 text h.utf8) (subst (All (λ b. b ≢ 0)) (sym (joined_cut text)) h.no_nul)) (joined_cut text)
+    several_lines law prefix spelling keyword marks text (lines_with_ends text) p k (ltb-true 1 (length (lines_with_ends text)) e) (quotable_pieces (lines_with_ends text) (lines_utf8 text h.utf8) (subst (All (λ b. b ≢ 0)) (sym (joined_lines text)) h.no_nul)) (joined_lines text)
 text_cases law prefix spelling keyword marks text false e p k h = one_line law prefix spelling keyword marks text p k h
 
 -- a keyword with its text
 pub text_block : QuotedFormsSpell → (prefix spelling : List ℕ) (keyword : Keyword) (marks : Marks) (text : List ℕ) → IsLinePrefix prefix marks → IsLineKeyword spelling keyword → IsQuotable text
     → Block (TextPart keyword marks text) (keyword_lines prefix spelling text)
 text_block law prefix spelling keyword marks text p k h =
-    text_cases law prefix spelling keyword marks text (nat_lt 1 (length (cut text))) refl p k h
+    text_cases law prefix spelling keyword marks text (nat_lt 1 (length (lines_with_ends text))) refl p k h

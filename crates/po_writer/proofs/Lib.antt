@@ -1,4 +1,4 @@
-pub mod Cuts
+pub mod LinesWithEnds
 pub mod Separated
 pub mod Utf8
 pub mod Blocks

@@ -8,7 +8,7 @@ use Rattle.std.proofs.Math.Seq.{take-append_seam, drop-append_seam}
 use Rattle.std.proofs.lemmas.Bool.{ne_eqb, lt-ltb}
 use Rattle.po_syntax.specs.declared.item.Keyword.TheVariants.{MsgStrAt}
 use Rattle.po_syntax.specs.QuotedString.{digit_count}
-use Rattle.po_syntax.specs.Token.{Key, token_at, is_blank, skip_blanks, first_token, keyword_token, index_token}
+use Rattle.po_syntax.specs.Token.{KeywordToken, token_at, is_blank, skip_blanks, first_token, keyword_token, index_token}
 use Rattle.po_writer.proofs.KeywordTexts.{IsLineKeyword}
 use Rattle.po_writer.proofs.Utf8.{IsPlainText, plain_one, no_text, line-ascii, line-append, plain_line}
 
@@ -28,13 +28,13 @@ digits_first : (digits rest : List ℕ) → IsNumeral 10 digits → skip_blanks 
 digits_first [] rest h = absurd (omega (arith, h.0))
 digits_first (d ∷ digits) rest h = rw (digit_no_blank d h.1.0) refl
 
-index_value : (digits rest : List ℕ) (index : ℕ) → IsNumeral 10 digits → digits_value 10 digits ≡ index → index < 2 ^ 32 → index_token (digits ++ 93 ∷ rest) ≡ Key (MsgStrAt index) rest
+index_value : (digits rest : List ℕ) (index : ℕ) → IsNumeral 10 digits → digits_value 10 digits ≡ index → index < 2 ^ 32 → index_token (digits ++ 93 ∷ rest) ≡ KeywordToken (MsgStrAt index) rest
 unfolding index_token
 index_value digits rest index h value below =
     rw (digits_counted digits rest h.1, take-append_seam digits (93 ∷ rest), drop-append_seam digits (93 ∷ rest), value, ne_eqb (length digits) 0 (λ e. omega (arith, e, h.0)), lt-ltb index (2 ^ 32) below) refl
 
 numbered_token : (digits rest : List ℕ) (index : ℕ) → IsNumeral 10 digits → digits_value 10 digits ≡ index → index < 2 ^ 32
-    → token_at ((codes "msgstr[" ++ digits ++ codes "]") ++ 32 ∷ 34 ∷ rest) ≡ Key (MsgStrAt index) (32 ∷ 34 ∷ rest)
+    → token_at ((codes "msgstr[" ++ digits ++ codes "]") ++ 32 ∷ 34 ∷ rest) ≡ KeywordToken (MsgStrAt index) (32 ∷ 34 ∷ rest)
 unfolding first_token keyword_token
 numbered_token digits rest index h value below =
     rw (append_assoc digits (93 ∷ []) (32 ∷ 34 ∷ rest), digits_first digits (32 ∷ 34 ∷ rest) h) (index_value digits (32 ∷ 34 ∷ rest) index h value below)

@@ -6,7 +6,7 @@ use Rattle.std.proofs.lemmas.List.{append-nil}
 use Rattle.std.proofs.lemmas.List.Elements.{All-nil, All-cons, All-head, All-tail, All-append, All-weaker, All-filter}
 use Rattle.std.proofs.lemmas.Bool.{ne_eqb, le-ltb}
 use Rattle.po_syntax.specs.Line.{first_shape, tokens, none}
-use Rattle.po_syntax.specs.PoText.{IsSmall, HasNoNul, SpellsText, without_mark}
+use Rattle.po_syntax.specs.PoText.{IsSmall, HasNoNul, SpellsText, without_byte_order_mark}
 use Rattle.po_syntax.specs.TextItem.{TextItem}
 use Rattle.po_syntax.specs.Token.{first_token}
 use Rattle.po_entry.specs.Bytes.{Lacks}
@@ -114,7 +114,7 @@ no_nul_found (b ∷ text) h = rw (ne_eqb b 0 (All-head (λ c. c ≢ 0) b text h)
 no_nul : (text : List ℕ) → All (λ b. b ≢ 0) text → HasNoNul text
 no_nul text h = rw (no_nul_found text h, le-ltb (length text) (length text) (omega arith)) refl
 
-no_mark : (text : List ℕ) → BeginsLow text → without_mark text ≡ text
+no_mark : (text : List ℕ) → BeginsLow text → without_byte_order_mark text ≡ text
 no_mark [] h = refl
 no_mark (b ∷ text) h = rw (ne_eqb 0xEF b (λ e. omega (arith, e, h))) refl
 

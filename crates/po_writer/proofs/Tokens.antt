@@ -9,11 +9,11 @@ use Rattle.po_syntax.specs.Line.{Tokens, shape_of, first_shape, hash_shape, tild
 use Rattle.po_syntax.specs.QuotedForm.{quoted, written_bytes}
 use Rattle.po_syntax.specs.QuotedString.{IsQuoted}
 use Rattle.po_syntax.specs.TextItem.{TextItem, Word, Str}
-use Rattle.po_syntax.specs.Token.{Open, Key, token_at, is_blank, skip_blanks, first_token, keyword_token}
+use Rattle.po_syntax.specs.Token.{OpeningQuote, KeywordToken, token_at, is_blank, skip_blanks, first_token, keyword_token}
 
 -- the quoted form of bytes without NUL spells these bytes
 abbrev pub QuotedFormsSpell : Type 0
-QuotedFormsSpell = (bytes rest : List ℕ) → All (λ b. (0 < b) × (b < 256)) bytes → (inside : List ℕ) × (token_at (quoted bytes ++ rest) ≡ Open inside) × IsQuoted inside bytes rest
+QuotedFormsSpell = (bytes rest : List ℕ) → All (λ b. (0 < b) × (b < 256)) bytes → (inside : List ℕ) × (token_at (quoted bytes ++ rest) ≡ OpeningQuote inside) × IsQuoted inside bytes rest
 
 -- before a text that begins with neither a blank nor `#`, the prefix gives these marks and nothing
 -- else
@@ -57,7 +57,7 @@ string_tokens : QuotedFormsSpell → (marks : Marks) (number : ℕ) (text : List
 unfolding first_token
 string_tokens law marks number text some =
     let found = law text [] some in
-    string (subst (λ t. token_at t ≡ Open found.0) (append-nil (quoted text)) found.1) found.2 (none refl)
+    string (subst (λ t. token_at t ≡ OpeningQuote found.0) (append-nil (quoted text)) found.1) found.2 (none refl)
 
 -- a prefix and a string
 pub string_spells : QuotedFormsSpell → (prefix : List ℕ) (marks : Marks) (number : ℕ) (text : List ℕ) → IsPrefix prefix marks → All (λ b. (0 < b) × (b < 256)) text
@@ -68,7 +68,7 @@ string_spells law prefix marks number text h some = prefixed prefix marks number
 pub record IsKeyword (spelling : List ℕ) (keyword : Keyword) : Type 0 where
   pub tail : List ℕ
   pub begins : spelling ≡ 109 ∷ tail
-  pub token : (rest : List ℕ) → token_at (spelling ++ 32 ∷ 34 ∷ rest) ≡ Key keyword (32 ∷ 34 ∷ rest)
+  pub token : (rest : List ℕ) → token_at (spelling ++ 32 ∷ 34 ∷ rest) ≡ KeywordToken keyword (32 ∷ 34 ∷ rest)
 
 pub context_keyword : IsKeyword (codes "msgctxt") MsgCtxt
 unfolding first_token keyword_token

@@ -10,7 +10,7 @@ use Rattle.std.proofs.lemmas.Grind.{flat_map-append}
 use Rattle.po_entry.specs.Halves.{All-right}
 use Rattle.std.proofs.lemmas.Bool.{ne_eqb, lt-ltb, ltb-true, le-ltb, ltb-false}
 use Rattle.po_syntax.specs.QuotedForm.{octal_escape, is_control, written_byte, written_bytes, quoted}
-use Rattle.po_writer.specs.WrittenText.{cut}
+use Rattle.po_writer.specs.WrittenText.{lines_with_ends}
 
 -- a byte of a character that isn't ASCII
 abbrev pub IsHigh : ℕ → Type 0
@@ -44,7 +44,7 @@ encode_high c h high =
     if_high (nat_lt c 65536) _ _ (λ e. let less = ltb-true c 65536 e in three _ _ _ (omega arith, omega arith) (follows (c / 64)) (follows c)) (λ _.
     four _ _ _ _ (omega arith, omega arith) (follows (c / 4096)) (follows (c / 64)) (follows c))))
 
--- UTF-8 cut into its ASCII bytes and the characters between them
+-- UTF-8 split into its ASCII bytes and the characters between them
 pub data Chunks : List ℕ → Type 0 where
   none : Chunks []
   ascii : (b : ℕ) {text : List ℕ} → b < 128 → Chunks text → Chunks (b ∷ text)
@@ -185,7 +185,7 @@ quoted_line text utf8 h =
 pub text_some : (text : List ℕ) → IsUtf8 text → All (λ b. b ≢ 0) text → All (λ b. (0 < b) × (b < 256)) text
 text_some text utf8 h = bytes_some (chunks text utf8) h
 
--- bytes without LF before a text cut
+-- bytes without LF before the lines of a text
 abbrev onto : List ℕ → List (List ℕ) → List (List ℕ)
 onto bytes [] = bytes ∷ []
 onto bytes (piece ∷ pieces) = (bytes ++ piece) ∷ pieces
@@ -198,10 +198,10 @@ one_onto : (b : ℕ) (pieces : List (List ℕ)) → onto_first b pieces ≡ onto
 one_onto b [] = refl
 one_onto b (piece ∷ pieces) = refl
 
-high_onto : (b : ℕ) (bytes text : List ℕ) → All IsHigh (b ∷ bytes) → cut (b ∷ bytes ++ text) ≡ onto (b ∷ bytes) (cut text)
-high_onto b [] text h = rw (ne_eqb b 10 (λ e. omega (arith, e, (All-head IsHigh b [] h).0)), one_onto b (cut text)) refl
+high_onto : (b : ℕ) (bytes text : List ℕ) → All IsHigh (b ∷ bytes) → lines_with_ends (b ∷ bytes ++ text) ≡ onto (b ∷ bytes) (lines_with_ends text)
+high_onto b [] text h = rw (ne_eqb b 10 (λ e. omega (arith, e, (All-head IsHigh b [] h).0)), one_onto b (lines_with_ends text)) refl
 high_onto b (c ∷ bytes) text h =
-    rw (ne_eqb b 10 (λ e. omega (arith, e, (All-head IsHigh b (c ∷ bytes) h).0)), high_onto c bytes text (All-tail IsHigh b (c ∷ bytes) h)) (onto_more b (c ∷ bytes) (cut text))
+    rw (ne_eqb b 10 (λ e. omega (arith, e, (All-head IsHigh b (c ∷ bytes) h).0)), high_onto c bytes text (All-tail IsHigh b (c ∷ bytes) h)) (onto_more b (c ∷ bytes) (lines_with_ends text))
 
 utf8_onto : (bytes : List ℕ) (pieces : List (List ℕ)) → IsUtf8 bytes → All IsUtf8 pieces → All IsUtf8 (onto bytes pieces)
 utf8_onto bytes [] h g = All-cons IsUtf8 bytes [] h g
@@ -215,18 +215,18 @@ feed_pieces : (b : ℕ) (feed : Bool) (pieces : List (List ℕ)) → b < 128 →
 feed_pieces b true pieces low h = All-cons IsUtf8 (10 ∷ []) pieces (ascii_utf8 10 (omega arith)) h
 feed_pieces b false pieces low h = rw (one_onto b pieces) (utf8_onto (b ∷ []) pieces (ascii_utf8 b low) h)
 
-high_pieces : (bytes text : List ℕ) → All IsHigh bytes → IsUtf8 bytes → All IsUtf8 (cut text) → All IsUtf8 (cut (bytes ++ text))
+high_pieces : (bytes text : List ℕ) → All IsHigh bytes → IsUtf8 bytes → All IsUtf8 (lines_with_ends text) → All IsUtf8 (lines_with_ends (bytes ++ text))
 high_pieces [] text big utf8 h = h
-high_pieces (b ∷ bytes) text big utf8 h = rw (high_onto b bytes text big) (utf8_onto (b ∷ bytes) (cut text) utf8 h)
+high_pieces (b ∷ bytes) text big utf8 h = rw (high_onto b bytes text big) (utf8_onto (b ∷ bytes) (lines_with_ends text) utf8 h)
 
-pieces_cut : {text : List ℕ} → Chunks text → All IsUtf8 (cut text)
-pieces_cut none = All-nil IsUtf8
-pieces_cut (ascii b {text = text} low more) = feed_pieces b (b == 10) (cut text) low (pieces_cut more)
-pieces_cut (high bytes {text = text} big utf8 more) = high_pieces bytes text big utf8 (pieces_cut more)
+chunk_lines : {text : List ℕ} → Chunks text → All IsUtf8 (lines_with_ends text)
+chunk_lines none = All-nil IsUtf8
+chunk_lines (ascii b {text = text} low more) = feed_pieces b (b == 10) (lines_with_ends text) low (chunk_lines more)
+chunk_lines (high bytes {text = text} big utf8 more) = high_pieces bytes text big utf8 (chunk_lines more)
 
--- the pieces of a text cut after each LF are UTF-8
-pub pieces_utf8 : (text : List ℕ) → IsUtf8 text → All IsUtf8 (cut text)
-pieces_utf8 text h = pieces_cut (chunks text h)
+-- the lines of a text are UTF-8
+pub lines_utf8 : (text : List ℕ) → IsUtf8 text → All IsUtf8 (lines_with_ends text)
+lines_utf8 text h = chunk_lines (chunks text h)
 
 abbrev pub is_plain_ascii : ℕ → Bool
 is_plain_ascii b = nat_lt b 128 && is_plain b

@@ -4,20 +4,20 @@ use Rattle.std.specs.List.{flat_map, join_by, onto_first}
 use Rattle.po_syntax.specs.QuotedForm.{quoted}
 use Rattle.po_entry.specs.TextEntry.{TextEntry, TextPrevious}
 
--- a text cut after each LF
-abbrev pub cut : List ℕ → List (List ℕ)
-cut [] = []
-cut (b ∷ text) = if b == 10 then (10 ∷ []) ∷ cut text else onto_first b (cut text)
+-- the lines of a text, each with the LF that ends it, if one does
+abbrev pub lines_with_ends : List ℕ → List (List ℕ)
+lines_with_ends [] = []
+lines_with_ends (b ∷ text) = if b == 10 then (10 ∷ []) ∷ lines_with_ends text else onto_first b (lines_with_ends text)
 
 -- the quoted form on a line of its own
 abbrev pub string_line : List ℕ → List ℕ → List ℕ
-string_line prefix piece = prefix ++ quoted piece ++ 10 ∷ []
+string_line prefix text = prefix ++ quoted text ++ 10 ∷ []
 
 -- What stands after a keyword: the text as one string; or where a LF stands before its last byte,
--- an empty string and then one string a line.
+-- an empty string and then one string for each line.
 abbrev pub text_lines : List ℕ → List ℕ → List ℕ
 text_lines prefix text =
-    if nat_lt 1 (length (cut text)) then string_line [] [] ++ flat_map (string_line prefix) (cut text)
+    if nat_lt 1 (length (lines_with_ends text)) then string_line [] [] ++ flat_map (string_line prefix) (lines_with_ends text)
     else string_line [] text
 
 -- a keyword with its text; the prefix stands on each line

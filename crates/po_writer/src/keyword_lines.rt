@@ -1,6 +1,6 @@
 ghost use Rattle.std.specs.Prelude.{◌≡◌, ◌<◌, ◌++◌, ◌∷◌, [], codes, decimal, OnOk, nat_lt, length, option_copied};
 ghost use Rattle.std.specs.List.{flat_map};
-ghost use Rattle.po_writer.specs.WrittenText.{cut, text_lines, keyword_lines, optional_lines, string_line};
+ghost use Rattle.po_writer.specs.WrittenText.{lines_with_ends, text_lines, keyword_lines, optional_lines, string_line};
 
 use itoa::Buffer;
 use memchr::memchr;
@@ -9,7 +9,7 @@ use std::alloc::AllocError;
 
 /// Splits a text after its first LF, or at its end where it has none.
 fn split_line(text: &[u8]) -> (&[u8], &[u8])
-    ensures cut { 0 < length text.now → cut text.now ≡ result.0.now ∷ cut result.1.now }
+    ensures lines { 0 < length text.now → lines_with_ends text.now ≡ result.0.now ∷ lines_with_ends result.1.now }
     ensures shorter { 0 < length text.now → length result.1.now < length text.now }
     ensures empty { text.now ≡ [] → result.1.now ≡ [] }
 {
@@ -20,25 +20,26 @@ fn split_line(text: &[u8]) -> (&[u8], &[u8])
 }
 
 /// Whether a LF stands before the last byte of a text.
-fn has_lines(text: &[u8]) -> bool
-    ensures { result ≡ nat_lt 1 (length (cut text.now)) }
+fn has_several_lines(text: &[u8]) -> bool
+    ensures { result ≡ nat_lt 1 (length (lines_with_ends text.now)) }
 {
     !split_line(text).1.is_empty()
 }
 
 /// Appends a prefix, the quoted form of a text or of a part of one, and a LF.
-fn push_string(out: &mut Vec<u8>, prefix: &[u8], piece: &[u8]) -> Result<(), AllocError>
-    ensures appended { OnOk result (out.new.items ≡ out.old.items ++ string_line prefix.now piece.now) }
+fn push_string(out: &mut Vec<u8>, prefix: &[u8], text: &[u8]) -> Result<(), AllocError>
+    ensures appended { OnOk result (out.new.items ≡ out.old.items ++ string_line prefix.now text.now) }
 {
     out.extend_from_slice(prefix)?;
-    quote(piece, out).map_err(|_| AllocError)?;
+    quote(text, out).map_err(|_| AllocError)?;
     out.push(b'\n')?;
     Ok(())
 }
 
 /// Appends one string for each line of a text.
 fn push_strings(out: &mut Vec<u8>, prefix: &[u8], text: &[u8]) -> Result<(), AllocError>
-    ensures appended { OnOk result (out.new.items ≡ out.old.items ++ flat_map (string_line prefix.now) (cut text.now)) }
+    ensures appended { OnOk result (out.new.items
+        ≡ out.old.items ++ flat_map (string_line prefix.now) (lines_with_ends text.now)) }
 {
     let mut rest = text;
     while !rest.is_empty() {
@@ -49,11 +50,11 @@ fn push_strings(out: &mut Vec<u8>, prefix: &[u8], text: &[u8]) -> Result<(), All
     Ok(())
 }
 
-/// Appends what stands after a keyword: its text, as one string or one a line.
+/// Appends what stands after a keyword: its text, as one string or as one for each line.
 fn push_text(out: &mut Vec<u8>, prefix: &[u8], text: &[u8]) -> Result<(), AllocError>
     ensures appended { OnOk result (out.new.items ≡ out.old.items ++ text_lines prefix.now text.now) }
 {
-    if has_lines(text) {
+    if has_several_lines(text) {
         push_string(out, b"", b"")?;
         push_strings(out, prefix, text)
     } else {

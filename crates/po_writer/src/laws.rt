@@ -10,7 +10,7 @@ ghost use Rattle.po_writer.specs.WrittenText.{arranged, written_text};
 use po_syntax::laws::quoted_form_spells;
 
 /// The written text of a catalogue's entries, if it is within the limit of a text, reads as the
-/// arranged entries, but for their lines.
+/// same entries but for their lines, arranged: the live ones, then the obsolete ones.
 pub fn written_text_reads()
     ensures { (entries : List TextEntry) → All IsCatalogueEntry entries → IsSmall (written_text entries)
         → (read : List TextEntry) × ReadsText (written_text entries) read
@@ -19,14 +19,14 @@ pub fn written_text_reads()
     quoted_form_spells();
 }
 
-/// Entries that are a list's arranged ones but for their lines, as those that are read from its
-/// written text are, are written as the same text again.
+/// If entries are those of a list, arranged, but for their lines, they are written as the list is.
+/// So are the entries that are read from its written text.
 pub fn written_text_again()
     ensures { (entries read : List TextEntry) → map (with_line 0) read ≡ map (with_line 0) (arranged entries)
         → written_text read ≡ written_text entries }
 {}
 
-/// Live entries are arranged as they stand.
+/// If all entries are live, they are arranged as they stand.
 pub fn live_entries_stay()
     ensures { (entries : List TextEntry) → All (λ e. e.obsolete ≡ false) entries → arranged entries ≡ entries }
 {}

@@ -2,6 +2,7 @@ ghost use Rattle.std.specs.Prelude.{◌≡◌, ◌++◌, ◌∷◌, List, [], Al
 ghost use Rattle.po_entry.specs.TextEntry.{TextEntry};
 ghost use Rattle.po_entry.specs.Validity.{out_of_memory};
 ghost use Rattle.po_writer.specs.Separated.{with_entry, entries_marked};
+ghost use Rattle.po_writer.specs.TextParts.{separated};
 ghost use Rattle.po_writer.specs.WrittenText.{written_text};
 
 use crate::entry_lines::push_entry;
@@ -9,16 +10,20 @@ use po_entry::{Catalogue, Entry};
 use po_syntax::PoError;
 use std::alloc::{AllocError, Global};
 
-/// A text gets room for this many bytes with its first entry, as most entries take fewer.
-const ROOM: usize = 256;
+/// Appends an empty line, which ends what stands before it, and then an entry, live or obsolete.
+/// Refused only where an allocation failed; then the text may end within the entry.
+pub fn append_separated(text: &mut Vec<u8>, entry: &Entry) -> Result<(), AllocError>
+    ensures { OnOk result (text.new.items ≡ text.old.items ++ separated (entry.now ∷ [])) }
+{
+    text.push(b'\n')?;
+    push_entry(text, entry)
+}
 
 /// Appends an entry, after an empty line if it isn't the first.
 fn push_separated(out: &mut Vec<u8>, entry: &Entry) -> Result<(), AllocError>
     ensures appended { OnOk result (out.new.items ≡ with_entry out.old.items entry.now) }
 {
-    if out.is_empty() {
-        out.reserve(ROOM)?;
-    } else {
+    if !out.is_empty() {
         out.push(b'\n')?;
     }
     push_entry(out, entry)
@@ -54,8 +59,8 @@ pub fn append(text: &mut Vec<u8>, entry: &Entry) -> Result<(), PoError>
 }
 
 /// The text of a catalogue (GNU gettext manual, "The Format of PO Files"): the live entries in
-/// order, then the obsolete ones in order, with an empty line between two. An allocation that
-/// failed is the only refusal.
+/// order, then the obsolete ones in order, with an empty line between two. Refused only where an
+/// allocation failed.
 pub fn write(alloc: Global, catalogue: &Catalogue) -> Result<Vec<u8>, PoError>
     ensures text { IfOk result (λ text. text.items ≡ written_text catalogue.now) }
     ensures memory { IfErr result (λ e. e ≡ out_of_memory) }
