@@ -8,7 +8,7 @@ use Rattle.po_entry.specs.Spelling.{own_marks}
 use Rattle.po_reader.specs.Strings.{IsStrings}
 use Rattle.po_reader.specs.Keywords.{Id, Translation, Form, IsKeywordText}
 
--- an own `msgstr` with an index stands here
+-- a `msgstr[i]` stands first, and not on a line of previous texts
 abbrev pub begins_form : List TextItem → Bool
 begins_form [] = false
 begins_form (Comment kind text line ∷ rest) = false
@@ -25,7 +25,8 @@ pub data IsForms (obsolete : Bool) : ℕ → List TextItem → List (List ℕ) �
   more : {index line : ℕ} {keyword : Keyword} {items after rest : List TextItem} {form : List ℕ} {forms : List (List ℕ)} → IsKeywordText (Form index) obsolete items keyword line form after → begins_form after ≡ true
       → IsForms obsolete (index + 1) after forms rest → IsForms obsolete index items (form ∷ forms) rest
 
--- these items begin with what follows a msgid: its translation, or its plural and then the plural forms from index 0 on
+-- these items begin with what follows a msgid: its only form, or its plural and then the plural
+-- forms from index 0 on; and they go on with the rest
 pub data IsTranslation (obsolete : Bool) : List TextItem → Option (List ℕ) → List (List ℕ) → List TextItem → Type 0 where
   single : {line : ℕ} {items rest : List TextItem} {form : List ℕ} → IsKeywordText Translation obsolete items MsgStr line form rest → IsTranslation obsolete items None (form ∷ []) rest
   plural : {line : ℕ} {items after rest : List TextItem} {plural : List ℕ} {forms : List (List ℕ)} → IsKeywordText Translation obsolete items MsgIdPlural line plural after → IsForms obsolete 0 after forms rest

@@ -20,7 +20,9 @@ pub data CharsetStops : List TextEntry → ℕ → Type 0 where
   here : {entry : TextEntry} {entries : List TextEntry} {line : ℕ} → (HasAdmittedCharset entry → ⊥) → line ≡ entry.line → CharsetStops (entry ∷ entries) line
   later : {entry : TextEntry} {entries : List TextEntry} {line : ℕ} → HasAdmittedCharset entry → CharsetStops entries line → CharsetStops (entry ∷ entries) line
 
--- The first fault of a text, with its line: a fault of the text or of its items' spelling; the fault of items that are no entries; the first entry that can't have its texts; the first header of a foreign charset.
+-- The first fault of a text, with its line: a fault of the text or of one of its lines; the fault
+-- of items that spell no entries; the first entry that can't have its texts; the first header whose
+-- charset is not admitted.
 pub data IsReadFault (text : List ℕ) : PoFault → ℕ → Type 0 where
   in_text : {fault : PoFault} {line : ℕ} → TextFault text fault line → IsReadFault text fault line
   in_items : {items : List TextItem} {fault : PoFault} {line : ℕ} → SpellsText text items → ItemsFault items fault line → IsReadFault text fault line

@@ -1,5 +1,5 @@
--- What is read of entries of which only the messages are wanted: all but their comments and references (manual, "The
--- Format of PO Files").
+-- What is kept of the entries that are read: all, or all but their comments and references (manual,
+-- "The Format of PO Files").
 use Rattle.std.specs.Prelude.{Bool, true, false, List, [], filter}
 use Rattle.po_syntax.specs.declared.item.CommentKind.TheVariants.{Flags}
 use Rattle.po_entry.specs.TextEntry.{TextEntry}

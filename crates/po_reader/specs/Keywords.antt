@@ -10,7 +10,8 @@ use Rattle.po_syntax.specs.TextItem.{TextItem, Comment, Word, Str}
 use Rattle.po_entry.specs.Spelling.{own_marks}
 use Rattle.po_reader.specs.Strings.{IsStrings}
 
--- What is wanted next of an entry: `msgid`, after a context; a translation, `msgstr` or first a `msgid_plural`, after a msgid; or the plural form of this index.
+-- What is wanted next of an entry: `msgid`, after a context; `msgstr` or `msgid_plural`, after a
+-- msgid; or the plural form of this index.
 pub data Wanted : Type 0 where
   Id : Wanted
   Translation : Wanted

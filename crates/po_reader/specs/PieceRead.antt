@@ -15,11 +15,12 @@ use Rattle.po_reader.specs.ItemsRead.{ReadsItems, ItemsStop}
 abbrev pub BeginsAnew : List TextItem → Type 0
 BeginsAnew items = (begins_string items ≡ false) × (begins_form items ≡ false)
 
--- where the lines that are left spell items, those that were left before spell these and then those
+-- if the lines left in `new` spell some items, the lines left in `old` spell `items` and then those
 abbrev pub SpellsOn : LinesLeft → LinesLeft → List TextItem → Type 0
 SpellsOn old new items = (more : List TextItem) → SpellsLeft new more → SpellsLeft old (items ++ more)
 
--- where the lines that are left read as entries, those that were left before read as these and then those
+-- if the lines left in `new` read as some entries, the lines left in `old` read as `entries` and
+-- then those
 abbrev pub ReadsOn : LinesLeft → LinesLeft → List TextEntry → Type 0
 ReadsOn old new entries = (more : List TextEntry) → ReadsLeft new more → ReadsLeft old (entries ++ more)
 
@@ -27,11 +28,11 @@ ReadsOn old new entries = (more : List TextEntry) → ReadsLeft new more → Rea
 abbrev pub KeepsReading : Bool → LinesLeft → LinesLeft → List TextEntry → Type 0
 KeepsReading all old new kept = (entries : List TextEntry) × (kept ≡ map (kept_entry all) entries) × ReadsOn old new entries
 
--- the same of these items and of what is left after them, where those were left before
+-- the same of all lines `old` that spell these items and then what the lines `left` spell
 abbrev pub KeepsRest : Bool → LinesLeft → LinesLeft → List TextItem → List TextEntry → Type 0
 KeepsRest all left new items kept = (old : LinesLeft) → SpellsOn old left items → KeepsReading all old new kept
 
--- the same of the messages of entries
+-- the same of entries that are kept without their comments and references
 abbrev pub ReadsMessages : LinesLeft → LinesLeft → List TextEntry → Type 0
 ReadsMessages old new messages =
     (entries : List TextEntry) × (messages ≡ map without_comments entries) × ReadsOn old new entries
@@ -40,8 +41,8 @@ ReadsMessages old new messages =
 abbrev pub KeepsItems : Bool → List TextItem → List TextEntry → Type 0
 KeepsItems all items kept = (entries : List TextEntry) × ReadsItems items entries × (kept ≡ map (kept_entry all) entries)
 
--- The fault of what is left to be read, with its line: that of the first line that spells nothing; or that of the items,
--- with which no entry before goes on.
+-- The fault of what is left to be read, with its line: that of the first line that has one; or that
+-- of the items, if no entry before can go on with them.
 pub data IsLeftFault (left : LinesLeft) : PoFault → ℕ → Type 0 where
   in_lines : {fault : PoFault} {line : ℕ} → LeftStops left fault line → IsLeftFault left fault line
   in_items : {items : List TextItem} {fault : PoFault} {line : ℕ} → SpellsLeft left items → BeginsAnew items → ItemsStop items fault line → IsLeftFault left fault line

@@ -12,12 +12,12 @@ use Rattle.po_reader.specs.PieceRead.{BeginsAnew, IsLeftFault, SpellsOn, StopsSt
 use Rattle.po_reader.specs.declared.piecewise.Refusal.{Refusal}
 use Rattle.po_reader.specs.declared.piecewise.Refusal.TheVariants.{Fault, Whole}
 
--- the fault, where it isn't out of memory, which has no line
+-- the error is such a fault, or out of memory, without a line
 pub record IsFaultOf (Has : PoFault → ℕ → Type 0) (error : PoError) : Type 0 where
   pub fault : IsStop Has error
   pub memory : error.kind ≡ OutOfMemory → error.line ≡ 0
 
--- a fault that is reported is that of the items, with which no entry before goes on
+-- a fault that is reported is that of the items, and no entry before can go on with them
 abbrev pub IsItemsRefusal : List TextItem → Refusal → Type 0
 IsItemsRefusal items (Fault error) = IsFaultOf (λ fault line. BeginsAnew items × ItemsStop items fault line) error
 IsItemsRefusal items Whole = Unit {0}
@@ -32,6 +32,6 @@ abbrev pub IsTextRefusal : List ℕ → Refusal → Type 0
 IsTextRefusal text (Fault error) = IsFaultOf (IsReadFault text) error
 IsTextRefusal text Whole = Unit {0}
 
--- a fault that is reported is that of these items and of what is left after them, where those were left before
+-- a fault that is reported is that of all lines that spell these items and then what is left
 abbrev pub IsRestRefusal : LinesLeft → List TextItem → Refusal → Type 0
 IsRestRefusal left items refusal = (old : LinesLeft) → SpellsOn old left items → StopsStay old left → IsLeftRefusal old refusal

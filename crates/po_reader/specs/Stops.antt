@@ -1,5 +1,6 @@
--- For the reader's own functions alone: at which part of an entry items stop, with the fault and the line. The contract of `read` speaks of `Viable.ItemsFault`, which follows (manual, "The Format of PO Files").
--- At the end of the items the line reported is `end`, that of the last item.
+-- For the reader's own functions alone: at which part of an entry items stop, with the fault and
+-- the line. The contract of `read` says `Viable.ItemsFault`, which follows from these (manual, "The
+-- Format of PO Files"). At the end of the items the line reported is `end`, that of the last item.
 use Rattle.std.specs.Prelude.{◌≡◌, ◌≢◌, ℕ, ◌+◌, Bool, true, List, [], ◌∷◌}
 use Rattle.po_syntax.specs.declared.fault.PoError.{PoError}
 use Rattle.po_syntax.specs.declared.fault.PoFault.{PoFault}

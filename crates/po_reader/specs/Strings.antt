@@ -14,7 +14,8 @@ pub data StringStep : Type 0 where
   Take : List ℕ → List TextItem → StringStep
   Refuse : PoFault → StringStep
 
--- A string under other marks: between own lines that differ in their obsolete mark alone they are mixed, else the string is out of order.
+-- The fault of a string under other marks: if both are on own lines, which then differ in their
+-- obsolete mark alone, the lines are mixed; else the string is out of order.
 abbrev pub stray_string : Marks → Marks → PoFault
 stray_string wanted found = if wanted.previous || found.previous then BadOrder else MixedObsolete
 

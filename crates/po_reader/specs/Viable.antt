@@ -1,4 +1,5 @@
--- Why items are no entries: how far they could still become some, and what is wrong with the item after (manual, "The Format of PO Files").
+-- Why items spell no entries: up to which item they could still become entries, and what is wrong
+-- with the item after it (manual, "The Format of PO Files").
 use Rattle.std.specs.Prelude.{◌≡◌, ◌≢◌, ℕ, Bool, false, List, [], ◌∷◌, ◌++◌}
 use Rattle.po_syntax.specs.declared.fault.PoFault.{PoFault}
 use Rattle.po_syntax.specs.declared.fault.PoFault.TheVariants.{BadOrder, BadPluralIndex, MixedObsolete}
@@ -51,7 +52,9 @@ last_line [] = 0
 last_line (item ∷ []) = line_of item
 last_line (item ∷ next ∷ items) = last_line (next ∷ items)
 
--- The fault of items that are no entries, with its line: that of the item after the longest viable prefix; or, where the items could still become entries and only end too early, BadOrder on the last line.
+-- The fault of items that spell no entries, with its line: that of the item after the longest
+-- viable prefix; or, where the items could still become entries and only end too early, BadOrder on
+-- the last line.
 pub data ItemsFault : List TextItem → PoFault → ℕ → Type 0 where
   at : {prefix : List TextItem} {item : TextItem} (rest : List TextItem) {fault : PoFault} → IsViable prefix → (IsViable (prefix ++ item ∷ []) → ⊥) → Misfit prefix item fault → ItemsFault (prefix ++ item ∷ rest) fault (line_of item)
   at_end : {items : List TextItem} → IsViable items → ((entries : List TextEntry) → SpellsEntries items entries → ⊥) → ItemsFault items BadOrder (last_line items)

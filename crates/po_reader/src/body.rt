@@ -53,7 +53,7 @@ pub(crate) struct Translation {
     pub(crate) forms: Vec<Vec<u8>>,
 }
 
-/// Takes the translation that stands first: a msgstr, or a plural and its forms.
+/// Takes what follows a msgid, which stands first: a `msgstr`, or a plural and its forms.
 fn take_translation(
     alloc: Global,
     rest: &mut Rest<'_, '_>,
@@ -83,7 +83,7 @@ fn take_translation(
     })
 }
 
-/// A context and msgid, with the marks of their entry.
+/// A context and msgid, whether their entry is obsolete, and the line of the msgid.
 #[derive(Drop)]
 pub(crate) struct Original {
     pub(crate) context: Option<Vec<u8>>,
@@ -127,7 +127,7 @@ fn take_start(rest: &mut Rest<'_, '_>) -> Option<Start>
     }
 }
 
-/// Takes the own lines of an entry whose context and msgid are taken.
+/// Takes the rest of a body, whose context and msgid are taken.
 fn take_body_after(
     alloc: Global,
     rest: &mut Rest<'_, '_>,

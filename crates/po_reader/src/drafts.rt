@@ -21,7 +21,7 @@ use std::alloc::{AllocError, Global};
 /// How many items an entry has at least: two keywords and their strings.
 const LEAST_ITEMS: usize = 4;
 
-/// The parts of an entry, from its head and its body.
+/// The fields of an entry, from its head and its body.
 fn fields_of(alloc: Global, head: Head, body: Body) -> Result<Fields, AllocError>
     ensures { IfOk result (λ fields. (comment_texts : List CommentText) (previous : List PreviousText)
         → HoldsHead head comment_texts previous
@@ -62,7 +62,7 @@ fn fields_of(alloc: Global, head: Head, body: Body) -> Result<Fields, AllocError
     })
 }
 
-/// The fields of the entries that the items spell, in order, with their comments and references or
+/// The drafts of the entries that the items spell, in order, with their comments and references or
 /// without; `end` is the line of the last item.
 pub(crate) fn drafts_of(
     alloc: Global,

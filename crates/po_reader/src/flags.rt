@@ -11,7 +11,7 @@ use std::collections::BTreeSet;
 #[derive(Drop)]
 pub(crate) struct Flags {
     pub(crate) fuzzy: bool,
-    /// The others, each where it first stands.
+    /// The other flags, each once, where it first stands.
     pub(crate) others: Vec<Vec<u8>>,
 }
 
@@ -29,8 +29,8 @@ fn has_fuzzy(elements: &[Vec<u8>]) -> bool
     elements.iter().any(|flag| is_fuzzy_flag(flag))
 }
 
-/// The flags other than `fuzzy`, each where it first stands. A tree finds the flags seen before,
-/// so that no choice of flags makes this slow.
+/// The flags other than `fuzzy`, each once, where it first stands. A tree finds the flags seen
+/// before, so that no choice of flags makes this slow.
 fn others(alloc: Global, elements: &[Vec<u8>]) -> Result<Vec<Vec<u8>>, AllocError>
     ensures { IfOk result (λ kept. texts kept.items ≡ fold with_flag [] (texts elements.now)) }
 {

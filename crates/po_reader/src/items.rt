@@ -45,8 +45,9 @@ pub(crate) fn last_entries_of(
     catalogue_of(alloc, drafts)
 }
 
-/// The entries that items spell, with their comments and references or without. The items stay, to be read with
-/// those after them where they spell none, so no fault is told apart from another.
+/// The entries that items spell, with their comments and references or without. The items stay with
+/// the caller, who reads them again with those after them if they spell no entries. So nothing is
+/// said of which fault is returned.
 pub(crate) fn entries_of(
     alloc: Global,
     items: &[Item<'_>],

@@ -15,7 +15,7 @@ use std::alloc::Global;
 pub(crate) enum Wanted {
     /// `msgid`, after a context.
     Id,
-    /// `msgstr`, or first a `msgid_plural`, after a msgid.
+    /// `msgstr` or `msgid_plural`, after a msgid.
     Translation,
     /// The plural form with this index.
     Form(u32),
@@ -40,7 +40,7 @@ fn is_wrong_form(wanted: Wanted, keyword: Keyword) -> bool
     matches!((wanted, keyword), (Wanted::Form(_), Keyword::MsgStrAt(_)))
 }
 
-/// Why a keyword is not the wanted one under the mark of its entry, if it is not.
+/// The fault of a keyword, if it isn't the wanted one or isn't obsolete or live as its entry is.
 fn keyword_fault(wanted: Wanted, obsolete: bool, keyword: Keyword, marks: Marks) -> Option<PoFault>
     ensures { (line : ℕ) (rest : List TextItem) → MatchOption result
         (keyword_step (wanted_view wanted) obsolete keyword marks line rest ≡ spec.Take keyword line rest)

@@ -12,8 +12,8 @@ ghost use Rattle.po_reader.specs.Reads.{Reads};
 
 use po_syntax::laws as syntax;
 
-/// The reader's way through the items finds entries exactly where the items are a spelling for each
-/// of these entries, joined, and then comments alone.
+/// Going through items from the left, the reader finds these entries exactly if the items spell
+/// them: the items of each entry in turn, and then comments that belong to no entry.
 pub fn entries_are_spelt()
     ensures { (items : List TextItem) (entries : List TextEntry)
         → Reads items entries ↔ SpellsEntries items entries }

@@ -1,6 +1,6 @@
-//! The reader of PO catalogues (GNU gettext manual, "The Format of PO Files"): a descent over the
-//! items of a text, one function for each level of an entry. What it makes of an entry's items is a
-//! draft, and becomes an entry once its texts and charset are checked.
+//! The reader of PO catalogues (GNU gettext manual, "The Format of PO Files"): it goes through the
+//! items of a text, with a function for each part of an entry. What it makes of an entry's items is
+//! a draft, and becomes an entry once its texts and charset are checked.
 //!
 //! [`read`] reads a text piece by piece, and [`read_whole`] as one. A caller that keeps no
 //! catalogue takes the pieces one by one: [`next_catalogue`] and [`next_messages`].

@@ -18,7 +18,8 @@ use std::alloc::{AllocError, Global};
 pub enum Refusal {
     /// The first fault of the text, or out of memory.
     Fault(PoError),
-    /// A piece begins within an entry. Only the whole text shows whether it reads, or which fault it has.
+    /// A piece may begin within an entry, or there are too many items. Only the whole text shows
+    /// whether it reads, or which fault it has.
     Whole,
 }
 
@@ -48,7 +49,7 @@ impl From<PoError> for Refusal {
     }
 }
 
-/// How many items are counted.
+/// The most items that are read at once.
 const MOST_ITEMS: usize = 2_147_483_648;
 
 /// The entries of the next piece, which has at least this many bytes where the text goes on after it. Where the lines
@@ -144,7 +145,7 @@ fn last_entries(
     last_entries_of(alloc, items, with_comments).map_err(|error| refusal_of(error, begins_anew))
 }
 
-/// Whether no entry before goes on with these items.
+/// Whether a complete entry before these items can't go on with them.
 fn begins_anew(items: &[Item<'_>]) -> bool
     ensures { result ≡ true → BeginsAnew (views items.now) }
 {
@@ -154,7 +155,7 @@ fn begins_anew(items: &[Item<'_>]) -> bool
     )
 }
 
-/// Why items are not read.
+/// Why items are not read: the fault, or `Whole` where it may be no fault of the text.
 fn refusal_of(error: PoError, begins_anew: bool) -> Refusal
     requires memory { error.kind ≡ PoFault.OutOfMemory → error.line ≡ 0 }
     ensures { (items : List TextItem) → (begins_anew ≡ true → BeginsAnew items) → IsStop (ItemsStop items) error
@@ -168,7 +169,7 @@ fn refusal_of(error: PoError, begins_anew: bool) -> Refusal
     }
 }
 
-/// The catalogue of a text that is read in pieces of this size.
+/// The catalogue of a text that is read in pieces of at least this many bytes.
 pub(crate) fn read_pieces(alloc: Global, text: &[u8], size: usize) -> Result<Catalogue, Refusal>
     ensures found { IfOk result (ReadsText text.now) }
     ensures fault { IfErr result (IsTextRefusal text.now) }

@@ -55,7 +55,7 @@ impl<'i, 'a> Rest<'i, 'a> {
         self.at += 1;
     }
 
-    /// How many bytes the strings that stand first have.
+    /// How many bytes the strings that stand first have together.
     pub(crate) fn strings_len(&self) -> usize {
         let mut len: usize = 0;
         for item in &self.items[self.at..] {
@@ -67,7 +67,8 @@ impl<'i, 'a> Rest<'i, 'a> {
         len
     }
 
-    /// The fault of the first item; where there is none, on the line `end`, that of the text's last one.
+    /// This fault, on the line of the first item; where none is left, on the line `end`, that of
+    /// the text's last item.
     pub(crate) fn refusal(&self, end: u32, kind: PoFault) -> PoError
         ensures kind { result.kind ≡ kind }
         ensures line { result.line ≡ line_at end self.now }

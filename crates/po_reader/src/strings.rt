@@ -8,8 +8,8 @@ use crate::rest::Rest;
 use po_syntax::{Item, Marks, PoError, PoFault};
 use std::alloc::Global;
 
-/// The fault of a string that is not under the marks of its text: `MixedObsolete` where own lines
-/// of an entry differ in their obsolete mark, else `BadOrder`.
+/// The fault of a string whose marks are not those of its text: `MixedObsolete` where own lines of
+/// an entry differ in their obsolete mark, else `BadOrder`.
 fn stray_string(wanted: Marks, found: Marks) -> PoFault
     ensures { result ≡ spec.stray_string wanted found }
 {
