@@ -1,12 +1,18 @@
 -- Live entries with one context and msgid (manual, "The Format of PO Files": a msgid may appear
 -- twice only under another context).
-use Rattle.std.specs.Prelude.{◌≡◌, ◌⊎◌, List, ◌∷◌, ◌++◌, map, filter, AllPairs}
+use Rattle.std.specs.Prelude.{◌≡◌, ◌⊎◌, ℕ, Bool, ◌&&◌, List, ◌∷◌, ◌++◌, map, filter, AllPairs, Option}
+use Rattle.std.specs.Option.{option_eq}
+use Rattle.std.specs.Str.{bytes_eq}
 use Rattle.po_entry.specs.TextEntry.{TextEntry}
 use Rattle.po_entry.specs.Validity.{out_of_memory}
 use Rattle.po_syntax.specs.declared.fault.PoFault.TheVariants.{Duplicate}
 use Rattle.po_syntax.specs.declared.fault.PoError.{PoError}
 use Rattle.po_catalog.specs.declared.duplicate.JoinError.{JoinError}
 use Rattle.po_catalog.specs.Joined.{InputEntry, is_live, in_input, entries_of}
+
+-- the entry is of the message with this context and msgid
+abbrev pub is_of_message : Option (List ℕ) → List ℕ → TextEntry → Bool
+is_of_message context id entry = option_eq bytes_eq entry.context context && bytes_eq entry.id id
 
 abbrev pub IsSameMessage : TextEntry → TextEntry → Type 0
 IsSameMessage a b = (a.context ≡ b.context) × (a.id ≡ b.id)

@@ -3,3 +3,4 @@ pub mod Omitted
 pub mod JoinedView
 pub mod Duplicate
 pub mod Statistics
+pub mod Digest

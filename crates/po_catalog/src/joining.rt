@@ -33,9 +33,9 @@ pub fn joined(alloc: Global, catalogues: &[Catalogue]) -> Result<Vec<JoinedEntry
     Ok(joined)
 }
 
-/// The joined list of catalogues, which gives them up: the entries of several inputs in order,
-/// without the live headers of an input where an earlier input has a live header. The entries are
-/// moved, and none is copied.
+/// The joined list of catalogues, which it takes: the entries of several inputs in order, without
+/// the live headers of an input where an earlier input has a live header. The entries are moved,
+/// and none is copied.
 pub fn into_joined(alloc: Global, catalogues: Vec<Catalogue>) -> Result<Vec<Entry>, AllocError>
     ensures list { IfOk result (λ entries. entries.items ≡ joined_entries catalogues.items) }
     ensures valid { OnOk result (All IsCatalogueEntry (joined_entries catalogues.items)) }
@@ -66,7 +66,9 @@ fn move_entries(
     }
     joined.reserve(entries.len())?;
     for entry in entries {
-        if !(headed && is_live_header(&entry)) {
+        if headed && is_live_header(&entry) {
+            drop(entry);
+        } else {
             joined.push(entry)?;
         }
     }
@@ -98,15 +100,15 @@ fn has_live_header(entries: &[Entry]) -> bool
     entries.iter().any(|entry| is_live_header(entry))
 }
 
-/// Whether the entry is a live header: one that is not obsolete.
-fn is_live_header(entry: &Entry) -> bool
+/// Whether the entry is a header that isn't obsolete.
+pub fn is_live_header(entry: &Entry) -> bool
     ensures { result ≡ is_live_header entry.now }
 {
     entry.is_header() && is_live(entry)
 }
 
-/// Whether the entry is not obsolete.
-pub(crate) fn is_live(entry: &Entry) -> bool
+/// Whether the entry isn't obsolete.
+pub fn is_live(entry: &Entry) -> bool
     ensures { result ≡ is_live entry.now }
 {
     !entry.obsolete()

@@ -1,5 +1,5 @@
 //! Laws of catalogues, each the contract of a function that does nothing: a call brings the law
-//! into a proof. Those of the crates below are passed on.
+//! into a proof. Those of the crates below are re-exported.
 ghost use Rattle.std.specs.Prelude.{◌≡◌, ◌⊎◌, List, All, map};
 ghost use Rattle.po_syntax.specs.PoText.{IsSmall};
 ghost use Rattle.po_entry.specs.TextEntry.{TextEntry, with_line};
@@ -17,8 +17,8 @@ pub use po_reader::laws::{
 };
 pub use po_writer::laws::{written_text_again, written_text_reads};
 
-/// The written text of a catalogue's entries, if it is within the limit of a text, is read: as the
-/// arranged entries, but for their lines, and as nothing else.
+/// The written text of a catalogue's entries, if it is within the limit of a text, reads only as
+/// the same entries but for their lines, arranged: the live ones, then the obsolete ones.
 pub fn what_is_written_reads_back()
     ensures { (entries read : List TextEntry) → All IsCatalogueEntry entries → IsSmall (written_text entries)
         → ReadsText (written_text entries) read → map (with_line 0) read ≡ map (with_line 0) (arranged entries) }
@@ -42,7 +42,7 @@ pub fn no_first_duplicate_where_none()
         → HasNoDuplicate (entries_of entries) → IsFirstDuplicate entries first later → ⊥ }
 {}
 
-/// Every list has no duplicate, or a first one.
+/// Every list either has no duplicate or has a first one.
 pub fn no_duplicate_or_first()
     ensures { (entries : List InputEntry)
         → HasNoDuplicate (entries_of entries)
@@ -56,8 +56,8 @@ pub fn one_first_duplicate()
         → (first ≡ other) × (later ≡ last) }
 {}
 
-/// Of all entries of several inputs, in order, their joined list omits just the live headers for
-/// which an earlier input, whichever it is, has a live header.
+/// The joined list is all entries of the inputs, in order, without the live headers of each input
+/// that stands after one with a live header.
 pub fn later_headers_are_omitted()
     ensures { (inputs : List (List TextEntry)) → OmitsLaterHeaders inputs }
 {}

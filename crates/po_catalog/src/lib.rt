@@ -2,20 +2,22 @@
 //! join to (GNU gettext manual, "The Format of PO Files" and "Invoking the msgfmt Program").
 //!
 //! [`joined`] lists the entries of several inputs, [`duplicates`] finds the first message that
-//! stands twice, and [`statistics`] counts what is translated. The types, the reader and the writer
-//! are passed on from the crates below.
+//! stands twice, [`digest`] tells most messages apart, and [`statistics`] counts what is
+//! translated. The types, the reader and the writer are re-exported from the crates below.
 //!
-//! The modules in reading order: `joining`, `duplicate`, `stats`, `laws`.
+//! The modules in reading order: `joining`, `digests`, `duplicate`, `stats`, `laws`.
 
 #![tactic(auto)]
 
+mod digests;
 mod duplicate;
 mod joining;
 pub mod laws;
 mod stats;
 
+pub use crate::digests::digest;
 pub use crate::duplicate::{JoinError, duplicates, joined_duplicates};
-pub use crate::joining::{JoinedEntry, into_joined, joined};
+pub use crate::joining::{JoinedEntry, into_joined, is_live, is_live_header, joined};
 pub use crate::stats::{Stats, entry_statistics, has_translation, statistics};
 pub use po_entry::{Catalogue, Entry, Fields, Previous};
 pub use po_reader::read;

@@ -35,7 +35,7 @@ impl Stats {
         Ok(line)
     }
 
-    /// Counts one more entry.
+    /// Counts an entry, unless it is obsolete or a header.
     fn add(&mut self, entry: &Entry)
         requires translated { self.old.translated < 2 ^ 64 - 1 }
         requires fuzzy { self.old.fuzzy < 2 ^ 64 - 1 }
@@ -63,7 +63,7 @@ pub fn statistics(catalogue: &Catalogue) -> Stats
     entry_statistics(catalogue.entries())
 }
 
-/// How many live ones of some entries are translated, fuzzy and untranslated. A header isn't
+/// How many of these entries, if live, are translated, fuzzy and untranslated. A header isn't
 /// counted.
 pub fn entry_statistics(entries: &[Entry]) -> Stats
     ensures { result ≡ stats_of entries.now }
@@ -79,7 +79,7 @@ pub fn entry_statistics(entries: &[Entry]) -> Stats
     stats
 }
 
-/// Whether the entry is translated, be it fuzzy or not: its first form isn't empty.
+/// Whether the entry has a translation, be it fuzzy or not: its first form isn't empty.
 pub fn has_translation(entry: &Entry) -> bool
     ensures { result ≡ has_translation entry.now }
 {
