@@ -1,6 +1,6 @@
 -- Which entries of a catalogue are selected, and how they are changed (manual, "Invoking the
 -- msgattrib Program"). That a live header is always kept, stays live and keeps its forms is this
--- project's own.
+-- project's own rule.
 use Rattle.std.specs.Prelude.{◌≡◌, Bool, false, not, ◌&&◌, ◌||◌, List, [], map, filter, if◌then◌else◌}
 use Rattle.po_entry.specs.TextEntry.{TextEntry, no_previous}
 use Rattle.po_entry.specs.Header.{is_header}

@@ -3,7 +3,7 @@ ghost use Rattle.po_catalog.specs.Joined.{is_live_header};
 ghost use Rattle.po_entry.specs.Validity.{IsCatalogueEntry};
 ghost use Rattle.po_select.specs.Selected.{changed, fuzzy_after, is_emptied, is_kept, meets, obsolete_after};
 
-use po_catalog::has_translation;
+use po_catalog::{has_translation, is_live_header};
 use po_entry::Entry;
 
 /// Which entries of a catalogue are kept, and how those that are kept are changed: the options of
@@ -102,11 +102,4 @@ impl Selection {
             entry.obsolete() && !self.clear_obsolete
         }
     }
-}
-
-/// Whether the entry is a header that is not obsolete.
-fn is_live_header(entry: &Entry) -> bool
-    ensures { result ≡ is_live_header entry.now }
-{
-    entry.is_header() && !entry.obsolete()
 }
