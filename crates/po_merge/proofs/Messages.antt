@@ -14,7 +14,8 @@ use Rattle.std.proofs.lemmas.Bool.{and_parts}
 use Rattle.std.proofs.lemmas.Slice.Eq.{bytes_eq-Decides}
 use Rattle.po_merge.specs.Inputs.{NamedEntry}
 use Rattle.po_merge.specs.Groups.{same_message}
-use Rattle.po_merge.specs.Grouping.{Message, digest, is_message_of, key_cmp, key_of, message_cmp, index}
+use Rattle.po_catalog.specs.Digest.{message_digest}
+use Rattle.po_merge.specs.Grouping.{Message, is_message_of, key_cmp, key_of, message_cmp, index}
 use Rattle.po_merge.proofs.FirstOnes.{place_same, place_push}
 
 abbrev Parts : Type 0
@@ -51,7 +52,7 @@ context_is (Some x) (Some y) h = ap (λ (t : List ℕ). Some t) ((bytes_eq-Decid
 same_digests : (a b : Message) → same_parts (parts a) (parts b) ≡ true → (key_of a).0 ≡ (key_of b).0
 same_digests a b same =
     let both = and_parts (option_eq bytes_eq (option_copied a.0) (option_copied b.0)) (bytes_eq a.1.now b.1.now) same in
-    ap₂ (λ (c : Option (List ℕ)) (i : List ℕ). digest c i) (context_is (option_copied a.0) (option_copied b.0) both.0) ((bytes_eq-Decides a.1.now b.1.now).0 both.1)
+    ap₂ (λ (c : Option (List ℕ)) (i : List ℕ). message_digest c i) (context_is (option_copied a.0) (option_copied b.0) both.0) ((bytes_eq-Decides a.1.now b.1.now).0 both.1)
 
 -- a key is found where its message is
 pub keys_tie : (m r : Message) → is_at (key_cmp (key_of m)) (key_of r) ≡ is_at (message_cmp m) r

@@ -10,13 +10,13 @@ use Rattle.std.proofs.lemmas.List.Kept.{AllPairs-cons}
 use Rattle.std.proofs.lemmas.List.Elements.{All-head, All-tail, All-filter, All-map, All-weaker, filter_agree, filter_passes}
 use Rattle.po_entry.specs.TextEntry.{TextEntry, plain_entry}
 use Rattle.po_catalog.specs.Joined.{is_live}
-use Rattle.po_catalog.specs.Duplicate.{IsSameMessage, AllDiffer}
+use Rattle.po_catalog.specs.Duplicate.{IsSameMessage, AllDiffer, is_of_message}
 use Rattle.po_merge.specs.declared.input.MergeOptions.{MergeOptions}
 use Rattle.po_merge.specs.Inputs.{Input, NamedEntry, named, all_entries}
 use Rattle.po_merge.specs.Groups.{same_message, first_ones, definitions}
 use Rattle.po_merge.specs.MergedEntry.{merged_entry}
 use Rattle.po_merge.specs.Merged.{is_kept, merged_messages}
-use Rattle.po_merge.specs.MergeLaws.{is_of, has_message, MessagesStandOnce, KeptMessagesStand}
+use Rattle.po_merge.specs.MergeLaws.{has_message, MessagesStandOnce, KeptMessagesStand}
 use Rattle.po_merge.proofs.FirstOnes.{Apart, group_of, apart_first_ones, any_first_ones}
 use Rattle.po_merge.proofs.Messages.{context_is, same_message_laws}
 use Rattle.po_merge.proofs.Valid.{first_keeps}
@@ -101,37 +101,37 @@ module _ (o : MergeOptions) (es : List NamedEntry) where
     wanted = named [] (plain_entry context id None [])
 
     abbrev kept : Bool
-    kept = is_kept o (definitions (filter (λ e. is_of context id e.entry) es))
+    kept = is_kept o (definitions (filter (λ e. is_of_message context id e.entry) es))
 
-    kept_is : (f : NamedEntry) → is_of context id f.entry ≡ true → is_kept o (defined f) ≡ kept
+    kept_is : (f : NamedEntry) → is_of_message context id f.entry ≡ true → is_kept o (defined f) ≡ kept
     kept_is f is =
         ap (λ (group : List NamedEntry). is_kept o (definitions group))
-        (filter_agree (λ e. same_message e f) (λ e. is_of context id e.entry) (λ e. same_message_laws.symm e f ∙ same_message_laws.congr f wanted e is ∙ same_message_laws.symm wanted e) es)
+        (filter_agree (λ e. same_message e f) (λ e. is_of_message context id e.entry) (λ e. same_message_laws.symm e f ∙ same_message_laws.congr f wanted e is ∙ same_message_laws.symm wanted e) es)
 
-    of_same : (f : NamedEntry) → Stays f → is_of context id (merged_entry o (defined f)) ≡ is_of context id f.entry
+    of_same : (f : NamedEntry) → Stays f → is_of_message context id (merged_entry o (defined f)) ≡ is_of_message context id f.entry
     of_same f h = ap₂ (λ (c : Option (List ℕ)) (i : List ℕ). option_eq bytes_eq c context && bytes_eq i id) h.0 h.1
 
-    any_kept : (fs : List NamedEntry) → All Stays fs → has_message context id (of_firsts fs) ≡ (list_any (λ f. is_of context id f.entry) fs && kept)
+    any_kept : (fs : List NamedEntry) → All Stays fs → has_message context id (of_firsts fs) ≡ (list_any (λ f. is_of_message context id f.entry) fs && kept)
     any_kept [] h = refl
-    any_kept (f ∷ fs) h = found (is_kept o (defined f)) (is_of context id f.entry) refl refl (any_kept fs (All-tail Stays f fs h)) where
-      is : is_of context id (merged_entry o (defined f)) ≡ is_of context id f.entry
+    any_kept (f ∷ fs) h = found (is_kept o (defined f)) (is_of_message context id f.entry) refl refl (any_kept fs (All-tail Stays f fs h)) where
+      is : is_of_message context id (merged_entry o (defined f)) ≡ is_of_message context id f.entry
       is = of_same f (All-head Stays f fs h)
 
-      found : (b c : Bool) → is_kept o (defined f) ≡ b → is_of context id f.entry ≡ c → has_message context id (of_firsts fs) ≡ (list_any (λ g. is_of context id g.entry) fs && kept)
+      found : (b c : Bool) → is_kept o (defined f) ≡ b → is_of_message context id f.entry ≡ c → has_message context id (of_firsts fs) ≡ (list_any (λ g. is_of_message context id g.entry) fs && kept)
           → has_message context id (map (merged_entry o) (cond b (defined f ∷ filter (is_kept o) (map definitions (map (group_of same_message es) fs))) (filter (is_kept o) (map definitions (map (group_of same_message es) fs)))))
-          ≡ ((c || list_any (λ g. is_of context id g.entry) fs) && kept)
+          ≡ ((c || list_any (λ g. is_of_message context id g.entry) fs) && kept)
       found true true e g more = ap (λ (t : Bool). t || has_message context id (of_firsts fs)) (is ∙ g) ∙ sym e ∙ kept_is f g
       found true false e g more = ap (λ (t : Bool). t || has_message context id (of_firsts fs)) (is ∙ g) ∙ more
       found false true e g more =
           let none : kept ≡ false = sym (kept_is f g) ∙ e in
-          more ∙ ap (λ (k : Bool). list_any (λ g. is_of context id g.entry) fs && k) none ∙ and_false (list_any (λ g. is_of context id g.entry) fs) ∙ sym none
+          more ∙ ap (λ (k : Bool). list_any (λ g. is_of_message context id g.entry) fs && k) none ∙ and_false (list_any (λ g. is_of_message context id g.entry) fs) ∙ sym none
       found false false e g more = more
 
-    any_first : list_any (λ f. is_of context id f.entry) (first_ones same_message es) ≡ list_any (λ e. is_of context id e.entry) es
+    any_first : list_any (λ f. is_of_message context id f.entry) (first_ones same_message es) ≡ list_any (λ e. is_of_message context id e.entry) es
     any_first =
-        any_same (λ (f : NamedEntry). is_of context id f.entry) (same_message wanted) (λ f. same_message_laws.symm f wanted) (first_ones same_message es)
+        any_same (λ (f : NamedEntry). is_of_message context id f.entry) (same_message wanted) (λ f. same_message_laws.symm f wanted) (first_ones same_message es)
         ∙ any_first_ones same_message same_message_laws wanted es
-        ∙ any_same (same_message wanted) (λ (e : NamedEntry). is_of context id e.entry) (λ e. same_message_laws.symm wanted e) es
+        ∙ any_same (same_message wanted) (λ (e : NamedEntry). is_of_message context id e.entry) (λ e. same_message_laws.symm wanted e) es
 
 any_named : (p : TextEntry → Bool) (name : List ℕ) (entries : List TextEntry) → list_any (λ e. p e.entry) (map (named name) entries) ≡ list_any p entries
 any_named p name [] = refl
@@ -150,4 +150,4 @@ pub kept_stand : (o : MergeOptions) (inputs : List Input) (context : Option (Lis
 kept_stand o inputs context id =
     let es = all_entries inputs in
     any_kept o es context id (first_ones same_message es) (all_stay o es)
-    ∙ ap (λ (b : Bool). b && kept o es context id) (any_first o es context id ∙ any_input (is_of context id) inputs)
+    ∙ ap (λ (b : Bool). b && kept o es context id) (any_first o es context id ∙ any_input (is_of_message context id) inputs)

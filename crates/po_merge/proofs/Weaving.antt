@@ -16,7 +16,7 @@ use Rattle.po_merge.specs.Groups.{with_new, first_ones, same_message, groups, de
 use Rattle.po_merge.specs.MergedEntry.{merged_entry}
 use Rattle.po_merge.specs.Merged.{is_kept, merged_messages}
 use Rattle.po_merge.specs.MergeLaws.{keep_all}
-use Rattle.po_merge.specs.Woven.{Stretched, spread, alone, lasts, unnamed, woven}
+use Rattle.po_merge.specs.Woven.{Segment, spread, alone, lasts, unnamed, woven}
 use Rattle.po_merge.proofs.FirstOnes.{Apart, group_of, or_true, or_false, or_parts, any_alike, any_first_ones, none_alike}
 use Rattle.po_merge.proofs.GroupsMerged.{some_passes, any_same}
 use Rattle.po_merge.proofs.Messages.{same_message_laws}
@@ -160,7 +160,7 @@ module _ (use_first : Bool) (number : TextEntry → ℕ) (congr : (a b : TextEnt
 
     module _ (fits : (f s : NamedEntry) → shared f ≡ true → shared s ≡ true → (number (joined ss f) == number s.entry) ≡ same_message f s)
         (same_joined : (s : NamedEntry) → shared s ≡ true → joined es s ≡ joined ss s) where
-      passed : (t : Stretched) (ts : List Stretched) (rest done xs : List NamedEntry) → list_any (same_message t.1) done ≡ true → shared t.1 ≡ true → All (λ s. shared s ≡ true) xs
+      passed : (t : Segment) (ts : List Segment) (rest done xs : List NamedEntry) → list_any (same_message t.1) done ≡ true → shared t.1 ≡ true → All (λ s. shared s ≡ true) xs
           → woven number (t ∷ ts) (map (joined ss) (firsts_after done xs)) rest ≡ unnamed t.0 ++ woven number ts (map (joined ss) (firsts_after done xs)) rest
       passed t ts rest done [] met among all = refl
       passed t ts rest done (x ∷ xs) met among all = found (list_any (same_message x) done) refl (passed t ts rest done xs met among (All-tail (λ s. shared s ≡ true) x xs all)) where
@@ -179,7 +179,7 @@ module _ (use_first : Bool) (number : TextEntry → ℕ) (congr : (a b : TextEnt
             let ms = map (joined ss) (firsts_after (done ++ x ∷ []) xs) in
             ap (λ (b : Bool). unnamed t.0 ++ (if b then joined ss x ∷ woven number ts ms rest else woven number ts (joined ss x ∷ ms) rest)) (differ e)
 
-      record Walks (ts : List Stretched) (rest done_all done : List NamedEntry) : Type 0 where
+      record Walks (ts : List Segment) (rest done_all done : List NamedEntry) : Type 0 where
         same_done : (s : NamedEntry) → shared s ≡ true → list_any (same_message s) done_all ≡ list_any (same_message s) done
         are_new : All (λ d. list_any (same_message d) done_all ≡ false) (alone ts rest)
         apart : Apart same_message (alone ts rest)
@@ -187,7 +187,7 @@ module _ (use_first : Bool) (number : TextEntry → ℕ) (congr : (a b : TextEnt
         not_shared : All (λ d. shared d ≡ false) (alone ts rest)
         are_shared : All (λ s. shared s ≡ true) (lasts ts)
 
-      walk : (ts : List Stretched) (rest done_all done : List NamedEntry) → Walks ts rest done_all done
+      walk : (ts : List Segment) (rest done_all done : List NamedEntry) → Walks ts rest done_all done
           → map (joined es) (firsts_after done_all (spread ts rest)) ≡ woven number ts (map (joined ss) (firsts_after done (lasts ts))) rest
       walk [] rest done_all done h =
           ap (map (joined es)) (ap (firsts_after done_all) (sym (append-nil rest)) ∙ run done_all rest [] h.are_new h.apart ∙ append-nil rest)
@@ -262,7 +262,7 @@ module _ (use_first : Bool) (number : TextEntry → ℕ) (congr : (a b : TextEnt
                 ∙ sym (ap (λ (b : Bool). unnamed ds ++ (if b then joined ss s ∷ woven number ts ms rest else woven number ts (joined ss s ∷ ms) rest)) (fits s s among among ∙ same_message_laws.refl s))
                 ∙ sym (ap (λ (b : Bool). woven number (t ∷ ts) (map (joined ss) (if b then firsts_after done (lasts ts) else s ∷ firsts_after (done ++ s ∷ []) (lasts ts))) rest) e)
 
-  group_alone : (ts : List Stretched) (rest : List NamedEntry) (d : NamedEntry) → All (λ s. same_message s d ≡ false) (lasts ts) → group_of same_message (spread ts rest) d ≡ group_of same_message (alone ts rest) d
+  group_alone : (ts : List Segment) (rest : List NamedEntry) (d : NamedEntry) → All (λ s. same_message s d ≡ false) (lasts ts) → group_of same_message (spread ts rest) d ≡ group_of same_message (alone ts rest) d
   group_alone [] rest d h = refl
   group_alone (t ∷ ts) rest d h =
       filter-append (λ x. same_message x d) t.0 (t.1 ∷ spread ts rest)
@@ -271,7 +271,7 @@ module _ (use_first : Bool) (number : TextEntry → ℕ) (congr : (a b : TextEnt
       ∙ group_alone ts rest d (All-tail (λ s. same_message s d ≡ false) t.1 (lasts ts) h))
       ∙ sym (filter-append (λ x. same_message x d) t.0 (alone ts rest))
 
-  group_lasts : (ts : List Stretched) (rest : List NamedEntry) (s : NamedEntry) → All (λ d. same_message d s ≡ false) (alone ts rest) → group_of same_message (spread ts rest) s ≡ group_of same_message (lasts ts) s
+  group_lasts : (ts : List Segment) (rest : List NamedEntry) (s : NamedEntry) → All (λ d. same_message d s ≡ false) (alone ts rest) → group_of same_message (spread ts rest) s ≡ group_of same_message (lasts ts) s
   group_lasts [] rest s h = none_pass (λ x. same_message x s) rest h
   group_lasts (t ∷ ts) rest s h =
       filter-append (λ x. same_message x s) t.0 (t.1 ∷ spread ts rest)
@@ -293,7 +293,7 @@ module _ (use_first : Bool) (number : TextEntry → ℕ) (congr : (a b : TextEnt
         (congr d.entry (get_or ds k x).entry (same_is d (get_or ds k x) e) ∙ sym (get_or-map number_in ds k x (number_in x) below)))
     differ k x below false e = refl
 
-  module _ (ts : List Stretched) (rest : List NamedEntry)
+  module _ (ts : List Segment) (rest : List NamedEntry)
       (distinct : AllPairs (λ a b. a ≢ b) (map number_in (alone ts rest) ++ map number (merged_messages o (map definitions (groups (lasts ts)))))) where
     abbrev ss : List NamedEntry
     ss = lasts ts
@@ -403,7 +403,7 @@ module _ (use_first : Bool) (number : TextEntry → ℕ) (congr : (a b : TextEnt
         })
         ∙ sym (ap (λ (l : List TextEntry). woven number ts l rest) (all_joined ss ∙ ap (map (joined ss)) (fold_after [] ss)))
 
-pub woven_all : (P : TextEntry → Type 0) (number : TextEntry → ℕ) (ts : List Stretched) (merged : List TextEntry) (rest : List NamedEntry) → All (λ d. P d.entry) (alone ts rest) → All P merged → All P (woven number ts merged rest)
+pub woven_all : (P : TextEntry → Type 0) (number : TextEntry → ℕ) (ts : List Segment) (merged : List TextEntry) (rest : List NamedEntry) → All (λ d. P d.entry) (alone ts rest) → All P merged → All P (woven number ts merged rest)
 woven_all P number [] merged rest ones h = All-map P (λ (d : NamedEntry). d.entry) rest ones
 woven_all P number (t ∷ ts) [] rest ones h =
     All-append P (unnamed t.0) (woven number ts [] rest) (All-map P (λ (d : NamedEntry). d.entry) t.0 (All-left (λ d. P d.entry) t.0 (alone ts rest) ones))

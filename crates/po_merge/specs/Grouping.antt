@@ -7,8 +7,7 @@ use Rattle.std.specs.Cmp.Lexicographic.{slice_cmp}
 use Rattle.std.specs.Borrow.{Bor}
 use Rattle.std.specs.Global.{Vec}
 use Rattle.std.specs.BTreeMap.{get}
-use Rattle.std.specs.Hash.FoldHasher.{initial, write, finish}
-use Rattle.std.specs.declared.hash.FoldHasher.{FoldHasher}
+use Rattle.po_catalog.specs.Digest.{message_digest}
 use Rattle.po_entry.specs.Bytes.{Lacks}
 use Rattle.po_entry.specs.Validity.{IsEntry}
 use Rattle.po_merge.specs.declared.definition.Definition.{Definition}
@@ -40,27 +39,18 @@ is_message_of m e = option_eq bytes_eq (option_copied m.0) e.entry.context && by
 abbrev pub message_cmp : Message → Message → Ordering
 message_cmp a b = ordering_then (option_cmp (λ x y. slice_cmp nat_cmp x.now y.now) a.0 b.0) (slice_cmp nat_cmp a.1.now b.1.now)
 
--- the hasher after a context, where there is one
-abbrev pub with_context : Option (List ℕ) → FoldHasher → FoldHasher
-with_context None hasher = hasher
-with_context (Some context) hasher = write hasher context
-
--- what the hasher computes of a msgid and a context
-abbrev pub digest : Option (List ℕ) → List ℕ → ℕ
-digest context id = finish (with_context context (write initial id))
-
--- a message after its digest
+-- the digest of a message, and then the message
 abbrev pub Key : Type 0
 Key = ℕ × Option (Bor (List ℕ)) × Bor (List ℕ)
 
 abbrev pub key_of : Message → Key
-key_of m = (digest (option_copied m.0) m.1.now, m.0, m.1)
+key_of m = (message_digest (option_copied m.0) m.1.now, m.0, m.1)
 
--- the order of keys: digests differ where messages do, but for very few
+-- the order of keys: by the digests, and by the messages where the digests are the same
 abbrev pub key_cmp : Key → Key → Ordering
 key_cmp a b = ordering_then (ordering_then (nat_cmp a.0 b.0) (option_cmp (λ x y. slice_cmp nat_cmp x.now y.now) a.1 b.1)) (slice_cmp nat_cmp a.2.now b.2.now)
 
--- where the first element that passes the test stands
+-- the index of the first element that passes the test
 abbrev pub index : {X : Type 0} → (X → Bool) → List X → Option ℕ
 index test [] = None
 index test (x ∷ xs) = cond (test x) (Some 0) (option_map suc (index test xs))

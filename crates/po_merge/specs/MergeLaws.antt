@@ -1,12 +1,11 @@
 -- What is promised of merging beyond its definition (manual, "Invoking the msgcat Program").
-use Rattle.std.specs.Prelude.{◌≡◌, ℕ, ◌<◌, Bool, false, ◌&&◌, List, [], ◌∷◌, map, filter, length, All, Contains, Option, None, bytes_eq}
+use Rattle.std.specs.Prelude.{◌≡◌, ℕ, ◌<◌, Bool, false, ◌&&◌, List, [], ◌∷◌, map, filter, length, All, Contains, Option, None}
 use Rattle.std.specs.List.{list_any}
-use Rattle.std.specs.Option.{option_eq}
 use Rattle.po_entry.specs.TextEntry.{TextEntry}
 use Rattle.po_entry.specs.Header.{HasAdmittedCharset}
 use Rattle.po_syntax.specs.ItemContents.{IsText}
 use Rattle.po_entry.specs.Validity.{IsEntry, IsCatalogueEntry}
-use Rattle.po_catalog.specs.Duplicate.{AllDiffer}
+use Rattle.po_catalog.specs.Duplicate.{AllDiffer, is_of_message}
 use Rattle.po_merge.specs.declared.input.MergeOptions.{MergeOptions}
 use Rattle.po_merge.specs.Inputs.{Input, NamedEntry, all_entries}
 use Rattle.po_merge.specs.Groups.{definitions}
@@ -22,7 +21,7 @@ pub record IsInput (input : Input) : Type 0 where
   pub name : IsText input.name
   pub entries : All IsCatalogueEntry input.entries
 
--- what valid inputs are merged to are entries
+-- valid inputs are merged to valid entries
 abbrev pub MergedAreEntries : MergeOptions → List Input → Type 0
 MergedAreEntries o inputs = All IsInput inputs → All IsEntry (merged o inputs)
 
@@ -31,23 +30,19 @@ abbrev pub MergedCanStand : MergeOptions → List Input → Type 0
 MergedCanStand o inputs =
     All IsInput inputs → All HasAdmittedCharset (merged o inputs) → All IsCatalogueEntry (merged o inputs)
 
--- the entry is of the message with this context and msgid
-abbrev pub is_of : Option (List ℕ) → List ℕ → TextEntry → Bool
-is_of context id entry = option_eq bytes_eq entry.context context && bytes_eq entry.id id
-
 -- one of the entries is of this message
 abbrev pub has_message : Option (List ℕ) → List ℕ → List TextEntry → Bool
-has_message context id entries = list_any (is_of context id) entries
+has_message context id entries = list_any (is_of_message context id) entries
 
 -- what defines this message in all inputs
 abbrev pub definitions_of : Option (List ℕ) → List ℕ → List Input → List NamedEntry
-definitions_of context id inputs = definitions (filter (λ e. is_of context id e.entry) (all_entries inputs))
+definitions_of context id inputs = definitions (filter (λ e. is_of_message context id e.entry) (all_entries inputs))
 
 -- no two merged entries are of one message
 abbrev pub MessagesStandOnce : MergeOptions → List Input → Type 0
 MessagesStandOnce o inputs = AllDiffer (merged o inputs)
 
--- a message is among the merged entries exactly where an input has it, and what defines it is kept
+-- a message is among the merged entries exactly if an input has it and its definitions are kept
 abbrev pub KeptMessagesStand : MergeOptions → List Input → Option (List ℕ) → List ℕ → Type 0
 KeptMessagesStand o inputs context id =
     has_message context id (merged o inputs)
@@ -65,7 +60,7 @@ OneInputStays use_first input = AllDiffer input.entries → merged (keep_all use
 abbrev pub renamed : List ℕ → Input → Input
 renamed name input = record { name = name; entries = input.entries }
 
--- and so it is together with itself, under whatever name
+-- and so it is together with a second input of the same entries, under whatever name
 abbrev pub WithItself : Bool → Input → List ℕ → Type 0
 WithItself use_first input name =
     AllDiffer input.entries → merged (keep_all use_first) (input ∷ renamed name input ∷ []) ≡ input.entries

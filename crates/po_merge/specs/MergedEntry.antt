@@ -37,11 +37,11 @@ texts_of Extracted e = e.extracted
 texts_of Reference e = e.references
 texts_of Flags e = e.flags
 
--- the texts, and of those of one more definition the ones that aren't among them
+-- the texts so far, and those of one more definition that aren't among them
 abbrev pub with_others : List (List ℕ) → List (List ℕ) → List (List ℕ)
 with_others done texts = done ++ filter (λ t. not (list_any (bytes_eq t) done)) texts
 
--- the texts of the definitions, each time without those of earlier ones
+-- the texts of the definitions: of each those that no earlier one has
 abbrev pub collected : (TextEntry → List (List ℕ)) → List NamedEntry → List (List ℕ)
 collected texts_of ds = fold (λ done d. with_others done (texts_of d.entry)) [] ds
 
@@ -59,7 +59,7 @@ translations ds = first_ones same_forms (filter (λ d. has_translation d.entry) 
 abbrev pub is_joined : MergeOptions → List NamedEntry → Bool
 is_joined o ds = not o.use_first && nat_lt 1 (length (translations ds))
 
--- the form, with a LF at its end
+-- the form, and a LF if it doesn't end with one
 abbrev pub ended : List ℕ → List ℕ
 ended form = if ends_with nat_eq form (10 ∷ []) then form else form ++ 10 ∷ []
 
@@ -67,7 +67,7 @@ ended form = if ends_with nat_eq form (10 ∷ []) then form else form ++ 10 ∷ 
 abbrev pub marked : List ℕ → List ℕ → List ℕ
 marked name form = codes "#-#-#-#-#  " ++ name ++ codes "  #-#-#-#-#\n" ++ ended form
 
--- the forms of one index of the translations that have such a form
+-- the forms of this index, joined, of the translations that have such a form
 abbrev pub joined_form : List NamedEntry → ℕ → List ℕ
 joined_form ts i = flat_map (λ t. option_map_or (marked t.name) (slice_get t.entry.forms i) []) ts
 

@@ -1,4 +1,4 @@
--- Internal: the parts of a merged entry that are those of the first definition that has some.
+-- Internal: the parts that a merged entry takes from the first definition that has them.
 use Rattle.std.specs.Prelude.{Bool}
 use Rattle.po_entry.specs.TextEntry.{TextEntry}
 use Rattle.po_catalog.specs.Statistics.{has_translation}

@@ -24,7 +24,7 @@ fn texts_of(entry: &Entry, kind: CommentKind) -> &[Vec<u8>]
     }
 }
 
-/// Appends the texts that aren't among these.
+/// Appends those of the texts that weren't seen.
 fn push_others<'a>(
     alloc: Global,
     done: &mut Vec<Vec<u8>>,
@@ -42,7 +42,7 @@ fn push_others<'a>(
     Ok(())
 }
 
-/// Adds texts to a set of them.
+/// Adds texts to those that were seen.
 fn add_seen<'a>(seen: &mut BTreeSet<&'a [u8]>, others: &'a [Vec<u8>]) -> Result<(), AllocError>
     ensures { (done : List (List ℕ)) → HoldsTexts seen.old done
         → OnOk result (HoldsTexts seen.new (done ++ texts others.now)) }
@@ -53,7 +53,7 @@ fn add_seen<'a>(seen: &mut BTreeSet<&'a [u8]>, others: &'a [Vec<u8>]) -> Result<
     Ok(())
 }
 
-/// The texts of one kind of the definitions, each time without those of earlier definitions.
+/// The texts of one kind of the definitions: of each those that no earlier definition has.
 fn collected(
     alloc: Global,
     definitions: &[Definition<'_>],

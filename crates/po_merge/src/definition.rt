@@ -8,7 +8,7 @@ ghost use Rattle.po_merge.specs.MergedEntry.{first_with};
 ghost use Rattle.po_merge.specs.Parts.{has_part};
 
 use crate::input::MergeOptions;
-use po_catalog::{Entry, Previous, has_translation};
+use po_catalog::{Entry, Previous, has_translation, is_live};
 use std::alloc::{AllocError, Global};
 
 /// An entry of one of several inputs, with that input's name.
@@ -20,13 +20,6 @@ pub(crate) struct Definition<'a> {
     pub(crate) entry: &'a Entry,
 }
 
-/// Whether the entry isn't obsolete.
-fn is_live(entry: &Entry) -> bool
-    ensures { result ≡ is_live entry.now }
-{
-    !entry.obsolete()
-}
-
 /// Whether one of the entries is live.
 pub(crate) fn has_live(group: &[Definition<'_>]) -> bool
     ensures { result ≡ list_any (λ d. is_live d.entry.now) group.now }
@@ -34,7 +27,7 @@ pub(crate) fn has_live(group: &[Definition<'_>]) -> bool
     group.iter().any(|definition| is_live(definition.entry))
 }
 
-/// The live ones of some entries.
+/// The live entries of a group.
 pub(crate) fn live<'a>(
     alloc: Global,
     group: &[Definition<'a>],

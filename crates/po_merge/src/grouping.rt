@@ -1,34 +1,21 @@
-ghost use Rattle.std.specs.Prelude.{◌≡◌, ◌++◌, ◌∷◌, ℕ, List, [], All, IfOk, IsUtf8, OnOk, map, option_copied};
+ghost use Rattle.std.specs.Prelude.{◌≡◌, ◌++◌, ◌∷◌, ℕ, List, [], All, IfOk, IsUtf8, OnOk, map};
 ghost use Rattle.po_entry.specs.Bytes.{Lacks};
-ghost use Rattle.po_merge.specs.Grouping.{IsGrouped, IsDefinition, digest, group_entries};
+ghost use Rattle.po_merge.specs.Grouping.{IsGrouped, IsDefinition, group_entries};
 ghost use Rattle.po_merge.specs.Groups.{groups};
 ghost use Rattle.po_merge.specs.Inputs.{NamedEntry, named, all_entries};
 ghost use Rattle.po_merge.specs.InputsView.{inputs_view, named_entry};
 
 use crate::definition::Definition;
 use crate::input::Named;
-use po_catalog::Entry;
+use po_catalog::{Entry, digest};
 use std::alloc::{AllocError, Global};
 use std::collections::BTreeMap;
-use std::hash::{FoldHasher, Hasher};
 
 /// The digest of a message, and its context and msgid.
 type Key<'a> = (u64, Option<&'a [u8]>, &'a [u8]);
 
-/// The digest of a message.
-fn digest(context: Option<&[u8]>, id: &[u8]) -> u64
-    ensures { result ≡ digest (option_copied context.entry) id.now }
-{
-    let mut hasher = FoldHasher::default();
-    hasher.write(id);
-    if let Some(context) = context {
-        hasher.write(context);
-    }
-    hasher.finish()
-}
-
-/// Entries, grouped by their messages. The groups are found by comparing, first the digests and
-/// then the messages themselves, so that no choice of msgids makes them slow.
+/// Entries, grouped by their messages. A group is found by comparing, first the digests and then
+/// the messages themselves, so that no choice of msgids makes this slow.
 #[derive(Drop)]
 pub(crate) struct Groups<'a> {
     /// The index of each message's group.
@@ -56,7 +43,7 @@ impl<'a> Groups<'a> {
     {
         let context = definition.entry.context();
         let id = definition.entry.id();
-        let key = (digest(context, id), context, id);
+        let key = (digest(definition.entry), context, id);
         if let Some(index) = self.indices.get(&key).copied() {
             self.groups[index].push(definition)?;
             return Ok(());

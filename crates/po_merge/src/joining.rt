@@ -41,7 +41,7 @@ fn form_count(translations: &[Definition<'_>]) -> usize
     count
 }
 
-/// Appends a form, with a LF at its end.
+/// Appends a form, and a LF if it doesn't end with one.
 fn push_ended(joined: &mut Vec<u8>, form: &[u8]) -> Result<(), AllocError>
     ensures { OnOk result (joined.new.items ≡ joined.old.items ++ ended form.now) }
 {
@@ -52,7 +52,8 @@ fn push_ended(joined: &mut Vec<u8>, form: &[u8]) -> Result<(), AllocError>
     joined.extend_from_slice(b"\n")
 }
 
-/// Appends a form, with a LF at its end, after a line that names its input.
+/// Appends a line that names the input of a form, then the form, and a LF if it doesn't end with
+/// one.
 fn push_marked(joined: &mut Vec<u8>, name: &str, form: &[u8]) -> Result<(), AllocError>
     ensures { OnOk result (joined.new.items ≡ joined.old.items ++ marked name.now form.now) }
 {
@@ -63,7 +64,7 @@ fn push_marked(joined: &mut Vec<u8>, name: &str, form: &[u8]) -> Result<(), Allo
     Ok(())
 }
 
-/// The forms of one index of the translations that have such a form.
+/// The forms of this index, joined, of the translations that have such a form.
 fn joined_form(
     alloc: Global,
     translations: &[Definition<'_>],
