@@ -4,7 +4,7 @@ use Rattle.std.specs.List.{AllZip, list_any}
 use Rattle.std.proofs.lemmas.List.{map-append}
 use Rattle.std.proofs.lemmas.List.Elements.{All-nil, All-append, All-filter}
 use Rattle.mo_file.specs.Layout.{layout}
-use Rattle.mo_file.specs.Laws.{LayoutIsCatalog}
+use Rattle.mo_file.specs.Laws.{LayoutIsMoFile}
 use Rattle.po_entry.specs.TextEntry.{TextEntry}
 use Rattle.po_entry.specs.ReadsText.{ReadsText}
 use Rattle.po_entry.specs.Validity.{IsCatalogueEntry}
@@ -37,7 +37,7 @@ joined_valid stand input headed (text ∷ texts) (entries ∷ catalogues) each =
     subst (All IsCatalogueEntry) (sym list)
     (All-append IsCatalogueEntry kept (entries_of rest) (kept_valid headed entries (stand text entries each.0.reads)) (joined_valid stand (input + 1) headed' texts catalogues each.1))
 
-pub look_up_means : EntriesCanStand → LayoutIsCatalog → MessagesMeanEntries → MessagesAreOne → LookUpMeansEntries
+pub look_up_means : EntriesCanStand → LayoutIsMoFile → MessagesMeanEntries → MessagesAreOne → LookUpMeansEntries
 look_up_means stand valid_layout mean one options texts catalogues messages accepted are =
     let entries = compiled_list options.use_fuzzy (joined_entries catalogues) in
     let same = one entries accepted.layout.messages messages accepted.layout.are_messages are in (

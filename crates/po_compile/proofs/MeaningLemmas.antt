@@ -10,17 +10,18 @@ use Rattle.std.proofs.lemmas.Bool.Decides.{Decides-eqb, Decides-and, Decides-lik
 use Rattle.mo_file.specs.Message.{Message}
 use Rattle.mo_file.specs.Key.{key_of, query_key}
 use Rattle.mo_lookup.specs.Answer.{form_at, answer}
-use Rattle.mo_lookup.specs.Query.{Query, is_clean_key, is_clean, is_separator}
-use Rattle.mo_lookup.specs.Contents.{translation_under, forms, header_text}
+use Rattle.mo_lookup.specs.Query.{Query, can_be_key, has_no_separator, is_separator}
+use Rattle.mo_lookup.specs.CatalogView.{translation_under, forms, header_text}
 use Rattle.plural_rule.specs.PluralRule.{IsRuleOf, expression_limit}
 use Rattle.po_entry.specs.TextEntry.{TextEntry, quoted_texts, previous_texts}
 use Rattle.po_entry.specs.Bytes.{Lacks}
 use Rattle.po_entry.specs.Halves.{All-left, All-right}
 use Rattle.po_entry.specs.Header.{first_form}
 use Rattle.po_entry.specs.Validity.{IsEntry}
+use Rattle.po_catalog.specs.Duplicate.{is_of_message}
 use Rattle.po_syntax.specs.ItemContents.{IsText}
 use Rattle.po_compile.specs.CompiledMessages.{original_of, translation_of, message_of, messages_of_entries, AreMessagesOf}
-use Rattle.po_compile.specs.Meaning.{is_message, header_of}
+use Rattle.po_compile.specs.Meaning.{header_of}
 use Rattle.po_compile.specs.Headline.{MessagesMeanEntries}
 use Rattle.po_compile.proofs.TextLemmas.{key_of-plural_part, query_key_lacks, query_key_is_one, slice_split-join}
 use Rattle.po_compile.proofs.FindLemmas.{find_permuted, find_found, has_key}
@@ -60,15 +61,15 @@ entry_lacks_separators entry valid =
     }
 
 pub key_of-original : (entry : TextEntry) → LacksSeparators entry → key_of (original_of entry) ≡ query_key entry.context entry.id
-key_of-original entry clean =
-    key_of-plural_part (query_key entry.context entry.id) entry.plural (query_key_lacks entry.context entry.id clean.context_nul clean.id_nul)
+key_of-original entry lacks =
+    key_of-plural_part (query_key entry.context entry.id) entry.plural (query_key_lacks entry.context entry.id lacks.context_nul lacks.id_nul)
 
 some_forms : (all : List (List ℕ)) → 0 < length all → All (Lacks 0) all → forms (join_with_byte 0 all) ≡ all
 some_forms [] some lacks = absurd (omega arith)
 some_forms (form ∷ others) some lacks = slice_split-join form others lacks
 
 pub forms-translation : (entry : TextEntry) → LacksSeparators entry → forms (translation_of entry) ≡ entry.forms
-forms-translation entry clean = some_forms entry.forms clean.some_form clean.forms_nul
+forms-translation entry lacks = some_forms entry.forms lacks.some_form lacks.forms_nul
 
 either_false : (a b : Bool) → (a || b) ≡ false → (a ≡ false) × (b ≡ false)
 either_false true b h = cc
@@ -86,16 +87,16 @@ not_true : (b : Bool) → not b ≡ true → b ≡ false
 not_true true h = cc
 not_true false h = refl
 
-clean_text : (text : List ℕ) → is_clean text ≡ true → Lacks 4 text
-clean_text text h = separators text (not_true (list_any is_separator text) h)
+text_lacks_eot : (text : List ℕ) → has_no_separator text ≡ true → Lacks 4 text
+text_lacks_eot text h = separators text (not_true (list_any is_separator text) h)
 
 both : (a b : Bool) → (a && b) ≡ true → (a ≡ true) × (b ≡ true)
 both true b h = (refl, h)
 both false b h = cc
 
-clean_context : (context : Option (List ℕ)) → is_clean (unwrap_or context []) ≡ true → IfSome context (Lacks 4)
-clean_context None h = tt
-clean_context (Some context) h = clean_text context h
+context_lacks_eot : (context : Option (List ℕ)) → has_no_separator (unwrap_or context []) ≡ true → IfSome context (Lacks 4)
+context_lacks_eot None h = tt
+context_lacks_eot (Some context) h = text_lacks_eot context h
 
 option_decides : (a b : Option (List ℕ)) → Decides (option_eq bytes_eq a b) (a ≡ b)
 option_decides None None = (λ _. refl, λ _. refl)
@@ -103,42 +104,41 @@ option_decides None (Some y) = (λ h. cc, λ h. cc)
 option_decides (Some x) None = (λ h. cc, λ h. cc)
 option_decides (Some x) (Some y) = Decides-like (bytes_eq x y) (λ e. ap Some e) (λ e. cc) (bytes_eq-Decides x y)
 
--- the message of an entry stands under a clean key exactly where the entry has its context and
--- msgid
-same_test : (context : Option (List ℕ)) (id : List ℕ) → is_clean_key context id ≡ true → (entry : TextEntry) → LacksSeparators entry
-    → has_key (query_key context id) (message_of entry) ≡ is_message context id entry
-same_test context id clean entry c =
-    let parts = both (is_clean (unwrap_or context [])) (is_clean id) clean in
+-- the message of an entry stands under a key exactly where the entry has its context and msgid
+same_test : (context : Option (List ℕ)) (id : List ℕ) → can_be_key context id ≡ true → (entry : TextEntry) → LacksSeparators entry
+    → has_key (query_key context id) (message_of entry) ≡ is_of_message context id entry
+same_test context id can_be entry c =
+    let parts = both (has_no_separator (unwrap_or context [])) (has_no_separator id) can_be in
     let key = key_of-original entry c in
-    one_answer (has_key (query_key context id) (message_of entry)) (is_message context id entry)
+    one_answer (has_key (query_key context id) (message_of entry)) (is_of_message context id entry)
     (bytes_eq-Decides (key_of (original_of entry)) (query_key context id))
-    (Decides-like (is_message context id entry)
+    (Decides-like (is_of_message context id entry)
     (λ e. key ∙ ap (λ c. query_key c entry.id) e.0 ∙ ap (query_key context) e.1)
-    (λ e. query_key_is_one entry.context context entry.id id c.context_eot (clean_context context parts.0) c.id_eot (clean_text id parts.1) (sym key ∙ e))
+    (λ e. query_key_is_one entry.context context entry.id id c.context_eot (context_lacks_eot context parts.0) c.id_eot (text_lacks_eot id parts.1) (sym key ∙ e))
     (Decides-and (option_eq bytes_eq entry.context context) (bytes_eq entry.id id) (option_decides entry.context context) (bytes_eq-Decides entry.id id)))
 
 found_message : (b : Bool) (entry : TextEntry) (rest : Option TextEntry) → cond b (Some (message_of entry)) (option_map message_of rest) ≡ option_map message_of (cond b (Some entry) rest)
 found_message true entry rest = refl
 found_message false entry rest = refl
 
-find_messages : (context : Option (List ℕ)) (id : List ℕ) → is_clean_key context id ≡ true → (entries : List TextEntry) → All LacksSeparators entries
-    → find (has_key (query_key context id)) (messages_of_entries entries) ≡ option_map message_of (find (is_message context id) entries)
-find_messages context id clean [] all = refl
-find_messages context id clean (entry ∷ entries) all =
-    let same = same_test context id clean entry (All-head LacksSeparators entry entries all) in
-    let rest = find_messages context id clean entries (All-tail LacksSeparators entry entries all) in
+find_messages : (context : Option (List ℕ)) (id : List ℕ) → can_be_key context id ≡ true → (entries : List TextEntry) → All LacksSeparators entries
+    → find (has_key (query_key context id)) (messages_of_entries entries) ≡ option_map message_of (find (is_of_message context id) entries)
+find_messages context id can_be [] all = refl
+find_messages context id can_be (entry ∷ entries) all =
+    let same = same_test context id can_be entry (All-head LacksSeparators entry entries all) in
+    let rest = find_messages context id can_be entries (All-tail LacksSeparators entry entries all) in
     ap (λ b. cond b (Some (message_of entry)) (find (has_key (query_key context id)) (messages_of_entries entries))) same
-    ∙ ap (λ r. cond (is_message context id entry) (Some (message_of entry)) r) rest
-    ∙ found_message (is_message context id entry) entry (find (is_message context id) entries)
+    ∙ ap (λ r. cond (is_of_message context id entry) (Some (message_of entry)) r) rest
+    ∙ found_message (is_of_message context id entry) entry (find (is_of_message context id) entries)
 
--- the translation under a clean key is that of the entry that the key defines
+-- the translation under a key is that of the entry that the key defines
 translation_of_definition : (entries : List TextEntry) (messages : List Message) → All LacksSeparators entries → AreMessagesOf entries messages
-    → (context : Option (List ℕ)) (id : List ℕ) → is_clean_key context id ≡ true
-    → translation_under (query_key context id) messages ≡ option_map translation_of (find (is_message context id) entries)
-translation_of_definition entries messages all are context id clean =
+    → (context : Option (List ℕ)) (id : List ℕ) → can_be_key context id ≡ true
+    → translation_under (query_key context id) messages ≡ option_map translation_of (find (is_of_message context id) entries)
+translation_of_definition entries messages all are context id can_be =
     ap (option_map (λ (m : Message). m.translation))
-    (find_permuted (query_key context id) (messages_of_entries entries) messages are.all are.rising ∙ find_messages context id clean entries all)
-    ∙ once_more (find (is_message context id) entries)
+    (find_permuted (query_key context id) (messages_of_entries entries) messages are.all are.rising ∙ find_messages context id can_be entries all)
+    ∙ once_more (find (is_of_message context id) entries)
   where
     once_more : (e : Option TextEntry) → option_map (λ (m : Message). m.translation) (option_map message_of e) ≡ option_map translation_of e
     once_more None = refl
@@ -161,24 +161,24 @@ header_of_found entries test all None is = refl
 header_of_found entries test all (Some e) is =
     ap (λ all. form_at all 0) (forms-translation e (All-contains LacksSeparators entries e all (find_found test entries e is).among)) ∙ form_at_first e.forms
 
-found_if_clean : (entries : List TextEntry) (messages : List Message) → All LacksSeparators entries → AreMessagesOf entries messages
-    → (query : Query) (b : Bool) → is_clean_key query.context query.id ≡ b
+found_if_key : (entries : List TextEntry) (messages : List Message) → All LacksSeparators entries → AreMessagesOf entries messages
+    → (query : Query) (b : Bool) → can_be_key query.context query.id ≡ b
     → cond b (option_map forms (translation_under (query_key query.context query.id) messages)) None
-    ≡ option_map (λ (e : TextEntry). e.forms) (cond b (find (is_message query.context query.id) entries) None)
-found_if_clean entries messages all are query true clean =
-    ap (option_map forms) (translation_of_definition entries messages all are query.context query.id clean)
-    ∙ forms_of_found entries (is_message query.context query.id) all (find (is_message query.context query.id) entries) refl
-found_if_clean entries messages all are query false clean = refl
+    ≡ option_map (λ (e : TextEntry). e.forms) (cond b (find (is_of_message query.context query.id) entries) None)
+found_if_key entries messages all are query true can_be =
+    ap (option_map forms) (translation_of_definition entries messages all are query.context query.id can_be)
+    ∙ forms_of_found entries (is_of_message query.context query.id) all (find (is_of_message query.context query.id) entries) refl
+found_if_key entries messages all are query false can_be = refl
 
 header_text_is : (entries : List TextEntry) (messages : List Message) → All LacksSeparators entries → AreMessagesOf entries messages → header_text messages ≡ header_of entries
 header_text_is entries messages all are =
     ap (λ t. option_map_or (λ t. form_at (forms t) 0) t []) (translation_of_definition entries messages all are None [] refl)
-    ∙ header_of_found entries (is_message None []) all (find (is_message None []) entries) refl
+    ∙ header_of_found entries (is_of_message None []) all (find (is_of_message None []) entries) refl
 
 pub mean_entries : MessagesMeanEntries
 mean_entries entries messages valid are =
     let all : All LacksSeparators entries = All-weaker IsEntry LacksSeparators entry_lacks_separators entries valid in
     record {
-      rule = λ rule contents. subst (λ text. IsRuleOf expression_limit text rule) (header_text_is entries messages all are) contents.rule_of_header;
-      answers = λ rule query. ap (λ found. answer found rule query) (found_if_clean entries messages all are query (is_clean_key query.context query.id) refl);
+      rule = λ rule view. subst (λ text. IsRuleOf expression_limit text rule) (header_text_is entries messages all are) view.rule_of_header;
+      answers = λ rule query. ap (λ found. answer found rule query) (found_if_key entries messages all are query (can_be_key query.context query.id) refl);
     }

@@ -23,7 +23,7 @@ use Rattle.mo_file.specs.Pairs.{message, messages_of_pairs}
 use Rattle.mo_file.specs.Building.{IsBuildFault}
 use Rattle.mo_file.specs.declared.building.BuildError.{BuildError}
 use Rattle.mo_file.specs.declared.building.BuildError.TheVariants.{TooLarge as Large, NotSorted, OutOfMemory as NoMemory}
-use Rattle.po_compile.specs.Compiling.{IsLayoutFault, IsLayoutError}
+use Rattle.po_compile.specs.Compiling.{IsLayoutFault, IsReportedFault}
 use Rattle.po_catalog.specs.declared.duplicate.JoinError.{JoinError}
 use Rattle.po_compile.specs.declared.options.Options.{Options}
 use Rattle.mo_file.specs.declared.pairs.Pair.{Pair}
@@ -208,7 +208,7 @@ compiled_messages use_fuzzy entries before after valid none is permuted sorted =
 
 -- the faults of a file that isn't built of sorted messages
 pub layout_refused : (options : Options) (entries : List TextEntry) (messages : List Message) → AreMessagesOf (compiled_list options.use_fuzzy entries) messages
-    → (built : BuildError) (error : JoinError) → IsBuildFault options.order messages built → IsLayoutError built error → IsLayoutFault options entries error
+    → (built : BuildError) (error : JoinError) → IsBuildFault options.order messages built → IsReportedFault built error → IsLayoutFault options entries error
 layout_refused options entries messages are Large error fault is = inr (is, record { messages = messages; are_messages = are; large = fault })
 layout_refused options entries messages are NotSorted error fault is = absurd is
 layout_refused options entries messages are NoMemory error fault is = inl is

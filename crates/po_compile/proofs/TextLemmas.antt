@@ -50,7 +50,7 @@ no_eot_within a x y lacks e =
     let here : get_or a (length x) 0 ≡ 4 = ap (λ l. get_or l (length x) 0) e ∙ (let z : length x ≡ length x + 0 = omega arith in ap (λ n. get_or (x ++ 4 ∷ y) n 0) z ∙ get_or-append-add x (4 ∷ y) 0 0) in
     lacks (length x) 0 (omega (arith, ap length e, length-append x (4 ∷ y))) here
 
--- a clean key is that of one context and one msgid
+-- a key without separators is that of one context and one msgid
 pub query_key_is_one : (c d : Option (List ℕ)) (i j : List ℕ) → IfSome c (Lacks 4) → IfSome d (Lacks 4) → Lacks 4 i → Lacks 4 j
     → query_key c i ≡ query_key d j → (c ≡ d) × (i ≡ j)
 query_key_is_one None None i j lc ld li lj e = (refl, e)

@@ -30,7 +30,7 @@ pub record AreRead (texts : List (List ℕ)) (catalogues : List (List TextEntry)
   pub each : AllZip ReadsDistinct texts catalogues
   pub distinct : HasNoDuplicate (joined_entries catalogues)
 
--- 32 bits reach the end of the layout of the compiled entries' messages
+-- the layout of the compiled entries' messages has fewer than 2^32 bytes
 pub record HasSmallLayout (options : Options) (entries : List TextEntry) : Type 0 where
   pub messages : List Message
   pub are_messages : AreMessagesOf (compiled_list options.use_fuzzy entries) messages
@@ -41,7 +41,7 @@ pub record AreAccepted (options : Options) (texts : List (List ℕ)) (catalogues
   pub read : AreRead texts catalogues
   pub layout : HasSmallLayout options (joined_entries catalogues)
 
--- the texts are compiled: what their joined list is compiled to
+-- this is what the joined list of these texts is compiled to
 pub record AreCompiled (options : Options) (texts : List (List ℕ)) (compiled : Compiled) : Type 0 where
   pub catalogues : List (List TextEntry)
   pub read : AreRead texts catalogues

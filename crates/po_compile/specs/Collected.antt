@@ -72,7 +72,8 @@ row_view row = record {
   compiled = row.compiled;
 }
 
--- of what is collected of live entries these rows show the messages
+-- if these bytes and lengths are those of live entries, these rows are the messages of the same
+-- entries
 abbrev pub AreRowsOf : List ℕ → List Lengths → List Row → Type 0
 AreRowsOf bytes lengths rows =
     (use_fuzzy : Bool) (live : List TextEntry) → bytes ≡ flat_map message_bytes live → lengths ≡ map (lengths_of use_fuzzy) live
@@ -100,7 +101,7 @@ counts_of lengths = record {
   untranslated = count_by (λ (l : Lengths). l.untranslated) lengths;
 }
 
--- what holds of all entries that may have been collected
+-- this holds of all entries that may have been collected so
 abbrev pub OfAllCollected : Collected → (Bool → List TextEntry → Type 0) → Type 0
 OfAllCollected collected Holds = (use_fuzzy : Bool) (entries : List TextEntry) → HoldsEntries use_fuzzy entries collected → Holds use_fuzzy entries
 

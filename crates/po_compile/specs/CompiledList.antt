@@ -7,7 +7,7 @@ use Rattle.po_catalog.specs.Joined.{is_live}
 use Rattle.po_catalog.specs.Statistics.{has_translation}
 
 -- A live entry whose first form isn't empty, and that isn't fuzzy, unless fuzzy entries are asked
--- for. A header's fuzziness is ignored.
+-- for. A header's flag `fuzzy` is ignored.
 abbrev pub is_compiled : Bool → TextEntry → Bool
 is_compiled use_fuzzy entry =
     is_live entry && (has_translation entry && (use_fuzzy || not entry.fuzzy || is_header entry))

@@ -3,7 +3,7 @@
 use Rattle.std.specs.Prelude.{◌≡◌, ◌⊎◌, ◌^◌, ◌<◌, ◌≤◌, List, length}
 use Rattle.mo_file.specs.Message.{Message}
 use Rattle.mo_file.specs.Layout.{layout}
-use Rattle.mo_file.specs.Catalog.{IsCatalog}
+use Rattle.mo_file.specs.MoFile.{IsMoFile}
 use Rattle.mo_file.specs.declared.building.BuildError.{BuildError}
 use Rattle.mo_file.specs.declared.building.BuildError.TheVariants.{TooLarge as Large, NotSorted, OutOfMemory as NoMemory}
 use Rattle.po_entry.specs.TextEntry.{TextEntry}
@@ -24,12 +24,12 @@ pub record IsCompilation (options : Options) (entries : List TextEntry) (compile
   pub are_messages : AreMessagesOf (compiled_list options.use_fuzzy entries) messages
   pub bytes : compiled.bytes.items ≡ layout options.order messages
   pub small : length (layout options.order messages) < 2 ^ 32
-  pub catalog : IsCatalog options.order compiled.bytes.items messages
+  pub valid : IsMoFile options.order compiled.bytes.items messages
   pub means : MeansEntries (compiled_list options.use_fuzzy entries) messages
   pub count : compiled.n ≡ length (compiled_list options.use_fuzzy entries)
   pub stats : compiled.stats ≡ stats_of entries
 
--- 32 bits don't reach the end of the layout of the compiled entries' messages
+-- the layout of the compiled entries' messages has 2^32 bytes or more
 pub record HasLargeLayout (options : Options) (entries : List TextEntry) : Type 0 where
   pub messages : List Message
   pub are_messages : AreMessagesOf (compiled_list options.use_fuzzy entries) messages
@@ -39,14 +39,13 @@ pub record HasLargeLayout (options : Options) (entries : List TextEntry) : Type 
 abbrev pub layout_fault : JoinError
 layout_fault = record { input = 0; first_input = 0; error = record { kind = TooLarge; line = 0 } }
 
--- what is reported of a file that isn't built of messages; those that are sorted are never out of
--- order
-abbrev pub IsLayoutError : BuildError → JoinError → Type 0
-IsLayoutError Large error = error ≡ layout_fault
-IsLayoutError NotSorted error = ⊥
-IsLayoutError NoMemory error = error ≡ join_out_of_memory
+-- what is reported where no file is built of sorted messages, which are never out of order
+abbrev pub IsReportedFault : BuildError → JoinError → Type 0
+IsReportedFault Large error = error ≡ layout_fault
+IsReportedFault NotSorted error = ⊥
+IsReportedFault NoMemory error = error ≡ join_out_of_memory
 
--- why entries of which no two live ones are of one message aren't compiled: their layout, or out of
--- memory
+-- why entries of which no two live ones are of one message aren't compiled: their layout is too
+-- large, or an allocation failed
 abbrev pub IsLayoutFault : Options → List TextEntry → JoinError → Type 0
 IsLayoutFault options entries error = (error ≡ join_out_of_memory) ⊎ ((error ≡ layout_fault) × HasLargeLayout options entries)

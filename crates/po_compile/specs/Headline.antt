@@ -2,7 +2,7 @@
 use Rattle.std.specs.Prelude.{◌≡◌, ◌≢◌, ◌⊎◌, ℕ, List, All}
 use Rattle.mo_file.specs.Message.{Message}
 use Rattle.mo_file.specs.Layout.{layout}
-use Rattle.mo_file.specs.Catalog.{IsCatalog}
+use Rattle.mo_file.specs.MoFile.{IsMoFile}
 use Rattle.po_entry.specs.TextEntry.{TextEntry}
 use Rattle.po_entry.specs.Validity.{IsEntry}
 use Rattle.po_catalog.specs.Joined.{joined_entries}
@@ -32,7 +32,7 @@ abbrev pub LookUpMeansEntries : Type 0
 LookUpMeansEntries =
     (options : Options) (texts : List (List ℕ)) (catalogues : List (List TextEntry)) (messages : List Message)
     → AreAccepted options texts catalogues → AreMessagesOf (compiled_list options.use_fuzzy (joined_entries catalogues)) messages
-    → IsCatalog options.order (layout options.order messages) messages
+    → IsMoFile options.order (layout options.order messages) messages
     × MeansEntries (compiled_list options.use_fuzzy (joined_entries catalogues)) messages
 
 -- Texts that are accepted have no fault; what may be reported in place of their file is out of

@@ -3,7 +3,7 @@ use Rattle.std.specs.Prelude.{◌≡◌, ℕ, List, [], ◌∷◌, All, slice_ge
 use Rattle.std.specs.List.{slice_split}
 use Rattle.mo_file.specs.Key.{is_nul, key_of, query_key}
 use Rattle.mo_file.specs.Message.{Message}
-use Rattle.mo_lookup.specs.Contents.{forms}
+use Rattle.mo_lookup.specs.CatalogView.{forms}
 use Rattle.po_entry.specs.TextEntry.{TextEntry}
 use Rattle.po_entry.specs.Validity.{IsEntry, IsCatalogueEntry}
 use Rattle.po_catalog.specs.Joined.{joined_entries}

@@ -8,7 +8,7 @@ use Rattle.std.specs.declared.cmp.Ordering.TheVariants.{Less}
 use Rattle.mo_file.specs.Key.{key_cmp}
 use Rattle.po_compile.specs.declared.row.Row.{Row}
 
--- how two rows are sorted: by their keys, and those of one key by their places
+-- how two rows are sorted: by their keys, and those with the same key by their places
 abbrev pub row_cmp : Row → Row → Ordering
 row_cmp a b = ordering_then (key_cmp a.key.now b.key.now) (nat_cmp a.place b.place)
 

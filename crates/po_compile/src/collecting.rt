@@ -13,7 +13,7 @@ use po_reader::{PIECE, Refusal, next_messages};
 use po_syntax::Pieces;
 use std::alloc::{AllocError, Global};
 
-/// How many bytes of a text an entry usually takes, or more.
+/// How many bytes an entry usually has in a text, at least.
 const USUAL_LEN: usize = 128;
 
 /// How long the parts of a live entry's message are, in bytes, and how the entry counts.
@@ -129,7 +129,7 @@ fn add_messages(
 }
 
 /// Collects the messages of the live entries of a text, piece by piece. Comments and references
-/// aren't read, and what else an entry holds is let go before the next piece is read.
+/// aren't read, and what else an entry holds is dropped before the next piece is read.
 pub(crate) fn collect(alloc: Global, text: &[u8], use_fuzzy: bool) -> Result<Collected, Refusal>
     ensures found { IfOk result (ReadsLive use_fuzzy text.now) }
     ensures fault { IfErr result (IsTextRefusal text.now) }

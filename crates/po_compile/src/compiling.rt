@@ -4,7 +4,7 @@ ghost use Rattle.po_catalog.specs.Joined.{joined_entries};
 ghost use Rattle.po_catalog.specs.Duplicate.{HasNoDuplicate, IsDuplicateFaultOf};
 ghost use Rattle.po_compile.specs.Collected.{HoldsEntries, IsLargeText, ReadsLive};
 ghost use Rattle.po_compile.specs.Accepted.{AreCompiled, IsCompileFault, fault_of_only_input};
-ghost use Rattle.po_compile.specs.Compiling.{IsCompilation, IsLayoutFault, IsLayoutError};
+ghost use Rattle.po_compile.specs.Compiling.{IsCompilation, IsLayoutFault, IsReportedFault};
 
 use crate::collecting::{Collected, collect};
 use crate::laws::messages_mean_entries;
@@ -12,7 +12,7 @@ use crate::messages::{messages_of, sort_messages};
 use crate::options::{Compiled, Options};
 use crate::reading::{read_all, read_whole_distinct};
 use crate::sorting::{sorted_pairs, statistics_of};
-use mo_file::{BuildError, build, build_sorted, layout_is_catalog};
+use mo_file::{BuildError, build, build_sorted, layout_is_mo_file};
 use po_catalog::{JoinError, entry_statistics, into_joined};
 use po_entry::Catalogue;
 use po_reader::Refusal;
@@ -24,7 +24,7 @@ use std::alloc::Global;
 ///
 /// Refused, input by input, with the fault of `read`, then of `duplicates`; then with that of
 /// `joined_duplicates`; then with `TooLarge`, at line 0 of input 0, where the file would have more
-/// than 4,294,967,295 bytes. `OutOfMemory`, at line 0 of input 0, may come in place of any answer.
+/// than 4,294,967,295 bytes. `OutOfMemory`, at line 0 of input 0, may come in place of any result.
 pub fn compile_all(alloc: Global, texts: &[&[u8]], options: Options) -> Result<Compiled, JoinError>
     requires { length texts.now < 2 ^ 32 }
     ensures { MatchResult result (AreCompiled options (slice_texts texts.now))
@@ -55,7 +55,7 @@ fn fault_of_only_input(error: PoError) -> JoinError
 
 /// Compiles a PO text to an MO file, as `compile_all` does where it is the only one. Refused with
 /// the fault of `read`, then of `duplicates`; then with `TooLarge`, at line 0, where the file would
-/// have more than 4,294,967,295 bytes. `OutOfMemory`, at line 0, may come in place of any answer.
+/// have more than 4,294,967,295 bytes. `OutOfMemory`, at line 0, may come in place of any result.
 pub fn compile(alloc: Global, text: &[u8], options: Options) -> Result<Compiled, PoError>
     ensures { MatchResult result (AreCompiled options (text.now ∷ []))
         (λ e. IsCompileFault options (text.now ∷ []) (fault_of_only_input e)) }
@@ -98,7 +98,7 @@ fn compile_collected(
 {
     let pairs = sorted_pairs(alloc, collected)?;
     let count = pairs.len();
-    layout_is_catalog();
+    layout_is_mo_file();
     messages_mean_entries();
     match build_sorted(alloc, options.order, &pairs) {
         Ok(bytes) => Ok(Compiled {
@@ -106,7 +106,7 @@ fn compile_collected(
             n: count as u32,
             stats: statistics_of(&collected.lengths),
         }),
-        Err(error) => Err(layout_error(error).error),
+        Err(error) => Err(reported_fault(error).error),
     }
 }
 
@@ -124,10 +124,10 @@ fn compile_whole(alloc: Global, text: &[u8], options: Options) -> Result<Compile
     }
 }
 
-/// Compiles the joined list of catalogues, in which `joined_duplicates` finds none. It gives the
-/// catalogues up: their texts are moved into the messages, and what else they hold is free before
-/// the file is laid out. Refused with `TooLarge`, at line 0 of input 0, where the file would have
-/// more than 4,294,967,295 bytes, and where an allocation failed.
+/// Compiles the joined list of catalogues, in which `joined_duplicates` finds no duplicate. It
+/// takes the catalogues: their texts are moved into the messages, and what else they hold is
+/// dropped before the file is laid out. Refused with `TooLarge`, at line 0 of input 0, where the
+/// file would have more than 4,294,967,295 bytes, and where an allocation failed.
 pub fn compile_catalogues(
     alloc: Global,
     catalogues: Vec<Catalogue>,
@@ -141,7 +141,7 @@ pub fn compile_catalogues(
     let stats = entry_statistics(&entries);
     let mut pairs = messages_of(alloc, entries, options.use_fuzzy)?;
     sort_messages(&mut pairs);
-    layout_is_catalog();
+    layout_is_mo_file();
     messages_mean_entries();
     match build(alloc, options.order, &pairs) {
         Ok(bytes) => Ok(Compiled {
@@ -149,14 +149,14 @@ pub fn compile_catalogues(
             n: pairs.len() as u32,
             stats,
         }),
-        Err(error) => Err(layout_error(error)),
+        Err(error) => Err(reported_fault(error)),
     }
 }
 
-/// What is reported where no file is built of sorted messages.
-fn layout_error(error: BuildError) -> JoinError
+/// The fault that is reported where no file can be built of sorted messages.
+fn reported_fault(error: BuildError) -> JoinError
     requires { error ≢ BuildError.NotSorted }
-    ensures { IsLayoutError error result }
+    ensures { IsReportedFault error result }
 {
     let kind = match error {
         BuildError::TooLarge => PoFault::TooLarge,

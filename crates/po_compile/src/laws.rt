@@ -4,7 +4,7 @@
 ghost use Rattle.po_compile.specs.Headline.{AcceptedOrFault, CataloguesAreOne, LookUpMeansEntries, MessagesAreOne, MessagesMeanEntries, NoFaultWhereAccepted, NoFaultWhereDistinct, OneCompileFault, OneTextFault};
 ghost use Rattle.po_compile.specs.Parts.{JoinedEntriesCanStand, MessagesDiffer, MessagesHaveParts, OneTextIsRead};
 
-use mo_file::layout_is_catalog;
+use mo_file::layout_is_mo_file;
 use po_catalog::laws::{no_duplicate_or_first, no_first_duplicate_where_none, one_first_duplicate};
 use po_reader::laws::{
     entries_can_stand, entries_or_fault, no_fault_is_memory, no_fault_where_entries, one_fault,
@@ -16,7 +16,7 @@ pub fn messages_mean_entries()
     ensures { MessagesMeanEntries }
 {}
 
-/// Entries are compiled to one list of messages.
+/// Entries are compiled to one list of messages only.
 pub fn messages_are_one()
     ensures { MessagesAreOne }
 {}
@@ -27,12 +27,12 @@ pub fn look_up_means_entries()
     ensures { LookUpMeansEntries }
 {
     entries_can_stand();
-    layout_is_catalog();
+    layout_is_mo_file();
     messages_mean_entries();
     messages_are_one();
 }
 
-/// Texts that are accepted have no fault, so that compiling them answers the file, or out of
+/// Texts that are accepted have no fault, so that compiling them returns the file, or out of
 /// memory.
 pub fn no_fault_where_accepted()
     ensures { NoFaultWhereAccepted }
@@ -84,7 +84,7 @@ pub fn no_fault_where_distinct()
     no_first_duplicate_where_none();
 }
 
-/// Texts are read as one list of catalogues.
+/// Texts are read as one list of catalogues only.
 pub fn catalogues_are_one()
     ensures { CataloguesAreOne }
 {

@@ -36,6 +36,8 @@ pub(crate) fn messages_of(
     for entry in entries {
         if is_compiled(&entry, use_fuzzy) {
             pairs.push(message_of(alloc, entry)?)?;
+        } else {
+            drop(entry);
         }
     }
     Ok(pairs)

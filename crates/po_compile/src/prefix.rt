@@ -13,8 +13,7 @@ fn byte_at(text: &[u8], place: usize) -> u8
     }
 }
 
-/// The first sixteen bytes of a key as a number, the first byte its highest digit. A shorter key
-/// goes on with zeros.
+/// The first sixteen bytes of a key as a big-endian number, with zeros after a shorter key.
 pub(crate) fn prefix_of(key: &[u8]) -> u128
     ensures { result ≡ prefix_of key.now }
 {
@@ -25,7 +24,7 @@ pub(crate) fn prefix_of(key: &[u8]) -> u128
     prefix
 }
 
-/// The sixteen bytes after them, likewise.
+/// The next sixteen bytes of a key, likewise.
 pub(crate) fn second_prefix_of(key: &[u8]) -> u128
     ensures { result ≡ second_prefix_of key.now }
 {

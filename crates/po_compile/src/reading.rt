@@ -32,7 +32,7 @@ pub fn read_all(alloc: Global, texts: &[&[u8]]) -> Result<Vec<Catalogue>, JoinEr
 }
 
 /// The catalogue of a text, in which no live entry repeats an earlier one. Refused with the fault
-/// of `read`, then of `duplicates`; `OutOfMemory`, without a line, may come in place of any answer.
+/// of `read`, then of `duplicates`; `OutOfMemory`, without a line, may come in place of any result.
 pub fn read_distinct(alloc: Global, text: &[u8]) -> Result<Catalogue, PoError>
     ensures { MatchResult result (ReadsDistinct text.now) (λ e. (e ≡ out_of_memory)
         ⊎ ((e.kind ≢ PoFault.OutOfMemory) × IsTextFault text.now e)) }

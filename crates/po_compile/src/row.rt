@@ -4,8 +4,8 @@ ghost use Rattle.po_compile.specs.Prefix.{prefix_of, second_prefix_of};
 
 use std::cmp::Ordering;
 
-/// A live entry's message, whose parts stand in what was collected. By the first bytes of their
-/// keys, in two numbers, most rows are compared without a look at the keys themselves, which lie
+/// A live entry's message, whose parts are borrowed from what was collected. Most rows are compared
+/// by the first bytes of their keys alone, which stand here as two numbers; the keys themselves lie
 /// anywhere in memory.
 #[derive(Clone, Copy)]
 pub(crate) struct Row<'b> {
@@ -26,7 +26,7 @@ pub(crate) struct Row<'b> {
     ghost next: { second_prefix ≡ second_prefix_of key.now },
 }
 
-/// How the keys of two rows stand to each other.
+/// The order of the keys of two rows.
 pub(crate) fn compare(a: &Row<'_>, b: &Row<'_>) -> Ordering
     ensures { result ≡ key_cmp a.now.key.now b.now.key.now }
 {

@@ -1,13 +1,13 @@
 ghost use Rattle.std.specs.Prelude.{◌≡◌, ◌<◌, None, IfOk, IfSome, map, length, take, drop, IsPermutation};
 ghost use Rattle.mo_file.specs.Key.{AreRising};
-ghost use Rattle.mo_file.specs.Pairs.{messages_of_lent};
+ghost use Rattle.mo_file.specs.Pairs.{messages_of_borrowed};
 ghost use Rattle.po_compile.specs.Collected.{row_view, AreRowsOf, compiled_of};
 ghost use Rattle.po_compile.specs.Repeats.{ArePlaced, AreSorted, IsEarlier, IsEarliestRepeat, row_cmp};
 
 use crate::collecting::Lengths;
 use crate::prefix::{prefix_of, second_prefix_of};
 use crate::row::{Row, compare};
-use mo_file::LentPair;
+use mo_file::BorrowedPair;
 use std::alloc::{AllocError, Global};
 use std::cmp::Ordering;
 
@@ -68,7 +68,7 @@ pub(crate) fn rows_of<'b>(
     Ok(rows)
 }
 
-/// How two rows are sorted: by their keys, and those of one key as they stand in the text.
+/// How two rows are sorted: by their keys, and those with the same key by their places in the text.
 fn compare_rows(a: &Row<'_>, b: &Row<'_>) -> Ordering
     ensures { result ≡ row_cmp a.now b.now }
 {
@@ -78,7 +78,7 @@ fn compare_rows(a: &Row<'_>, b: &Row<'_>) -> Ordering
     }
 }
 
-/// Sorts rows by their keys, and those of one key as they stand in the text.
+/// Sorts rows by their keys, and those with the same key by their places in the text.
 pub(crate) fn sort_rows(rows: &mut Vec<Row<'_>>)
     ensures permutation { IsPermutation rows.old.items rows.new.items }
     ensures sorted { AreSorted rows.new.items }
@@ -127,13 +127,13 @@ fn earlier(rows: &[Row<'_>], found: Option<usize>, i: usize) -> usize
 pub(crate) fn compiled_pairs<'b>(
     alloc: Global,
     rows: &[Row<'b>],
-) -> Result<Vec<LentPair<'b>>, AllocError>
-    ensures { IfOk result (λ pairs. messages_of_lent pairs.items ≡ compiled_of (map row_view rows.now)) }
+) -> Result<Vec<BorrowedPair<'b>>, AllocError>
+    ensures { IfOk result (λ pairs. messages_of_borrowed pairs.items ≡ compiled_of (map row_view rows.now)) }
 {
     let mut pairs = Vec::with_capacity(alloc, rows.len())?;
     for row in rows {
         if row.compiled {
-            pairs.push(LentPair {
+            pairs.push(BorrowedPair {
                 original: row.original,
                 translation: row.translation,
             })?;

@@ -1,25 +1,25 @@
 ghost use Rattle.std.specs.Prelude.{◌≡◌, count_by, IfOk, IfErr};
-ghost use Rattle.mo_file.specs.Pairs.{messages_of_lent};
+ghost use Rattle.mo_file.specs.Pairs.{messages_of_borrowed};
 ghost use Rattle.po_catalog.specs.Duplicate.{IsDuplicateFaultOf};
 ghost use Rattle.po_compile.specs.declared.collecting.Lengths.{Lengths as LengthsSeen};
 ghost use Rattle.po_compile.specs.Collected.{OfAllCollected, IsSortedOf, counts_of};
 
 use crate::collecting::{Collected, Lengths};
 use crate::rows::{compiled_pairs, earliest_repeat, rows_of, sort_rows};
-use mo_file::LentPair;
+use mo_file::BorrowedPair;
 use po_catalog::Stats;
 use po_syntax::{PoError, PoFault};
 use std::alloc::Global;
 
 /// The messages that are compiled, in the order of their keys. The keys of all live entries are
-/// sorted once, and then only neighbours can be equal. Refused with the fault of `duplicates`, and
+/// sorted once, so that equal keys are neighbours. Refused with the fault of `duplicates`, and
 /// where an allocation failed.
 pub(crate) fn sorted_pairs(
     alloc: Global,
     collected: &Collected,
-) -> Result<Vec<LentPair<'_>>, PoError>
+) -> Result<Vec<BorrowedPair<'_>>, PoError>
     ensures messages { IfOk result (λ pairs. OfAllCollected collected.now
-        (λ f es. IsSortedOf f es (messages_of_lent pairs.items))) }
+        (λ f es. IsSortedOf f es (messages_of_borrowed pairs.items))) }
     ensures fault { IfErr result (λ e. OfAllCollected collected.now (λ _ entries. IsDuplicateFaultOf entries e)) }
 {
     let mut rows = rows_of(alloc, &collected.bytes, &collected.lengths)?;

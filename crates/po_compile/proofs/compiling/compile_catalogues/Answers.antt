@@ -1,7 +1,7 @@
 use Rattle.std.proofs.Common.{sym, ap, ◌∙◌, subst, arith, length, ◌<◌, ◌^◌}
 use Rattle.std.proofs.lemmas.List.{length-map}
 use Rattle.mo_file.specs.Layout.{layout}
-use Rattle.mo_file.specs.Catalog.{IsCatalog}
+use Rattle.mo_file.specs.MoFile.{IsMoFile}
 use Rattle.mo_file.specs.Building.{IsBuildFault}
 use Rattle.mo_file.specs.Pairs.{message, messages_of_pairs}
 use Rattle.po_catalog.specs.Joined.{joined_entries}
@@ -33,8 +33,8 @@ returns-in-Ok c =
       are_messages = are;
       bytes = c.in-Ok.ensures.layout ∙ ap (layout c.args.options.order) pairs;
       small = subst (λ ms. length (layout c.args.options.order ms) < 2 ^ 32) pairs c.in-Ok.ensures.fits;
-      catalog = subst (λ bytes. IsCatalog c.args.options.order bytes (messages_of_pairs c.sort_messages.new.pairs.items)) (sym (c.in-Ok.ensures.layout ∙ ap (layout c.args.options.order) pairs))
-          (c.layout_is_catalog.ensures c.args.options.order (messages_of_pairs c.sort_messages.new.pairs.items) are.rising (subst (λ ms. length (layout c.args.options.order ms) < 2 ^ 32) pairs c.in-Ok.ensures.fits));
+      valid = subst (λ bytes. IsMoFile c.args.options.order bytes (messages_of_pairs c.sort_messages.new.pairs.items)) (sym (c.in-Ok.ensures.layout ∙ ap (layout c.args.options.order) pairs))
+          (c.layout_is_mo_file.ensures c.args.options.order (messages_of_pairs c.sort_messages.new.pairs.items) are.rising (subst (λ ms. length (layout c.args.options.order ms) < 2 ^ 32) pairs c.in-Ok.ensures.fits));
       means = c.messages_mean_entries.ensures (compiled_list c.args.options.use_fuzzy joined) (messages_of_pairs c.sort_messages.new.pairs.items)
           (compiled_valid c.args.options.use_fuzzy joined c.in_ok-entries.ensures.valid) are;
       count = omega (arith, c.len.ensures, count_of_messages (compiled_list c.args.options.use_fuzzy joined) c.sort_messages.new.pairs.items are);
@@ -52,12 +52,12 @@ refused c = (
   subst (λ ms. IsBuildFault c.args.options.order ms c.in-Err.error) (ap messages_of_pairs c.deref-2.ensures.value) c.in-Err.ensures.fault,
 )
 
-pub layout_error-requires : goal.layout_error-requires
-layout_error-requires c =
-    let why = refused (goal.at.layout_error-requires c).In-Err in
+pub reported_fault-requires : goal.reported_fault-requires
+reported_fault-requires c =
+    let why = refused (goal.at.reported_fault-requires c).In-Err in
     never_unsorted c.args.options (compiled_list c.args.options.use_fuzzy (joined_entries c.args.catalogues.items)) (messages_of_pairs c.sort_messages.new.pairs.items) why.0 c.in-Err.error why.1
 
 pub returns : goal.returns
 returns c =
     let why = refused (goal.at.returns c).In-Err in
-    layout_refused c.args.options (joined_entries c.args.catalogues.items) (messages_of_pairs c.sort_messages.new.pairs.items) why.0 c.in-Err.error c.layout_error.result why.1 c.layout_error.ensures
+    layout_refused c.args.options (joined_entries c.args.catalogues.items) (messages_of_pairs c.sort_messages.new.pairs.items) why.0 c.in-Err.error c.reported_fault.result why.1 c.reported_fault.ensures

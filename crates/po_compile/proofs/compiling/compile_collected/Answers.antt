@@ -2,8 +2,8 @@ use Rattle.std.proofs.Common.{sym, ap, ◌∙◌, subst, arith, length, ◌<◌,
 use Rattle.std.proofs.lemmas.List.{length-map}
 use Rattle.std.proofs.lemmas.List.Sorted.{length_permutation}
 use Rattle.mo_file.specs.Layout.{layout}
-use Rattle.mo_file.specs.Catalog.{IsCatalog}
-use Rattle.mo_file.specs.Pairs.{lent_message, messages_of_lent}
+use Rattle.mo_file.specs.MoFile.{IsMoFile}
+use Rattle.mo_file.specs.Pairs.{borrowed_message, messages_of_borrowed}
 use Rattle.po_compile.specs.Collected.{counts_of}
 use Rattle.po_compile.specs.CompiledList.{compiled_list}
 use Rattle.po_compile.specs.CompiledMessages.{message_of, messages_of_entries}
@@ -15,18 +15,18 @@ pub overflow_cast-result : goal.overflow_cast-result
 overflow_cast-result c =
     let order = c.args.options.order in
     let pairs = c.in_ok-pairs.pairs.items in
-    let fits = subst (λ ms. length (layout order ms) < 2 ^ 32) (ap messages_of_lent c.deref.ensures.value) c.in-Ok.ensures.fits in
-    omega (arith, fits, count_below_layout order (messages_of_lent pairs), length-map pairs lent_message, c.len-count.ensures, c.in_ok-pairs.pairs.ok.0)
+    let fits = subst (λ ms. length (layout order ms) < 2 ^ 32) (ap messages_of_borrowed c.deref.ensures.value) c.in-Ok.ensures.fits in
+    omega (arith, fits, count_below_layout order (messages_of_borrowed pairs), length-map pairs borrowed_message, c.len-count.ensures, c.in_ok-pairs.pairs.ok.0)
 
 pub returns-in-Ok-clause-found : goal.returns-in-Ok-clause-found
 returns-in-Ok-clause-found c = λ entries h.
     let order = c.args.options.order in
-    let messages = messages_of_lent c.in_ok-pairs.pairs.items in
+    let messages = messages_of_borrowed c.in_ok-pairs.pairs.items in
     let list = compiled_list c.args.options.use_fuzzy entries in
     let found = c.in_ok-pairs.ensures.messages in
     let sorted = found c.args.options.use_fuzzy entries h in
     let are = sorted.are_messages in
-    let pairs = ap messages_of_lent c.deref.ensures.value in
+    let pairs = ap messages_of_borrowed c.deref.ensures.value in
     let bytes = c.in-Ok.ensures.layout ∙ ap (layout order) pairs in
     let fits = subst (λ ms. length (layout order ms) < 2 ^ 32) pairs c.in-Ok.ensures.fits in (
       sorted.distinct,
@@ -35,9 +35,9 @@ returns-in-Ok-clause-found c = λ entries h.
         are_messages = are;
         bytes = bytes;
         small = fits;
-        catalog = subst (λ b. IsCatalog order b messages) (sym bytes) (c.layout_is_catalog.ensures order messages are.rising fits);
+        valid = subst (λ b. IsMoFile order b messages) (sym bytes) (c.layout_is_mo_file.ensures order messages are.rising fits);
         means = c.messages_mean_entries.ensures list messages (compiled_valid c.args.options.use_fuzzy entries h.valid) are;
-        count = omega (arith, c.len-count.ensures, c.in_ok-pairs.pairs.ok.0, length-map c.in_ok-pairs.pairs.items lent_message, length_permutation (messages_of_entries list) messages are.all, length-map list message_of);
+        count = omega (arith, c.len-count.ensures, c.in_ok-pairs.pairs.ok.0, length-map c.in_ok-pairs.pairs.items borrowed_message, length_permutation (messages_of_entries list) messages are.all, length-map list message_of);
         stats = c.statistics_of.ensures ∙ ap counts_of c.deref-in-Ok.ensures.value ∙ counts_mean c.args.options.use_fuzzy entries _ h.holds.lengths;
       },
     )

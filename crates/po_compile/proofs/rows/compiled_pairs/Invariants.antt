@@ -1,8 +1,8 @@
 use Rattle.std.proofs.Common.{◌≡◌, take, map, filter}
-use Rattle.mo_file.specs.Pairs.{messages_of_lent}
+use Rattle.mo_file.specs.Pairs.{messages_of_borrowed}
 use Rattle.po_compile.specs.Collected.{row_view, LiveMessage}
 use Rattle.po_compile.proofs.rows.compiled_pairs.Given as goal
 
 abbrev pub invariant-loop-row : goal.invariant-loop-row
 invariant-loop-row l =
-    messages_of_lent l.pairs.items ≡ map (λ (m : LiveMessage). m.message) (filter (λ (m : LiveMessage). m.compiled) (map row_view (take l.row-index l.rows)))
+    messages_of_borrowed l.pairs.items ≡ map (λ (m : LiveMessage). m.message) (filter (λ (m : LiveMessage). m.compiled) (map row_view (take l.row-index l.rows)))
