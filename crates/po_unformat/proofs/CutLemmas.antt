@@ -12,7 +12,7 @@ use Rattle.std.proofs.lemmas.List.Splits.{slice_split_none, slice_split_at}
 use Rattle.std.proofs.lemmas.List.Sums.{position_or_len_is}
 use Rattle.memchr.specs.Find.{NoneBefore, Nowhere, Passes, is_byte}
 use Rattle.mo_file.specs.Key.{key_of}
-use Rattle.mo_lookup.specs.Contents.{forms}
+use Rattle.mo_lookup.specs.CatalogView.{forms}
 use Rattle.po_entry.specs.Bytes.{Lacks}
 use Rattle.po_entry.specs.TextEntry.{slice_texts}
 use Rattle.po_unformat.specs.Unformatted.{context_of, id_of, is_eot, plural_of}

@@ -2,7 +2,7 @@
 use Rattle.std.proofs.Common.{◌≡◌, ℕ, List, [], ◌∷◌, ap, refl, sym, ◌∙◌, subst, get_or}
 use Rattle.std.proofs.lemmas.List.Elements.{All-weaker}
 use Rattle.std.proofs.lemmas.Option.{get_or_from_slice_get, slice_get_within}
-use Rattle.mo_file.specs.Laws.{CatalogIsUnique}
+use Rattle.mo_file.specs.Laws.{OneMessageList}
 use Rattle.mo_file.specs.Message.{Message}
 use Rattle.po_syntax.specs.declared.fault.PoFault.{PoFault}
 use Rattle.po_syntax.specs.declared.fault.PoFault.TheVariants.{NotUtf8 as BadText, ForbiddenByte as BadByte}
@@ -30,12 +30,12 @@ no_foreign text messages written fault =
     fault.foreign (All-weaker IsCatalogueEntry HasAdmittedCharset (λ e v. v.charset) (unformatted messages) written.valid)
 
 -- what holds of the messages of a file holds of the same messages
-pub moved : CatalogIsUnique → (bytes : List ℕ) (P Q : List Message → Type 0) (file : IsFileOf bytes P) → IsFileOf bytes Q → Q file.messages
+pub moved : OneMessageList → (bytes : List ℕ) (P Q : List Message → Type 0) (file : IsFileOf bytes P) → IsFileOf bytes Q → Q file.messages
 moved unique bytes P Q file other =
-    subst Q (unique bytes other.order file.order other.messages file.messages other.catalog file.catalog).1 other.holds
+    subst Q (unique bytes other.order file.order other.messages file.messages other.valid file.valid).1 other.holds
 
-pub no_fault : CatalogIsUnique → NoFaultWhereUnformatted
-no_fault unique bytes text (Mo f) file fault = absurd (file.catalog.faultless f fault.holds)
+pub no_fault : OneMessageList → NoFaultWhereUnformatted
+no_fault unique bytes text (Mo f) file fault = absurd (file.valid.faultless f fault.holds)
 no_fault unique bytes text (NotUtf8 i) file fault =
     absurd (no_first_fault text file.messages i BadText file.holds (moved unique bytes (AreWrittenAs text) (HasFirstTextsFault i BadText) file fault))
 no_fault unique bytes text (ForbiddenByte i) file fault =
@@ -44,7 +44,7 @@ no_fault unique bytes text ForeignCharset file fault =
     absurd (no_foreign text file.messages file.holds (moved unique bytes (AreWrittenAs text) HasForeignCharset file fault))
 no_fault unique bytes text OutOfMemory file fault = refl
 
-pub one_text : CatalogIsUnique → OneText
+pub one_text : OneMessageList → OneText
 one_text unique bytes text other file file' =
     let again = moved unique bytes (AreWrittenAs text) (AreWrittenAs other) file file' in file.holds.written ∙ sym again.written
 

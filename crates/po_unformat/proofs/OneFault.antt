@@ -3,7 +3,7 @@ use Rattle.std.proofs.Common.{◌≡◌, ℕ, ◌<◌, List, Some, arith, ap, re
 use Rattle.std.proofs.lemmas.Bool.{cases_lt}
 use Rattle.std.proofs.lemmas.List.{get_or-take, length-take}
 use Rattle.std.proofs.lemmas.Option.{get_or_from_slice_get, slice_get_within}
-use Rattle.mo_file.specs.Laws.{CatalogIsUnique, OneFirstFault}
+use Rattle.mo_file.specs.Laws.{OneMessageList, OneFirstFault}
 use Rattle.mo_file.specs.declared.fault.MoError.{MoError}
 use Rattle.mo_file.specs.Message.{Message}
 use Rattle.po_syntax.specs.declared.fault.PoFault.{PoFault}
@@ -50,7 +50,7 @@ no_foreign messages i a foreign f =
     let here = get_or_from_slice_get entries i f.entry f.entry f.is_entry in
     no_texts_fault (subst HasTexts here (foreign.texts i f.entry (slice_get_within entries i f.entry f.is_entry))) f.fault
 
-module _ (unique : CatalogIsUnique) (one : OneFirstFault) where
+module _ (unique : OneMessageList) (one : OneFirstFault) where
   both : (bytes : List ℕ) (i j : ℕ) (a b : PoFault) → IsFileOf bytes (HasFirstTextsFault i a) → IsFileOf bytes (HasFirstTextsFault j b) → (i ≡ j) × (a ≡ b)
   both bytes i j a b f g = same_fault f.messages i j a b f.holds (moved unique bytes (HasFirstTextsFault i a) (HasFirstTextsFault j b) f g)
 
@@ -58,7 +58,7 @@ module _ (unique : CatalogIsUnique) (one : OneFirstFault) where
   apart bytes i a f g = no_foreign f.messages i a f.holds (moved unique bytes HasForeignCharset (HasFirstTextsFault i a) f g)
 
   valid : (bytes : List ℕ) (P : List Message → Type 0) (fault : MoError) → IsUnformatFault bytes (Mo fault) → IsFileOf bytes P → ⊥
-  valid bytes P fault f file = file.catalog.faultless fault f.holds
+  valid bytes P fault f file = file.valid.faultless fault f.holds
 
   pub fault_once : OneUnformatFault
   fault_once bytes (Mo a) (Mo b) f g x y = ap (λ (e : MoError). Mo e) (one bytes a b f g)

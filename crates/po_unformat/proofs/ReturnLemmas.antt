@@ -10,7 +10,7 @@ use Rattle.std.proofs.lemmas.Simd.{map-map}
 use Rattle.mo_file.specs.Key.{query_key}
 use Rattle.mo_file.specs.Layout.{layout}
 use Rattle.mo_file.specs.Message.{Message}
-use Rattle.mo_lookup.specs.Contents.{forms}
+use Rattle.mo_lookup.specs.CatalogView.{forms}
 use Rattle.po_syntax.specs.PoText.{IsSmall}
 use Rattle.po_entry.specs.TextEntry.{TextEntry, previous_texts, with_line, plain_entry as bare_entry}
 use Rattle.po_entry.specs.Bytes.{Lacks}
@@ -236,6 +236,6 @@ module _ (parts : MessagesHaveParts) (differ : MessagesDiffer) (joined_stand : J
       let messages = is.is_compiled.messages in
       let all = all_returned parts options.use_fuzzy list messages (joined_stand texts is.catalogues is.read) is.is_compiled.are_messages in (
         written_text (unformatted messages),
-        record { order = options.order; messages = messages; catalog = is.is_compiled.catalog; holds = record { valid = can_stand messages all; written = refl } },
+        record { order = options.order; messages = messages; valid = is.is_compiled.valid; holds = record { valid = can_stand messages all; written = refl } },
         compiles options list compiled' is.is_compiled all,
       )

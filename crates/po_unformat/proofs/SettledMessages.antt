@@ -4,10 +4,10 @@ use Rattle.std.proofs.lemmas.List.Elements.{All-cons, All-head, All-nil, All-tai
 use Rattle.std.proofs.lemmas.List.Splits.{length-slice_split}
 use Rattle.mo_file.specs.Key.{is_nul}
 use Rattle.mo_file.specs.declared.byte_order.Order.{Order}
-use Rattle.mo_file.specs.Catalog.{IsCatalog}
-use Rattle.mo_file.specs.Laws.{CatalogOrFault}
+use Rattle.mo_file.specs.MoFile.{IsMoFile}
+use Rattle.mo_file.specs.Laws.{MoFileOrFault}
 use Rattle.mo_file.specs.Message.{Message}
-use Rattle.mo_lookup.specs.Contents.{forms}
+use Rattle.mo_lookup.specs.CatalogView.{forms}
 use Rattle.po_syntax.specs.declared.fault.PoFault.{PoFault}
 use Rattle.po_entry.specs.TextEntry.{TextEntry}
 use Rattle.po_entry.specs.Header.{HasAdmittedCharset}
@@ -96,17 +96,17 @@ settled_messages messages = elim (first_fault (unformatted messages)) [
   | inr found ↦ inr (refused messages found.i found.entry found.kind found.is_entry found.before found.fault)
 ]
 
-in_file : (bytes : List ℕ) (error : UnformatError) (order : Order) (messages : List Message) → IsCatalog order bytes messages → RefusesMessages messages error → IsUnformatFault bytes error
-in_file bytes (Mo fault) order messages catalog why = absurd why
-in_file bytes (NotUtf8 i) order messages catalog why = record { order = order; messages = messages; catalog = catalog; holds = why }
-in_file bytes (ForbiddenByte i) order messages catalog why = record { order = order; messages = messages; catalog = catalog; holds = why }
-in_file bytes ForeignCharset order messages catalog why = record { order = order; messages = messages; catalog = catalog; holds = why }
-in_file bytes OutOfMemory order messages catalog why = tt
+in_file : (bytes : List ℕ) (error : UnformatError) (order : Order) (messages : List Message) → IsMoFile order bytes messages → RefusesMessages messages error → IsUnformatFault bytes error
+in_file bytes (Mo fault) order messages valid why = absurd why
+in_file bytes (NotUtf8 i) order messages valid why = record { order = order; messages = messages; valid = valid; holds = why }
+in_file bytes (ForbiddenByte i) order messages valid why = record { order = order; messages = messages; valid = valid; holds = why }
+in_file bytes ForeignCharset order messages valid why = record { order = order; messages = messages; valid = valid; holds = why }
+in_file bytes OutOfMemory order messages valid why = tt
 
-pub text_or_fault : CatalogOrFault → TextOrFault
+pub text_or_fault : MoFileOrFault → TextOrFault
 text_or_fault settled bytes = elim (settled bytes) [
   | inl file ↦ elim (settled_messages file.1) [
-    | inl written ↦ inl (written.0, record { order = file.0; messages = file.1; catalog = file.2; holds = written.1 })
+    | inl written ↦ inl (written.0, record { order = file.0; messages = file.1; valid = file.2; holds = written.1 })
     | inr refused ↦ inr (refused.0, in_file bytes refused.0 file.0 file.1 file.2 refused.1, refused.2)
   ]
   | inr fault ↦ inr (Mo fault.0, fault.1, λ e. cc)

@@ -4,7 +4,7 @@ use Rattle.std.specs.Prelude.{ℕ, ◌==◌, Bool, List, map, take, Option, None
 use Rattle.std.specs.List.{list_any, before_first, after_first, slice_split}
 use Rattle.mo_file.specs.Key.{is_nul, key_of}
 use Rattle.mo_file.specs.Message.{Message}
-use Rattle.mo_lookup.specs.Contents.{forms}
+use Rattle.mo_lookup.specs.CatalogView.{forms}
 use Rattle.po_entry.specs.TextEntry.{TextEntry, plain_entry}
 
 abbrev pub is_eot : ℕ → Bool

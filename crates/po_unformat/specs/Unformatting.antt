@@ -1,7 +1,7 @@
 -- The PO text of an MO file, and why a file has none (manual, "Invoking the msgunfmt Program").
 use Rattle.std.specs.Prelude.{◌≡◌, ℕ, List, All, Some, take, slice_get}
 use Rattle.mo_file.specs.declared.byte_order.Order.{Order}
-use Rattle.mo_file.specs.Catalog.{IsCatalog}
+use Rattle.mo_file.specs.MoFile.{IsMoFile}
 use Rattle.mo_file.specs.Fault.{IsFirstFault}
 use Rattle.mo_file.specs.Message.{Message}
 use Rattle.po_syntax.specs.declared.fault.PoFault.{PoFault}
@@ -18,7 +18,7 @@ use Rattle.po_unformat.specs.Unformatted.{unformatted}
 pub record IsFileOf (bytes : List ℕ) (P : List Message → Type 0) : Type 0 where
   pub order : Order
   pub messages : List Message
-  pub catalog : IsCatalog order bytes messages
+  pub valid : IsMoFile order bytes messages
   pub holds : P messages
 
 -- the messages' entries can stand in a catalogue, which is written as this text

@@ -11,11 +11,10 @@ pub enum UnformatError {
     /// The bytes aren't an MO file.
     #[error("{0}")]
     Mo(MoError),
-    /// A text that the entry of this message takes isn't UTF-8.
+    /// A text of this message's entry isn't UTF-8.
     #[error("string {0} is not UTF-8")]
     NotUtf8(u32),
-    /// A text that the entry of this message takes holds a byte that it may not hold: an EOT in the
-    /// msgid.
+    /// A text of this message's entry holds a byte that it may not hold: an EOT in the msgid.
     #[error("string {0} has a forbidden byte")]
     ForbiddenByte(u32),
     /// A header names a charset other than UTF-8 and ASCII.

@@ -3,7 +3,7 @@
 
 ghost use Rattle.po_unformat.specs.RoundTrip.{EmptyText, NoFaultWhereUnformatted, OneText, OneUnformatFault, TextOrFault, UnformatThenCompile};
 
-use mo_file::{catalog_is_unique, catalog_or_fault, one_first_fault};
+use mo_file::{mo_file_or_fault, one_first_fault, one_message_list};
 use po_compile::laws::{
     joined_entries_can_stand, messages_are_one, messages_differ, messages_have_parts,
     one_text_is_read,
@@ -27,25 +27,25 @@ pub fn unformat_then_compile()
     live_entries_stay();
 }
 
-/// Bytes that have a PO text have no fault, so that `unformat` answers the text, or out of memory.
+/// Bytes that have a PO text have no fault, so that `unformat` returns the text, or out of memory.
 pub fn no_fault_where_unformatted()
     ensures { NoFaultWhereUnformatted }
 {
-    catalog_is_unique();
+    one_message_list();
 }
 
 /// Bytes have one PO text at most.
 pub fn one_text()
     ensures { OneText }
 {
-    catalog_is_unique();
+    one_message_list();
 }
 
 /// Bytes have at most one fault, beside out of memory.
 pub fn one_unformat_fault()
     ensures { OneUnformatFault }
 {
-    catalog_is_unique();
+    one_message_list();
     one_first_fault();
 }
 
@@ -60,5 +60,5 @@ pub fn empty_text()
 pub fn text_or_fault()
     ensures { TextOrFault }
 {
-    catalog_or_fault();
+    mo_file_or_fault();
 }

@@ -3,7 +3,7 @@
 ghost use Rattle.std.specs.Prelude.{◌≡◌, ◌++◌, [], ◌∷◌, IfOk, MatchOption, take};
 ghost use Rattle.std.specs.Option.{option_copied};
 ghost use Rattle.mo_file.specs.Key.{key_of};
-ghost use Rattle.mo_lookup.specs.Contents.{forms};
+ghost use Rattle.mo_lookup.specs.CatalogView.{forms};
 ghost use Rattle.po_entry.specs.Bytes.{Lacks};
 ghost use Rattle.po_entry.specs.TextEntry.{slice_texts};
 ghost use Rattle.po_unformat.specs.Unformatted.{context_of, id_of, plural_of};
@@ -17,7 +17,7 @@ const EOT: u8 = 4;
 /// The byte between a key and a plural, and between the parts of a translation.
 const NUL: u8 = 0;
 
-/// What stands before the first such byte and after it, where there is one.
+/// What stands before the first of these bytes and what after it, where there is one.
 fn split_once_at(byte: u8, text: &[u8]) -> Option<(&[u8], &[u8])>
     ensures { MatchOption result (Lacks byte text.now) (λ parts. (text.now ≡ parts.0.now ++ byte ∷ parts.1.now)
         × Lacks byte parts.0.now) }

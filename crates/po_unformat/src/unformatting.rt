@@ -36,7 +36,7 @@ fn text_of(alloc: Global, view: &MoView<'_>, room: usize) -> Result<Vec<u8>, Unf
 /// Refused with `Mo` and the first fault of the file; then with `NotUtf8` or `ForbiddenByte` and
 /// the first message, counted from 0, whose texts can't stand in an entry; then with
 /// `ForeignCharset`, where a header names a charset other than UTF-8 and ASCII. `OutOfMemory` may
-/// come in place of any answer.
+/// come in place of any result.
 pub fn unformat(alloc: Global, bytes: &[u8]) -> Result<Vec<u8>, UnformatError>
     ensures { MatchResult result (λ text. IsUnformatted bytes.now text.items) (IsUnformatFault bytes.now) }
 {

@@ -2,4 +2,4 @@ use Rattle.po_unformat.proofs.SettledMessages.{text_or_fault}
 use Rattle.po_unformat.proofs.laws.text_or_fault.Goals as goal
 
 pub returns : goal.returns
-returns c = text_or_fault c.catalog_or_fault.ensures
+returns c = text_or_fault c.mo_file_or_fault.ensures

@@ -1,5 +1,5 @@
 use Rattle.std.proofs.Common.{ap, ◌∙◌, take}
-use Rattle.mo_lookup.specs.Contents.{forms}
+use Rattle.mo_lookup.specs.CatalogView.{forms}
 use Rattle.po_unformat.proofs.CutLemmas.{first_all, first_cut}
 use Rattle.po_unformat.proofs.parts.first_part.Goals as goal
 

@@ -1,5 +1,5 @@
 use Rattle.std.proofs.Common.{ap, ◌∙◌, ◌++◌}
-use Rattle.mo_lookup.specs.Contents.{forms}
+use Rattle.mo_lookup.specs.CatalogView.{forms}
 use Rattle.po_entry.specs.TextEntry.{slice_texts}
 use Rattle.po_unformat.proofs.CutLemmas.{last_piece, more_pieces}
 use Rattle.po_unformat.proofs.parts.forms_of.Goals as goal

@@ -1,5 +1,5 @@
 use Rattle.std.proofs.Common.{◌≡◌, ◌++◌, length}
-use Rattle.mo_lookup.specs.Contents.{forms}
+use Rattle.mo_lookup.specs.CatalogView.{forms}
 use Rattle.po_entry.specs.TextEntry.{slice_texts}
 use Rattle.po_unformat.proofs.parts.forms_of.Given as goal
 
