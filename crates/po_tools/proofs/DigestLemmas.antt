@@ -1,6 +1,5 @@
 -- Where the digests of entries differ, so do their messages.
 use Rattle.std.proofs.Common.{◌≡◌, sym, ap₂, ◌∙◌, ℕ, List, get_or, map, arith, IsPermutation}
-use Rattle.std.specs.Hash.FoldHasher.{initial, write, finish}
 use Rattle.std.specs.List.Sorted.{IsStrictlyIncreasing}
 use Rattle.std.proofs.lemmas.Bool.Decides.{Decides-eqb}
 use Rattle.std.proofs.lemmas.Cmp.{nat_eq_equiv}
@@ -10,8 +9,9 @@ use Rattle.std.proofs.lemmas.List.Sorted.{IsPermutation-sym}
 use Rattle.std.proofs.lemmas.Map.Keys.{IsDistinct-IsPermutation}
 use Rattle.std.proofs.lemmas.Map.Made.{AllPairs-from_IsDistinct, IsDistinct-from_AllPairs}
 use Rattle.po_entry.specs.TextEntry.{TextEntry}
+use Rattle.po_catalog.specs.Digest.{digest, message_digest}
 use Rattle.po_catalog.specs.Duplicate.{AllDiffer, IsSameMessage}
-use Rattle.po_tools.specs.Digests.{AreDistinct, digest, with_context}
+use Rattle.po_tools.specs.Digests.{AreDistinct}
 
 -- numbers that rise once they are sorted are distinct
 pub distinct_before : (numbers sorted : List ℕ) → IsPermutation numbers sorted → IsStrictlyIncreasing sorted → AreDistinct numbers
@@ -23,7 +23,7 @@ distinct_before numbers sorted permuted rising =
 
 -- entries of one message have one digest
 pub same_digest : (a b : TextEntry) → IsSameMessage a b → digest a ≡ digest b
-same_digest a b same = ap₂ (λ id context. finish (with_context context (write initial id))) same.1 same.0
+same_digest a b same = ap₂ message_digest same.0 same.1
 
 -- entries whose digests are distinct are of different messages
 pub digests_differ : (entries : List TextEntry) → AreDistinct (map digest entries) → AllDiffer entries

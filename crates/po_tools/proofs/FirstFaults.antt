@@ -10,7 +10,7 @@ use Rattle.po_syntax.specs.Runs.{from_end}
 use Rattle.po_entry.specs.TextEntry.{TextEntry}
 use Rattle.po_catalog.specs.Joined.{InputEntry}
 use Rattle.plural_rule.specs.Expression.{value}
-use Rattle.plural_rule.specs.PluralRule.{Meaning}
+use Rattle.plural_rule.specs.PluralRule.{RuleView}
 use Rattle.plural_rule.specs.declared.rule.Source.{Source}
 use Rattle.plural_rule.specs.declared.rule.Source.TheVariants.{Header, Default}
 use Rattle.po_tools.specs.declared.profile.End.{End}
@@ -156,7 +156,7 @@ none_found nplurals e h = at (entry_fault nplurals e) refl where
 
 -- counts
 
-value_says : (rule : Meaning) (n : ℕ) (reported : Reported) (o : Option ℕ) → value rule.tree n ≡ o → value_fault rule.nplurals n o ≡ Some reported → (reported.0 ≡ 0) × CountFault rule n reported.1
+value_says : (rule : RuleView) (n : ℕ) (reported : Reported) (o : Option ℕ) → value rule.tree n ≡ o → value_fault rule.nplurals n o ≡ Some reported → (reported.0 ≡ 0) × CountFault rule n reported.1
 value_says rule n reported None is e = let same = some_same (0, Undefined n) reported e in (sym (ap (λ (t : Reported). t.0) same), subst (λ (t : Reported). CountFault rule n t.1) same (undefined is))
 value_says rule n reported (Some index) is e =
     elim (if_some reported (nat_lt index rule.nplurals) None (Some (0, IndexOutside n)) e) [
@@ -165,14 +165,14 @@ value_says rule n reported (Some index) is e =
           (sym (ap (λ (t : Reported). t.0) same), subst (λ (t : Reported). CountFault rule n t.1) same (outside is (ltb-false index rule.nplurals h.0)))
     ]
 
-count_at : {rule : Meaning} {n : ℕ} {fault : CheckFault} → CountFault rule n fault → count_fault rule n ≡ Some (0, fault)
+count_at : {rule : RuleView} {n : ℕ} {fault : CheckFault} → CountFault rule n fault → count_fault rule n ≡ Some (0, fault)
 count_at {rule} {n} (undefined is) = ap (value_fault rule.nplurals n) is
 count_at {rule} {n} (outside {index = index} is past) = ap (value_fault rule.nplurals n) is ∙ cond-false (nat_lt index rule.nplurals) None (Some (0, IndexOutside n)) (le-ltb index rule.nplurals past)
 
-no_count : (rule : Meaning) (n : ℕ) → count_fault rule n ≡ None → HasNoCountFault rule n
+no_count : (rule : RuleView) (n : ℕ) → count_fault rule n ≡ None → HasNoCountFault rule n
 no_count rule n none fault h = none_some (0, fault) (sym none ∙ count_at h)
 
-none_counted : (rule : Meaning) (n : ℕ) → HasNoCountFault rule n → count_fault rule n ≡ None
+none_counted : (rule : RuleView) (n : ℕ) → HasNoCountFault rule n → count_fault rule n ≡ None
 none_counted rule n h = at (count_fault rule n) refl where
   at : (o : Option Reported) → count_fault rule n ≡ o → count_fault rule n ≡ None
   at None is = is
@@ -322,16 +322,16 @@ plural_none (x ∷ entries) h =
 
 -- the parts in their order
 
-abbrev in_entries : List InputEntry → Meaning → Option Reported
+abbrev in_entries : List InputEntry → RuleView → Option Reported
 in_entries entries rule = first_some (entry_fault rule.nplurals) entries
 
-abbrev at_counts : Meaning → Option InputEntry → Option Reported
+abbrev at_counts : RuleView → Option InputEntry → Option Reported
 at_counts rule plural = if is_some plural then first_some (count_fault rule) (counts_below 1001) else None
 
-abbrev in_order : List InputEntry → Meaning → Source → Option InputEntry → Option Reported
+abbrev in_order : List InputEntry → RuleView → Source → Option InputEntry → Option Reported
 in_order entries rule source plural = option_or (rule_fault source plural) (option_or (in_entries entries rule) (at_counts rule plural))
 
-entry_first : (entries : List InputEntry) (rule : Meaning) (reported : Reported) → NeedsNoOtherRule entries rule → in_entries entries rule ≡ Some reported → FirstFault entries rule reported
+entry_first : (entries : List InputEntry) (rule : RuleView) (reported : Reported) → NeedsNoOtherRule entries rule → in_entries entries rule ≡ Some reported → FirstFault entries rule reported
 entry_first entries rule reported needs is =
     let h = list_says (entry_fault rule.nplurals) entries reported is in
     let fault = entry_says rule.nplurals h.e reported h.given in
@@ -343,7 +343,7 @@ entry_first entries rule reported needs is =
       none_before = λ k d below some. no_fault rule.nplurals _ (h.none_before k d below) some.0 some.1;
     }) fault
 
-count_first : (entries : List InputEntry) (rule : Meaning) (e : InputEntry) (reported : Reported) → IsFirst HasPlural entries e → rule.source ≡ Header → in_entries entries rule ≡ None → first_some (count_fault rule) (counts_below 1001) ≡ Some reported → FirstFault entries rule reported
+count_first : (entries : List InputEntry) (rule : RuleView) (e : InputEntry) (reported : Reported) → IsFirst HasPlural entries e → rule.source ≡ Header → in_entries entries rule ≡ None → first_some (count_fault rule) (counts_below 1001) ≡ Some reported → FirstFault entries rule reported
 count_first entries rule e reported plural source none is =
     let h = counts_say (count_fault rule) 1001 reported is in
     let here = value_says rule h.least reported (value rule.tree h.least) refl h.given in
@@ -352,29 +352,29 @@ count_first entries rule e reported plural source none is =
     subst (FirstFault entries rule) (sym whole) (at_count h.least plural source (λ k d under. no_fault rule.nplurals _ (list_none (entry_fault rule.nplurals) entries none k d under)) (omega (arith, below))
     (λ n under. no_count rule n (h.none_before n (omega arith) under)) here.1)
 
-after_rule : (entries : List InputEntry) (rule : Meaning) (reported : Reported) (plural : Option InputEntry) → NeedsNoOtherRule entries rule → ((e : InputEntry) → plural ≡ Some e → IsFirst HasPlural entries e × (rule.source ≡ Header)) → (o : Option Reported) → in_entries entries rule ≡ o
+after_rule : (entries : List InputEntry) (rule : RuleView) (reported : Reported) (plural : Option InputEntry) → NeedsNoOtherRule entries rule → ((e : InputEntry) → plural ≡ Some e → IsFirst HasPlural entries e × (rule.source ≡ Header)) → (o : Option Reported) → in_entries entries rule ≡ o
     → option_or o (at_counts rule plural) ≡ Some reported → FirstFault entries rule reported
 after_rule entries rule reported plural needs first (Some one) is e = entry_first entries rule reported needs (is ∙ e)
 after_rule entries rule reported None needs first None is e = absurd (none_some reported e)
 after_rule entries rule reported (Some x) needs first None is e = let p = first x refl in count_first entries rule x reported p.0 p.1 is e
 
-order_says : (entries : List InputEntry) (rule : Meaning) (reported : Reported) (source : Source) (plural : Option InputEntry) → rule.source ≡ source → find is_plural entries ≡ plural → in_order entries rule source plural ≡ Some reported → FirstFault entries rule reported
+order_says : (entries : List InputEntry) (rule : RuleView) (reported : Reported) (source : Source) (plural : Option InputEntry) → rule.source ≡ source → find is_plural entries ≡ plural → in_order entries rule source plural ≡ Some reported → FirstFault entries rule reported
 order_says entries rule reported source None s p e = after_rule entries rule reported None (inr (none_plural entries p)) (λ x none. absurd (none_some x none)) (in_entries entries rule) refl e
 order_says entries rule reported Header (Some x) s p e = after_rule entries rule reported (Some x) (inl s) (λ y same. (subst (IsFirst HasPlural entries) (some_same x y same) (plural_says entries x p), s)) (in_entries entries rule) refl e
 order_says entries rule reported (Default reason) (Some x) s p e = subst (FirstFault entries rule) (some_same (x.input, NoRule x.entry.line reason) reported e) (no_rule (plural_says entries x p) s)
 
-found_says : (entries : List InputEntry) (rule : Meaning) (reported : Reported) → first_fault entries rule ≡ Some reported → FirstFault entries rule reported
+found_says : (entries : List InputEntry) (rule : RuleView) (reported : Reported) → first_fault entries rule ≡ Some reported → FirstFault entries rule reported
 found_says entries rule reported e = order_says entries rule reported rule.source (find is_plural entries) refl refl e
 
 readable : (plural : Option InputEntry) → rule_fault Header plural ≡ None
 readable None = refl
 readable (Some e) = refl
 
-no_rule_needed : (entries : List InputEntry) (rule : Meaning) → NeedsNoOtherRule entries rule → rule_fault rule.source (find is_plural entries) ≡ None
+no_rule_needed : (entries : List InputEntry) (rule : RuleView) → NeedsNoOtherRule entries rule → rule_fault rule.source (find is_plural entries) ≡ None
 no_rule_needed entries rule (inl source) = ap (λ s. rule_fault s (find is_plural entries)) source ∙ readable (find is_plural entries)
 no_rule_needed entries rule (inr none) = ap (rule_fault rule.source) (plural_none entries none)
 
-found_passes : {entries : List InputEntry} {rule : Meaning} {reported : Reported} → FirstFault entries rule reported → first_fault entries rule ≡ Some reported
+found_passes : {entries : List InputEntry} {rule : RuleView} {reported : Reported} → FirstFault entries rule reported → first_fault entries rule ≡ Some reported
 found_passes {entries} {rule} (no_rule {e = e} {reason = reason} plural source) =
     ap (λ s. in_order entries rule s (find is_plural entries)) source ∙ ap (in_order entries rule (Default reason)) (first_plural entries e plural)
 found_passes {entries} {rule} (in_entry {e = e} {reported = reported} needs first fault) =
@@ -389,5 +389,5 @@ found_passes {entries} {rule} (at_count {e = e} {fault = fault} least plural sou
     ∙ ap (λ o. option_or o (at_counts rule (find is_plural entries))) nothing
     ∙ ap (at_counts rule) (first_plural entries e plural) ∙ counts_give (count_fault rule) 1001 least (0, fault) (omega (arith, most)) (count_at wrong) (λ n under. none_counted rule n (none n under))
 
-pub first_found : (entries : List InputEntry) (rule : Meaning) (reported : Reported) → (first_fault entries rule ≡ Some reported) ↔ FirstFault entries rule reported
+pub first_found : (entries : List InputEntry) (rule : RuleView) (reported : Reported) → (first_fault entries rule ≡ Some reported) ↔ FirstFault entries rule reported
 first_found entries rule reported = (λ e. found_says entries rule reported e, λ h. found_passes h)

@@ -3,7 +3,7 @@ use Rattle.std.proofs.Common.{◌≡◌, ◌≤◌, ◌<◌, ◌+◌, ◌||◌, 
 use Rattle.std.proofs.lemmas.List.{length-map}
 use Rattle.std.specs.Borrow.{Bor}
 use Rattle.std.specs.List.{join_with_byte, list_any}
-use Rattle.mo_lookup.specs.Contents.{Contents}
+use Rattle.mo_lookup.specs.CatalogView.{CatalogView}
 use Rattle.po_tools.specs.declared.gettext.Opened.{Opened}
 use Rattle.po_tools.specs.Gettext.{Opens, none, opened, refused}
 use Rattle.po_tools.specs.NamedFile.{NamedFile, named_file, named_files}
@@ -12,7 +12,7 @@ use Rattle.po_tools.specs.OpensFile.{OpensFile}
 -- whatever the files from i on add completes what the files before made
 abbrev pub Completes : List ℕ → List (Bor (List ℕ) × Bor (List ℕ)) → ℕ → Opened → Type 0
 Completes tool files i done =
-    (chain : List Contents) (reported : List ℕ) → Opens tool (named_files (drop i files)) chain reported
+    (chain : List CatalogView) (reported : List ℕ) → Opens tool (named_files (drop i files)) chain reported
     → Opens tool (named_files files) (done.catalogs.items ++ chain) (done.messages.items ++ reported)
 
 -- the next file stands before those that are left
@@ -35,9 +35,9 @@ Completes-all tool files i done past completes =
     rw (append-nil done.catalogs.items, append-nil done.messages.items) at all
 
 -- each catalogue of a chain is a file
-chain-few : {tool : List ℕ} {files : List NamedFile} {chain : List Contents} {reported : List ℕ} → Opens tool files chain reported → length chain ≤ length files
+chain-few : {tool : List ℕ} {files : List NamedFile} {chain : List CatalogView} {reported : List ℕ} → Opens tool files chain reported → length chain ≤ length files
 chain-few none = omega arith
-chain-few (opened order is_catalog are_contents others) = let few = chain-few others in omega arith
+chain-few (opened order is_mo_file is_view others) = let few = chain-few others in omega arith
 chain-few (refused fault others) = let few = chain-few others in omega arith
 
 -- a chain has no more catalogues than there are files
@@ -72,11 +72,11 @@ or-false true = refl
 or-false false = refl
 
 -- an argument acts as `-n` where the first or one of the others does
-pub stops-reported : (p : List ℕ → Bool) (arguments others : List (Bor (List ℕ))) (first : Bor (List ℕ)) (begun stops : Bool) (i : ℕ)
+pub omitted-reported : (p : List ℕ → Bool) (arguments others : List (Bor (List ℕ))) (first : Bor (List ℕ)) (begun omitted : Bool) (i : ℕ)
     → arguments ≡ first ∷ others → length others ≤ i → begun ≡ p first.now
-    → (stops || list_any p (map (λ argument. argument.now) (drop i others))) ≡ (begun || list_any p (map (λ argument. argument.now) others))
-    → stops ≡ list_any p (map (λ argument. argument.now) arguments)
-stops-reported p arguments others first begun stops i are past begins left =
-    let all : (stops || false) ≡ (begun || list_any p (map (λ argument. argument.now) others)) = rw (drop_of_length-le others past) at left in
-    sym (or-false stops) ∙ all ∙ ap (λ b. b || list_any p (map (λ argument. argument.now) others)) begins
+    → (omitted || list_any p (map (λ argument. argument.now) (drop i others))) ≡ (begun || list_any p (map (λ argument. argument.now) others))
+    → omitted ≡ list_any p (map (λ argument. argument.now) arguments)
+omitted-reported p arguments others first begun omitted i are past begins left =
+    let all : (omitted || false) ≡ (begun || list_any p (map (λ argument. argument.now) others)) = rw (drop_of_length-le others past) at left in
+    sym (or-false omitted) ∙ all ∙ ap (λ b. b || list_any p (map (λ argument. argument.now) others)) begins
     ∙ ap (λ ws. list_any p (map (λ argument. argument.now) ws)) (sym are)

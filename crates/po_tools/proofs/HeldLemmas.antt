@@ -1,5 +1,5 @@
 -- One more entry of texts most of whose entries are written as they are read.
-use Rattle.std.proofs.Common.{◌≡◌, refl, sym, ap, ◌∙◌, subst, ℕ, ◌+◌, ◌<◌, ◌≤◌, List, [], ◌∷◌, ◌++◌, map, length, get_or, drop, append_assoc, append-nil, take, arith, zero, suc}
+use Rattle.std.proofs.Common.{◌≡◌, refl, sym, ap, ap₂, ◌∙◌, subst, ℕ, ◌+◌, ◌<◌, List, [], ◌∷◌, ◌++◌, map, length, get_or, append_assoc, append-nil, take, arith}
 use Rattle.std.specs.Prelude.{All}
 use Rattle.std.specs.Global.{Vec}
 use Rattle.std.specs.List.{AllZip}
@@ -11,35 +11,27 @@ use Rattle.po_entry.specs.TextEntry.{TextEntry}
 use Rattle.po_merge.specs.Inputs.{Input, NamedEntry, all_entries, named}
 use Rattle.po_merge.specs.InputsView.{input_view, inputs_view}
 use Rattle.po_merge.specs.declared.input.Named.{Named}
-use Rattle.po_merge.specs.Woven.{Stretched, alone, spread, unnamed}
-use Rattle.po_writer.specs.TextParts.{AreParts}
-use Rattle.po_writer.specs.declared.parts.TextParts.{TextParts}
-use Rattle.po_tools.specs.Digests.{digest}
+use Rattle.po_merge.specs.Woven.{Segment, alone, spread}
+use Rattle.po_catalog.specs.Digest.{digest}
 use Rattle.po_entry.specs.ReadsText.{ReadsText}
 use Rattle.po_catalog.specs.Duplicate.{AllDiffer}
-use Rattle.po_tools.specs.Held.{AreHeld, IsHeld, IsStretch}
+use Rattle.po_tools.specs.Held.{AreHeld, IsHeld}
 use Rattle.po_tools.specs.Msgcat.{AreReadAs, IsReadAs}
 use Rattle.po_tools.specs.NamedFile.{NamedFile, named_file, named_files}
 use Rattle.po_tools.proofs.MsgcatLemmas.{file_at}
+use Rattle.po_tools.proofs.SegmentLemmas.{alone_ended, alone_more}
 use Rattle.po_tools.proofs.SelectedLemmas.{live_differ}
+use Rattle.po_tools.specs.SegmentTexts.{AreSegmentTexts}
 use Rattle.po_tools.specs.declared.held.Held.{Held}
-use Rattle.po_tools.specs.declared.held.Stretch.{Stretch}
+use Rattle.po_tools.specs.declared.segment_texts.SegmentTexts.{SegmentTexts}
 
-spread_more : (ts : List Stretched) (rest : List NamedEntry) (e : NamedEntry) → spread ts (rest ++ e ∷ []) ≡ spread ts rest ++ e ∷ []
+spread_more : (ts : List Segment) (rest : List NamedEntry) (e : NamedEntry) → spread ts (rest ++ e ∷ []) ≡ spread ts rest ++ e ∷ []
 spread_more [] rest e = refl
 spread_more (t ∷ ts) rest e = ap (λ (l : List NamedEntry). t.0 ++ t.1 ∷ l) (spread_more ts rest e) ∙ sym (append_assoc t.0 (t.1 ∷ spread ts rest) (e ∷ []))
 
-alone_more : (ts : List Stretched) (rest : List NamedEntry) (e : NamedEntry) → alone ts (rest ++ e ∷ []) ≡ alone ts rest ++ e ∷ []
-alone_more [] rest e = refl
-alone_more (t ∷ ts) rest e = ap (λ (l : List NamedEntry). t.0 ++ l) (alone_more ts rest e) ∙ sym (append_assoc t.0 (alone ts rest) (e ∷ []))
-
-spread_ended : (ts : List Stretched) (rest : List NamedEntry) (e : NamedEntry) → spread (ts ++ (rest, e) ∷ []) [] ≡ spread ts rest ++ e ∷ []
+spread_ended : (ts : List Segment) (rest : List NamedEntry) (e : NamedEntry) → spread (ts ++ (rest, e) ∷ []) [] ≡ spread ts rest ++ e ∷ []
 spread_ended [] rest e = refl
 spread_ended (t ∷ ts) rest e = ap (λ (l : List NamedEntry). t.0 ++ t.1 ∷ l) (spread_ended ts rest e) ∙ sym (append_assoc t.0 (t.1 ∷ spread ts rest) (e ∷ []))
-
-alone_ended : (ts : List Stretched) (rest : List NamedEntry) (e : NamedEntry) → alone (ts ++ (rest, e) ∷ []) [] ≡ alone ts rest
-alone_ended [] rest e = append-nil rest
-alone_ended (t ∷ ts) rest e = ap (λ (l : List NamedEntry). t.0 ++ l) (alone_ended ts rest e)
 
 zip_push : {A B : Type 0} (R : A → B → Type 0) (xs : List A) (ys : List B) (x : A) (y : B) → AllZip R xs ys → R x y → AllZip R (xs ++ x ∷ []) (ys ++ y ∷ [])
 zip_push R [] [] x y h g = (g, tt)
@@ -47,65 +39,41 @@ zip_push R [] (z ∷ ys) x y h g = absurd h
 zip_push R (z ∷ xs) [] x y h g = absurd h
 zip_push R (z ∷ xs) (w ∷ ys) x y h g = (h.0, zip_push R xs ys x y h.1 g)
 
-zip_at : {A B : Type 0} (R : A → B → Type 0) (xs : List A) (ys : List B) (i : ℕ) (d : B) → AllZip R xs ys → i < length ys → (x : A) × (drop i xs ≡ x ∷ drop (suc i) xs) × R x (get_or ys i d)
-zip_at R [] [] i d h l = absurd (omega (arith, l))
-zip_at R [] (y ∷ ys) i d h l = absurd h
-zip_at R (x ∷ xs) [] i d h l = absurd h
-zip_at R (x ∷ xs) (y ∷ ys) zero d h l = (x, refl, h.0)
-zip_at R (x ∷ xs) (y ∷ ys) (suc i) d h l = let less : i < length ys = omega (arith, l) in zip_at R xs ys i d h.1 less
-
--- what stands beside an element
-pub zip_now : {A B : Type 0} (R : A → B → Type 0) (xs : List A) (ys : List B) (i : ℕ) (d : B) → AllZip R xs ys → i < length ys → (x : A) × (drop i xs ≡ x ∷ drop (i + 1) xs) × R x (get_or ys i d)
-zip_now R xs ys i d h l =
-    let at = zip_at R xs ys i d h l in
-    let one : suc i ≡ i + 1 = omega arith in
-    (at.0, at.1 ∙ ap (λ (k : ℕ). at.0 ∷ drop k xs) one, at.2)
-
-pub zip_over : {A B : Type 0} (R : A → B → Type 0) (xs : List A) (ys : List B) (i : ℕ) → AllZip R xs ys → length ys ≤ i → drop i xs ≡ []
-zip_over R [] ys zero h l = refl
-zip_over R [] ys (suc i) h l = refl
-zip_over R (x ∷ xs) [] i h l = absurd h
-zip_over R (x ∷ xs) (y ∷ ys) zero h l = absurd (omega (arith, l))
-zip_over R (x ∷ xs) (y ∷ ys) (suc i) h l = let less : length ys ≤ i = omega (arith, l) in zip_over R xs ys i h.1 less
-
 abbrev Admitted : NamedEntry → Type 0
 Admitted d = HasAdmittedCharset d.entry
 
 -- an entry that is written
-pub held_written : (old : Held) (rest : TextParts) (digests : Vec ℕ) (name : List ℕ) (e : TextEntry) (entries kept : List NamedEntry) → HasAdmittedCharset e
-    → ((before : List TextEntry) → AreParts before old.rest → AreParts (before ++ e ∷ []) rest) → digests.items ≡ old.digests.items ++ digest e ∷ []
-    → IsHeld old entries kept → IsHeld (record { stretches = old.stretches; rest = rest; digests = digests }) (entries ++ named name e ∷ []) kept
-held_written old rest digests name e entries kept valid added pushed h =
+pub held_written : (old : Held) (texts : SegmentTexts) (digests : Vec ℕ) (number : ℕ) (name : List ℕ) (e : TextEntry) (entries kept : List NamedEntry) → HasAdmittedCharset e → number ≡ digest e
+    → ((segments : List Segment) (after : List NamedEntry) (name : List ℕ) → AreSegmentTexts segments after old.texts → AreSegmentTexts segments (after ++ named name e ∷ []) texts)
+    → digests.items ≡ old.digests.items ++ number ∷ [] → IsHeld old entries kept → IsHeld (record { texts = texts; digests = digests }) (entries ++ named name e ∷ []) kept
+held_written old texts digests number name e entries kept valid is written pushed h =
     let n = named name e in
-    let more = alone_more h.stretched h.after n in
+    let more = alone_more h.segments h.after n in
     record {
-      stretched = h.stretched;
+      segments = h.segments;
       after = h.after ++ n ∷ [];
-      entries_are = spread_more h.stretched h.after n ∙ ap (λ (l : List NamedEntry). l ++ n ∷ []) h.entries_are;
+      entries_are = spread_more h.segments h.after n ∙ ap (λ (l : List NamedEntry). l ++ n ∷ []) h.entries_are;
       kept_are = h.kept_are;
-      stretches = h.stretches;
-      rest = subst (λ (l : List TextEntry). AreParts l rest) (sym (map-append (λ (d : NamedEntry). d.entry) h.after (n ∷ []))) (added (unnamed h.after) h.rest);
-      digests = pushed ∙ ap (λ (l : List ℕ). l ++ digest e ∷ []) h.digests
-          ∙ sym (map-append (λ (d : NamedEntry). digest d.entry) (alone h.stretched h.after) (n ∷ [])) ∙ ap (map (λ (d : NamedEntry). digest d.entry)) (sym more);
-      admitted = subst (All Admitted) (sym more) (All-push Admitted (alone h.stretched h.after) n h.admitted valid);
+      texts = written h.segments h.after name h.texts;
+      digests = pushed ∙ ap₂ (λ (l : List ℕ) (k : ℕ). l ++ k ∷ []) h.digests is
+          ∙ sym (map-append (λ (d : NamedEntry). digest d.entry) (alone h.segments h.after) (n ∷ [])) ∙ ap (map (λ (d : NamedEntry). digest d.entry)) (sym more);
+      admitted = subst (All Admitted) (sym more) (All-push Admitted (alone h.segments h.after) n h.admitted valid);
     }
 
 -- an entry that is kept
-pub held_ended : (old : Held) (stretches : Vec Stretch) (rest : TextParts) (s : Stretch) (name : List ℕ) (e : TextEntry) (entries kept : List NamedEntry)
-    → stretches.items ≡ old.stretches.items ++ s ∷ [] → s.parts ≡ old.rest → s.next ≡ digest e → AreParts [] rest
-    → IsHeld old entries kept → IsHeld (record { stretches = stretches; rest = rest; digests = old.digests }) (entries ++ named name e ∷ []) (kept ++ named name e ∷ [])
-held_ended old stretches rest s name e entries kept pushed parts next none h =
+pub held_ended : (old : Held) (texts : SegmentTexts) (number : ℕ) (name : List ℕ) (e : TextEntry) (entries kept : List NamedEntry) → number ≡ digest e
+    → ((segments : List Segment) (after : List NamedEntry) (last : NamedEntry) → number ≡ digest last.entry → AreSegmentTexts segments after old.texts → AreSegmentTexts (segments ++ (after, last) ∷ []) [] texts)
+    → IsHeld old entries kept → IsHeld (record { texts = texts; digests = old.digests }) (entries ++ named name e ∷ []) (kept ++ named name e ∷ [])
+held_ended old texts number name e entries kept is ended h =
     let n = named name e in
-    let t : Stretched = (h.after, n) in
-    let same = alone_ended h.stretched h.after n in
+    let t : Segment = (h.after, n) in
+    let same = alone_ended h.segments h.after n in
     record {
-      stretched = h.stretched ++ t ∷ [];
+      segments = h.segments ++ t ∷ [];
       after = [];
-      entries_are = spread_ended h.stretched h.after n ∙ ap (λ (l : List NamedEntry). l ++ n ∷ []) h.entries_are;
-      kept_are = map-append (λ (x : Stretched). x.1) h.stretched (t ∷ []) ∙ ap (λ (l : List NamedEntry). l ++ n ∷ []) h.kept_are;
-      stretches = subst (AllZip IsStretch (h.stretched ++ t ∷ [])) (sym pushed)
-          (zip_push IsStretch h.stretched old.stretches.items t s h.stretches (record { parts = subst (AreParts (unnamed h.after)) (sym parts) h.rest; next = next }));
-      rest = none;
+      entries_are = spread_ended h.segments h.after n ∙ ap (λ (l : List NamedEntry). l ++ n ∷ []) h.entries_are;
+      kept_are = map-append (λ (x : Segment). x.1) h.segments (t ∷ []) ∙ ap (λ (l : List NamedEntry). l ++ n ∷ []) h.kept_are;
+      texts = ended h.segments h.after n is h.texts;
       digests = h.digests ∙ ap (map (λ (d : NamedEntry). digest d.entry)) (sym same);
       admitted = subst (All Admitted) (sym same) h.admitted;
     }

@@ -2,8 +2,8 @@
 use Rattle.std.proofs.Common.{◌≡◌, ◌≤◌, ◌<◌, ◌+◌, ◌||◌, ℕ, Bool, false, List, [], ◌∷◌, ◌++◌, Option, None, Some, refl, drop, get_or, map, length, ap, subst, append_assoc, append-nil, drop-cons, drop_of_length-le, add-one}
 use Rattle.std.specs.Borrow.{Bor}
 use Rattle.po_tools.specs.declared.inputs.Input.{Input}
-use Rattle.po_tools.specs.declared.inputs.Unread.{Unread}
-use Rattle.po_tools.specs.Inputs.{AreInputs, ReadsAs, Reading, gives, refuses, done, read, unread, unread_text, named_input, named_inputs}
+use Rattle.po_tools.specs.declared.inputs.InputFault.{InputFault}
+use Rattle.po_tools.specs.Inputs.{AreInputs, ReadsAs, Reading, gives, refuses, done, read, unread, input_fault_text, named_input, named_inputs}
 use Rattle.po_tools.specs.NamedFile.{NamedFile}
 use Rattle.po_tools.specs.Run.{is_standard, shown_name}
 
@@ -39,13 +39,13 @@ module _ (file : List ℕ → Reading → Type 0) (standard : Reading → Type 0
         (rw (next-argument arguments i d below) (read reads are)));
   }
 
-  pub Completes-unread : (arguments : List (Bor (List ℕ))) (i : ℕ) (d : Bor (List ℕ)) (seen : Bool) (inputs : List NamedFile) (why : Unread) → i < length arguments
+  pub Completes-unread : (arguments : List (Bor (List ℕ))) (i : ℕ) (d : Bor (List ℕ)) (seen : Bool) (inputs : List NamedFile) (why : InputFault) → i < length arguments
       → ReadsAs file standard (get_or arguments i d).now (is_standard (get_or arguments i d).now) seen (refuses why) → Completes arguments i seen inputs
-      → AreInputs file standard false (arguments_now arguments) inputs (Some (unread_text (shown_name (get_or arguments i d).now) why))
+      → AreInputs file standard false (arguments_now arguments) inputs (Some (input_fault_text (shown_name (get_or arguments i d).now) why))
   Completes-unread arguments i d seen inputs why below reads before =
-      let Are : List NamedFile → Type 0 = λ list. AreInputs file standard false (arguments_now arguments) list (Some (unread_text (shown_name (get_or arguments i d).now) why)) in
+      let Are : List NamedFile → Type 0 = λ list. AreInputs file standard false (arguments_now arguments) list (Some (input_fault_text (shown_name (get_or arguments i d).now) why)) in
       subst Are (append-nil inputs)
-      (before.completes [] (Some (unread_text (shown_name (get_or arguments i d).now) why)) (rw (next-argument arguments i d below) (unread why reads)))
+      (before.completes [] (Some (input_fault_text (shown_name (get_or arguments i d).now) why)) (rw (next-argument arguments i d below) (unread why reads)))
 
   pub Completes-all : (arguments : List (Bor (List ℕ))) (i : ℕ) (seen : Bool) (inputs : List NamedFile) → length arguments ≤ i → Completes arguments i seen inputs
       → AreInputs file standard false (arguments_now arguments) inputs None

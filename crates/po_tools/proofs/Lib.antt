@@ -13,5 +13,6 @@ pub mod OneText
 pub mod OneOtherRun
 pub mod CatalogueLemmas
 pub mod NulNames
+pub mod SegmentLemmas
 pub mod HeldLemmas
 pub mod WovenText

@@ -17,7 +17,7 @@ use Rattle.po_tools.specs.declared.profile.CheckFault.TheVariants.{OutOfMemory}
 use Rattle.po_tools.specs.declared.program_fault.ProgramFault.{ProgramFault}
 use Rattle.po_tools.specs.declared.program_fault.ProgramFault.TheVariants.{OutOfMemory as OutOfMemory', WrongArguments}
 use Rattle.po_tools.specs.declared.run.Run.{Run}
-use Rattle.po_tools.specs.Msgfmt.{AreChecked, AreTaken, IsMsgfmtRun, AreNoneOrTooMany, IsRefused, check_line, compile_options, compiled_run, input_texts, join_line}
+use Rattle.po_tools.specs.Msgfmt.{AreChecked, NoneRefused, IsMsgfmtRun, AreNoneOrTooMany, IsRefused, check_line, compile_options, compiled_run, input_texts, join_line}
 use Rattle.po_tools.specs.NamedFile.{NamedFile, named_file, named_files}
 use Rattle.po_tools.specs.Profile.{Reported}
 use Rattle.po_tools.specs.Run.{RunView, refusal, run_view}
@@ -72,7 +72,7 @@ run-done inputs o catalogues compiled r read is_compiled checked =
 
 -- where no check is asked for, a run of status 0 is that of inputs that are compiled
 pub taken : (inputs : List NamedFile) (o unchecked : MsgfmtOptions) (run : RunView) → unchecked.profile_check ≡ false → compile_options unchecked ≡ compile_options o
-    → IsMsgfmtRun inputs unchecked run → run.status ≡ 0 → AreTaken inputs o
+    → IsMsgfmtRun inputs unchecked run → run.status ≡ 0 → NoneRefused inputs o
 taken inputs o unchecked run none same (inl refused) ok = let one : run.status ≡ 1 = ap (λ r. r.status) refused.run_is in absurd (omega (arith, one, ok))
 taken inputs o unchecked run none same (inr (inl unfit)) ok = let wrong : true ≡ false = sym unfit.asked ∙ none in cc
 taken inputs o unchecked run none same (inr (inr done)) ok =
@@ -90,9 +90,9 @@ refused inputs o unchecked run none same (inr (inr done)) bad = absurd (bad (ap 
 
 -- what is reported where an input can't be read is reported of the inputs before it
 pub before-reported : (r : Result Run ProgramFault) (inputs others : List NamedFile) (o : MsgfmtOptions) (given : Option ProgramFault) (fault : ProgramFault) → others ≡ inputs → given ≡ Some fault
-    → IfErr r (λ reported. (reported ≡ OutOfMemory') ⊎ ((reported ≡ fault) × AreTaken others o))
-    → IfErr r (λ reported. (reported ≡ OutOfMemory') ⊎ ((reported ≡ WrongArguments) × AreNoneOrTooMany inputs) ⊎ ((given ≡ Some reported) × AreTaken inputs o))
+    → IfErr r (λ reported. (reported ≡ OutOfMemory') ⊎ ((reported ≡ fault) × NoneRefused others o))
+    → IfErr r (λ reported. (reported ≡ OutOfMemory') ⊎ ((reported ≡ WrongArguments) × AreNoneOrTooMany inputs) ⊎ ((given ≡ Some reported) × NoneRefused inputs o))
 before-reported (Ok run) inputs others o given fault same is h = tt
 before-reported (Err reported) inputs others o given fault same is h =
     ⊎_elim (λ memory. inl memory)
-    (λ taken. inr (inr (is ∙ ap (λ (f : ProgramFault). Some f) (sym taken.0), subst (λ (list : List NamedFile). AreTaken list o) same taken.1))) h
+    (λ taken. inr (inr (is ∙ ap (λ (f : ProgramFault). Some f) (sym taken.0), subst (λ (list : List NamedFile). NoneRefused list o) same taken.1))) h

@@ -1,7 +1,7 @@
 -- msgunfmt, msgattrib and msgcat have one run of their inputs.
 use Rattle.std.proofs.Common.{◌≡◌, ℕ, List, [], ◌∷◌, ◌++◌, map, refl, sym, ap, ap₂, subst, ◌∙◌, inl, inr}
 use Rattle.std.specs.Prelude.{All}
-use Rattle.mo_file.specs.Laws.{CatalogIsUnique}
+use Rattle.mo_file.specs.Laws.{OneMessageList}
 use Rattle.mo_file.specs.Message.{Message}
 use Rattle.po_syntax.specs.declared.fault.PoError.{PoError}
 use Rattle.po_syntax.specs.declared.fault.PoFault.TheVariants.{Duplicate}
@@ -34,7 +34,7 @@ NoFirstDuplicate = (entries : List InputEntry) (first later : InputEntry) → Ha
 abbrev OneFirstDuplicate : Type 0
 OneFirstDuplicate = (entries : List InputEntry) (first later other last : InputEntry) → IsFirstDuplicate entries first later → IsFirstDuplicate entries other last → (first ≡ other) × (later ≡ last)
 
-pub msgunfmt_once : CatalogIsUnique → NoFaultWhereUnformatted → OneText → OneUnformatFault → OneMsgunfmtRun
+pub msgunfmt_once : OneMessageList → NoFaultWhereUnformatted → OneText → OneUnformatFault → OneMsgunfmtRun
 msgunfmt_once unique no_fault one_text one_fault file run other (inl is) (inl also) =
     is.run_is ∙ ap (λ (e : UnformatError). refusal (unformat_line file.name e)) (one_fault file.bytes is.error also.error is.fault also.fault is.not_memory also.not_memory) ∙ sym also.run_is
 msgunfmt_once unique no_fault one_text one_fault file run other (inl is) (inr also) = absurd (is.not_memory (no_fault file.bytes also.text is.error also.unformatted is.fault))
@@ -42,7 +42,7 @@ msgunfmt_once unique no_fault one_text one_fault file run other (inr is) (inl al
 msgunfmt_once unique no_fault one_text one_fault file run other (inr is) (inr also) =
     let f = is.unformatted in
     let g = also.unformatted in
-    let messages : f.messages ≡ g.messages = (unique file.bytes f.order g.order f.messages g.messages f.catalog g.catalog).1 in
+    let messages : f.messages ≡ g.messages = (unique file.bytes f.order g.order f.messages g.messages f.valid g.valid).1 in
     is.run_is ∙ ap₂ (λ (m : List Message) (t : List ℕ). unformatted_run m t) messages (one_text file.bytes is.text also.text f g) ∙ sym also.run_is
 
 entries_in : (entries : List TextEntry) → entries_of (map (in_input 0) entries) ≡ entries

@@ -1,11 +1,11 @@
 -- A tool has one run of its inputs.
 use Rattle.std.proofs.Common.{◌≡◌, ℕ, List, [], ◌∷◌, ◌++◌, Option, None, Some, MatchOption, codes, find, refl, sym, ap, subst, ◌∙◌, inl, inr}
-use Rattle.mo_file.specs.Laws.{CatalogIsUnique, NoFaultOfCatalog, OneFirstFault}
+use Rattle.mo_file.specs.Laws.{OneMessageList, NoFaultOfMoFile, OneFirstFault}
 use Rattle.mo_file.specs.Message.{Message}
 use Rattle.mo_file.specs.Layout.{layout}
 use Rattle.mo_file.specs.declared.fault.MoError.{MoError}
-use Rattle.plural_rule.specs.PluralRule.{Meaning, IsRuleOf, expression_limit}
-use Rattle.mo_lookup.specs.Contents.{AreContents, Contents, header_text}
+use Rattle.plural_rule.specs.PluralRule.{RuleView, IsRuleOf, expression_limit}
+use Rattle.mo_lookup.specs.CatalogView.{IsCatalogView, CatalogView, header_text}
 use Rattle.po_entry.specs.TextEntry.{TextEntry}
 use Rattle.po_entry.specs.Header.{first_form}
 use Rattle.po_catalog.specs.Joined.{InputEntry, joined, joined_entries}
@@ -27,33 +27,33 @@ use Rattle.po_tools.specs.RunLaws.{OneMsgfmtRun}
 use Rattle.po_tools.specs.Run.{RunView, refusal}
 
 abbrev OneRule : Type 0
-OneRule = (limit : ℕ) (header : List ℕ) (rule other : Meaning) → IsRuleOf limit header rule → IsRuleOf limit header other → rule ≡ other
+OneRule = (limit : ℕ) (header : List ℕ) (rule other : RuleView) → IsRuleOf limit header rule → IsRuleOf limit header other → rule ≡ other
 
 -- the files make one chain, and one text about those that are refused
-module _ (unique : CatalogIsUnique) (no_fault : NoFaultOfCatalog) (one_fault : OneFirstFault) (one_rule : OneRule) where
-  same_rule : (messages others : List Message) (rule other : Meaning) → messages ≡ others → AreContents messages rule → AreContents others other → rule ≡ other
+module _ (unique : OneMessageList) (no_fault : NoFaultOfMoFile) (one_fault : OneFirstFault) (one_rule : OneRule) where
+  same_rule : (messages others : List Message) (rule other : RuleView) → messages ≡ others → IsCatalogView messages rule → IsCatalogView others other → rule ≡ other
   same_rule messages others rule other same are also =
       one_rule expression_limit (header_text messages) rule other are.rule_of_header
       (subst (λ (list : List Message). IsRuleOf expression_limit (header_text list) other) (sym same) also.rule_of_header)
 
-  one_chain : (tool : List ℕ) (files : List NamedFile) (chain other : List Contents) (reported also : List ℕ) → Opens tool files chain reported
+  one_chain : (tool : List ℕ) (files : List NamedFile) (chain other : List CatalogView) (reported also : List ℕ) → Opens tool files chain reported
       → Opens tool files other also → (chain ≡ other) × (reported ≡ also)
   one_chain tool [] [] [] [] [] none none = (refl, refl)
   one_chain tool [] [] [] [] (_ ∷ _) _ opens = elim opens [ ]
   one_chain tool [] [] [] (_ ∷ _) _ opens _ = elim opens [ ]
   one_chain tool [] [] (_ ∷ _) _ _ _ opens = elim opens [ ]
   one_chain tool [] (_ ∷ _) _ _ _ opens _ = elim opens [ ]
-  one_chain tool (file ∷ files) (contents ∷ chain) (contents' ∷ chain') reported reported' (opened order is are opens) (opened order' is' are' opens') =
-      let messages : contents.messages ≡ contents'.messages = (unique file.bytes order order' contents.messages contents'.messages is is').1 in
-      let rule : contents.rule ≡ contents'.rule = same_rule contents.messages contents'.messages contents.rule contents'.rule messages are are' in
+  one_chain tool (file ∷ files) (catalog ∷ chain) (catalog' ∷ chain') reported reported' (opened order is are opens) (opened order' is' are' opens') =
+      let messages : catalog.messages ≡ catalog'.messages = (unique file.bytes order order' catalog.messages catalog'.messages is is').1 in
+      let rule : catalog.rule ≡ catalog'.rule = same_rule catalog.messages catalog'.messages catalog.rule catalog'.rule messages are are' in
       let rest = one_chain tool files chain chain' reported reported' opens opens' in
-      let head : contents ≡ contents' =
-      ap (λ (m : List Message). record { messages = m; rule = contents.rule }) messages ∙ ap (λ (r : Meaning). record { messages = contents'.messages; rule = r }) rule in
-      (ap (λ (c : Contents). c ∷ chain) head ∙ ap (λ (list : List Contents). contents' ∷ list) rest.0, rest.1)
-  one_chain tool (file ∷ files) (contents ∷ chain) chain' reported _ (opened order is are opens) (refused {fault = fault} first opens') =
-      absurd (no_fault file.bytes order contents.messages fault is first)
-  one_chain tool (file ∷ files) chain (contents ∷ chain') _ reported' (refused {fault = fault} first opens) (opened order is are opens') =
-      absurd (no_fault file.bytes order contents.messages fault is first)
+      let head : catalog ≡ catalog' =
+      ap (λ (m : List Message). record { messages = m; rule = catalog.rule }) messages ∙ ap (λ (r : RuleView). record { messages = catalog'.messages; rule = r }) rule in
+      (ap (λ (c : CatalogView). c ∷ chain) head ∙ ap (λ (list : List CatalogView). catalog' ∷ list) rest.0, rest.1)
+  one_chain tool (file ∷ files) (catalog ∷ chain) chain' reported _ (opened order is are opens) (refused {fault = fault} first opens') =
+      absurd (no_fault file.bytes order catalog.messages fault is first)
+  one_chain tool (file ∷ files) chain (catalog ∷ chain') _ reported' (refused {fault = fault} first opens) (opened order is are opens') =
+      absurd (no_fault file.bytes order catalog.messages fault is first)
   one_chain tool (file ∷ files) chain chain' _ _ (refused {fault = fault} {reported = reported} first opens) (refused {fault = fault'} {reported = reported'} first' opens') =
       let fault_is : fault ≡ fault' = one_fault file.bytes fault fault' first first' in
       let rest = one_chain tool files chain chain' reported reported' opens opens' in (
@@ -64,27 +64,27 @@ module _ (unique : CatalogIsUnique) (no_fault : NoFaultOfCatalog) (one_fault : O
   pub gettext_once : (files : List NamedFile) (o : GettextRequest) (run other : RunView) → IsGettextRun files o run → IsGettextRun files o other → run ≡ other
   gettext_once files o run other is also =
       let same = one_chain (codes "gettext") files is.chain also.chain is.reported also.reported is.opens also.opens in
-      is.run_is ∙ ap (λ (chain : List Contents). answered (gettext_output chain o) is.reported) same.0
+      is.run_is ∙ ap (λ (chain : List CatalogView). answered (gettext_output chain o) is.reported) same.0
       ∙ ap (λ (reported : List ℕ). answered (gettext_output also.chain o) reported) same.1 ∙ sym also.run_is
 
   pub ngettext_once : (files : List NamedFile) (o : NgettextRequest) (run other : RunView) → IsNgettextRun files o run → IsNgettextRun files o other → run ≡ other
   ngettext_once files o run other is also =
       let same = one_chain (codes "ngettext") files is.chain also.chain is.reported also.reported is.opens also.opens in
-      is.run_is ∙ ap (λ (chain : List Contents). answered (ngettext_output chain o) is.reported) same.0
+      is.run_is ∙ ap (λ (chain : List CatalogView). answered (ngettext_output chain o) is.reported) same.0
       ∙ ap (λ (reported : List ℕ). answered (ngettext_output also.chain o) reported) same.1 ∙ sym also.run_is
 
 -- what a header found or not found says of the check's fault
 abbrev CheckedBy : List InputEntry → Option Reported → Option InputEntry → Type 0
 CheckedBy entries fault found =
     MatchOption found (fault ≡ Some (0, NoHeader))
-    (λ header. (rule : Meaning) × IsRuleOf expression_limit (first_form header.entry.forms) rule × (fault ≡ first_fault entries rule))
+    (λ header. (rule : RuleView) × IsRuleOf expression_limit (first_form header.entry.forms) rule × (fault ≡ first_fault entries rule))
 
 check_once : OneRule → (entries : List InputEntry) (fault other : Option Reported) (found : Option InputEntry) → CheckedBy entries fault found
     → CheckedBy entries other found → fault ≡ other
 check_once one_rule entries fault other None is also = is ∙ sym also
 check_once one_rule entries fault other (Some header) is also =
     let rules = one_rule expression_limit (first_form header.entry.forms) is.0 also.0 is.1 also.1 in
-    is.2 ∙ ap (λ (rule : Meaning). first_fault entries rule) rules ∙ sym also.2
+    is.2 ∙ ap (λ (rule : RuleView). first_fault entries rule) rules ∙ sym also.2
 
 -- entries are compiled to one file, with one number of messages and one statistics
 same_compiled : MessagesAreOne → (o : MsgfmtOptions) (entries : List TextEntry) (a b : Compiled) → IsCompilation (compile_options o) entries a → IsCompilation (compile_options o) entries b

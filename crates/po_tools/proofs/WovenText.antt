@@ -1,46 +1,34 @@
 -- The text of what several inputs are merged to, of which most entries are written as they are read.
-use Rattle.std.proofs.Common.{◌≡◌, refl, sym, ap, ap₂, ◌∙◌, subst, ℕ, ◌==◌, Bool, true, false, List, [], ◌∷◌, ◌++◌, map, length, append_assoc, append-nil, arith}
-use Rattle.std.specs.Prelude.{All, fold, if◌then◌else◌}
-use Rattle.std.proofs.lemmas.Bool.{ne_eqb}
-use Rattle.std.proofs.lemmas.List.Sums.{fold-append}
+use Rattle.std.proofs.Common.{◌≡◌, refl, sym, ap, ap₂, ◌∙◌, subst, ℕ, ◌==◌, Bool, true, false, not, filter, List, [], ◌∷◌, ◌++◌, map, length, append_assoc, append-nil}
+use Rattle.std.specs.Prelude.{All, if◌then◌else◌}
+use Rattle.std.proofs.lemmas.List.{map-append}
 use Rattle.std.proofs.lemmas.List.Elements.{All-weaker}
 use Rattle.po_entry.specs.Header.{HasAdmittedCharset}
 use Rattle.po_entry.specs.TextEntry.{TextEntry}
 use Rattle.po_entry.specs.Validity.{IsCatalogueEntry}
+use Rattle.po_catalog.specs.Digest.{digest}
 use Rattle.po_merge.specs.Inputs.{Input, NamedEntry}
 use Rattle.po_merge.specs.Groups.{definitions, groups}
 use Rattle.po_merge.specs.Merged.{merged, merged_messages}
 use Rattle.po_merge.specs.MergeLaws.{keep_all}
-use Rattle.po_merge.specs.Woven.{Stretched, WovenAreAdmitted, WovenAreMerged, lasts, unnamed, woven}
+use Rattle.po_merge.specs.Woven.{Segment, WovenAreAdmitted, WovenAreMerged, alone, lasts, unnamed, woven}
 use Rattle.po_merge.specs.declared.input.MergeOptions.{MergeOptions}
-use Rattle.po_writer.specs.Separated.{with_entry}
-use Rattle.po_writer.specs.TextParts.{AreParts}
-use Rattle.po_writer.specs.WrittenText.{in_order, written_text}
+use Rattle.po_writer.specs.TextParts.{AreParts, AreSeparated, separated}
+use Rattle.po_writer.specs.WrittenText.{written_text}
 use Rattle.po_writer.specs.declared.parts.TextParts.{TextParts}
-use Rattle.po_writer.proofs.Separated.{further, joined, some_text}
-use Rattle.po_tools.specs.Digests.{AreDistinct, digest}
-use Rattle.po_tools.specs.Held.{AreHeld, after_next, next_merged, text_after}
+use Rattle.po_tools.specs.Digests.{AreDistinct}
+use Rattle.po_tools.specs.Held.{AreHeld, after_next, next_merged}
 use Rattle.po_tools.specs.Msgcat.{IsMergedText, keeps_all}
 use Rattle.po_tools.specs.NamedFile.{NamedFile}
+use Rattle.po_tools.specs.SegmentTexts.{AreSegmentEnds, AreSegmentTexts}
 use Rattle.po_tools.specs.declared.held.Held.{Held}
+use Rattle.po_tools.specs.declared.segment_texts.SegmentEnd.{SegmentEnd}
+use Rattle.po_tools.specs.declared.segment_texts.SegmentTexts.{SegmentTexts}
 use Rattle.po_tools.proofs.DigestLemmas.{same_digest}
 use Rattle.po_tools.proofs.OneText.{all_kept}
+use Rattle.po_tools.proofs.SegmentLemmas.{between_entries, first_end, no_end}
 
-not_empty : (entry : TextEntry) (entries : List TextEntry) → (length (in_order (entry ∷ entries)) == 0) ≡ false
-not_empty entry entries = ne_eqb (length (in_order (entry ∷ entries))) 0 (λ e. omega (arith, e, some_text (entry ∷ entries) (omega arith)))
-
--- the texts of entries, one after the other
-pub texts_joined : (before entries : List TextEntry) → text_after (in_order before) (in_order entries) ≡ in_order (before ++ entries)
-texts_joined before [] = ap in_order (sym (append-nil before))
-texts_joined [] (e ∷ entries) = ap (λ (b : Bool). if b then [] else in_order (e ∷ entries)) (not_empty e entries)
-texts_joined (x ∷ before) (e ∷ entries) =
-    let text = in_order (x ∷ before) in
-    let more = in_order (e ∷ entries) in
-    ap₂ (λ (b c : Bool). if b then text else (if c then [] else text ++ 10 ∷ []) ++ more) (not_empty e entries) (not_empty x before)
-    ∙ append_assoc text (10 ∷ []) more ∙ sym (further text (e ∷ entries) (some_text (x ∷ before) (omega arith)))
-    ∙ ap (λ (t : List ℕ). fold with_entry t (e ∷ entries)) (sym (joined (x ∷ before))) ∙ sym (fold-append with_entry [] (x ∷ before) (e ∷ entries)) ∙ joined ((x ∷ before) ++ e ∷ entries)
-
-woven_more : (t : Stretched) (ts : List Stretched) (merged : List TextEntry) (rest : List NamedEntry)
+woven_more : (t : Segment) (ts : List Segment) (merged : List TextEntry) (rest : List NamedEntry)
     → woven digest (t ∷ ts) merged rest ≡ unnamed t.0 ++ (next_merged (digest t.1.entry) merged ++ woven digest ts (after_next (digest t.1.entry) merged) rest)
 woven_more t ts [] rest = refl
 woven_more t ts (m ∷ merged) rest = found (digest m == digest t.1.entry) where
@@ -49,7 +37,7 @@ woven_more t ts (m ∷ merged) rest = found (digest m == digest t.1.entry) where
   found true = refl
   found false = refl
 
-step_woven : (done : List TextEntry) (t : Stretched) (ts : List Stretched) (merged left : List TextEntry) (next : ℕ) (rest : List NamedEntry) → next ≡ digest t.1.entry → left ≡ after_next next merged
+step_woven : (done : List TextEntry) (t : Segment) (ts : List Segment) (merged left : List TextEntry) (next : ℕ) (rest : List NamedEntry) → next ≡ digest t.1.entry → left ≡ after_next next merged
     → ((done ++ unnamed t.0) ++ next_merged next merged) ++ woven digest ts left rest ≡ done ++ woven digest (t ∷ ts) merged rest
 step_woven done t ts merged left next rest is after =
     ap (λ (l : List TextEntry). ((done ++ unnamed t.0) ++ next_merged next merged) ++ woven digest ts l rest) after
@@ -58,35 +46,96 @@ step_woven done t ts merged left next rest is after =
     ∙ ap (λ (n : ℕ). done ++ (unnamed t.0 ++ (next_merged n merged ++ woven digest ts (after_next n merged) rest))) is
     ∙ ap (λ (l : List TextEntry). done ++ l) (sym (woven_more t ts merged rest))
 
--- one more stretch
-pub stretch_woven : (done : List TextEntry) (t : Stretched) (ts : List Stretched) (merged left : List TextEntry) (next : ℕ) (rest : List NamedEntry) (whole : List TextEntry) (parts now : TextParts)
-    → next ≡ digest t.1.entry → left ≡ after_next next merged → ((before : List TextEntry) → AreParts before parts → AreParts (before ++ next_merged next merged) now)
-    → AreParts (done ++ unnamed t.0) parts → done ++ woven digest (t ∷ ts) merged rest ≡ whole
-    → (all : List TextEntry) × AreParts all now × (all ++ woven digest ts left rest ≡ whole)
-stretch_woven done t ts merged left next rest whole parts now is after added are same =
-    ((done ++ unnamed t.0) ++ next_merged next merged, added (done ++ unnamed t.0) are, step_woven done t ts merged left next rest is after ∙ same)
+-- what is woven so far, where these ends are left
+pub record IsWovenTo (merged : List TextEntry) (segments : List Segment) (after : List NamedEntry) (ends : List SegmentEnd) (live obsolete : ℕ) (left : List TextEntry) (parts : TextParts) : Type 0 where
+  pub done : List TextEntry
+  pub are : AreParts done parts
+  pub before : List TextEntry
+  pub rest : List Segment
+  pub woven_are : done ++ woven digest rest left after ≡ woven digest segments merged after
+  pub ends_are : AreSegmentEnds before rest ends
+  pub live_is : live ≡ length (separated (filter (λ e. not e.obsolete) before))
+  pub obsolete_is : obsolete ≡ length (separated (filter (λ e. e.obsolete) before))
+  pub parted : before ++ unnamed (alone rest after) ≡ unnamed (alone segments after)
+
+-- `own` is what stands in the text between the offsets
+abbrev IsBetween : List ℕ → ℕ → ℕ → List ℕ → Type 0
+IsBetween text start end own = (b o a : List ℕ) → text ≡ b ++ (o ++ a) → start ≡ length b → end ≡ length (b ++ o) → own ≡ o
+
+-- texts of further entries are added
+abbrev Adds : TextParts → List ℕ → List ℕ → TextParts → Type 0
+Adds parts live obsolete now = (before entries : List TextEntry) → AreParts before parts → AreSeparated entries live obsolete → AreParts (before ++ entries) now
+
+-- one more segment
+pub segment_woven : (texts : SegmentTexts) (merged : List TextEntry) (segments : List Segment) (after : List NamedEntry) (all ends : List SegmentEnd) (end : SegmentEnd) (live obsolete : ℕ) (left now_left : List TextEntry)
+    → (parts added now : TextParts) (own_live own_obsolete : List ℕ) → AreSegmentTexts segments after texts → IsWovenTo merged segments after all live obsolete left parts → all ≡ end ∷ ends
+    → IsBetween texts.live.items live end.live own_live → IsBetween texts.obsolete.items obsolete end.obsolete own_obsolete → Adds parts own_live own_obsolete added
+    → ((before : List TextEntry) → AreParts before added → AreParts (before ++ next_merged end.next left) now) → now_left ≡ after_next end.next left
+    → IsWovenTo merged segments after ends end.live end.obsolete now_left now
+segment_woven texts merged segments after all ends end live obsolete left now_left parts added now own_live own_obsolete are w starts live_own obsolete_own adds merges left_is =
+    let first = first_end w.before w.rest all ends end w.ends_are starts in
+    let t = first.0 in
+    let ts = first.1 in
+    let others = unnamed (alone ts after) in
+    let whole : w.before ++ (unnamed t.0 ++ others) ≡ unnamed (alone segments after) =
+    ap (λ (l : List TextEntry). w.before ++ l) (sym (map-append (λ (d : NamedEntry). d.entry) t.0 (alone ts after))) ∙ ap (λ (rs : List Segment). w.before ++ unnamed (alone rs after)) (sym first.2) ∙ w.parted in
+    let own : AreSeparated (unnamed t.0) own_live own_obsolete = record {
+      live_is = between_entries (λ (e : TextEntry). not e.obsolete) texts.live.items own_live live end.live w.before (unnamed t.0) others (unnamed (alone segments after)) live_own are.separate.live_is whole w.live_is first.3.live;
+      obsolete_is = between_entries (λ (e : TextEntry). e.obsolete) texts.obsolete.items own_obsolete obsolete end.obsolete w.before (unnamed t.0) others (unnamed (alone segments after)) obsolete_own are.separate.obsolete_is whole
+          w.obsolete_is first.3.obsolete;
+    } in
+    record {
+      done = (w.done ++ unnamed t.0) ++ next_merged end.next left;
+      are = merges (w.done ++ unnamed t.0) (adds w.done (unnamed t.0) w.are own);
+      before = w.before ++ unnamed t.0;
+      rest = ts;
+      woven_are = step_woven w.done t ts left now_left end.next after first.3.next_is left_is ∙ ap (λ (rs : List Segment). w.done ++ woven digest rs left after) (sym first.2) ∙ w.woven_are;
+      ends_are = first.4;
+      live_is = first.3.live;
+      obsolete_is = first.3.obsolete;
+      parted = append_assoc w.before (unnamed t.0) others ∙ whole;
+    }
+
+-- the entries after the last segment
+pub rest_woven : (texts : SegmentTexts) (merged : List TextEntry) (segments : List Segment) (after : List NamedEntry) (all : List SegmentEnd) (live obsolete live_end obsolete_end : ℕ) (left : List TextEntry)
+    → (parts now : TextParts) (own_live own_obsolete : List ℕ) → AreSegmentTexts segments after texts → IsWovenTo merged segments after all live obsolete left parts → all ≡ []
+    → live_end ≡ length texts.live.items → obsolete_end ≡ length texts.obsolete.items
+    → IsBetween texts.live.items live live_end own_live → IsBetween texts.obsolete.items obsolete obsolete_end own_obsolete → Adds parts own_live own_obsolete now
+    → AreParts (woven digest segments merged after) now
+rest_woven texts merged segments after all live obsolete live_end obsolete_end left parts now own_live own_obsolete are w none live_len obsolete_len live_own obsolete_own adds =
+    let over = no_end w.before w.rest all w.ends_are none in
+    let every = unnamed (alone segments after) in
+    let whole : w.before ++ unnamed after ≡ every = ap (λ (rs : List Segment). w.before ++ unnamed (alone rs after)) (sym over) ∙ w.parted in
+    let padded : w.before ++ (unnamed after ++ []) ≡ every = ap (λ (l : List TextEntry). w.before ++ l) (append-nil (unnamed after)) ∙ whole in
+    let own : AreSeparated (unnamed after) own_live own_obsolete = record {
+      live_is = between_entries (λ (e : TextEntry). not e.obsolete) texts.live.items own_live live live_end w.before (unnamed after) [] every live_own are.separate.live_is padded w.live_is
+          (live_len ∙ ap length are.separate.live_is ∙ ap (λ (l : List TextEntry). length (separated (filter (λ e. not e.obsolete) l))) (sym whole));
+      obsolete_is = between_entries (λ (e : TextEntry). e.obsolete) texts.obsolete.items own_obsolete obsolete obsolete_end w.before (unnamed after) [] every obsolete_own are.separate.obsolete_is padded w.obsolete_is
+          (obsolete_len ∙ ap length are.separate.obsolete_is ∙ ap (λ (l : List TextEntry). length (separated (filter (λ e. e.obsolete) l))) (sym whole));
+    } in
+    subst (λ (l : List TextEntry). AreParts l now) (ap (λ (rs : List Segment). w.done ++ woven digest rs left after) (sym over) ∙ w.woven_are) (adds w.done (unnamed after) w.are own)
 
 -- what is woven of entries whose digests show which of them are the only ones of their messages
 pub written_merged : (files : List NamedFile) (o : MergeOptions) (held : Held) (kept : List Input) (catalogue : List TextEntry) (digests written : List ℕ) (held_is : AreHeld files held kept)
-    → ((use_first : Bool) (number : TextEntry → ℕ) (entries : List Stretched) (rest : List NamedEntry) → WovenAreMerged use_first number entries rest)
-    → ((number : TextEntry → ℕ) (entries : List Stretched) (merged : List TextEntry) (rest : List NamedEntry) → WovenAreAdmitted number entries merged rest) → keeps_all o ≡ true
+    → ((use_first : Bool) (number : TextEntry → ℕ) (segments : List Segment) (rest : List NamedEntry) → WovenAreMerged use_first number segments rest)
+    → ((number : TextEntry → ℕ) (segments : List Segment) (merged : List TextEntry) (rest : List NamedEntry) → WovenAreAdmitted number segments merged rest) → keeps_all o ≡ true
     → catalogue ≡ merged o kept → All IsCatalogueEntry catalogue → digests ≡ held.digests.items ++ map digest catalogue → AreDistinct digests
-    → written ≡ written_text (woven digest held_is.holds.stretched catalogue held_is.holds.after) → IsMergedText files o written
+    → written ≡ written_text (woven digest held_is.holds.segments catalogue held_is.holds.after) → IsMergedText files o written
 written_merged files o held kept catalogue digests written held_is are_merged are_admitted all is valid digests_are distinct text =
     let h = held_is.holds in
     let keep : o ≡ keep_all o.use_first = all_kept o.more_than o.less_than o.unique o.use_first all in
-    let lasts_are : merged_messages (keep_all o.use_first) (map definitions (groups (lasts h.stretched))) ≡ catalogue =
+    let lasts_are : merged_messages (keep_all o.use_first) (map definitions (groups (lasts h.segments))) ≡ catalogue =
     ap (λ (es : List NamedEntry). merged_messages (keep_all o.use_first) (map definitions (groups es))) h.kept_are ∙ ap (λ (p : MergeOptions). merged p kept) (sym keep) ∙ sym is in
     let apart = subst AreDistinct (digests_are ∙ ap₂ (λ (ds : List ℕ) (l : List TextEntry). ds ++ map digest l) h.digests (sym lasts_are)) distinct in
-    let whole : merged o held_is.inputs ≡ woven digest h.stretched catalogue h.after =
+    let whole : merged o held_is.inputs ≡ woven digest h.segments catalogue h.after =
     ap (λ (p : MergeOptions). merged p held_is.inputs) keep
     ∙ ap (λ (es : List NamedEntry). merged_messages (keep_all o.use_first) (map definitions (groups es))) (sym h.entries_are)
-    ∙ are_merged o.use_first digest h.stretched h.after same_digest apart
-    ∙ ap (λ (l : List TextEntry). woven digest h.stretched l h.after) lasts_are in
+    ∙ are_merged o.use_first digest h.segments h.after same_digest apart
+    ∙ ap (λ (l : List TextEntry). woven digest h.segments l h.after) lasts_are in
     record {
       inputs = held_is.inputs;
       read = held_is.read;
       admitted = subst (All HasAdmittedCharset) (sym whole)
-          (are_admitted digest h.stretched catalogue h.after h.admitted (All-weaker IsCatalogueEntry HasAdmittedCharset (λ e v. v.charset) catalogue valid));
+          (are_admitted digest h.segments catalogue h.after h.admitted (All-weaker IsCatalogueEntry HasAdmittedCharset (λ e v. v.charset) catalogue valid));
       text_is = text ∙ ap written_text (sym whole);
     }

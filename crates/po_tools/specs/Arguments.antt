@@ -7,7 +7,7 @@ use Rattle.po_merge.specs.declared.input.MergeOptions.{MergeOptions}
 use Rattle.po_select.specs.declared.selection.Selection.{Selection}
 use Rattle.po_tools.specs.declared.msgfmt.MsgfmtOptions.{MsgfmtOptions}
 use Rattle.po_tools.specs.Gettext.{NgettextRequest}
-use Rattle.po_tools.specs.Positional.{NgettextForm}
+use Rattle.po_tools.specs.Positional.{NgettextUsage}
 
 -- one of two options is given
 pub record IsEither (flag : List ℕ → Bool → Type 0) (name other : List ℕ) (value : Bool) : Type 0 where
@@ -69,7 +69,7 @@ pub record AreMsgfmtOptions (flag : List ℕ → Bool → Type 0) (text : List �
   pub profile_check : flag (codes "profile-check") o.profile_check
 
 -- what ngettext is asked for: its arguments, and its options
-pub record IsNgettextRequest (flag : List ℕ → Bool → Type 0) (text : List ℕ → Option (List ℕ) → Type 0) (form : NgettextForm) (o : NgettextRequest) : Type 0 where
+pub record IsNgettextRequest (flag : List ℕ → Bool → Type 0) (text : List ℕ → Option (List ℕ) → Type 0) (form : NgettextUsage) (o : NgettextRequest) : Type 0 where
   pub context : text (codes "context") o.context
   pub expand : flag (codes "expand") o.expand
   pub id : o.id ≡ form.id

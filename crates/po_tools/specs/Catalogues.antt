@@ -4,8 +4,8 @@ use Rattle.po_shell.specs.Catalogues.{paths_of}
 use Rattle.po_shell.specs.Environments.{IsEnvironment, environment_view}
 use Rattle.po_shell.specs.declared.locale.candidates.Environment.{Environment}
 use Rattle.po_tools.specs.declared.catalogues.CatalogueFile.{CatalogueFile}
-use Rattle.po_tools.specs.declared.inputs.Unread.{Unread}
-use Rattle.po_tools.specs.declared.inputs.Unread.TheVariants.{OutOfMemory}
+use Rattle.po_tools.specs.declared.inputs.InputFault.{InputFault}
+use Rattle.po_tools.specs.declared.inputs.InputFault.TheVariants.{OutOfMemory}
 use Rattle.po_tools.specs.Inputs.{Reading, gives, refuses}
 use Rattle.po_tools.specs.NamedFile.{NamedFile}
 
@@ -18,7 +18,7 @@ catalogue_files files = map catalogue_file files
 
 -- what is at a path: a catalogue with its bytes; or none, where the path isn't UTF-8, or the file can't be opened or read
 abbrev pub IsCatalogueAt : (List ℕ → Reading → Type 0) → List ℕ → Option NamedFile → Type 0
-IsCatalogueAt file path None = (IsUtf8 path → ⊥) ⊎ ((why : Unread) × (why ≢ OutOfMemory) × file path (refuses why))
+IsCatalogueAt file path None = (IsUtf8 path → ⊥) ⊎ ((why : InputFault) × (why ≢ OutOfMemory) × file path (refuses why))
 IsCatalogueAt file path (Some catalogue) = (catalogue.name ≡ path) × file path (gives catalogue.bytes)
 
 -- the catalogues at these paths, in order

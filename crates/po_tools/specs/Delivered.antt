@@ -1,4 +1,4 @@
--- What a tool delivers that reads one input: `IsRun` says what the run of an input comes to.
+-- What a tool delivers that reads one input; `IsRun` says which run an input has.
 use Rattle.std.specs.Prelude.{◌≡◌, ◌^◌, ℕ, List, Option, IfSome, take}
 use Rattle.std.specs.Io.KnownBytes.{Appends}
 use Rattle.po_tools.specs.Run.{RunView, DeliversPrefix}

@@ -37,12 +37,12 @@ abbrev pub duplicate_text : List ℕ → ℕ → List ℕ
 duplicate_text file line = codes "duplicate of the message at " ++ file ++ 58 ∷ decimal line
 
 -- the line of a fault after its file, where it has one; line 0 is none
-abbrev pub line_mark : ℕ → List ℕ
-line_mark line = if line == 0 then [] else 58 ∷ decimal line
+abbrev pub line_part : ℕ → List ℕ
+line_part line = if line == 0 then [] else 58 ∷ decimal line
 
 -- `pokit TOOL: FILE:LINE: `
 abbrev pub location : List ℕ → List ℕ → ℕ → List ℕ
-location tool file line = codes "pokit " ++ tool ++ codes ": " ++ file ++ line_mark line ++ codes ": "
+location tool file line = codes "pokit " ++ tool ++ codes ": " ++ file ++ line_part line ++ codes ": "
 
 -- the line of a fault on standard error
 abbrev pub fault_line : List ℕ → List ℕ → ℕ → List ℕ → List ℕ

@@ -3,10 +3,10 @@ use Rattle.std.specs.Prelude.{◌≡◌, ℕ, Bool, false, not, ◌&&◌, List, 
 use Rattle.std.specs.List.{join_with_byte, list_any}
 use Rattle.mo_file.specs.declared.byte_order.Order.{Order}
 use Rattle.mo_file.specs.declared.fault.MoError.{MoError}
-use Rattle.mo_file.specs.Catalog.{IsCatalog}
+use Rattle.mo_file.specs.MoFile.{IsMoFile}
 use Rattle.mo_file.specs.Fault.{IsFirstFault}
 use Rattle.mo_lookup.specs.Chain.{chain_answered}
-use Rattle.mo_lookup.specs.Contents.{Contents, AreContents}
+use Rattle.mo_lookup.specs.CatalogView.{CatalogView, IsCatalogView}
 use Rattle.po_shell.specs.Counts.{count_in}
 use Rattle.po_shell.specs.Escapes.{expansion, has_no_newline}
 use Rattle.po_tools.specs.FaultText.{fault_line, mo_text}
@@ -14,12 +14,12 @@ use Rattle.po_tools.specs.NamedFile.{NamedFile}
 use Rattle.po_tools.specs.Run.{RunView}
 
 -- The files that are catalogues make the chain, in order; each other one is reported by a line, in order.
-pub data Opens (tool : List ℕ) : List NamedFile → List Contents → List ℕ → Type 0 where
+pub data Opens (tool : List ℕ) : List NamedFile → List CatalogView → List ℕ → Type 0 where
   none : Opens tool [] [] []
-  opened : {file : NamedFile} {files : List NamedFile} {contents : Contents} {chain : List Contents} {reported : List ℕ} (order : Order)
-      → IsCatalog order file.bytes contents.messages → AreContents contents.messages contents.rule → Opens tool files chain reported
-      → Opens tool (file ∷ files) (contents ∷ chain) reported
-  refused : {file : NamedFile} {files : List NamedFile} {fault : MoError} {chain : List Contents} {reported : List ℕ}
+  opened : {file : NamedFile} {files : List NamedFile} {catalog : CatalogView} {chain : List CatalogView} {reported : List ℕ} (order : Order)
+      → IsMoFile order file.bytes catalog.messages → IsCatalogView catalog.messages catalog.rule → Opens tool files chain reported
+      → Opens tool (file ∷ files) (catalog ∷ chain) reported
+  refused : {file : NamedFile} {files : List NamedFile} {fault : MoError} {chain : List CatalogView} {reported : List ℕ}
       → IsFirstFault file.bytes fault → Opens tool files chain reported
       → Opens tool (file ∷ files) chain (fault_line tool file.name 0 (mo_text fault) ++ reported)
 
@@ -36,23 +36,23 @@ abbrev pub argument_text : Bool → List ℕ → List ℕ
 argument_text expand argument = if expand then expansion argument else argument
 
 -- the answer to one MSGID
-abbrev pub argument_answer : List Contents → GettextRequest → List ℕ → List ℕ
+abbrev pub argument_answer : List CatalogView → GettextRequest → List ℕ → List ℕ
 argument_answer chain o argument = (chain_answered chain (record { context = o.context; id = argument_text o.expand argument; plural = None })).text
 
 -- the answers, with a space between two
-abbrev pub answers : List Contents → GettextRequest → List ℕ
+abbrev pub answers : List CatalogView → GettextRequest → List ℕ
 answers chain o = join_with_byte 32 (map (argument_answer chain o) o.arguments)
 
 -- with `-e` a `\c` in an argument acts as `-n`
-abbrev pub stops_line : GettextRequest → List ℕ → Bool
-stops_line o argument = o.expand && has_no_newline argument
+abbrev pub omits_newline : GettextRequest → List ℕ → Bool
+omits_newline o argument = o.expand && has_no_newline argument
 
 -- with `-s` a newline ends the output, unless `-n` is given or an argument acts as that
 abbrev pub ends_line : GettextRequest → Bool
-ends_line o = o.shell && (not o.no_newline && not (list_any (stops_line o) o.arguments))
+ends_line o = o.shell && (not o.no_newline && not (list_any (omits_newline o) o.arguments))
 
 -- the answers, and the newline where one ends the output
-abbrev pub gettext_output : List Contents → GettextRequest → List ℕ
+abbrev pub gettext_output : List CatalogView → GettextRequest → List ℕ
 gettext_output chain o = answers chain o ++ (if ends_line o then 10 ∷ [] else [])
 
 -- this output, and these lines about catalogues that were refused, which don't count as a failure
@@ -61,7 +61,7 @@ answered output reported = record { output = output; create = false; messages = 
 
 -- what a run of gettext comes to
 pub record IsGettextRun (files : List NamedFile) (o : GettextRequest) (run : RunView) : Type 0 where
-  pub chain : List Contents
+  pub chain : List CatalogView
   pub reported : List ℕ
   pub opens : Opens (codes "gettext") files chain reported
   pub run_is : run ≡ answered (gettext_output chain o) reported
@@ -75,13 +75,13 @@ pub record NgettextRequest : Type 0 where
   pub count : List ℕ
 
 -- the answer to MSGID and MSGID-PLURAL at COUNT
-abbrev pub ngettext_output : List Contents → NgettextRequest → List ℕ
+abbrev pub ngettext_output : List CatalogView → NgettextRequest → List ℕ
 ngettext_output chain o =
     (chain_answered chain (record { context = o.context; id = argument_text o.expand o.id; plural = Some (argument_text o.expand o.plural, count_in o.count) })).text
 
 -- what a run of ngettext comes to
 pub record IsNgettextRun (files : List NamedFile) (o : NgettextRequest) (run : RunView) : Type 0 where
-  pub chain : List Contents
+  pub chain : List CatalogView
   pub reported : List ℕ
   pub opens : Opens (codes "ngettext") files chain reported
   pub run_is : run ≡ answered (ngettext_output chain o) reported

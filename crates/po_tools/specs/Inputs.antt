@@ -2,15 +2,15 @@
 -- Program": "If input file is `-`, standard input is read").
 use Rattle.std.specs.Prelude.{◌≡◌, ◌++◌, ◌∷◌, ◌||◌, ℕ, Bool, true, false, List, [], map, Option, Some, None, codes}
 use Rattle.po_tools.specs.declared.inputs.Input.{Input}
-use Rattle.po_tools.specs.declared.inputs.Unread.{Unread}
-use Rattle.po_tools.specs.declared.inputs.Unread.TheVariants.{CannotOpen, ReadFault, OutOfMemory}
+use Rattle.po_tools.specs.declared.inputs.InputFault.{InputFault}
+use Rattle.po_tools.specs.declared.inputs.InputFault.TheVariants.{CannotOpen, ReadFault, OutOfMemory}
 use Rattle.po_tools.specs.NamedFile.{NamedFile}
 use Rattle.po_tools.specs.Run.{is_standard, shown_name}
 
 -- what reading an input comes to: its bytes, or why it can't be read
 pub data Reading : Type 0 where
   gives : List ℕ → Reading
-  refuses : Unread → Reading
+  refuses : InputFault → Reading
 
 -- what an argument is read as: a file; standard input, where it isn't read yet; and no bytes, where it is
 abbrev pub ReadsAs : (List ℕ → Reading → Type 0) → (Reading → Type 0) → List ℕ → Bool → Bool → Reading → Type 0
@@ -19,26 +19,27 @@ ReadsAs file standard argument true false reading = standard reading
 ReadsAs file standard argument true true reading = reading ≡ gives []
 
 -- what is wrong with an input that can't be read
-abbrev pub unread_text : List ℕ → Unread → List ℕ
-unread_text name CannotOpen = name ++ codes ": cannot open"
-unread_text name ReadFault = name ++ codes ": read fault"
-unread_text name OutOfMemory = codes "out of memory"
+abbrev pub input_fault_text : List ℕ → InputFault → List ℕ
+input_fault_text name CannotOpen = name ++ codes ": cannot open"
+input_fault_text name ReadFault = name ++ codes ": read fault"
+input_fault_text name OutOfMemory = codes "out of memory"
 
 -- the only input can't be read, and this is what is wrong with it
-pub record IsUnread (file : List ℕ → Reading → Type 0) (standard : Reading → Type 0) (argument : List ℕ) (text : List ℕ) : Type 0 where
-  pub why : Unread
+pub record IsInputFault (file : List ℕ → Reading → Type 0) (standard : Reading → Type 0) (argument : List ℕ) (text : List ℕ) : Type 0 where
+  pub why : InputFault
   pub reads : ReadsAs file standard argument (is_standard argument) false (refuses why)
-  pub text_is : text ≡ unread_text (shown_name argument) why
+  pub text_is : text ≡ input_fault_text (shown_name argument) why
 
--- The inputs that arguments name, of which `-` was seen or not: each with its bytes, up to the first that can't be read and what is wrong with it.
+-- The inputs that arguments name, before which `-` was seen or not: each with its bytes, up to the
+-- first that can't be read and what is wrong with it.
 pub data AreInputs (file : List ℕ → Reading → Type 0) (standard : Reading → Type 0) : Bool → List (List ℕ) → List NamedFile → Option (List ℕ) → Type 0 where
   done : {seen : Bool} → AreInputs file standard seen [] [] None
   read : {seen : Bool} {argument : List ℕ} {arguments : List (List ℕ)} {bytes : List ℕ} {inputs : List NamedFile} {fault : Option (List ℕ)}
       → ReadsAs file standard argument (is_standard argument) seen (gives bytes) → AreInputs file standard (seen || is_standard argument) arguments inputs fault
       → AreInputs file standard seen (argument ∷ arguments) (record { name = shown_name argument; bytes = bytes } ∷ inputs) fault
-  unread : {seen : Bool} {argument : List ℕ} {arguments : List (List ℕ)} (why : Unread)
+  unread : {seen : Bool} {argument : List ℕ} {arguments : List (List ℕ)} (why : InputFault)
       → ReadsAs file standard argument (is_standard argument) seen (refuses why)
-      → AreInputs file standard seen (argument ∷ arguments) [] (Some (unread_text (shown_name argument) why))
+      → AreInputs file standard seen (argument ∷ arguments) [] (Some (input_fault_text (shown_name argument) why))
 
 -- what contracts see of an input
 abbrev pub named_input : Input → NamedFile

@@ -9,6 +9,7 @@ pub mod ProfileFaults
 pub mod Gettext
 pub mod GettextView
 pub mod Held
+pub mod SegmentTexts
 pub mod OpensFile
 pub mod Msgfmt
 pub mod Written

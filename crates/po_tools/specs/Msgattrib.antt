@@ -23,8 +23,8 @@ pub record IsRefused (name text : List ℕ) (run : RunView) : Type 0 where
   pub not_memory : error.kind ≢ OutOfMemory
   pub run_is : run ≡ refusal (error_line name error)
 
--- What is selected has a duplicate, as where an obsolete entry has become live. It is reported without a line, with
--- the line of the earlier entry.
+-- What is selected has a duplicate, as where an obsolete entry has become live. It is reported at
+-- no line; what is reported names the line of the earlier entry.
 pub record IsRepeating (name text : List ℕ) (s : Selection) (run : RunView) : Type 0 where
   pub entries : List TextEntry
   pub read : ReadsDistinct text entries

@@ -10,9 +10,9 @@ use Rattle.po_merge.specs.Inputs.{Input}
 use Rattle.po_merge.specs.Merged.{merged}
 use Rattle.po_merge.specs.declared.input.MergeOptions.{MergeOptions}
 use Rattle.po_writer.specs.WrittenText.{written_text}
-use Rattle.po_tools.specs.declared.inputs.Unread.TheVariants.{CannotOpen}
+use Rattle.po_tools.specs.declared.inputs.InputFault.TheVariants.{CannotOpen}
 use Rattle.po_tools.specs.FaultText.{text_line}
-use Rattle.po_tools.specs.Inputs.{unread_text}
+use Rattle.po_tools.specs.Inputs.{input_fault_text}
 use Rattle.po_tools.specs.NamedFile.{NamedFile}
 use Rattle.po_tools.specs.Run.{RunView, refusal}
 use Rattle.po_tools.specs.Written.{written_run}
@@ -81,9 +81,9 @@ pub record IsMergedText (files : List NamedFile) (o : MergeOptions) (written : L
   pub admitted : All HasAdmittedCharset (merged o inputs)
   pub text_is : written ≡ written_text (merged o inputs)
 
--- a file whose name holds NUL, which no file can be opened by
+-- one of the files has a name with a NUL, so that it can't be opened
 pub record HasNulName (files : List NamedFile) (text : List ℕ) : Type 0 where
   pub file : NamedFile
   pub among : Contains files file
   pub nul : Lacks 0 file.name → ⊥
-  pub text_is : text ≡ unread_text file.name CannotOpen
+  pub text_is : text ≡ input_fault_text file.name CannotOpen

@@ -20,7 +20,7 @@ use Rattle.po_tools.specs.NamedFile.{NamedFile}
 use Rattle.po_tools.specs.Profile.{IsChecked, Reported}
 use Rattle.po_tools.specs.Run.{RunView, refusal}
 
--- the options that compiling asks for
+-- the options with which inputs are compiled
 abbrev pub compile_options : MsgfmtOptions → Options
 compile_options o = record { use_fuzzy = o.use_fuzzy; order = o.order }
 
@@ -94,7 +94,7 @@ pub record IsRefused (inputs : List NamedFile) (o : MsgfmtOptions) (run : RunVie
   pub run_is : run ≡ refusal (join_line inputs error)
 
 -- the inputs are compiled, and the check that is asked for reports a fault
-pub record IsUnfit (inputs : List NamedFile) (o : MsgfmtOptions) (run : RunView) : Type 0 where
+pub record FailsCheck (inputs : List NamedFile) (o : MsgfmtOptions) (run : RunView) : Type 0 where
   pub catalogues : List (List TextEntry)
   pub read : AreRead (input_texts inputs) catalogues
   pub compiled : Compiled
@@ -115,16 +115,16 @@ pub record IsDone (inputs : List NamedFile) (o : MsgfmtOptions) (run : RunView) 
 
 -- what a run of msgfmt comes to
 abbrev pub IsMsgfmtRun : List NamedFile → MsgfmtOptions → RunView → Type 0
-IsMsgfmtRun inputs o run = IsRefused inputs o run ⊎ IsUnfit inputs o run ⊎ IsDone inputs o run
+IsMsgfmtRun inputs o run = IsRefused inputs o run ⊎ FailsCheck inputs o run ⊎ IsDone inputs o run
 
 -- no input is refused: there is none, or they are compiled
-abbrev pub AreTaken : List NamedFile → MsgfmtOptions → Type 0
-AreTaken inputs o = (inputs ≡ []) ⊎ ((compiled : Compiled) × AreCompiled (compile_options o) (input_texts inputs) compiled)
+abbrev pub NoneRefused : List NamedFile → MsgfmtOptions → Type 0
+NoneRefused inputs o = (inputs ≡ []) ⊎ ((compiled : Compiled) × AreCompiled (compile_options o) (input_texts inputs) compiled)
 
 -- the inputs are none, or 2^32 and more: no command line of msgfmt names so many
 abbrev pub AreNoneOrTooMany : List NamedFile → Type 0
 AreNoneOrTooMany inputs = (inputs ≡ []) ⊎ (2 ^ 32 ≤ length inputs)
 
--- what a run of msgfmt comes to of one input with this name
+-- what a run of msgfmt on one input with this name comes to
 abbrev pub IsMsgfmtRunOf : List ℕ → MsgfmtOptions → List ℕ → RunView → Type 0
 IsMsgfmtRunOf name o text run = IsMsgfmtRun (record { name = name; bytes = text } ∷ []) o run

@@ -41,6 +41,6 @@ pub record HasText (file : NamedFile) (run : RunView) : Type 0 where
 abbrev pub IsMsgunfmtRun : NamedFile → RunView → Type 0
 IsMsgunfmtRun file run = HasNoText file run ⊎ HasText file run
 
--- what a run of msgunfmt comes to of a file with this name
+-- what a run of msgunfmt on a file with this name comes to
 abbrev pub IsMsgunfmtRunOf : List ℕ → List ℕ → RunView → Type 0
 IsMsgunfmtRunOf name bytes run = IsMsgunfmtRun (record { name = name; bytes = bytes }) run

@@ -5,14 +5,14 @@ use Rattle.po_tools.specs.declared.positional.EnvsubstArguments.{EnvsubstArgumen
 use Rattle.po_tools.specs.declared.positional.EnvsubstArguments.TheVariants.{Names, Replaced}
 use Rattle.po_tools.specs.declared.positional.GettextArguments.{GettextArguments}
 use Rattle.po_tools.specs.declared.positional.NgettextArguments.{NgettextArguments}
-use Rattle.po_tools.specs.Positional.{GettextForm, NgettextForm, EnvsubstForm, names, replaced}
+use Rattle.po_tools.specs.Positional.{GettextUsage, NgettextUsage, EnvsubstUsage, names, replaced}
 
-abbrev pub gettext_arguments : GettextArguments → GettextForm
+abbrev pub gettext_arguments : GettextArguments → GettextUsage
 gettext_arguments given = record { domain = option_copied given.domain; messages = map (λ argument. argument.now) given.messages.now }
 
-abbrev pub ngettext_arguments : NgettextArguments → NgettextForm
+abbrev pub ngettext_arguments : NgettextArguments → NgettextUsage
 ngettext_arguments given = record { domain = option_copied given.domain; id = given.id.now; plural = given.plural.now; count = given.count.now }
 
-abbrev pub envsubst_arguments : EnvsubstArguments → EnvsubstForm
+abbrev pub envsubst_arguments : EnvsubstArguments → EnvsubstUsage
 envsubst_arguments (Names format) = names format.now
 envsubst_arguments (Replaced format) = replaced (option_copied format)

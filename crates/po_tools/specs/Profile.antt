@@ -7,7 +7,7 @@ use Rattle.po_entry.specs.TextEntry.{TextEntry}
 use Rattle.po_entry.specs.Header.{is_header, first_form}
 use Rattle.po_catalog.specs.Joined.{InputEntry}
 use Rattle.plural_rule.specs.Expression.{value}
-use Rattle.plural_rule.specs.PluralRule.{Meaning, IsRuleOf, expression_limit}
+use Rattle.plural_rule.specs.PluralRule.{RuleView, IsRuleOf, expression_limit}
 use Rattle.plural_rule.specs.declared.rule.Source.{Source}
 use Rattle.plural_rule.specs.declared.rule.Source.TheVariants.{Header, Default}
 use Rattle.po_tools.specs.declared.profile.End.{End}
@@ -19,7 +19,7 @@ use Rattle.po_tools.specs.declared.profile.CheckFault.TheVariants.{NoHeader, NoR
 abbrev pub Reported : Type 0
 Reported = ℕ × CheckFault
 
--- what f gives first of a list
+-- the first that f gives for an element of a list
 abbrev pub first_some : {A B : Type 0} → (A → Option B) → List A → Option B
 first_some f [] = None
 first_some f (x ∷ xs) = option_or (f x) (first_some f xs)
@@ -32,7 +32,7 @@ is_plural e = is_some e.entry.plural
 abbrev pub is_header_entry : InputEntry → Bool
 is_header_entry e = is_header e.entry
 
--- a plural form is wanted, and the header has no readable rule
+-- the fault of an entry with a plural, where the header has no readable rule
 abbrev pub source_fault : Source → InputEntry → Option Reported
 source_fault Header e = None
 source_fault (Default reason) e = Some (e.input, NoRule e.entry.line reason)
@@ -61,7 +61,8 @@ abbrev pub differs_from_msgid : End → TextEntry → Bool
 differs_from_msgid end entry =
     list_any (λ text. differ (has_newline end entry.id) (has_newline end text)) (option_to_list entry.plural ++ entry.forms)
 
--- an entry but the header: as many forms as the rule has, then newlines at both ends or at neither
+-- the fault of an entry but the header: it has a plural, and not as many forms as the rule; or its
+-- plural or a form differs from its msgid in having a newline at the beginning, or else at the end
 abbrev pub entry_fault : ℕ → InputEntry → Option Reported
 entry_fault nplurals e =
     if is_header_entry e then None
@@ -70,13 +71,13 @@ entry_fault nplurals e =
     else if differs_from_msgid Ending e.entry then Some (e.input, TrailingNewline e.entry.line)
     else None
 
--- a value of the rule has to be a form's index
+-- the fault of a rule's value at a count, which has to be the index of a form
 abbrev pub value_fault : ℕ → ℕ → Option ℕ → Option Reported
 value_fault nplurals count None = Some (0, Undefined count)
 value_fault nplurals count (Some index) = if nat_lt index nplurals then None else Some (0, IndexOutside count)
 
 -- what is wrong with the rule's value at a count
-abbrev pub count_fault : Meaning → ℕ → Option Reported
+abbrev pub count_fault : RuleView → ℕ → Option Reported
 count_fault rule count = value_fault rule.nplurals count (value rule.tree count)
 
 -- the counts from 0 to below the end
@@ -84,14 +85,15 @@ unfoldable pub counts_below : ℕ → List ℕ
 counts_below end = range_with_len 0 end
 
 -- the first fault of the messages that are compiled and have a header, with its rule, whose values are checked at the counts from 0 to 1,000
-abbrev pub first_fault : List InputEntry → Meaning → Option Reported
+abbrev pub first_fault : List InputEntry → RuleView → Option Reported
 first_fault entries rule =
     let plural = find is_plural entries in
     option_or (rule_fault rule.source plural)
     (option_or (first_some (entry_fault rule.nplurals) entries) (if is_some plural then first_some (count_fault rule) (counts_below 1001) else None))
 
--- The first fault of the messages that are compiled: there is no header, or it is theirs by the rule of the header.
+-- The first fault of the messages that are compiled: that there is no header, or their first fault
+-- by the rule of the header.
 abbrev pub IsChecked : List InputEntry → Option Reported → Type 0
 IsChecked entries fault =
     MatchOption (find is_header_entry entries) (fault ≡ Some (0, NoHeader))
-    (λ header. (rule : Meaning) × IsRuleOf expression_limit (first_form header.entry.forms) rule × (fault ≡ first_fault entries rule))
+    (λ header. (rule : RuleView) × IsRuleOf expression_limit (first_form header.entry.forms) rule × (fault ≡ first_fault entries rule))

@@ -5,7 +5,7 @@ use Rattle.po_entry.specs.TextEntry.{TextEntry}
 use Rattle.po_entry.specs.Header.{is_header}
 use Rattle.po_catalog.specs.Joined.{InputEntry}
 use Rattle.plural_rule.specs.Expression.{value}
-use Rattle.plural_rule.specs.PluralRule.{Meaning}
+use Rattle.plural_rule.specs.PluralRule.{RuleView}
 use Rattle.plural_rule.specs.declared.rule.Reason.{Reason}
 use Rattle.plural_rule.specs.declared.rule.Source.TheVariants.{Header, Default}
 use Rattle.po_tools.specs.declared.profile.End.{End}
@@ -47,11 +47,11 @@ abbrev pub HasNoFault : ℕ → InputEntry → Type 0
 HasNoFault nplurals e = (reported : Reported) → HasFault nplurals e reported → ⊥
 
 -- the fault of a rule's value at a count: it has none, or it is no index of a form
-pub data CountFault (rule : Meaning) (n : ℕ) : CheckFault → Type 0 where
+pub data CountFault (rule : RuleView) (n : ℕ) : CheckFault → Type 0 where
   undefined : value rule.tree n ≡ None → CountFault rule n (Undefined n)
   outside : {index : ℕ} → value rule.tree n ≡ Some index → rule.nplurals ≤ index → CountFault rule n (IndexOutside n)
 
-abbrev pub HasNoCountFault : Meaning → ℕ → Type 0
+abbrev pub HasNoCountFault : RuleView → ℕ → Type 0
 HasNoCountFault rule n = (fault : CheckFault) → CountFault rule n fault → ⊥
 
 abbrev pub HasPlural : InputEntry → Type 0
@@ -66,11 +66,11 @@ pub record IsFirst (P : InputEntry → Type 0) (entries : List InputEntry) (e : 
   pub none_before : All (λ o. P o → ⊥) before
 
 -- the header has a readable rule, or no entry has a plural
-abbrev pub NeedsNoOtherRule : List InputEntry → Meaning → Type 0
+abbrev pub NeedsNoOtherRule : List InputEntry → RuleView → Type 0
 NeedsNoOtherRule entries rule = (rule.source ≡ Header) ⊎ All (λ e. HasPlural e → ⊥) entries
 
 -- The first fault of messages that have a header with this rule: no readable rule where an entry has a plural; then the first entry's; then, where an entry has a plural, that of the least count up to 1,000.
-pub data FirstFault (entries : List InputEntry) (rule : Meaning) : Reported → Type 0 where
+pub data FirstFault (entries : List InputEntry) (rule : RuleView) : Reported → Type 0 where
   no_rule : {e : InputEntry} {reason : Reason} → IsFirst HasPlural entries e → rule.source ≡ Default reason → FirstFault entries rule (e.input, NoRule e.entry.line reason)
   in_entry : {e : InputEntry} {reported : Reported} → NeedsNoOtherRule entries rule → IsFirst (λ o. (other : Reported) × HasFault rule.nplurals o other) entries e → HasFault rule.nplurals e reported → FirstFault entries rule reported
   at_count : {e : InputEntry} {fault : CheckFault} (least : ℕ) → IsFirst HasPlural entries e → rule.source ≡ Header → All (HasNoFault rule.nplurals) entries → least ≤ 1000

@@ -6,7 +6,7 @@ use Rattle.po_shell.specs.declared.fault.ToolFault.TheVariants.{ReadFault as Not
 use Rattle.po_tools.specs.declared.program_fault.ProgramFault.{ProgramFault}
 use Rattle.po_tools.specs.declared.program_fault.ProgramFault.TheVariants.{NotText, WrongArguments, CannotOpen, CannotCreate, ReadFault, WriteFault, OutOfMemory}
 
--- what is wrong, where it is something about a file after its name
+-- what is wrong, after the name of the file if it is the fault of one
 abbrev pub program_text : ProgramFault → List ℕ
 program_text NotText = codes "arguments are not UTF-8"
 program_text WrongArguments = codes "wrong number of arguments"
@@ -17,13 +17,13 @@ program_text WriteFault = codes "write fault"
 program_text OutOfMemory = codes "out of memory"
 
 -- `pokit TOOL: `, or `pokit: ` before a tool is known
-abbrev pub tool_mark : Option (List ℕ) → List ℕ
-tool_mark None = codes "pokit: "
-tool_mark (Some tool) = codes "pokit " ++ tool ++ codes ": "
+abbrev pub tool_prefix : Option (List ℕ) → List ℕ
+tool_prefix None = codes "pokit: "
+tool_prefix (Some tool) = codes "pokit " ++ tool ++ codes ": "
 
 -- the line that reports a fault
 abbrev pub program_line : Option (List ℕ) → ProgramFault → List ℕ
-program_line tool fault = tool_mark tool ++ program_text fault ++ 10 ∷ []
+program_line tool fault = tool_prefix tool ++ program_text fault ++ 10 ∷ []
 
 -- the fault of a tool that works on the input of this name
 abbrev pub input_fault : ToolFault → Bor (List ℕ) → ProgramFault

@@ -1,4 +1,4 @@
--- What a run of a tool writes, reports and answers.
+-- What a run of a tool writes and reports, and its exit status.
 use Rattle.std.specs.Prelude.{ℕ, Bool, not, ◌&&◌, if◌then◌else◌, List, [], false, Option, Some, None, codes, ◌⊎◌}
 use Rattle.std.specs.Io.KnownBytes.{Appends, Keeps}
 use Rattle.std.specs.Str.{bytes_eq}

@@ -1,4 +1,4 @@
--- What a tool writes, reports and answers is a function of its inputs: it has one run.
+-- What a tool writes and reports, and its exit status, are functions of its inputs: it has one run.
 use Rattle.std.specs.Prelude.{◌≡◌, ℕ, List}
 use Rattle.po_tools.specs.declared.msgfmt.MsgfmtOptions.{MsgfmtOptions}
 use Rattle.po_tools.specs.Gettext.{GettextRequest, NgettextRequest, IsGettextRun, IsNgettextRun}

@@ -7,7 +7,7 @@ use Rattle.po_select.specs.declared.selection.Selection.{Selection}
 use Rattle.po_select.specs.Selected.{selected}
 use Rattle.po_writer.specs.TextParts.{AreParts}
 use Rattle.po_writer.specs.WrittenText.{written_text}
-use Rattle.po_tools.specs.Digests.{digest}
+use Rattle.po_catalog.specs.Digest.{digest}
 use Rattle.po_tools.specs.declared.selected_text.SelectedSoFar.{SelectedSoFar}
 
 -- those of these entries that are selected are written, and the digests are those of all

@@ -1,4 +1,4 @@
--- What a tool comes to that writes a catalogue (manual, "The Format of PO Files").
+-- The run of a tool that writes a catalogue (manual, "The Format of PO Files").
 use Rattle.std.specs.Prelude.{nat_lt, List, [], length}
 use Rattle.po_entry.specs.TextEntry.{TextEntry}
 use Rattle.po_writer.specs.WrittenText.{written_text}

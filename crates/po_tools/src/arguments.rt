@@ -14,13 +14,13 @@ use po_select::Selection;
 
 /// The options of a command line, by their names.
 pub trait Arguments {
-    // What may be answered where it is asked whether an option is given.
+    // What `is_given` may return for the option of a name.
     ghost flag: { Self → List ℕ → Bool → Type 0 };
 
-    // What it may come to to ask for the text of an option.
+    // What `text_of` may return for the option of a name.
     ghost text: { Self → List ℕ → Option (List ℕ) → Type 0 };
 
-    // What it may come to to ask for the number of an option.
+    // What `number_of` may return for the option of a name.
     ghost number: { Self → List ℕ → Option ℕ → Type 0 };
 
     /// Whether the option of this name is given.

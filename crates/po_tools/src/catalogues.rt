@@ -4,7 +4,7 @@ ghost use Rattle.std.specs.Option.{option_copied};
 ghost use Rattle.po_tools.specs.Catalogues.{AreCatalogues, AreFound, IsCatalogueAt, catalogue_file, catalogue_files};
 ghost use Rattle.po_tools.specs.NamedFile.{named_files};
 
-use crate::inputs::{InputSource, Unread};
+use crate::inputs::{InputFault, InputSource};
 use po_shell::{OwnedEnvironment, VariableSource, catalogue_paths};
 use std::alloc::{AllocError, Global};
 use std::str;
@@ -35,7 +35,7 @@ pub fn find_catalogues<S: InputSource + VariableSource>(
         alloc,
         bytes_of(argument),
         bytes_of(option),
-        &environment.lent(),
+        &environment.borrowed(),
     ) else {
         return Err(AllocError);
     };
@@ -86,24 +86,25 @@ fn read_catalogue<S: InputSource>(
             path: String::from_str(alloc, name)?,
             bytes,
         })),
-        Err(Unread::OutOfMemory) => Err(AllocError),
-        Err(Unread::CannotOpen | Unread::ReadFault) => Ok(None),
+        Err(InputFault::OutOfMemory) => Err(AllocError),
+        Err(InputFault::CannotOpen | InputFault::ReadFault) => Ok(None),
     }
 }
 
-/// The catalogues, lent, with their paths for names: at most 4,294,967,295, as many as a chain can
-/// count.
-pub fn lent_catalogues(
+/// The catalogues, borrowed, with their paths for names: at most 4,294,967,295, as many as a chain
+/// can count.
+pub fn borrowed_catalogues(
     alloc: Global,
     catalogues: &[CatalogueFile],
 ) -> Result<Vec<(&str, &[u8])>, AllocError>
-    ensures lent { IfOk result (λ lent. named_files lent.items ≡ take (2 ^ 32 - 1) (catalogue_files catalogues.now)) }
-    ensures bound { IfOk result (λ lent. length lent.items < 2 ^ 32) }
+    ensures borrowed { IfOk result
+        (λ borrowed. named_files borrowed.items ≡ take (2 ^ 32 - 1) (catalogue_files catalogues.now)) }
+    ensures bound { IfOk result (λ borrowed. length borrowed.items < 2 ^ 32) }
 {
-    let mut lent = Vec::with_capacity(alloc, catalogues.len())?;
+    let mut borrowed = Vec::with_capacity(alloc, catalogues.len())?;
     for catalogue in catalogues {
-        lent.push((catalogue.path.as_str(), catalogue.bytes.as_slice()))?;
+        borrowed.push((catalogue.path.as_str(), catalogue.bytes.as_slice()))?;
     }
-    lent.truncate(u32::MAX as usize);
-    Ok(lent)
+    borrowed.truncate(u32::MAX as usize);
+    Ok(borrowed)
 }

@@ -1,24 +1,12 @@
-//! Digests of messages, which show without a look at the messages that no two are the same.
+//! Digests of messages: where they differ, no two messages are the same.
 
 ghost use Rattle.std.specs.Prelude.{◌≡◌, ◌++◌, OnOk, map, true};
 ghost use Rattle.std.specs.List.Sorted.{IsStrictlyIncreasing};
-ghost use Rattle.po_tools.specs.Digests.{AreDistinct, digest};
+ghost use Rattle.po_catalog.specs.Digest.{digest};
+ghost use Rattle.po_tools.specs.Digests.{AreDistinct};
 
-use po_catalog::Entry;
+use po_catalog::{Entry, digest};
 use std::alloc::AllocError;
-use std::hash::{FoldHasher, Hasher};
-
-/// The digest of an entry's msgid and context.
-pub(crate) fn digest(entry: &Entry) -> u64
-    ensures { result ≡ digest entry.now }
-{
-    let mut hasher = FoldHasher::default();
-    hasher.write(entry.id());
-    if let Some(context) = entry.context() {
-        hasher.write(context);
-    }
-    hasher.finish()
-}
 
 /// Adds the digests of entries.
 pub(crate) fn add_digests(digests: &mut Vec<u64>, entries: &[Entry]) -> Result<(), AllocError>

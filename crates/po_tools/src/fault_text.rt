@@ -72,7 +72,7 @@ pub(crate) fn push_mo_text(out: &mut Vec<u8>, fault: MoError) -> Result<(), Allo
     out.extend_from_slice(text.as_bytes())
 }
 
-/// Appends a fault line: `pokit TOOL: FILE:LINE: `, without `:LINE` for line 0.
+/// Appends what a fault line begins with: `pokit TOOL: FILE:LINE: `, without `:LINE` for line 0.
 pub(crate) fn push_location(
     out: &mut Vec<u8>,
     tool: &str,

@@ -73,8 +73,8 @@ fn push_refusal(
     messages.extend_from_slice(b"\n")
 }
 
-/// Opens one more file: a catalogue joins the chain, and any other file is reported by a line. A catalogue is
-/// large, and lies in this function's frame alone.
+/// Opens one more file: a catalogue joins the chain, and any other file is reported by a line. A
+/// catalogue is large: only the stack frame of this function has one.
 #[inline(never)]
 fn open_file<'a>(
     opened: &mut Opened<'a>,
@@ -165,7 +165,7 @@ fn push_expanded(
           id = expansion argument.now;
           plural = None;
         })).text) }
-    ensures no_newline { IfOk result (λ stops. stops ≡ has_no_newline argument.now) }
+    ensures no_newline { IfOk result (λ omitted. omitted ≡ has_no_newline argument.now) }
 {
     let expanded = expanded(alloc, argument)?;
     push_text(output, chain, context, &expanded.bytes, None)?;
@@ -182,7 +182,7 @@ fn push_answer(
 ) -> Result<bool, AllocError>
     ensures answer { OnOk result (output.new.items ≡ output.old.items
         ++ Spec.argument_answer chain.now (gettext_view options.now) argument.now) }
-    ensures no_newline { IfOk result (λ stops. stops ≡ Spec.stops_line (gettext_view options.now) argument.now) }
+    ensures no_newline { IfOk result (λ omitted. omitted ≡ Spec.omits_newline (gettext_view options.now) argument.now) }
 {
     if options.expand {
         return push_expanded(alloc, output, chain, options.context, argument);
@@ -200,20 +200,20 @@ fn push_answers(
 ) -> Result<bool, AllocError>
     ensures answers { OnOk result (output.new.items ≡ output.old.items
         ++ Spec.answers chain.now (gettext_view options.now)) }
-    ensures no_newline { IfOk result (λ stops. stops
-        ≡ list_any (Spec.stops_line (gettext_view options.now)) (gettext_view options.now).arguments) }
+    ensures no_newline { IfOk result (λ omitted. omitted
+        ≡ list_any (Spec.omits_newline (gettext_view options.now)) (gettext_view options.now).arguments) }
 {
     let Some((first, others)) = options.messages.split_first() else {
         return Ok(false);
     };
-    let mut stops = push_answer(alloc, output, chain, options, first)?;
+    let mut omitted = push_answer(alloc, output, chain, options, first)?;
     for argument in others {
         output.push(b' ')?;
         if push_answer(alloc, output, chain, options, argument)? {
-            stops = true;
+            omitted = true;
         }
     }
-    Ok(stops)
+    Ok(omitted)
 }
 
 /// What `gettext` writes over the catalogues that could be read, in the order in which they are asked: the
@@ -227,13 +227,13 @@ pub fn plan_gettext(
     requires { length catalogues.now < 2 ^ 32 }
     ensures run { IfOk result (λ run. Spec.IsGettextRun (named_files catalogues.now) (gettext_view options.now)
         (run_view run)) }
-    ensures fault { OnErr result (result ≡ Err ToolFault.OutOfMemory) }
+    ensures memory { OnErr result (result ≡ Err ToolFault.OutOfMemory) }
 {
     let opened = open_all(alloc, "gettext", catalogues)?;
     let chain = Chain::new(&opened.catalogs);
     let mut output = Vec::new(alloc);
-    let stops = push_answers(alloc, &mut output, &chain, options)?;
-    if options.shell && !options.no_newline && !stops {
+    let omitted = push_answers(alloc, &mut output, &chain, options)?;
+    if options.shell && !options.no_newline && !omitted {
         output.push(b'\n')?;
     }
     Ok(Run {
@@ -300,7 +300,7 @@ pub fn plan_ngettext(
     requires { length catalogues.now < 2 ^ 32 }
     ensures run { IfOk result (λ run. Spec.IsNgettextRun (named_files catalogues.now) (ngettext_view options.now)
         (run_view run)) }
-    ensures fault { OnErr result (result ≡ Err ToolFault.OutOfMemory) }
+    ensures memory { OnErr result (result ≡ Err ToolFault.OutOfMemory) }
 {
     let opened = open_all(alloc, "ngettext", catalogues)?;
     let chain = Chain::new(&opened.catalogs);

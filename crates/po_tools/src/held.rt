@@ -1,5 +1,6 @@
 //! What is kept of the entries of several texts until it is known what those of one message are merged to.
 ghost use Rattle.std.specs.Prelude.{◌≡◌, ◌++◌, ◌∷◌, ℕ, [], All, IfOk, IfSome, List, OnOk, map, true};
+ghost use Rattle.po_catalog.specs.Digest.{digest};
 ghost use Rattle.po_catalog.specs.Duplicate.{AllDiffer};
 ghost use Rattle.po_entry.specs.Bytes.{Lacks};
 ghost use Rattle.po_entry.specs.Header.{HasAdmittedCharset};
@@ -10,147 +11,122 @@ ghost use Rattle.po_merge.specs.InputsView.{inputs_view};
 ghost use Rattle.po_tools.specs.Held.{AreHeld, IsHeld};
 ghost use Rattle.po_tools.specs.NamedFile.{named_files};
 
-use crate::digests::{add_digests, are_distinct, digest};
+use crate::digests::are_distinct;
 use crate::repeated::Place;
-use po_catalog::{Catalogue, Entry};
+use crate::segment_texts::SegmentTexts;
+use po_catalog::{Catalogue, Entry, digest};
 use po_merge::Named;
 use po_reader::{PIECE, next_catalogue};
 use po_syntax::Pieces;
-use po_writer::TextParts;
 use std::alloc::{AllocError, Global};
-use std::{mem, slice};
-
-/// The text of entries that are each the only one of its message, and the digest of the message of the entry after
-/// them, which may not be.
-#[derive(Drop)]
-pub(crate) struct Stretch {
-    /// The text.
-    pub(crate) parts: TextParts,
-    /// The digest.
-    pub(crate) next: u64,
-}
 
 /// What is known of entries, of which some are kept elsewhere.
 #[derive(Drop)]
 pub(crate) struct Held {
-    /// The text of the entries before each one that is kept.
-    pub(crate) stretches: Vec<Stretch>,
-    /// The text of the entries after the last one that is kept.
-    pub(crate) rest: TextParts,
+    /// The texts of the entries that aren't kept, in segments that end where one is kept.
+    pub(crate) texts: SegmentTexts,
     /// The digests of the entries that aren't kept.
     pub(crate) digests: Vec<u64>,
 }
 
-/// The places from this one on, of places in order.
-fn places_from(places: &[Place], place: Place) -> &[Place] {
-    let mut left = places;
-    while let Some((first, others)) = left.split_first() {
-        if *first >= place {
-            break;
-        }
-        left = others;
-    }
-    left
+/// The places that are left of the entries that are kept, in order, and the index of the text that is read.
+#[derive(Drop)]
+struct PlacesLeft<'a> {
+    /// The places.
+    places: &'a [Place],
+    /// The index.
+    index: usize,
 }
 
-/// The places from that of the first of these entries on, which are of the text of this index.
-fn places_of<'a>(places: &'a [Place], index: usize, entries: &[Entry]) -> &'a [Place] {
-    let line = entries.first().map_or(0, |entry| entry.line());
-    let start = places.partition_point(|place| *place < (index, line));
-    places.split_at(start).1
+impl PlacesLeft<'_> {
+    /// Whether the entry of this line is kept. The places before it are skipped.
+    fn reach(&mut self, line: u32) -> bool {
+        let place = (self.index, line);
+        while let Some((first, others)) = self.places.split_first() {
+            if *first >= place {
+                return *first == place;
+            }
+            self.places = others;
+        }
+        false
+    }
 }
 
 impl Held {
-    /// No entries.
-    fn new(alloc: Global) -> Result<Held, AllocError>
+    /// No entries, with room for so many bytes of live ones.
+    fn with_capacity(alloc: Global, room: usize) -> Result<Held, AllocError>
         ensures { IfOk result (λ held. IsHeld held [] []) }
     {
         Ok(Held {
-            stretches: Vec::new(alloc),
-            rest: TextParts::with_capacity(alloc, 0)?,
+            texts: SegmentTexts::with_capacity(alloc, room)?,
             digests: Vec::new(alloc),
         })
     }
 
-    /// Writes an entry.
-    fn write(&mut self, entry: &Entry) -> Result<(), AllocError>
+    /// Writes an entry with this digest.
+    fn write(&mut self, entry: &Entry, number: u64) -> Result<(), AllocError>
+        requires { number ≡ digest entry.now }
         ensures { OnOk result ((name : List ℕ) (entries kept : List NamedEntry) → HasAdmittedCharset entry.now
             → IsHeld self.old entries kept → IsHeld self.new (entries ++ named name entry.now ∷ []) kept) }
     {
-        self.digests.push(digest(entry))?;
-        match self.rest.add(slice::from_ref(entry)) {
-            Ok(()) => Ok(()),
-            Err(_) => Err(AllocError),
-        }
+        self.digests.push(number)?;
+        self.texts.write(entry)
     }
 
-    /// Ends a stretch before an entry that is kept.
-    fn end_stretch(&mut self, alloc: Global, entry: &Entry) -> Result<(), AllocError>
-        ensures { OnOk result ((name : List ℕ) (entries kept : List NamedEntry)
-            → IsHeld self.old entries kept → IsHeld self.new (entries ++ named name entry.now ∷ [])
-            (kept ++ named name entry.now ∷ [])) }
-    {
-        let next = digest(entry);
-        let rest = TextParts::with_capacity(alloc, 0)?;
-        let parts = mem::replace(&mut self.rest, rest);
-        self.stretches.push(Stretch { parts, next })?;
-        Ok(())
-    }
-
-    /// Adds an entry, which is kept or written.
+    /// Adds an entry, which is kept or written, and its digest.
     fn add(
         &mut self,
-        alloc: Global,
         current: &mut Catalogue,
+        digests: &mut Vec<u64>,
         entry: Entry,
         is_kept: bool,
     ) -> Result<(), AllocError>
-        ensures { OnOk result ((name : List ℕ) (entries kept : List NamedEntry) → HasAdmittedCharset entry
+        ensures held { OnOk result ((name : List ℕ) (entries kept : List NamedEntry) → HasAdmittedCharset entry
             → IsHeld self.old entries (kept ++ map (named name) current.old)
             → IsHeld self.new (entries ++ named name entry ∷ []) (kept ++ map (named name) current.new)) }
+        ensures digests { OnOk result (digests.new.items ≡ digests.old.items ++ digest entry ∷ []) }
     {
+        let number = digest(&entry);
+        digests.push(number)?;
         if !is_kept {
-            return self.write(&entry);
+            return self.write(&entry, number);
         }
-        self.end_stretch(alloc, &entry)?;
+        self.texts.end_segment(number)?;
         let Ok(()) = current.push(entry) else {
             return Err(AllocError);
         };
         Ok(())
     }
 
-    /// Adds the entries of a piece of the text of this index, of which those at these places are kept.
+    /// Adds the entries of a piece of a text, of which those at these places are kept, and the digests of all.
     fn add_piece(
         &mut self,
-        alloc: Global,
         current: &mut Catalogue,
+        digests: &mut Vec<u64>,
         piece: Catalogue,
-        index: usize,
-        places: &[Place],
+        places: &mut PlacesLeft<'_>,
     ) -> Result<(), AllocError>
-        ensures { OnOk result ((name : List ℕ) (entries kept : List NamedEntry)
+        ensures held { OnOk result ((name : List ℕ) (entries kept : List NamedEntry)
             → IsHeld self.old entries (kept ++ map (named name) current.old)
             → IsHeld self.new (entries ++ map (named name) piece) (kept ++ map (named name) current.new)) }
+        ensures digests { OnOk result (digests.new.items ≡ digests.old.items ++ map digest piece) }
     {
         let entries = piece.into_entries();
-        let mut left = places_of(places, index, &entries);
         for entry in entries {
-            left = places_from(left, (index, entry.line()));
-            let is_kept = left.first() == Some(&(index, entry.line()));
-            self.add(alloc, current, entry, is_kept)?;
+            let is_kept = places.reach(entry.line());
+            self.add(current, digests, entry, is_kept)?;
         }
         Ok(())
     }
 
-    /// Adds the entries of the text of this index. Whether they are of different messages; false too where a piece isn't
-    /// read, or where the digests don't show it.
+    /// Adds the entries of a text, and returns whether they are of different messages: false also
+    /// where a piece isn't read, or where the digests don't show it.
     fn add_text(
         &mut self,
         alloc: Global,
         current: &mut Catalogue,
         text: &[u8],
-        index: usize,
-        places: &[Place],
+        places: &mut PlacesLeft<'_>,
     ) -> Result<bool, AllocError>
         ensures { IfOk result (λ done. done ≡ true → (read : List TextEntry) × ReadsText text.now read
             × AllDiffer read
@@ -166,11 +142,17 @@ impl Held {
             let Ok(piece) = next_catalogue(alloc, &mut pieces, PIECE) else {
                 return Ok(false);
             };
-            add_digests(&mut digests, piece.entries())?;
-            self.add_piece(alloc, current, piece, index, places)?;
+            self.add_piece(current, &mut digests, piece, places)?;
         }
         Ok(are_distinct(digests))
     }
+}
+
+/// How many bytes the texts have.
+fn total_len(inputs: &[(&str, &[u8])]) -> usize {
+    inputs
+        .iter()
+        .fold(0, |total, (_, text)| total.saturating_add(text.len()))
 }
 
 /// What is known of the entries of these inputs, and those that are kept; none where an input isn't read, or where a
@@ -185,11 +167,13 @@ pub(crate) fn hold_inputs<'a>(
         (λ p. AreHeld (named_files inputs.now) p.0 (inputs_view p.1.items))) }
     ensures names { IfOk result (λ found. IfSome found (λ p. All (λ input. Lacks 0 input.name.now) p.1.items)) }
 {
-    let mut held = Held::new(alloc)?;
+    let mut held = Held::with_capacity(alloc, total_len(inputs))?;
     let mut kept = Vec::new(alloc);
+    let mut left = PlacesLeft { places, index: 0 };
     for (name, text) in inputs {
         let mut current = Catalogue::new(alloc);
-        if !held.add_text(alloc, &mut current, text, kept.len(), places)? {
+        left.index = kept.len();
+        if !held.add_text(alloc, &mut current, text, &mut left)? {
             return Ok(None);
         }
         let pushed = kept.push(Named {

@@ -1,6 +1,6 @@
 //! The inputs of a tool, read in the order of the command line.
 ghost use Rattle.std.specs.Prelude.{◌≡◌, ◌≢◌, ◌⊎◌, ◌^◌, ℕ, List, take, Err, IfErr, IfSome, map, option_map, false, Some, MatchOption, MatchResult, IfOk};
-ghost use Rattle.po_tools.specs.Inputs.{AreInputs, IsUnread, ReadsAs, Reading, gives, refuses, named_inputs, unread_text};
+ghost use Rattle.po_tools.specs.Inputs.{AreInputs, IsInputFault, ReadsAs, Reading, gives, refuses, named_inputs, input_fault_text};
 ghost use Rattle.po_tools.specs.NamedFile.{named_files};
 ghost use Rattle.po_tools.specs.ProgramFaults.{program_text};
 ghost use Rattle.po_tools.specs.Run.{is_standard, shown_name};
@@ -13,7 +13,7 @@ use std::io::Read;
 
 /// Why an input isn't read.
 #[derive(Clone, Copy, Debug, PartialEq, Eq)]
-pub enum Unread {
+pub enum InputFault {
     /// The file can't be opened.
     CannotOpen,
     /// It was opened, and reading it failed.
@@ -31,14 +31,14 @@ pub trait InputSource {
     ghost standard: { Self → Reading → Type 0 };
 
     /// The bytes of the file of this name.
-    fn read_file(&self, alloc: Global, name: &str) -> Result<Vec<u8>, Unread>
+    fn read_file(&self, alloc: Global, name: &str) -> Result<Vec<u8>, InputFault>
         ensures { MatchResult result (λ bytes. file self.now name.now (gives bytes.items))
-            (λ why. (why ≡ Unread.OutOfMemory) ⊎ file self.now name.now (refuses why)) };
+            (λ why. (why ≡ InputFault.OutOfMemory) ⊎ file self.now name.now (refuses why)) };
 
     /// The bytes of standard input.
-    fn read_standard(&self, alloc: Global) -> Result<Vec<u8>, Unread>
+    fn read_standard(&self, alloc: Global) -> Result<Vec<u8>, InputFault>
         ensures { MatchResult result (λ bytes. standard self.now (gives bytes.items))
-            (λ why. (why ≡ Unread.OutOfMemory) ⊎ standard self.now (refuses why)) };
+            (λ why. (why ≡ InputFault.OutOfMemory) ⊎ standard self.now (refuses why)) };
 }
 
 /// An input with its name in fault lines.
@@ -87,15 +87,15 @@ impl<'a> Inputs<'a> {
         Ok(Inputs { texts, fault: None })
     }
 
-    /// The inputs that were read, lent.
-    pub fn lent(&self, alloc: Global) -> Result<Vec<(&str, &[u8])>, AllocError>
-        ensures { IfOk result (λ lent. named_files lent.items ≡ named_inputs self.now.texts.items) }
+    /// The inputs that were read, borrowed.
+    pub fn borrowed(&self, alloc: Global) -> Result<Vec<(&str, &[u8])>, AllocError>
+        ensures { IfOk result (λ borrowed. named_files borrowed.items ≡ named_inputs self.now.texts.items) }
     {
-        let mut lent = Vec::with_capacity(alloc, self.texts.len())?;
+        let mut borrowed = Vec::with_capacity(alloc, self.texts.len())?;
         for input in &self.texts {
-            lent.push((input.name, input.bytes.as_slice()))?;
+            borrowed.push((input.name, input.bytes.as_slice()))?;
         }
-        Ok(lent)
+        Ok(borrowed)
     }
 }
 
@@ -109,7 +109,7 @@ pub fn read_one<'a, S: InputSource>(
         ReadsAs (S.file source.now) (S.standard source.now) argument.now (is_standard argument.now) false
         (gives bytes.items)) }
     ensures fault { IfErr result (λ reported. (reported ≡ ProgramFault.OutOfMemory)
-        ⊎ IsUnread (S.file source.now) (S.standard source.now) argument.now (program_text reported)) }
+        ⊎ IsInputFault (S.file source.now) (S.standard source.now) argument.now (program_text reported)) }
 {
     read_argument(alloc, source, argument, is_standard(argument), false).map_err(|why| fault_of(
         shown_name(argument),
@@ -117,15 +117,15 @@ pub fn read_one<'a, S: InputSource>(
     ).unwrap_or(ProgramFault::OutOfMemory))
 }
 
-/// What an open file holds, or standard input, or the first 2,147,483,648 bytes of it.
-pub fn read_whole<F: Read + Drop>(alloc: Global, file: F) -> Result<Vec<u8>, Unread>
+/// The bytes that are left of an open file or of standard input, but no more than 2,147,483,648.
+pub fn read_whole<F: Read + Drop>(alloc: Global, file: F) -> Result<Vec<u8>, InputFault>
     ensures bytes { IfOk result (λ bytes. IfSome (F.remaining file) (λ all. bytes.items ≡ take (2 ^ 31) all)) }
-    ensures opened { result ≢ Err Unread.CannotOpen }
+    ensures opened { result ≢ Err InputFault.CannotOpen }
 {
     match read_input(alloc, &mut Counted::new(file)) {
         Ok(bytes) => Ok(bytes),
-        Err(ToolFault::OutOfMemory) => Err(Unread::OutOfMemory),
-        Err(_) => Err(Unread::ReadFault),
+        Err(ToolFault::OutOfMemory) => Err(InputFault::OutOfMemory),
+        Err(_) => Err(InputFault::ReadFault),
     }
 }
 
@@ -143,11 +143,11 @@ fn read_argument<S: InputSource>(
     argument: &str,
     standard: bool,
     is_stdin_read: bool,
-) -> Result<Vec<u8>, Unread>
+) -> Result<Vec<u8>, InputFault>
     ensures { MatchResult result
         (λ bytes. ReadsAs (S.file source.now) (S.standard source.now) argument.now standard is_stdin_read
         (gives bytes.items))
-        (λ why. (why ≡ Unread.OutOfMemory)
+        (λ why. (why ≡ InputFault.OutOfMemory)
         ⊎ ReadsAs (S.file source.now) (S.standard source.now) argument.now standard is_stdin_read (refuses why)) }
 {
     match (standard, is_stdin_read) {
@@ -161,24 +161,25 @@ fn read_argument<S: InputSource>(
 fn ended<'a>(
     texts: Vec<Input<'a>>,
     argument: &'a str,
-    why: Unread,
+    why: InputFault,
 ) -> Result<Inputs<'a>, AllocError>
     ensures { IfOk result (λ inputs. (inputs.texts.items ≡ texts.entry.items)
-        × (option_map program_text inputs.fault ≡ Some (unread_text (shown_name argument.now) why))
-        × (why ≢ Unread.OutOfMemory)) }
+        × (option_map program_text inputs.fault ≡ Some (input_fault_text (shown_name argument.now) why))
+        × (why ≢ InputFault.OutOfMemory)) }
 {
     let fault = Some(fault_of(shown_name(argument), why).ok_or(AllocError)?);
     Ok(Inputs { texts, fault })
 }
 
-/// The fault of an input that can't be read; a failed allocation is none of the input.
-fn fault_of(name: &str, why: Unread) -> Option<ProgramFault<'_>>
-    ensures { MatchOption result (why ≡ Unread.OutOfMemory)
-        (λ fault. (why ≢ Unread.OutOfMemory) × (program_text fault ≡ unread_text name.now why)) }
+/// The fault of an input that can't be read; none for a failed allocation, which is no fault of the
+/// input.
+fn fault_of(name: &str, why: InputFault) -> Option<ProgramFault<'_>>
+    ensures { MatchOption result (why ≡ InputFault.OutOfMemory)
+        (λ fault. (why ≢ InputFault.OutOfMemory) × (program_text fault ≡ input_fault_text name.now why)) }
 {
     match why {
-        Unread::CannotOpen => Some(ProgramFault::CannotOpen(name)),
-        Unread::ReadFault => Some(ProgramFault::ReadFault(name)),
-        Unread::OutOfMemory => None,
+        InputFault::CannotOpen => Some(ProgramFault::CannotOpen(name)),
+        InputFault::ReadFault => Some(ProgramFault::ReadFault(name)),
+        InputFault::OutOfMemory => None,
     }
 }

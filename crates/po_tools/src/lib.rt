@@ -1,4 +1,5 @@
-//! The tools of pokit as functions of their inputs: what each writes, reports and answers.
+//! The tools of pokit as functions of their inputs: what each writes and reports, and its exit
+//! status.
 //!
 //! A tool has two steps. A plan (`plan_msgfmt`, ..) computes a [`Run`] of values: the output, the
 //! messages and the status. [`deliver`] writes it. `run_msgfmt` and its like read one input, plan
@@ -6,9 +7,9 @@
 //!
 //! What the tools share: `run`, `program_fault`, `fault_text`, `inputs`, `outputs`, `arguments`,
 //! `positional`. msgfmt and msgunfmt: `profile`, `msgfmt`, `msgunfmt`. Texts that are written:
-//! `written`, `digests`, `selected_text`, `msgattrib`; of several inputs `repeated`, `held`,
-//! `merged_text`, `msgcat`, `unread`. Looking up: `catalogues`, `gettext`. Then `profile_laws` and
-//! `run_laws`.
+//! `written`, `digests`, `selected_text`, `msgattrib`; those of several inputs: `repeated`,
+//! `segment_texts`, `held`, `merged_text`, `msgcat`, `unread`. Looking up: `catalogues`, `gettext`.
+//! Then `profile_laws` and `run_laws`.
 
 #![tactic(auto)]
 
@@ -32,6 +33,7 @@ mod program_fault;
 mod repeated;
 mod run;
 mod run_laws;
+mod segment_texts;
 mod selected_text;
 mod unread;
 mod written;
@@ -39,14 +41,14 @@ mod written;
 pub use arguments::{
     Arguments, merge_options_of, msgfmt_options_of, ngettext_options_of, selection_of,
 };
-pub use catalogues::{CatalogueFile, find_catalogues, lent_catalogues, read_catalogues};
+pub use catalogues::{CatalogueFile, borrowed_catalogues, find_catalogues, read_catalogues};
 pub use gettext::{GettextOptions, NgettextOptions, plan_gettext, plan_ngettext};
-pub use inputs::{Input, InputSource, Inputs, Unread, read_one, read_whole};
+pub use inputs::{Input, InputFault, InputSource, Inputs, read_one, read_whole};
 pub use msgattrib::{plan_msgattrib, run_msgattrib};
 pub use msgcat::{plan_msgcat, plan_msgcat_before};
 pub use msgfmt::{MsgfmtOptions, plan_msgfmt, profile_check, run_msgfmt};
 pub use msgunfmt::{plan_msgunfmt, run_msgunfmt};
-pub use outputs::{OutputTarget, Unwritten, write_run, write_whole};
+pub use outputs::{OutputFault, OutputTarget, write_run, write_whole};
 pub use po_catalog::JoinError;
 pub use po_compile::{Compiled, Options, compile, compile_all, laws};
 pub use po_merge::{MergeOptions, Named, merge};

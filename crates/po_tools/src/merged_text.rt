@@ -1,51 +1,30 @@
 //! Merging several texts without their catalogues: the entries that are each the only one of its message are written as
 //! they are read, and only the others are kept and merged.
 ghost use Rattle.std.specs.Prelude.{◌≡◌, ◌++◌, All, IfOk, IfSome, List, OnOk, true};
-ghost use Rattle.std.specs.List.{AllZip};
+ghost use Rattle.po_catalog.specs.Digest.{digest};
 ghost use Rattle.po_entry.specs.Bytes.{Lacks};
 ghost use Rattle.po_entry.specs.TextEntry.{TextEntry};
 ghost use Rattle.po_merge.specs.Inputs.{NamedEntry};
 ghost use Rattle.po_merge.specs.InputsView.{inputs_view};
-ghost use Rattle.po_merge.specs.Woven.{Stretched, unnamed, woven};
-ghost use Rattle.po_tools.specs.Digests.{digest};
-ghost use Rattle.po_tools.specs.Held.{AreHeld, IsStretch, after_next, next_merged, text_after};
+ghost use Rattle.po_merge.specs.Woven.{Segment, woven};
+ghost use Rattle.po_tools.specs.Held.{AreHeld, after_next, next_merged};
 ghost use Rattle.po_tools.specs.Msgcat.{IsMergedText, keeps_all};
 ghost use Rattle.po_tools.specs.NamedFile.{NamedFile, named_files};
+ghost use Rattle.po_tools.specs.SegmentTexts.{AreSegmentTexts};
 ghost use Rattle.po_writer.specs.TextParts.{AreParts};
 
-use crate::digests::{add_digests, are_distinct, digest};
-use crate::held::{Held, Stretch, hold_inputs};
+use crate::digests::{add_digests, are_distinct};
+use crate::held::{Held, hold_inputs};
 use crate::repeated::repeated_places;
-use po_catalog::Entry;
+use crate::segment_texts::{SegmentTexts, between};
+use po_catalog::{Entry, digest};
 use po_merge::laws::woven_entries_are_merged;
 use po_merge::{MergeOptions, Named, merge};
 use po_writer::TextParts;
 use std::alloc::{AllocError, Global};
 use std::slice;
 
-/// Appends a further text, after an empty line where there are both.
-fn append_text(text: &mut Vec<u8>, more: &[u8]) -> Result<(), AllocError>
-    ensures { OnOk result (text.new.items ≡ text_after text.old.items more.now) }
-{
-    if more.is_empty() {
-        return Ok(());
-    }
-    if !text.is_empty() {
-        text.push(b'\n')?;
-    }
-    text.extend_from_slice(more)
-}
-
-/// Appends the text of further entries.
-fn append_parts(parts: &mut TextParts, more: &TextParts) -> Result<(), AllocError>
-    ensures { OnOk result ((before entries : List TextEntry) → AreParts before parts.old → AreParts entries more.now
-        → AreParts (before ++ entries) parts.new) }
-{
-    append_text(&mut parts.live, &more.live)?;
-    append_text(&mut parts.obsolete, &more.obsolete)
-}
-
-/// Adds the next merged entry, where its message has this digest, and lends those that are left.
+/// Adds the next merged entry, where its message has this digest, and returns those that are left.
 fn add_next<'a>(
     parts: &mut TextParts,
     merged: &'a [Entry],
@@ -61,34 +40,37 @@ fn add_next<'a>(
     if digest(entry) != next {
         return Ok(merged);
     }
-    match parts.add(slice::from_ref(entry)) {
-        Ok(()) => Ok(others),
-        Err(_) => Err(AllocError),
-    }
+    parts.add(slice::from_ref(entry))?;
+    Ok(others)
 }
 
-/// The texts of the stretches, and each merged entry where it stands first.
-fn weave(
-    alloc: Global,
-    stretches: &[Stretch],
-    rest: &TextParts,
-    merged: &[Entry],
-) -> Result<TextParts, AllocError>
-    ensures { IfOk result (λ parts. (entries : List Stretched) (after : List NamedEntry)
-        → AllZip IsStretch entries stretches.now
-        → AreParts (unnamed after) rest.now → AreParts (woven digest entries merged.now after) parts) }
+/// The texts of the segments, and each merged entry where it stands first.
+fn weave(alloc: Global, texts: &SegmentTexts, merged: &[Entry]) -> Result<TextParts, AllocError>
+    ensures { IfOk result (λ parts. (segments : List Segment) (after : List NamedEntry)
+        → AreSegmentTexts segments after texts.now → AreParts (woven digest segments merged.now after) parts) }
 {
-    let mut parts = TextParts::with_capacity(alloc, 0)?;
+    let mut parts = TextParts::with_capacity(alloc, texts.live.capacity())?;
+    let (mut live, mut obsolete) = (0, 0);
     let mut left = merged;
-    for stretch in stretches {
-        append_parts(&mut parts, &stretch.parts)?;
-        left = add_next(&mut parts, left, stretch.next)?;
+    for end in &texts.ends {
+        parts.add_texts(
+            between(&texts.live, live, end.live),
+            between(&texts.obsolete, obsolete, end.obsolete),
+        )?;
+        live = end.live;
+        obsolete = end.obsolete;
+        left = add_next(&mut parts, left, end.next)?;
     }
-    append_parts(&mut parts, rest)?;
+    parts.add_texts(
+        between(&texts.live, live, texts.live.len()),
+        between(&texts.obsolete, obsolete, texts.obsolete.len()),
+    )?;
     Ok(parts)
 }
 
-/// What is written of inputs of which this is known, and these entries are kept.
+/// What is written of inputs, by what is known of their entries and by those that are kept; none
+/// where these can't be merged, or where the digests don't show that all written entries are of
+/// different messages.
 fn written<'a>(
     alloc: Global,
     held: Held,
@@ -101,11 +83,7 @@ fn written<'a>(
         → AreHeld files held (inputs_view kept.now) → IsMergedText files options.now text.items)) }
 {
     woven_entries_are_merged();
-    let Held {
-        stretches,
-        rest,
-        mut digests,
-    } = held;
+    let Held { texts, mut digests } = held;
     let Ok(merged) = merge(alloc, kept, options) else {
         return Ok(None);
     };
@@ -113,11 +91,8 @@ fn written<'a>(
     if !are_distinct(digests) {
         return Ok(None);
     }
-    let parts = weave(alloc, &stretches, &rest, merged.entries())?;
-    match parts.join() {
-        Ok(text) => Ok(Some(text)),
-        Err(_) => Err(AllocError),
-    }
+    let text = weave(alloc, &texts, merged.entries())?.join()?;
+    Ok(Some(text))
 }
 
 /// What is written of inputs, where all messages are kept; none where one isn't read, or where the digests don't show

@@ -15,10 +15,10 @@ use po_shell::{ByteIn, ByteOut, ToolFault, read_input};
 use po_syntax::PoError;
 use std::alloc::{AllocError, Global};
 
-/// What `msgattrib` writes and reports of a text with its name: the selected entries, changed as the
-/// selection says, and a file where there is one. A text that is refused is reported by one line,
-/// with status 1. So is a duplicate among the selected entries, without a line number. `OutOfMemory`
-/// is the only refusal.
+/// What `msgattrib` writes and reports of a text with its name: the selected entries, changed as
+/// the selection says. A file is made where an entry is selected. A text that is refused is
+/// reported by one line, with status 1. So is a duplicate among the selected entries, without a
+/// line number. Refused only where an allocation failed.
 pub fn plan_msgattrib(
     alloc: Global,
     text: &[u8],
@@ -56,9 +56,9 @@ fn plan_whole(
     }
 }
 
-/// Reads one input, selects of it as `plan_msgattrib` does under this name, and writes what the run
-/// comes to: its output and then its messages. The answer is the run's status. After a `ReadFault`
-/// or `OutOfMemory` nothing is written; after a `WriteFault` a prefix is, as `deliver` says.
+/// Reads one input, plans as `plan_msgattrib` does with this name, and writes the run: its output
+/// and then its messages. Returns the run's status. After a `ReadFault` or `OutOfMemory` nothing is
+/// written; after a `WriteFault` a prefix is, as `deliver` says.
 pub fn run_msgattrib<R: ByteIn, O: ByteOut, E: ByteOut>(
     alloc: Global,
     reader: &mut R,

@@ -90,9 +90,10 @@ fn first_name<'a>(files: &[(&'a str, &[u8])]) -> &'a str
     }
 }
 
-/// What `msgcat` writes and reports of its inputs, each with its name: the text of the catalogue that they are merged
-/// to, where it has an entry. An input that isn't read, the first of them, is reported by one line, with status 1, and else
-/// a charset that isn't admitted, with the first input's name. Refused only where an allocation failed.
+/// What `msgcat` writes and reports of its inputs, each with its name: the text of the catalogue
+/// that they are merged to, where it has an entry. The first input that isn't read is reported by
+/// one line, with status 1; else a merged header whose charset isn't admitted is, with the first
+/// input's name. Refused only where an allocation failed.
 pub fn plan_msgcat(
     alloc: Global,
     inputs: &[(&str, &[u8])],
@@ -127,7 +128,8 @@ fn plan_merged(
     }
 }
 
-/// What is written of inputs in each of which no message stands twice, where all messages are kept.
+/// What is written of inputs that are read piece by piece; none where not every message is kept,
+/// where an input isn't read, or where the digests don't show which messages stand once.
 fn text_of_pieces(
     alloc: Global,
     inputs: &[(&str, &[u8])],
@@ -154,8 +156,8 @@ fn keeps_all(options: &MergeOptions) -> bool
     !options.unique && options.less_than.is_none() && options.more_than == 0
 }
 
-/// What `msgcat` comes to where the input after these can't be read: the refusal of these, or where they are read that
-/// input's fault. `OutOfMemory` may come in place of any answer.
+/// What `msgcat` comes to where the input after these can't be read: the refusal of these, or,
+/// where they are read, that input's fault. `OutOfMemory` may come in place of any result.
 pub fn plan_msgcat_before<'a>(
     alloc: Global,
     inputs: &[(&str, &[u8])],

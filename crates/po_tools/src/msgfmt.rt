@@ -69,7 +69,7 @@ fn first_fault(
 /// that it has a readable plural rule where an entry has a plural; that each entry but the header has as many forms
 /// as the rule, and newlines at its ends where its msgid has them; and that the rule's values at the counts from 0
 /// to 1,000 are indices of forms, where an entry has a plural. The first fault is reported with the input of its line,
-/// or input 0 where it has none. `OutOfMemory`, with input 0, may come in place of any answer.
+/// or input 0 where it has none. `OutOfMemory`, with input 0, may come in place of any result.
 pub fn profile_check(
     alloc: Global,
     catalogues: &[Catalogue],
@@ -225,7 +225,7 @@ fn refused_run(alloc: Global, inputs: &[(&str, &[u8])], error: JoinError) -> Res
 }
 
 /// The run of inputs that the check refuses.
-fn unfit_run(
+fn failed_check_run(
     alloc: Global,
     inputs: &[(&str, &[u8])],
     input: u32,
@@ -297,11 +297,12 @@ fn plan_catalogues(
     };
     match checked {
         Ok(()) => compiled_run(alloc, options, compiled),
-        Err((input, fault)) => unfit_run(alloc, inputs, input, fault),
+        Err((input, fault)) => failed_check_run(alloc, inputs, input, fault),
     }
 }
 
-/// The run of inputs with these texts, where the check is not asked for, so that no catalogue is wanted.
+/// The run of inputs with these texts, where the check is not asked for, so that no catalogue is
+/// needed.
 fn plan_compiled(
     alloc: Global,
     inputs: &[(&str, &[u8])],
@@ -323,9 +324,10 @@ fn plan_compiled(
     }
 }
 
-/// What `msgfmt` writes and reports of its inputs, each with its name: the compiled file, where it has a message, and
-/// the statistics, where they are asked for. Inputs that aren't compiled are reported by one line, with status 1, and
-/// else a fault of the check, where it is asked for. Refused only where an allocation failed.
+/// What `msgfmt` writes and reports of its inputs, each with its name: the compiled file, where it
+/// has a message, and the statistics, where they are asked for. Why inputs aren't compiled is
+/// reported by one line, with status 1; else the first fault of the check is, where it is asked
+/// for. Refused only where an allocation failed.
 ///
 /// The check comes first, since compiling takes the catalogues and moves their texts into the messages; its fault is
 /// kept, and reported only where the inputs are compiled.
@@ -349,8 +351,8 @@ pub fn plan_msgfmt(
     }
 }
 
-/// Reads one input, compiles it as `plan_msgfmt` does under this name, and writes what the run comes to: its output
-/// and then its messages. The answer is the run's status. After a `ReadFault`, or out of memory, nothing is
+/// Reads one input, plans as `plan_msgfmt` does with this name, and writes the run: its output and
+/// then its messages. Returns the run's status. After a `ReadFault`, or out of memory, nothing is
 /// written; after a `WriteFault` a prefix is, as `deliver` says.
 pub fn run_msgfmt<R: ByteIn, O: ByteOut, E: ByteOut>(
     alloc: Global,

@@ -73,9 +73,9 @@ pub fn plan_msgunfmt(alloc: Global, bytes: &[u8], name: &str) -> Result<Run, Too
     }
 }
 
-/// Reads a file, plans as `plan_msgunfmt` does under this name, and writes what the run comes to: its output and then
-/// its messages. The answer is the run's status. After a `ReadFault`, or out of memory, nothing is written; after a
-/// `WriteFault` a prefix is, as `deliver` says.
+/// Reads a file, plans as `plan_msgunfmt` does with this name, and writes the run: its output and
+/// then its messages. Returns the run's status. After a `ReadFault`, or out of memory, nothing is
+/// written; after a `WriteFault` a prefix is, as `deliver` says.
 pub fn run_msgunfmt<R: ByteIn, O: ByteOut, E: ByteOut>(
     alloc: Global,
     reader: &mut R,

@@ -1,6 +1,6 @@
 //! The arguments of the tools after their options.
 ghost use Rattle.std.specs.Prelude.{◌≡◌, map, option_map};
-ghost use Rattle.po_tools.specs.Positional.{envsubst_form, gettext_form, ngettext_form};
+ghost use Rattle.po_tools.specs.Positional.{envsubst_usage, gettext_usage, ngettext_usage};
 ghost use Rattle.po_tools.specs.PositionalView.{envsubst_arguments, gettext_arguments, ngettext_arguments};
 
 /// The arguments of `gettext`.
@@ -13,10 +13,11 @@ pub struct GettextArguments<'w, 'a> {
 }
 
 impl<'w, 'a> GettextArguments<'w, 'a> {
-    /// Takes `[TEXTDOMAIN] MSGID`, or with `shell` `MSGID..`. Other arguments are no form of the tool.
+    /// Takes `[TEXTDOMAIN] MSGID`, or with `shell` `MSGID..`. Other arguments fit no usage of the
+    /// tool.
     pub fn of(shell: bool, arguments: &'w [&'a str]) -> Option<GettextArguments<'w, 'a>>
         ensures { option_map gettext_arguments result
-            ≡ gettext_form shell (map (λ argument. argument.now) arguments.now) }
+            ≡ gettext_usage shell (map (λ argument. argument.now) arguments.now) }
     {
         let (domain, messages) = match arguments {
             _ if shell => (None, arguments),
@@ -42,9 +43,9 @@ pub struct NgettextArguments<'a> {
 }
 
 impl<'a> NgettextArguments<'a> {
-    /// Takes `[TEXTDOMAIN] MSGID MSGID-PLURAL COUNT`. Other arguments are no form of the tool.
+    /// Takes `[TEXTDOMAIN] MSGID MSGID-PLURAL COUNT`. Other arguments fit no usage of the tool.
     pub fn of(arguments: &[&'a str]) -> Option<NgettextArguments<'a>>
-        ensures { option_map ngettext_arguments result ≡ ngettext_form (map (λ argument. argument.now) arguments.now) }
+        ensures { option_map ngettext_arguments result ≡ ngettext_usage (map (λ argument. argument.now) arguments.now) }
     {
         let (domain, id, plural, count) = match arguments {
             [id, plural, count] => (None, *id, *plural, *count),
@@ -70,11 +71,11 @@ pub enum EnvsubstArguments<'a> {
 }
 
 impl<'a> EnvsubstArguments<'a> {
-    /// Takes `[SHELL-FORMAT]`, or with `variables` `SHELL-FORMAT`. Other arguments are no form of the
-    /// tool.
+    /// Takes `[SHELL-FORMAT]`, or with `variables` `SHELL-FORMAT`. Other arguments fit no usage of
+    /// the tool.
     pub fn of(variables: bool, arguments: &[&'a str]) -> Option<EnvsubstArguments<'a>>
         ensures { option_map envsubst_arguments result
-            ≡ envsubst_form variables (map (λ argument. argument.now) arguments.now) }
+            ≡ envsubst_usage variables (map (λ argument. argument.now) arguments.now) }
     {
         match (variables, arguments) {
             (true, [format]) => Some(EnvsubstArguments::Names(format)),

@@ -80,7 +80,7 @@ fn has_newline(end: End, text: &[u8]) -> bool
     }
 }
 
-/// Whether one of some forms has a newline at this end where it is not wanted, or none where it is.
+/// Whether a form has a newline at this end where none is wanted, or lacks one that is wanted.
 fn any_differs(end: End, wanted: bool, forms: &[Vec<u8>]) -> bool
     ensures { result ≡ list_any (λ text. Spec.differ wanted (Spec.has_newline end text)) (texts forms.now) }
 {
@@ -135,7 +135,7 @@ fn count_fault(rule: &Rule, count: u64) -> Option<(u32, CheckFault)>
     }
 }
 
-/// The first of the entries, but for the header, with something wrong.
+/// The fault of the first entry with one, but for the header.
 fn first_entry_fault(nplurals: u64, entries: &[JoinedEntry<'_>]) -> Option<(u32, CheckFault)>
     ensures { result ≡ Spec.first_some (Spec.entry_fault nplurals) (input_entries entries.now) }
 {
@@ -147,7 +147,8 @@ fn first_entry_fault(nplurals: u64, entries: &[JoinedEntry<'_>]) -> Option<(u32,
     None
 }
 
-/// The first count below `end` at which a rule's value is no index.
+/// The fault of the first count below `end` at which a rule has no value, or one that is no index
+/// of a form.
 fn first_count_fault(rule: &Rule, end: u64) -> Option<(u32, CheckFault)>
     ensures { result ≡ Spec.first_some (Spec.count_fault rule.now) (Spec.counts_below end) }
 {

@@ -2,7 +2,7 @@
 ghost use Rattle.std.specs.Prelude.{◌≡◌, ◌+◌, ◌^◌, ◌<◌, ◌++◌, IfOk, OnOk, OnErr, Err};
 ghost use Rattle.std.specs.Io.KnownBytes.{Appends};
 ghost use Rattle.std.specs.Option.{option_copied};
-ghost use Rattle.po_tools.specs.ProgramFaults.{input_fault, program_line, program_text, stdin_text, tool_mark};
+ghost use Rattle.po_tools.specs.ProgramFaults.{input_fault, program_line, program_text, stdin_text, tool_prefix};
 ghost use Rattle.po_tools.specs.declared.program_fault.ProgramFault.TheVariants.{OutOfMemory};
 
 use crate::run::STDIN_NAME;
@@ -16,7 +16,7 @@ pub enum ProgramFault<'a> {
     /// The arguments aren't UTF-8, so that no tool is known.
     #[error("arguments are not UTF-8")]
     NotText,
-    /// The arguments after the options fit none of the tool's forms.
+    /// The arguments after the options fit no usage of the tool.
     #[error("wrong number of arguments")]
     WrongArguments,
     /// The input file of this name can't be opened.
@@ -74,9 +74,9 @@ impl<T: Drop> From<AllocFailed<T>> for ProgramFault<'_> {
     }
 }
 
-/// Writes the line of a fault after `pokit TOOL: `, or after `pokit: ` where no tool is known, in one
-/// piece; part by part where an allocation failed. A `WriteFault` comes where a call of the writer
-/// failed or took no byte.
+/// Writes the line of a fault after `pokit TOOL: `, or after `pokit: ` where no tool is known, all
+/// at once, or part by part where an allocation failed. Returns `WriteFault` where a call of the
+/// writer failed or took no byte.
 pub fn report_fault<E: ByteOut>(
     alloc: Global,
     err: &mut E,
@@ -113,7 +113,7 @@ fn line_of(
 
 /// Appends which tool reports a fault.
 fn push_tool(line: &mut Vec<u8>, tool: Option<&str>) -> Result<(), AllocError>
-    ensures { OnOk result (line.new.items ≡ line.old.items ++ tool_mark (option_copied tool.entry)) }
+    ensures { OnOk result (line.new.items ≡ line.old.items ++ tool_prefix (option_copied tool.entry)) }
 {
     let Some(tool) = tool else {
         return line.extend_from_slice(b"pokit: ");
@@ -147,7 +147,7 @@ fn push_text(line: &mut Vec<u8>, fault: ProgramFault<'_>) -> Result<(), AllocErr
     line.extend_from_slice(text.as_bytes())
 }
 
-/// Writes the line of a fault part by part, without memory.
+/// Writes the line of a fault part by part, without an allocation.
 fn put_parts<E: ByteOut>(
     err: &mut E,
     tool: Option<&str>,
@@ -170,7 +170,7 @@ fn put_parts<E: ByteOut>(
 fn put_tool<E: ByteOut>(err: &mut E, tool: Option<&str>) -> Result<(), ToolFault>
     requires { E.failures err.old < 2 ^ 63 }
     ensures mark { OnOk result (Appends (E.contents err.old) (E.contents err.new)
-        (tool_mark (option_copied tool.entry))) }
+        (tool_prefix (option_copied tool.entry))) }
     ensures fault { OnErr result (result ≡ Err ToolFault.WriteFault) }
     ensures no_failure { OnOk result (E.failures err.new ≡ E.failures err.old) }
     ensures cause { OnErr result (E.failures err.new ≡ E.failures err.old + 1) }

@@ -1,5 +1,5 @@
-//! A guess which entries of several texts are of one message, by a look at the lines alone. Nothing is
-//! built on the guess that isn't checked.
+//! A guess which entries of several texts are of one message, by their lines alone. Whatever
+//! follows from the guess is checked elsewhere.
 
 use memchr::{memchr_iter, memrchr};
 use std::alloc::{AllocError, Global};
@@ -35,7 +35,8 @@ fn between_quotes(line: &[u8]) -> &[u8] {
 }
 
 impl Spelling {
-    /// Adds a line with its number; of the line after a msgid the digest of the message that ends there.
+    /// Adds the line of this number. If it ends the msgid of a message, the digest of the message
+    /// and the line of its msgid are returned.
     fn add_line(&mut self, line: &[u8], number: u32) -> Result<Option<(u64, u32)>, AllocError> {
         let line = line.strip_prefix(b"#~ ").unwrap_or(line);
         match line {
@@ -114,8 +115,8 @@ struct Tally {
 /// Counts one more in a cell.
 fn count_in(cells: &mut [u8], index: usize) {
     if let Some(four) = cells.get_mut(index / 4) {
-        let met = 1_u8.wrapping_shl((index % 4 * 2) as u32);
-        *four |= met | (*four & met).wrapping_shl(1);
+        let seen = 1_u8.wrapping_shl((index % 4 * 2) as u32);
+        *four |= seen | (*four & seen).wrapping_shl(1);
     }
 }
 

@@ -65,9 +65,9 @@ pub(crate) fn refused(alloc: Global, messages: Vec<u8>) -> Run
     }
 }
 
-/// Writes all of a run's output, then all of its messages. A `WriteFault` comes where a call of a writer failed
-/// or took no byte; then a prefix of the output has gone out and no message, or all of the output and a prefix
-/// of the messages.
+/// Writes all of a run's output, then all of its messages. Returns `WriteFault` where a call of a
+/// writer failed or took no byte; then a prefix of the output has gone out and no message, or all
+/// of the output and a prefix of the messages.
 pub fn deliver<O: ByteOut, E: ByteOut>(run: &Run, out: &mut O, err: &mut E) -> Result<(), ToolFault>
     requires out { O.failures out.old < 2 ^ 63 }
     requires err { E.failures err.old < 2 ^ 63 }

@@ -2,7 +2,7 @@
 //! the law into a proof.
 ghost use Rattle.po_tools.specs.RunLaws.{OneGettextRun, OneMsgattribRun, OneMsgcatRun, OneMsgfmtRun, OneMsgunfmtRun, OneNgettextRun};
 
-use mo_file::{catalog_is_unique, no_fault_of_catalog, one_first_fault};
+use mo_file::{no_fault_of_mo_file, one_first_fault, one_message_list};
 use mo_lookup::one_rule;
 use po_catalog::laws::{no_first_duplicate_where_none, one_first_duplicate, one_reading};
 use po_compile::laws::{
@@ -26,8 +26,8 @@ pub fn one_msgfmt_run()
 pub fn one_gettext_run()
     ensures { OneGettextRun }
 {
-    catalog_is_unique();
-    no_fault_of_catalog();
+    one_message_list();
+    no_fault_of_mo_file();
     one_first_fault();
     one_rule();
 }
@@ -36,8 +36,8 @@ pub fn one_gettext_run()
 pub fn one_ngettext_run()
     ensures { OneNgettextRun }
 {
-    catalog_is_unique();
-    no_fault_of_catalog();
+    one_message_list();
+    no_fault_of_mo_file();
     one_first_fault();
     one_rule();
 }
@@ -46,7 +46,7 @@ pub fn one_ngettext_run()
 pub fn one_msgunfmt_run()
     ensures { OneMsgunfmtRun }
 {
-    catalog_is_unique();
+    one_message_list();
     no_fault_where_unformatted();
     one_text();
     one_unformat_fault();

@@ -1,5 +1,5 @@
-//! Selecting the entries of a text without its catalogue: a piece is read, its entries are selected,
-//! changed and written, and it is let go before the next piece is read.
+//! Selecting the entries of a text without its catalogue: a piece is read, its entries are
+//! selected, changed and written, and the piece is dropped before the next one is read.
 
 ghost use Rattle.std.specs.Prelude.{◌++◌, IfOk, IfSome, List, OnOk};
 ghost use Rattle.po_entry.specs.TextEntry.{TextEntry};
@@ -35,10 +35,7 @@ fn select_piece(
     let Ok(selected) = select(piece, selection) else {
         return Err(AllocError);
     };
-    let Ok(()) = so_far.parts.add(selected.entries()) else {
-        return Err(AllocError);
-    };
-    Ok(())
+    so_far.parts.add(selected.entries())
 }
 
 /// Selects the entries of a text, piece by piece; none where a piece isn't read.
@@ -82,8 +79,5 @@ pub(crate) fn selected_text(
     if !are_distinct(digests) {
         return Ok(None);
     }
-    let Ok(written) = parts.join() else {
-        return Err(AllocError);
-    };
-    Ok(Some(written))
+    Ok(Some(parts.join()?))
 }

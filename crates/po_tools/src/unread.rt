@@ -1,11 +1,11 @@
-//! What msgfmt and msgcat come to of the inputs of a command line, of which one can't be read.
+//! What msgfmt and msgcat come to with the inputs of a command line, also where one can't be read.
 ghost use Rattle.std.specs.Prelude.{◌≡◌, ◌≢◌, ◌⊎◌, ◌^◌, ◌<◌, ◌==◌, List, [], All, MatchOption, None, Some, length, IfOk, IfErr};
 ghost use Rattle.std.specs.List.{list_any};
 ghost use Rattle.po_entry.specs.Bytes.{Lacks};
 ghost use Rattle.po_merge.specs.Inputs as merge;
 ghost use Rattle.po_tools.specs.Inputs.{named_inputs};
 ghost use Rattle.po_tools.specs.Msgcat.{AreReadAs, HasNulName, IsMsgcatRun, IsUnread};
-ghost use Rattle.po_tools.specs.Msgfmt.{AreTaken, AreNoneOrTooMany, IsMsgfmtRun, IsRefused};
+ghost use Rattle.po_tools.specs.Msgfmt.{NoneRefused, AreNoneOrTooMany, IsMsgfmtRun, IsRefused};
 ghost use Rattle.po_tools.specs.NamedFile.{named_files};
 ghost use Rattle.po_tools.specs.ProgramFaults.{program_text};
 ghost use Rattle.po_tools.specs.Run.{run_view};
@@ -18,9 +18,9 @@ use crate::run::Run;
 use po_merge::MergeOptions;
 use std::alloc::Global;
 
-/// What `msgfmt` comes to where the input after these can't be read: the refusal of these, or where
-/// they are accepted that input's fault. The check of the profile speaks of all inputs together, so
-/// it isn't asked of some. `OutOfMemory` may come in place of any answer.
+/// What `msgfmt` comes to where the input after these can't be read: the refusal of these, or,
+/// where they are accepted, that input's fault. The check of `--profile-check` is of all inputs
+/// together, so it isn't made of only some of them. `OutOfMemory` may come in place of any result.
 pub fn plan_msgfmt_before<'a>(
     alloc: Global,
     inputs: &[(&str, &[u8])],
@@ -30,7 +30,7 @@ pub fn plan_msgfmt_before<'a>(
     requires { length inputs.now < 2 ^ 32 }
     ensures refused { IfOk result (λ run. IsRefused (named_files inputs.now) options.now (run_view run)) }
     ensures fault { IfErr result (λ reported. (reported ≡ ProgramFault.OutOfMemory)
-        ⊎ ((reported ≡ fault.entry) × AreTaken (named_files inputs.now) options.now)) }
+        ⊎ ((reported ≡ fault.entry) × NoneRefused (named_files inputs.now) options.now)) }
 {
     if inputs.is_empty() {
         return Err(fault);
@@ -45,9 +45,9 @@ pub fn plan_msgfmt_before<'a>(
     if run.status == 0 { Err(fault) } else { Ok(run) }
 }
 
-/// What `msgfmt` comes to of the inputs that a command line names: the plan of all of them, or where
-/// one can't be read that of those before it. The command line names one at least, and fewer than
-/// 4,294,967,296.
+/// What `msgfmt` comes to with the inputs that a command line names: the plan of all of them, or,
+/// where one can't be read, what `plan_msgfmt_before` says of those before it. The command line
+/// names one at least, and fewer than 4,294,967,296.
 pub fn plan_msgfmt_of<'a>(
     alloc: Global,
     inputs: &Inputs<'a>,
@@ -59,9 +59,9 @@ pub fn plan_msgfmt_of<'a>(
         → IfOk result (λ run. IsRefused (named_inputs inputs.now.texts.items) options.now (run_view run)) }
     ensures fault { IfErr result (λ reported. (reported ≡ ProgramFault.OutOfMemory)
         ⊎ ((reported ≡ ProgramFault.WrongArguments) × AreNoneOrTooMany (named_inputs inputs.now.texts.items))
-        ⊎ ((inputs.now.fault ≡ Some reported) × AreTaken (named_inputs inputs.now.texts.items) options.now)) }
+        ⊎ ((inputs.now.fault ≡ Some reported) × NoneRefused (named_inputs inputs.now.texts.items) options.now)) }
 {
-    let texts = inputs.lent(alloc)?;
+    let texts = inputs.borrowed(alloc)?;
     if texts.len() > u32::MAX as usize {
         return Err(ProgramFault::WrongArguments);
     }
@@ -88,8 +88,9 @@ fn plan_all<'a>(
     plan_msgfmt(alloc, inputs, options).map_err(|_| ProgramFault::OutOfMemory)
 }
 
-/// What `msgcat` comes to of the inputs that a command line names: the plan of all of them, or where
-/// one can't be read that of those before it. A file whose name holds NUL can't be opened.
+/// What `msgcat` comes to with the inputs that a command line names: the plan of all of them, or,
+/// where one can't be read, what `plan_msgcat_before` says of those before it. A file whose name
+/// holds NUL can't be opened.
 pub fn plan_msgcat_of<'a>(
     alloc: Global,
     inputs: &Inputs<'a>,
@@ -107,7 +108,7 @@ pub fn plan_msgcat_of<'a>(
     if let Some(name) = name_with_nul(&inputs.texts) {
         return Err(ProgramFault::CannotOpen(name));
     }
-    let texts = inputs.lent(alloc)?;
+    let texts = inputs.borrowed(alloc)?;
     match inputs.fault {
         Some(fault) => plan_msgcat_before(alloc, &texts, fault),
         None => plan_msgcat(alloc, &texts, options).map_err(|_| ProgramFault::OutOfMemory),

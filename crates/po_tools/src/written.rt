@@ -1,4 +1,4 @@
-//! What a tool comes to that reads PO texts and writes one.
+//! The runs of tools that read PO texts and write one.
 ghost use Rattle.std.specs.Prelude.{◌≡◌, ◌≢◌, All, IfOk, List, OnOk};
 ghost use Rattle.po_entry.specs.TextEntry.{TextEntry};
 ghost use Rattle.po_entry.specs.Validity.{IsCatalogueEntry};

@@ -1,5 +1,5 @@
 use Rattle.std.proofs.Common.{◌≡◌, ◌++◌, map, take}
-use Rattle.po_tools.specs.Digests.{digest}
+use Rattle.po_catalog.specs.Digest.{digest}
 use Rattle.po_tools.proofs.digests.add_digests.Given as goal
 
 abbrev pub invariant-loop-entry : goal.invariant-loop-entry

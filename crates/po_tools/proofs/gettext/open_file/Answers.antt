@@ -8,7 +8,7 @@ returns-in_ok-push-in-Ok c = record {
   reported = [];
   catalogs = c.in_ok-push-in-Ok.ensures.items;
   messages = sym (append-nil _);
-  opens = λ files others rest o. opened c.in-Ok.ensures.exact.0 c.in-Ok.ensures.exact.1 c.in-Ok.ensures.contents o;
+  opens = λ files others rest o. opened c.in-Ok.ensures.exact.0 c.in-Ok.ensures.exact.1 c.in-Ok.ensures.view o;
 }
 
 pub returns-in_ok-push_refusal-in-Err : goal.returns-in_ok-push_refusal-in-Err

@@ -1,6 +1,6 @@
 use Rattle.std.proofs.Common.{◌≡◌, ◌++◌, ◌||◌, drop, map}
 use Rattle.std.specs.List.{list_any}
-use Rattle.po_tools.specs.Gettext.{stops_line, argument_answer}
+use Rattle.po_tools.specs.Gettext.{omits_newline, argument_answer}
 use Rattle.po_tools.specs.GettextView.{gettext_view}
 use Rattle.po_tools.proofs.GettextLemmas.{further}
 use Rattle.po_tools.proofs.gettext.push_answers.Given as goal
@@ -10,5 +10,5 @@ abbrev pub invariant-loop-argument : goal.invariant-loop-argument
 invariant-loop-argument l =
     (l.output.items ++ further (argument_answer l.chain (gettext_view l.options)) (drop l.argument-index l.others)
     ≡ l.initial.output.items ++ further (argument_answer l.chain (gettext_view l.options)) l.others)
-    × ((l.stops || list_any (stops_line (gettext_view l.options)) (map (λ argument. argument.now) (drop l.argument-index l.others)))
-    ≡ (l.initial.stops || list_any (stops_line (gettext_view l.options)) (map (λ argument. argument.now) l.others)))
+    × ((l.omitted || list_any (omits_newline (gettext_view l.options)) (map (λ argument. argument.now) (drop l.argument-index l.others)))
+    ≡ (l.initial.omitted || list_any (omits_newline (gettext_view l.options)) (map (λ argument. argument.now) l.others)))

@@ -1,30 +1,46 @@
-use Rattle.std.proofs.Common.{◌≤◌, ◌+◌, ◌++◌, [], drop, length, refl, sym, ap, ◌∙◌, subst, arith}
-use Rattle.po_merge.specs.Woven.{unnamed, woven}
-use Rattle.po_writer.specs.TextParts.{AreParts}
-use Rattle.po_tools.specs.Digests.{digest}
-use Rattle.po_tools.specs.Held.{IsStretch}
-use Rattle.po_tools.proofs.HeldLemmas.{zip_now, zip_over}
-use Rattle.po_tools.proofs.WovenText.{stretch_woven}
+use Rattle.std.proofs.Common.{◌≡◌, ◌≤◌, ◌+◌, ◌∷◌, ◌∙◌, [], ap, drop, get_or, length, refl, suc, sym, subst, arith}
+use Rattle.std.proofs.Math.ListN.{drop_of_length-le}
+use Rattle.std.proofs.Math.Seq.{drop-cons}
+use Rattle.po_tools.specs.SegmentTexts.{AreSegmentEnds}
+use Rattle.po_tools.specs.declared.segment_texts.SegmentEnd.{SegmentEnd}
+use Rattle.po_tools.proofs.WovenText.{rest_woven, segment_woven}
 use Rattle.po_tools.proofs.merged_text.weave.Goals as goal
 
-pub loop-stretch-init : goal.loop-stretch-init
-loop-stretch-init c = λ entries after zip. ([], c.in_ok-parts.ensures, refl)
+pub loop-end-init : goal.loop-end-init
+loop-end-init c =
+    λ segments after are. record {
+      done = [];
+      are = c.in_ok-parts.ensures;
+      before = [];
+      rest = segments;
+      woven_are = refl;
+      ends_are = subst (AreSegmentEnds [] segments) (sym c.deref-end-items.ensures.value) are.ends;
+      live_is = refl;
+      obsolete_is = refl;
+      parted = refl;
+    }
 
-pub loop-stretch-preserved : goal.loop-stretch-preserved
-loop-stretch-preserved c =
-    λ entries after zip.
-    let i = c.loop-stretch.stretch-index in
-    let so_far = c.loop-stretch.invariant entries after zip in
-    let s = c.stretch-item.result in
-    let at = zip_now IsStretch entries c.args.stretches.now i s zip c.loop-stretch-test.true in
-    let is = subst (IsStretch at.0) (sym c.stretch-item.is) at.2 in
-    stretch_woven so_far.0 at.0 (drop (i + 1) entries) _ _ s.next after _ c.append_parts.new.parts c.add_next.new.parts is.next c.in_ok-left.ensures.left c.in_ok-left.ensures.added
-    (c.in_ok-append_parts.ensures so_far.0 (unnamed at.0.0) so_far.1 is.parts) (ap (λ ts. so_far.0 ++ woven digest ts c.loop-stretch.left.now after) (sym at.1) ∙ so_far.2)
+pub loop-end-preserved : goal.loop-end-preserved
+loop-end-preserved c =
+    λ segments after are.
+    let ends = c.deref-end-items.result.now in
+    let i = c.loop-end.end-index in
+    let none : SegmentEnd = record { live = 0; obsolete = 0; next = 0 } in
+    let next : suc i ≡ i + 1 = omega arith in
+    segment_woven c.args.texts.now c.args.merged.now segments after (drop i ends) (drop (i + 1) ends) (get_or ends i none) c.loop-end.live c.loop-end.obsolete c.loop-end.left.now c.in_ok-left.left.now c.loop-end.parts
+    c.add_texts.new.self c.add_next.new.parts c.between.result.now c.between-in-loop-end.result.now are (c.loop-end.invariant segments after are) (drop-cons ends i none c.loop-end-test.true ∙ ap (λ k. get_or ends i none ∷ drop k ends) next)
+    (λ b o a is. c.between.ensures b o a (c.deref.ensures.value ∙ is)) (λ b o a is. c.between-in-loop-end.ensures b o a (c.deref-in-loop-end.ensures.value ∙ is))
+    c.in_ok-add_texts.ensures c.in_ok-left.ensures.added c.in_ok-left.ensures.left
 
 pub returns : goal.returns
 returns c =
-    λ entries after zip rest.
-    let so_far = c.loop-stretch.invariant entries after zip in
-    let past : length c.args.stretches.now ≤ c.loop-stretch.stretch-index = omega (arith, c.loop-stretch-test.false) in
-    let over = ap (λ ts. so_far.0 ++ woven digest ts c.loop-stretch.left.now after) (zip_over IsStretch entries c.args.stretches.now c.loop-stretch.stretch-index zip past) in
-    subst (λ l. AreParts l c.append_parts-2.new.parts) (sym over ∙ so_far.2) (c.in_ok-append_parts-2.ensures so_far.0 (unnamed after) so_far.1 rest)
+    λ segments after are.
+    let texts = c.args.texts.now in
+    let ends = c.deref-end-items.result.now in
+    let i = c.loop-end.end-index in
+    let past : length ends ≤ i = omega (arith, c.loop-end-test.false) in
+    rest_woven texts c.args.merged.now segments after (drop i ends) c.loop-end.live c.loop-end.obsolete c.len.result c.len-2.result c.loop-end.left.now c.loop-end.parts c.add_texts-2.new.self
+    c.between-2.result.now c.between-3.result.now are (c.loop-end.invariant segments after are) (drop_of_length-le ends past)
+    (c.len.ensures ∙ texts.live.ok.0) (c.len-2.ensures ∙ texts.obsolete.ok.0)
+    (λ b o a is. c.between-2.ensures b o a (c.deref-2.ensures.value ∙ is)) (λ b o a is. c.between-3.ensures b o a (c.deref-3.ensures.value ∙ is))
+    c.in_ok-add_texts-2.ensures

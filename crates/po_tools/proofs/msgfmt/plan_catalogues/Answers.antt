@@ -16,6 +16,6 @@ returns-in-Ok-checked c =
 
 pub returns-in-Err-checked : goal.returns-in-Err-checked
 returns-in-Err-checked c =
-    run-unfit (named_files c.args.inputs.now) c.args.options.now c.args.catalogues.items c.in-Ok.compiled (c.in-Err-checked.input, c.in-Err-checked.fault) c.unfit_run.result
+    run-unfit (named_files c.args.inputs.now) c.args.options.now c.args.catalogues.items c.in-Ok.compiled (c.in-Err-checked.input, c.in-Err-checked.fault) c.failed_check_run.result
     c.requires.read c.in-Ok.ensures
-    (rw c.deref.ensures.value at c.in-Err-checked.ensures.unfit) c.unfit_run.ensures
+    (rw c.deref.ensures.value at c.in-Err-checked.ensures.unfit) c.failed_check_run.ensures

@@ -1,8 +1,9 @@
-use Rattle.std.proofs.Common.{◌++◌, [], map, ap, ap₂, sym, ◌∙◌, subst, append-nil, append_assoc}
+use Rattle.std.proofs.Common.{◌++◌, [], map, ap, sym, ◌∙◌, subst, append-nil, append_assoc}
 use Rattle.std.proofs.lemmas.List.{map-append}
 use Rattle.po_merge.specs.Inputs.{named}
 use Rattle.po_reader.proofs.PieceReading.{left_over, whole_left}
-use Rattle.po_tools.specs.Digests.{AreDistinct, digest}
+use Rattle.po_catalog.specs.Digest.{digest}
+use Rattle.po_tools.specs.Digests.{AreDistinct}
 use Rattle.po_tools.specs.Held.{IsHeld}
 use Rattle.po_tools.proofs.DigestLemmas.{digests_differ}
 use Rattle.po_tools.proofs.held.Held.add_text.Goals as goal
@@ -17,11 +18,11 @@ loop-pieces-preserved c =
     let piece = c.in-Ok-next_catalogue.piece in (
       so_far.0 ++ piece,
       λ more h. rw append_assoc (so_far.1 (piece ++ more) (c.in-Ok-next_catalogue.ensures.found more h)),
-      c.in_ok-add_digests.ensures ∙ ap₂ (λ done entries. done ++ map digest entries) so_far.2 c.entries.ensures.entries ∙ sym (map-append digest so_far.0 piece),
+      c.in_ok-add_piece.ensures.digests ∙ ap (λ done. done ++ map digest piece) so_far.2 ∙ sym (map-append digest so_far.0 piece),
       λ name entries kept h.
           subst (λ l. IsHeld c.add_piece.new.self l (kept ++ map (named name) c.add_piece.new.current))
           (append_assoc entries (map (named name) so_far.0) (map (named name) piece) ∙ ap (λ l. entries ++ l) (sym (map-append (named name) so_far.0 piece)))
-          (c.in_ok-add_piece.ensures name (entries ++ map (named name) so_far.0) kept (so_far.3 name entries kept h)),
+          (c.in_ok-add_piece.ensures.held name (entries ++ map (named name) so_far.0) kept (so_far.3 name entries kept h)),
     )
 
 pub returns : goal.returns

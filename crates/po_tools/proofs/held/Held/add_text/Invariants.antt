@@ -2,7 +2,7 @@ use Rattle.std.proofs.Common.{◌≡◌, ℕ, List, ◌++◌, map, length}
 use Rattle.po_entry.specs.TextEntry.{TextEntry}
 use Rattle.po_entry.specs.ReadsText.{ReadsLeft, ReadsText}
 use Rattle.po_merge.specs.Inputs.{NamedEntry, named}
-use Rattle.po_tools.specs.Digests.{digest}
+use Rattle.po_catalog.specs.Digest.{digest}
 use Rattle.po_tools.specs.Held.{IsHeld}
 use Rattle.po_tools.proofs.held.Held.add_text.Given as goal
 
