@@ -94,9 +94,9 @@ byte_read (one_digit a {rest = rest} l none) = record { escape = record { byte =
 byte_read (two_digits a b {rest = rest} l m none) = record { escape = record { byte = Some (8 * a + b); size = 2 }; read = two_read a b rest l m none; byte_is = refl; after = refl }
 byte_read (three_digits a b c {rest = rest} l m k) = record { escape = record { byte = Some ((64 * a + 8 * b + c) % 256); size = 3 }; read = three_read a b c rest l m k; byte_is = refl; after = refl }
 
-pub mark_read : (rest : List ℕ) → escape_after (99 ∷ rest) ≡ Some (record { byte = None; size = 1 })
+pub c_read : (rest : List ℕ) → escape_after (99 ∷ rest) ≡ Some (record { byte = None; size = 1 })
 unfolding escape_after letter_escape
-mark_read rest = refl
+c_read rest = refl
 
 -- what is read as an escape is spelt
 abbrev pub ByteSays : List ℕ → Option ℕ → ℕ → Type 0

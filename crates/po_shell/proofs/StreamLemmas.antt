@@ -7,7 +7,7 @@ use Rattle.std.specs.Io.KnownBytes.{Appends, Keeps}
 use Rattle.memchr.specs.Find.{is_byte}
 use Rattle.po_shell.specs.Device.{AppendsPrefix}
 use Rattle.po_shell.specs.Substitution.{Values, substitution}
-use Rattle.po_shell.specs.Stream.{Advances, Stops, Cut, AreCuts, pieces_of, written_in, held_after, CutsAgree}
+use Rattle.po_shell.specs.Stream.{Advances, Stops, FeedCall, AreFeedCalls, pieces_of, written_in, held_after, FeedCallsAgree}
 use Rattle.po_shell.proofs.SearchLemmas.{byte-at}
 use Rattle.po_shell.proofs.SubstitutionLemmas.{plain-prefix}
 
@@ -158,17 +158,17 @@ pub pass-stops : (values : Values) (text held piece : List ℕ) (at : ℕ) (firs
 pass-stops values text held piece at first second third p q =
     Stops-after values text (held ++ drop at piece) first second third p (subst (λ l. Stops values (held ++ l) second third) (take_rest piece at) q)
 
--- the law of cuts, from any bytes that are held at first
-cuts-from : (values : Values) (held : List ℕ) (cuts : List Cut) → AreCuts values held cuts → (rest : List ℕ)
-    → substitution values (held ++ (pieces_of cuts ++ rest)) ≡ written_in cuts ++ substitution values (held_after held cuts ++ rest)
-cuts-from values held [] h rest = refl
-cuts-from values held (c ∷ cuts) h rest =
-    ap (λ l. substitution values (held ++ l)) (append_assoc c.piece (pieces_of cuts) rest)
-    ∙ ap (λ l. substitution values (l ++ (c.piece ++ (pieces_of cuts ++ rest)))) (sym h.0)
-    ∙ ap (substitution values) (sym (append_assoc c.before c.piece (pieces_of cuts ++ rest)))
-    ∙ h.1 (pieces_of cuts ++ rest)
-    ∙ ap (λ l. c.written ++ l) (cuts-from values c.after cuts h.2 rest)
-    ∙ sym (append_assoc c.written (written_in cuts) _)
+-- the law of calls, from any bytes that are held at first
+calls-from : (values : Values) (held : List ℕ) (calls : List FeedCall) → AreFeedCalls values held calls → (rest : List ℕ)
+    → substitution values (held ++ (pieces_of calls ++ rest)) ≡ written_in calls ++ substitution values (held_after held calls ++ rest)
+calls-from values held [] h rest = refl
+calls-from values held (c ∷ calls) h rest =
+    ap (λ l. substitution values (held ++ l)) (append_assoc c.piece (pieces_of calls) rest)
+    ∙ ap (λ l. substitution values (l ++ (c.piece ++ (pieces_of calls ++ rest)))) (sym h.0)
+    ∙ ap (substitution values) (sym (append_assoc c.before c.piece (pieces_of calls ++ rest)))
+    ∙ h.1 (pieces_of calls ++ rest)
+    ∙ ap (λ l. c.written ++ l) (calls-from values c.after calls h.2 rest)
+    ∙ sym (append_assoc c.written (written_in calls) _)
 
-pub cuts-agree : CutsAgree
-cuts-agree values cuts h rest = sym (cuts-from values [] cuts h rest)
+pub calls-agree : FeedCallsAgree
+calls-agree values calls h rest = sym (calls-from values [] calls h rest)

@@ -76,10 +76,10 @@ value_says vars only name value e =
       | inr f ↦ absurd (none_some value (sym (cond-false (is_replaced only name) (Some (value_of vars name)) None f) ∙ e))
     ]
 
-value_given : (vars : List Variable) (only : Option (List (List ℕ))) (name value : List ℕ) → IsReplaced only name → HasValue name vars value → values_of vars only name ≡ Some value
+value_is : (vars : List Variable) (only : Option (List (List ℕ))) (name value : List ℕ) → IsReplaced only name → HasValue name vars value → values_of vars only name ≡ Some value
 unfolding values_of
-value_given vars only name value replaced has =
+value_is vars only name value replaced has =
     cond-true (is_replaced only name) (Some (value_of vars name)) None (replaced_passes only name replaced) ∙ ap Some (is_value has)
 
-pub values_given : (vars : List Variable) (only : Option (List (List ℕ))) (name value : List ℕ) → (values_of vars only name ≡ Some value) ↔ (IsReplaced only name × HasValue name vars value)
-values_given vars only name value = (λ e. value_says vars only name value e, λ h. value_given vars only name value h.0 h.1)
+pub values_are : (vars : List Variable) (only : Option (List (List ℕ))) (name value : List ℕ) → (values_of vars only name ≡ Some value) ↔ (IsReplaced only name × HasValue name vars value)
+values_are vars only name value = (λ e. value_says vars only name value e, λ h. value_is vars only name value h.0 h.1)

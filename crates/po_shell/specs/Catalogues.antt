@@ -18,11 +18,11 @@ folder_of env = unwrap_or (non_empty env.textdomaindir) (codes "/usr/share/local
 abbrev pub path_of : List ℕ → List ℕ → List ℕ → List ℕ
 path_of folder locale domain = ((((folder ++ codes "/") ++ locale) ++ codes "/LC_MESSAGES/") ++ domain) ++ codes ".mo"
 
--- the catalogues of a domain, of which one that can't stand in a path has none
+-- the paths of the catalogues of a domain; a domain that can't stand in a path has none
 abbrev pub paths_in : Environment → Option (List ℕ) → List (List ℕ)
 paths_in env None = []
 paths_in env (Some domain) = if is_path_part domain then map (λ locale. path_of (folder_of env) locale domain) (candidates_of env) else []
 
--- the catalogues to try, the first to be asked first
+-- the paths of the catalogues to try, the first to be asked first
 abbrev pub paths_of : Option (List ℕ) → Option (List ℕ) → Environment → List (List ℕ)
 paths_of argument option env = paths_in env (domain_of argument option env)

@@ -1,4 +1,4 @@
--- What a counted reader or writer shows: the one below, and its two counts.
+-- What clauses see of a `Counted`: the reader or writer below, and its two counts.
 use Rattle.std.specs.Prelude.{ℕ}
 use Rattle.po_shell.specs.declared.devices.device.Counted.{Counted}
 

@@ -44,22 +44,23 @@ escape_after (b ∷ bs) =
     if is_octal b then Some (record { byte = Some (octal_value (octal_prefix (b ∷ bs))); size = length (octal_prefix (b ∷ bs)) })
     else letter_escape b
 
--- what stands for one byte, with what stands for those after it
-abbrev pub unit : ℕ → Option Escape → (ℕ → List (Option ℕ)) → List (Option ℕ)
-unit b None later = Some b ∷ later 0
-unit b (Some e) later = e.byte ∷ later e.size
+-- what a byte gives: itself, or what the escape that it begins gives, a byte or none for `\c`; and
+-- then what the later bytes give
+abbrev pub given_bytes : ℕ → Option Escape → (ℕ → List (Option ℕ)) → List (Option ℕ)
+given_bytes b None later = Some b ∷ later 0
+given_bytes b (Some e) later = e.byte ∷ later e.size
 
 -- what the bytes give, with their escapes expanded; the first `skip` bytes belong to an escape that
 -- began before them
-unfoldable pub units_after : ℕ → List ℕ → List (Option ℕ)
-units_after skip [] = []
-units_after (suc skip) (b ∷ bs) = units_after skip bs
-units_after zero (b ∷ bs) = unit b (if b == 92 then escape_after bs else None) (λ skip. units_after skip bs)
+unfoldable pub given_bytes_after : ℕ → List ℕ → List (Option ℕ)
+given_bytes_after skip [] = []
+given_bytes_after (suc skip) (b ∷ bs) = given_bytes_after skip bs
+given_bytes_after zero (b ∷ bs) = given_bytes b (if b == 92 then escape_after bs else None) (λ skip. given_bytes_after skip bs)
 
 -- the text with its escapes expanded
 abbrev pub expansion : List ℕ → List ℕ
-expansion text = filter_map (λ u. u) (units_after 0 text)
+expansion text = filter_map (λ u. u) (given_bytes_after 0 text)
 
 -- whether a `\c` stands in the text
 abbrev pub has_no_newline : List ℕ → Bool
-has_no_newline text = list_any (λ u. is_none u) (units_after 0 text)
+has_no_newline text = list_any (λ u. is_none u) (given_bytes_after 0 text)

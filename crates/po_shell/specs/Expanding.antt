@@ -25,13 +25,13 @@ pub data SpellsByte : List ℕ → ℕ → List ℕ → Type 0 where
 -- no escape stands after a backslash
 pub record IsNoEscape (text : List ℕ) : Type 0 where
   pub no_byte : (b : ℕ) (rest : List ℕ) → SpellsByte text b rest → ⊥
-  pub no_mark : (rest : List ℕ) → text ≢ 99 ∷ rest
+  pub not_c : (rest : List ℕ) → text ≢ 99 ∷ rest
 
 -- The text with its escapes expanded, and whether it holds `\c`, which gives no byte. Any other
 -- backslash stays.
 pub data Expands : List ℕ → List ℕ → Bool → Type 0 where
   nothing : Expands [] [] false
-  plain : {b : ℕ} {text bytes : List ℕ} {is_marked : Bool} → b ≢ 92 → Expands text bytes is_marked → Expands (b ∷ text) (b ∷ bytes) is_marked
-  escape : {b : ℕ} {text rest bytes : List ℕ} {is_marked : Bool} → SpellsByte text b rest → Expands rest bytes is_marked → Expands (92 ∷ text) (b ∷ bytes) is_marked
-  no_newline : {text bytes : List ℕ} {is_marked : Bool} → Expands text bytes is_marked → Expands (92 ∷ 99 ∷ text) bytes true
-  stays : {text bytes : List ℕ} {is_marked : Bool} → IsNoEscape text → Expands text bytes is_marked → Expands (92 ∷ text) (92 ∷ bytes) is_marked
+  plain : {b : ℕ} {text bytes : List ℕ} {without_newline : Bool} → b ≢ 92 → Expands text bytes without_newline → Expands (b ∷ text) (b ∷ bytes) without_newline
+  escape : {b : ℕ} {text rest bytes : List ℕ} {without_newline : Bool} → SpellsByte text b rest → Expands rest bytes without_newline → Expands (92 ∷ text) (b ∷ bytes) without_newline
+  no_newline : {text bytes : List ℕ} {without_newline : Bool} → Expands text bytes without_newline → Expands (92 ∷ 99 ∷ text) bytes true
+  stays : {text bytes : List ℕ} {without_newline : Bool} → IsNoEscape text → Expands text bytes without_newline → Expands (92 ∷ text) (92 ∷ bytes) without_newline

@@ -1,5 +1,5 @@
--- What a failing device shows: the device below, how many calls come before the one that fails, if
--- one is still to fail, and how many bytes a call moves at most.
+-- What clauses see of a `Failing`: the device below, how many calls come before the one that fails,
+-- if one is still to fail, and how many bytes a call moves at most.
 use Rattle.std.specs.Prelude.{ℕ, suc, zero, Option, Some, None}
 use Rattle.po_shell.specs.declared.devices.failing.Failing.{Failing}
 
@@ -9,8 +9,8 @@ failing_inner f = f.inner
 abbrev pub failing_calls_before : {D : Type 0} → Failing D → Option ℕ
 failing_calls_before f = f.calls_before
 
-abbrev pub failing_most : {D : Type 0} → Failing D → ℕ
-failing_most f = f.most
+abbrev pub failing_most_bytes : {D : Type 0} → Failing D → ℕ
+failing_most_bytes f = f.most_bytes
 
 -- how many calls come before the one that fails, after one more call: the call that fails is the
 -- last that counts

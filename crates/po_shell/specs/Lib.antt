@@ -7,7 +7,7 @@ pub mod Sorted
 pub mod Replacing
 pub mod Stream
 pub mod Holding
-pub mod Substituting
+pub mod SubstituterView
 pub mod Envsubst
 pub mod Counts
 pub mod Escapes

@@ -25,5 +25,5 @@ pub record ReplacementsView : Type 0 where
   pub only : Option (List (List ℕ))
 
 -- what references become
-abbrev pub values_by : ReplacementsView → Values
-values_by replacements = values_of replacements.vars replacements.only
+abbrev pub values_of_replacements : ReplacementsView → Values
+values_of_replacements replacements = values_of replacements.vars replacements.only

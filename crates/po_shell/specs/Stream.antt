@@ -18,7 +18,7 @@ pub record Stops (values : Values) (text : List ℕ) (old new : Option (List ℕ
   pub prefix : (rest : List ℕ) → (more : List ℕ) × (substitution values (text ++ rest) ≡ written ++ more)
 
 -- one call: what it held before, its piece, what it wrote, and what it held after
-pub record Cut : Type 0 where
+pub record FeedCall : Type 0 where
   pub before : List ℕ
   pub piece : List ℕ
   pub written : List ℕ
@@ -26,28 +26,28 @@ pub record Cut : Type 0 where
 
 -- each call holds before what the one before it held after, and writes what its bytes become but
 -- for what it holds
-abbrev pub AreCuts : Values → List ℕ → List Cut → Type 0
-AreCuts values held [] = Unit {0}
-AreCuts values held (c ∷ cuts) =
+abbrev pub AreFeedCalls : Values → List ℕ → List FeedCall → Type 0
+AreFeedCalls values held [] = Unit {0}
+AreFeedCalls values held (c ∷ calls) =
     (c.before ≡ held)
     × ((rest : List ℕ) → substitution values ((c.before ++ c.piece) ++ rest) ≡ c.written ++ substitution values (c.after ++ rest))
-    × AreCuts values c.after cuts
+    × AreFeedCalls values c.after calls
 
 -- the pieces of the calls, joined
-abbrev pub pieces_of : List Cut → List ℕ
-pieces_of cuts = flat_map (λ c. c.piece) cuts
+abbrev pub pieces_of : List FeedCall → List ℕ
+pieces_of calls = flat_map (λ c. c.piece) calls
 
 -- what the calls wrote, joined
-abbrev pub written_in : List Cut → List ℕ
-written_in cuts = flat_map (λ c. c.written) cuts
+abbrev pub written_in : List FeedCall → List ℕ
+written_in calls = flat_map (λ c. c.written) calls
 
 -- what is held after the last call
-abbrev pub held_after : List ℕ → List Cut → List ℕ
+abbrev pub held_after : List ℕ → List FeedCall → List ℕ
 held_after held [] = held
-held_after held (c ∷ cuts) = held_after c.after cuts
+held_after held (c ∷ calls) = held_after c.after calls
 
 -- however a text is cut, what all calls wrote and what is still held make what the whole text
 -- becomes
-abbrev pub CutsAgree : Type 0
-CutsAgree = (values : Values) (cuts : List Cut) → AreCuts values [] cuts → (rest : List ℕ)
-    → written_in cuts ++ substitution values (held_after [] cuts ++ rest) ≡ substitution values (pieces_of cuts ++ rest)
+abbrev pub FeedCallsAgree : Type 0
+FeedCallsAgree = (values : Values) (calls : List FeedCall) → AreFeedCalls values [] calls → (rest : List ℕ)
+    → written_in calls ++ substitution values (held_after [] calls ++ rest) ≡ substitution values (pieces_of calls ++ rest)

@@ -61,5 +61,5 @@ abbrev pub names_given : Option (Bor (List (Bor (List ℕ)))) → Option (List (
 names_given only = option_map (λ names. map (λ n. n.now) names.now) only
 
 -- what references become under variables and names that slices hold
-abbrev pub values_given : List (Bor (List ℕ) × Bor (List ℕ)) → Option (Bor (List (Bor (List ℕ)))) → Values
-values_given vars only = values_of (pairs_in vars) (names_given only)
+abbrev pub values_of_slices : List (Bor (List ℕ) × Bor (List ℕ)) → Option (Bor (List (Bor (List ℕ)))) → Values
+values_of_slices vars only = values_of (pairs_in vars) (names_given only)

@@ -1,4 +1,5 @@
-//! Readers and writers that count their failures, and what is read or written whole.
+//! Devices, which are readers and writers that count their failures, and what is read or written
+//! whole.
 mod delivery;
 mod device;
 mod failing;

@@ -5,13 +5,13 @@ ghost use Rattle.po_shell.specs.Escapes.{expansion, has_no_newline};
 ghost use Rattle.po_shell.specs.Expanding.{Expands};
 ghost use Rattle.po_shell.specs.References.{names_in};
 ghost use Rattle.po_shell.specs.Replacing.{HasValue, HoldsNames, IsReplaced, Replaces};
-ghost use Rattle.po_shell.specs.Stream.{CutsAgree};
+ghost use Rattle.po_shell.specs.Stream.{FeedCallsAgree};
 ghost use Rattle.po_shell.specs.Substitution.{Values, substitution, values_of};
 
 /// However a text is cut into pieces, the calls that take them write, together with what is still
 /// held back, what the whole text becomes.
 pub fn any_cutting()
-    ensures { CutsAgree }
+    ensures { FeedCallsAgree }
 {}
 
 /// The substitution of a text is the text in which each reference to a name that is replaced,
@@ -37,7 +37,7 @@ pub fn names_are_listed()
 /// The expansion of a text is the text in which each escape stands for its byte, `\c` for none, and
 /// any other byte for itself.
 pub fn escapes_are_expanded()
-    ensures { (text bytes : List ℕ) (is_marked : Bool)
-        → ((bytes ≡ expansion text) × (is_marked ≡ has_no_newline text))
-        ↔ Expands text bytes is_marked }
+    ensures { (text bytes : List ℕ) (without_newline : Bool)
+        → ((bytes ≡ expansion text) × (without_newline ≡ has_no_newline text))
+        ↔ Expands text bytes without_newline }
 {}

@@ -30,7 +30,7 @@ pub fn expand(alloc: Global, text: &[u8]) -> Result<Expanded, ToolFault>
     ensures bytes { IfOk result (λ expanded. expanded.bytes.items ≡ spec.expansion text.now) }
     ensures no_newline { IfOk result (λ expanded.
         expanded.no_newline ≡ spec.has_no_newline text.now) }
-    ensures fault { OnErr result (result ≡ Err ToolFault.OutOfMemory) }
+    ensures memory { OnErr result (result ≡ Err ToolFault.OutOfMemory) }
 {
     let mut bytes = Vec::with_capacity(alloc, text.len())?;
     let mut no_newline = false;

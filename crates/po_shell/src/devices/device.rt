@@ -47,8 +47,8 @@ pub trait ByteOut {
         ensures fails { failures self.new ≡ failures self.old + failure_of_write result piece.now };
 }
 
-/// A reader or writer with counts of its calls and of those that failed: a `ByteIn` over any
-/// `Read`, a `ByteOut` over any `Write`. Calls of a writer aren't counted.
+/// A reader with counts of its calls and of those that failed, or a writer with a count of the
+/// calls that failed: a `ByteIn` over any `Read`, a `ByteOut` over any `Write`.
 #[derive(Drop)]
 pub struct Counted<D> {
     inner: D,

@@ -3,7 +3,7 @@ ghost use Rattle.std.specs.Prelude.{◌≡◌, ◌≢◌, ◌↔◌, ◌-◌, �
 ghost use Rattle.std.specs.Io.{ReadsAtMost, WritesAtMost};
 ghost use Rattle.std.specs.Io.KnownBytes.{ReadConsumes, WriteAppends};
 ghost use Rattle.std.specs.IoError.{error_kind};
-ghost use Rattle.po_shell.specs.Failing.{calls_after, failing_inner, failing_calls_before, failing_most};
+ghost use Rattle.po_shell.specs.Failing.{calls_after, failing_inner, failing_calls_before, failing_most_bytes};
 
 use std::io::{self, ErrorKind, Read, Write};
 
@@ -14,23 +14,23 @@ pub struct Failing<D> {
     inner: D,
     // How many calls come before the one that fails, where one is still to fail.
     calls_before: Option<u64>,
-    most: usize,
+    most_bytes: usize,
 }
 
 impl<D> Failing<D> {
     /// The device that fails at the call of this number, counted from 1, and at no other; with 0 no
-    /// call fails. Each other call moves `most` bytes at most; a reader moves one where `most` is
+    /// call fails. Each other call moves `most_bytes` bytes at most; a reader moves one where `most_bytes` is
     /// 0.
-    pub fn new(inner: D, failing_call: u64, most: usize) -> Self
+    pub fn new(inner: D, failing_call: u64, most_bytes: usize) -> Self
         ensures inner { failing_inner result ≡ inner }
         ensures call { failing_calls_before result
             ≡ (if failing_call == 0 then None else Some (failing_call - 1)) }
-        ensures most { failing_most result ≡ most }
+        ensures most_bytes { failing_most_bytes result ≡ most_bytes }
     {
         Failing {
             inner,
             calls_before: failing_call.checked_sub(1),
-            most,
+            most_bytes,
         }
     }
 
@@ -46,7 +46,7 @@ impl<D> Failing<D> {
         ensures now { IsTrue result ↔ (failing_calls_before self.old ≡ Some 0) }
         ensures counts { failing_calls_before self.new ≡ calls_after (failing_calls_before self.old) }
         ensures inner { failing_inner self.new ≡ failing_inner self.old }
-        ensures most { failing_most self.new ≡ failing_most self.old }
+        ensures most_bytes { failing_most_bytes self.new ≡ failing_most_bytes self.old }
     {
         match self.calls_before {
             None => false,
@@ -71,14 +71,14 @@ impl Read for Failing<&[u8]> {
             buf.new }
         ensures fails { failing_calls_before self.old ≡ Some 0 → IsErr result }
         ensures moves { failing_calls_before self.old ≢ Some 0 → result
-            ≡ Ok (min (length (failing_inner self.old).now) (min (length buf.old) (max (failing_most self.old) 1))) }
+            ≡ Ok (min (length (failing_inner self.old).now) (min (length buf.old) (max (failing_most_bytes self.old) 1))) }
         ensures counts { failing_calls_before self.new ≡ calls_after (failing_calls_before self.old) }
-        ensures most { failing_most self.new ≡ failing_most self.old }
+        ensures most_bytes { failing_most_bytes self.new ≡ failing_most_bytes self.old }
     {
         if self.fails_now() {
             return Err(io::Error::from(ErrorKind::Other));
         }
-        let room = buf.len().min(self.most.max(1));
+        let room = buf.len().min(self.most_bytes.max(1));
         self.inner.read(&mut buf[..room])
     }
 }
@@ -95,14 +95,14 @@ impl Write for Failing<Vec<u8>> {
         // Any other call fails only where the allocation failed.
         ensures memory { failing_calls_before self.old ≢ Some 0
             → IfErr result (λ e. error_kind e ≡ ErrorKind.OutOfMemory) }
-        ensures moves { IfOk result (λ taken. taken ≡ min (length piece.now) (failing_most self.old)) }
+        ensures moves { IfOk result (λ taken. taken ≡ min (length piece.now) (failing_most_bytes self.old)) }
         ensures counts { failing_calls_before self.new ≡ calls_after (failing_calls_before self.old) }
-        ensures most { failing_most self.new ≡ failing_most self.old }
+        ensures most_bytes { failing_most_bytes self.new ≡ failing_most_bytes self.old }
     {
         if self.fails_now() {
             return Err(io::Error::from(ErrorKind::Other));
         }
-        let taken = piece.len().min(self.most);
+        let taken = piece.len().min(self.most_bytes);
         self.inner.write(&piece[..taken])
     }
 

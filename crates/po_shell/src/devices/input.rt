@@ -10,7 +10,7 @@ use std::alloc::Global;
 pub const INPUT_LIMIT: usize = 1 << 31;
 
 /// How many bytes a call of the reader may give: 16 KB.
-const PIECE: usize = 1 << 14;
+const BUFFER_LEN: usize = 1 << 14;
 
 /// The whole input, or its first `INPUT_LIMIT` bytes where it has more. A `ReadFault` comes where
 /// a call of the reader failed.
@@ -32,9 +32,9 @@ pub fn read_input<R: ByteIn>(alloc: Global, reader: &mut R) -> Result<Vec<u8>, T
     ensures calls { R.calls reader.new ≤ R.calls reader.old + 2 ^ 32 }
 {
     let mut input = Vec::new(alloc);
-    let mut piece = [0; PIECE];
+    let mut piece = [0; BUFFER_LEN];
     while input.len() < INPUT_LIMIT {
-        let room = PIECE.min(INPUT_LIMIT - input.len());
+        let room = BUFFER_LEN.min(INPUT_LIMIT - input.len());
         match reader.pull(&mut piece[..room]) {
             Ok(0) => return Ok(input),
             Ok(count) => input.extend_from_slice(&piece[..count])?,

@@ -1,14 +1,14 @@
 //! The bytes that may begin a reference, held back until the next ones decide.
 ghost use Rattle.std.specs.Prelude.{◌≡◌, ◌<◌, true, false, ◌∷◌, [], length, take, IfSome};
 ghost use Rattle.po_shell.specs.Holding.{Decides, ComesOut, ReplacesName, Ending, is_undecided, is_begun_name, after_dollar};
-ghost use Rattle.po_shell.specs.Sorted.{values_by};
+ghost use Rattle.po_shell.specs.Sorted.{values_of_replacements};
 
 use crate::envsubst::reference::{
     LONGEST_NAME, begins_with, is_letter, is_name, is_name_byte, name_prefix,
 };
 use crate::envsubst::replacements::Replacements;
 
-/// What the byte after a begun reference makes of it.
+/// What the next byte makes of a begun reference: `$` or `${`, and the name so far, maybe empty.
 #[derive(Clone, Copy)]
 pub(crate) enum Decision {
     /// It may still become a reference.
@@ -23,7 +23,7 @@ pub(crate) enum Decision {
 
 /// What becomes of the bytes held back, at the next byte.
 pub(crate) enum Effect<'a> {
-    /// They are held on, and so is the byte.
+    /// They stay held, and the byte is held too.
     Held,
     /// They come out as they are, and the byte isn't taken.
     Copied,
@@ -74,8 +74,8 @@ pub(crate) fn begun(held: &[u8]) -> (bool, &[u8])
     }
 }
 
-/// How many bytes at the beginning are a begun name after which a byte stands that decides on it.
-/// `None` where no name can begin so, or where the bytes end with it.
+/// The length of the begun name at the beginning, if a byte follows that decides about it. `None`
+/// where no name can begin so, or where the bytes end with it.
 fn begun_name_len(bytes: &[u8]) -> Option<usize>
     ensures begun { IfSome result (λ len. is_begun_name (take len bytes.now) ≡ true) }
     ensures bound { IfSome result (λ len. len < length bytes.now) }
@@ -94,8 +94,8 @@ fn begun_name_len(bytes: &[u8]) -> Option<usize>
     }
 }
 
-/// How many bytes at the beginning of a piece are a begun reference after which a byte stands that
-/// decides on it. `None` where the piece doesn't begin with `$`, or ends with the reference.
+/// The length of the begun reference at the beginning of a piece, if a byte follows that decides
+/// about it. `None` where the piece doesn't begin with one, or ends with it.
 pub(crate) fn begun_len(piece: &[u8]) -> Option<usize>
     ensures some { IfSome result (λ len. 0 < len) }
     ensures bound { IfSome result (λ len. len < length piece.now) }
@@ -116,7 +116,7 @@ pub(crate) fn begun_len(piece: &[u8]) -> Option<usize>
 pub(crate) fn effect_of<'a>(replacements: &Replacements<'a>, held: &[u8], next: u8) -> Effect<'a>
     requires some { 0 < length held.now }
     requires undecided { is_undecided held.now ≡ true }
-    ensures { ComesOut (values_by replacements.now) held.now next result }
+    ensures { ComesOut (values_of_replacements replacements.now) held.now next result }
 {
     let (is_braced, name) = begun(held);
     match decide(is_braced, name, next) {
@@ -129,7 +129,7 @@ pub(crate) fn effect_of<'a>(replacements: &Replacements<'a>, held: &[u8], next: 
 
 /// What becomes of a reference to this name, which takes so many further bytes.
 fn replace<'a>(replacements: &Replacements<'a>, name: &[u8], taken: usize) -> Effect<'a>
-    ensures { ReplacesName (values_by replacements.now) name.now taken result }
+    ensures { ReplacesName (values_of_replacements replacements.now) name.now taken result }
 {
     match replacements.value_for(name) {
         Some(value) => Effect::Replaced(value, taken),
@@ -140,7 +140,7 @@ fn replace<'a>(replacements: &Replacements<'a>, name: &[u8], taken: usize) -> Ef
 /// What the bytes held back become at the end of the text; `None` where they are copied.
 pub(crate) fn ending<'a>(replacements: &Replacements<'a>, held: &[u8]) -> Option<&'a [u8]>
     requires { is_undecided held.now ≡ true }
-    ensures { Ending (values_by replacements.now) held.now result }
+    ensures { Ending (values_of_replacements replacements.now) held.now result }
 {
     if held.is_empty() {
         return None;

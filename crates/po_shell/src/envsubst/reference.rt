@@ -92,7 +92,7 @@ fn after_first_dollar(text: &[u8]) -> Option<&[u8]>
 /// The names of the references in a text such as SHELL-FORMAT, in order, with repeats.
 pub fn names(alloc: Global, format: &[u8]) -> Result<Vec<&[u8]>, ToolFault>
     ensures names { IfOk result (λ v. map (λ name. name.now) v.items ≡ spec.names_in format.now) }
-    ensures fault { OnErr result (result ≡ Err ToolFault.OutOfMemory) }
+    ensures memory { OnErr result (result ≡ Err ToolFault.OutOfMemory) }
 {
     let mut names = Vec::new(alloc);
     let mut text = format;
@@ -108,7 +108,7 @@ pub fn names(alloc: Global, format: &[u8]) -> Result<Vec<&[u8]>, ToolFault>
 /// The names of the references in a text such as SHELL-FORMAT, one a line.
 pub fn name_lines(alloc: Global, format: &[u8]) -> Result<Vec<u8>, ToolFault>
     ensures lines { IfOk result (λ lines. lines.items ≡ spec.name_lines format.now) }
-    ensures fault { OnErr result (result ≡ Err ToolFault.OutOfMemory) }
+    ensures memory { OnErr result (result ≡ Err ToolFault.OutOfMemory) }
 {
     let names = names(alloc, format)?;
     let mut lines = Vec::new(alloc);

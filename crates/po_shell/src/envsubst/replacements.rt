@@ -2,7 +2,7 @@
 //! manual).
 ghost use Rattle.std.specs.Prelude.{◌≡◌};
 ghost use Rattle.std.specs.Option.{option_map};
-ghost use Rattle.po_shell.specs.Sorted.{values_by};
+ghost use Rattle.po_shell.specs.Sorted.{values_of_replacements};
 ghost use Rattle.po_shell.specs.Substitution.{is_replaced, names_given, pairs_in, value_of};
 
 use crate::envsubst::sorted::{are_names_sorted, are_variables_sorted, is_in_sorted, sorted_value};
@@ -54,7 +54,7 @@ impl<'a> Replacements<'a> {
     /// What a reference to this name becomes, or `None` where it isn't replaced.
     #[tactic(auto, unfolding(crate::specs::Substitution::values_of))]
     pub(crate) fn value_for(&self, name: &[u8]) -> Option<&'a [u8]>
-        ensures { option_map (λ value. value.now) result ≡ values_by self.now name.now }
+        ensures { option_map (λ value. value.now) result ≡ values_of_replacements self.now name.now }
     {
         if self.is_replaced(name) {
             Some(self.value_of(name))

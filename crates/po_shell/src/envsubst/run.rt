@@ -3,7 +3,7 @@ ghost use Rattle.std.specs.Prelude.{◌≡◌, ◌+◌, ◌^◌, ◌<◌, ◌≤
 ghost use Rattle.std.specs.Io.Buffered.{writer_contents};
 ghost use Rattle.std.specs.Io.KnownBytes.{Keeps};
 ghost use Rattle.po_shell.specs.Envsubst.{Substitutes, StopsAtEnd, StopsWithin};
-ghost use Rattle.po_shell.specs.Substitution.{values_given};
+ghost use Rattle.po_shell.specs.Substitution.{values_of_slices};
 
 use crate::devices::{ByteIn, ByteOut, Counted};
 use crate::envsubst::sorted::{sorted_names, sorted_variables};
@@ -12,11 +12,11 @@ use crate::fault::ToolFault;
 use std::alloc::Global;
 use std::io::{BufWriter, Write};
 
-/// How often a reader is called at most for a piece of an input: 4,294,967,296 times.
+/// How often a run calls its reader at most, once for each piece: 4,294,967,296 times.
 pub const MOST_READS: u64 = 1 << 32;
 
 /// How many bytes a call of the reader may give: 64 KB.
-const PIECE: usize = 1 << 16;
+const BUFFER_LEN: usize = 1 << 16;
 
 /// How many bytes of output are gathered for one call of the writer: 64 KB.
 const BLOCK: usize = 1 << 16;
@@ -33,19 +33,19 @@ pub fn run_envsubst<R: ByteIn, W: ByteOut>(
     requires calls { R.calls reader.old < 2 ^ 63 }
     requires read_failures { R.failures reader.old < 2 ^ 63 }
     requires write_failures { W.failures writer.old < 2 ^ 63 }
-    ensures ok { OnOk result (Substitutes (values_given vars.now only.entry)
+    ensures ok { OnOk result (Substitutes (values_of_slices vars.now only.entry)
         (R.remaining reader.old) (W.contents writer.old) (W.contents writer.new)) }
 
     // What went out is a prefix of what the bytes that were read become, whatever comes next.
     ensures read_fault { IsErrOf result ToolFault.ReadFault
-        → StopsWithin (values_given vars.now only.entry)
+        → StopsWithin (values_of_slices vars.now only.entry)
         (R.remaining reader.old) (R.remaining reader.new) (W.contents writer.old) (W.contents writer.new) }
 
     // What went out is such a prefix, or at the end of the input one of what all of it becomes.
     ensures write_fault { IsErrOf result ToolFault.WriteFault
-        → StopsWithin (values_given vars.now only.entry)
+        → StopsWithin (values_of_slices vars.now only.entry)
         (R.remaining reader.old) (R.remaining reader.new) (W.contents writer.old) (W.contents writer.new)
-        ⊎ StopsAtEnd (values_given vars.now only.entry)
+        ⊎ StopsAtEnd (values_of_slices vars.now only.entry)
         (R.remaining reader.old) (W.contents writer.old) (W.contents writer.new) }
     ensures no_read_failure { OnOk result (R.failures reader.new ≡ R.failures reader.old) }
     ensures no_write_failure { OnOk result (W.failures writer.new ≡ W.failures writer.old) }
@@ -63,7 +63,7 @@ pub fn run_envsubst<R: ByteIn, W: ByteOut>(
     ensures calls { R.calls reader.new ≤ R.calls reader.old + 2 ^ 32 }
 {
     let mut substituter = Substituter::new(vars, only);
-    let mut piece = [0; PIECE];
+    let mut piece = [0; BUFFER_LEN];
     for _ in 0..MOST_READS {
         match reader.pull(&mut piece) {
             Ok(0) => return substituter.finish(writer),
@@ -88,7 +88,7 @@ pub fn run_envsubst_in_blocks<R: ByteIn, W: Write + Drop>(
 ) -> Result<W, ToolFault>
     requires calls { R.calls reader.old < 2 ^ 63 }
     requires read_failures { R.failures reader.old < 2 ^ 63 }
-    ensures ok { IfOk result (λ written. Substitutes (values_given vars.now only.entry)
+    ensures ok { IfOk result (λ written. Substitutes (values_of_slices vars.now only.entry)
         (R.remaining reader.old) (W.contents writer) (W.contents written)) }
     ensures no_read_failure { OnOk result (R.failures reader.new ≡ R.failures reader.old) }
     ensures read_cause { IsErrOf result ToolFault.ReadFault
@@ -125,7 +125,7 @@ fn substitute_in_blocks<R: ByteIn, W: Write + Drop>(
 ) -> Result<W, ToolFault>
     requires calls { R.calls reader.old < 2 ^ 63 }
     requires read_failures { R.failures reader.old < 2 ^ 63 }
-    ensures ok { IfOk result (λ written. Substitutes (values_given vars.now only.entry)
+    ensures ok { IfOk result (λ written. Substitutes (values_of_slices vars.now only.entry)
         (R.remaining reader.old) (W.contents writer) (W.contents written)) }
     ensures no_read_failure { OnOk result (R.failures reader.new ≡ R.failures reader.old) }
     ensures read_cause { IsErrOf result ToolFault.ReadFault

@@ -4,9 +4,9 @@ ghost use Rattle.std.specs.Prelude.{◌≡◌, ◌+◌, ◌-◌, ◌*◌, ◌^�
 ghost use Rattle.std.specs.Io.KnownBytes.{Appends, Keeps};
 ghost use Rattle.po_shell.specs.Device.{AppendsPrefix};
 ghost use Rattle.po_shell.specs.Holding.{is_undecided};
-ghost use Rattle.po_shell.specs.Sorted.{values_by};
+ghost use Rattle.po_shell.specs.Sorted.{values_of_replacements};
 ghost use Rattle.po_shell.specs.Stream.{Advances, Stops};
-ghost use Rattle.po_shell.specs.Substituting.{values_in};
+ghost use Rattle.po_shell.specs.SubstituterView.{values_of_substituter};
 ghost use Rattle.po_shell.specs.Substitution.{Values, substitution, pairs_in, names_given};
 
 use crate::devices::{ByteOut, put_all};
@@ -31,10 +31,10 @@ pub struct Substituter<'a> {
 
 impl<'a> Model for Substituter<'a> {
     ghost use Rattle.std.specs.Prelude.{◌≡◌, true};
-    ghost use Rattle.po_shell.specs.Substituting.{Substituting};
+    ghost use Rattle.po_shell.specs.SubstituterView.{SubstituterView};
     ghost use Rattle.po_shell.specs.Holding.{is_undecided};
 
-    ghost Value = { Substituting };
+    ghost Value = { SubstituterView };
 
     ghost view = { λ s. record {
       vars = s.replacements.vars;
@@ -68,9 +68,9 @@ impl<'a> Substituter<'a> {
     /// and writes nothing.
     pub fn feed<W: ByteOut>(&mut self, piece: &[u8], writer: &mut W) -> Result<(), ToolFault>
         requires failures { W.failures writer.old < 2 ^ 63 }
-        ensures ok { OnOk result (Advances (values_in self.old) (self.old.held ++ piece.now) self.new.held
+        ensures ok { OnOk result (Advances (values_of_substituter self.old) (self.old.held ++ piece.now) self.new.held
             (W.contents writer.old) (W.contents writer.new)) }
-        ensures stops { OnErr result (Stops (values_in self.old) (self.old.held ++ piece.now)
+        ensures stops { OnErr result (Stops (values_of_substituter self.old) (self.old.held ++ piece.now)
             (W.contents writer.old) (W.contents writer.new)) }
         ensures fault { OnErr result (result ≡ Err ToolFault.WriteFault) }
         ensures failed { self.old.has_failed ≡ true → IsErr result }
@@ -96,9 +96,9 @@ impl<'a> Substituter<'a> {
     pub fn finish<W: ByteOut>(self, writer: &mut W) -> Result<(), ToolFault>
         requires failures { W.failures writer.old < 2 ^ 63 }
         ensures ok { OnOk result (Appends (W.contents writer.old) (W.contents writer.new)
-            (substitution (values_in self.entry) self.entry.held)) }
+            (substitution (values_of_substituter self.entry) self.entry.held)) }
         ensures prefix { OnErr result (AppendsPrefix (W.contents writer.old) (W.contents writer.new)
-            (substitution (values_in self.entry) self.entry.held)) }
+            (substitution (values_of_substituter self.entry) self.entry.held)) }
         ensures fault { OnErr result (result ≡ Err ToolFault.WriteFault) }
         ensures failed { self.entry.has_failed ≡ true → IsErr result }
         ensures quiet { self.entry.has_failed ≡ true
@@ -127,9 +127,9 @@ fn pass<W: ByteOut>(
     requires undecided { is_undecided held.old.items ≡ true }
     requires failures { W.failures writer.old < 2 ^ 64 - 1 }
     ensures undecided { is_undecided held.new.items ≡ true }
-    ensures ok { OnOk result (Advances (values_by replacements.now) (held.old.items ++ piece.now) held.new.items
-        (W.contents writer.old) (W.contents writer.new)) }
-    ensures stops { OnErr result (Stops (values_by replacements.now) (held.old.items ++ piece.now)
+    ensures ok { OnOk result (Advances (values_of_replacements replacements.now) (held.old.items ++ piece.now)
+        held.new.items (W.contents writer.old) (W.contents writer.new)) }
+    ensures stops { OnErr result (Stops (values_of_replacements replacements.now) (held.old.items ++ piece.now)
         (W.contents writer.old) (W.contents writer.new)) }
     ensures fault { OnErr result (result ≡ Err ToolFault.WriteFault) }
     ensures no_failure { OnOk result (W.failures writer.new ≡ W.failures writer.old) }
@@ -156,10 +156,10 @@ fn advance<W: ByteOut>(
     ensures bound { IfOk result (λ taken. taken ≤ length piece.now) }
     ensures progress { IfOk result (λ taken.
         min 1 (length held.new.items) < 2 * taken + min 1 (length held.old.items)) }
-    ensures ok { IfOk result (λ taken. Advances (values_by replacements.now)
+    ensures ok { IfOk result (λ taken. Advances (values_of_replacements replacements.now)
         (held.old.items ++ piece.now) (held.new.items ++ drop taken piece.now)
         (W.contents writer.old) (W.contents writer.new)) }
-    ensures stops { OnErr result (Stops (values_by replacements.now) (held.old.items ++ piece.now)
+    ensures stops { OnErr result (Stops (values_of_replacements replacements.now) (held.old.items ++ piece.now)
         (W.contents writer.old) (W.contents writer.new)) }
     ensures fault { OnErr result (result ≡ Err ToolFault.WriteFault) }
     ensures no_failure { OnOk result (W.failures writer.new ≡ W.failures writer.old) }
@@ -205,10 +205,10 @@ fn take_reference<W: ByteOut>(
     ensures undecided { is_undecided held.new.items ≡ true }
     ensures bound { IfOk result (λ taken. taken ≤ length piece.now) }
     ensures progress { IfOk result (λ taken. 0 < taken) }
-    ensures ok { IfOk result (λ taken. Advances (values_by replacements.now) piece.now
+    ensures ok { IfOk result (λ taken. Advances (values_of_replacements replacements.now) piece.now
         (held.new.items ++ drop taken piece.now)
         (W.contents writer.old) (W.contents writer.new)) }
-    ensures stops { OnErr result (Stops (values_by replacements.now) piece.now
+    ensures stops { OnErr result (Stops (values_of_replacements replacements.now) piece.now
         (W.contents writer.old) (W.contents writer.new)) }
     ensures fault { OnErr result (result ≡ Err ToolFault.WriteFault) }
     ensures no_failure { OnOk result (W.failures writer.new ≡ W.failures writer.old) }

@@ -37,7 +37,7 @@ pub fn locale_candidates(
 ) -> Result<Vec<Vec<u8>>, ToolFault>
     ensures candidates { IfOk result (λ v. map (λ name. name.items) v.items
         ≡ spec.candidates_of environment.now) }
-    ensures fault { OnErr result (result ≡ Err ToolFault.OutOfMemory) }
+    ensures memory { OnErr result (result ≡ Err ToolFault.OutOfMemory) }
 {
     Ok(candidate_names(alloc, environment)?)
 }
@@ -178,7 +178,7 @@ fn add_language(alloc: Global, names: &mut Vec<Vec<u8>>, part: &[u8]) -> Result<
     }
 }
 
-/// Adds the candidates of a name `L[_T][.C][@M]`, the most exact first: the name itself,
+/// Adds the candidates of a name `L[_T][.C][@M]`, the most specific first: the name itself,
 /// `L[_T][@M]`, `L[@M]`, `L[_T]` and `L`. For `sr_RS.UTF-8@latin` they are `sr_RS.UTF-8@latin`,
 /// `sr_RS@latin`, `sr@latin`, `sr_RS` and `sr`. Those that are equal are dropped later, by
 /// `distinct`.

@@ -53,22 +53,22 @@ impl OwnedEnvironment {
     }
 
     /// The same values, borrowed.
-    pub fn lent(&self) -> Environment<'_>
+    pub fn borrowed(&self) -> Environment<'_>
         ensures { environment_view result ≡ owned_environment_view self.now }
     {
         Environment {
-            lc_all: lent_value(&self.lc_all),
-            lc_messages: lent_value(&self.lc_messages),
-            lang: lent_value(&self.lang),
-            language: lent_value(&self.language),
-            textdomain: lent_value(&self.textdomain),
-            textdomaindir: lent_value(&self.textdomaindir),
+            lc_all: borrowed_value(&self.lc_all),
+            lc_messages: borrowed_value(&self.lc_messages),
+            lang: borrowed_value(&self.lang),
+            language: borrowed_value(&self.language),
+            textdomain: borrowed_value(&self.textdomain),
+            textdomaindir: borrowed_value(&self.textdomaindir),
         }
     }
 }
 
 /// The value of a variable, borrowed, where it is set.
-fn lent_value(value: &Option<Vec<u8>>) -> Option<&[u8]>
+fn borrowed_value(value: &Option<Vec<u8>>) -> Option<&[u8]>
     ensures { option_copied result ≡ option_map (λ v. v.items) value.now }
 {
     match value {

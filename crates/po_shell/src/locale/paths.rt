@@ -24,7 +24,7 @@ pub fn catalogue_paths(
 ) -> Result<Vec<Vec<u8>>, ToolFault>
     ensures paths { IfOk result (λ paths. map (λ path. path.items) paths.items
         ≡ paths_of (option_copied argument.entry) (option_copied option.entry) environment.now) }
-    ensures fault { OnErr result (result ≡ Err ToolFault.OutOfMemory) }
+    ensures memory { OnErr result (result ≡ Err ToolFault.OutOfMemory) }
 {
     match argument.or(option).or(environment.textdomain) {
         Some(domain) if is_path_part(domain) => Ok(domain_paths(alloc, domain, environment)?),
@@ -41,7 +41,7 @@ pub fn catalogue_path(
     domain: &[u8],
 ) -> Result<Vec<u8>, ToolFault>
     ensures path { IfOk result (λ path. path.items ≡ path_of dir.now locale.now domain.now) }
-    ensures fault { OnErr result (result ≡ Err ToolFault.OutOfMemory) }
+    ensures memory { OnErr result (result ≡ Err ToolFault.OutOfMemory) }
 {
     Ok(path_of(alloc, dir, locale, domain)?)
 }

@@ -1,6 +1,6 @@
 use Rattle.std.proofs.Common.{◌≡◌, ◌≤◌, ◌+◌, ◌-◌, ◌*◌, ◌++◌, min, true, length, drop}
 use Rattle.po_shell.specs.Holding.{is_undecided}
-use Rattle.po_shell.specs.Sorted.{values_by}
+use Rattle.po_shell.specs.Sorted.{values_of_replacements}
 use Rattle.po_shell.specs.Stream.{Advances}
 use Rattle.po_shell.proofs.envsubst.substituter.pass.Given as goal
 
@@ -8,7 +8,7 @@ abbrev pub invariant-loop-at : goal.invariant-loop-at
 invariant-loop-at g l = record {
   within : l.at ≤ length l.piece;
   undecided : is_undecided l.held.items ≡ true;
-  advances : Advances (values_by l.replacements) (l.fn.held.items ++ l.piece) (l.held.items ++ drop l.at l.piece) (g.W.ByteOut.contents l.fn.writer) (g.W.ByteOut.contents l.writer);
+  advances : Advances (values_of_replacements l.replacements) (l.fn.held.items ++ l.piece) (l.held.items ++ drop l.at l.piece) (g.W.ByteOut.contents l.fn.writer) (g.W.ByteOut.contents l.writer);
   no_failure : g.W.ByteOut.failures l.writer ≡ g.W.ByteOut.failures l.fn.writer;
 }
 

@@ -1,10 +1,10 @@
 use Rattle.std.proofs.Common.{◌≤◌, length, subst}
-use Rattle.po_shell.specs.Substituting.{Substituting}
+use Rattle.po_shell.specs.SubstituterView.{SubstituterView}
 use Rattle.po_shell.proofs.ReferenceLemmas.{undecided-length}
 use Rattle.po_shell.proofs.envsubst.substituter.Substituter.feed.Goals as goal
 
 pub returns-then-self-clause-limit : goal.returns-then-self-clause-limit
-returns-then-self-clause-limit g c = subst (λ (s : Substituting). length s.held ≤ 257) c.self.view_is (undecided-length _ c.self.invariant)
+returns-then-self-clause-limit g c = subst (λ (s : SubstituterView). length s.held ≤ 257) c.self.view_is (undecided-length _ c.self.invariant)
 
 pub returns-clause-limit : goal.returns-clause-limit
 returns-clause-limit g c = undecided-length _ c.pass-outcome.ensures.undecided
