@@ -19,35 +19,63 @@ static TOOLS: [&str; 7] = [
     "envsubst",
 ];
 
+/// The options of msgattrib that say which entries are kept, with their help.
+static CONDITIONS: [(&str, &str); 6] = [
+    ("translated", "Keep translated messages"),
+    ("untranslated", "Keep untranslated messages"),
+    ("no-fuzzy", "Keep messages that aren't fuzzy"),
+    ("only-fuzzy", "Keep fuzzy messages"),
+    ("no-obsolete", "Keep messages that aren't obsolete"),
+    ("only-obsolete", "Keep obsolete messages"),
+];
+
+/// The options of msgattrib that say how the entries that are kept are changed, with their help.
+static CHANGES: [(&str, &str); 8] = [
+    ("set-fuzzy", "Make all messages fuzzy"),
+    ("clear-fuzzy", "Make all messages not fuzzy"),
+    ("set-obsolete", "Make all messages obsolete"),
+    ("clear-obsolete", "Make all messages not obsolete"),
+    ("clear-previous", "Drop the previous texts"),
+    (
+        "empty",
+        "With --clear-fuzzy, empty the translations of fuzzy messages",
+    ),
+    ("fuzzy", "Stand for --only-fuzzy --clear-fuzzy"),
+    ("obsolete", "Stand for --only-obsolete --clear-obsolete"),
+];
+
 /// The tool that an argument names, where it names one.
 pub(crate) fn tool_of(argument: &str) -> Option<&'static str> {
     TOOLS.iter().copied().find(|tool| *tool == argument)
 }
 
-/// The whole program. Where the first argument names a tool, that one alone is built.
+/// The command of the whole program. Where the first argument names a tool, it has the command of
+/// that tool alone.
 pub(crate) fn program<'a>(alloc: Global, first: Option<&str>) -> Result<Command<'a>, AllocError> {
-    let program = Command::new(alloc, "pokit")
+    let mut program = Command::new(alloc, "pokit")
         .about("Compiles message catalogues and looks messages up in them")
         .after_help(help::PROGRAM)
         .disable_version_flag(true)
         .disable_help_subcommand(true)
         .subcommand_required(true);
-    match first {
-        Some("msgfmt") => program.subcommand(msgfmt(alloc)?),
-        Some("msgunfmt") => program.subcommand(msgunfmt(alloc)?),
-        Some("msgattrib") => program.subcommand(msgattrib(alloc)?),
-        Some("msgcat") => program.subcommand(msgcat(alloc)?),
-        Some("gettext") => program.subcommand(gettext(alloc)?),
-        Some("ngettext") => program.subcommand(ngettext(alloc)?),
-        Some("envsubst") => program.subcommand(envsubst(alloc)?),
-        _ => program
-            .subcommand(msgfmt(alloc)?)?
-            .subcommand(msgunfmt(alloc)?)?
-            .subcommand(msgattrib(alloc)?)?
-            .subcommand(msgcat(alloc)?)?
-            .subcommand(gettext(alloc)?)?
-            .subcommand(ngettext(alloc)?)?
-            .subcommand(envsubst(alloc)?),
+    for tool in &TOOLS {
+        if first.is_none() || first == Some(*tool) {
+            program = program.subcommand(command_of(alloc, *tool)?)?;
+        }
+    }
+    Ok(program)
+}
+
+/// The command of a tool.
+fn command_of<'a>(alloc: Global, tool: &str) -> Result<Command<'a>, AllocError> {
+    match tool {
+        "msgfmt" => msgfmt(alloc),
+        "msgunfmt" => msgunfmt(alloc),
+        "msgattrib" => msgattrib(alloc),
+        "msgcat" => msgcat(alloc),
+        "gettext" => gettext(alloc),
+        "ngettext" => ngettext(alloc),
+        _ => envsubst(alloc),
     }
 }
 
@@ -127,39 +155,7 @@ fn msgattrib<'a>(alloc: Global) -> Result<Command<'a>, AllocError> {
             "no-wrap",
             "Accepted for compatibility: no line is ever wrapped",
         ))?;
-    changes(alloc, conditions(alloc, command)?)
-}
-
-/// The options of msgattrib that say which entries are kept.
-fn conditions<'a>(alloc: Global, command: Command<'a>) -> Result<Command<'a>, AllocError> {
-    command
-        .arg(flag(alloc, "translated", "Keep translated messages"))?
-        .arg(flag(alloc, "untranslated", "Keep untranslated messages"))?
-        .arg(flag(alloc, "no-fuzzy", "Keep messages that aren't fuzzy"))?
-        .arg(flag(alloc, "only-fuzzy", "Keep fuzzy messages"))?
-        .arg(flag(alloc, "no-obsolete", "Keep messages that aren't obsolete"))?
-        .arg(flag(alloc, "only-obsolete", "Keep obsolete messages"))
-}
-
-/// The options of msgattrib that say how the entries that are kept are changed.
-fn changes<'a>(alloc: Global, command: Command<'a>) -> Result<Command<'a>, AllocError> {
-    command
-        .arg(flag(alloc, "set-fuzzy", "Make all messages fuzzy"))?
-        .arg(flag(alloc, "clear-fuzzy", "Make all messages not fuzzy"))?
-        .arg(flag(alloc, "set-obsolete", "Make all messages obsolete"))?
-        .arg(flag(alloc, "clear-obsolete", "Make all messages not obsolete"))?
-        .arg(flag(alloc, "clear-previous", "Drop the previous texts"))?
-        .arg(flag(
-            alloc,
-            "empty",
-            "With --clear-fuzzy, empty the translations of fuzzy messages",
-        ))?
-        .arg(flag(alloc, "fuzzy", "Stand for --only-fuzzy --clear-fuzzy"))?
-        .arg(flag(
-            alloc,
-            "obsolete",
-            "Stand for --only-obsolete --clear-obsolete",
-        ))
+    flags(alloc, flags(alloc, command, &CONDITIONS)?, &CHANGES)
 }
 
 /// The command `msgcat` with its options and arguments.
@@ -297,6 +293,19 @@ fn flag<'a>(alloc: Global, id: &'a str, help: &'a str) -> Arg<'a> {
         .long(id)
         .help(help)
         .action(ArgAction::SetTrue)
+}
+
+/// A command with these options, each without a value.
+fn flags<'a>(
+    alloc: Global,
+    command: Command<'a>,
+    options: &[(&'a str, &'a str)],
+) -> Result<Command<'a>, AllocError> {
+    let mut command = command;
+    for (id, help) in options {
+        command = command.arg(flag(alloc, *id, *help))?;
+    }
+    Ok(command)
 }
 
 /// An option of one letter, without a long name.

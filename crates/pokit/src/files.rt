@@ -1,6 +1,6 @@
 //! Inputs by their names, and outputs.
 use po_tools::{
-    InputSource, OutputTarget, ProgramFault, Run, Unread, Unwritten, read_whole, write_whole,
+    InputFault, InputSource, OutputFault, OutputTarget, ProgramFault, Run, read_whole, write_whole,
 };
 use std::alloc::Global;
 use std::fs;
@@ -17,11 +17,11 @@ impl<'r, R: Files + Input> InputSource for System<'r, R> {
 
     ghost standard = { λ _ _. Unit {0} };
 
-    fn read_file(&self, alloc: Global, name: &str) -> Result<Vec<u8>, Unread> {
+    fn read_file(&self, alloc: Global, name: &str) -> Result<Vec<u8>, InputFault> {
         read_named(alloc, self.0, name)
     }
 
-    fn read_standard(&self, alloc: Global) -> Result<Vec<u8>, Unread> {
+    fn read_standard(&self, alloc: Global) -> Result<Vec<u8>, InputFault> {
         read_whole(alloc, self.0.reader())
     }
 }
@@ -36,10 +36,14 @@ pub(crate) fn read_one<'a, R: Files + Input>(
 }
 
 /// The bytes of the file of this name.
-pub(crate) fn read_named(alloc: Global, rt: &impl Files, name: &str) -> Result<Vec<u8>, Unread> {
+pub(crate) fn read_named(
+    alloc: Global,
+    rt: &impl Files,
+    name: &str,
+) -> Result<Vec<u8>, InputFault> {
     match fs::open(rt, name) {
         Ok(file) => read_whole(alloc, file),
-        Err(_) => Err(Unread::CannotOpen),
+        Err(_) => Err(InputFault::CannotOpen),
     }
 }
 
@@ -56,17 +60,17 @@ impl<'r, R: Files + Print, E: Write + Drop> OutputTarget for Outputs<'r, R, E> {
 
     ghost standard = { λ _ _ _. Unit {0} };
 
-    fn write_file(self, run: &Run, name: &str) -> Result<(), Unwritten> {
+    fn write_file(self, run: &Run, name: &str) -> Result<(), OutputFault> {
         match fs::create(self.system, name) {
             Ok(file) => {
                 let (_, _) = write_whole(run, file, self.errors)?;
                 Ok(())
             }
-            Err(_) => Err(Unwritten::CannotCreate),
+            Err(_) => Err(OutputFault::CannotCreate),
         }
     }
 
-    fn write_standard(self, run: &Run) -> Result<(), Unwritten> {
+    fn write_standard(self, run: &Run) -> Result<(), OutputFault> {
         let (_, _) = write_whole(run, io::writer(self.system), self.errors)?;
         Ok(())
     }

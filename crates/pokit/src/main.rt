@@ -22,8 +22,8 @@ use po_tools::ProgramFault;
 use std::process::ExitCode;
 
 fn main(rt: HostRuntime) -> ExitCode {
-    if streams::hold_closed(&rt).is_err() {
-        return report_fault(&rt, None, ProgramFault::CannotOpen(streams::HELD));
+    if streams::replace_closed(&rt).is_err() {
+        return report_fault(&rt, None, ProgramFault::CannotOpen(streams::PLACEHOLDER));
     }
     match environment::arguments(rt.alloc(), &rt) {
         Ok(arguments) => match usage::spelled_out(rt.alloc(), arguments.as_slice()) {
@@ -87,9 +87,9 @@ fn report_fault(rt: &HostRuntime, tool: Option<&str>, fault: ProgramFault<'_>) -
     ExitCode::FAILURE
 }
 
-/// Status 0 where `is_well`, else 1.
-fn exit_code(is_well: bool) -> ExitCode {
-    if is_well {
+/// Status 0 where `succeeded`, else 1.
+fn exit_code(succeeded: bool) -> ExitCode {
+    if succeeded {
         ExitCode::SUCCESS
     } else {
         ExitCode::FAILURE

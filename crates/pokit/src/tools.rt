@@ -1,4 +1,5 @@
-//! The tools: each makes its plan of the arguments and the inputs, and writes the run.
+//! The tools: each makes its plan from the arguments and the inputs, and writes the run. envsubst
+//! has no plan: it writes as it reads.
 pub(crate) mod envsubst;
 pub(crate) mod gettext;
 pub(crate) mod msgattrib;

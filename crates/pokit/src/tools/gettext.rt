@@ -2,7 +2,7 @@
 use crate::files::{System, write_run};
 use clap::ArgMatches;
 use po_tools::{
-    GettextArguments, GettextOptions, ProgramFault, STANDARD, find_catalogues, lent_catalogues,
+    GettextArguments, GettextOptions, ProgramFault, STANDARD, borrowed_catalogues, find_catalogues,
     plan_gettext,
 };
 use std::alloc::Global;
@@ -33,7 +33,7 @@ pub(crate) fn run<'a, R: Files + Env + Input + Print, E: Write + Drop>(
         no_newline: matches.get_flag("no-newline"),
         shell,
     };
-    let lent = lent_catalogues(alloc, found.as_slice())?;
-    let run = plan_gettext(alloc, lent.as_slice(), &options)?;
+    let borrowed = borrowed_catalogues(alloc, found.as_slice())?;
+    let run = plan_gettext(alloc, borrowed.as_slice(), &options)?;
     write_run(rt, errors, &run, STANDARD)
 }

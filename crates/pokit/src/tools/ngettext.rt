@@ -3,7 +3,7 @@ use crate::files::{System, write_run};
 use crate::options::Options;
 use clap::ArgMatches;
 use po_tools::{
-    NgettextArguments, ProgramFault, STANDARD, find_catalogues, lent_catalogues,
+    NgettextArguments, ProgramFault, STANDARD, borrowed_catalogues, find_catalogues,
     ngettext_options_of, plan_ngettext,
 };
 use std::alloc::Global;
@@ -28,7 +28,7 @@ pub(crate) fn run<'a, R: Files + Env + Input + Print, E: Write + Drop>(
     )?;
     let given = Options(matches);
     let options = ngettext_options_of(&given, arguments);
-    let lent = lent_catalogues(alloc, found.as_slice())?;
-    let run = plan_ngettext(alloc, lent.as_slice(), &options)?;
+    let borrowed = borrowed_catalogues(alloc, found.as_slice())?;
+    let run = plan_ngettext(alloc, borrowed.as_slice(), &options)?;
     write_run(rt, errors, &run, STANDARD)
 }
