@@ -9,7 +9,7 @@
  *     printf(pokit_ngettext(&catalog, "%d book", "%d books", n), n);
  *
  * pokit_open checks the bytes of a file of any origin, in either byte order, and reports its first fault by name. After
- * that a look-up makes at most floor(log2 N) + 1 comparisons among N messages and visits each node of the plural
+ * that a look-up makes at most floor(log2 N) + 1 comparisons among N messages and evaluates each node of the plural
  * expression at most once. Nothing is allocated and nothing is to be freed; there is no locale, no errno and no global
  * state. The library is proved to meet its contracts; the inline functions of this header are not part of the proof.
  *
@@ -74,7 +74,7 @@ typedef struct pokit_node {
 typedef struct pokit_catalog {
     pokit_bytes bytes;
     uint64_t nplurals;
-    uint32_t used; /* how many nodes the expression has; 0 in a catalogue that isn't open */
+    uint32_t node_count; /* how many nodes the expression has; 0 in a catalogue that isn't open */
     pokit_node nodes[4096];
 } pokit_catalog;
 
@@ -92,11 +92,11 @@ typedef struct pokit_query {
 typedef struct pokit_answer {
     pokit_bytes text;     /* a NUL follows it where it is a translation */
     uint32_t comparisons; /* how many keys were compared with the query's */
-    uint32_t steps;       /* how many nodes of the plural expression were visited */
+    uint32_t steps;       /* how many nodes of the plural expression were evaluated */
     bool found;           /* whether it is a translation */
 } pokit_answer;
 
-/* The exports of the library. No pointer is NULL, also that of empty bytes, and each bool is 0 or 1 before the call:
+/* The exports of the library. No pointer is NULL, not even that of no bytes, and each bool is 0 or 1 before the call:
  * call the inline functions below, which see to that. */
 uint32_t pokit_catalog_open(pokit_catalog *catalog, const uint8_t *bytes, size_t len, uint32_t *message);
 uint32_t pokit_catalog_len(const pokit_catalog *catalog);
@@ -116,15 +116,15 @@ static inline pokit_bytes pokit_bytes_of(const void *ptr, size_t len)
 }
 
 /* Opens the `len` bytes of a file. On a fault `*message` is the index of the message that has it, counted from 0, and
- * the catalogue is one that isn't open: it has no message. Neither pointer is NULL, but `bytes` may be, and is then a
- * file of no bytes; `message` may be NULL. */
+ * the catalogue is one that isn't open: it has no message. `catalog` isn't NULL. `bytes` may be, and is then a file of
+ * no bytes; `message` may be NULL too. */
 static inline enum pokit_error pokit_open(pokit_catalog *catalog, const void *bytes, size_t len, uint32_t *message)
 {
     uint32_t unused;
     pokit_bytes file = pokit_bytes_of(bytes, len);
     catalog->bytes = pokit_bytes_of(NULL, 0);
     catalog->nplurals = 0;
-    catalog->used = 0;
+    catalog->node_count = 0;
     if (message == NULL)
         message = &unused;
     *message = 0;
@@ -134,7 +134,7 @@ static inline enum pokit_error pokit_open(pokit_catalog *catalog, const void *by
 /* How many messages a catalogue has, its header entry among them: 0 where it isn't open. */
 static inline uint32_t pokit_len(const pokit_catalog *catalog)
 {
-    return catalog->used != 0 ? pokit_catalog_len(catalog) : 0;
+    return catalog->node_count != 0 ? pokit_catalog_len(catalog) : 0;
 }
 
 /* Answers a query. Pointers of the query may be NULL, and are then those of no bytes. A context or a msgid that holds a
@@ -150,7 +150,7 @@ static inline pokit_answer pokit_look(const pokit_catalog *catalog, pokit_query 
     answer.comparisons = 0;
     answer.steps = 0;
     answer.found = false;
-    if (catalog->used != 0)
+    if (catalog->node_count != 0)
         pokit_catalog_look(catalog, &query, &answer);
     return answer;
 }

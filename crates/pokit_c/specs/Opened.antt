@@ -3,15 +3,15 @@
 use Rattle.std.specs.Prelude.{◌≡◌, ◌≤◌, take}
 use Rattle.plural_rule.specs.PostOrder.{post_order}
 use Rattle.mo_file.specs.declared.byte_order.Order.{Order}
-use Rattle.mo_file.specs.Catalog.{IsCatalog}
-use Rattle.mo_lookup.specs.Contents.{AreContents, Contents}
+use Rattle.mo_file.specs.MoFile.{IsMoFile}
+use Rattle.mo_lookup.specs.CatalogView.{IsCatalogView, CatalogView}
 use Rattle.pokit_c.specs.declared.catalog.PokitCatalog.{PokitCatalog}
 
 -- the bytes are a valid file with these messages, and `nplurals` and the nodes are the rule of its
 -- header entry
-pub record IsOpened (catalog : PokitCatalog) (contents : Contents) : Type 0 where
-  pub file : (order : Order) × IsCatalog order catalog.bytes.now contents.messages
-  pub rule : AreContents contents.messages contents.rule
-  pub nplurals : catalog.nplurals ≡ contents.rule.nplurals
-  pub few : catalog.used ≤ 4096
-  pub nodes : take catalog.used catalog.nodes ≡ post_order 0 contents.rule.tree
+pub record IsOpened (catalog : PokitCatalog) (view : CatalogView) : Type 0 where
+  pub file : (order : Order) × IsMoFile order catalog.bytes.now view.messages
+  pub rule : IsCatalogView view.messages view.rule
+  pub nplurals : catalog.nplurals ≡ view.rule.nplurals
+  pub few : catalog.node_count ≤ 4096
+  pub nodes : take catalog.node_count catalog.nodes ≡ post_order 0 view.rule.tree

@@ -13,7 +13,7 @@ pub struct PokitCatalog<'a> {
     pub nplurals: u64,
     /// How many nodes the plural expression has. The functions of include/pokit.h take a catalogue
     /// with 0 nodes as one that isn't open.
-    pub used: u32,
-    /// The nodes of the plural expression, and after them nodes without a meaning.
+    pub node_count: u32,
+    /// The nodes of the plural expression, and after them nodes that aren't read.
     pub nodes: [Node; 4096],
 }

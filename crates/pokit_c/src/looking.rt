@@ -3,8 +3,8 @@
 ghost use Rattle.std.specs.Prelude.{◌≡◌, ◌≤◌, length, false};
 ghost use Rattle.plural_rule.specs.Expression.{nodes};
 ghost use Rattle.mo_lookup.specs.Bound.{search_bound};
-ghost use Rattle.mo_lookup.specs.Contents.{Contents, answered};
-ghost use Rattle.mo_lookup.specs.Query.{is_clean_key};
+ghost use Rattle.mo_lookup.specs.CatalogView.{CatalogView, answered};
+ghost use Rattle.mo_lookup.specs.Query.{can_be_key};
 ghost use Rattle.pokit_c.specs.QueryView.{query_view, answer_view};
 ghost use Rattle.pokit_c.specs.Opened.{IsOpened};
 
@@ -23,18 +23,18 @@ pub extern "C" fn pokit_catalog_look<'a, 'q>(
 )
 where
     'a: 'q,
-    requires { (contents : Contents) × IsOpened catalog.now contents }
-    ensures answered { (contents : Contents) → IsOpened catalog.now contents
-        → answer_view answer.new ≡ answered contents (query_view query.now) }
-    ensures bound { (contents : Contents) → IsOpened catalog.now contents
-        → answer.new.comparisons ≤ search_bound (length contents.messages) }
-    ensures unclean { is_clean_key (query_view query.now).context query.now.id.now ≡ false
+    requires { (view : CatalogView) × IsOpened catalog.now view }
+    ensures answered { (view : CatalogView) → IsOpened catalog.now view
+        → answer_view answer.new ≡ answered view (query_view query.now) }
+    ensures bound { (view : CatalogView) → IsOpened catalog.now view
+        → answer.new.comparisons ≤ search_bound (length view.messages) }
+    ensures no_key { can_be_key (query_view query.now).context query.now.id.now ≡ false
         → answer.new.comparisons ≡ 0 }
-    ensures nodes { (contents : Contents) → IsOpened catalog.now contents
-        → answer.new.steps ≤ nodes contents.rule.tree }
+    ensures nodes { (view : CatalogView) → IsOpened catalog.now view
+        → answer.new.steps ≤ nodes view.rule.tree }
 {
     let view = MoView::reopen(catalog.bytes);
-    let table = &catalog.nodes[..catalog.used as usize];
+    let table = &catalog.nodes[..catalog.node_count as usize];
     let found = look(
         &view,
         catalog.nplurals,
