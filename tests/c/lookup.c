@@ -145,7 +145,7 @@ static void rows(int big)
     check(answer.found && answer.text.len == sizeof polish - 1, "a pointer of no bytes");
     query = pokit_query_of(NULL, "book", "books", 22);
     answer = pokit_look(&catalog, query);
-    check(answer.found && answer.steps > 0 && answer.steps <= catalog.used, "steps");
+    check(answer.found && answer.steps > 0 && answer.steps <= catalog.node_count, "steps");
 
     check(pokit_open(&other, file.bytes, 0, NULL) == POKIT_TOO_SHORT, "no bytes");
     chain[0] = &other;
@@ -157,14 +157,14 @@ static void rows(int big)
 
 /* The first fault of a file in which one word or one byte has been changed. The copy has its exact length, so that a
  * read after its end is seen. */
-static void refused(const struct file *file, size_t len, enum pokit_error wanted, uint32_t place, const char *name)
+static void refused(const struct file *file, size_t len, enum pokit_error wanted, uint32_t wanted_message, const char *name)
 {
     uint8_t *bytes = (uint8_t *)malloc(len + (len == 0));
     uint32_t message = 99;
     if (bytes == NULL)
         exit(2);
     memcpy(bytes, file->bytes, len);
-    check(pokit_open(&other, bytes, len, &message) == wanted && message == place, name);
+    check(pokit_open(&other, bytes, len, &message) == wanted && message == wanted_message, name);
     check(pokit_len(&other) == 0, name);
     check_text(pokit_ngettext(&other, "book", "books", 3), "books", name);
     free(bytes);

@@ -16,8 +16,8 @@ use std::test::Fail;
 const CHANGES: &[u8] = b"\"\\#\n\0\xff";
 
 /// Whether entries, from this index of a catalogue on, are those of a list with this obsolete mark.
-fn stand_from(place: usize, catalogue: &[Entry], list: &[Entry], obsolete: bool) -> Option<usize> {
-    let mut at = place;
+fn stand_from(first: usize, catalogue: &[Entry], list: &[Entry], obsolete: bool) -> Option<usize> {
+    let mut at = first;
     for entry in list {
         if entry.obsolete() == obsolete {
             if catalogue.get(at)? != entry {
@@ -32,7 +32,7 @@ fn stand_from(place: usize, catalogue: &[Entry], list: &[Entry], obsolete: bool)
 /// Whether a catalogue has the entries of another, arranged.
 fn is_arranged(arranged: &[Entry], list: &[Entry]) -> bool {
     match stand_from(0, arranged, list, false) {
-        Some(place) => stand_from(place, arranged, list, true) == Some(arranged.len()),
+        Some(live) => stand_from(live, arranged, list, true) == Some(arranged.len()),
         None => false,
     }
 }
@@ -78,10 +78,10 @@ fn check_changes(
     rt: &impl Abort,
     alloc: Global,
     text: &mut [u8],
-    place: usize,
+    offset: usize,
 ) -> Result<(), Fail> {
     for byte in CHANGES {
-        if let Some(changed) = text.get_mut(place) {
+        if let Some(changed) = text.get_mut(offset) {
             *changed = *byte;
         }
         check(rt, alloc, text)?;
@@ -104,9 +104,9 @@ fn every_truncation(rt: HostRuntime) -> Result<(), Fail> {
 fn every_change_of_a_byte(rt: HostRuntime) -> Result<(), Fail> {
     for whole in [EVERY_LINE, ESCAPES, FUZZY_AND_OBSOLETE] {
         let mut text = whole.to_vec(rt.alloc())?;
-        for (place, was) in whole.iter().enumerate() {
-            check_changes(&rt, rt.alloc(), &mut text, place)?;
-            if let Some(changed) = text.get_mut(place) {
+        for (offset, was) in whole.iter().enumerate() {
+            check_changes(&rt, rt.alloc(), &mut text, offset)?;
+            if let Some(changed) = text.get_mut(offset) {
                 *changed = *was;
             }
         }

@@ -24,7 +24,7 @@ fn is_looked_up<'x>(file: Plain<'x>, catalog: &Catalog<'x>) -> bool {
     }
     for i in 0..file.count() {
         let (context, id) = plain::parts(file.key(i));
-        let is_right = if plain::place_of(id, 4).is_some() {
+        let is_right = if plain::index_of(id, 4).is_some() {
             answers(catalog, context, id, None, 0)
         } else {
             answers(catalog, context, id, Some(file.first_form(i)), bound)
@@ -62,14 +62,14 @@ fn wrong_truncation(file: &[u8]) -> Option<usize> {
 
 /// The first offset of a file, and the byte put there, that give what isn't read as it should be.
 fn wrong_change(file: &[u8], bytes: &mut [u8]) -> Option<(usize, u8)> {
-    for (place, was) in file.iter().enumerate() {
+    for (offset, was) in file.iter().enumerate() {
         for byte in 0..=255 {
-            put(bytes, place, &[byte]);
+            put(bytes, offset, &[byte]);
             if !is_read(bytes) {
-                return Some((place, byte));
+                return Some((offset, byte));
             }
         }
-        put(bytes, place, &[*was]);
+        put(bytes, offset, &[*was]);
     }
     None
 }

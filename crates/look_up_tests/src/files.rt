@@ -2,8 +2,8 @@
 
 use crate::samples::{CONTEXTS, ONE, ONE_BIG, TWO, put};
 use mo_file::{
-    BuildError, Meter, MoError, MoView, Order, Pair, build, catalog_is_unique, compare_key,
-    layout_is_catalog,
+    BuildError, Meter, MoError, MoView, Order, Pair, build, compare_key, layout_is_mo_file,
+    one_message_list,
 };
 use std::alloc::{AllocError, Global};
 use std::cmp::Ordering;
@@ -200,6 +200,6 @@ fn accepts_strings_and_tables_that_overlap(rt: HostRuntime) {
 /// The laws are calls without an effect.
 #[test]
 fn knows_the_laws(_rt: HostRuntime) {
-    layout_is_catalog();
-    catalog_is_unique();
+    layout_is_mo_file();
+    one_message_list();
 }

@@ -52,12 +52,12 @@ fn first_wrong(bytes: &[u8], (count, most, source, queries): Opened) -> Option<u
     if catalog.len() != count || meter.count() > most || catalog.rule().source() != source {
         return Some(queries.len());
     }
-    for (place, query) in queries.iter().enumerate() {
+    for (index, query) in queries.iter().enumerate() {
         let (context, id, plural, text, found, (least, most), steps) = *query;
         let answer = catalog.look(context, id, plural, &mut Meter::new());
         let counted = least <= answer.comparisons && answer.comparisons <= most;
         if answer.text != text || answer.found != found || !counted || answer.steps != steps {
-            return Some(place);
+            return Some(index);
         }
     }
     None
@@ -119,10 +119,10 @@ const LETTERS: &[(&[u8], &[u8])] = &[
 ];
 
 /// The index of a letter among so many keys.
-fn place_of(letter: u8, count: usize) -> Option<u32> {
-    let place = letter.saturating_sub(b'b') / 2;
-    if letter % 2 == 0 && usize::from(place) < count {
-        Some(u32::from(place))
+fn index_of(letter: u8, count: usize) -> Option<u32> {
+    let index = letter.saturating_sub(b'b') / 2;
+    if letter % 2 == 0 && usize::from(index) < count {
+        Some(u32::from(index))
     } else {
         None
     }
@@ -136,7 +136,7 @@ fn a_look_up_stays_within_its_bound(rt: HostRuntime) -> Result<(), Fail> {
         let catalog = Catalog::open(bytes.as_slice(), &mut Meter::new()).expect(&rt, "a file");
         for letter in b'a'..=b'q' {
             let id = [letter];
-            let text = match place_of(letter, *count) {
+            let text = match index_of(letter, *count) {
                 Some(_) => Some(id.as_slice()),
                 None => None,
             };
@@ -153,8 +153,8 @@ fn a_search_sees_keys_by_comparing_alone(rt: HostRuntime) {
         assert!(rt; *count <= 8);
         for letter in b'a'..=b'q' {
             let mut keys = Letters::new(*count as u32);
-            let place = find(&mut keys, None, &[letter]);
-            let is_right = place == place_of(letter, *count) && keys.count() <= u64::from(*bound);
+            let index = find(&mut keys, None, &[letter]);
+            let is_right = index == index_of(letter, *count) && keys.count() <= u64::from(*bound);
             assert!(rt; is_right, "{letter} of {count}");
         }
     }
@@ -220,12 +220,12 @@ fn first_wrong_of_chain(members: &[Catalog<'_>], queries: &[ChainQuery]) -> Opti
     requires { length members.now < 2 ^ 32 }
 {
     let chain = Chain::new(members);
-    for (place, query) in queries.iter().enumerate() {
+    for (index, query) in queries.iter().enumerate() {
         let (id, plural, text, found, asked, most, steps) = *query;
         let answer = chain.look(None, id, plural, &mut Meter::new());
         let counted = answer.asked == asked && answer.comparisons <= most;
         if answer.text != text || answer.found != found || !counted || answer.steps != steps {
-            return Some(place);
+            return Some(index);
         }
     }
     None

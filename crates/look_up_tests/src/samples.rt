@@ -37,8 +37,8 @@ pub(crate) const CONTEXTS: [u8; 91] = [
 /// Writes bytes into a file, from an offset on.
 pub(crate) fn put(file: &mut [u8], at: usize, bytes: &[u8]) {
     for (i, byte) in bytes.iter().enumerate() {
-        if let Some(place) = file.get_mut(at.saturating_add(i)) {
-            *place = *byte;
+        if let Some(changed) = file.get_mut(at.saturating_add(i)) {
+            *changed = *byte;
         }
     }
 }

@@ -69,16 +69,16 @@ fn wrong_truncation(alloc: Global, file: &[u8]) -> Option<usize> {
 
 /// The first offset of a file, and the byte put there, that give what isn't taken as it should be.
 fn wrong_change(alloc: Global, file: &[u8], bytes: &mut [u8]) -> Option<(usize, u8)> {
-    for (place, was) in file.iter().enumerate() {
+    for (offset, was) in file.iter().enumerate() {
         for byte in 0..=255 {
-            if let Some(changed) = bytes.get_mut(place) {
+            if let Some(changed) = bytes.get_mut(offset) {
                 *changed = byte;
             }
             if !is_taken(alloc, bytes) {
-                return Some((place, byte));
+                return Some((offset, byte));
             }
         }
-        if let Some(changed) = bytes.get_mut(place) {
+        if let Some(changed) = bytes.get_mut(offset) {
             *changed = *was;
         }
     }

@@ -27,8 +27,8 @@ pub(super) fn first_fault(text: &[u8]) -> Option<PoError> {
     if let Err(error) = std::str::from_utf8(text) {
         return Some(fault_at(text, error.valid_up_to(), PoFault::NotUtf8));
     }
-    if let Some(place) = text.iter().position(|byte| *byte == 0) {
-        return Some(fault_at(text, place, PoFault::ForbiddenByte));
+    if let Some(offset) = text.iter().position(|byte| *byte == 0) {
+        return Some(fault_at(text, offset, PoFault::ForbiddenByte));
     }
     let start = if text.starts_with(b"\xef\xbb\xbf") {
         3
@@ -36,14 +36,14 @@ pub(super) fn first_fault(text: &[u8]) -> Option<PoError> {
         0
     };
     let mut state = State::Start;
-    for (place, byte) in text.iter().enumerate() {
-        if place < start {
+    for (offset, byte) in text.iter().enumerate() {
+        if offset < start {
             continue;
         }
-        let next = settle(state, text, place, *byte).and_then(|state| step(state, place, *byte));
+        let next = settle(state, text, offset, *byte).and_then(|state| step(state, offset, *byte));
         match next {
             Ok(next) => state = next,
-            Err(kind) => return Some(fault_at(text, place, kind)),
+            Err(kind) => return Some(fault_at(text, offset, kind)),
         }
     }
     match settle(state, text, text.len(), b'\n').and_then(|state| step(state, text.len(), b'\n')) {
@@ -52,11 +52,11 @@ pub(super) fn first_fault(text: &[u8]) -> Option<PoError> {
     }
 }
 
-/// The fault with the line on which this index of the text stands.
-fn fault_at(text: &[u8], place: usize, kind: PoFault) -> PoError {
+/// The fault with the line on which this offset of the text stands.
+fn fault_at(text: &[u8], offset: usize, kind: PoFault) -> PoError {
     let mut line: u32 = 1;
     for (at, byte) in text.iter().enumerate() {
-        if at < place && *byte == b'\n' {
+        if at < offset && *byte == b'\n' {
             line = line.saturating_add(1);
         }
     }
@@ -64,10 +64,10 @@ fn fault_at(text: &[u8], place: usize, kind: PoFault) -> PoError {
 }
 
 /// Ends a run of bytes that the next byte does not go on with.
-fn settle(state: State, text: &[u8], place: usize, byte: u8) -> Result<State, PoFault> {
+fn settle(state: State, text: &[u8], offset: usize, byte: u8) -> Result<State, PoFault> {
     match state {
         State::Word(start) if !is_word_byte(byte) => {
-            let word: &[u8] = text.get(start..place).unwrap_or(text);
+            let word: &[u8] = text.get(start..offset).unwrap_or(text);
             match word {
                 b"msgstr" => Ok(settle_bracket(byte)),
                 b"msgctxt" | b"msgid" | b"msgid_plural" => Ok(State::Tokens),
@@ -108,7 +108,7 @@ fn settle_number(number: u64) -> Result<State, PoFault> {
 }
 
 /// The state after one more byte, or its fault.
-fn step(state: State, place: usize, byte: u8) -> Result<State, PoFault> {
+fn step(state: State, offset: usize, byte: u8) -> Result<State, PoFault> {
     if byte == b'\n' {
         return match state {
             State::Text => Err(PoFault::UnterminatedString),
@@ -126,7 +126,7 @@ fn step(state: State, place: usize, byte: u8) -> Result<State, PoFault> {
         (State::Hash | State::ObsoleteHash | State::Comment, _) => Ok(State::Comment),
         (State::Start, _) if is_blank(byte) => Ok(State::Start),
         (State::Tilde | State::Obsolete, _) if is_blank(byte) => Ok(State::Obsolete),
-        (State::Start | State::Tilde | State::Obsolete | State::Tokens, _) => token(place, byte),
+        (State::Start | State::Tilde | State::Obsolete | State::Tokens, _) => token(offset, byte),
         (State::Word(_), _) => Ok(state),
         (State::Bracket | State::Index(_) | State::IndexEnd, _) => index_step(state, byte),
         _ => text_step(state, byte),
@@ -171,11 +171,11 @@ fn text_step(state: State, byte: u8) -> Result<State, PoFault> {
 }
 
 /// The state after the first byte of a token, or after a blank.
-fn token(place: usize, byte: u8) -> Result<State, PoFault> {
+fn token(offset: usize, byte: u8) -> Result<State, PoFault> {
     match byte {
         b'"' => Ok(State::Text),
         _ if is_blank(byte) => Ok(State::Tokens),
-        _ if is_word_byte(byte) => Ok(State::Word(place)),
+        _ if is_word_byte(byte) => Ok(State::Word(offset)),
         _ => Err(PoFault::BadToken),
     }
 }

@@ -1,4 +1,4 @@
-//! Texts with an item that can't follow those before it, and the place of that item.
+//! Texts with an item that can't follow those before it, and the line of that item.
 
 use super::refused::{Refused, check};
 use po_syntax::PoFault;

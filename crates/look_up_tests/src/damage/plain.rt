@@ -29,13 +29,13 @@ impl<'a> Plain<'a> {
     }
 
     /// The word at an offset, 0 where the file ends before its end.
-    fn word(&self, place: u64) -> u32 {
+    fn word(&self, offset: u64) -> u32 {
         let mut word = 0;
         for i in 0..4 {
             let at = if self.little {
-                place.saturating_add(3 - i)
+                offset.saturating_add(3 - i)
             } else {
-                place.saturating_add(i)
+                offset.saturating_add(i)
             };
             let byte = self.bytes.get(at as usize).copied().unwrap_or(0);
             word = word << 8 | u32::from(byte);
@@ -116,10 +116,10 @@ impl<'a> Plain<'a> {
 }
 
 /// The first index of a byte.
-pub(super) fn place_of(bytes: &[u8], wanted: u8) -> Option<usize> {
-    for (place, byte) in bytes.iter().enumerate() {
+pub(super) fn index_of(bytes: &[u8], wanted: u8) -> Option<usize> {
+    for (index, byte) in bytes.iter().enumerate() {
         if *byte == wanted {
-            return Some(place);
+            return Some(index);
         }
     }
     None
@@ -127,7 +127,7 @@ pub(super) fn place_of(bytes: &[u8], wanted: u8) -> Option<usize> {
 
 /// What stands before the first NUL, or all.
 fn before_nul(bytes: &[u8]) -> &[u8] {
-    match place_of(bytes, 0) {
+    match index_of(bytes, 0) {
         Some(end) => bytes.get(..end).unwrap_or(b""),
         None => bytes,
     }
@@ -135,7 +135,7 @@ fn before_nul(bytes: &[u8]) -> &[u8] {
 
 /// The context and the msgid of a key: what stands before and after the first EOT.
 pub(super) fn parts(key: &[u8]) -> (Option<&[u8]>, &[u8]) {
-    match place_of(key, 4) {
+    match index_of(key, 4) {
         Some(end) => (
             key.get(..end),
             key.get(end.saturating_add(1)..key.len()).unwrap_or(b""),
