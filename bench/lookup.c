@@ -123,7 +123,7 @@ static const char *plain_look(const struct plain *p, const char *id, const char 
         if (order == 0) {
             const char *text = text_at(p, p->translations, middle);
             const char *end = text + word(p, p->translations + 8 * (size_t)middle);
-            uint64_t form = plural ? plain_value(catalog.nodes, catalog.used - 1, n) : 0;
+            uint64_t form = plural ? plain_value(catalog.nodes, catalog.node_count - 1, n) : 0;
             const char *at = text;
             if (form >= catalog.nplurals)
                 form = 0;

@@ -2,12 +2,12 @@
 
     measure.py RUNS STATUSES SOURCE OUTPUT WORD.. [; WORD..]..
 
-Each command, after one run of all that isn't measured, runs so often. A line for a run has the
-number of its command, its seconds and its peak in KiB. Between the statuses that are wanted stands
-a comma; a program with another one ends the measuring.
+Each command runs RUNS times, after one run of all of them that isn't measured. A line for a run has
+the number of its command, its seconds and its peak in KiB. STATUSES has the exit status that each
+command must have, with a comma between two; any other one ends the measuring.
 
-A process counts the memory of the one that it was made from, up to the start of its own program. So
-this script is one of its own, and imports next to nothing.
+The peak of a process includes that of its parent before the child executes its program. So this is
+a script of its own, and imports next to nothing.
 """
 
 import posix
