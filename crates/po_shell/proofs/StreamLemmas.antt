@@ -11,10 +11,6 @@ use Rattle.po_shell.specs.Stream.{Advances, Stops, FeedCall, AreFeedCalls, piece
 use Rattle.po_shell.proofs.SearchLemmas.{byte-at}
 use Rattle.po_shell.proofs.SubstitutionLemmas.{plain-prefix}
 
--- what a text becomes depends on its bytes alone
-pub Advances-from : (values : Values) (a b c : List ℕ) (old new : Option (List ℕ)) → a ≡ b → Advances values b c old new → Advances values a c old new
-Advances-from values a b c old new e p = subst (λ t. Advances values t c old new) (sym e) p
-
 pub Advances-none : (values : Values) (text held : List ℕ) (old : Option (List ℕ)) → text ≡ held → Advances values text held old old
 Advances-none values text held old e = record { written = []; appends = Appends-nil old; passes = λ rest. ap (λ t. substitution values (t ++ rest)) e }
 
@@ -42,14 +38,6 @@ Stops-after values a b first second third p q = record {
   prefix = λ rest. ((q.prefix rest).0, p.passes rest ∙ ap (λ l. p.written ++ l) (q.prefix rest).1 ∙ sym (append_assoc p.written q.written (q.prefix rest).0));
 }
 
--- and of what comes out of a longer text
-pub Stops-more : (values : Values) (a more : List ℕ) (old new : Option (List ℕ)) → Stops values a old new → Stops values (a ++ more) old new
-Stops-more values a more old new p = record {
-  written = p.written;
-  appends = p.appends;
-  prefix = λ rest. let q = p.prefix (more ++ rest) in (q.0, ap (substitution values) (append_assoc a more rest) ∙ q.1);
-}
-
 -- where nothing was written
 pub Stops-none : (values : Values) (text : List ℕ) (old new : Option (List ℕ)) → Keeps old new → Stops values text old new
 Stops-none values text old new keeps = record {
@@ -58,10 +46,7 @@ Stops-none values text old new keeps = record {
   prefix = λ rest. (substitution values (text ++ rest), refl);
 }
 
--- what comes out first, whole or in part
-pub Advances-out : (values : Values) (a b out : List ℕ) (old new : Option (List ℕ)) → ((rest : List ℕ) → substitution values (a ++ rest) ≡ out ++ substitution values (b ++ rest)) → Appends old new out → Advances values a b old new
-Advances-out values a b out old new passes appends = record { written = out; appends = appends; passes = passes }
-
+-- a prefix of what comes out first
 pub Stops-out : (values : Values) (a b out : List ℕ) (old new : Option (List ℕ)) → ((rest : List ℕ) → substitution values (a ++ rest) ≡ out ++ substitution values (b ++ rest)) → AppendsPrefix old new out → Stops values a old new
 Stops-out values a b out old new passes part = record {
   written = take part.0 out;
@@ -71,6 +56,10 @@ Stops-out values a b out old new passes part = record {
     passes rest ∙ ap (λ l. l ++ substitution values (b ++ rest)) (sym (take-append-drop part.0 out)) ∙ append_assoc (take part.0 out) (drop part.0 out) _,
   );
 }
+
+-- where the first bytes are seen through a reference
+pub Stops-seen : (values : Values) (held seen piece : List ℕ) (old new : Option (List ℕ)) → seen ≡ held → Stops values (seen ++ piece) old new → Stops values (held ++ piece) old new
+Stops-seen values held seen piece old new same p = subst (λ h. Stops values (h ++ piece) old new) same p
 
 -- the bytes held and the next one, and the piece that it begins
 pub out-piece : (values : Values) (held out : List ℕ) (next taken : ℕ) (piece : List ℕ) → piece ≡ next ∷ drop 1 piece → taken ≤ 1
@@ -86,28 +75,9 @@ out-piece values held out next taken piece e fits passes rest =
 pub plain-out : (values : Values) (n : ℕ) (piece : List ℕ) → n ≡ position_or_len (is_byte 36) piece → (rest : List ℕ) → substitution values (piece ++ rest) ≡ take n piece ++ substitution values (drop n piece ++ rest)
 plain-out values n piece e rest = subst (λ m. substitution values (piece ++ rest) ≡ take m piece ++ substitution values (drop m piece ++ rest)) (sym e) (plain-prefix values piece rest)
 
-pub plain-advances : (values : Values) (n : ℕ) (held piece : List ℕ) (old new : Option (List ℕ)) → n ≡ position_or_len (is_byte 36) piece → held ≡ [] → Appends old new (take n piece) → Advances values piece (held ++ drop n piece) old new
-plain-advances values n held piece old new index none appends =
-    Advances-out values piece (held ++ drop n piece) (take n piece) old new
-    (λ rest. plain-out values n piece index rest ∙ ap (λ h. take n piece ++ substitution values ((h ++ drop n piece) ++ rest)) (sym none)) appends
-
--- and a `$` that is held
-pub dollar-advances : (values : Values) (n : ℕ) (held piece : List ℕ) (old : Option (List ℕ)) → n ≡ position_or_len (is_byte 36) piece → n ≡ 0 → 0 < length piece → held ≡ 36 ∷ [] → Advances values piece (held ++ drop 1 piece) old old
-dollar-advances values n held piece old index first some dollar =
-    Advances-none values piece (held ++ drop 1 piece) old (byte-at 36 piece 0 (sym first ∙ index) some ∙ ap (λ h. h ++ drop 1 piece) (sym dollar))
-
--- the bytes held, as they are seen, and the first one of a piece
-pub out-advances : (values : Values) (held seen out : List ℕ) (next taken : ℕ) (piece after : List ℕ) (old new : Option (List ℕ)) → seen ≡ held → piece ≡ next ∷ drop 1 piece → taken ≤ 1
-    → ((rest : List ℕ) → substitution values (seen ++ (next ∷ rest)) ≡ out ++ substitution values (drop taken (next ∷ rest))) → after ≡ [] → Appends old new out → Advances values (held ++ piece) (after ++ drop taken piece) old new
-out-advances values held seen out next taken piece after old new same e fits passes none appends =
-    Advances-out values (held ++ piece) (after ++ drop taken piece) out old new
-    (λ rest. ap (λ h. substitution values ((h ++ piece) ++ rest)) (sym same) ∙ out-piece values seen out next taken piece e fits passes rest ∙ ap (λ h. out ++ substitution values ((h ++ drop taken piece) ++ rest)) (sym none)) appends
-
-pub out-stops : (values : Values) (held seen out : List ℕ) (next taken : ℕ) (piece : List ℕ) (old new : Option (List ℕ)) → seen ≡ held → piece ≡ next ∷ drop 1 piece → taken ≤ 1
-    → ((rest : List ℕ) → substitution values (seen ++ (next ∷ rest)) ≡ out ++ substitution values (drop taken (next ∷ rest))) → AppendsPrefix old new out → Stops values (held ++ piece) old new
-out-stops values held seen out next taken piece old new same e fits passes part =
-    Stops-out values (held ++ piece) (drop taken piece) out old new
-    (λ rest. ap (λ h. substitution values ((h ++ piece) ++ rest)) (sym same) ∙ out-piece values seen out next taken piece e fits passes rest) part
+-- a `$` that is the first byte
+pub dollar-first : (n : ℕ) (piece : List ℕ) → n ≡ position_or_len (is_byte 36) piece → n ≡ 0 → 0 < length piece → take 1 piece ≡ 36 ∷ []
+dollar-first n piece index first some = ap (λ p. take 1 p) (byte-at 36 piece 0 (sym first ∙ index) some)
 
 -- a begun reference of so many bytes, and the byte after it
 begun-split : (piece : List ℕ) (n d : ℕ) → n < length piece → drop n piece ≡ get_or piece n d ∷ drop 1 (drop n piece)
@@ -115,7 +85,7 @@ begun-split [] n d some = absurd (omega arith)
 begun-split (b ∷ bs) zero d some = refl
 begun-split (b ∷ bs) (suc n) d some = begun-split bs n d (omega arith)
 
-begun-out : (values : Values) (piece out : List ℕ) (n taken : ℕ) → n < length piece → taken ≤ 1
+pub begun-out : (values : Values) (piece out : List ℕ) (n taken : ℕ) → n < length piece → taken ≤ 1
     → ((rest : List ℕ) → substitution values (take n piece ++ (get_or piece n 0 ∷ rest)) ≡ out ++ substitution values (drop taken (get_or piece n 0 ∷ rest)))
     → (rest : List ℕ) → substitution values (piece ++ rest) ≡ out ++ substitution values (drop (n + taken) piece ++ rest)
 begun-out values piece out n taken within fits passes rest =
@@ -123,28 +93,13 @@ begun-out values piece out n taken within fits passes rest =
     ∙ out-piece values (take n piece) out (get_or piece n 0) taken (drop n piece) (begun-split piece n 0 within) fits passes rest
     ∙ ap (λ p. out ++ substitution values (p ++ rest)) (drop-drop taken n piece)
 
-pub begun-advances : (values : Values) (piece out after : List ℕ) (n taken : ℕ) (old new : Option (List ℕ)) → n < length piece → taken ≤ 1
-    → ((rest : List ℕ) → substitution values (take n piece ++ (get_or piece n 0 ∷ rest)) ≡ out ++ substitution values (drop taken (get_or piece n 0 ∷ rest)))
-    → after ≡ [] → Appends old new out → Advances values piece (after ++ drop (n + taken) piece) old new
-begun-advances values piece out after n taken old new within fits passes none appends =
-    Advances-out values piece (after ++ drop (n + taken) piece) out old new
-    (λ rest. begun-out values piece out n taken within fits passes rest ∙ ap (λ h. out ++ substitution values ((h ++ drop (n + taken) piece) ++ rest)) (sym none)) appends
-
-pub begun-stops : (values : Values) (piece out : List ℕ) (n taken : ℕ) (old new : Option (List ℕ)) → n < length piece → taken ≤ 1
-    → ((rest : List ℕ) → substitution values (take n piece ++ (get_or piece n 0 ∷ rest)) ≡ out ++ substitution values (drop taken (get_or piece n 0 ∷ rest))) → AppendsPrefix old new out → Stops values piece old new
-begun-stops values piece out n taken old new within fits passes part =
-    Stops-out values piece (drop (n + taken) piece) out old new (begun-out values piece out n taken within fits passes) part
-
--- one more byte that is held
-pub held-advances : (values : Values) (held after : List ℕ) (next : ℕ) (piece : List ℕ) (old : Option (List ℕ)) → piece ≡ next ∷ drop 1 piece → after ≡ held ++ next ∷ [] → Advances values (held ++ piece) (after ++ drop 1 piece) old old
-held-advances values held after next piece old e more =
-    Advances-none values (held ++ piece) (after ++ drop 1 piece) old
-    (ap (λ p. held ++ p) e ∙ sym (append_assoc held (next ∷ []) (drop 1 piece)) ∙ ap (λ h. h ++ drop 1 piece) (sym more))
-
 -- the first byte of a piece, and the others
 pub piece-split : (piece : List ℕ) (d : ℕ) → 0 < length piece → piece ≡ get_or piece 0 d ∷ drop 1 piece
 piece-split [] d some = absurd (omega arith)
 piece-split (b ∷ bs) d some = refl
+
+pub first-taken : (piece : List ℕ) (d : ℕ) → 0 < length piece → take 1 piece ≡ get_or piece 0 d ∷ []
+first-taken piece d some = ap (λ p. take 1 p) (piece-split piece d some)
 
 -- a step over `&piece[at..]`, after the steps before it
 pub pass-advances : (values : Values) (text held after piece : List ℕ) (at taken : ℕ) (first second third : Option (List ℕ)) → Advances values text (held ++ drop at piece) first second

@@ -1,5 +1,5 @@
 -- Internal: which bytes are held back, and what the next byte makes of them.
-use Rattle.std.specs.Prelude.{◌≡◌, ℕ, ◌+◌, ◌≤◌, Bool, true, false, ◌&&◌, ◌==◌, if◌then◌else◌, List, [], ◌∷◌, ◌++◌, length, drop, Option, Some, None}
+use Rattle.std.specs.Prelude.{◌≡◌, ℕ, ◌+◌, ◌<◌, ◌≤◌, Bool, true, false, ◌&&◌, ◌==◌, if◌then◌else◌, List, [], ◌∷◌, ◌++◌, length, take, drop, Option, Some, None}
 use Rattle.std.specs.Borrow.{Bor}
 use Rattle.std.specs.List.{list_all}
 use Rattle.po_shell.specs.References.{is_name_byte, is_name, reference_after}
@@ -8,6 +8,8 @@ use Rattle.po_shell.specs.declared.envsubst.holding.Decision.{Decision}
 use Rattle.po_shell.specs.declared.envsubst.holding.Decision.TheVariants.{Grows, Ends, Closes, Copies}
 use Rattle.po_shell.specs.declared.envsubst.holding.Effect.{Effect}
 use Rattle.po_shell.specs.declared.envsubst.holding.Effect.TheVariants.{Held, Copied, Replaced}
+use Rattle.po_shell.specs.declared.envsubst.holding.Step.{Step}
+use Rattle.po_shell.specs.declared.envsubst.holding.Step.TheVariants.{Hold, Write}
 
 -- no byte yet, or a name that may go on
 abbrev pub is_begun_name : List ℕ → Bool
@@ -48,6 +50,13 @@ abbrev pub ReplacesName : Values → List ℕ → ℕ → Effect → Type 0
 ReplacesName values name taken Held = ⊥
 ReplacesName values name taken Copied = values name ≡ None
 ReplacesName values name taken (Replaced value n) = (values name ≡ Some value.now) × (n ≡ taken)
+
+-- what a step makes of the bytes held and a piece, whatever comes after it: the piece's first byte
+-- is held too, or a text comes out of them and of what is taken
+abbrev pub IsStep : Values → List ℕ → List ℕ → Step → Type 0
+IsStep values held piece Hold = is_undecided (held ++ take 1 piece) ≡ true
+IsStep values held piece (Write text taken) = (taken ≤ length piece) × (0 < length held + taken)
+    × ((rest : List ℕ) → substitution values ((held ++ piece) ++ rest) ≡ text.now ++ substitution values (drop taken piece ++ rest))
 
 -- what becomes of the bytes held where nothing follows: this value, or the bytes themselves
 abbrev pub Ending : Values → List ℕ → Option (Bor (List ℕ)) → Type 0

@@ -1,16 +1,18 @@
 //! The bytes that may begin a reference, held back until the next ones decide.
 ghost use Rattle.std.specs.Prelude.{◌≡◌, ◌<◌, true, false, ◌∷◌, [], length, take, IfSome};
-ghost use Rattle.po_shell.specs.Holding.{Decides, ComesOut, ReplacesName, Ending, is_undecided, is_begun_name, after_dollar};
+ghost use Rattle.po_shell.specs.Holding.{Decides, ComesOut, ReplacesName, IsStep, Ending, is_undecided, is_begun_name, after_dollar};
 ghost use Rattle.po_shell.specs.Sorted.{values_of_replacements};
+ghost use Rattle.po_shell.specs.Substitution.{Values};
 
 use crate::envsubst::reference::{
     LONGEST_NAME, begins_with, is_letter, is_name, is_name_byte, name_prefix,
 };
 use crate::envsubst::replacements::Replacements;
+use crate::search::len_before;
 
 /// What the next byte makes of a begun reference: `$` or `${`, and the name so far, maybe empty.
 #[derive(Clone, Copy)]
-pub(crate) enum Decision {
+enum Decision {
     /// It may still become a reference.
     Grows,
     /// It is `$NAME`, and the byte stands after it.
@@ -22,7 +24,7 @@ pub(crate) enum Decision {
 }
 
 /// What becomes of the bytes held back, at the next byte.
-pub(crate) enum Effect<'a> {
+enum Effect<'a> {
     /// They stay held, and the byte is held too.
     Held,
     /// They come out as they are, and the byte isn't taken.
@@ -31,8 +33,16 @@ pub(crate) enum Effect<'a> {
     Replaced(&'a [u8], usize),
 }
 
+/// What is done first with the bytes held back and a piece of the text.
+pub(crate) enum Step<'a> {
+    /// The piece's first byte is held back too.
+    Hold,
+    /// This text is written, so many bytes of the piece are taken, and none is held back any more.
+    Write(&'a [u8], usize),
+}
+
 /// Decides by a begun reference, with a brace or without one, and the next byte.
-pub(crate) fn decide(is_braced: bool, name: &[u8], next: u8) -> Decision
+fn decide(is_braced: bool, name: &[u8], next: u8) -> Decision
     requires { is_begun_name name.now ≡ true }
     ensures { Decides is_braced name.now next result }
 {
@@ -60,7 +70,7 @@ pub(crate) fn decide(is_braced: bool, name: &[u8], next: u8) -> Decision
 }
 
 /// A begun reference: whether it has a brace, and its name so far.
-pub(crate) fn begun(held: &[u8]) -> (bool, &[u8])
+fn begun(held: &[u8]) -> (bool, &[u8])
     requires some { 0 < length held.now }
     requires undecided { is_undecided held.now ≡ true }
     ensures bytes { held.now ≡ 36 ∷ after_dollar result.0 result.1.now }
@@ -96,7 +106,7 @@ fn begun_name_len(bytes: &[u8]) -> Option<usize>
 
 /// The length of the begun reference at the beginning of a piece, if a byte follows that decides
 /// about it. `None` where the piece doesn't begin with one, or ends with it.
-pub(crate) fn begun_len(piece: &[u8]) -> Option<usize>
+fn begun_len(piece: &[u8]) -> Option<usize>
     ensures some { IfSome result (λ len. 0 < len) }
     ensures bound { IfSome result (λ len. len < length piece.now) }
     ensures undecided { IfSome result (λ len. is_undecided (take len piece.now) ≡ true) }
@@ -113,7 +123,7 @@ pub(crate) fn begun_len(piece: &[u8]) -> Option<usize>
 }
 
 /// What becomes of the bytes held back, at the next byte.
-pub(crate) fn effect_of<'a>(replacements: &Replacements<'a>, held: &[u8], next: u8) -> Effect<'a>
+fn effect_of<'a>(replacements: &Replacements<'a>, held: &[u8], next: u8) -> Effect<'a>
     requires some { 0 < length held.now }
     requires undecided { is_undecided held.now ≡ true }
     ensures { ComesOut (values_of_replacements replacements.now) held.now next result }
@@ -134,6 +144,55 @@ fn replace<'a>(replacements: &Replacements<'a>, name: &[u8], taken: usize) -> Ef
     match replacements.value_for(name) {
         Some(value) => Effect::Replaced(value, taken),
         None => Effect::Copied,
+    }
+}
+
+/// What is done first with the bytes held back and a piece.
+pub(crate) fn next_step<'a>(
+    replacements: &'a Replacements<'_>,
+    held: &'a [u8],
+    piece: &'a [u8],
+) -> Step<'a>
+    requires some { 0 < length piece.now }
+    requires undecided { is_undecided held.now ≡ true }
+    ensures { IsStep (values_of_replacements replacements.now) held.now piece.now result }
+{
+    if held.is_empty() {
+        return first_step(replacements, piece);
+    }
+    match effect_of(replacements, held, piece[0]) {
+        Effect::Held => Step::Hold,
+        Effect::Copied => Step::Write(held, 0),
+        Effect::Replaced(value, taken) => Step::Write(value, taken),
+    }
+}
+
+/// What is done first with a piece where nothing is held back.
+fn first_step<'a>(replacements: &'a Replacements<'_>, piece: &'a [u8]) -> Step<'a>
+    requires some { 0 < length piece.now }
+    ensures { IsStep (values_of_replacements replacements.now) [] piece.now result }
+{
+    if let Some(len) = begun_len(piece) {
+        match effect_of(replacements, &piece[..len], piece[len]) {
+            Effect::Held => plain_step(piece),
+            Effect::Copied => Step::Write(&piece[..len], len),
+            Effect::Replaced(value, taken) => Step::Write(value, len + taken),
+        }
+    } else {
+        plain_step(piece)
+    }
+}
+
+/// The bytes before the first `$` are written, or that one is held back where it is the first byte.
+fn plain_step(piece: &[u8]) -> Step<'_>
+    requires some { 0 < length piece.now }
+    ensures { (values : Values) → IsStep values [] piece.now result }
+{
+    let plain = len_before(b'$', piece);
+    if plain == 0 {
+        Step::Hold
+    } else {
+        Step::Write(&piece[..plain], plain)
     }
 }
 

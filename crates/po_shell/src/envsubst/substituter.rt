@@ -7,13 +7,12 @@ ghost use Rattle.po_shell.specs.Holding.{is_undecided};
 ghost use Rattle.po_shell.specs.Sorted.{values_of_replacements};
 ghost use Rattle.po_shell.specs.Stream.{Advances, Stops};
 ghost use Rattle.po_shell.specs.SubstituterView.{values_of_substituter};
-ghost use Rattle.po_shell.specs.Substitution.{Values, substitution, pairs_in, names_given};
+ghost use Rattle.po_shell.specs.Substitution.{substitution, pairs_in, names_given};
 
 use crate::devices::{ByteOut, put_all};
-use crate::envsubst::holding::{Effect, begun_len, effect_of, ending};
+use crate::envsubst::holding::{Step, ending, next_step};
 use crate::envsubst::replacements::Replacements;
 use crate::fault::ToolFault;
-use crate::search::len_before;
 use arrayvec::ArrayVec;
 use std::marker::Model;
 
@@ -165,90 +164,15 @@ fn advance<W: ByteOut>(
     ensures no_failure { OnOk result (W.failures writer.new ≡ W.failures writer.old) }
     ensures cause { OnErr result (W.failures writer.new ≡ W.failures writer.old + 1) }
 {
-    if held.is_empty() {
-        return match begun_len(piece) {
-            Some(len) => take_reference(replacements, held, piece, len, writer),
-            None => copy_plain(held, piece, writer),
-        };
-    }
-    match effect_of(replacements, held, piece[0]) {
-        Effect::Held => {
+    match next_step(replacements, held, piece) {
+        Step::Hold => {
             held.push(piece[0]);
             Ok(1)
         }
-        Effect::Copied => {
-            put_all(writer, held)?;
-            held.clear();
-            Ok(0)
-        }
-        Effect::Replaced(value, taken) => {
-            put_all(writer, value)?;
+        Step::Write(text, taken) => {
+            put_all(writer, text)?;
             held.clear();
             Ok(taken)
         }
     }
-}
-
-/// Takes the begun reference of `len` bytes that a piece begins with, as the byte after it decides.
-fn take_reference<W: ByteOut>(
-    replacements: &Replacements<'_>,
-    held: &mut Held,
-    piece: &[u8],
-    len: usize,
-    writer: &mut W,
-) -> Result<usize, ToolFault>
-    requires some { 0 < len }
-    requires within { len < length piece.now }
-    requires begun { is_undecided (take len piece.now) ≡ true }
-    requires none_held { held.old.items ≡ [] }
-    requires failures { W.failures writer.old < 2 ^ 64 - 1 }
-    ensures undecided { is_undecided held.new.items ≡ true }
-    ensures bound { IfOk result (λ taken. taken ≤ length piece.now) }
-    ensures progress { IfOk result (λ taken. 0 < taken) }
-    ensures ok { IfOk result (λ taken. Advances (values_of_replacements replacements.now) piece.now
-        (held.new.items ++ drop taken piece.now)
-        (W.contents writer.old) (W.contents writer.new)) }
-    ensures stops { OnErr result (Stops (values_of_replacements replacements.now) piece.now
-        (W.contents writer.old) (W.contents writer.new)) }
-    ensures fault { OnErr result (result ≡ Err ToolFault.WriteFault) }
-    ensures no_failure { OnOk result (W.failures writer.new ≡ W.failures writer.old) }
-    ensures cause { OnErr result (W.failures writer.new ≡ W.failures writer.old + 1) }
-{
-    match effect_of(replacements, &piece[..len], piece[len]) {
-        Effect::Held => copy_plain(held, piece, writer),
-        Effect::Copied => {
-            put_all(writer, &piece[..len])?;
-            Ok(len)
-        }
-        Effect::Replaced(value, taken) => {
-            put_all(writer, value)?;
-            Ok(len + taken)
-        }
-    }
-}
-
-/// Writes the bytes before the first `$`, or holds that one back where it is the first byte.
-fn copy_plain<W: ByteOut>(held: &mut Held, piece: &[u8], writer: &mut W) -> Result<usize, ToolFault>
-    requires some { 0 < length piece.now }
-    requires none_held { held.old.items ≡ [] }
-    requires failures { W.failures writer.old < 2 ^ 64 - 1 }
-    ensures undecided { is_undecided held.new.items ≡ true }
-    ensures bound { IfOk result (λ taken. taken ≤ length piece.now) }
-    ensures progress { IfOk result (λ taken. 0 < taken) }
-    ensures ok { IfOk result (λ taken. (values : Values) → Advances values piece.now
-        (held.new.items ++ drop taken piece.now)
-        (W.contents writer.old) (W.contents writer.new)) }
-    ensures stops { OnErr result ((values : Values) → Stops values piece.now
-        (W.contents writer.old) (W.contents writer.new)) }
-    ensures fault { OnErr result (result ≡ Err ToolFault.WriteFault) }
-    ensures no_failure { OnOk result (W.failures writer.new ≡ W.failures writer.old) }
-    ensures cause { OnErr result (W.failures writer.new ≡ W.failures writer.old + 1) }
-{
-    let plain = len_before(b'$', piece);
-    if plain == 0 {
-        held.push(b'$');
-        return Ok(1);
-    }
-    put_all(writer, &piece[..plain])?;
-    Ok(plain)
 }
