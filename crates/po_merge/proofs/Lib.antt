@@ -11,4 +11,4 @@ pub mod GroupsMerged
 pub mod MergedMessages
 pub mod MessagesOnce
 pub mod SameInput
-pub mod Weaving
+pub mod Interleaving

@@ -7,4 +7,4 @@ pub mod Grouping
 pub mod Sets
 pub mod Parts
 pub mod MergeLaws
-pub mod Woven
+pub mod Interleaved

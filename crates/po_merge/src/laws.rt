@@ -5,7 +5,7 @@ ghost use Rattle.po_merge.specs.declared.input.MergeOptions.{MergeOptions};
 ghost use Rattle.po_merge.specs.Inputs.{Input, NamedEntry};
 ghost use Rattle.po_entry.specs.TextEntry.{TextEntry};
 ghost use Rattle.po_merge.specs.MergeLaws.{FormsAreOfOne, KeptMessagesStand, MergedAreEntries, MergedCanStand, MessagesStandOnce, OneDefinitionStays, OneInputStays, WithItself};
-ghost use Rattle.po_merge.specs.Woven.{Segment, WovenAreAdmitted, WovenAreMerged};
+ghost use Rattle.po_merge.specs.Interleaved.{Segment, InterleavedAreAdmitted, InterleavedAreMerged};
 
 /// A message with one definition is merged to the entry of that definition.
 pub fn one_definition_stays()
@@ -47,9 +47,9 @@ pub fn forms_are_of_one_definition()
 /// Entries of several inputs that are each the only one of their message needn't be merged: if a
 /// number of each message, as its digest, shows that, they stay as they are, and only the others
 /// are merged.
-pub fn woven_entries_are_merged()
+pub fn interleaved_entries_are_merged()
     ensures merged { (use_first : Bool) (number : TextEntry → ℕ) (segments : List Segment) (rest : List NamedEntry)
-        → WovenAreMerged use_first number segments rest }
+        → InterleavedAreMerged use_first number segments rest }
     ensures admitted { (number : TextEntry → ℕ) (segments : List Segment) (merged : List TextEntry)
-        (rest : List NamedEntry) → WovenAreAdmitted number segments merged rest }
+        (rest : List NamedEntry) → InterleavedAreAdmitted number segments merged rest }
 {}

@@ -11,7 +11,7 @@ use Rattle.po_entry.specs.TextEntry.{TextEntry}
 use Rattle.po_merge.specs.Inputs.{Input, NamedEntry, all_entries, named}
 use Rattle.po_merge.specs.InputsView.{input_view, inputs_view}
 use Rattle.po_merge.specs.declared.input.Named.{Named}
-use Rattle.po_merge.specs.Woven.{Segment, alone, spread}
+use Rattle.po_merge.specs.Interleaved.{Segment, single_entries, segment_entries}
 use Rattle.po_catalog.specs.Digest.{digest}
 use Rattle.po_entry.specs.ReadsText.{ReadsText}
 use Rattle.po_catalog.specs.Duplicate.{AllDiffer}
@@ -25,13 +25,13 @@ use Rattle.po_tools.specs.SegmentTexts.{AreSegmentTexts}
 use Rattle.po_tools.specs.declared.held.Held.{Held}
 use Rattle.po_tools.specs.declared.segment_texts.SegmentTexts.{SegmentTexts}
 
-spread_more : (ts : List Segment) (rest : List NamedEntry) (e : NamedEntry) → spread ts (rest ++ e ∷ []) ≡ spread ts rest ++ e ∷ []
-spread_more [] rest e = refl
-spread_more (t ∷ ts) rest e = ap (λ (l : List NamedEntry). t.0 ++ t.1 ∷ l) (spread_more ts rest e) ∙ sym (append_assoc t.0 (t.1 ∷ spread ts rest) (e ∷ []))
+segment_entries_more : (ts : List Segment) (rest : List NamedEntry) (e : NamedEntry) → segment_entries ts (rest ++ e ∷ []) ≡ segment_entries ts rest ++ e ∷ []
+segment_entries_more [] rest e = refl
+segment_entries_more (t ∷ ts) rest e = ap (λ (l : List NamedEntry). t.0 ++ t.1 ∷ l) (segment_entries_more ts rest e) ∙ sym (append_assoc t.0 (t.1 ∷ segment_entries ts rest) (e ∷ []))
 
-spread_ended : (ts : List Segment) (rest : List NamedEntry) (e : NamedEntry) → spread (ts ++ (rest, e) ∷ []) [] ≡ spread ts rest ++ e ∷ []
-spread_ended [] rest e = refl
-spread_ended (t ∷ ts) rest e = ap (λ (l : List NamedEntry). t.0 ++ t.1 ∷ l) (spread_ended ts rest e) ∙ sym (append_assoc t.0 (t.1 ∷ spread ts rest) (e ∷ []))
+segment_entries_ended : (ts : List Segment) (rest : List NamedEntry) (e : NamedEntry) → segment_entries (ts ++ (rest, e) ∷ []) [] ≡ segment_entries ts rest ++ e ∷ []
+segment_entries_ended [] rest e = refl
+segment_entries_ended (t ∷ ts) rest e = ap (λ (l : List NamedEntry). t.0 ++ t.1 ∷ l) (segment_entries_ended ts rest e) ∙ sym (append_assoc t.0 (t.1 ∷ segment_entries ts rest) (e ∷ []))
 
 zip_push : {A B : Type 0} (R : A → B → Type 0) (xs : List A) (ys : List B) (x : A) (y : B) → AllZip R xs ys → R x y → AllZip R (xs ++ x ∷ []) (ys ++ y ∷ [])
 zip_push R [] [] x y h g = (g, tt)
@@ -52,12 +52,12 @@ held_written old texts digests number name e entries kept valid is written pushe
     record {
       segments = h.segments;
       after = h.after ++ n ∷ [];
-      entries_are = spread_more h.segments h.after n ∙ ap (λ (l : List NamedEntry). l ++ n ∷ []) h.entries_are;
+      entries_are = segment_entries_more h.segments h.after n ∙ ap (λ (l : List NamedEntry). l ++ n ∷ []) h.entries_are;
       kept_are = h.kept_are;
       texts = written h.segments h.after name h.texts;
       digests = pushed ∙ ap₂ (λ (l : List ℕ) (k : ℕ). l ++ k ∷ []) h.digests is
-          ∙ sym (map-append (λ (d : NamedEntry). digest d.entry) (alone h.segments h.after) (n ∷ [])) ∙ ap (map (λ (d : NamedEntry). digest d.entry)) (sym more);
-      admitted = subst (All Admitted) (sym more) (All-push Admitted (alone h.segments h.after) n h.admitted valid);
+          ∙ sym (map-append (λ (d : NamedEntry). digest d.entry) (single_entries h.segments h.after) (n ∷ [])) ∙ ap (map (λ (d : NamedEntry). digest d.entry)) (sym more);
+      admitted = subst (All Admitted) (sym more) (All-push Admitted (single_entries h.segments h.after) n h.admitted valid);
     }
 
 -- an entry that is kept
@@ -71,7 +71,7 @@ held_ended old texts number name e entries kept is ended h =
     record {
       segments = h.segments ++ t ∷ [];
       after = [];
-      entries_are = spread_ended h.segments h.after n ∙ ap (λ (l : List NamedEntry). l ++ n ∷ []) h.entries_are;
+      entries_are = segment_entries_ended h.segments h.after n ∙ ap (λ (l : List NamedEntry). l ++ n ∷ []) h.entries_are;
       kept_are = map-append (λ (x : Segment). x.1) h.segments (t ∷ []) ∙ ap (λ (l : List NamedEntry). l ++ n ∷ []) h.kept_are;
       texts = ended h.segments h.after n is h.texts;
       digests = h.digests ∙ ap (map (λ (d : NamedEntry). digest d.entry)) (sym same);

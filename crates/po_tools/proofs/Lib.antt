@@ -15,4 +15,4 @@ pub mod CatalogueLemmas
 pub mod NulNames
 pub mod SegmentLemmas
 pub mod HeldLemmas
-pub mod WovenText
+pub mod InterleavedText

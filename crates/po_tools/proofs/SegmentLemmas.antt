@@ -6,18 +6,18 @@ use Rattle.std.proofs.lemmas.Grind.{flat_map-append}
 use Rattle.po_entry.specs.TextEntry.{TextEntry}
 use Rattle.po_catalog.specs.Digest.{digest}
 use Rattle.po_merge.specs.Inputs.{NamedEntry, named}
-use Rattle.po_merge.specs.Woven.{Segment, alone, unnamed}
+use Rattle.po_merge.specs.Interleaved.{Segment, single_entries, unnamed}
 use Rattle.po_writer.specs.TextParts.{AreSeparated, separated}
 use Rattle.po_writer.specs.WrittenText.{entry_lines}
 use Rattle.po_tools.specs.SegmentTexts.{AreSegmentEnds, AreSegmentTexts, IsSegmentEnd}
 use Rattle.po_tools.specs.declared.segment_texts.SegmentEnd.{SegmentEnd}
 use Rattle.po_tools.specs.declared.segment_texts.SegmentTexts.{SegmentTexts}
 
-pub alone_more : (ts : List Segment) (rest : List NamedEntry) (e : NamedEntry) → alone ts (rest ++ e ∷ []) ≡ alone ts rest ++ e ∷ []
+pub alone_more : (ts : List Segment) (rest : List NamedEntry) (e : NamedEntry) → single_entries ts (rest ++ e ∷ []) ≡ single_entries ts rest ++ e ∷ []
 alone_more [] rest e = refl
-alone_more (t ∷ ts) rest e = ap (λ (l : List NamedEntry). t.0 ++ l) (alone_more ts rest e) ∙ sym (append_assoc t.0 (alone ts rest) (e ∷ []))
+alone_more (t ∷ ts) rest e = ap (λ (l : List NamedEntry). t.0 ++ l) (alone_more ts rest e) ∙ sym (append_assoc t.0 (single_entries ts rest) (e ∷ []))
 
-pub alone_ended : (ts : List Segment) (rest : List NamedEntry) (e : NamedEntry) → alone (ts ++ (rest, e) ∷ []) [] ≡ alone ts rest
+pub alone_ended : (ts : List Segment) (rest : List NamedEntry) (e : NamedEntry) → single_entries (ts ++ (rest, e) ∷ []) [] ≡ single_entries ts rest
 alone_ended [] rest e = append-nil rest
 alone_ended (t ∷ ts) rest e = ap (λ (l : List NamedEntry). t.0 ++ l) (alone_ended ts rest e)
 
@@ -38,15 +38,15 @@ none_in : (p : TextEntry → Bool) (xs : List TextEntry) (e : TextEntry) (text :
 none_in p xs e text is fails =
     is ∙ sym (append-nil (separated (filter p xs))) ∙ ap (λ (b : Bool). separated (filter p xs) ++ One p e b) (sym fails) ∙ sym (separated_parted p xs (e ∷ []))
 
-unnamed_more : (segments : List Segment) (after : List NamedEntry) (name : List ℕ) (e : TextEntry) → unnamed (alone segments after) ++ e ∷ [] ≡ unnamed (alone segments (after ++ named name e ∷ []))
+unnamed_more : (segments : List Segment) (after : List NamedEntry) (name : List ℕ) (e : TextEntry) → unnamed (single_entries segments after) ++ e ∷ [] ≡ unnamed (single_entries segments (after ++ named name e ∷ []))
 unnamed_more segments after name e =
-    sym (map-append (λ (d : NamedEntry). d.entry) (alone segments after) (named name e ∷ [])) ∙ ap unnamed (sym (alone_more segments after (named name e)))
+    sym (map-append (λ (d : NamedEntry). d.entry) (single_entries segments after) (named name e ∷ [])) ∙ ap unnamed (sym (alone_more segments after (named name e)))
 
 -- a further live entry
 pub live_written : (old new : SegmentTexts) (e : TextEntry) (segments : List Segment) (after : List NamedEntry) (name : List ℕ) → e.obsolete ≡ false → new.live.items ≡ old.live.items ++ separated (e ∷ [])
     → new.obsolete ≡ old.obsolete → new.ends ≡ old.ends → AreSegmentTexts segments after old → AreSegmentTexts segments (after ++ named name e ∷ []) new
 live_written old new e segments after name live grown same_obsolete same_ends are =
-    let es = unnamed (alone segments after) in
+    let es = unnamed (single_entries segments after) in
     record {
       separate = subst (λ (l : List TextEntry). AreSeparated l new.live.items new.obsolete.items) (unnamed_more segments after name e) (record {
         live_is = grown ∙ more_in (λ (t : TextEntry). not t.obsolete) es e old.live.items are.separate.live_is (ap not live);
@@ -59,7 +59,7 @@ live_written old new e segments after name live grown same_obsolete same_ends ar
 pub obsolete_written : (old new : SegmentTexts) (e : TextEntry) (segments : List Segment) (after : List NamedEntry) (name : List ℕ) → e.obsolete ≡ true → new.obsolete.items ≡ old.obsolete.items ++ separated (e ∷ [])
     → new.live ≡ old.live → new.ends ≡ old.ends → AreSegmentTexts segments after old → AreSegmentTexts segments (after ++ named name e ∷ []) new
 obsolete_written old new e segments after name obsolete grown same_live same_ends are =
-    let es = unnamed (alone segments after) in
+    let es = unnamed (single_entries segments after) in
     record {
       separate = subst (λ (l : List TextEntry). AreSeparated l new.live.items new.obsolete.items) (unnamed_more segments after name e) (record {
         live_is = ap (λ v. v.items) same_live ∙ none_in (λ (t : TextEntry). not t.obsolete) es e old.live.items are.separate.live_is (ap not obsolete);
@@ -69,13 +69,13 @@ obsolete_written old new e segments after name obsolete grown same_live same_end
     }
 
 ends_more : (before : List TextEntry) (segments : List Segment) (ends : List SegmentEnd) (after : List NamedEntry) (last : NamedEntry) (end : SegmentEnd) → AreSegmentEnds before segments ends
-    → IsSegmentEnd (before ++ unnamed (alone segments after)) last.entry end → AreSegmentEnds before (segments ++ (after, last) ∷ []) (ends ++ end ∷ [])
+    → IsSegmentEnd (before ++ unnamed (single_entries segments after)) last.entry end → AreSegmentEnds before (segments ++ (after, last) ∷ []) (ends ++ end ∷ [])
 ends_more before [] [] after last end are is = (is, tt)
 ends_more before [] (x ∷ ends) after last end are is = absurd are
 ends_more before (t ∷ ts) [] after last end are is = absurd are
 ends_more before (t ∷ ts) (x ∷ ends) after last end are is =
-    let parted : before ++ unnamed (t.0 ++ alone ts after) ≡ (before ++ unnamed t.0) ++ unnamed (alone ts after) =
-    ap (λ (l : List TextEntry). before ++ l) (map-append (λ (d : NamedEntry). d.entry) t.0 (alone ts after)) ∙ sym (append_assoc before (unnamed t.0) (unnamed (alone ts after))) in
+    let parted : before ++ unnamed (t.0 ++ single_entries ts after) ≡ (before ++ unnamed t.0) ++ unnamed (single_entries ts after) =
+    ap (λ (l : List TextEntry). before ++ l) (map-append (λ (d : NamedEntry). d.entry) t.0 (single_entries ts after)) ∙ sym (append_assoc before (unnamed t.0) (unnamed (single_entries ts after))) in
     (are.0, ends_more (before ++ unnamed t.0) ts ends after last end are.1 (subst (λ (l : List TextEntry). IsSegmentEnd l last.entry end) parted is))
 
 -- a segment ends

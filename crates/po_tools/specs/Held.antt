@@ -3,7 +3,7 @@ use Rattle.std.specs.Prelude.{◌≡◌, ◌==◌, ℕ, List, [], ◌∷◌, map
 use Rattle.po_entry.specs.Header.{HasAdmittedCharset}
 use Rattle.po_entry.specs.TextEntry.{TextEntry}
 use Rattle.po_merge.specs.Inputs.{Input, NamedEntry, all_entries}
-use Rattle.po_merge.specs.Woven.{Segment, alone, lasts, spread}
+use Rattle.po_merge.specs.Interleaved.{Segment, single_entries, last_entries, segment_entries}
 use Rattle.po_catalog.specs.Digest.{digest}
 use Rattle.po_tools.specs.Msgcat.{AreReadAs}
 use Rattle.po_tools.specs.NamedFile.{NamedFile}
@@ -14,11 +14,11 @@ use Rattle.po_tools.specs.declared.held.Held.{Held}
 pub record IsHeld (held : Held) (entries kept : List NamedEntry) : Type 0 where
   pub segments : List Segment
   pub after : List NamedEntry
-  pub entries_are : spread segments after ≡ entries
-  pub kept_are : lasts segments ≡ kept
+  pub entries_are : segment_entries segments after ≡ entries
+  pub kept_are : last_entries segments ≡ kept
   pub texts : AreSegmentTexts segments after held.texts
-  pub digests : held.digests.items ≡ map (λ d. digest d.entry) (alone segments after)
-  pub admitted : All (λ d. HasAdmittedCharset d.entry) (alone segments after)
+  pub digests : held.digests.items ≡ map (λ d. digest d.entry) (single_entries segments after)
+  pub admitted : All (λ d. HasAdmittedCharset d.entry) (single_entries segments after)
 
 -- the entries of the files are held, and these are those that are kept
 pub record AreHeld (files : List NamedFile) (held : Held) (kept : List Input) : Type 0 where

@@ -3,7 +3,7 @@ use Rattle.std.specs.Prelude.{◌≡◌, List, [], ◌∷◌, ◌++◌, filter, 
 use Rattle.po_entry.specs.TextEntry.{TextEntry}
 use Rattle.po_catalog.specs.Digest.{digest}
 use Rattle.po_merge.specs.Inputs.{NamedEntry}
-use Rattle.po_merge.specs.Woven.{Segment, alone, unnamed}
+use Rattle.po_merge.specs.Interleaved.{Segment, single_entries, unnamed}
 use Rattle.po_writer.specs.TextParts.{AreSeparated, separated}
 use Rattle.po_tools.specs.declared.segment_texts.SegmentEnd.{SegmentEnd}
 use Rattle.po_tools.specs.declared.segment_texts.SegmentTexts.{SegmentTexts}
@@ -24,5 +24,5 @@ AreSegmentEnds before (segment ∷ segments) (end ∷ ends) =
 
 -- the texts of the entries of these segments, and of those after them
 pub record AreSegmentTexts (segments : List Segment) (after : List NamedEntry) (texts : SegmentTexts) : Type 0 where
-  pub separate : AreSeparated (unnamed (alone segments after)) texts.live.items texts.obsolete.items
+  pub separate : AreSeparated (unnamed (single_entries segments after)) texts.live.items texts.obsolete.items
   pub ends : AreSegmentEnds [] segments texts.ends.items

@@ -6,7 +6,7 @@ ghost use Rattle.po_entry.specs.Bytes.{Lacks};
 ghost use Rattle.po_entry.specs.TextEntry.{TextEntry};
 ghost use Rattle.po_merge.specs.Inputs.{NamedEntry};
 ghost use Rattle.po_merge.specs.InputsView.{inputs_view};
-ghost use Rattle.po_merge.specs.Woven.{Segment, woven};
+ghost use Rattle.po_merge.specs.Interleaved.{Segment, interleaved};
 ghost use Rattle.po_tools.specs.Held.{AreHeld, after_next, next_merged};
 ghost use Rattle.po_tools.specs.Msgcat.{IsMergedText, keeps_all};
 ghost use Rattle.po_tools.specs.NamedFile.{NamedFile, named_files};
@@ -18,7 +18,7 @@ use crate::held::{Held, hold_inputs};
 use crate::repeated::repeated_places;
 use crate::segment_texts::{SegmentTexts, between};
 use po_catalog::{Entry, digest};
-use po_merge::laws::woven_entries_are_merged;
+use po_merge::laws::interleaved_entries_are_merged;
 use po_merge::{MergeOptions, Named, merge};
 use po_writer::TextParts;
 use std::alloc::{AllocError, Global};
@@ -45,9 +45,9 @@ fn add_next<'a>(
 }
 
 /// The texts of the segments, and each merged entry where it stands first.
-fn weave(alloc: Global, texts: &SegmentTexts, merged: &[Entry]) -> Result<TextParts, AllocError>
+fn interleave(alloc: Global, texts: &SegmentTexts, merged: &[Entry]) -> Result<TextParts, AllocError>
     ensures { IfOk result (λ parts. (segments : List Segment) (after : List NamedEntry)
-        → AreSegmentTexts segments after texts.now → AreParts (woven digest segments merged.now after) parts) }
+        → AreSegmentTexts segments after texts.now → AreParts (interleaved digest segments merged.now after) parts) }
 {
     let mut parts = TextParts::with_capacity(alloc, texts.live.capacity())?;
     let (mut live, mut obsolete) = (0, 0);
@@ -82,7 +82,7 @@ fn written<'a>(
     ensures { IfOk result (λ found. IfSome found (λ text. (files : List NamedFile)
         → AreHeld files held (inputs_view kept.now) → IsMergedText files options.now text.items)) }
 {
-    woven_entries_are_merged();
+    interleaved_entries_are_merged();
     let Held { texts, mut digests } = held;
     let Ok(merged) = merge(alloc, kept, options) else {
         return Ok(None);
@@ -91,7 +91,7 @@ fn written<'a>(
     if !are_distinct(digests) {
         return Ok(None);
     }
-    let text = weave(alloc, &texts, merged.entries())?.join()?;
+    let text = interleave(alloc, &texts, merged.entries())?.join()?;
     Ok(Some(text))
 }
 

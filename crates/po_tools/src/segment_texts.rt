@@ -3,7 +3,7 @@
 ghost use Rattle.std.specs.Prelude.{◌≡◌, ◌++◌, ◌∷◌, ℕ, [], IfOk, List, OnOk, length};
 ghost use Rattle.po_catalog.specs.Digest.{digest};
 ghost use Rattle.po_merge.specs.Inputs.{NamedEntry, named};
-ghost use Rattle.po_merge.specs.Woven.{Segment};
+ghost use Rattle.po_merge.specs.Interleaved.{Segment};
 ghost use Rattle.po_tools.specs.SegmentTexts.{AreSegmentTexts};
 
 use po_catalog::Entry;

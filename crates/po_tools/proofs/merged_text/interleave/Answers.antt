@@ -3,8 +3,8 @@ use Rattle.std.proofs.Math.ListN.{drop_of_length-le}
 use Rattle.std.proofs.Math.Seq.{drop-cons}
 use Rattle.po_tools.specs.SegmentTexts.{AreSegmentEnds}
 use Rattle.po_tools.specs.declared.segment_texts.SegmentEnd.{SegmentEnd}
-use Rattle.po_tools.proofs.WovenText.{rest_woven, segment_woven}
-use Rattle.po_tools.proofs.merged_text.weave.Goals as goal
+use Rattle.po_tools.proofs.InterleavedText.{rest_interleaved, segment_interleaved}
+use Rattle.po_tools.proofs.merged_text.interleave.Goals as goal
 
 pub loop-end-init : goal.loop-end-init
 loop-end-init c =
@@ -13,7 +13,7 @@ loop-end-init c =
       are = c.in_ok-parts.ensures;
       before = [];
       rest = segments;
-      woven_are = refl;
+      interleaved_are = refl;
       ends_are = subst (AreSegmentEnds [] segments) (sym c.deref-end-items.ensures.value) are.ends;
       live_is = refl;
       obsolete_is = refl;
@@ -27,7 +27,7 @@ loop-end-preserved c =
     let i = c.loop-end.end-index in
     let none : SegmentEnd = record { live = 0; obsolete = 0; next = 0 } in
     let next : suc i ≡ i + 1 = omega arith in
-    segment_woven c.args.texts.now c.args.merged.now segments after (drop i ends) (drop (i + 1) ends) (get_or ends i none) c.loop-end.live c.loop-end.obsolete c.loop-end.left.now c.in_ok-left.left.now c.loop-end.parts
+    segment_interleaved c.args.texts.now c.args.merged.now segments after (drop i ends) (drop (i + 1) ends) (get_or ends i none) c.loop-end.live c.loop-end.obsolete c.loop-end.left.now c.in_ok-left.left.now c.loop-end.parts
     c.add_texts.new.self c.add_next.new.parts c.between.result.now c.between-in-loop-end.result.now are (c.loop-end.invariant segments after are) (drop-cons ends i none c.loop-end-test.true ∙ ap (λ k. get_or ends i none ∷ drop k ends) next)
     (λ b o a is. c.between.ensures b o a (c.deref.ensures.value ∙ is)) (λ b o a is. c.between-in-loop-end.ensures b o a (c.deref-in-loop-end.ensures.value ∙ is))
     c.in_ok-add_texts.ensures c.in_ok-left.ensures.added c.in_ok-left.ensures.left
@@ -39,7 +39,7 @@ returns c =
     let ends = c.deref-end-items.result.now in
     let i = c.loop-end.end-index in
     let past : length ends ≤ i = omega (arith, c.loop-end-test.false) in
-    rest_woven texts c.args.merged.now segments after (drop i ends) c.loop-end.live c.loop-end.obsolete c.len.result c.len-2.result c.loop-end.left.now c.loop-end.parts c.add_texts-2.new.self
+    rest_interleaved texts c.args.merged.now segments after (drop i ends) c.loop-end.live c.loop-end.obsolete c.len.result c.len-2.result c.loop-end.left.now c.loop-end.parts c.add_texts-2.new.self
     c.between-2.result.now c.between-3.result.now are (c.loop-end.invariant segments after are) (drop_of_length-le ends past)
     (c.len.ensures ∙ texts.live.ok.0) (c.len-2.ensures ∙ texts.obsolete.ok.0)
     (λ b o a is. c.between-2.ensures b o a (c.deref-2.ensures.value ∙ is)) (λ b o a is. c.between-3.ensures b o a (c.deref-3.ensures.value ∙ is))

@@ -16,7 +16,7 @@ use Rattle.po_merge.specs.Groups.{with_new, first_ones, same_message, groups, de
 use Rattle.po_merge.specs.MergedEntry.{merged_entry}
 use Rattle.po_merge.specs.Merged.{is_kept, merged_messages}
 use Rattle.po_merge.specs.MergeLaws.{keep_all}
-use Rattle.po_merge.specs.Woven.{Segment, spread, alone, lasts, unnamed, woven}
+use Rattle.po_merge.specs.Interleaved.{Segment, segment_entries, single_entries, last_entries, unnamed, interleaved}
 use Rattle.po_merge.proofs.FirstOnes.{Apart, group_of, or_true, or_false, or_parts, any_alike, any_first_ones, none_alike}
 use Rattle.po_merge.proofs.GroupsMerged.{some_passes, any_same}
 use Rattle.po_merge.proofs.Messages.{same_message_laws}
@@ -161,7 +161,7 @@ module _ (use_first : Bool) (number : TextEntry → ℕ) (congr : (a b : TextEnt
     module _ (fits : (f s : NamedEntry) → shared f ≡ true → shared s ≡ true → (number (joined ss f) == number s.entry) ≡ same_message f s)
         (same_joined : (s : NamedEntry) → shared s ≡ true → joined es s ≡ joined ss s) where
       passed : (t : Segment) (ts : List Segment) (rest done xs : List NamedEntry) → list_any (same_message t.1) done ≡ true → shared t.1 ≡ true → All (λ s. shared s ≡ true) xs
-          → woven number (t ∷ ts) (map (joined ss) (firsts_after done xs)) rest ≡ unnamed t.0 ++ woven number ts (map (joined ss) (firsts_after done xs)) rest
+          → interleaved number (t ∷ ts) (map (joined ss) (firsts_after done xs)) rest ≡ unnamed t.0 ++ interleaved number ts (map (joined ss) (firsts_after done xs)) rest
       passed t ts rest done [] met among all = refl
       passed t ts rest done (x ∷ xs) met among all = found (list_any (same_message x) done) refl (passed t ts rest done xs met among (All-tail (λ s. shared s ≡ true) x xs all)) where
         differ : list_any (same_message x) done ≡ false → (number (joined ss x) == number t.1.entry) ≡ false
@@ -171,32 +171,32 @@ module _ (use_first : Bool) (number : TextEntry → ℕ) (congr : (a b : TextEnt
           other false e = refl
 
         found : (b : Bool) → list_any (same_message x) done ≡ b
-            → woven number (t ∷ ts) (map (joined ss) (firsts_after done xs)) rest ≡ unnamed t.0 ++ woven number ts (map (joined ss) (firsts_after done xs)) rest
-            → woven number (t ∷ ts) (map (joined ss) (if b then firsts_after done xs else x ∷ firsts_after (done ++ x ∷ []) xs)) rest
-            ≡ unnamed t.0 ++ woven number ts (map (joined ss) (if b then firsts_after done xs else x ∷ firsts_after (done ++ x ∷ []) xs)) rest
+            → interleaved number (t ∷ ts) (map (joined ss) (firsts_after done xs)) rest ≡ unnamed t.0 ++ interleaved number ts (map (joined ss) (firsts_after done xs)) rest
+            → interleaved number (t ∷ ts) (map (joined ss) (if b then firsts_after done xs else x ∷ firsts_after (done ++ x ∷ []) xs)) rest
+            ≡ unnamed t.0 ++ interleaved number ts (map (joined ss) (if b then firsts_after done xs else x ∷ firsts_after (done ++ x ∷ []) xs)) rest
         found true e more = more
         found false e more =
             let ms = map (joined ss) (firsts_after (done ++ x ∷ []) xs) in
-            ap (λ (b : Bool). unnamed t.0 ++ (if b then joined ss x ∷ woven number ts ms rest else woven number ts (joined ss x ∷ ms) rest)) (differ e)
+            ap (λ (b : Bool). unnamed t.0 ++ (if b then joined ss x ∷ interleaved number ts ms rest else interleaved number ts (joined ss x ∷ ms) rest)) (differ e)
 
       record Walks (ts : List Segment) (rest done_all done : List NamedEntry) : Type 0 where
         same_done : (s : NamedEntry) → shared s ≡ true → list_any (same_message s) done_all ≡ list_any (same_message s) done
-        are_new : All (λ d. list_any (same_message d) done_all ≡ false) (alone ts rest)
-        apart : Apart same_message (alone ts rest)
-        themselves : All (λ d. joined es d ≡ d.entry) (alone ts rest)
-        not_shared : All (λ d. shared d ≡ false) (alone ts rest)
-        are_shared : All (λ s. shared s ≡ true) (lasts ts)
+        are_new : All (λ d. list_any (same_message d) done_all ≡ false) (single_entries ts rest)
+        apart : Apart same_message (single_entries ts rest)
+        themselves : All (λ d. joined es d ≡ d.entry) (single_entries ts rest)
+        not_shared : All (λ d. shared d ≡ false) (single_entries ts rest)
+        are_shared : All (λ s. shared s ≡ true) (last_entries ts)
 
       walk : (ts : List Segment) (rest done_all done : List NamedEntry) → Walks ts rest done_all done
-          → map (joined es) (firsts_after done_all (spread ts rest)) ≡ woven number ts (map (joined ss) (firsts_after done (lasts ts))) rest
+          → map (joined es) (firsts_after done_all (segment_entries ts rest)) ≡ interleaved number ts (map (joined ss) (firsts_after done (last_entries ts))) rest
       walk [] rest done_all done h =
           ap (map (joined es)) (ap (firsts_after done_all) (sym (append-nil rest)) ∙ run done_all rest [] h.are_new h.apart ∙ append-nil rest)
           ∙ map_on (joined es) (λ (d : NamedEntry). d.entry) rest h.themselves
       walk (t ∷ ts) rest done_all done h =
-          ap (map (joined es)) (run done_all ds (s ∷ spread ts rest) (All-left New ds (alone ts rest) h.are_new) (apart_left ds (alone ts rest) h.apart))
-          ∙ map-append (joined es) ds (firsts_after (done_all ++ ds) (s ∷ spread ts rest))
-          ∙ ap (λ (l : List TextEntry). l ++ map (joined es) (firsts_after (done_all ++ ds) (s ∷ spread ts rest)))
-          (map_on (joined es) (λ (d : NamedEntry). d.entry) ds (All-left (λ d. joined es d ≡ d.entry) ds (alone ts rest) h.themselves))
+          ap (map (joined es)) (run done_all ds (s ∷ segment_entries ts rest) (All-left New ds (single_entries ts rest) h.are_new) (apart_left ds (single_entries ts rest) h.apart))
+          ∙ map-append (joined es) ds (firsts_after (done_all ++ ds) (s ∷ segment_entries ts rest))
+          ∙ ap (λ (l : List TextEntry). l ++ map (joined es) (firsts_after (done_all ++ ds) (s ∷ segment_entries ts rest)))
+          (map_on (joined es) (λ (d : NamedEntry). d.entry) ds (All-left (λ d. joined es d ≡ d.entry) ds (single_entries ts rest) h.themselves))
           ∙ found (list_any (same_message s) done) refl (walk ts rest (done_all ++ ds) done) (walk ts rest ((done_all ++ ds) ++ s ∷ []) (done ++ s ∷ [])) where
             ds : List NamedEntry
             ds = t.0
@@ -205,40 +205,40 @@ module _ (use_first : Bool) (number : TextEntry → ℕ) (congr : (a b : TextEnt
             s = t.1
 
             among : shared s ≡ true
-            among = All-head (λ x. shared x ≡ true) s (lasts ts) h.are_shared
+            among = All-head (λ x. shared x ≡ true) s (last_entries ts) h.are_shared
 
             New : NamedEntry → Type 0
             New d = list_any (same_message d) done_all ≡ false
 
             none_in : (x : NamedEntry) → shared x ≡ true → list_any (same_message x) ds ≡ false
-            none_in x is = list_any_none (same_message x) ds (λ k d below. not_same x (get_or ds k d) is (All-left (λ y. shared y ≡ false) ds (alone ts rest) h.not_shared k d below))
+            none_in x is = list_any_none (same_message x) ds (λ k d below. not_same x (get_or ds k d) is (All-left (λ y. shared y ≡ false) ds (single_entries ts rest) h.not_shared k d below))
 
             same_after : (x : NamedEntry) → shared x ≡ true → list_any (same_message x) (done_all ++ ds) ≡ list_any (same_message x) done
             same_after x is = list_any-append (same_message x) done_all ds ∙ ap₂ (λ (a b : Bool). a || b) (h.same_done x is) (none_in x is) ∙ or_false (list_any (same_message x) done)
 
-            new_after : All (λ d. list_any (same_message d) (done_all ++ ds) ≡ false) (alone ts rest)
+            new_after : All (λ d. list_any (same_message d) (done_all ++ ds) ≡ false) (single_entries ts rest)
             new_after k d below =
-                let x = get_or (alone ts rest) k d in
-                list_any-append (same_message x) done_all ds ∙ ap₂ (λ (a b : Bool). a || b) (All-right New ds (alone ts rest) h.are_new k d below) (apart_cross ds (alone ts rest) h.apart k d below)
+                let x = get_or (single_entries ts rest) k d in
+                list_any-append (same_message x) done_all ds ∙ ap₂ (λ (a b : Bool). a || b) (All-right New ds (single_entries ts rest) h.are_new k d below) (apart_cross ds (single_entries ts rest) h.apart k d below)
 
-            others_not : All (λ d. shared d ≡ false) (alone ts rest)
-            others_not = All-right (λ y. shared y ≡ false) ds (alone ts rest) h.not_shared
+            others_not : All (λ d. shared d ≡ false) (single_entries ts rest)
+            others_not = All-right (λ y. shared y ≡ false) ds (single_entries ts rest) h.not_shared
 
             seen : Walks ts rest (done_all ++ ds) done
             seen = record {
               same_done = same_after;
               are_new = new_after;
-              apart = apart_right ds (alone ts rest) h.apart;
-              themselves = All-right (λ d. joined es d ≡ d.entry) ds (alone ts rest) h.themselves;
+              apart = apart_right ds (single_entries ts rest) h.apart;
+              themselves = All-right (λ d. joined es d ≡ d.entry) ds (single_entries ts rest) h.themselves;
               not_shared = others_not;
-              are_shared = All-tail (λ x. shared x ≡ true) s (lasts ts) h.are_shared;
+              are_shared = All-tail (λ x. shared x ≡ true) s (last_entries ts) h.are_shared;
             }
 
             fresh : Walks ts rest ((done_all ++ ds) ++ s ∷ []) (done ++ s ∷ [])
             fresh = record {
               same_done = λ x is. list_any-append (same_message x) (done_all ++ ds) (s ∷ []) ∙ ap (λ (b : Bool). b || list_any (same_message x) (s ∷ [])) (same_after x is) ∙ sym (list_any-append (same_message x) done (s ∷ []));
               are_new = λ k d below.
-                  let x = get_or (alone ts rest) k d in
+                  let x = get_or (single_entries ts rest) k d in
                   list_any-append (same_message x) (done_all ++ ds) (s ∷ []) ∙ ap₂ (λ (a b : Bool). a || (b || false)) (new_after k d below) (same_message_laws.symm x s ∙ not_same s x among (others_not k d below));
               apart = seen.apart;
               themselves = seen.themselves;
@@ -247,36 +247,36 @@ module _ (use_first : Bool) (number : TextEntry → ℕ) (congr : (a b : TextEnt
             }
 
             found : (b : Bool) → list_any (same_message s) done ≡ b
-                → (Walks ts rest (done_all ++ ds) done → map (joined es) (firsts_after (done_all ++ ds) (spread ts rest)) ≡ woven number ts (map (joined ss) (firsts_after done (lasts ts))) rest)
-                → (Walks ts rest ((done_all ++ ds) ++ s ∷ []) (done ++ s ∷ []) → map (joined es) (firsts_after ((done_all ++ ds) ++ s ∷ []) (spread ts rest)) ≡ woven number ts (map (joined ss) (firsts_after (done ++ s ∷ []) (lasts ts))) rest)
-                → unnamed ds ++ map (joined es) (firsts_after (done_all ++ ds) (s ∷ spread ts rest)) ≡ woven number (t ∷ ts) (map (joined ss) (firsts_after done (s ∷ lasts ts))) rest
+                → (Walks ts rest (done_all ++ ds) done → map (joined es) (firsts_after (done_all ++ ds) (segment_entries ts rest)) ≡ interleaved number ts (map (joined ss) (firsts_after done (last_entries ts))) rest)
+                → (Walks ts rest ((done_all ++ ds) ++ s ∷ []) (done ++ s ∷ []) → map (joined es) (firsts_after ((done_all ++ ds) ++ s ∷ []) (segment_entries ts rest)) ≡ interleaved number ts (map (joined ss) (firsts_after (done ++ s ∷ []) (last_entries ts))) rest)
+                → unnamed ds ++ map (joined es) (firsts_after (done_all ++ ds) (s ∷ segment_entries ts rest)) ≡ interleaved number (t ∷ ts) (map (joined ss) (firsts_after done (s ∷ last_entries ts))) rest
             found true e old new =
-                ap (λ (b : Bool). unnamed ds ++ map (joined es) (if b then firsts_after (done_all ++ ds) (spread ts rest) else s ∷ firsts_after ((done_all ++ ds) ++ s ∷ []) (spread ts rest))) (same_after s among ∙ e)
+                ap (λ (b : Bool). unnamed ds ++ map (joined es) (if b then firsts_after (done_all ++ ds) (segment_entries ts rest) else s ∷ firsts_after ((done_all ++ ds) ++ s ∷ []) (segment_entries ts rest))) (same_after s among ∙ e)
                 ∙ ap (λ (l : List TextEntry). unnamed ds ++ l) (old seen)
-                ∙ sym (passed t ts rest done (lasts ts) e among seen.are_shared)
-                ∙ sym (ap (λ (b : Bool). woven number (t ∷ ts) (map (joined ss) (if b then firsts_after done (lasts ts) else s ∷ firsts_after (done ++ s ∷ []) (lasts ts))) rest) e)
+                ∙ sym (passed t ts rest done (last_entries ts) e among seen.are_shared)
+                ∙ sym (ap (λ (b : Bool). interleaved number (t ∷ ts) (map (joined ss) (if b then firsts_after done (last_entries ts) else s ∷ firsts_after (done ++ s ∷ []) (last_entries ts))) rest) e)
             found false e old new =
-                let ms = map (joined ss) (firsts_after (done ++ s ∷ []) (lasts ts)) in
-                ap (λ (b : Bool). unnamed ds ++ map (joined es) (if b then firsts_after (done_all ++ ds) (spread ts rest) else s ∷ firsts_after ((done_all ++ ds) ++ s ∷ []) (spread ts rest))) (same_after s among ∙ e)
+                let ms = map (joined ss) (firsts_after (done ++ s ∷ []) (last_entries ts)) in
+                ap (λ (b : Bool). unnamed ds ++ map (joined es) (if b then firsts_after (done_all ++ ds) (segment_entries ts rest) else s ∷ firsts_after ((done_all ++ ds) ++ s ∷ []) (segment_entries ts rest))) (same_after s among ∙ e)
                 ∙ ap₂ (λ (x : TextEntry) (l : List TextEntry). unnamed ds ++ x ∷ l) (same_joined s among) (new fresh)
-                ∙ sym (ap (λ (b : Bool). unnamed ds ++ (if b then joined ss s ∷ woven number ts ms rest else woven number ts (joined ss s ∷ ms) rest)) (fits s s among among ∙ same_message_laws.refl s))
-                ∙ sym (ap (λ (b : Bool). woven number (t ∷ ts) (map (joined ss) (if b then firsts_after done (lasts ts) else s ∷ firsts_after (done ++ s ∷ []) (lasts ts))) rest) e)
+                ∙ sym (ap (λ (b : Bool). unnamed ds ++ (if b then joined ss s ∷ interleaved number ts ms rest else interleaved number ts (joined ss s ∷ ms) rest)) (fits s s among among ∙ same_message_laws.refl s))
+                ∙ sym (ap (λ (b : Bool). interleaved number (t ∷ ts) (map (joined ss) (if b then firsts_after done (last_entries ts) else s ∷ firsts_after (done ++ s ∷ []) (last_entries ts))) rest) e)
 
-  group_alone : (ts : List Segment) (rest : List NamedEntry) (d : NamedEntry) → All (λ s. same_message s d ≡ false) (lasts ts) → group_of same_message (spread ts rest) d ≡ group_of same_message (alone ts rest) d
+  group_alone : (ts : List Segment) (rest : List NamedEntry) (d : NamedEntry) → All (λ s. same_message s d ≡ false) (last_entries ts) → group_of same_message (segment_entries ts rest) d ≡ group_of same_message (single_entries ts rest) d
   group_alone [] rest d h = refl
   group_alone (t ∷ ts) rest d h =
-      filter-append (λ x. same_message x d) t.0 (t.1 ∷ spread ts rest)
+      filter-append (λ x. same_message x d) t.0 (t.1 ∷ segment_entries ts rest)
       ∙ ap (λ (l : List NamedEntry). group_of same_message t.0 d ++ l)
-      (ap (λ (b : Bool). cond b (t.1 ∷ group_of same_message (spread ts rest) d) (group_of same_message (spread ts rest) d)) (All-head (λ s. same_message s d ≡ false) t.1 (lasts ts) h)
-      ∙ group_alone ts rest d (All-tail (λ s. same_message s d ≡ false) t.1 (lasts ts) h))
-      ∙ sym (filter-append (λ x. same_message x d) t.0 (alone ts rest))
+      (ap (λ (b : Bool). cond b (t.1 ∷ group_of same_message (segment_entries ts rest) d) (group_of same_message (segment_entries ts rest) d)) (All-head (λ s. same_message s d ≡ false) t.1 (last_entries ts) h)
+      ∙ group_alone ts rest d (All-tail (λ s. same_message s d ≡ false) t.1 (last_entries ts) h))
+      ∙ sym (filter-append (λ x. same_message x d) t.0 (single_entries ts rest))
 
-  group_lasts : (ts : List Segment) (rest : List NamedEntry) (s : NamedEntry) → All (λ d. same_message d s ≡ false) (alone ts rest) → group_of same_message (spread ts rest) s ≡ group_of same_message (lasts ts) s
+  group_lasts : (ts : List Segment) (rest : List NamedEntry) (s : NamedEntry) → All (λ d. same_message d s ≡ false) (single_entries ts rest) → group_of same_message (segment_entries ts rest) s ≡ group_of same_message (last_entries ts) s
   group_lasts [] rest s h = none_pass (λ x. same_message x s) rest h
   group_lasts (t ∷ ts) rest s h =
-      filter-append (λ x. same_message x s) t.0 (t.1 ∷ spread ts rest)
-      ∙ ap₂ (λ (l m : List NamedEntry). l ++ m) (none_pass (λ x. same_message x s) t.0 (All-left (λ d. same_message d s ≡ false) t.0 (alone ts rest) h))
-      (ap (λ (l : List NamedEntry). cond (same_message t.1 s) (t.1 ∷ l) l) (group_lasts ts rest s (All-right (λ d. same_message d s ≡ false) t.0 (alone ts rest) h)))
+      filter-append (λ x. same_message x s) t.0 (t.1 ∷ segment_entries ts rest)
+      ∙ ap₂ (λ (l m : List NamedEntry). l ++ m) (none_pass (λ x. same_message x s) t.0 (All-left (λ d. same_message d s ≡ false) t.0 (single_entries ts rest) h))
+      (ap (λ (l : List NamedEntry). cond (same_message t.1 s) (t.1 ∷ l) l) (group_lasts ts rest s (All-right (λ d. same_message d s ≡ false) t.0 (single_entries ts rest) h)))
 
   abbrev number_in : NamedEntry → ℕ
   number_in d = number d.entry
@@ -294,15 +294,15 @@ module _ (use_first : Bool) (number : TextEntry → ℕ) (congr : (a b : TextEnt
     differ k x below false e = refl
 
   module _ (ts : List Segment) (rest : List NamedEntry)
-      (distinct : AllPairs (λ a b. a ≢ b) (map number_in (alone ts rest) ++ map number (merged_messages o (map definitions (groups (lasts ts)))))) where
+      (distinct : AllPairs (λ a b. a ≢ b) (map number_in (single_entries ts rest) ++ map number (merged_messages o (map definitions (groups (last_entries ts)))))) where
     abbrev ss : List NamedEntry
-    ss = lasts ts
+    ss = last_entries ts
 
     abbrev es : List NamedEntry
-    es = spread ts rest
+    es = segment_entries ts rest
 
     abbrev ones : List NamedEntry
-    ones = alone ts rest
+    ones = single_entries ts rest
 
     abbrev firsts : List NamedEntry
     firsts = first_ones same_message ss
@@ -390,8 +390,8 @@ module _ (use_first : Bool) (number : TextEntry → ℕ) (congr : (a b : TextEnt
         (group_alone ts rest d (λ m y within. not_same es ss (get_or ss m y) d (are_shared m y within) (not_shared k x below)) ∙ alone_apart ones apart_ones k x below)
         ∙ ap (merged_entry o) (one_live d) ∙ one_definition o d
 
-    pub weave : merged_messages o (map definitions (groups (spread ts rest))) ≡ woven number ts (merged_messages o (map definitions (groups (lasts ts)))) rest
-    weave =
+    pub interleave : merged_messages o (map definitions (groups (segment_entries ts rest))) ≡ interleaved number ts (merged_messages o (map definitions (groups (last_entries ts)))) rest
+    interleave =
         all_joined es ∙ ap (map (joined es)) (fold_after [] es)
         ∙ walk es ss fits same_joined ts rest [] [] (record {
           same_done = λ s among. refl;
@@ -401,19 +401,19 @@ module _ (use_first : Bool) (number : TextEntry → ℕ) (congr : (a b : TextEnt
           not_shared = not_shared;
           are_shared = are_shared;
         })
-        ∙ sym (ap (λ (l : List TextEntry). woven number ts l rest) (all_joined ss ∙ ap (map (joined ss)) (fold_after [] ss)))
+        ∙ sym (ap (λ (l : List TextEntry). interleaved number ts l rest) (all_joined ss ∙ ap (map (joined ss)) (fold_after [] ss)))
 
-pub woven_all : (P : TextEntry → Type 0) (number : TextEntry → ℕ) (ts : List Segment) (merged : List TextEntry) (rest : List NamedEntry) → All (λ d. P d.entry) (alone ts rest) → All P merged → All P (woven number ts merged rest)
-woven_all P number [] merged rest ones h = All-map P (λ (d : NamedEntry). d.entry) rest ones
-woven_all P number (t ∷ ts) [] rest ones h =
-    All-append P (unnamed t.0) (woven number ts [] rest) (All-map P (λ (d : NamedEntry). d.entry) t.0 (All-left (λ d. P d.entry) t.0 (alone ts rest) ones))
-    (woven_all P number ts [] rest (All-right (λ d. P d.entry) t.0 (alone ts rest) ones) h)
-woven_all P number (t ∷ ts) (m ∷ merged) rest ones h =
-    All-append P (unnamed t.0) _ (All-map P (λ (d : NamedEntry). d.entry) t.0 (All-left (λ d. P d.entry) t.0 (alone ts rest) ones))
-    (found (number m == number t.1.entry) (woven_all P number ts merged rest others (All-tail P m merged h)) (woven_all P number ts (m ∷ merged) rest others h)) where
-      others : All (λ d. P d.entry) (alone ts rest)
-      others = All-right (λ d. P d.entry) t.0 (alone ts rest) ones
+pub interleaved_all : (P : TextEntry → Type 0) (number : TextEntry → ℕ) (ts : List Segment) (merged : List TextEntry) (rest : List NamedEntry) → All (λ d. P d.entry) (single_entries ts rest) → All P merged → All P (interleaved number ts merged rest)
+interleaved_all P number [] merged rest ones h = All-map P (λ (d : NamedEntry). d.entry) rest ones
+interleaved_all P number (t ∷ ts) [] rest ones h =
+    All-append P (unnamed t.0) (interleaved number ts [] rest) (All-map P (λ (d : NamedEntry). d.entry) t.0 (All-left (λ d. P d.entry) t.0 (single_entries ts rest) ones))
+    (interleaved_all P number ts [] rest (All-right (λ d. P d.entry) t.0 (single_entries ts rest) ones) h)
+interleaved_all P number (t ∷ ts) (m ∷ merged) rest ones h =
+    All-append P (unnamed t.0) _ (All-map P (λ (d : NamedEntry). d.entry) t.0 (All-left (λ d. P d.entry) t.0 (single_entries ts rest) ones))
+    (found (number m == number t.1.entry) (interleaved_all P number ts merged rest others (All-tail P m merged h)) (interleaved_all P number ts (m ∷ merged) rest others h)) where
+      others : All (λ d. P d.entry) (single_entries ts rest)
+      others = All-right (λ d. P d.entry) t.0 (single_entries ts rest) ones
 
-      found : (b : Bool) → All P (woven number ts merged rest) → All P (woven number ts (m ∷ merged) rest) → All P (if b then m ∷ woven number ts merged rest else woven number ts (m ∷ merged) rest)
-      found true fewer all = All-cons P m (woven number ts merged rest) (All-head P m merged h) fewer
+      found : (b : Bool) → All P (interleaved number ts merged rest) → All P (interleaved number ts (m ∷ merged) rest) → All P (if b then m ∷ interleaved number ts merged rest else interleaved number ts (m ∷ merged) rest)
+      found true fewer all = All-cons P m (interleaved number ts merged rest) (All-head P m merged h) fewer
       found false fewer all = all
