@@ -45,7 +45,11 @@ fn add_next<'a>(
 }
 
 /// The texts of the segments, and each merged entry where it stands first.
-fn interleave(alloc: Global, texts: &SegmentTexts, merged: &[Entry]) -> Result<TextParts, AllocError>
+fn interleave(
+    alloc: Global,
+    texts: &SegmentTexts,
+    merged: &[Entry],
+) -> Result<TextParts, AllocError>
     ensures { IfOk result (λ parts. (segments : List Segment) (after : List NamedEntry)
         → AreSegmentTexts segments after texts.now → AreParts (interleaved digest segments merged.now after) parts) }
 {
