@@ -1,6 +1,5 @@
 //! Texts that are read, each with what its entries hold.
 
-mod order;
 mod pieces;
 mod refused;
 
