@@ -2,8 +2,7 @@
 use Rattle.std.proofs.Common.{◌≡◌, ℕ, zero, suc, ◌+◌, ◌-◌, ◌<◌, ◌≤◌, List, [], ◌∷◌, ◌++◌, length, take, drop, get_or, Option, refl, sym, ap, subst, ◌∙◌, append_assoc, take-append-drop, arith}
 use Rattle.std.specs.List.{position_or_len}
 use Rattle.std.proofs.lemmas.List.{drop-append-le, drop-drop, take_rest}
-use Rattle.std.proofs.KnownBytes.{Appends-nil, Appends-trans, Appends-kept}
-use Rattle.std.specs.Io.KnownBytes.{Keeps}
+use Rattle.std.proofs.KnownBytes.{Appends-nil, Appends-trans}
 use Rattle.memchr.specs.Find.{is_byte}
 use Rattle.po_shell.specs.Device.{AppendsPrefix}
 use Rattle.po_shell.specs.Substitution.{Values, substitution}
@@ -38,14 +37,6 @@ Stops-after values a b first second third p q = record {
   prefix = λ rest. ((q.prefix rest).0, p.passes rest ∙ ap (λ l. p.written ++ l) (q.prefix rest).1 ∙ sym (append_assoc p.written q.written (q.prefix rest).0));
 }
 
--- where nothing was written
-pub Stops-none : (values : Values) (text : List ℕ) (old new : Option (List ℕ)) → Keeps old new → Stops values text old new
-Stops-none values text old new keeps = record {
-  written = [];
-  appends = Appends-kept old old new [] (Appends-nil old) keeps;
-  prefix = λ rest. (substitution values (text ++ rest), refl);
-}
-
 -- a prefix of what comes out first
 pub Stops-out : (values : Values) (a b out : List ℕ) (old new : Option (List ℕ)) → ((rest : List ℕ) → substitution values (a ++ rest) ≡ out ++ substitution values (b ++ rest)) → AppendsPrefix old new out → Stops values a old new
 Stops-out values a b out old new passes part = record {
@@ -62,7 +53,7 @@ pub Stops-seen : (values : Values) (held seen piece : List ℕ) (old new : Optio
 Stops-seen values held seen piece old new same p = subst (λ h. Stops values (h ++ piece) old new) same p
 
 -- the bytes held and the next one, and the piece that it begins
-pub out-piece : (values : Values) (held out : List ℕ) (next taken : ℕ) (piece : List ℕ) → piece ≡ next ∷ drop 1 piece → taken ≤ 1
+out-piece : (values : Values) (held out : List ℕ) (next taken : ℕ) (piece : List ℕ) → piece ≡ next ∷ drop 1 piece → taken ≤ 1
     → ((rest : List ℕ) → substitution values (held ++ (next ∷ rest)) ≡ out ++ substitution values (drop taken (next ∷ rest)))
     → (rest : List ℕ) → substitution values ((held ++ piece) ++ rest) ≡ out ++ substitution values (drop taken piece ++ rest)
 out-piece values held out next taken piece e fits passes rest =
@@ -94,7 +85,7 @@ begun-out values piece out n taken within fits passes rest =
     ∙ ap (λ p. out ++ substitution values (p ++ rest)) (drop-drop taken n piece)
 
 -- the first byte of a piece, and the others
-pub piece-split : (piece : List ℕ) (d : ℕ) → 0 < length piece → piece ≡ get_or piece 0 d ∷ drop 1 piece
+piece-split : (piece : List ℕ) (d : ℕ) → 0 < length piece → piece ≡ get_or piece 0 d ∷ drop 1 piece
 piece-split [] d some = absurd (omega arith)
 piece-split (b ∷ bs) d some = refl
 

@@ -19,8 +19,8 @@ pub struct Failing<D> {
 
 impl<D> Failing<D> {
     /// The device that fails at the call of this number, counted from 1, and at no other; with 0 no
-    /// call fails. Each other call moves `most_bytes` bytes at most; a reader moves one where `most_bytes` is
-    /// 0.
+    /// call fails. Each other call moves `most_bytes` bytes at most; a reader moves one where
+    /// `most_bytes` is 0.
     pub fn new(inner: D, failing_call: u64, most_bytes: usize) -> Self
         ensures inner { failing_inner result ≡ inner }
         ensures call { failing_calls_before result
