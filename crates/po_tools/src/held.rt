@@ -64,13 +64,27 @@ impl Held {
     }
 
     /// Writes an entry with this digest.
-    fn write(&mut self, entry: &Entry, number: u64) -> Result<(), AllocError>
-        requires { number ≡ digest entry.now }
-        ensures { OnOk result ((name : List ℕ) (entries kept : List NamedEntry) → HasAdmittedCharset entry.now
-            → IsHeld self.old entries kept → IsHeld self.new (entries ++ named name entry.now ∷ []) kept) }
+    fn write(&mut self, entry: Entry, number: u64) -> Result<(), AllocError>
+        requires { number ≡ digest entry }
+        ensures { OnOk result ((name : List ℕ) (entries kept : List NamedEntry) → HasAdmittedCharset entry
+            → IsHeld self.old entries kept → IsHeld self.new (entries ++ named name entry ∷ []) kept) }
     {
         self.digests.push(number)?;
-        self.texts.write(entry)
+        self.texts.write(&entry)
+    }
+
+    /// Keeps an entry with this digest, after those that are written.
+    fn keep(&mut self, current: &mut Catalogue, entry: Entry, number: u64) -> Result<(), AllocError>
+        requires { number ≡ digest entry }
+        ensures { OnOk result ((name : List ℕ) (entries kept : List NamedEntry)
+            → IsHeld self.old entries (kept ++ map (named name) current.old)
+            → IsHeld self.new (entries ++ named name entry ∷ []) (kept ++ map (named name) current.new)) }
+    {
+        self.texts.end_segment(number)?;
+        let Ok(()) = current.push(entry) else {
+            return Err(AllocError);
+        };
+        Ok(())
     }
 
     /// Adds an entry, which is kept or written, and its digest.
@@ -88,14 +102,11 @@ impl Held {
     {
         let number = digest(&entry);
         digests.push(number)?;
-        if !is_kept {
-            return self.write(&entry, number);
+        if is_kept {
+            self.keep(current, entry, number)
+        } else {
+            self.write(entry, number)
         }
-        self.texts.end_segment(number)?;
-        let Ok(()) = current.push(entry) else {
-            return Err(AllocError);
-        };
-        Ok(())
     }
 
     /// Adds the entries of a piece of a text, of which those at these places are kept, and the digests of all.

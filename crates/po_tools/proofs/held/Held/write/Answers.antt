@@ -6,5 +6,5 @@ pub returns : goal.returns
 returns c =
     on_ok_weaker c.write.result
     (λ written name entries kept valid h.
-    held_written c.args.self.now c.write.new.self c.push.new.self c.args.number name c.args.entry.now entries kept valid c.requires written c.in_ok-push.ensures.items h)
+    held_written c.args.self.now c.write.new.self c.push.new.self c.args.number name c.args.entry entries kept valid c.requires written c.in_ok-push.ensures.items h)
     c.write.ensures

@@ -3,15 +3,15 @@ use Rattle.std.proofs.lemmas.List.{map-append}
 use Rattle.po_merge.specs.Inputs.{named}
 use Rattle.po_tools.specs.Held.{IsHeld}
 use Rattle.po_tools.proofs.HeldLemmas.{held_ended}
-use Rattle.po_tools.proofs.held.Held.add.Goals as goal
+use Rattle.po_tools.proofs.held.Held.keep.Goals as goal
 
-pub returns-clause-held : goal.returns-clause-held
-returns-clause-held c =
-    λ name entries kept valid h.
+pub returns : goal.returns
+returns c =
+    λ name entries kept h.
     let before = c.args.current.now in
     let entry = c.args.entry in
     let old = c.args.self.now in
     let texts = c.end_segment.new.self in
     let more = ap (λ l. kept ++ map (named name) l) c.in-Ok.ensures.ok ∙ ap (λ l. kept ++ l) (map-append (named name) before (entry ∷ [])) ∙ sym (append_assoc kept (map (named name) before) (named name entry ∷ [])) in
     subst (IsHeld (record { texts = texts; digests = old.digests }) (entries ++ named name entry ∷ [])) (sym more)
-    (held_ended old texts c.digest-number.result name entry entries (kept ++ map (named name) before) c.digest-number.ensures c.in_ok-end_segment.ensures h)
+    (held_ended old texts c.args.number name entry entries (kept ++ map (named name) before) c.requires c.in_ok-end_segment.ensures h)
