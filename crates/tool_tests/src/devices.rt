@@ -1,72 +1,103 @@
 //! Readers and writers that fail or move few bytes a call: what is reported, and what has gone out.
 
-use mo_file::Order;
 use po_shell::{
     Counted, Failing, Substituter, ToolFault, put_all, read_input, run_envsubst,
     run_envsubst_in_blocks,
 };
-use po_tools::{MsgfmtOptions, Run, deliver, run_msgfmt};
-use std::alloc::Global;
-
-const STATISTICS: MsgfmtOptions = MsgfmtOptions {
-    use_fuzzy: false,
-    order: Order::Little,
-    statistics: true,
-    profile_check: false,
-};
-
-const ONE_MESSAGE: &[u8] = b"msgid \"a\"\nmsgstr \"b\"\n";
-
-const ONE_FILE: &[u8] =
-    b"\xde\x12\x04\x95\0\0\0\0\x01\0\0\0\x1c\0\0\0\x24\0\0\0\0\0\0\0\x2c\0\0\0\x01\0\0\0\x2c\0\0\0\x01\0\0\0\x2e\0\0\0a\0b\0";
+use po_tools::{Run, deliver};
+use std::alloc::{AllocError, Global};
+use std::test::Fail;
 
 /// What is read by single bytes.
 const THREE_BYTES: &[u8] = b"ab$";
 
-/// A text with two references, what each stands for, and what comes of it.
+/// A text with two references.
 const REFERENCES: &[u8] = b"$A and ${A}";
 
-const VARIABLES: &[(&[u8], &[u8])] = &[(b"A", b"v")];
-
+/// What comes of it where `$A` stands for `v`.
 const REPLACED: &[u8] = b"v and v";
+
+const A: &[(&[u8], &[u8])] = &[(b"A", b"v")];
+
+const READ_FAULT: Result<(), ToolFault> = Err(ToolFault::ReadFault);
 
 const WRITE_FAULT: Result<(), ToolFault> = Err(ToolFault::WriteFault);
 
-/// The call of the reader that fails, how many bytes a call gives, the text, what `$A` stands for,
-/// what is reported, and what has gone out.
-const READS: &[(
-    u64,
-    usize,
-    &[u8],
-    &[(&[u8], &[u8])],
+/// The call of a device that fails, 0 for none, and how many bytes a call moves.
+type Calls = (u64, usize);
+
+/// No call fails, and each moves one byte.
+const WELL: Calls = (0, 1);
+
+/// A text and the variables, the calls of the reader and of the writer, what is reported, and what
+/// has gone out where each piece is written at once.
+type Substitution = (
+    &'static [u8],
+    &'static [(&'static [u8], &'static [u8])],
+    Calls,
+    Calls,
     Result<(), ToolFault>,
-    &[u8],
-)] = &[
-    (0, 1, b"$A and $A", &[(b"A", b"v")], Ok(()), b"v and v"),
-    (0, 2, b"$A and $A", &[(b"A", b"v")], Ok(()), b"v and v"),
-    (0, 3, b"$A and $A", &[(b"A", b"v")], Ok(()), b"v and v"),
-    (1, 1, THREE_BYTES, &[], Err(ToolFault::ReadFault), b""),
-    (2, 1, THREE_BYTES, &[], Err(ToolFault::ReadFault), b"a"),
-    (3, 1, THREE_BYTES, &[], Err(ToolFault::ReadFault), b"ab"),
-    (4, 1, THREE_BYTES, &[], Err(ToolFault::ReadFault), b"ab"),
+    &'static [u8],
+);
+
+const SUBSTITUTIONS: &[Substitution] = &[
+    (b"$A and $A", A, (0, 1), (0, 7), Ok(()), b"v and v"),
+    (b"$A and $A", A, (0, 2), (0, 7), Ok(()), b"v and v"),
+    (b"$A and $A", A, (0, 3), (0, 7), Ok(()), b"v and v"),
+    (THREE_BYTES, &[], (1, 1), (0, 3), READ_FAULT, b""),
+    (THREE_BYTES, &[], (2, 1), (0, 3), READ_FAULT, b"a"),
+    (THREE_BYTES, &[], (3, 1), (0, 3), READ_FAULT, b"ab"),
+    (THREE_BYTES, &[], (4, 1), (0, 3), READ_FAULT, b"ab"),
+    (REFERENCES, A, (1, 1), WELL, READ_FAULT, b""),
+    (REFERENCES, A, (2, 1), WELL, READ_FAULT, b""),
+    (REFERENCES, A, (3, 1), WELL, READ_FAULT, b""),
+    (REFERENCES, A, (4, 1), WELL, READ_FAULT, b"v "),
+    (REFERENCES, A, (5, 1), WELL, READ_FAULT, b"v a"),
+    (REFERENCES, A, (6, 1), WELL, READ_FAULT, b"v an"),
+    (REFERENCES, A, (7, 1), WELL, READ_FAULT, b"v and"),
+    (REFERENCES, A, (8, 1), WELL, READ_FAULT, b"v and "),
+    (REFERENCES, A, (9, 1), WELL, READ_FAULT, b"v and "),
+    (REFERENCES, A, (10, 1), WELL, READ_FAULT, b"v and "),
+    (REFERENCES, A, (11, 1), WELL, READ_FAULT, b"v and "),
+    (REFERENCES, A, (12, 1), WELL, READ_FAULT, REPLACED),
+    (REFERENCES, A, (13, 1), WELL, Ok(()), REPLACED),
+    (REFERENCES, A, (13, 1), (8, 1), Ok(()), REPLACED),
+    (REFERENCES, A, WELL, (1, 1), WRITE_FAULT, b""),
+    (REFERENCES, A, WELL, (2, 1), WRITE_FAULT, b"v"),
+    (REFERENCES, A, WELL, (3, 1), WRITE_FAULT, b"v "),
+    (REFERENCES, A, WELL, (4, 1), WRITE_FAULT, b"v a"),
+    (REFERENCES, A, WELL, (5, 1), WRITE_FAULT, b"v an"),
+    (REFERENCES, A, WELL, (6, 1), WRITE_FAULT, b"v and"),
+    (REFERENCES, A, WELL, (7, 1), WRITE_FAULT, b"v and "),
+    (REFERENCES, A, WELL, (0, 1 << 20), Ok(()), REPLACED),
+    (REFERENCES, A, WELL, (0, 0), WRITE_FAULT, b""),
 ];
 
-/// The call of the writer that fails, how many bytes a call takes, what is reported, and what has
-/// gone out.
-const WRITES: &[(u64, usize, Result<(), ToolFault>, &[u8])] = &[
-    (0, 1, Ok(()), b"ab"),
-    (2, 1, WRITE_FAULT, b"a"),
-    (1, 2, WRITE_FAULT, b""),
-    (0, 0, WRITE_FAULT, b""),
+/// The calls of a writer, what is reported, and what has gone out.
+type Write = (Calls, Result<(), ToolFault>, &'static [u8]);
+
+const WRITES: &[Write] = &[
+    ((0, 1), Ok(()), b"ab"),
+    ((2, 1), WRITE_FAULT, b"a"),
+    ((1, 2), WRITE_FAULT, b""),
+    ((0, 0), WRITE_FAULT, b""),
 ];
 
-/// The same of the writers of the output and of the messages: calls, bytes a call, what is
-/// reported, and what has gone out.
-const DELIVERIES: &[(u64, u64, usize, Result<(), ToolFault>, &[u8], &[u8])] = &[
-    (0, 0, 1, Ok(()), b"ab", b"c"),
-    (2, 0, 1, WRITE_FAULT, b"a", b""),
-    (0, 1, 1, WRITE_FAULT, b"ab", b""),
-    (0, 0, 0, WRITE_FAULT, b"", b""),
+/// The calls of the writers of the output and of the messages, what is reported, and what has gone
+/// out to each.
+type Delivery = (
+    Calls,
+    Calls,
+    Result<(), ToolFault>,
+    &'static [u8],
+    &'static [u8],
+);
+
+const DELIVERIES: &[Delivery] = &[
+    ((0, 1), (0, 1), Ok(()), b"ab", b"c"),
+    ((2, 1), (0, 1), WRITE_FAULT, b"a", b""),
+    ((0, 1), (1, 1), WRITE_FAULT, b"ab", b""),
+    ((0, 0), (0, 0), WRITE_FAULT, b"", b""),
 ];
 
 /// Whether an input is read to this end; `None` is a read fault.
@@ -78,202 +109,100 @@ fn is_read(alloc: Global, failing_call: u64, wanted: Option<&[u8]>) -> bool {
     }
 }
 
-/// Whether envsubst over this reader reports this, and this has gone out.
-fn substitutes(
-    alloc: Global,
-    reader: Failing<&[u8]>,
-    vars: &[(&[u8], &[u8])],
-    reported: Result<(), ToolFault>,
-    written: &[u8],
-) -> bool {
-    let mut writer = Counted::new(Vec::new(alloc));
-    let outcome = run_envsubst(&mut Counted::new(reader), &mut writer, vars, None);
-    let gone_out = writer.into_inner();
-    outcome == reported && gone_out.as_slice() == written
+/// Whether envsubst over such devices reports this, and this has gone out.
+fn substitutes(alloc: Global, row: &Substitution) -> bool {
+    let (text, variables, reads, writes, reported, written) = *row;
+    let mut reader = Counted::new(Failing::new(text, reads.0, reads.1));
+    let mut writer = Counted::new(Failing::new(Vec::new(alloc), writes.0, writes.1));
+    let outcome = run_envsubst(&mut reader, &mut writer, variables, None);
+    outcome == reported && writer.into_inner().into_inner().as_slice() == written
+}
+
+/// Whether envsubst with its output in blocks reports the same; where it reports no fault, all has
+/// gone out.
+fn substitutes_in_blocks(alloc: Global, row: &Substitution) -> bool {
+    let (text, variables, reads, writes, reported, written) = *row;
+    let mut reader = Counted::new(Failing::new(text, reads.0, reads.1));
+    let writer = Failing::new(Vec::new(alloc), writes.0, writes.1);
+    match run_envsubst_in_blocks(alloc, &mut reader, writer, variables, None) {
+        Ok(writer) => reported.is_ok() && writer.into_inner().as_slice() == written,
+        Err(fault) => reported == Err(fault),
+    }
 }
 
 /// Whether `ab` put to such a writer reports this, and this has gone out.
-fn puts(
-    alloc: Global,
-    failing_call: u64,
-    most: usize,
-    reported: Result<(), ToolFault>,
-    written: &[u8],
-) -> bool {
-    let mut writer = Counted::new(Failing::new(Vec::new(alloc), failing_call, most));
+fn puts(alloc: Global, row: &Write) -> bool {
+    let (calls, reported, written) = *row;
+    let mut writer = Counted::new(Failing::new(Vec::new(alloc), calls.0, calls.1));
     let outcome = put_all(&mut writer, b"ab");
-    let gone_out = writer.into_inner().into_inner();
-    outcome == reported && gone_out.as_slice() == written
+    outcome == reported && writer.into_inner().into_inner().as_slice() == written
 }
 
-/// Whether a run with the output `ab` and the message `c`, delivered to such writers, reports this,
-/// and this has gone out to each.
-fn delivers(
-    alloc: Global,
-    out: Failing<Vec<u8>>,
-    err: Failing<Vec<u8>>,
-    reported: Result<(), ToolFault>,
-    output: &[u8],
-    messages: &[u8],
-) -> bool {
-    let mut run = Run {
-        output: Vec::new(alloc),
+/// A run with the output `ab` and the message `c`.
+fn two_texts(alloc: Global) -> Result<Run, AllocError> {
+    Ok(Run {
+        output: Vec::from_slice(alloc, b"ab")?,
         create: true,
-        messages: Vec::new(alloc),
+        messages: Vec::from_slice(alloc, b"c")?,
         status: 0,
-    };
-    let has_room = run.output.extend_from_slice(b"ab").is_ok()
-        && run.messages.extend_from_slice(b"c").is_ok();
-    let mut out = Counted::new(out);
-    let mut err = Counted::new(err);
-    let outcome = deliver(&run, &mut out, &mut err);
-    let gone_out = out.into_inner().into_inner();
-    let gone_to_err = err.into_inner().into_inner();
-    has_room
-        && outcome == reported
-        && gone_out.as_slice() == output
-        && gone_to_err.as_slice() == messages
+    })
 }
 
-/// Whether msgfmt over a reader of one message reports this, and this has gone out.
-fn compiles(
-    alloc: Global,
-    failing_call: u64,
-    reported: Result<u8, ToolFault>,
-    output: &[u8],
-    messages: &[u8],
-) -> bool {
-    let mut reader = Counted::new(Failing::new(ONE_MESSAGE, failing_call, 1));
-    let mut out = Counted::new(Vec::new(alloc));
-    let mut err = Counted::new(Vec::new(alloc));
-    let outcome = run_msgfmt(
-        alloc,
-        &mut reader,
-        &mut out,
-        &mut err,
-        "<stdin>",
-        &STATISTICS,
-    );
-    let gone_out = out.into_inner();
-    let gone_to_err = err.into_inner();
-    outcome == reported && gone_out.as_slice() == output && gone_to_err.as_slice() == messages
+/// Whether a run that is delivered to such writers reports this, and this has gone out to each.
+fn delivers(alloc: Global, run: &Run, row: &Delivery) -> bool {
+    let (to_out, to_err, reported, output, messages) = *row;
+    let mut out = Counted::new(Failing::new(Vec::new(alloc), to_out.0, to_out.1));
+    let mut err = Counted::new(Failing::new(Vec::new(alloc), to_err.0, to_err.1));
+    let outcome = deliver(run, &mut out, &mut err);
+    outcome == reported
+        && out.into_inner().into_inner().as_slice() == output
+        && err.into_inner().into_inner().as_slice() == messages
 }
 
 #[test]
 fn reports_a_reader_that_fails(rt: HostRuntime) {
-    for call in 1..5 {
-        assert!(rt; is_read(rt.alloc(), call, None), "at call {call}");
+    for call in 1..6 {
+        let wanted = if call < 5 { None } else { Some(THREE_BYTES) };
+        assert!(rt; is_read(rt.alloc(), call, wanted), "at call {call}");
     }
-    assert!(rt; is_read(rt.alloc(), 5, Some(THREE_BYTES)));
 }
 
 #[test]
-fn runs_over_a_reader_up_to_its_fault(rt: HostRuntime) {
-    for (call, most, text, vars, reported, written) in READS {
-        let reader = Failing::new(*text, *call, *most);
+fn substitutes_up_to_a_fault(rt: HostRuntime) {
+    for (row, substitution) in SUBSTITUTIONS.iter().enumerate() {
         assert!(rt;
-            substitutes(rt.alloc(), reader, vars, *reported, written),
-            "at call {call}, in pieces of {most}"
+            substitutes(rt.alloc(), substitution)
+                && substitutes_in_blocks(rt.alloc(), substitution),
+            "row {row}"
         );
     }
 }
 
 #[test]
 fn reports_a_writer_that_fails(rt: HostRuntime) {
-    for (call, most, reported, written) in WRITES {
-        assert!(rt;
-            puts(rt.alloc(), *call, *most, *reported, written),
-            "at call {call}, {most} a call"
-        );
+    for (row, write) in WRITES.iter().enumerate() {
+        assert!(rt; puts(rt.alloc(), write), "row {row}");
     }
-}
-
-/// What envsubst reports over devices that move one byte a call, of which these calls fail, and
-/// what has gone out.
-fn substituted(alloc: Global, read: u64, write: u64) -> (Result<(), ToolFault>, Vec<u8>) {
-    let mut reader = Counted::new(Failing::new(REFERENCES, read, 1));
-    let mut writer = Counted::new(Failing::new(Vec::new(alloc), write, 1));
-    let outcome = run_envsubst(&mut reader, &mut writer, VARIABLES, None);
-    (outcome, writer.into_inner().into_inner())
-}
-
-/// Whether envsubst with its output in blocks, over a writer that takes so many bytes a call,
-/// reports this; where it reports no fault, all has gone out.
-fn substitutes_in_blocks(
-    alloc: Global,
-    read: u64,
-    write: u64,
-    most: usize,
-    reported: Result<(), ToolFault>,
-) -> bool {
-    let mut reader = Counted::new(Failing::new(REFERENCES, read, 1));
-    let writer = Failing::new(Vec::new(alloc), write, most);
-    match run_envsubst_in_blocks(alloc, &mut reader, writer, VARIABLES, None) {
-        Ok(written) => reported.is_ok() && written.into_inner().as_slice() == REPLACED,
-        Err(fault) => reported == Err(fault),
-    }
-}
-
-#[test]
-fn each_call_of_envsubst_fails(rt: HostRuntime) {
-    let reads = REFERENCES.len() as u64 + 1;
-    for call in 1..=reads {
-        let (outcome, written) = substituted(rt.alloc(), call, 0);
-        assert!(rt;
-            outcome == Err(ToolFault::ReadFault) && REPLACED.starts_with(&written),
-            "at read {call}"
-        );
-        let fault = Err(ToolFault::ReadFault);
-        assert!(rt;
-            substitutes_in_blocks(rt.alloc(), call, 0, 1, fault),
-            "at read {call}"
-        );
-    }
-    for taken in 0..REPLACED.len() {
-        let call = taken as u64 + 1;
-        let (outcome, written) = substituted(rt.alloc(), 0, call);
-        assert!(rt;
-            outcome == WRITE_FAULT && written.as_slice() == &REPLACED[..taken],
-            "at write {call}"
-        );
-        assert!(rt;
-            substitutes_in_blocks(rt.alloc(), 0, call, 1, WRITE_FAULT),
-            "at write {call}"
-        );
-    }
-    let (outcome, written) = substituted(rt.alloc(), reads + 1, REPLACED.len() as u64 + 1);
-    assert!(rt; outcome.is_ok() && written.as_slice() == REPLACED);
-    assert!(rt; substitutes_in_blocks(rt.alloc(), reads + 1, 0, 1, Ok(())));
-    assert!(rt; substitutes_in_blocks(rt.alloc(), 0, 0, 1 << 20, Ok(())));
-    assert!(rt; substitutes_in_blocks(rt.alloc(), 0, 0, 0, WRITE_FAULT));
 }
 
 #[test]
 fn writes_nothing_after_a_write_fault(rt: HostRuntime) {
     let mut writer = Counted::new(Failing::new(Vec::new(rt.alloc()), 2, 1));
     let mut substituter = Substituter::new(&[], None);
-    let first = substituter.feed(b"ab", &mut writer);
-    let second = substituter.feed(b"c", &mut writer);
-    let last = substituter.finish(&mut writer);
-    assert!(rt; first == WRITE_FAULT && second == WRITE_FAULT && last == WRITE_FAULT);
-    assert!(rt; writer.into_inner().into_inner().as_slice() == b"a".as_slice());
+    let reported = [
+        substituter.feed(b"ab", &mut writer),
+        substituter.feed(b"c", &mut writer),
+        substituter.finish(&mut writer),
+    ];
+    let gone_out = writer.into_inner().into_inner();
+    assert!(rt; reported == [WRITE_FAULT; 3] && gone_out.as_slice() == b"a".as_slice());
 }
 
 #[test]
-fn delivers_up_to_a_write_fault(rt: HostRuntime) {
-    for (out_call, err_call, most, reported, output, messages) in DELIVERIES {
-        let out = Failing::new(Vec::new(rt.alloc()), *out_call, *most);
-        let err = Failing::new(Vec::new(rt.alloc()), *err_call, *most);
-        assert!(rt;
-            delivers(rt.alloc(), out, err, *reported, output, messages),
-            "at calls {out_call} and {err_call}, {most} a call"
-        );
+fn delivers_up_to_a_write_fault(rt: HostRuntime) -> Result<(), Fail> {
+    let run = two_texts(rt.alloc())?;
+    for (row, delivery) in DELIVERIES.iter().enumerate() {
+        assert!(rt; delivers(rt.alloc(), &run, delivery), "row {row}");
     }
-}
-
-#[test]
-fn compiles_what_is_read(rt: HostRuntime) {
-    let statistics = b"1 translated message.\n";
-    assert!(rt; compiles(rt.alloc(), 0, Ok(0), ONE_FILE, statistics));
-    assert!(rt; compiles(rt.alloc(), 1, Err(ToolFault::ReadFault), b"", b""));
+    Ok(())
 }
