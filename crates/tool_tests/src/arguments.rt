@@ -67,10 +67,7 @@ fn takes_the_arguments_of_gettext(rt: HostRuntime) {
 fn takes_the_arguments_of_ngettext(rt: HostRuntime) {
     let is_taken = match NgettextArguments::of(&["t", "f", "fs", "1"]) {
         Some(taken) => {
-            taken.domain == Some("t")
-                && taken.id == "f"
-                && taken.plural == "fs"
-                && taken.count == "1"
+            taken.domain == Some("t") && [taken.id, taken.plural, taken.count] == ["f", "fs", "1"]
         }
         None => false,
     };
@@ -88,29 +85,49 @@ fn reports_faults_in_lines(rt: HostRuntime) {
     for (tool, fault, line) in FAULTS {
         assert!(rt; is_reported(rt.alloc(), *tool, *fault, line), "{line:?}");
     }
+}
+
+#[test]
+fn reports_a_fault_in_one_write(rt: HostRuntime) {
+    let mut once = Counted::new(Failing::new(Vec::new(rt.alloc()), 2, 100));
+    let fault = ProgramFault::CannotOpen("a.po");
+    let reported = report_fault(rt.alloc(), &mut once, Some("msgfmt"), fault);
+    assert!(rt; reported.is_ok());
+}
+
+#[test]
+fn reports_a_writer_that_fails(rt: HostRuntime) {
     let mut full = Counted::new(Failing::new(Vec::new(rt.alloc()), 1, 1));
     let reported = report_fault(rt.alloc(), &mut full, None, ProgramFault::NotText);
     assert!(rt; reported == Err(ToolFault::WriteFault));
-    let mut once = Counted::new(Failing::new(Vec::new(rt.alloc()), 2, 100));
-    let reported = report_fault(
-        rt.alloc(),
-        &mut once,
-        Some("msgfmt"),
-        ProgramFault::CannotOpen("a.po"),
-    );
-    assert!(rt; reported.is_ok(), "in one write");
+}
+
+/// Whether there is something to write, the argument for the output, and the file that is made.
+const FILES: &[(bool, &str, Option<&str>)] = &[
+    (true, "a.mo", Some("a.mo")),
+    (true, "-", None),
+    (false, "a.mo", None),
+];
+
+/// Whether a run makes this file.
+fn makes(alloc: Global, create: bool, argument: &str, file: Option<&str>) -> bool {
+    let run = Run {
+        output: Vec::new(alloc),
+        create,
+        messages: Vec::new(alloc),
+        status: 0,
+    };
+    run.output_file(argument) == file
 }
 
 #[test]
 fn makes_a_file_where_there_is_something_to_write(rt: HostRuntime) {
-    let mut run = Run {
-        output: Vec::new(rt.alloc()),
-        create: true,
-        messages: Vec::new(rt.alloc()),
-        status: 0,
-    };
-    assert!(rt; run.output_file("a.mo") == Some("a.mo") && run.output_file("-").is_none());
-    run.create = false;
-    assert!(rt; run.output_file("a.mo").is_none());
-    assert!(rt; shown_name("-") == "<stdin>" && shown_name("-a") == "-a");
+    for (create, argument, file) in FILES {
+        assert!(rt; makes(rt.alloc(), *create, argument, *file), "{argument}");
+    }
+}
+
+#[test]
+fn shows_names_of_inputs(rt: HostRuntime) {
+    assert!(rt; [shown_name("-"), shown_name("-a")] == ["<stdin>", "-a"]);
 }

@@ -115,7 +115,8 @@ fn substitutes(alloc: Global, row: &Substitution) -> bool {
     let mut reader = Counted::new(Failing::new(text, reads.0, reads.1));
     let mut writer = Counted::new(Failing::new(Vec::new(alloc), writes.0, writes.1));
     let outcome = run_envsubst(&mut reader, &mut writer, variables, None);
-    outcome == reported && writer.into_inner().into_inner().as_slice() == written
+    let gone_out = writer.into_inner().into_inner();
+    outcome == reported && gone_out.as_slice() == written
 }
 
 /// Whether envsubst with its output in blocks reports the same; where it reports no fault, all has
@@ -135,7 +136,8 @@ fn puts(alloc: Global, row: &Write) -> bool {
     let (calls, reported, written) = *row;
     let mut writer = Counted::new(Failing::new(Vec::new(alloc), calls.0, calls.1));
     let outcome = put_all(&mut writer, b"ab");
-    outcome == reported && writer.into_inner().into_inner().as_slice() == written
+    let gone_out = writer.into_inner().into_inner();
+    outcome == reported && gone_out.as_slice() == written
 }
 
 /// A run with the output `ab` and the message `c`.
@@ -154,9 +156,9 @@ fn delivers(alloc: Global, run: &Run, row: &Delivery) -> bool {
     let mut out = Counted::new(Failing::new(Vec::new(alloc), to_out.0, to_out.1));
     let mut err = Counted::new(Failing::new(Vec::new(alloc), to_err.0, to_err.1));
     let outcome = deliver(run, &mut out, &mut err);
-    outcome == reported
-        && out.into_inner().into_inner().as_slice() == output
-        && err.into_inner().into_inner().as_slice() == messages
+    let gone_out = out.into_inner().into_inner();
+    let gone_to_err = err.into_inner().into_inner();
+    outcome == reported && gone_out.as_slice() == output && gone_to_err.as_slice() == messages
 }
 
 #[test]

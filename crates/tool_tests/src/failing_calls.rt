@@ -46,10 +46,22 @@ const WELL: Calls = Calls {
     most: 1,
 };
 
+/// No call fails, and each moves all that is there.
+const FEW: Calls = Calls {
+    most: 1 << 20,
+    ..WELL
+};
+
+/// No call moves a byte.
+const NONE: Calls = Calls { most: 0, ..WELL };
+
 const FUZZY_AND_OBSOLETE: &[u8] =
     b"#, fuzzy\nmsgid \"\"\nmsgstr \"Content-Type: text/plain; charset=UTF-8\\n\"\n\nmsgid \"a\"\nmsgstr \"A\"\n\n#, fuzzy\nmsgid \"b\"\nmsgstr \"B\"\n\nmsgid \"c\"\nmsgstr \"\"\n\n#~ msgid \"d\"\n#~ msgstr \"D\"\n";
 
 const ONE_MESSAGE: &[u8] = b"msgid \"a\"\nmsgstr \"b\"\n";
+
+/// The second input of msgcat.
+const OTHER: &[u8] = b"msgid \"x\"\nmsgstr \"q\"\n";
 
 const ONE_FILE: &[u8] =
     b"\xde\x12\x04\x95\0\0\0\0\x01\0\0\0\x1c\0\0\0\x24\0\0\0\0\0\0\0\x2c\0\0\0\x01\0\0\0\x2c\0\0\0\x01\0\0\0\x2e\0\0\0a\0b\0";
@@ -158,15 +170,29 @@ const FILES: NgettextOptions<'static> = NgettextOptions {
     count: "x",
 };
 
-/// The run of a tool that has no call over a reader.
-fn plan(alloc: Global, tool: Tool, input: &[u8]) -> Result<Run, ToolFault> {
-    match tool {
-        Tool::Gettext => plan_gettext(alloc, &[("first", b"no"), ("second", input)], &SHELL),
-        Tool::Ngettext => plan_ngettext(alloc, &[("one", input)], &FILES),
-        _ => {
-            let other = b"msgid \"x\"\nmsgstr \"q\"\n".as_slice();
-            plan_msgcat(alloc, &[("A.po", input), ("B.po", other)], &MERGE)
-        }
+/// The run of gettext over a catalogue that is refused and this one.
+fn gettext(alloc: Global, input: &[u8]) -> Result<Run, ToolFault> {
+    plan_gettext(alloc, &[("first", b"no"), ("second", input)], &SHELL)
+}
+
+/// The run of ngettext over this catalogue.
+fn ngettext(alloc: Global, input: &[u8]) -> Result<Run, ToolFault> {
+    plan_ngettext(alloc, &[("one", input)], &FILES)
+}
+
+/// The run of msgcat over this text and another.
+fn msgcat(alloc: Global, input: &[u8]) -> Result<Run, ToolFault> {
+    plan_msgcat(alloc, &[("A.po", input), ("B.po", OTHER)], &MERGE)
+}
+
+/// The run of a tool that has no call over a reader, after its input is read so.
+fn planned(alloc: Global, row: &Row, calls: Calls) -> Result<Run, ToolFault> {
+    let mut reader = Counted::new(Failing::new(row.input, calls.input, calls.most));
+    let input = read_input(alloc, &mut reader)?;
+    match row.tool {
+        Tool::Gettext => gettext(alloc, &input),
+        Tool::Ngettext => ngettext(alloc, &input),
+        _ => msgcat(alloc, &input),
     }
 }
 
@@ -189,11 +215,8 @@ fn leaves(
         Tool::Msgattrib => {
             run_msgattrib(alloc, &mut reader, &mut out, &mut err, name, &ONLY_FUZZY)
         }
-        tool => match read_input(alloc, &mut reader) {
-            Ok(input) => match plan(alloc, tool, &input) {
-                Ok(run) => deliver(&run, &mut out, &mut err).map(|()| run.status),
-                Err(fault) => Err(fault),
-            },
+        _ => match planned(alloc, row, calls) {
+            Ok(run) => deliver(&run, &mut out, &mut err).map(|()| run.status),
             Err(fault) => Err(fault),
         },
     };
@@ -254,33 +277,34 @@ fn wrong_messages(alloc: Global, row: &Row) -> Option<usize> {
     None
 }
 
+/// Whether a row leaves all by bytes and in few calls, and nothing where no byte is taken.
+fn is_left_by_writers(alloc: Global, row: &Row) -> bool {
+    let status = Ok(row.status);
+    let fault = Err(ToolFault::WriteFault);
+    leaves(alloc, row, WELL, status, row.output, row.messages)
+        && leaves(alloc, row, FEW, status, row.output, row.messages)
+        && leaves(alloc, row, NONE, fault, b"", b"")
+}
+
 #[test]
 fn each_read_fails(rt: HostRuntime) {
-    for row in ROWS {
-        assert_eq!(rt; wrong_read(rt.alloc(), row), None, "of {:?}", row.input);
+    for (index, row) in ROWS.iter().enumerate() {
+        let wrong = wrong_read(rt.alloc(), row);
+        assert!(rt; wrong.is_none(), "row {index}, call {wrong:?}");
     }
 }
 
 #[test]
 fn each_write_fails(rt: HostRuntime) {
-    for row in ROWS {
-        assert_eq!(rt; wrong_output(rt.alloc(), row), None, "of {:?}", row.input);
-        assert_eq!(rt; wrong_messages(rt.alloc(), row), None, "of {:?}", row.input);
+    for (index, row) in ROWS.iter().enumerate() {
+        let wrong = wrong_output(rt.alloc(), row).or(wrong_messages(rt.alloc(), row));
+        assert!(rt; wrong.is_none(), "row {index}, after {wrong:?}");
     }
 }
 
 #[test]
 fn writers_take_few_bytes_or_none(rt: HostRuntime) {
-    let whole = Calls {
-        most: 1 << 20,
-        ..WELL
-    };
-    let none = Calls { most: 0, ..WELL };
-    for row in ROWS {
-        let status = Ok(row.status);
-        let fault = Err(ToolFault::WriteFault);
-        assert!(rt; leaves(rt.alloc(), row, WELL, status, row.output, row.messages));
-        assert!(rt; leaves(rt.alloc(), row, whole, status, row.output, row.messages));
-        assert!(rt; leaves(rt.alloc(), row, none, fault, b"", b""));
+    for (index, row) in ROWS.iter().enumerate() {
+        assert!(rt; is_left_by_writers(rt.alloc(), row), "row {index}");
     }
 }

@@ -12,19 +12,22 @@ const UNSET: Environment<'static> = Environment {
     textdomaindir: None,
 };
 
-/// The value of a variable of the environment, where it is set.
-type Variable = Option<&'static [u8]>;
-
 type Names = &'static [&'static [u8]];
 
-/// LC_ALL, LC_MESSAGES, LANG, LANGUAGE, and the candidates.
-const LOCALES: &[(Variable, Variable, Variable, Variable, Names)] = &[
-    (None, None, Some(b"de"), None, &[b"de"]),
+/// Environments and their candidates.
+const LOCALES: &[(Environment<'static>, Names)] = &[
     (
-        None,
-        None,
-        Some(b"de_AT.UTF-8@euro"),
-        None,
+        Environment {
+            lang: Some(b"de"),
+            ..UNSET
+        },
+        &[b"de"],
+    ),
+    (
+        Environment {
+            lang: Some(b"de_AT.UTF-8@euro"),
+            ..UNSET
+        },
         &[
             b"de_AT.UTF-8@euro",
             b"de_AT@euro",
@@ -34,47 +37,150 @@ const LOCALES: &[(Variable, Variable, Variable, Variable, Names)] = &[
         ],
     ),
     (
-        None,
-        None,
-        Some(b"de_AT@"),
-        None,
+        Environment {
+            lang: Some(b"de_AT@"),
+            ..UNSET
+        },
         &[b"de_AT@", b"de@", b"de_AT", b"de"],
     ),
     (
-        None,
-        None,
-        Some(b"de_AT.UTF-8"),
-        None,
+        Environment {
+            lang: Some(b"de_AT.UTF-8"),
+            ..UNSET
+        },
         &[b"de_AT.UTF-8", b"de_AT", b"de"],
     ),
-    (None, None, Some(b"de@a.b_c"), None, &[b"de@a.b_c", b"de"]),
-    (None, None, Some(b".UTF-8"), None, &[b".UTF-8", b""]),
-    (None, None, Some(b"C"), None, &[]),
-    (None, None, Some(b"POSIX"), None, &[]),
-    (None, None, Some(b"de/AT"), None, &[]),
-    (None, None, Some(b""), None, &[]),
-    (Some(b""), Some(b"fr"), Some(b"de"), None, &[b"fr"]),
-    (Some(b"C"), Some(b"fr"), Some(b"de"), None, &[]),
-    (None, None, None, None, &[]),
     (
-        None,
-        None,
-        Some(b"de_AT"),
-        Some(b"fr:de_AT:de"),
+        Environment {
+            lang: Some(b"de@a.b_c"),
+            ..UNSET
+        },
+        &[b"de@a.b_c", b"de"],
+    ),
+    (
+        Environment {
+            lang: Some(b".UTF-8"),
+            ..UNSET
+        },
+        &[b".UTF-8", b""],
+    ),
+    (
+        Environment {
+            lang: Some(b"C"),
+            ..UNSET
+        },
+        &[],
+    ),
+    (
+        Environment {
+            lang: Some(b"POSIX"),
+            ..UNSET
+        },
+        &[],
+    ),
+    (
+        Environment {
+            lang: Some(b"de/AT"),
+            ..UNSET
+        },
+        &[],
+    ),
+    (
+        Environment {
+            lang: Some(b""),
+            ..UNSET
+        },
+        &[],
+    ),
+    (
+        Environment {
+            lc_all: Some(b""),
+            lc_messages: Some(b"fr"),
+            lang: Some(b"de"),
+            ..UNSET
+        },
+        &[b"fr"],
+    ),
+    (
+        Environment {
+            lc_all: Some(b"C"),
+            lc_messages: Some(b"fr"),
+            lang: Some(b"de"),
+            ..UNSET
+        },
+        &[],
+    ),
+    (UNSET, &[]),
+    (
+        Environment {
+            lang: Some(b"de_AT"),
+            language: Some(b"fr:de_AT:de"),
+            ..UNSET
+        },
         &[b"fr", b"de_AT", b"de"],
     ),
-    (None, None, Some(b"C"), Some(b"fr"), &[]),
-    (None, None, Some(b"de"), Some(b"fr:C:de"), &[b"fr"]),
-    (None, None, Some(b"de"), Some(b"C:fr"), &[]),
-    (None, None, Some(b"de"), Some(b"fr:POSIX"), &[b"fr"]),
-    (None, None, Some(b"de"), Some(b":"), &[]),
-    (None, None, Some(b"de"), Some(b""), &[b"de"]),
-    (None, None, Some(b"de"), Some(b":a/b::fr:"), &[b"fr"]),
     (
-        None,
-        None,
-        Some(b"de"),
-        Some(b"de_AT:fr:de"),
+        Environment {
+            lang: Some(b"C"),
+            language: Some(b"fr"),
+            ..UNSET
+        },
+        &[],
+    ),
+    (
+        Environment {
+            lang: Some(b"de"),
+            language: Some(b"fr:C:de"),
+            ..UNSET
+        },
+        &[b"fr"],
+    ),
+    (
+        Environment {
+            lang: Some(b"de"),
+            language: Some(b"C:fr"),
+            ..UNSET
+        },
+        &[],
+    ),
+    (
+        Environment {
+            lang: Some(b"de"),
+            language: Some(b"fr:POSIX"),
+            ..UNSET
+        },
+        &[b"fr"],
+    ),
+    (
+        Environment {
+            lang: Some(b"de"),
+            language: Some(b":"),
+            ..UNSET
+        },
+        &[],
+    ),
+    (
+        Environment {
+            lang: Some(b"de"),
+            language: Some(b""),
+            ..UNSET
+        },
+        &[b"de"],
+    ),
+    (
+        Environment {
+            lang: Some(b"de"),
+            language: Some(b":a/b::fr:"),
+            ..UNSET
+        },
+        &[b"fr"],
+    ),
+    (
+        Environment {
+            lang: Some(b"de"),
+            language: Some(b"de_AT:fr:de"),
+            ..UNSET
+        },
         &[b"de_AT", b"de", b"fr"],
     ),
 ];
@@ -92,7 +198,15 @@ const IN_THE_DEFAULT_FOLDER: Names = &[
 
 /// The text domain as an argument, of the option, and TEXTDOMAIN; TEXTDOMAINDIR; and the catalogues
 /// for de_AT.
-const DOMAINS: &[(Variable, Variable, Variable, Variable, Names)] = &[
+type Domain = (
+    Option<&'static [u8]>,
+    Option<&'static [u8]>,
+    Option<&'static [u8]>,
+    Option<&'static [u8]>,
+    Names,
+);
+
+const DOMAINS: &[Domain] = &[
     (Some(b"w"), Some(b"o"), Some(b"v"), Some(b"/d"), OF_W),
     (Some(b"w"), None, None, Some(b"/d"), OF_W),
     (None, Some(b"o"), Some(b"v"), Some(b"/d"), OF_O),
@@ -129,34 +243,33 @@ fn are_listed(listed: Result<Vec<Vec<u8>>, ToolFault>, wanted: &[&[u8]]) -> bool
     }
 }
 
+/// Whether the catalogues of a domain are placed so.
+fn are_placed(alloc: Global, domain: &Domain) -> bool {
+    let (argument, option, textdomain, textdomaindir, wanted) = *domain;
+    let environment = Environment {
+        lang: Some(b"de_AT"),
+        textdomain,
+        textdomaindir,
+        ..UNSET
+    };
+    are_listed(
+        catalogue_paths(alloc, argument, option, &environment),
+        wanted,
+    )
+}
+
 #[test]
 fn lists_the_candidates_of_locales(rt: HostRuntime) {
-    for (lc_all, lc_messages, lang, language, wanted) in LOCALES {
-        let environment = Environment {
-            lc_all: *lc_all,
-            lc_messages: *lc_messages,
-            lang: *lang,
-            language: *language,
-            ..UNSET
-        };
-        assert!(rt;
-            are_listed(locale_candidates(rt.alloc(), &environment), wanted),
-            "{wanted:?}, of {lang:?}"
-        );
+    for (row, (environment, wanted)) in LOCALES.iter().enumerate() {
+        let listed = locale_candidates(rt.alloc(), environment);
+        assert!(rt; are_listed(listed, wanted), "row {row}");
     }
 }
 
 #[test]
 fn places_the_catalogues_of_a_domain(rt: HostRuntime) {
-    for (argument, option, textdomain, textdomaindir, wanted) in DOMAINS {
-        let environment = Environment {
-            lang: Some(b"de_AT"),
-            textdomain: *textdomain,
-            textdomaindir: *textdomaindir,
-            ..UNSET
-        };
-        let paths = catalogue_paths(rt.alloc(), *argument, *option, &environment);
-        assert!(rt; are_listed(paths, wanted), "{wanted:?}, of {argument:?}");
+    for (row, domain) in DOMAINS.iter().enumerate() {
+        assert!(rt; are_placed(rt.alloc(), domain), "row {row}");
     }
 }
 
