@@ -1,7 +1,7 @@
 //! Entries that are built, and whether a catalogue takes them.
 
 use crate::summary::push_summary;
-use po_entry::{Catalogue, Entry};
+use po_entry::{Catalogue, Entry, Fields};
 use po_syntax::{PoError, PoFault};
 use std::alloc::Global;
 use std::test::Fail;
@@ -13,22 +13,83 @@ fn is_summary(alloc: Global, entry: &Entry, wanted: &[u8]) -> Result<bool, Fail>
     Ok(line.as_slice() == wanted)
 }
 
-/// A built entry has just its texts; it is copied and marked.
+/// A message with a plural and two forms.
+fn plural_entry(alloc: Global) -> Result<Entry, Fail> {
+    Ok(Entry::message(alloc, None, b"a", Some(b"as"), &[b"b", b""])?)
+}
+
+/// Whether an entry that no text has is built with just its texts.
+fn is_built(alloc: Global) -> Result<bool, Fail> {
+    let entry = plural_entry(alloc)?;
+    if entry.line() == 0 && !entry.is_header() {
+        is_summary(alloc, &entry, b"||||-;-;-;|-|a|as|b;;.\n")
+    } else {
+        Ok(false)
+    }
+}
+
 #[test]
 fn built_entry(rt: HostRuntime) -> Result<(), Fail> {
-    let mut entry = Entry::message(rt.alloc(), None, b"a", Some(b"as"), &[b"b", b""])?;
-    assert!(rt; is_summary(rt.alloc(), &entry, b"||||-;-;-;|-|a|as|b;;.\n")?);
-    assert!(rt; entry.line() == 0 && !entry.is_header());
+    assert!(rt; is_built(rt.alloc())?);
+    Ok(())
+}
+
+/// The same message, fuzzy and obsolete.
+fn marked_entry(alloc: Global) -> Result<Entry, Fail> {
+    let mut entry = plural_entry(alloc)?;
     entry.set_fuzzy(true);
     entry.set_obsolete(true);
-    let copy = entry.copy(rt.alloc())?;
-    assert!(rt; copy == entry);
-    assert!(rt; is_summary(rt.alloc(), &copy, b"|||fuzzy!|-;-;-;|-|a|as|b;;~\n")?);
+    Ok(entry)
+}
+
+/// Whether a copy equals the marked message until a mark is taken away.
+fn is_marked(alloc: Global, copy: &Entry) -> Result<bool, Fail> {
+    let mut entry = marked_entry(alloc)?;
+    let equals = *copy == entry;
     entry.set_fuzzy(false);
-    assert!(rt; copy != entry);
-    let fields = entry.into_fields();
-    assert!(rt; fields.id.as_slice() == b"a".as_slice() && fields.forms.len() == 2);
-    assert!(rt; fields.obsolete && fields.context.is_none());
+    Ok(equals && *copy != entry)
+}
+
+/// Whether the copy of an entry is the marked message.
+fn has_marked_copy(alloc: Global, entry: &Entry) -> Result<bool, Fail> {
+    let copy = entry.copy(alloc)?;
+    is_marked(alloc, &copy)
+}
+
+/// Whether the copy of an entry has this summary.
+fn has_copy(alloc: Global, entry: &Entry, wanted: &[u8]) -> Result<bool, Fail> {
+    let copy = entry.copy(alloc)?;
+    is_summary(alloc, &copy, wanted)
+}
+
+/// Whether an entry is copied with the texts and marks of the marked message.
+fn is_copied(alloc: Global, entry: &Entry) -> Result<bool, Fail> {
+    Ok(has_marked_copy(alloc, entry)? && has_copy(alloc, entry, b"|||fuzzy!|-;-;-;|-|a|as|b;;~\n")?)
+}
+
+fn marked_is_copied(alloc: Global) -> Result<bool, Fail> {
+    let entry = marked_entry(alloc)?;
+    is_copied(alloc, &entry)
+}
+
+#[test]
+fn copied_entry(rt: HostRuntime) -> Result<(), Fail> {
+    assert!(rt; marked_is_copied(rt.alloc())?);
+    Ok(())
+}
+
+/// Whether fields are those of the marked message.
+fn are_marked(fields: &Fields) -> bool {
+    fields.id.as_slice() == b"a".as_slice()
+        && fields.forms.len() == 2
+        && fields.obsolete
+        && fields.context.is_none()
+}
+
+#[test]
+fn fields_of_an_entry(rt: HostRuntime) -> Result<(), Fail> {
+    let fields = marked_entry(rt.alloc())?.into_fields();
+    assert!(rt; are_marked(&fields));
     Ok(())
 }
 
@@ -43,7 +104,7 @@ fn keeps(alloc: Global, entry: Entry) -> bool {
 
 #[test]
 fn kept_entry(rt: HostRuntime) -> Result<(), Fail> {
-    let entry = Entry::message(rt.alloc(), None, b"a", Some(b"as"), &[b"b", b""])?;
+    let entry = plural_entry(rt.alloc())?;
     assert!(rt; keeps(rt.alloc(), entry));
     Ok(())
 }
@@ -69,46 +130,36 @@ fn refused_messages(rt: HostRuntime) {
     }
 }
 
-/// Charsets that a header may name, whatever the case.
-const ADMITTED: &[&[u8]] = &[
-    b"",
-    b"Content-Type: text/plain; charset=UTF-8\n",
-    b"charset=utf8;",
-    b"charset=\n",
-    b"xcharset=us-Ascii",
-    b"charset=CHARSET x charset=latin1",
-];
-
-/// Charsets that a header may not name.
-const FOREIGN: &[&[u8]] = &[
-    b"charset=ISO-8859-1\n",
-    b"charset=latin1 charset=UTF-8",
-    b"charset=UTF-8x",
+/// Forms of a header, each with the fault of the charset that it names, if it may not name it.
+const CHARSETS: &[(&[u8], Option<PoFault>)] = &[
+    (b"", None),
+    (b"Content-Type: text/plain; charset=UTF-8\n", None),
+    (b"charset=utf8;", None),
+    (b"charset=\n", None),
+    (b"xcharset=us-Ascii", None),
+    (b"charset=CHARSET x charset=latin1", None),
+    (b"charset=ISO-8859-1\n", Some(PoFault::ForeignCharset)),
+    (
+        b"charset=latin1 charset=UTF-8",
+        Some(PoFault::ForeignCharset),
+    ),
+    (b"charset=UTF-8x", Some(PoFault::ForeignCharset)),
 ];
 
 /// The fault with which a catalogue gives a header of this form back, if it does.
 fn header_fault(alloc: Global, form: &[u8]) -> Result<Option<PoFault>, Fail> {
     let header = Entry::message(alloc, None, b"", None, &[form])?;
-    match Catalogue::new(alloc).push(header) {
-        Ok(()) => Ok(None),
-        Err((header, error)) => Ok(if header.is_header() {
-            Some(error.kind)
-        } else {
-            None
-        }),
-    }
+    let mut catalogue = Catalogue::new(alloc);
+    Ok(match catalogue.push(header) {
+        Ok(()) => None,
+        Err((header, error)) => header.is_header().then_some(error.kind),
+    })
 }
 
 #[test]
 fn charsets_of_headers(rt: HostRuntime) -> Result<(), Fail> {
-    for form in ADMITTED {
-        assert_eq!(rt; header_fault(rt.alloc(), form)?, None);
-    }
-    for form in FOREIGN {
-        assert_eq!(rt;
-            header_fault(rt.alloc(), form)?,
-            Some(PoFault::ForeignCharset)
-        );
+    for (form, wanted) in CHARSETS {
+        assert_eq!(rt; header_fault(rt.alloc(), form)?, *wanted);
     }
     Ok(())
 }

@@ -1,5 +1,6 @@
 //! The statistics of catalogues, their duplicates, and how they are joined.
 
+use crate::summary::summaries;
 use po_catalog::{
     Catalogue, JoinError, Stats, duplicates, into_joined, joined_duplicates, read, statistics,
 };
@@ -21,7 +22,9 @@ const HEADED_ONE_EACH: &[u8] =
     b"#, fuzzy\nmsgid \"\"\nmsgstr \"X\"\n\nmsgid \"a\"\nmsgstr \"A\"\n\n#, fuzzy\nmsgid \"b\"\nmsgstr \"B\"\n\nmsgid \"c\"\nmsgstr \"\"\n\n#~ msgid \"d\"\n#~ msgstr \"D\"\n";
 
 /// Numbers of translated, fuzzy and untranslated messages, with their line.
-const LINES: &[(u64, u64, u64, &[u8])] = &[
+type Line = (u64, u64, u64, &'static [u8]);
+
+const LINES: &[Line] = &[
     (0, 0, 0, b"0 translated messages.\n"),
     (2, 0, 0, b"2 translated messages.\n"),
     (
@@ -38,15 +41,21 @@ const LINES: &[(u64, u64, u64, &[u8])] = &[
     ),
 ];
 
+/// Whether numbers have their line.
+fn has_line(alloc: Global, line: &Line) -> Result<bool, Fail> {
+    let (translated, fuzzy, untranslated, wanted) = line;
+    let stats = Stats {
+        translated: *translated,
+        fuzzy: *fuzzy,
+        untranslated: *untranslated,
+    };
+    Ok(stats.line(alloc)?.as_slice() == *wanted)
+}
+
 #[test]
 fn statistics_lines(rt: HostRuntime) -> Result<(), Fail> {
-    for (translated, fuzzy, untranslated, wanted) in LINES {
-        let stats = Stats {
-            translated: *translated,
-            fuzzy: *fuzzy,
-            untranslated: *untranslated,
-        };
-        assert_eq!(rt; stats.line(rt.alloc())?.as_slice(), *wanted);
+    for row in LINES {
+        assert!(rt; has_line(rt.alloc(), row)?, "at {}", row.3.escape_ascii());
     }
     Ok(())
 }
@@ -69,15 +78,44 @@ const HEADED: &[u8] = b"msgid \"\"\nmsgstr \"X\"\n\nmsgid \"a\"\nmsgstr \"A\"\n"
 
 const REPEATED: &[u8] = b"msgid \"a\"\nmsgstr \"A\"\n\n# x\nmsgid \"a\"\nmsgstr \"B\"\n";
 
+/// The fault of `REPEATED`.
+const WITHIN: PoError = PoError {
+    kind: PoFault::Duplicate(1),
+    line: 5,
+};
+
+/// Texts with the number of their entries and the fault of a duplicate. The last three don't repeat
+/// the message `a`: an entry has another context, or is obsolete.
+const WITHIN_A_TEXT: &[(&[u8], usize, Option<PoError>)] = &[
+    (ONE_MESSAGE, 1, None),
+    (REPEATED, 2, Some(WITHIN)),
+    (
+        b"msgid \"a\"\nmsgstr \"A\"\n\n# x\nmsgctxt \"c\"\nmsgid \"a\"\nmsgstr \"B\"\n",
+        2,
+        None,
+    ),
+    (
+        b"msgid \"a\"\nmsgstr \"A\"\n\n# x\n#~ msgid \"a\"\n#~ msgstr \"B\"\n",
+        2,
+        None,
+    ),
+    (
+        b"msgid \"a\"\nmsgstr \"A\"\n\nmsgctxt \"\"\nmsgid \"a\"\nmsgstr \"A\"\n",
+        2,
+        None,
+    ),
+];
+
 #[test]
 fn duplicates_within_a_text(rt: HostRuntime) {
-    let within = PoError {
-        kind: PoFault::Duplicate(1),
-        line: 5,
-    };
-    for (text, wanted) in [(ONE_MESSAGE, None), (REPEATED, Some(within))] {
+    for (text, length, wanted) in WITHIN_A_TEXT {
         let read = catalogue(&rt, rt.alloc(), text);
-        assert!(rt; duplicates(rt.alloc(), &read).err() == wanted);
+        let reported = duplicates(rt.alloc(), &read).err();
+        assert!(rt;
+            read.entries().len() == *length && reported == *wanted,
+            "at {}",
+            text.escape_ascii()
+        );
     }
 }
 
@@ -106,29 +144,17 @@ fn duplicates_across_texts(rt: HostRuntime) -> Result<(), Fail> {
     Ok(())
 }
 
+/// The summaries of the joined entries of catalogues.
+fn joined_summaries(alloc: Global, catalogues: Vec<Catalogue>) -> Result<Vec<u8>, Fail> {
+    let entries = into_joined(alloc, catalogues)?;
+    summaries(alloc, &entries)
+}
+
 #[test]
 fn entries_of_two_inputs(rt: HostRuntime) -> Result<(), Fail> {
     let both = twice(&rt, rt.alloc(), HEADED)?;
-    let entries = into_joined(rt.alloc(), both)?;
-    let [header, a, b] = entries.as_slice() else {
-        panic!(rt; "{} entries", entries.len());
-    };
-    assert!(rt; header.is_header());
-    assert!(rt; a.id() == b"a".as_slice() && b.id() == b"a".as_slice());
-    Ok(())
-}
-
-/// What does not repeat the message `a`: one under another context, and an obsolete one.
-#[test]
-fn no_duplicate(rt: HostRuntime) -> Result<(), Fail> {
-    for text in [
-        b"msgid \"a\"\nmsgstr \"A\"\n\n# x\nmsgctxt \"c\"\nmsgid \"a\"\nmsgstr \"B\"\n".as_slice(),
-        b"msgid \"a\"\nmsgstr \"A\"\n\n# x\n#~ msgid \"a\"\n#~ msgstr \"B\"\n",
-        b"msgid \"a\"\nmsgstr \"A\"\n\nmsgctxt \"\"\nmsgid \"a\"\nmsgstr \"A\"\n",
-    ] {
-        let read = catalogue(&rt, rt.alloc(), text);
-        assert_eq!(rt; read.entries().len(), 2);
-        assert!(rt; duplicates(rt.alloc(), &read).is_ok());
-    }
+    let joined = joined_summaries(rt.alloc(), both)?;
+    let wanted = b"||||-;-;-;|-||-|X;.\n||||-;-;-;|-|a|-|A;.\n||||-;-;-;|-|a|-|A;.\n";
+    assert!(rt; joined.as_slice() == wanted.as_slice());
     Ok(())
 }

@@ -1,6 +1,7 @@
 //! Texts that are compiled, with the files and the answers of look-ups in them.
 ghost use Rattle.std.specs.Prelude.{◌<◌, ◌^◌, length};
 
+use crate::refused::{Refused, assert_refused};
 use crate::texts::FUZZY_AND_OBSOLETE;
 use mo_file::{Meter, Order};
 use mo_lookup::Catalog;
@@ -124,66 +125,61 @@ fn files(rt: HostRuntime) {
     }
 }
 
-/// Texts with their options, the context, msgid and msgid_plural with its count that are looked up,
-/// the answer, and whether it was found.
-const LOOKS: &[(
-    &[u8],
-    Options,
-    Option<&[u8]>,
-    &[u8],
-    Option<(&[u8], u64)>,
-    &[u8],
+/// The context, msgid and msgid_plural with its count that are looked up, the answer, and whether it
+/// was found.
+type Look = (
+    Option<&'static [u8]>,
+    &'static [u8],
+    Option<(&'static [u8], u64)>,
+    &'static [u8],
     bool,
-)] = &[
-    (b"", LITTLE, None, b"x", None, b"x", false),
-    (ONE_MESSAGE, LITTLE, None, b"a", None, b"b", true),
-    (ONE_MESSAGE, LITTLE, None, b"z", None, b"z", false),
-    (ONE_MESSAGE, BIG, None, b"a", None, b"b", true),
-    (THREE_CONTEXTS, LITTLE, Some(b""), b"x", None, b"1", true),
-    (THREE_CONTEXTS, LITTLE, Some(b"c"), b"x", None, b"2", true),
-    (THREE_CONTEXTS, LITTLE, None, b"x", None, b"3", true),
-    (FUZZY_AND_OBSOLETE, LITTLE, None, b"a", None, b"A", true),
-    (FUZZY_AND_OBSOLETE, LITTLE, None, b"b", None, b"b", false),
-    (FUZZY_AND_OBSOLETE, WITH_FUZZY, None, b"b", None, b"B", true),
+);
+
+/// Texts with their options and a look-up.
+const LOOKS: &[(&[u8], Options, Look)] = &[
+    (b"", LITTLE, (None, b"x", None, b"x", false)),
+    (ONE_MESSAGE, LITTLE, (None, b"a", None, b"b", true)),
+    (ONE_MESSAGE, LITTLE, (None, b"z", None, b"z", false)),
+    (ONE_MESSAGE, BIG, (None, b"a", None, b"b", true)),
+    (THREE_CONTEXTS, LITTLE, (Some(b""), b"x", None, b"1", true)),
+    (THREE_CONTEXTS, LITTLE, (Some(b"c"), b"x", None, b"2", true)),
+    (THREE_CONTEXTS, LITTLE, (None, b"x", None, b"3", true)),
+    (FUZZY_AND_OBSOLETE, LITTLE, (None, b"a", None, b"A", true)),
+    (FUZZY_AND_OBSOLETE, LITTLE, (None, b"b", None, b"b", false)),
+    (
+        FUZZY_AND_OBSOLETE,
+        WITH_FUZZY,
+        (None, b"b", None, b"B", true),
+    ),
     (
         b"msgid \"a\"\nmsgstr \"\\101\\x41\\xc3\\xa9\"\n",
         LITTLE,
-        None,
-        b"a",
-        None,
-        b"AA\xc3\xa9",
-        true,
+        (None, b"a", None, b"AA\xc3\xa9", true),
     ),
     (
         b"msgid \"a\"\nmsgstr \"\\xc3\" \"\\xa9\"\n",
         LITTLE,
-        None,
-        b"a",
-        None,
-        b"\xc3\xa9",
-        true,
+        (None, b"a", None, b"\xc3\xa9", true),
     ),
-    (ONE_CONTEXT, LITTLE, None, b"a\x04b", None, b"a\x04b", false),
-    (ONE_CONTEXT, LITTLE, Some(b"a"), b"b", None, b"c", true),
-    (PLURAL, LITTLE, None, b"f", Some((b"fs", 0)), b"a", true),
-    (PLURAL, LITTLE, None, b"f", Some((b"fs", 1)), b"", true),
-    (PLURAL, LITTLE, None, b"f", Some((b"fs", 2)), b"a", true),
-    (PLURAL, LITTLE, None, b"f", Some((b"fs", 3)), b"a", true),
+    (
+        ONE_CONTEXT,
+        LITTLE,
+        (None, b"a\x04b", None, b"a\x04b", false),
+    ),
+    (ONE_CONTEXT, LITTLE, (Some(b"a"), b"b", None, b"c", true)),
+    (PLURAL, LITTLE, (None, b"f", Some((b"fs", 0)), b"a", true)),
+    (PLURAL, LITTLE, (None, b"f", Some((b"fs", 1)), b"", true)),
+    (PLURAL, LITTLE, (None, b"f", Some((b"fs", 2)), b"a", true)),
+    (PLURAL, LITTLE, (None, b"f", Some((b"fs", 3)), b"a", true)),
 ];
 
-/// Whether a look-up in a file gives this answer.
-fn answers(
-    bytes: &[u8],
-    context: Option<&[u8]>,
-    id: &[u8],
-    plural: Option<(&[u8], u64)>,
-    text: &[u8],
-    found: bool,
-) -> bool {
+/// Whether a look-up in a file gives its answer.
+fn answers(bytes: &[u8], look: &Look) -> bool {
+    let (context, id, plural, text, found) = look;
     match Catalog::open(bytes, &mut Meter::new()) {
         Ok(catalog) => {
-            let answer = catalog.look(context, id, plural, &mut Meter::new());
-            answer.text == text && answer.found == found
+            let answer = catalog.look(*context, id, *plural, &mut Meter::new());
+            answer.text == *text && answer.found == *found
         }
         Err(_) => false,
     }
@@ -191,13 +187,9 @@ fn answers(
 
 #[test]
 fn look_ups(rt: HostRuntime) {
-    for (text, options, context, id, plural, answer, found) in LOOKS {
+    for (text, options, look) in LOOKS {
         let file = compiled(&rt, rt.alloc(), text, *options);
-        assert!(rt;
-            answers(&file.bytes, *context, id, *plural, answer, *found),
-            "at {}",
-            answer.escape_ascii()
-        );
+        assert!(rt; answers(&file.bytes, look), "at {}", look.3.escape_ascii());
     }
 }
 
@@ -215,7 +207,7 @@ fn statistics(rt: HostRuntime) {
 }
 
 /// Texts that are refused, with the fault and its line.
-const REFUSED: &[(&[u8], PoFault, u32)] = &[
+const REFUSED: &[Refused] = &[
     (b"msgid \"a\"\nmsgstr \"\\xff\"\n", PoFault::NotUtf8, 1),
     (b"msgid \"a\"\nmsgstr \"\\0\"\n", PoFault::ForbiddenByte, 2),
     (b"msgid \"a\"\nmsgstr \"\\q\"\n", PoFault::BadEscape, 2),
@@ -235,13 +227,8 @@ const REFUSED: &[(&[u8], PoFault, u32)] = &[
 
 #[test]
 fn refused(rt: HostRuntime) {
-    for (text, kind, line) in REFUSED {
-        let wanted = PoError {
-            kind: *kind,
-            line: *line,
-        };
-        let reported = compile(rt.alloc(), text, LITTLE).err();
-        assert_eq!(rt; reported, Some(wanted), "at {}", text.escape_ascii());
+    for refused in REFUSED {
+        assert_refused(&rt, compile(rt.alloc(), refused.0, LITTLE).err(), refused);
     }
 }
 
@@ -275,8 +262,8 @@ fn two_inputs(rt: HostRuntime) {
 #[test]
 fn two_headers(rt: HostRuntime) {
     let headed = joined(&rt, rt.alloc(), &[FIRST_HEADER, SECOND_HEADER]);
-    assert!(rt; headed.n == 3);
-    assert!(rt; answers(&headed.bytes, None, b"", None, b"X: first\n", true));
+    let look: Look = (None, b"", None, b"X: first\n", true);
+    assert!(rt; headed.n == 3 && answers(&headed.bytes, &look));
 }
 
 /// Two inputs, the input with the fault and that of the earlier entry, the fault and its line.

@@ -37,9 +37,7 @@ const LITTLE: Options = Options {
 
 #[test]
 fn a_translation_is_looked_up(rt: HostRuntime) -> Result<(), Fail> {
-    let Ok(compiled) = compile(rt.alloc(), BOOKS, LITTLE) else {
-        panic!(rt; "refused");
-    };
+    let compiled = compile(rt.alloc(), BOOKS, LITTLE)?;
     assert_eq!(rt;
         three_books(compiled.bytes.as_slice()),
         Ok(b"%d B\xc3\xbccher".as_slice())
@@ -50,9 +48,7 @@ fn a_translation_is_looked_up(rt: HostRuntime) -> Result<(), Fail> {
 #[test]
 fn a_message_is_added(rt: HostRuntime) -> Result<(), Fail> {
     let text = b"# about\nmsgid \"a\"\nmsgstr \"b\"\n";
-    let Ok(written) = with_a_button(rt.alloc(), text) else {
-        panic!(rt; "refused");
-    };
+    let written = with_a_button(rt.alloc(), text)?;
     let wanted =
         b"# about\nmsgid \"a\"\nmsgstr \"b\"\n\n#, fuzzy\nmsgctxt \"button\"\nmsgid \"Close\"\nmsgstr \"Zu\"\n";
     assert_eq!(rt; written.as_slice(), wanted.as_slice());

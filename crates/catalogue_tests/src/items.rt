@@ -1,8 +1,9 @@
 //! The items of texts, their first faults, and quoted forms.
 
+use crate::refused::{Refused, assert_refused};
 use crate::texts::{ESCAPES, EVERY_LINE};
-use po_syntax::{Item, Marks, PoError, PoFault, items, quote};
-use std::alloc::Global;
+use po_syntax::{Item, Marks, PoFault, items, quote};
+use std::alloc::{AllocError, Global};
 use std::fmt::Write;
 use std::test::Fail;
 
@@ -11,43 +12,42 @@ use std::test::Fail;
 fn show(alloc: Global, text: &[u8]) -> Result<String, Fail> {
     let mut shown = String::new(alloc);
     for item in items(alloc, text)? {
-        match item {
-            Item::Comment(kind, text, line) => {
-                writeln!(shown, "{line} {kind:?} {}", text.escape_ascii())?;
-            }
-            Item::Word(keyword, marks, line) => {
-                writeln!(
-                    shown,
-                    "{line}{} {keyword:?}",
-                    mark_bytes(marks).escape_ascii()
-                )?;
-            }
-            Item::Str(bytes, marks, line) => {
-                writeln!(
-                    shown,
-                    "{line}{} {}",
-                    mark_bytes(marks).escape_ascii(),
-                    bytes.as_slice().escape_ascii()
-                )?;
-            }
-        }
+        show_item(&mut shown, item)?;
     }
     Ok(shown)
 }
 
-/// The bytes that stand for these marks.
-fn mark_bytes(marks: Marks) -> &'static [u8] {
-    if marks.obsolete {
-        if marks.previous { b"~|" } else { b"~" }
-    } else {
-        if marks.previous { b"|" } else { b"" }
+/// Appends the line of an item.
+fn show_item(shown: &mut String, item: Item) -> Result<(), AllocError> {
+    match item {
+        Item::Comment(kind, text, line) => {
+            writeln!(shown, "{line} {kind:?} {}", text.escape_ascii())
+        }
+        Item::Word(keyword, marks, line) => {
+            writeln!(shown, "{line}{} {keyword:?}", mark_text(marks))
+        }
+        Item::Str(bytes, marks, line) => {
+            let bytes = bytes.as_slice().escape_ascii();
+            writeln!(shown, "{line}{} {bytes}", mark_text(marks))
+        }
     }
 }
 
-#[test]
-fn items_of_every_kind_of_line(rt: HostRuntime) -> Result<(), Fail> {
-    let shown = show(rt.alloc(), EVERY_LINE)?;
-    let wanted = "1 Translator  c
+/// What stands for these marks.
+fn mark_text(marks: Marks) -> &'static str {
+    match (marks.obsolete, marks.previous) {
+        (true, true) => "~|",
+        (true, false) => "~",
+        (false, true) => "|",
+        (false, false) => "",
+    }
+}
+
+/// Texts with their items.
+const SHOWN: &[(&[u8], &str)] = &[
+    (
+        EVERY_LINE,
+        "1 Translator  c
 2 Flags  fuzzy , c-format,, c-format
 3 Reference  a.c:1 b.c:2
 4 Reference  c.c:3
@@ -61,15 +61,11 @@ fn items_of_every_kind_of_line(rt: HostRuntime) -> Result<(), Fail> {
 8 p
 9 MsgStrAt(0)
 9 v
-";
-    assert_eq!(rt; shown.as_str(), wanted);
-    Ok(())
-}
-
-#[test]
-fn items_of_escapes_and_marks(rt: HostRuntime) -> Result<(), Fail> {
-    let shown = show(rt.alloc(), ESCAPES)?;
-    let wanted = "1| MsgCtxt
+",
+    ),
+    (
+        ESCAPES,
+        "1| MsgCtxt
 1| AA\\xc3\\xa9
 2~| MsgId
 2~| \\x07\\x08\\t\\n\\x0b\\x0c\\r\\\\\\\"\\x7f7\\x018
@@ -79,26 +75,27 @@ fn items_of_escapes_and_marks(rt: HostRuntime) -> Result<(), Fail> {
 4 Extracted  e
 8 Translator 
 9 Translator =!
-";
-    assert_eq!(rt; shown.as_str(), wanted);
-    assert_eq!(rt; show(rt.alloc(), b"")?.as_str(), "");
-    assert_eq!(rt;
-        show(rt.alloc(), b"\"\\xc3\" \"\\xa9\"")?.as_str(),
-        "1 \\xc3\n1 \\xa9\n"
-    );
-    assert_eq!(rt;
-        show(rt.alloc(), b"msgstr [ 4294967295\t]")?.as_str(),
-        "1 MsgStrAt(4294967295)\n"
-    );
-    assert_eq!(rt;
-        show(rt.alloc(), b"msgid \"a\"\n#~ msgstr \"b\"")?.as_str(),
-        "1 MsgId\n1 a\n2~ MsgStr\n2~ b\n"
-    );
+",
+    ),
+    (b"", ""),
+    (b"\"\\xc3\" \"\\xa9\"", "1 \\xc3\n1 \\xa9\n"),
+    (b"msgstr [ 4294967295\t]", "1 MsgStrAt(4294967295)\n"),
+    (
+        b"msgid \"a\"\n#~ msgstr \"b\"",
+        "1 MsgId\n1 a\n2~ MsgStr\n2~ b\n",
+    ),
+];
+
+#[test]
+fn items_of_texts(rt: HostRuntime) -> Result<(), Fail> {
+    for (text, wanted) in SHOWN {
+        assert_eq!(rt; show(rt.alloc(), text)?.as_str(), *wanted);
+    }
     Ok(())
 }
 
 /// Texts with the leftmost fault and its line.
-const FAULTS: &[(&[u8], PoFault, u32)] = &[
+const FAULTS: &[Refused] = &[
     (b"msgid \"a\"\n\xff", PoFault::NotUtf8, 2),
     (b"\n\n\xc3\n", PoFault::NotUtf8, 3),
     (b"@\n\0", PoFault::ForbiddenByte, 2),
@@ -123,13 +120,8 @@ const FAULTS: &[(&[u8], PoFault, u32)] = &[
 
 #[test]
 fn reports_the_leftmost_fault(rt: HostRuntime) {
-    for (text, kind, line) in FAULTS {
-        let wanted = PoError {
-            kind: *kind,
-            line: *line,
-        };
-        let reported = items(rt.alloc(), text).err();
-        assert_eq!(rt; reported, Some(wanted), "at {}", text.escape_ascii());
+    for refused in FAULTS {
+        assert_refused(&rt, items(rt.alloc(), refused.0).err(), refused);
     }
 }
 

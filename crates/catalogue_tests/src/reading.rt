@@ -3,7 +3,7 @@
 mod pieces;
 mod refused;
 
-use crate::summary::push_summary;
+use crate::summary::summaries;
 use crate::texts::{EVERY_FIELD, EVERY_FIELD_WRITTEN, EVERY_LINE, FUZZY_AND_OBSOLETE};
 use po_entry::Entry;
 use po_reader::read;
@@ -133,27 +133,26 @@ const TEXTS: &[(&[u8], &[u8], u32)] = &[
     ),
 ];
 
-/// The summaries of a text's entries, and the line of the last.
-fn summaries(alloc: Global, text: &[u8]) -> Result<(Vec<u8>, u32), Fail> {
+/// Whether entries have these summaries, and the last stands at this line.
+fn are_summaries(alloc: Global, entries: &[Entry], wanted: &[u8], line: u32) -> Result<bool, Fail> {
+    let last = match entries {
+        [.., entry] => entry.line(),
+        [] => 0,
+    };
+    Ok(last == line && summaries(alloc, entries)?.as_slice() == wanted)
+}
+
+/// Whether a text has entries with these summaries, and the last at this line.
+fn reads_as(alloc: Global, text: &[u8], wanted: &[u8], line: u32) -> Result<bool, Fail> {
     let catalogue = read(alloc, text)?;
-    let mut all = Vec::new(alloc);
-    let mut last = 0;
-    for entry in catalogue.entries() {
-        push_summary(&mut all, entry)?;
-        last = entry.line();
-    }
-    Ok((all, last))
+    are_summaries(alloc, catalogue.entries(), wanted, line)
 }
 
 #[test]
 fn texts_of_entries(rt: HostRuntime) -> Result<(), Fail> {
     for (text, wanted, line) in TEXTS {
-        let (all, last) = summaries(rt.alloc(), text)?;
-        assert!(rt;
-            all.as_slice() == *wanted && last == *line,
-            "at {}",
-            text.escape_ascii()
-        );
+        let right = reads_as(rt.alloc(), text, wanted, *line)?;
+        assert!(rt; right, "at {}", text.escape_ascii());
     }
     Ok(())
 }
@@ -161,28 +160,32 @@ fn texts_of_entries(rt: HostRuntime) -> Result<(), Fail> {
 #[test]
 fn lines_and_marks(rt: HostRuntime) -> Result<(), Fail> {
     let catalogue = read(rt.alloc(), EVERY_FIELD)?;
-    let [entry, _] = catalogue.entries() else {
-        panic!(rt; "not two entries");
+    let right = match catalogue.entries() {
+        [entry, _] => entry.line() == 12 && !entry.is_header(),
+        _ => false,
     };
-    assert!(rt; entry.line() == 12 && !entry.is_header());
+    assert!(rt; right);
     Ok(())
 }
 
-/// Whether an entry equals one that is built with this form.
-fn equals_built(alloc: Global, entry: &Entry, form: &[u8]) -> Result<bool, Fail> {
+/// Whether the only entry of a catalogue, at line 2, equals one that is built with this form.
+fn equals_built(alloc: Global, entries: &[Entry], form: &[u8]) -> Result<bool, Fail> {
     let built = Entry::message(alloc, None, b"a", None, &[form])?;
-    Ok(*entry == built)
+    Ok(match entries {
+        [entry] => entry.line() == 2 && *entry == built,
+        _ => false,
+    })
+}
+
+/// Whether the entry that is read equals one that is built with this form.
+fn read_equals_built(alloc: Global, form: &[u8]) -> Result<bool, Fail> {
+    let catalogue = read(alloc, b"\nmsgid \"a\"\nmsgstr \"b\"\n")?;
+    equals_built(alloc, catalogue.entries(), form)
 }
 
 /// An entry that was built equals the one that was read, whose line is left aside.
 #[test]
 fn built_entry(rt: HostRuntime) -> Result<(), Fail> {
-    let catalogue = read(rt.alloc(), b"\nmsgid \"a\"\nmsgstr \"b\"\n")?;
-    let [entry] = catalogue.entries() else {
-        panic!(rt; "not one entry");
-    };
-    assert_eq!(rt; entry.line(), 2);
-    assert!(rt; equals_built(rt.alloc(), entry, b"b")?);
-    assert!(rt; !equals_built(rt.alloc(), entry, b"c")?);
+    assert!(rt; read_equals_built(rt.alloc(), b"b")? && !read_equals_built(rt.alloc(), b"c")?);
     Ok(())
 }

@@ -1,6 +1,7 @@
 //! An entry on a line, so that a whole catalogue is compared at once.
 
 use po_entry::Entry;
+use std::alloc::Global;
 use std::test::Fail;
 
 /// Appends pieces, one after another.
@@ -19,6 +20,15 @@ fn push_texts(line: &mut Vec<u8>, texts: &[Vec<u8>], end: &[u8]) -> Result<(), F
     }
     line.extend_from_slice(end)?;
     Ok(())
+}
+
+/// The lines of entries.
+pub(crate) fn summaries(alloc: Global, entries: &[Entry]) -> Result<Vec<u8>, Fail> {
+    let mut lines = Vec::new(alloc);
+    for entry in entries {
+        push_summary(&mut lines, entry)?;
+    }
+    Ok(lines)
 }
 
 /// Appends a line for an entry: its marks and its texts, in the order of its fields.

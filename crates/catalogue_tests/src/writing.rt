@@ -6,6 +6,7 @@ use po_reader::read;
 use po_writer::laws::{written_text_again, written_text_reads};
 use po_writer::write;
 use std::alloc::Global;
+use std::process::Abort;
 use std::test::Fail;
 
 /// Texts, each with what is written of its entries.
@@ -48,14 +49,28 @@ const TEXTS: &[(&[u8], &[u8])] = &[
     ),
 ];
 
-/// What is written of a catalogue with one built message.
-fn written_message(alloc: Global, id: &[u8], form: &[u8]) -> Result<Vec<u8>, Fail> {
-    let mut catalogue = Catalogue::new(alloc);
+/// Asserts what is written of a catalogue.
+fn assert_written(
+    rt: &impl Abort,
+    alloc: Global,
+    catalogue: &Catalogue,
+    wanted: &[u8],
+) -> Result<(), Fail> {
+    assert_eq!(rt; write(alloc, catalogue)?.as_slice(), wanted);
+    Ok(())
+}
+
+/// Whether a catalogue takes an entry.
+fn takes(catalogue: &mut Catalogue, entry: Entry) -> bool {
+    catalogue.push(entry).is_ok()
+}
+
+/// A catalogue with one built message, or none if it isn't taken.
+fn catalogue_of(alloc: Global, id: &[u8], form: &[u8]) -> Result<Catalogue, Fail> {
     let entry = Entry::message(alloc, None, id, None, &[form])?;
-    Ok(match catalogue.push(entry) {
-        Ok(()) => write(alloc, &catalogue)?,
-        Err(_) => Vec::new(alloc),
-    })
+    let mut catalogue = Catalogue::new(alloc);
+    takes(&mut catalogue, entry);
+    Ok(catalogue)
 }
 
 /// Messages without a plural, each with what is written of it: a form with a LF inside, and one
@@ -74,17 +89,21 @@ const MESSAGES: &[(&[u8], &[u8], &[u8])] = &[
 fn written_anew(rt: HostRuntime) -> Result<(), Fail> {
     for (text, wanted) in TEXTS {
         let catalogue = read(rt.alloc(), text)?;
-        assert_eq!(rt; write(rt.alloc(), &catalogue)?.as_slice(), *wanted);
+        assert_written(&rt, rt.alloc(), &catalogue, wanted)?;
     }
     Ok(())
 }
 
 #[test]
+fn empty_catalogue(rt: HostRuntime) -> Result<(), Fail> {
+    assert_written(&rt, rt.alloc(), &Catalogue::new(rt.alloc()), b"")
+}
+
+#[test]
 fn built_messages(rt: HostRuntime) -> Result<(), Fail> {
-    let empty = Catalogue::new(rt.alloc());
-    assert_eq!(rt; write(rt.alloc(), &empty)?.len(), 0);
     for (id, form, wanted) in MESSAGES {
-        assert_eq!(rt; written_message(rt.alloc(), id, form)?.as_slice(), *wanted);
+        let catalogue = catalogue_of(rt.alloc(), id, form)?;
+        assert_written(&rt, rt.alloc(), &catalogue, wanted)?;
     }
     Ok(())
 }
@@ -112,15 +131,22 @@ fn obsolete_entry(alloc: Global) -> Result<Entry, Fail> {
     Ok(entry)
 }
 
+/// An entry with a context and a plural.
+fn live_entry(alloc: Global) -> Result<Entry, Fail> {
+    Ok(Entry::message(alloc, Some(b""), b"k", Some(b"ks"), &[b"v", b"w\n"])?)
+}
+
+/// Whether a catalogue takes an obsolete and then a live entry.
+fn takes_both(alloc: Global, catalogue: &mut Catalogue) -> Result<bool, Fail> {
+    Ok(takes(catalogue, obsolete_entry(alloc)?) && takes(catalogue, live_entry(alloc)?))
+}
+
 /// An obsolete entry that stands first comes last, and each of its lines has the prefix.
 #[test]
 fn arranged_entries(rt: HostRuntime) -> Result<(), Fail> {
     let mut catalogue = Catalogue::new(rt.alloc());
-    assert!(rt; catalogue.push(obsolete_entry(rt.alloc())?).is_ok());
-    let live = Entry::message(rt.alloc(), Some(b""), b"k", Some(b"ks"), &[b"v", b"w\n"])?;
-    assert!(rt; catalogue.push(live).is_ok());
-    assert_eq!(rt; write(rt.alloc(), &catalogue)?.as_slice(), ARRANGED);
-    Ok(())
+    assert!(rt; takes_both(rt.alloc(), &mut catalogue)?);
+    assert_written(&rt, rt.alloc(), &catalogue, ARRANGED)
 }
 
 #[test]

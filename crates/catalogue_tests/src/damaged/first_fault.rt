@@ -67,25 +67,28 @@ fn fault_at(text: &[u8], offset: usize, kind: PoFault) -> PoError {
 fn settle(state: State, text: &[u8], offset: usize, byte: u8) -> Result<State, PoFault> {
     match state {
         State::Word(start) if !is_word_byte(byte) => {
-            let word: &[u8] = text.get(start..offset).unwrap_or(text);
-            match word {
-                b"msgstr" => Ok(settle_bracket(byte)),
-                b"msgctxt" | b"msgid" | b"msgid_plural" => Ok(State::Tokens),
-                _ => Err(PoFault::BadToken),
-            }
+            settle_word(text.get(start..offset).unwrap_or(text), byte)
         }
         State::Bracket => Ok(settle_bracket(byte)),
-        State::Index(Some(index)) if !byte.is_ascii_digit() => {
-            if index > 4_294_967_295 {
-                Err(PoFault::BadPluralIndex)
-            } else {
-                Ok(State::IndexEnd)
-            }
-        }
+        State::Index(Some(index)) if !byte.is_ascii_digit() => settle_index(index),
         State::Octal(count, number) if count == 3 || !(b'0'..=b'7').contains(&byte) =>
             settle_number(number),
         State::Hex(Some(number)) if !byte.is_ascii_hexdigit() => settle_number(number),
         _ => Ok(state),
+    }
+}
+
+/// The keywords that no index follows.
+const UNINDEXED: &[&[u8]] = &[b"msgctxt", b"msgid", b"msgid_plural"];
+
+/// The state after a word and a byte, or the word's fault.
+fn settle_word(word: &[u8], byte: u8) -> Result<State, PoFault> {
+    if word == b"msgstr".as_slice() {
+        Ok(settle_bracket(byte))
+    } else if UNINDEXED.contains(&word) {
+        Ok(State::Tokens)
+    } else {
+        Err(PoFault::BadToken)
     }
 }
 
@@ -95,6 +98,15 @@ fn settle_bracket(byte: u8) -> State {
         State::Bracket
     } else {
         State::Tokens
+    }
+}
+
+/// The state after an index, or its fault.
+fn settle_index(index: u64) -> Result<State, PoFault> {
+    if index > 4_294_967_295 {
+        Err(PoFault::BadPluralIndex)
+    } else {
+        Ok(State::IndexEnd)
     }
 }
 

@@ -1,9 +1,9 @@
 //! Texts that are read in pieces of every size: each reads as the whole.
 
-use super::refused::Refused;
-use crate::summary::push_summary;
+use crate::refused::{Refused, assert_refused};
+use crate::summary::summaries;
 use po_reader::read_in_pieces;
-use po_syntax::{PoError, PoFault};
+use po_syntax::PoFault;
 use std::alloc::Global;
 use std::test::Fail;
 
@@ -53,20 +53,16 @@ const REFUSED: &[Refused] = &[
 ];
 
 /// The summaries of the entries of a text that is read in pieces of this size.
-fn summaries(alloc: Global, text: &[u8], size: usize) -> Result<Vec<u8>, Fail> {
+fn summaries_of_pieces(alloc: Global, text: &[u8], size: usize) -> Result<Vec<u8>, Fail> {
     let catalogue = read_in_pieces(alloc, text, size)?;
-    let mut all = Vec::new(alloc);
-    for entry in catalogue.entries() {
-        push_summary(&mut all, entry)?;
-    }
-    Ok(all)
+    summaries(alloc, catalogue.entries())
 }
 
 #[test]
 fn cut_at_every_line(rt: HostRuntime) -> Result<(), Fail> {
     for (text, wanted) in TEXTS {
         for size in 0..text.len() {
-            let all = summaries(rt.alloc(), text, size)?;
+            let all = summaries_of_pieces(rt.alloc(), text, size)?;
             assert!(rt;
                 all.as_slice() == *wanted,
                 "{size} at {}",
@@ -79,18 +75,10 @@ fn cut_at_every_line(rt: HostRuntime) -> Result<(), Fail> {
 
 #[test]
 fn refused_at_every_cut(rt: HostRuntime) {
-    for (text, kind, line) in REFUSED {
-        let wanted = PoError {
-            kind: *kind,
-            line: *line,
-        };
-        for size in 0..text.len() {
-            let reported = read_in_pieces(rt.alloc(), text, size).err();
-            assert!(rt;
-                reported == Some(wanted),
-                "{size} at {}",
-                text.escape_ascii()
-            );
+    for refused in REFUSED {
+        for size in 0..refused.0.len() {
+            let reported = read_in_pieces(rt.alloc(), refused.0, size).err();
+            assert_refused(&rt, reported, refused);
         }
     }
 }

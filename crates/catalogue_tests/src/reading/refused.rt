@@ -1,12 +1,10 @@
 //! Texts that are refused: one for each fault, with its line, and one that is too large. More are in
 //! `tests/cli/refused.cases`.
 
+use crate::refused::{Refused, assert_refused};
 use po_reader::read;
 use po_syntax::{PoError, PoFault};
 use std::test::Fail;
-
-/// A text with the fault that is reported first, and its line.
-pub(super) type Refused = (&'static [u8], PoFault, u32);
 
 /// Each fault of a text that `read` reports at a line.
 const EACH_FAULT: &[Refused] = &[
@@ -31,13 +29,8 @@ const EACH_FAULT: &[Refused] = &[
 
 #[test]
 fn refused_texts(rt: HostRuntime) {
-    for (text, kind, line) in EACH_FAULT {
-        let wanted = PoError {
-            kind: *kind,
-            line: *line,
-        };
-        let reported = read(rt.alloc(), text).err();
-        assert_eq!(rt; reported, Some(wanted), "at {}", text.escape_ascii());
+    for refused in EACH_FAULT {
+        assert_refused(&rt, read(rt.alloc(), refused.0).err(), refused);
     }
 }
 
