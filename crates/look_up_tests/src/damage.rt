@@ -74,12 +74,17 @@ fn wrong_change(file: &[u8], bytes: &mut [u8]) -> Option<(usize, u8)> {
     None
 }
 
+const FILES: &[&[u8]] = &[&ONE, &TWO, &CONTEXTS];
+
 #[test]
 fn every_truncation_and_change(rt: HostRuntime) -> Result<(), Fail> {
-    for file in [ONE.as_slice(), &TWO, &CONTEXTS] {
-        assert_eq!(rt; wrong_truncation(file), None);
+    for file in FILES {
         let mut bytes = file.to_vec(rt.alloc())?;
-        assert_eq!(rt; wrong_change(file, bytes.as_mut_slice()), None);
+        let wrong = (
+            wrong_truncation(file),
+            wrong_change(file, bytes.as_mut_slice()),
+        );
+        assert!(rt; wrong == (None, None), "{wrong:?}");
     }
     Ok(())
 }

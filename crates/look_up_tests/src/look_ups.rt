@@ -246,16 +246,34 @@ const THIRD: &[(&[u8], &[u8])] = &[(b"", b"nplurals=3; plural=n;"), (b"f\0fs", b
 
 const OF_ONE_AND_THIRD: &[ChainQuery] = &[(b"f", Some((b"fs", 2)), b"2", true, 2, 3, 1)];
 
+/// The messages of the second file of a chain after `ONE`, and queries to it.
+const CHAINS: &[(&[(&[u8], &[u8])], &[ChainQuery])] = &[
+    (SECOND, OF_ONE_AND_SECOND),
+    (THIRD, OF_ONE_AND_THIRD),
+];
+
+/// The index of the first query that the chain of `ONE` and a file doesn't answer as it says, or
+/// their number where one of them isn't opened.
+fn first_wrong_after_one(bytes: &[u8], queries: &[ChainQuery]) -> Option<usize> {
+    let first = Catalog::open(&ONE, &mut Meter::new());
+    let second = Catalog::open(bytes, &mut Meter::new());
+    match (first, second) {
+        (Ok(first), Ok(second)) => first_wrong_of_chain(&[first, second], queries),
+        _ => Some(queries.len()),
+    }
+}
+
+#[test]
+fn a_chain_of_none_answers_with_the_msgid(rt: HostRuntime) {
+    assert!(rt; first_wrong_of_chain(&[], OF_NO_FILE).is_none());
+}
+
 #[test]
 fn a_chain_asks_up_to_the_first_that_has_the_message(rt: HostRuntime) -> Result<(), Fail> {
-    assert_eq!(rt; first_wrong_of_chain(&[], OF_NO_FILE), None);
-    for (messages, queries) in [(SECOND, OF_ONE_AND_SECOND), (THIRD, OF_ONE_AND_THIRD)] {
+    for (messages, queries) in CHAINS {
         let bytes = built(rt.alloc(), Order::Little, messages)?;
-        let members = [
-            Catalog::open(&ONE, &mut Meter::new()).expect(&rt, "a file"),
-            Catalog::open(&bytes, &mut Meter::new()).expect(&rt, "a file"),
-        ];
-        assert_eq!(rt; first_wrong_of_chain(&members, queries), None);
+        let wrong = first_wrong_after_one(&bytes, queries);
+        assert!(rt; wrong.is_none(), "query {wrong:?}");
     }
     Ok(())
 }
