@@ -1,5 +1,6 @@
 //! The statistics of catalogues, their duplicates, and how they are joined.
 
+use crate::assertions::{assert_at, assert_fault, assert_text};
 use crate::summary::summaries;
 use po_catalog::{
     Catalogue, JoinError, Stats, duplicates, into_joined, joined_duplicates, read, statistics,
@@ -55,7 +56,7 @@ fn has_line(alloc: Global, line: &Line) -> Result<bool, Fail> {
 #[test]
 fn statistics_lines(rt: HostRuntime) -> Result<(), Fail> {
     for row in LINES {
-        assert!(rt; has_line(rt.alloc(), row)?, "at {}", row.3.escape_ascii());
+        assert_at(&rt, has_line(rt.alloc(), row)?, row.3);
     }
     Ok(())
 }
@@ -110,12 +111,8 @@ const WITHIN_A_TEXT: &[(&[u8], usize, Option<PoError>)] = &[
 fn duplicates_within_a_text(rt: HostRuntime) {
     for (text, length, wanted) in WITHIN_A_TEXT {
         let read = catalogue(&rt, rt.alloc(), text);
-        let reported = duplicates(rt.alloc(), &read).err();
-        assert!(rt;
-            read.entries().len() == *length && reported == *wanted,
-            "at {}",
-            text.escape_ascii()
-        );
+        assert_at(&rt, read.entries().len() == *length, text);
+        assert_fault(&rt, duplicates(rt.alloc(), &read).err(), *wanted, text);
     }
 }
 
@@ -155,6 +152,6 @@ fn entries_of_two_inputs(rt: HostRuntime) -> Result<(), Fail> {
     let both = twice(&rt, rt.alloc(), HEADED)?;
     let joined = joined_summaries(rt.alloc(), both)?;
     let wanted = b"||||-;-;-;|-||-|X;.\n||||-;-;-;|-|a|-|A;.\n||||-;-;-;|-|a|-|A;.\n";
-    assert!(rt; joined.as_slice() == wanted.as_slice());
+    assert_text(&rt, &joined, wanted);
     Ok(())
 }

@@ -1,7 +1,7 @@
 //! Texts that are compiled, with the files and the answers of look-ups in them.
 ghost use Rattle.std.specs.Prelude.{◌<◌, ◌^◌, length};
 
-use crate::refused::{Refused, assert_refused};
+use crate::assertions::{Refused, assert_at, assert_refused};
 use crate::texts::FUZZY_AND_OBSOLETE;
 use mo_file::{Meter, Order};
 use mo_lookup::Catalog;
@@ -189,7 +189,7 @@ fn answers(bytes: &[u8], look: &Look) -> bool {
 fn look_ups(rt: HostRuntime) {
     for (text, options, look) in LOOKS {
         let file = compiled(&rt, rt.alloc(), text, *options);
-        assert!(rt; answers(&file.bytes, look), "at {}", look.3.escape_ascii());
+        assert_at(&rt, answers(&file.bytes, look), look.3);
     }
 }
 
@@ -259,11 +259,14 @@ fn two_inputs(rt: HostRuntime) {
     assert!(rt; two.n == 2 && two.bytes.len() == 68 && two.stats == wanted);
 }
 
+/// The header of the first of two inputs.
+const FIRST_LOOK: Look = (None, b"", None, b"X: first\n", true);
+
 #[test]
 fn two_headers(rt: HostRuntime) {
     let headed = joined(&rt, rt.alloc(), &[FIRST_HEADER, SECOND_HEADER]);
-    let look: Look = (None, b"", None, b"X: first\n", true);
-    assert!(rt; headed.n == 3 && answers(&headed.bytes, &look));
+    assert!(rt; headed.n == 3);
+    assert!(rt; answers(&headed.bytes, &FIRST_LOOK));
 }
 
 /// Two inputs, the input with the fault and that of the earlier entry, the fault and its line.

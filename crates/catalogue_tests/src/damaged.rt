@@ -4,6 +4,7 @@
 
 mod first_fault;
 
+use crate::assertions::{assert_at, assert_fault};
 use crate::texts::{ESCAPES, EVERY_LINE, FUZZY_AND_OBSOLETE};
 use first_fault::first_fault;
 use po_catalog::{Catalogue, Entry, read, write};
@@ -45,22 +46,20 @@ fn reads_back(alloc: Global, catalogue: &Catalogue) -> Result<bool, Fail> {
     Ok(is_arranged(back.entries(), catalogue.entries()) && again == written)
 }
 
-/// Whether a text is accepted, unless its catalogue doesn't read back.
-fn accepts(alloc: Global, text: &[u8]) -> Result<Option<bool>, Fail> {
+/// Whether the catalogue of a text reads back, if the text is accepted.
+fn catalogue_reads_back(alloc: Global, text: &[u8]) -> Result<Option<bool>, Fail> {
     match read(alloc, text) {
-        Ok(catalogue) => Ok(reads_back(alloc, &catalogue)?.then_some(true)),
-        Err(_) => Ok(Some(false)),
+        Ok(catalogue) => Ok(Some(reads_back(alloc, &catalogue)?)),
+        Err(_) => Ok(None),
     }
 }
 
 /// Whether a text is accepted.
 fn check(rt: &impl Abort, alloc: Global, text: &[u8]) -> Result<bool, Fail> {
-    let reported = items(alloc, text).err();
-    assert_eq!(rt; reported, first_fault(text), "at {}", text.escape_ascii());
-    match accepts(alloc, text)? {
-        Some(accepted) => Ok(accepted),
-        None => panic!(rt; "does not read back: {}", text.escape_ascii()),
-    }
+    assert_fault(rt, items(alloc, text).err(), first_fault(text), text);
+    let accepted = catalogue_reads_back(alloc, text)?;
+    assert_at(rt, accepted != Some(false), text);
+    Ok(accepted.is_some())
 }
 
 /// How many truncations of a text are accepted; the whole text is one of them.

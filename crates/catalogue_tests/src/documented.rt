@@ -1,5 +1,6 @@
 //! The examples of docs/CRATES.md, as they stand there.
 
+use crate::assertions::assert_text;
 use mo_file::{Meter, MoError, Order};
 use mo_lookup::Catalog;
 use po_catalog::duplicates;
@@ -51,6 +52,6 @@ fn a_message_is_added(rt: HostRuntime) -> Result<(), Fail> {
     let written = with_a_button(rt.alloc(), text)?;
     let wanted =
         b"# about\nmsgid \"a\"\nmsgstr \"b\"\n\n#, fuzzy\nmsgctxt \"button\"\nmsgid \"Close\"\nmsgstr \"Zu\"\n";
-    assert_eq!(rt; written.as_slice(), wanted.as_slice());
+    assert_text(&rt, &written, wanted);
     Ok(())
 }

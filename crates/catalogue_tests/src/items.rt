@@ -1,6 +1,6 @@
 //! The items of texts, their first faults, and quoted forms.
 
-use crate::refused::{Refused, assert_refused};
+use crate::assertions::{Refused, assert_at, assert_refused};
 use crate::texts::{ESCAPES, EVERY_LINE};
 use po_syntax::{Item, Marks, PoFault, items, quote};
 use std::alloc::{AllocError, Global};
@@ -147,7 +147,7 @@ fn quotes(rt: HostRuntime) -> Result<(), Fail> {
         out.clear();
         out.extend_from_slice(b"msgid ")?;
         quote(bytes, &mut out)?;
-        assert!(rt; out.as_slice() == *wanted, "at {}", bytes.escape_ascii());
+        assert_at(&rt, out.as_slice() == *wanted, bytes);
     }
     Ok(())
 }

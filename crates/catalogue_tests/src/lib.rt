@@ -2,11 +2,13 @@
 //! and answers that were worked out by hand, and a sweep over damaged texts. They stand in a crate
 //! of their own, since the gate proves a crate once more together with the tests in it.
 //!
-//! `texts`, `summary` and `refused` serve the others, which are in reading order: `items`, `reading`,
-//! `built_entries`, `writing`, `catalogues`, `compiling`, `damaged`, `documented`.
+//! `texts`, `summary` and `assertions` serve the others, which are in reading order: `items`,
+//! `reading`, `built_entries`, `writing`, `catalogues`, `compiling`, `damaged`, `documented`.
 
 #![tactic(auto)]
 
+#[cfg(test)]
+mod assertions;
 #[cfg(test)]
 mod built_entries;
 #[cfg(test)]
@@ -21,8 +23,6 @@ mod documented;
 mod items;
 #[cfg(test)]
 mod reading;
-#[cfg(test)]
-mod refused;
 #[cfg(test)]
 mod summary;
 #[cfg(test)]

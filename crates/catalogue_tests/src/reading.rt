@@ -3,6 +3,7 @@
 mod pieces;
 mod refused;
 
+use crate::assertions::assert_at;
 use crate::summary::summaries;
 use crate::texts::{EVERY_FIELD, EVERY_FIELD_WRITTEN, EVERY_LINE, FUZZY_AND_OBSOLETE};
 use po_entry::Entry;
@@ -151,8 +152,7 @@ fn reads_as(alloc: Global, text: &[u8], wanted: &[u8], line: u32) -> Result<bool
 #[test]
 fn texts_of_entries(rt: HostRuntime) -> Result<(), Fail> {
     for (text, wanted, line) in TEXTS {
-        let right = reads_as(rt.alloc(), text, wanted, *line)?;
-        assert!(rt; right, "at {}", text.escape_ascii());
+        assert_at(&rt, reads_as(rt.alloc(), text, wanted, *line)?, text);
     }
     Ok(())
 }

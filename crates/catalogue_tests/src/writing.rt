@@ -1,12 +1,12 @@
 //! Texts that are read and written again, and catalogues that are built and written.
 
+use crate::assertions::assert_text;
 use crate::texts::{EVERY_FIELD, EVERY_FIELD_WRITTEN};
 use po_entry::{Catalogue, Entry};
 use po_reader::read;
 use po_writer::laws::{written_text_again, written_text_reads};
 use po_writer::write;
 use std::alloc::Global;
-use std::process::Abort;
 use std::test::Fail;
 
 /// Texts, each with what is written of its entries.
@@ -49,15 +49,10 @@ const TEXTS: &[(&[u8], &[u8])] = &[
     ),
 ];
 
-/// Asserts what is written of a catalogue.
-fn assert_written(
-    rt: &impl Abort,
-    alloc: Global,
-    catalogue: &Catalogue,
-    wanted: &[u8],
-) -> Result<(), Fail> {
-    assert_eq!(rt; write(alloc, catalogue)?.as_slice(), wanted);
-    Ok(())
+/// What is written of a text's entries.
+fn rewritten(alloc: Global, text: &[u8]) -> Result<Vec<u8>, Fail> {
+    let catalogue = read(alloc, text)?;
+    Ok(write(alloc, &catalogue)?)
 }
 
 /// Whether a catalogue takes an entry.
@@ -71,6 +66,12 @@ fn catalogue_of(alloc: Global, id: &[u8], form: &[u8]) -> Result<Catalogue, Fail
     let mut catalogue = Catalogue::new(alloc);
     takes(&mut catalogue, entry);
     Ok(catalogue)
+}
+
+/// What is written of a catalogue with one built message.
+fn written_message(alloc: Global, id: &[u8], form: &[u8]) -> Result<Vec<u8>, Fail> {
+    let catalogue = catalogue_of(alloc, id, form)?;
+    Ok(write(alloc, &catalogue)?)
 }
 
 /// Messages without a plural, each with what is written of it: a form with a LF inside, and one
@@ -88,22 +89,22 @@ const MESSAGES: &[(&[u8], &[u8], &[u8])] = &[
 #[test]
 fn written_anew(rt: HostRuntime) -> Result<(), Fail> {
     for (text, wanted) in TEXTS {
-        let catalogue = read(rt.alloc(), text)?;
-        assert_written(&rt, rt.alloc(), &catalogue, wanted)?;
+        assert_text(&rt, &rewritten(rt.alloc(), text)?, wanted);
     }
     Ok(())
 }
 
 #[test]
 fn empty_catalogue(rt: HostRuntime) -> Result<(), Fail> {
-    assert_written(&rt, rt.alloc(), &Catalogue::new(rt.alloc()), b"")
+    let written = write(rt.alloc(), &Catalogue::new(rt.alloc()))?;
+    assert_text(&rt, &written, b"");
+    Ok(())
 }
 
 #[test]
 fn built_messages(rt: HostRuntime) -> Result<(), Fail> {
     for (id, form, wanted) in MESSAGES {
-        let catalogue = catalogue_of(rt.alloc(), id, form)?;
-        assert_written(&rt, rt.alloc(), &catalogue, wanted)?;
+        assert_text(&rt, &written_message(rt.alloc(), id, form)?, wanted);
     }
     Ok(())
 }
@@ -141,12 +142,18 @@ fn takes_both(alloc: Global, catalogue: &mut Catalogue) -> Result<bool, Fail> {
     Ok(takes(catalogue, obsolete_entry(alloc)?) && takes(catalogue, live_entry(alloc)?))
 }
 
+/// What is written of a catalogue with both, if it takes them.
+fn written_of_both(alloc: Global) -> Result<Vec<u8>, Fail> {
+    let mut catalogue = Catalogue::new(alloc);
+    takes_both(alloc, &mut catalogue)?;
+    Ok(write(alloc, &catalogue)?)
+}
+
 /// An obsolete entry that stands first comes last, and each of its lines has the prefix.
 #[test]
 fn arranged_entries(rt: HostRuntime) -> Result<(), Fail> {
-    let mut catalogue = Catalogue::new(rt.alloc());
-    assert!(rt; takes_both(rt.alloc(), &mut catalogue)?);
-    assert_written(&rt, rt.alloc(), &catalogue, ARRANGED)
+    assert_text(&rt, &written_of_both(rt.alloc())?, ARRANGED);
+    Ok(())
 }
 
 #[test]

@@ -1,6 +1,6 @@
 //! Texts that are read in pieces of every size: each reads as the whole.
 
-use crate::refused::{Refused, assert_refused};
+use crate::assertions::{Refused, assert_refused};
 use crate::summary::summaries;
 use po_reader::read_in_pieces;
 use po_syntax::PoFault;

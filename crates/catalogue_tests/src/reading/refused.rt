@@ -1,7 +1,7 @@
 //! Texts that are refused: one for each fault, with its line, and one that is too large. More are in
 //! `tests/cli/refused.cases`.
 
-use crate::refused::{Refused, assert_refused};
+use crate::assertions::{Refused, assert_refused};
 use po_reader::read;
 use po_syntax::{PoError, PoFault};
 use std::test::Fail;
