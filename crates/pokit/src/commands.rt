@@ -1,5 +1,6 @@
 //! The arguments that each tool takes, as `clap` commands.
 use crate::help;
+use Kind::{ByteOrder, File, Files, Flag, Forms, Letter, Number, Output, ShortFlag, Text};
 use clap::{Arg, ArgAction, Command, value_parser};
 use po_tools::STANDARD;
 use std::alloc::{AllocError, Global};
@@ -19,29 +20,175 @@ static TOOLS: [&str; 7] = [
     "envsubst",
 ];
 
-/// The options of msgattrib that say which entries are kept, with their help.
-static CONDITIONS: [(&str, &str); 6] = [
-    ("translated", "Keep translated messages"),
-    ("untranslated", "Keep untranslated messages"),
-    ("no-fuzzy", "Keep messages that aren't fuzzy"),
-    ("only-fuzzy", "Keep fuzzy messages"),
-    ("no-obsolete", "Keep messages that aren't obsolete"),
-    ("only-obsolete", "Keep obsolete messages"),
+/// An argument or an option: the name by which it is read, what it is, and its help.
+type Argument = (&'static str, Kind, &'static str);
+
+/// What an argument or an option is.
+#[derive(Clone, Copy)]
+enum Kind {
+    /// One file.
+    File,
+    /// One or more files.
+    Files,
+    /// Arguments in several forms, which the end of the help lists.
+    Forms,
+    /// An option `--name`.
+    Flag,
+    /// An option `--name`, or its letter.
+    ShortFlag(char),
+    /// An option of a letter alone.
+    Letter(char),
+    /// The option that names the output, with its default.
+    Output(Option<&'static str>),
+    /// An option `--name TEXT`, or its letter, with what the help has for the text.
+    Text(char, &'static str),
+    /// An option `--name N`.
+    Number,
+    /// An option `--name ORDER`, of a byte order.
+    ByteOrder,
+}
+
+const OUTPUT: Argument = (
+    "output-file",
+    Output(None),
+    "PO text to write; - or none is standard output",
+);
+
+const NO_WRAP: Argument = (
+    "no-wrap",
+    Flag,
+    "Accepted for compatibility: no line is ever wrapped",
+);
+
+const DOMAIN: Argument = ("domain", Text('d', "TEXTDOMAIN"), "The text domain");
+
+const CONTEXT: Argument = (
+    "context",
+    Text('c', "CONTEXT"),
+    "The context of the message",
+);
+
+const EXPAND: Argument = (
+    "expand",
+    Letter('e'),
+    "Expand escapes such as \\n in the message",
+);
+
+const NO_EXPAND: Argument = (
+    "no-expand",
+    Letter('E'),
+    "Accepted for compatibility, without effect",
+);
+
+static MSGFMT: [Argument; 7] = [
+    (
+        "FILE",
+        Files,
+        "PO texts to join, in their order; - is standard input",
+    ),
+    (
+        "output-file",
+        Output(Some(DEFAULT_OUTPUT)),
+        "MO file to write; - is standard output",
+    ),
+    ("use-fuzzy", ShortFlag('f'), "Compile fuzzy entries too"),
+    ("statistics", Flag, "Count the messages on standard error"),
+    ("endianness", ByteOrder, "Byte order of the MO file"),
+    (
+        "no-hash",
+        Flag,
+        "Accepted for compatibility: no hash table is ever written",
+    ),
+    (
+        "profile-check",
+        Flag,
+        "Refuse plural forms and newlines that don't fit",
+    ),
 ];
 
-/// The options of msgattrib that say how the entries that are kept are changed, with their help.
-static CHANGES: [(&str, &str); 8] = [
-    ("set-fuzzy", "Make all messages fuzzy"),
-    ("clear-fuzzy", "Make all messages not fuzzy"),
-    ("set-obsolete", "Make all messages obsolete"),
-    ("clear-obsolete", "Make all messages not obsolete"),
-    ("clear-previous", "Drop the previous texts"),
+static MSGUNFMT: [Argument; 3] = [
+    ("FILE", File, "MO file to read; - or none is standard input"),
+    OUTPUT,
+    NO_WRAP,
+];
+
+static MSGATTRIB: [Argument; 17] = [
+    ("FILE", File, "PO text to read; - or none is standard input"),
+    OUTPUT,
+    NO_WRAP,
+    ("translated", Flag, "Keep translated messages"),
+    ("untranslated", Flag, "Keep untranslated messages"),
+    ("no-fuzzy", Flag, "Keep messages that aren't fuzzy"),
+    ("only-fuzzy", Flag, "Keep fuzzy messages"),
+    ("no-obsolete", Flag, "Keep messages that aren't obsolete"),
+    ("only-obsolete", Flag, "Keep obsolete messages"),
+    ("set-fuzzy", Flag, "Make all messages fuzzy"),
+    ("clear-fuzzy", Flag, "Make all messages not fuzzy"),
+    ("set-obsolete", Flag, "Make all messages obsolete"),
+    ("clear-obsolete", Flag, "Make all messages not obsolete"),
+    ("clear-previous", Flag, "Drop the previous texts"),
     (
         "empty",
+        Flag,
         "With --clear-fuzzy, empty the translations of fuzzy messages",
     ),
-    ("fuzzy", "Stand for --only-fuzzy --clear-fuzzy"),
-    ("obsolete", "Stand for --only-obsolete --clear-obsolete"),
+    ("fuzzy", Flag, "Stand for --only-fuzzy --clear-fuzzy"),
+    (
+        "obsolete",
+        Flag,
+        "Stand for --only-obsolete --clear-obsolete",
+    ),
+];
+
+static MSGCAT: [Argument; 7] = [
+    ("FILE", Files, "PO texts to merge; - is standard input"),
+    (
+        "output-file",
+        Output(Some(STANDARD)),
+        "PO file to write; - is standard output",
+    ),
+    NO_WRAP,
+    (
+        "more-than",
+        Number,
+        "Keep messages with more definitions than N",
+    ),
+    (
+        "less-than",
+        Number,
+        "Keep messages with fewer definitions than N",
+    ),
+    (
+        "unique",
+        ShortFlag('u'),
+        "Keep messages with one definition",
+    ),
+    ("use-first", Flag, "Take the first translation"),
+];
+
+static GETTEXT: [Argument; 7] = [
+    DOMAIN,
+    CONTEXT,
+    EXPAND,
+    NO_EXPAND,
+    ("MSGID", Forms, ""),
+    ("no-newline", Letter('n'), "With -s, end without a newline"),
+    (
+        "shell",
+        Letter('s'),
+        "Translate all MSGIDs, and end with a newline",
+    ),
+];
+
+static NGETTEXT: [Argument; 5] = [DOMAIN, CONTEXT, EXPAND, NO_EXPAND, ("MSGID", Forms, "")];
+
+static ENVSUBST: [Argument; 2] = [
+    ("SHELL-FORMAT", Forms, ""),
+    (
+        "variables",
+        ShortFlag('v'),
+        "Print the names of the variables in SHELL-FORMAT, and read nothing",
+    ),
 ];
 
 /// The tool that an argument names, where it names one.
@@ -52,18 +199,22 @@ pub(crate) fn tool_of(argument: &str) -> Option<&'static str> {
 /// The command of the whole program. Where the first argument names a tool, it has the command of
 /// that tool alone.
 pub(crate) fn program<'a>(alloc: Global, first: Option<&str>) -> Result<Command<'a>, AllocError> {
-    let mut program = Command::new(alloc, "pokit")
-        .about("Compiles message catalogues and looks messages up in them")
-        .after_help(help::PROGRAM)
-        .disable_version_flag(true)
-        .disable_help_subcommand(true)
-        .subcommand_required(true);
+    let mut program = without_tools(alloc);
     for tool in &TOOLS {
         if first.is_none() || first == Some(*tool) {
             program = program.subcommand(command_of(alloc, *tool)?)?;
         }
     }
     Ok(program)
+}
+
+/// The command of the whole program, without its tools.
+fn without_tools<'a>(alloc: Global) -> Command<'a> {
+    let about = "Compiles message catalogues and looks messages up in them";
+    described(alloc, "pokit", about, help::PROGRAM)
+        .disable_version_flag(true)
+        .disable_help_subcommand(true)
+        .subcommand_required(true)
 }
 
 /// The command of a tool.
@@ -81,237 +232,109 @@ fn command_of<'a>(alloc: Global, tool: &str) -> Result<Command<'a>, AllocError> 
 
 /// The command `msgfmt` with its options and arguments.
 fn msgfmt<'a>(alloc: Global) -> Result<Command<'a>, AllocError> {
-    Command::new(alloc, "msgfmt")
-        .about("Compiles PO texts to one MO file")
-        .after_help(help::MSGFMT)
-        .arg(files(
-            alloc,
-            "PO texts to join, in their order; - is standard input",
-        ))?
-        .arg(
-            value(
-                alloc,
-                "output-file",
-                "FILE",
-                "MO file to write; - is standard output",
-            )
-            .short('o')
-            .default_value(DEFAULT_OUTPUT),
-        )?
-        .arg(flag(alloc, "use-fuzzy", "Compile fuzzy entries too").short('f'))?
-        .arg(flag(alloc, "statistics", "Count the messages on standard error"))?
-        .arg(
-            value(alloc, "endianness", "ORDER", "Byte order of the MO file")
-                .value_parser(BYTE_ORDERS.as_slice())
-                .default_value("little"),
-        )?
-        .arg(flag(
-            alloc,
-            "no-hash",
-            "Accepted for compatibility: no hash table is ever written",
-        ))?
-        .arg(flag(
-            alloc,
-            "profile-check",
-            "Refuse plural forms and newlines that don't fit",
-        ))
+    let about = "Compiles PO texts to one MO file";
+    let command = described(alloc, "msgfmt", about, help::MSGFMT);
+    with_arguments(alloc, command, &MSGFMT)
 }
 
 /// The command `msgunfmt` with its options and arguments.
 fn msgunfmt<'a>(alloc: Global) -> Result<Command<'a>, AllocError> {
-    Command::new(alloc, "msgunfmt")
-        .about("Writes the PO text of an MO file")
-        .after_help(help::MSGUNFMT)
-        .arg(Arg::new(alloc, "FILE").help("MO file to read; - or none is standard input"))?
-        .arg(value(
-            alloc,
-            "output-file",
-            "FILE",
-            "PO text to write; - or none is standard output",
-        )
-        .short('o'))?
-        .arg(flag(
-            alloc,
-            "no-wrap",
-            "Accepted for compatibility: no line is ever wrapped",
-        ))
+    let about = "Writes the PO text of an MO file";
+    let command = described(alloc, "msgunfmt", about, help::MSGUNFMT);
+    with_arguments(alloc, command, &MSGUNFMT)
 }
 
 /// The command `msgattrib` with its options and arguments.
 fn msgattrib<'a>(alloc: Global) -> Result<Command<'a>, AllocError> {
-    let command = Command::new(alloc, "msgattrib")
-        .about("Selects entries of a PO text and changes them")
-        .after_help(help::MSGATTRIB)
-        .arg(Arg::new(alloc, "FILE").help("PO text to read; - or none is standard input"))?
-        .arg(value(
-            alloc,
-            "output-file",
-            "FILE",
-            "PO text to write; - or none is standard output",
-        )
-        .short('o'))?
-        .arg(flag(
-            alloc,
-            "no-wrap",
-            "Accepted for compatibility: no line is ever wrapped",
-        ))?;
-    flags(alloc, flags(alloc, command, &CONDITIONS)?, &CHANGES)
+    let about = "Selects entries of a PO text and changes them";
+    let command = described(alloc, "msgattrib", about, help::MSGATTRIB);
+    with_arguments(alloc, command, &MSGATTRIB)
 }
 
 /// The command `msgcat` with its options and arguments.
 fn msgcat<'a>(alloc: Global) -> Result<Command<'a>, AllocError> {
-    Command::new(alloc, "msgcat")
-        .about("Merges PO texts, message by message")
-        .after_help(help::MSGCAT)
-        .arg(files(alloc, "PO texts to merge; - is standard input"))?
-        .arg(
-            value(
-                alloc,
-                "output-file",
-                "FILE",
-                "PO file to write; - is standard output",
-            )
-            .short('o')
-            .default_value(STANDARD),
-        )?
-        .arg(flag(
-            alloc,
-            "no-wrap",
-            "Accepted for compatibility: no line is ever wrapped",
-        ))?
-        .arg(value(
-            alloc,
-            "more-than",
-            "N",
-            "Keep messages with more definitions than N",
-        )
-        .value_parser(value_parser!(u32)))?
-        .arg(value(
-            alloc,
-            "less-than",
-            "N",
-            "Keep messages with fewer definitions than N",
-        )
-        .value_parser(value_parser!(u32)))?
-        .arg(flag(alloc, "unique", "Keep messages with one definition").short('u'))?
-        .arg(flag(alloc, "use-first", "Take the first translation"))
+    let about = "Merges PO texts, message by message";
+    let command = described(alloc, "msgcat", about, help::MSGCAT);
+    with_arguments(alloc, command, &MSGCAT)
 }
 
 /// The command `gettext` with its options and arguments.
 fn gettext<'a>(alloc: Global) -> Result<Command<'a>, AllocError> {
-    look_up(alloc, "gettext", "Prints the translation of a message")?
-        .after_help(help::GETTEXT)
-        .override_usage(
-            "pokit gettext [OPTIONS] [TEXTDOMAIN] MSGID\n       pokit gettext [OPTIONS] -s [MSGID]...",
-        )
-        .arg(forms(alloc, "MSGID"))?
-        .arg(switch(alloc, "no-newline", 'n', "With -s, end without a newline"))?
-        .arg(switch(
-            alloc,
-            "shell",
-            's',
-            "Translate all MSGIDs, and end with a newline",
-        ))
+    let about = "Prints the translation of a message";
+    let command = described(alloc, "gettext", about, help::GETTEXT).override_usage(
+        "pokit gettext [OPTIONS] [TEXTDOMAIN] MSGID\n       pokit gettext [OPTIONS] -s [MSGID]...",
+    );
+    with_arguments(alloc, command, &GETTEXT)
 }
 
 /// The command `ngettext` with its options and arguments.
 fn ngettext<'a>(alloc: Global) -> Result<Command<'a>, AllocError> {
-    look_up(
-        alloc,
-        "ngettext",
-        "Prints the translation of a message with a count",
-    )?
-    .after_help(help::NGETTEXT)
-    .override_usage("pokit ngettext [OPTIONS] [TEXTDOMAIN] MSGID MSGID-PLURAL COUNT")
-    .arg(forms(alloc, "MSGID"))
+    let about = "Prints the translation of a message with a count";
+    let command = described(alloc, "ngettext", about, help::NGETTEXT).override_usage(
+        "pokit ngettext [OPTIONS] [TEXTDOMAIN] MSGID MSGID-PLURAL COUNT",
+    );
+    with_arguments(alloc, command, &NGETTEXT)
 }
 
 /// The command `envsubst` with its options and arguments.
 fn envsubst<'a>(alloc: Global) -> Result<Command<'a>, AllocError> {
-    Command::new(alloc, "envsubst")
-        .about("Puts the values of variables into standard input")
-        .after_help(help::ENVSUBST)
-        .override_usage("pokit envsubst [OPTIONS] [SHELL-FORMAT]")
-        .arg(forms(alloc, "SHELL-FORMAT"))?
-        .arg(flag(
-            alloc,
-            "variables",
-            "Print the names of the variables in SHELL-FORMAT, and read nothing",
-        )
-        .short('v'))
+    let about = "Puts the values of variables into standard input";
+    let command = described(alloc, "envsubst", about, help::ENVSUBST).override_usage(
+        "pokit envsubst [OPTIONS] [SHELL-FORMAT]",
+    );
+    with_arguments(alloc, command, &ENVSUBST)
 }
 
-/// The options that gettext and ngettext share.
-fn look_up<'a>(alloc: Global, name: &'a str, about: &'a str) -> Result<Command<'a>, AllocError> {
-    Command::new(alloc, name)
-        .about(about)
-        .arg(value(alloc, "domain", "TEXTDOMAIN", "The text domain").short('d'))?
-        .arg(value(alloc, "context", "CONTEXT", "The context of the message").short('c'))?
-        .arg(switch(
-            alloc,
-            "expand",
-            'e',
-            "Expand escapes such as \\n in the message",
-        ))?
-        .arg(switch(
-            alloc,
-            "no-expand",
-            'E',
-            "Accepted for compatibility, without effect",
-        ))
+/// A command with what its help says before and after its arguments.
+fn described<'a>(alloc: Global, name: &'a str, about: &'a str, after: &'a str) -> Command<'a> {
+    Command::new(alloc, name).about(about).after_help(after)
 }
 
-/// The files of a tool that takes one or more.
-fn files<'a>(alloc: Global, help: &'a str) -> Arg<'a> {
-    Arg::new(alloc, "FILE")
-        .help(help)
-        .action(ArgAction::Append)
-        .num_args(1..)
-        .required(true)
-}
-
-/// The arguments of a tool that takes them in several forms, which the end of its help lists.
-fn forms<'a>(alloc: Global, id: &'a str) -> Arg<'a> {
-    Arg::new(alloc, id)
-        .action(ArgAction::Append)
-        .num_args(0..)
-        .hide(true)
-}
-
-/// An option `--id NAME`.
-fn value<'a>(alloc: Global, id: &'a str, name: &'a str, help: &'a str) -> Arg<'a> {
-    Arg::new(alloc, id)
-        .long(id)
-        .value_name(name)
-        .help(help)
-        .action(ArgAction::Set)
-}
-
-/// An option `--id` without a value.
-fn flag<'a>(alloc: Global, id: &'a str, help: &'a str) -> Arg<'a> {
-    Arg::new(alloc, id)
-        .long(id)
-        .help(help)
-        .action(ArgAction::SetTrue)
-}
-
-/// A command with these options, each without a value.
-fn flags<'a>(
+/// A command with these arguments and options.
+fn with_arguments<'a>(
     alloc: Global,
     command: Command<'a>,
-    options: &[(&'a str, &'a str)],
+    arguments: &[Argument],
 ) -> Result<Command<'a>, AllocError> {
     let mut command = command;
-    for (id, help) in options {
-        command = command.arg(flag(alloc, *id, *help))?;
+    for argument in arguments {
+        command = command.arg(arg_of(alloc, *argument))?;
     }
     Ok(command)
 }
 
-/// An option of one letter, without a long name.
-fn switch<'a>(alloc: Global, id: &'a str, letter: char, help: &'a str) -> Arg<'a> {
-    Arg::new(alloc, id)
-        .short(letter)
-        .help(help)
-        .action(ArgAction::SetTrue)
+/// An argument or an option, as `clap` has it.
+fn arg_of<'a>(alloc: Global, (name, kind, help): Argument) -> Arg<'a> {
+    let arg = Arg::new(alloc, name).help(help);
+    match kind {
+        File => arg,
+        Files => arg.action(ArgAction::Append).num_args(1..).required(true),
+        Forms => arg.action(ArgAction::Append).num_args(0..).hide(true),
+        Flag => arg.long(name).action(ArgAction::SetTrue),
+        ShortFlag(letter) => arg.long(name).short(letter).action(ArgAction::SetTrue),
+        Letter(letter) => arg.short(letter).action(ArgAction::SetTrue),
+        Output(default) => output(arg.long(name), default),
+        Text(letter, text) => arg.long(name).short(letter).value_name(text),
+        Number => arg
+            .long(name)
+            .value_name("N")
+            .value_parser(value_parser!(u32)),
+        ByteOrder => byte_order(arg.long(name)),
+    }
+}
+
+/// The option that names the output.
+fn output<'a>(arg: Arg<'a>, default: Option<&'a str>) -> Arg<'a> {
+    let arg = arg.short('o').value_name("FILE");
+    match default {
+        Some(default) => arg.default_value(default),
+        None => arg,
+    }
+}
+
+/// The option that names a byte order.
+fn byte_order<'a>(arg: Arg<'a>) -> Arg<'a> {
+    arg.value_name("ORDER")
+        .value_parser(BYTE_ORDERS.as_slice())
+        .default_value("little")
 }
