@@ -10,78 +10,9 @@
 #endif
 #include <libintl.h>
 #include <locale.h>
-#include <pokit.h>
-#include <stdio.h>
-#include <stdlib.h>
 
-static int passed, failed;
+#include "files.h"
 
-static void check(int holds, const char *name)
-{
-    if (holds) {
-        passed++;
-    } else {
-        failed++;
-        printf("failed: %s\n", name);
-    }
-}
-
-static void check_text(const char *got, const char *wanted, const char *name)
-{
-    check(got != NULL && strcmp(got, wanted) == 0, name);
-}
-
-/* A file that is made word by word. */
-struct file {
-    uint8_t bytes[4096];
-    size_t len;
-    int big;
-};
-
-static void put_word(struct file *file, size_t at, uint32_t w)
-{
-    int i;
-    for (i = 0; i < 4; i++)
-        file->bytes[at + (size_t)i] = (uint8_t)(w >> 8 * (file->big ? 3 - i : i));
-}
-
-/* The file of some messages, each with the lengths of its two strings, without padding. */
-struct message {
-    const char *original;
-    uint32_t original_len;
-    const char *translation;
-    uint32_t translation_len;
-};
-
-static void put_string(struct file *file, size_t entry, const char *text, uint32_t len)
-{
-    put_word(file, entry, len);
-    put_word(file, entry + 4, (uint32_t)file->len);
-    memcpy(file->bytes + file->len, text, len);
-    file->bytes[file->len + len] = 0;
-    file->len += len + 1;
-}
-
-static struct file file_of(const struct message *messages, uint32_t count, int big)
-{
-    struct file file;
-    uint32_t i;
-    memset(&file, 0, sizeof file);
-    file.big = big;
-    put_word(&file, 0, 0x950412de);
-    put_word(&file, 8, count);
-    put_word(&file, 12, 28);
-    put_word(&file, 16, 28 + 8 * count);
-    put_word(&file, 24, 28 + 16 * count);
-    file.len = 28 + 16 * count;
-    for (i = 0; i < count; i++)
-        put_string(&file, 28 + 8 * i, messages[i].original, messages[i].original_len);
-    for (i = 0; i < count; i++)
-        put_string(&file, 28 + 8 * count + 8 * i, messages[i].translation, messages[i].translation_len);
-    return file;
-}
-
-#define TEXT(s) s, sizeof s - 1
 static const char polish[] = "Content-Type: text/plain; charset=UTF-8\n"
                              "Plural-Forms: nplurals=3; plural=n==1 ? 0 : n%10>=2 && n%10<=4 && (n%100<10 || n%100>=20) ? 1 : 2;\n";
 static const struct message messages[] = {
@@ -302,6 +233,5 @@ int main(int argc, char **argv)
     } else {
         printf("skipped: glibc's dcngettext: no catalogues, or no locale C.UTF-8\n");
     }
-    printf("%d passed, %d failed\n", passed, failed);
-    return failed != 0;
+    return counts();
 }

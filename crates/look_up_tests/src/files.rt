@@ -1,9 +1,8 @@
-//! How files are laid out and read, and what is reported of damaged ones.
+//! How files are laid out and read.
 
-use crate::samples::{CONTEXTS, ONE, ONE_BIG, TWO, put};
+use crate::samples::{CONTEXTS, ONE, ONE_BIG, TWO};
 use mo_file::{
-    BuildError, Meter, MoError, MoView, Order, Pair, build, compare_key, layout_is_mo_file,
-    one_message_list,
+    BuildError, Meter, MoView, Order, Pair, build, compare_key, layout_is_mo_file, one_message_list,
 };
 use std::alloc::{AllocError, Global};
 use std::cmp::Ordering;
@@ -32,16 +31,6 @@ pub(crate) fn built(
     messages: &[(&[u8], &[u8])],
 ) -> Result<Vec<u8>, BuildError> {
     build(alloc, order, &pairs(alloc, messages)?)
-}
-
-/// Whether a file has so many messages, or is refused for this reason.
-fn opens_as(bytes: &[u8], want: Result<u32, MoError>) -> bool {
-    let opened = MoView::open(bytes, &mut Meter::new());
-    match (opened, want) {
-        (Ok(view), Ok(count)) => view.len() == count,
-        (Err(fault), Err(wanted)) => fault == wanted,
-        _ => false,
-    }
 }
 
 /// The byte order, the messages, and their file.
@@ -148,78 +137,6 @@ const ORDERS: &[(&[u8], Option<Order>)] = &[
 fn reports_the_byte_order(rt: HostRuntime) {
     for (file, order) in ORDERS {
         assert!(rt; Order::of_file(file) == *order, "{file:?}");
-    }
-}
-
-/// An offset in the file of one message, the bytes that are put there, and how many messages it has
-/// then or its fault.
-const CHANGES: &[(usize, &[u8], Result<u32, MoError>)] = &[
-    (48, &[], Ok(1)),
-    (0, &[0xdf, 0x12, 0x04, 0x95], Err(MoError::BadMagic)),
-    (4, &[0, 0, 2, 0], Err(MoError::BadRevision)),
-    (4, &[1, 0, 0, 0], Ok(1)),
-    (4, &[1, 0, 1, 0], Ok(1)),
-    (8, &[255; 4], Err(MoError::TableOutside)),
-    (12, &[255; 4], Err(MoError::TableOutside)),
-    // A hash table.
-    (20, &[3, 0, 0, 0], Ok(1)),
-    (
-        28,
-        &[255, 255, 255, 255, 1, 0, 0, 0],
-        Err(MoError::StringOutside(0)),
-    ),
-    (36, &[2, 0, 0, 0], Err(MoError::NoTerminator(0))),
-    (36, &[3, 0, 0, 0], Err(MoError::StringOutside(0))),
-    (36, &[0, 0, 0, 0], Err(MoError::NoTerminator(0))),
-    (40, &[255; 4], Err(MoError::StringOutside(0))),
-];
-
-#[test]
-fn reports_damage(rt: HostRuntime) {
-    for (at, bytes, want) in CHANGES {
-        let mut file = ONE;
-        put(&mut file, *at, bytes);
-        assert!(rt; opens_as(&file, *want), "{bytes:?} at {at}");
-    }
-}
-
-#[test]
-fn opens_other_files(rt: HostRuntime) {
-    let mut same_key = TWO;
-    put(&mut same_key, 40, &[60]);
-    let is_right = opens_as(&ONE_BIG, Ok(1))
-        && opens_as(&TWO, Ok(2))
-        && opens_as(&same_key, Err(MoError::NotSorted(1)));
-    assert!(rt; is_right);
-}
-
-#[test]
-fn reports_every_truncation(rt: HostRuntime) {
-    for len in 0..48 {
-        let want = match len {
-            0..=27 => MoError::TooShort,
-            28..=43 => MoError::TableOutside,
-            44..=46 => MoError::StringOutside(0),
-            _ => MoError::NoTerminator(0),
-        };
-        assert!(rt; opens_as(&ONE[..len], Err(want)), "at {len}");
-    }
-}
-
-/// Whether a file has one message, with this translation.
-fn translates_as(bytes: &[u8], translation: &[u8]) -> bool {
-    match MoView::open(bytes, &mut Meter::new()) {
-        Ok(view) => view.len() == 1 && view.translation(0) == translation,
-        Err(_) => false,
-    }
-}
-
-#[test]
-fn accepts_strings_and_tables_that_overlap(rt: HostRuntime) {
-    for (at, byte) in [(40, 44), (16, 28)] {
-        let mut file = ONE;
-        put(&mut file, at, &[byte]);
-        assert!(rt; translates_as(&file, b"a"), "{byte} at {at}");
     }
 }
 

@@ -1,13 +1,12 @@
 //! Tests of the MO file, the plural rule and look-up, through their public calls: files, rules and
-//! answers that were worked out by hand, and sweeps over damaged files. They stand in a crate of
-//! their own, since the gate proves a crate once more together with the tests in it.
+//! answers that were worked out by hand. They stand in a crate of their own, since the gate proves a
+//! crate once more together with the tests in it. What the library for C can show is tested through
+//! it: damaged files, the bound on comparisons, and the plural rules of languages.
 //!
-//! The modules in reading order: `samples`, `files`, `rules`, `look_ups`, `damage`.
+//! The modules in reading order: `samples`, `files`, `rules`, `look_ups`.
 
 #![tactic(auto)]
 
-#[cfg(test)]
-mod damage;
 #[cfg(test)]
 mod files;
 #[cfg(test)]

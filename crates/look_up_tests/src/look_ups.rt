@@ -5,26 +5,11 @@ ghost use Rattle.std.specs.Prelude.{◌<◌, ◌^◌, length};
 mod letters;
 
 use crate::files::built;
-use crate::samples::{EMPTY, ONE, put};
+use crate::samples::{EMPTY, ONE};
 use letters::Letters;
 use mo_file::{Meter, Order};
 use mo_lookup::{Catalog, Chain, Keys, Reason, Source, find};
 use std::test::Fail;
-
-/// Whether a query is answered with this text and within the bound, or with the msgid where there
-/// is no text.
-pub(crate) fn answers<'x>(
-    catalog: &Catalog<'x>,
-    context: Option<&[u8]>,
-    id: &'x [u8],
-    text: Option<&[u8]>,
-    bound: u32,
-) -> bool {
-    let answer = catalog.look(context, id, None, &mut Meter::new());
-    answer.found == text.is_some()
-        && answer.text == text.unwrap_or(id)
-        && answer.comparisons <= bound
-}
 
 /// The context, the msgid, the plural and its count, and of the answer the text, whether it was
 /// found, the least and the most comparisons, and the steps.
@@ -77,8 +62,6 @@ const OF_ONE: &[Query] = &[
     (None, b"f", Some((b"fs", 99)), b"fs", false, (0, 1), 0),
 ];
 
-const OF_OVERLAP: &[Query] = &[(None, b"a", None, b"a", true, (1, 1), 0)];
-
 /// Files that were laid out by hand.
 const LAID_OUT: &[(&[u8], Opened)] = &[
     (&EMPTY, (0, 0, NO_NUMBER, OF_EMPTY)),
@@ -92,31 +75,8 @@ fn one_message_or_none(rt: HostRuntime) {
     }
 }
 
-const OVERLAP: Opened = (1, 1, NO_NUMBER, OF_OVERLAP);
-
-#[test]
-fn strings_and_tables_that_overlap(rt: HostRuntime) {
-    for (at, byte) in [(40, 44), (16, 28)] {
-        let mut file = ONE;
-        put(&mut file, at, &[byte]);
-        assert_eq!(rt; first_wrong(&file, OVERLAP), None);
-    }
-}
-
 /// How many comparisons are allowed among so many keys.
 const BOUNDS: &[(usize, u32)] = &[(1, 1), (2, 2), (3, 2), (4, 3), (7, 3), (8, 4)];
-
-/// The keys of `Letters`, each translated as itself.
-const LETTERS: &[(&[u8], &[u8])] = &[
-    (b"b", b"b"),
-    (b"d", b"d"),
-    (b"f", b"f"),
-    (b"h", b"h"),
-    (b"j", b"j"),
-    (b"l", b"l"),
-    (b"n", b"n"),
-    (b"p", b"p"),
-];
 
 /// The index of a letter among so many keys.
 fn index_of(letter: u8, count: usize) -> Option<u32> {
@@ -126,25 +86,6 @@ fn index_of(letter: u8, count: usize) -> Option<u32> {
     } else {
         None
     }
-}
-
-#[test]
-fn a_look_up_stays_within_its_bound(rt: HostRuntime) -> Result<(), Fail> {
-    for (count, bound) in BOUNDS {
-        let messages = LETTERS.get(..*count).unwrap_or(LETTERS);
-        let bytes = built(rt.alloc(), Order::Little, messages)?;
-        let catalog = Catalog::open(bytes.as_slice(), &mut Meter::new()).expect(&rt, "a file");
-        for letter in b'a'..=b'q' {
-            let id = [letter];
-            let text = match index_of(letter, *count) {
-                Some(_) => Some(id.as_slice()),
-                None => None,
-            };
-            let is_right = answers(&catalog, None, &id, text, *bound);
-            assert!(rt; is_right, "{letter} of {count}");
-        }
-    }
-    Ok(())
 }
 
 #[test]

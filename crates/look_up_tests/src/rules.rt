@@ -1,9 +1,7 @@
-//! Values that were worked out by hand, and the rules of real languages.
+//! Values of plural expressions that were worked out by hand, and why a header gives the default rule.
 use plural_rule::{Reason, Rule, Source};
 use std::alloc::{AllocError, Global};
 use std::test::Fail;
-
-mod languages;
 
 /// The default rule, for this reason: `n != 1`.
 fn is_default(rule: &Rule, reason: Reason) -> bool {

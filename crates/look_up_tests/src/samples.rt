@@ -33,12 +33,3 @@ pub(crate) const CONTEXTS: [u8; 91] = [
     0, 0, 0, 1, 0, 0, 0, 87, 0, 0, 0, 1, 0, 0, 0, 89, 0, 0, 0, 4, b'x', 0, b'c', 4, b'x', 0, b'x',
     0, b'1', 0, b'2', 0, b'3', 0,
 ];
-
-/// Writes bytes into a file, from an offset on.
-pub(crate) fn put(file: &mut [u8], at: usize, bytes: &[u8]) {
-    for (i, byte) in bytes.iter().enumerate() {
-        if let Some(changed) = file.get_mut(at.saturating_add(i)) {
-            *changed = *byte;
-        }
-    }
-}
