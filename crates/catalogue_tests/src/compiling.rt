@@ -1,13 +1,12 @@
-//! Texts that are compiled, with the files and the answers of look-ups in them.
+//! Texts that are compiled, with the answers of look-ups in their files.
 ghost use Rattle.std.specs.Prelude.{◌<◌, ◌^◌, length};
 
 use crate::assertions::{Refused, assert_at, assert_refused};
 use crate::texts::FUZZY_AND_OBSOLETE;
 use mo_file::{Meter, Order};
 use mo_lookup::Catalog;
-use po_catalog::{JoinError, Stats};
 use po_compile::{Compiled, Options, compile, compile_all};
-use po_syntax::{PoError, PoFault};
+use po_syntax::PoFault;
 use std::alloc::Global;
 use std::process::Abort;
 
@@ -30,8 +29,6 @@ const EMPTY_FILE: &[u8] = b"\xde\x12\x04\x95\0\0\0\0\0\0\0\0\x1c\0\0\0\x1c\0\0\0
 
 const ONE_MESSAGE: &[u8] = b"msgid \"a\"\nmsgstr \"b\"\n";
 
-const OTHER_MESSAGE: &[u8] = b"msgid \"c\"\nmsgstr \"d\"\n";
-
 const THREE_CONTEXTS: &[u8] =
     b"msgctxt \"\"\nmsgid \"x\"\nmsgstr \"1\"\n\nmsgctxt \"c\"\nmsgid \"x\"\nmsgstr \"2\"\n\nmsgid \"x\"\nmsgstr \"3\"\n";
 
@@ -49,79 +46,6 @@ fn compiled(rt: &impl Abort, alloc: Global, text: &[u8], options: Options) -> Co
     match compile(alloc, text, options) {
         Ok(compiled) => compiled,
         Err(error) => panic!(rt; "refused at line {}", error.line),
-    }
-}
-
-/// Texts with their options, how many messages their file has, its length, and its last bytes.
-const FILES: &[(&[u8], Options, u32, usize, &[u8])] = &[
-    (b"", LITTLE, 0, 28, EMPTY_FILE),
-    (
-        ONE_MESSAGE,
-        LITTLE,
-        1,
-        48,
-        b"\xde\x12\x04\x95\0\0\0\0\x01\0\0\0\x1c\0\0\0\x24\0\0\0\0\0\0\0\x2c\0\0\0\x01\0\0\0\x2c\0\0\0\x01\0\0\0\x2e\0\0\0a\0b\0",
-    ),
-    (
-        ONE_MESSAGE,
-        BIG,
-        1,
-        48,
-        b"\x95\x04\x12\xde\0\0\0\0\0\0\0\x01\0\0\0\x1c\0\0\0\x24\0\0\0\0\0\0\0\x2c\0\0\0\x01\0\0\0\x2c\0\0\0\x01\0\0\0\x2ea\0b\0",
-    ),
-    (
-        THREE_CONTEXTS,
-        LITTLE,
-        3,
-        91,
-        b"\x04x\0c\x04x\0x\x001\x002\x003\0",
-    ),
-    (
-        b"msgid \"b\"\nmsgstr \"1\"\nmsgid \"a\"\nmsgstr \"2\"\n",
-        LITTLE,
-        2,
-        68,
-        b"a\0b\x002\x001\0",
-    ),
-    (
-        FUZZY_AND_OBSOLETE,
-        LITTLE,
-        2,
-        106,
-        b"\0a\0Content-Type: text/plain; charset=UTF-8\n\0A\0",
-    ),
-    (
-        FUZZY_AND_OBSOLETE,
-        WITH_FUZZY,
-        3,
-        126,
-        b"\0a\0b\0Content-Type: text/plain; charset=UTF-8\n\0A\0B\0",
-    ),
-    (
-        b"msgid \"a\"\nmsgstr \"A\"\n\n# x\nmsgctxt \"c\"\nmsgid \"a\"\nmsgstr \"B\"\n",
-        LITTLE,
-        2,
-        70,
-        b"a\0c\x04a\0A\0B\0",
-    ),
-    (
-        b"msgid \"a\"\nmsgstr \"A\"\n\n#~ msgid \"a\"\n#~ msgstr \"B\"\n",
-        LITTLE,
-        1,
-        48,
-        b"a\0A\0",
-    ),
-];
-
-#[test]
-fn files(rt: HostRuntime) {
-    for (text, options, n, length, end) in FILES {
-        let file = compiled(&rt, rt.alloc(), text, *options);
-        let bytes = file.bytes.as_slice();
-        assert!(rt;
-            file.n == *n && bytes.len() == *length && bytes.ends_with(end),
-            "{n}: {length}"
-        );
     }
 }
 
@@ -193,19 +117,6 @@ fn look_ups(rt: HostRuntime) {
     }
 }
 
-#[test]
-fn statistics(rt: HostRuntime) {
-    let wanted = Stats {
-        translated: 1,
-        fuzzy: 1,
-        untranslated: 1,
-    };
-    for options in [LITTLE, WITH_FUZZY] {
-        let file = compiled(&rt, rt.alloc(), FUZZY_AND_OBSOLETE, options);
-        assert!(rt; file.stats == wanted);
-    }
-}
-
 /// Texts that are refused, with the fault and its line.
 const REFUSED: &[Refused] = &[
     (b"msgid \"a\"\nmsgstr \"\\xff\"\n", PoFault::NotUtf8, 1),
@@ -248,17 +159,6 @@ fn no_input(rt: HostRuntime) {
     assert!(rt; none.bytes.as_slice() == EMPTY_FILE);
 }
 
-#[test]
-fn two_inputs(rt: HostRuntime) {
-    let two = joined(&rt, rt.alloc(), &[ONE_MESSAGE, OTHER_MESSAGE]);
-    let wanted = Stats {
-        translated: 2,
-        fuzzy: 0,
-        untranslated: 0,
-    };
-    assert!(rt; two.n == 2 && two.bytes.len() == 68 && two.stats == wanted);
-}
-
 /// The header of the first of two inputs.
 const FIRST_LOOK: Look = (None, b"", None, b"X: first\n", true);
 
@@ -267,38 +167,4 @@ fn two_headers(rt: HostRuntime) {
     let headed = joined(&rt, rt.alloc(), &[FIRST_HEADER, SECOND_HEADER]);
     assert!(rt; headed.n == 3);
     assert!(rt; answers(&headed.bytes, &FIRST_LOOK));
-}
-
-/// Two inputs, the input with the fault and that of the earlier entry, the fault and its line.
-const REFUSED_PAIRS: &[([&[u8]; 2], u32, u32, PoFault, u32)] = &[
-    ([ONE_MESSAGE, ONE_MESSAGE], 1, 0, PoFault::Duplicate(1), 1),
-    ([ONE_MESSAGE, b"msgid \"a\"\n"], 1, 1, PoFault::BadOrder, 1),
-    (
-        [
-            FIRST_HEADER,
-            b"msgid \"\"\nmsgstr \"a\"\nmsgid \"\"\nmsgstr \"b\"\n",
-        ],
-        1,
-        1,
-        PoFault::Duplicate(1),
-        3,
-    ),
-];
-
-#[test]
-fn refused_pairs(rt: HostRuntime) {
-    for (texts, input, first_input, kind, line) in REFUSED_PAIRS {
-        let wanted = JoinError {
-            input: *input,
-            first_input: *first_input,
-            error: PoError {
-                kind: *kind,
-                line: *line,
-            },
-        };
-        assert!(rt;
-            compile_all(rt.alloc(), texts, LITTLE).err() == Some(wanted),
-            "{kind:?}"
-        );
-    }
 }
