@@ -1,5 +1,5 @@
-/* The plural rules of languages, as the GNU gettext manual and Unicode's list of plural rules give them: the form of each
- * count from 0 to 200 is the one that the language has, given without an expression. */
+/* The plural rules of languages, as the GNU gettext manual and Unicode's list of plural rules give them: the form of
+ * each count from 0 to 200 is the one that the language has, given without an expression. */
 #include "files.h"
 
 static int within(int n, int first, int last)
@@ -311,13 +311,17 @@ int main(void)
         const struct language *language = languages + i;
         struct message messages[] = {{TEXT(""), NULL, 0}, {TEXT("f\0fs"), forms, 0}};
         struct file file;
+        char name[100];
+        int wrong;
         messages[0].translation = language->header;
         messages[0].translation_len = (uint32_t)strlen(language->header);
         messages[1].translation_len = 2 * (uint32_t)language->nplurals - 1;
         file = file_of(messages, 2, 0);
         check(pokit_open(&catalog, file.bytes, file.len, NULL) == POKIT_OK, language->name);
         check(catalog.nplurals == language->nplurals, language->name);
-        check(first_wrong(&catalog, language) == 201, language->name);
+        wrong = first_wrong(&catalog, language);
+        snprintf(name, sizeof name, "%s at %d", language->name, wrong);
+        check(wrong == 201, name);
     }
     return counts();
 }

@@ -1,7 +1,7 @@
 //! Tests of the MO file, the plural rule and look-up, through their public calls: files, rules and
-//! answers that were worked out by hand. They stand in a crate of their own, since the gate proves a
-//! crate once more together with the tests in it. What the library for C can show is tested through
-//! it: damaged files, the bound on comparisons, and the plural rules of languages.
+//! answers that were worked out by hand. They stand in a crate of their own, since the gate proves
+//! a crate once more together with the tests in it. What the library for C can show is tested
+//! through it: damaged files, the bound on comparisons, and the plural rules of languages.
 //!
 //! The modules in reading order: `samples`, `files`, `rules`, `look_ups`.
 

@@ -1,4 +1,5 @@
-//! Values of plural expressions that were worked out by hand, and why a header gives the default rule.
+//! Values of plural expressions that were worked out by hand, and why a header gives the default
+//! rule.
 use plural_rule::{Reason, Rule, Source};
 use std::alloc::{AllocError, Global};
 use std::test::Fail;
