@@ -80,6 +80,16 @@ static inline struct file file_of(const struct message *messages, uint32_t count
     return file;
 }
 
+/* A copy of its exact length, so that a read after its end is seen. */
+static inline uint8_t *copy_of(const struct file *file, size_t len)
+{
+    uint8_t *bytes = (uint8_t *)malloc(len + (len == 0));
+    if (bytes == NULL)
+        exit(2);
+    memcpy(bytes, file->bytes, len);
+    return bytes;
+}
+
 #define TEXT(s) s, sizeof s - 1
 
 #endif

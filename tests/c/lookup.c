@@ -86,15 +86,11 @@ static void rows(int big)
     check_text((const char *)pokit_look_chain(chain, 0, pokit_query_of(NULL, "book", NULL, 3)).text.ptr, "book", "an empty chain");
 }
 
-/* The first fault of a file in which one word or one byte has been changed. The copy has its exact length, so that a
- * read after its end is seen. */
+/* The first fault of a file in which one word or one byte has been changed. */
 static void refused(const struct file *file, size_t len, enum pokit_error wanted, uint32_t wanted_message, const char *name)
 {
-    uint8_t *bytes = (uint8_t *)malloc(len + (len == 0));
+    uint8_t *bytes = copy_of(file, len);
     uint32_t message = 99;
-    if (bytes == NULL)
-        exit(2);
-    memcpy(bytes, file->bytes, len);
     check(pokit_open(&other, bytes, len, &message) == wanted && message == wanted_message, name);
     check(pokit_len(&other) == 0, name);
     check_text(pokit_ngettext(&other, "book", "books", 3), "books", name);
@@ -143,20 +139,14 @@ static void damaged(int big)
     refused(&file, file.len, POKIT_NOT_SORTED, 1, "a key twice");
     for (len = 0; len < whole.len; len++) {
         enum pokit_error error;
-        uint8_t *bytes = (uint8_t *)malloc(len + (len == 0));
-        if (bytes == NULL)
-            exit(2);
-        memcpy(bytes, whole.bytes, len);
+        uint8_t *bytes = copy_of(&whole, len);
         error = pokit_open(&other, bytes, len, NULL);
         check(error >= POKIT_TOO_SHORT && error <= POKIT_NOT_SORTED, "a prefix of a file");
         free(bytes);
     }
     /* a byte changed anywhere: refused, or answered within the file */
     for (len = 0; len < whole.len; len++) {
-        uint8_t *bytes = (uint8_t *)malloc(whole.len);
-        if (bytes == NULL)
-            exit(2);
-        memcpy(bytes, whole.bytes, whole.len);
+        uint8_t *bytes = copy_of(&whole, whole.len);
         bytes[len] ^= 0x81;
         if (pokit_open(&other, bytes, whole.len, NULL) == POKIT_OK)
             check(pokit_look(&other, pokit_query_of(NULL, "book", "books", 7)).comparisons <= 3, "a byte changed");

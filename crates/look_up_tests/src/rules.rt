@@ -76,6 +76,7 @@ const EXPRESSIONS: &[(&str, u64, u32, u64, Option<u64>, u32)] = &[
     ("nplurals=2; plural=n<=2;", 2, 3, 2, Some(1), 3),
     ("nplurals=2; plural=n>=3;", 2, 3, 2, Some(0), 3),
     ("nplurals=2; plural=\tn \t!= 1 ;", 2, 3, 1, Some(0), 3),
+    ("nplurals=2; plural=(n!=1);", 2, 3, 0, Some(1), 3),
     (
         "nplurals=2; plural=18446744073709551615;",
         2,
