@@ -17,13 +17,13 @@ use Rattle.po_merge.specs.Merged.{merged}
 use Rattle.po_select.specs.Selected.{selected}
 use Rattle.po_unformat.specs.declared.fault.UnformatError.{UnformatError}
 use Rattle.po_unformat.specs.RoundTrip.{NoFaultWhereUnformatted, OneText, OneUnformatFault}
-use Rattle.po_tools.specs.Msgattrib.{error_line}
-use Rattle.po_tools.specs.Msgcat.{AreReadAs, IsFileFault, msgcat_line}
-use Rattle.po_tools.specs.Msgunfmt.{unformat_line, unformatted_run}
-use Rattle.po_tools.specs.NamedFile.{NamedFile}
+use Rattle.text_tools.specs.Msgattrib.{error_line}
+use Rattle.text_tools.specs.Msgcat.{AreReadAs, IsFileFault, msgcat_line}
+use Rattle.mo_tools.specs.Msgunfmt.{unformat_line, unformatted_run}
+use Rattle.tool_runs.specs.NamedFile.{NamedFile}
 use Rattle.po_tools.specs.RunLaws.{OneMsgattribRun, OneMsgcatRun, OneMsgunfmtRun}
-use Rattle.po_tools.specs.Run.{refusal}
-use Rattle.po_tools.specs.Written.{written_run}
+use Rattle.tool_runs.specs.Run.{refusal}
+use Rattle.text_tools.specs.Written.{written_run}
 
 abbrev OneReading : Type 0
 OneReading = (text : List ℕ) (entries others : List TextEntry) → ReadsText text entries → ReadsText text others → entries ≡ others

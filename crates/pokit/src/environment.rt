@@ -2,9 +2,9 @@
 //! needn't be text.
 use crate::files::System;
 use po_shell::VariableSource;
-use po_tools::ProgramFault;
 use std::alloc::{AllocError, Global};
 use std::env::{Env, FillError};
+use tool_runs::ProgramFault;
 
 /// What is asked of the system: a variable by its name, or an entry of the environment or an
 /// argument by its index.

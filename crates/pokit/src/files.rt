@@ -1,11 +1,11 @@
 //! Inputs by their names, and outputs.
-use po_tools::{
-    InputFault, InputSource, OutputFault, OutputTarget, ProgramFault, Run, read_whole, write_whole,
-};
 use std::alloc::Global;
 use std::fs;
 use std::io::{self, Input, Print, Write};
 use std::rt::Files;
+use tool_runs::{
+    InputFault, InputSource, OutputFault, OutputTarget, ProgramFault, Run, read_whole, write_whole,
+};
 
 /// Where the inputs of the program are read from.
 #[derive(Drop)]
@@ -32,7 +32,7 @@ pub(crate) fn read_one<'a, R: Files + Input>(
     rt: &R,
     file: &'a str,
 ) -> Result<Vec<u8>, ProgramFault<'a>> {
-    po_tools::read_one(alloc, &System(rt), file)
+    tool_runs::read_one(alloc, &System(rt), file)
 }
 
 /// The bytes of the file of this name.
@@ -83,5 +83,5 @@ pub(crate) fn write_run<'a, R: Files + Print, E: Write + Drop>(
     run: &Run,
     file: &'a str,
 ) -> Result<u8, ProgramFault<'a>> {
-    po_tools::write_run(Outputs { system: rt, errors }, run, file)
+    tool_runs::write_run(Outputs { system: rt, errors }, run, file)
 }

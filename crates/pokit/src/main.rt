@@ -1,32 +1,29 @@
 //! `pokit`: the GNU gettext catalogue tools in one program, a subcommand for each.
 //!
-//! Only this crate touches arguments, files, streams and the environment; what a tool does is in
-//! po_tools. The modules in reading order: `streams`, `environment`, `commands`, `help`,
-//! `usage`, `options`, `files`, `tools`.
+//! Only this crate touches arguments, files, streams and the environment. What the command line is,
+//! is in command_line, and what a tool does in tool_runs, mo_tools, text_tools and look_up_tools.
+//! The modules in reading order: `streams`, `environment`, `options`, `files`, `tools`.
 
 #![tactic(auto)]
 
-mod commands;
 mod environment;
 mod files;
-mod help;
 mod options;
 mod streams;
 mod tools;
-mod usage;
 
 use clap::ArgMatches;
 use clap::error::ErrorKind;
 use po_shell::Counted;
-use po_tools::ProgramFault;
 use std::process::ExitCode;
+use tool_runs::ProgramFault;
 
 fn main(rt: HostRuntime) -> ExitCode {
     if streams::replace_closed(&rt).is_err() {
         return report_fault(&rt, None, ProgramFault::CannotOpen(streams::PLACEHOLDER));
     }
     match environment::arguments(rt.alloc(), &rt) {
-        Ok(arguments) => match usage::spelled_out(rt.alloc(), arguments.as_slice()) {
+        Ok(arguments) => match command_line::spelled_out(rt.alloc(), arguments.as_slice()) {
             Ok(arguments) => run(&rt, arguments.as_slice()),
             Err(_) => report_fault(&rt, None, ProgramFault::OutOfMemory),
         },
@@ -38,8 +35,8 @@ fn main(rt: HostRuntime) -> ExitCode {
 fn run(rt: &HostRuntime, arguments: &[&str]) -> ExitCode {
     let first = arguments
         .get(1)
-        .and_then(|argument| commands::tool_of(*argument));
-    let parsed = match commands::program(rt.alloc(), first) {
+        .and_then(|argument| command_line::tool_of(*argument));
+    let parsed = match command_line::program(rt.alloc(), first) {
         Ok(command) => command.try_get_matches_from(arguments),
         Err(_) => return report_fault(rt, first, ProgramFault::OutOfMemory),
     };
@@ -49,7 +46,7 @@ fn run(rt: &HostRuntime, arguments: &[&str]) -> ExitCode {
             report_fault(rt, first, ProgramFault::OutOfMemory)
         }
         Err(error) if error.use_stderr() => {
-            let Ok(text) = usage::text_of(rt.alloc(), first, &error) else {
+            let Ok(text) = command_line::text_of(rt.alloc(), first, &error) else {
                 return report_fault(rt, first, ProgramFault::OutOfMemory);
             };
             let _ = rt.eprint(&text);
@@ -83,7 +80,7 @@ fn run_tool(rt: &HostRuntime, matches: &ArgMatches<'_>) -> ExitCode {
 /// Reports a fault. Where that fails too, the status alone reports it.
 fn report_fault(rt: &HostRuntime, tool: Option<&str>, fault: ProgramFault<'_>) -> ExitCode {
     let mut errors = Counted::new(rt.stderr());
-    let _ = po_tools::report_fault(rt.alloc(), &mut errors, tool, fault);
+    let _ = tool_runs::report_fault(rt.alloc(), &mut errors, tool, fault);
     ExitCode::FAILURE
 }
 

@@ -1,6 +1,6 @@
 //! The options of a command line, as `clap` has parsed them.
 use clap::ArgMatches;
-use po_tools::Arguments;
+use tool_runs::Arguments;
 
 /// The options that a tool was given.
 #[derive(Clone, Copy)]

@@ -4,10 +4,10 @@ use clap::ArgMatches;
 use po_shell::{
     Counted, ToolFault, name_lines, names, put_all, run_envsubst_in_blocks, variables_in,
 };
-use po_tools::{EnvsubstArguments, ProgramFault};
 use std::alloc::Global;
 use std::env::Env;
 use std::io::{self, Input, Print};
+use tool_runs::{EnvsubstArguments, ProgramFault};
 
 /// Runs `pokit envsubst` and gives its status.
 pub(crate) fn run<'a, R: Env + Input + Print>(

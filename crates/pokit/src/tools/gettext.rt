@@ -1,14 +1,12 @@
 //! Looks messages up.
 use crate::files::{System, write_run};
 use clap::ArgMatches;
-use po_tools::{
-    GettextArguments, GettextOptions, ProgramFault, STANDARD, borrowed_catalogues, find_catalogues,
-    plan_gettext,
-};
+use look_up_tools::{GettextOptions, borrowed_catalogues, find_catalogues, plan_gettext};
 use std::alloc::Global;
 use std::env::Env;
 use std::io::{Input, Print, Write};
 use std::rt::Files;
+use tool_runs::{GettextArguments, ProgramFault, STANDARD};
 
 /// Runs `pokit gettext` and gives its status.
 pub(crate) fn run<'a, R: Files + Env + Input + Print, E: Write + Drop>(

@@ -2,10 +2,11 @@
 use crate::files::{read_one, write_run};
 use crate::options::Options;
 use clap::ArgMatches;
-use po_tools::{ProgramFault, STANDARD, plan_msgattrib, selection_of, shown_name};
 use std::alloc::Global;
 use std::io::{Input, Print, Write};
 use std::rt::Files;
+use text_tools::{plan_msgattrib, selection_of};
+use tool_runs::{ProgramFault, STANDARD, shown_name};
 
 /// Runs `pokit msgattrib` and gives its status.
 pub(crate) fn run<'a, R: Files + Input + Print, E: Write + Drop>(

@@ -2,10 +2,11 @@
 use crate::files::{System, write_run};
 use crate::options::Options;
 use clap::ArgMatches;
-use po_tools::{Inputs, ProgramFault, STANDARD, merge_options_of, plan_msgcat_of};
 use std::alloc::Global;
 use std::io::{Input, Print, Write};
 use std::rt::Files;
+use text_tools::{merge_options_of, plan_msgcat_of};
+use tool_runs::{Inputs, ProgramFault, STANDARD};
 
 /// Runs `pokit msgcat` and gives its status.
 pub(crate) fn run<'a, R: Files + Input + Print, E: Write + Drop>(

@@ -1,12 +1,13 @@
 //! Compiles PO texts.
-use crate::commands::DEFAULT_OUTPUT;
 use crate::files::{System, write_run};
 use crate::options::Options;
 use clap::ArgMatches;
-use po_tools::{Inputs, ProgramFault, msgfmt_options_of, plan_msgfmt_of};
+use command_line::DEFAULT_OUTPUT;
+use mo_tools::{msgfmt_options_of, plan_msgfmt_of};
 use std::alloc::Global;
 use std::io::{Input, Print, Write};
 use std::rt::Files;
+use tool_runs::{Inputs, ProgramFault};
 
 /// Runs `pokit msgfmt` and gives its status.
 pub(crate) fn run<'a, R: Files + Input + Print, E: Write + Drop>(

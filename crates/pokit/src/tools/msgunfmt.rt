@@ -1,10 +1,11 @@
 //! Writes the PO text of an MO file.
 use crate::files::{read_one, write_run};
 use clap::ArgMatches;
-use po_tools::{ProgramFault, STANDARD, plan_msgunfmt, shown_name};
+use mo_tools::plan_msgunfmt;
 use std::alloc::Global;
 use std::io::{Input, Print, Write};
 use std::rt::Files;
+use tool_runs::{ProgramFault, STANDARD, shown_name};
 
 /// Runs `pokit msgunfmt` and gives its status.
 pub(crate) fn run<'a, R: Files + Input + Print, E: Write + Drop>(

@@ -2,14 +2,12 @@
 use crate::files::{System, write_run};
 use crate::options::Options;
 use clap::ArgMatches;
-use po_tools::{
-    NgettextArguments, ProgramFault, STANDARD, borrowed_catalogues, find_catalogues,
-    ngettext_options_of, plan_ngettext,
-};
+use look_up_tools::{borrowed_catalogues, find_catalogues, ngettext_options_of, plan_ngettext};
 use std::alloc::Global;
 use std::env::Env;
 use std::io::{Input, Print, Write};
 use std::rt::Files;
+use tool_runs::{NgettextArguments, ProgramFault, STANDARD};
 
 /// Runs `pokit ngettext` and gives its status.
 pub(crate) fn run<'a, R: Files + Env + Input + Print, E: Write + Drop>(

@@ -1,0 +1,335 @@
+//! The arguments that each tool takes, as `clap` commands.
+use crate::help;
+use Kind::{ByteOrder, File, Files, Flag, Forms, Letter, Number, Output, ShortFlag, Text};
+use clap::{Arg, ArgAction, Command, value_parser};
+use std::alloc::{AllocError, Global};
+
+/// The MO file that msgfmt writes where the arguments name none.
+pub const DEFAULT_OUTPUT: &str = "messages.mo";
+
+static BYTE_ORDERS: [&str; 2] = ["little", "big"];
+
+static TOOLS: [&str; 7] = [
+    "msgfmt",
+    "msgunfmt",
+    "msgattrib",
+    "msgcat",
+    "gettext",
+    "ngettext",
+    "envsubst",
+];
+
+/// An argument or an option: the name by which it is read, what it is, and its help.
+type Argument = (&'static str, Kind, &'static str);
+
+/// What an argument or an option is.
+#[derive(Clone, Copy)]
+enum Kind {
+    /// One file.
+    File,
+    /// One or more files.
+    Files,
+    /// Arguments in several forms, which the end of the help lists.
+    Forms,
+    /// An option `--name`.
+    Flag,
+    /// An option `--name`, or its letter.
+    ShortFlag(char),
+    /// An option of a letter alone.
+    Letter(char),
+    /// The option that names the output, with its default.
+    Output(Option<&'static str>),
+    /// An option `--name TEXT`, or its letter, with what the help has for the text.
+    Text(char, &'static str),
+    /// An option `--name N`.
+    Number,
+    /// An option `--name ORDER`, of a byte order.
+    ByteOrder,
+}
+
+const OUTPUT: Argument = (
+    "output-file",
+    Output(None),
+    "PO text to write; - or none is standard output",
+);
+
+const NO_WRAP: Argument = (
+    "no-wrap",
+    Flag,
+    "Accepted for compatibility: no line is ever wrapped",
+);
+
+const DOMAIN: Argument = ("domain", Text('d', "TEXTDOMAIN"), "The text domain");
+
+const CONTEXT: Argument = (
+    "context",
+    Text('c', "CONTEXT"),
+    "The context of the message",
+);
+
+const EXPAND: Argument = (
+    "expand",
+    Letter('e'),
+    "Expand escapes such as \\n in the message",
+);
+
+const NO_EXPAND: Argument = (
+    "no-expand",
+    Letter('E'),
+    "Accepted for compatibility, without effect",
+);
+
+static MSGFMT: [Argument; 7] = [
+    (
+        "FILE",
+        Files,
+        "PO texts to join, in their order; - is standard input",
+    ),
+    (
+        "output-file",
+        Output(Some(DEFAULT_OUTPUT)),
+        "MO file to write; - is standard output",
+    ),
+    ("use-fuzzy", ShortFlag('f'), "Compile fuzzy entries too"),
+    ("statistics", Flag, "Count the messages on standard error"),
+    ("endianness", ByteOrder, "Byte order of the MO file"),
+    (
+        "no-hash",
+        Flag,
+        "Accepted for compatibility: no hash table is ever written",
+    ),
+    (
+        "profile-check",
+        Flag,
+        "Refuse plural forms and newlines that don't fit",
+    ),
+];
+
+static MSGUNFMT: [Argument; 3] = [
+    ("FILE", File, "MO file to read; - or none is standard input"),
+    OUTPUT,
+    NO_WRAP,
+];
+
+static MSGATTRIB: [Argument; 17] = [
+    ("FILE", File, "PO text to read; - or none is standard input"),
+    OUTPUT,
+    NO_WRAP,
+    ("translated", Flag, "Keep translated messages"),
+    ("untranslated", Flag, "Keep untranslated messages"),
+    ("no-fuzzy", Flag, "Keep messages that aren't fuzzy"),
+    ("only-fuzzy", Flag, "Keep fuzzy messages"),
+    ("no-obsolete", Flag, "Keep messages that aren't obsolete"),
+    ("only-obsolete", Flag, "Keep obsolete messages"),
+    ("set-fuzzy", Flag, "Make all messages fuzzy"),
+    ("clear-fuzzy", Flag, "Make all messages not fuzzy"),
+    ("set-obsolete", Flag, "Make all messages obsolete"),
+    ("clear-obsolete", Flag, "Make all messages not obsolete"),
+    ("clear-previous", Flag, "Drop the previous texts"),
+    (
+        "empty",
+        Flag,
+        "With --clear-fuzzy, empty the translations of fuzzy messages",
+    ),
+    ("fuzzy", Flag, "Stand for --only-fuzzy --clear-fuzzy"),
+    (
+        "obsolete",
+        Flag,
+        "Stand for --only-obsolete --clear-obsolete",
+    ),
+];
+
+static MSGCAT: [Argument; 7] = [
+    ("FILE", Files, "PO texts to merge; - is standard input"),
+    OUTPUT,
+    NO_WRAP,
+    (
+        "more-than",
+        Number,
+        "Keep messages with more definitions than N",
+    ),
+    (
+        "less-than",
+        Number,
+        "Keep messages with fewer definitions than N",
+    ),
+    (
+        "unique",
+        ShortFlag('u'),
+        "Keep messages with one definition",
+    ),
+    ("use-first", Flag, "Take the first translation"),
+];
+
+static GETTEXT: [Argument; 7] = [
+    DOMAIN,
+    CONTEXT,
+    EXPAND,
+    NO_EXPAND,
+    ("MSGID", Forms, ""),
+    ("no-newline", Letter('n'), "With -s, end without a newline"),
+    (
+        "shell",
+        Letter('s'),
+        "Translate all MSGIDs, and end with a newline",
+    ),
+];
+
+static NGETTEXT: [Argument; 5] = [DOMAIN, CONTEXT, EXPAND, NO_EXPAND, ("MSGID", Forms, "")];
+
+static ENVSUBST: [Argument; 2] = [
+    ("SHELL-FORMAT", Forms, ""),
+    (
+        "variables",
+        ShortFlag('v'),
+        "Print the names of the variables in SHELL-FORMAT, and read nothing",
+    ),
+];
+
+/// The tool that an argument names, where it names one.
+pub fn tool_of(argument: &str) -> Option<&'static str> {
+    TOOLS.iter().copied().find(|tool| *tool == argument)
+}
+
+/// The command of the whole program. Where the first argument names a tool, it has the command of
+/// that tool alone.
+pub fn program<'a>(alloc: Global, first: Option<&str>) -> Result<Command<'a>, AllocError> {
+    let mut program = without_tools(alloc);
+    for tool in &TOOLS {
+        if first.is_none() || first == Some(*tool) {
+            program = program.subcommand(command_of(alloc, *tool)?)?;
+        }
+    }
+    Ok(program)
+}
+
+/// The command of the whole program, without its tools.
+fn without_tools<'a>(alloc: Global) -> Command<'a> {
+    let about = "Compiles message catalogues and looks messages up in them";
+    described(alloc, "pokit", about, help::PROGRAM)
+        .disable_version_flag(true)
+        .disable_help_subcommand(true)
+        .subcommand_required(true)
+}
+
+/// The command of a tool.
+fn command_of<'a>(alloc: Global, tool: &str) -> Result<Command<'a>, AllocError> {
+    match tool {
+        "msgfmt" => msgfmt(alloc),
+        "msgunfmt" => msgunfmt(alloc),
+        "msgattrib" => msgattrib(alloc),
+        "msgcat" => msgcat(alloc),
+        "gettext" => gettext(alloc),
+        "ngettext" => ngettext(alloc),
+        _ => envsubst(alloc),
+    }
+}
+
+/// The command `msgfmt` with its options and arguments.
+fn msgfmt<'a>(alloc: Global) -> Result<Command<'a>, AllocError> {
+    let about = "Compiles PO texts to one MO file";
+    let command = described(alloc, "msgfmt", about, help::MSGFMT);
+    with_arguments(alloc, command, &MSGFMT)
+}
+
+/// The command `msgunfmt` with its options and arguments.
+fn msgunfmt<'a>(alloc: Global) -> Result<Command<'a>, AllocError> {
+    let about = "Writes the PO text of an MO file";
+    let command = described(alloc, "msgunfmt", about, help::MSGUNFMT);
+    with_arguments(alloc, command, &MSGUNFMT)
+}
+
+/// The command `msgattrib` with its options and arguments.
+fn msgattrib<'a>(alloc: Global) -> Result<Command<'a>, AllocError> {
+    let about = "Selects entries of a PO text and changes them";
+    let command = described(alloc, "msgattrib", about, help::MSGATTRIB);
+    with_arguments(alloc, command, &MSGATTRIB)
+}
+
+/// The command `msgcat` with its options and arguments.
+fn msgcat<'a>(alloc: Global) -> Result<Command<'a>, AllocError> {
+    let about = "Merges PO texts, message by message";
+    let command = described(alloc, "msgcat", about, help::MSGCAT);
+    with_arguments(alloc, command, &MSGCAT)
+}
+
+/// The command `gettext` with its options and arguments.
+fn gettext<'a>(alloc: Global) -> Result<Command<'a>, AllocError> {
+    let about = "Prints the translation of a message";
+    let command = described(alloc, "gettext", about, help::GETTEXT).override_usage(
+        "pokit gettext [OPTIONS] [TEXTDOMAIN] MSGID\n       pokit gettext [OPTIONS] -s [MSGID]...",
+    );
+    with_arguments(alloc, command, &GETTEXT)
+}
+
+/// The command `ngettext` with its options and arguments.
+fn ngettext<'a>(alloc: Global) -> Result<Command<'a>, AllocError> {
+    let about = "Prints the translation of a message with a count";
+    let command = described(alloc, "ngettext", about, help::NGETTEXT).override_usage(
+        "pokit ngettext [OPTIONS] [TEXTDOMAIN] MSGID MSGID-PLURAL COUNT",
+    );
+    with_arguments(alloc, command, &NGETTEXT)
+}
+
+/// The command `envsubst` with its options and arguments.
+fn envsubst<'a>(alloc: Global) -> Result<Command<'a>, AllocError> {
+    let about = "Puts the values of variables into standard input";
+    let command = described(alloc, "envsubst", about, help::ENVSUBST).override_usage(
+        "pokit envsubst [OPTIONS] [SHELL-FORMAT]",
+    );
+    with_arguments(alloc, command, &ENVSUBST)
+}
+
+/// A command with what its help says before and after its arguments.
+fn described<'a>(alloc: Global, name: &'a str, about: &'a str, after: &'a str) -> Command<'a> {
+    Command::new(alloc, name).about(about).after_help(after)
+}
+
+/// A command with these arguments and options.
+fn with_arguments<'a>(
+    alloc: Global,
+    command: Command<'a>,
+    arguments: &[Argument],
+) -> Result<Command<'a>, AllocError> {
+    let mut command = command;
+    for argument in arguments {
+        command = command.arg(arg_of(alloc, *argument))?;
+    }
+    Ok(command)
+}
+
+/// An argument or an option, as `clap` has it.
+fn arg_of<'a>(alloc: Global, (name, kind, help): Argument) -> Arg<'a> {
+    let arg = Arg::new(alloc, name).help(help);
+    match kind {
+        File => arg,
+        Files => arg.action(ArgAction::Append).num_args(1..).required(true),
+        Forms => arg.action(ArgAction::Append).num_args(0..).hide(true),
+        Flag => arg.long(name).action(ArgAction::SetTrue),
+        ShortFlag(letter) => arg.long(name).short(letter).action(ArgAction::SetTrue),
+        Letter(letter) => arg.short(letter).action(ArgAction::SetTrue),
+        Output(default) => output(arg.long(name), default),
+        Text(letter, text) => arg.long(name).short(letter).value_name(text),
+        Number => arg
+            .long(name)
+            .value_name("N")
+            .value_parser(value_parser!(u32)),
+        ByteOrder => byte_order(arg.long(name)),
+    }
+}
+
+/// The option that names the output.
+fn output<'a>(arg: Arg<'a>, default: Option<&'a str>) -> Arg<'a> {
+    let arg = arg.short('o').value_name("FILE");
+    match default {
+        Some(default) => arg.default_value(default),
+        None => arg,
+    }
+}
+
+/// The option that names a byte order.
+fn byte_order<'a>(arg: Arg<'a>) -> Arg<'a> {
+    arg.value_name("ORDER")
+        .value_parser(BYTE_ORDERS.as_slice())
+        .default_value("little")
+}

@@ -1,0 +1,2 @@
+pub mod GettextLemmas
+pub mod CatalogueLemmas

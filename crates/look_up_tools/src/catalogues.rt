@@ -1,0 +1,110 @@
+//! The compiled catalogues of a text domain.
+ghost use Rattle.std.specs.Prelude.{◌≡◌, ◌-◌, ◌^◌, ◌<◌, IfOk, length, map, option_map, take};
+ghost use Rattle.std.specs.Option.{option_copied};
+ghost use Rattle.look_up_tools.specs.Catalogues.{AreCatalogues, AreFound, IsCatalogueAt, catalogue_file, catalogue_files};
+ghost use Rattle.tool_runs.specs.NamedFile.{named_files};
+
+use po_shell::{OwnedEnvironment, VariableSource, catalogue_paths};
+use std::alloc::{AllocError, Global};
+use std::str;
+use tool_runs::{InputFault, InputSource};
+
+/// A compiled catalogue's bytes, with the path that names it in fault lines.
+#[derive(Drop)]
+pub struct CatalogueFile {
+    /// The path of the file.
+    pub path: String,
+    /// What was read.
+    pub bytes: Vec<u8>,
+}
+
+/// Reads the catalogues of a text domain, given by an argument or by an option, in the order in which
+/// the environment asks for them: those whose files can be read. Refused only where an allocation
+/// failed.
+pub fn find_catalogues<S: InputSource + VariableSource>(
+    alloc: Global,
+    source: &S,
+    argument: Option<&str>,
+    option: Option<&str>,
+) -> Result<Vec<CatalogueFile>, AllocError>
+    ensures { IfOk result (λ found. AreFound (S.variable source.now) (S.file source.now)
+        (option_copied argument.entry) (option_copied option.entry) (catalogue_files found.items)) }
+{
+    let environment = OwnedEnvironment::read(alloc, source)?;
+    let Ok(paths) = catalogue_paths(
+        alloc,
+        bytes_of(argument),
+        bytes_of(option),
+        &environment.borrowed(),
+    ) else {
+        return Err(AllocError);
+    };
+    read_catalogues(alloc, source, paths.as_slice())
+}
+
+/// The bytes of a text, where there is one.
+fn bytes_of(text: Option<&str>) -> Option<&[u8]>
+    ensures { option_copied result ≡ option_copied text.entry }
+{
+    text.map(|text| text.as_bytes())
+}
+
+/// Reads the catalogues of these paths, in order. One that can't be read is skipped and not
+/// reported, and so is a path that isn't UTF-8, which is that of no file. Refused only where an
+/// allocation failed.
+pub fn read_catalogues<S: InputSource>(
+    alloc: Global,
+    source: &S,
+    paths: &[Vec<u8>],
+) -> Result<Vec<CatalogueFile>, AllocError>
+    ensures { IfOk result (λ found. AreCatalogues (S.file source.now)
+        (map (λ path. path.items) paths.now) (catalogue_files found.items)) }
+{
+    let mut found = Vec::new(alloc);
+    for path in paths {
+        let Some(catalogue) = read_catalogue(alloc, source, path)? else {
+            continue;
+        };
+        found.push(catalogue)?;
+    }
+    Ok(found)
+}
+
+/// The catalogue at a path, where it can be read.
+fn read_catalogue<S: InputSource>(
+    alloc: Global,
+    source: &S,
+    path: &[u8],
+) -> Result<Option<CatalogueFile>, AllocError>
+    ensures { IfOk result (λ found. IsCatalogueAt (S.file source.now) path.now (option_map catalogue_file found)) }
+{
+    let Ok(name) = str::from_utf8(path) else {
+        return Ok(None);
+    };
+    match source.read_file(alloc, name) {
+        Ok(bytes) => Ok(Some(CatalogueFile {
+            path: String::from_str(alloc, name)?,
+            bytes,
+        })),
+        Err(InputFault::OutOfMemory) => Err(AllocError),
+        Err(InputFault::CannotOpen | InputFault::ReadFault) => Ok(None),
+    }
+}
+
+/// The catalogues, borrowed, with their paths for names: at most 4,294,967,295, as many as a chain
+/// can count.
+pub fn borrowed_catalogues(
+    alloc: Global,
+    catalogues: &[CatalogueFile],
+) -> Result<Vec<(&str, &[u8])>, AllocError>
+    ensures borrowed { IfOk result
+        (λ borrowed. named_files borrowed.items ≡ take (2 ^ 32 - 1) (catalogue_files catalogues.now)) }
+    ensures bound { IfOk result (λ borrowed. length borrowed.items < 2 ^ 32) }
+{
+    let mut borrowed = Vec::with_capacity(alloc, catalogues.len())?;
+    for catalogue in catalogues {
+        borrowed.push((catalogue.path.as_str(), catalogue.bytes.as_slice()))?;
+    }
+    borrowed.truncate(u32::MAX as usize);
+    Ok(borrowed)
+}

@@ -1,0 +1,3 @@
+pub mod Profiles
+pub mod MsgfmtLemmas
+pub mod FirstFaults

@@ -1,0 +1,5 @@
+pub mod Msgfmt
+pub mod Msgunfmt
+pub mod Profile
+pub mod ProfileFaults
+pub mod Options

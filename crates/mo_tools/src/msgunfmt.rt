@@ -1,0 +1,111 @@
+//! What msgunfmt writes and reports: the PO text of an MO file.
+ghost use Rattle.std.specs.Prelude.{◌≡◌, ◌≢◌, ◌⊎◌, ◌+◌, ◌^◌, ◌<◌, ◌≤◌, ◌++◌, ℕ, List, IfOk, OnOk, OnErr, IsErrOf, Err};
+ghost use Rattle.std.specs.Io.KnownBytes.{Keeps};
+ghost use Rattle.po_unformat.specs.Unformatting.{IsUnformatted};
+ghost use Rattle.tool_runs.specs.Delivered.{IsCut, IsDelivered};
+ghost use Rattle.mo_tools.specs.Msgunfmt.{IsMsgunfmtRun, IsMsgunfmtRunOf, unformat_line, unformat_text, unformatted_run};
+ghost use Rattle.tool_runs.specs.Run.{refusal, run_view};
+
+use po_shell::{ByteIn, ByteOut, ToolFault, read_input};
+use po_unformat::laws::empty_text;
+use po_unformat::{UnformatError, unformat};
+use std::alloc::{AllocError, Global};
+use tool_runs::{Run, deliver, push_location, push_mo_text, push_numbered, refused};
+
+/// Appends why a file has no PO text.
+fn push_unformat_text(out: &mut Vec<u8>, error: UnformatError) -> Result<(), AllocError>
+    ensures { OnOk result (out.new.items ≡ out.old.items ++ unformat_text error) }
+{
+    let text = match error {
+        UnformatError::Mo(fault) => return push_mo_text(out, fault),
+        UnformatError::NotUtf8(i) => {
+            return push_numbered(out, "string ", i.into(), " is not UTF-8");
+        }
+        UnformatError::ForbiddenByte(i) => {
+            return push_numbered(out, "string ", i.into(), " has a forbidden byte");
+        }
+        UnformatError::ForeignCharset => "charset is not UTF-8",
+        UnformatError::OutOfMemory => "out of memory",
+    };
+    out.extend_from_slice(text.as_bytes())
+}
+
+/// The run of a file that has no text.
+fn refused_run(alloc: Global, name: &str, error: UnformatError) -> Result<Run, AllocError>
+    ensures { IfOk result (λ run. (error ≢ UnformatError.OutOfMemory)
+        × (run_view run ≡ refusal (unformat_line name.now error))) }
+{
+    if error == UnformatError::OutOfMemory {
+        return Err(AllocError);
+    }
+    let mut messages = Vec::new(alloc);
+    push_location(&mut messages, "msgunfmt", name, 0)?;
+    push_unformat_text(&mut messages, error)?;
+    messages.extend_from_slice(b"\n")?;
+    Ok(refused(alloc, messages))
+}
+
+/// The run of a file that has a text.
+fn unformatted_run(alloc: Global, text: Vec<u8>) -> Run
+    ensures { (bytes : List ℕ) (file : IsUnformatted bytes text.items)
+        → run_view result ≡ unformatted_run file.messages text.items }
+{
+    empty_text();
+    let create = text.len() > 0;
+    Run {
+        output: text,
+        create,
+        messages: Vec::new(alloc),
+        status: 0,
+    }
+}
+
+/// What `msgunfmt` writes and reports of a file with this name: its PO text, where it has a message. A file that has no
+/// text is reported by one line, with status 1. Refused only where an allocation failed.
+pub fn plan_msgunfmt(alloc: Global, bytes: &[u8], name: &str) -> Result<Run, ToolFault>
+    ensures run { IfOk result (λ run. IsMsgunfmtRun (record { name = name.now; bytes = bytes.now }) (run_view run)) }
+    ensures memory { OnErr result (result ≡ Err ToolFault.OutOfMemory) }
+{
+    match unformat(alloc, bytes) {
+        Ok(text) => Ok(unformatted_run(alloc, text)),
+        Err(error) => Ok(refused_run(alloc, name, error)?),
+    }
+}
+
+/// Reads a file, plans as `plan_msgunfmt` does with this name, and writes the run: its output and
+/// then its messages. Returns the run's status. After a `ReadFault`, or out of memory, nothing is
+/// written; after a `WriteFault` a prefix is, as `deliver` says.
+pub fn run_msgunfmt<R: ByteIn, O: ByteOut, E: ByteOut>(
+    alloc: Global,
+    reader: &mut R,
+    out: &mut O,
+    err: &mut E,
+    name: &str,
+) -> Result<u8, ToolFault>
+    requires calls { R.calls reader.old < 2 ^ 63 }
+    requires read_failures { R.failures reader.old < 2 ^ 63 }
+    requires out_failures { O.failures out.old < 2 ^ 63 }
+    requires err_failures { E.failures err.old < 2 ^ 63 }
+    ensures calls { R.calls reader.new ≤ R.calls reader.old + 4294967296 }
+    ensures delivered { IfOk result
+        (λ status. IsDelivered (IsMsgunfmtRunOf name.now) (R.remaining reader.old)
+        (O.contents out.old) (O.contents out.new) (E.contents err.old) (E.contents err.new) status) }
+    ensures prefix { IsErrOf result ToolFault.WriteFault
+        → IsCut (IsMsgunfmtRunOf name.now) (R.remaining reader.old)
+        (O.contents out.old) (O.contents out.new) (E.contents err.old) (E.contents err.new) }
+    ensures no_output { (result ≡ Err ToolFault.ReadFault) ⊎ (result ≡ Err ToolFault.OutOfMemory)
+        → Keeps (O.contents out.old) (O.contents out.new) }
+    ensures no_messages { (result ≡ Err ToolFault.ReadFault) ⊎ (result ≡ Err ToolFault.OutOfMemory)
+        → Keeps (E.contents err.old) (E.contents err.new) }
+    ensures read_fault { IsErrOf result ToolFault.ReadFault → R.failures reader.new ≡ R.failures reader.old + 1 }
+    ensures write_fault { IsErrOf result ToolFault.WriteFault
+        → O.failures out.new + E.failures err.new ≡ O.failures out.old + E.failures err.old + 1 }
+    ensures read_failures { (result ≢ Err ToolFault.ReadFault) → R.failures reader.new ≡ R.failures reader.old }
+    ensures out_failures { (result ≢ Err ToolFault.WriteFault) → O.failures out.new ≡ O.failures out.old }
+    ensures err_failures { (result ≢ Err ToolFault.WriteFault) → E.failures err.new ≡ E.failures err.old }
+{
+    let bytes = read_input(alloc, reader)?;
+    let run = plan_msgunfmt(alloc, &bytes, name)?;
+    deliver(&run, out, err)?;
+    Ok(run.status)
+}

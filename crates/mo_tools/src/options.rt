@@ -1,0 +1,30 @@
+//! What the options of a command line mean for msgfmt.
+ghost use Rattle.std.specs.Prelude.{◌≡◌};
+ghost use Rattle.std.specs.Option.{option_copied};
+ghost use Rattle.mo_tools.specs.Options.{AreMsgfmtOptions, order_of};
+
+use crate::msgfmt::MsgfmtOptions;
+use mo_file::Order;
+use tool_runs::Arguments;
+
+/// What `msgfmt` is asked for.
+pub fn msgfmt_options_of<A: Arguments>(arguments: &A) -> MsgfmtOptions
+    ensures { AreMsgfmtOptions (A.flag arguments.now) (A.text arguments.now) result }
+{
+    MsgfmtOptions {
+        use_fuzzy: arguments.is_given("use-fuzzy"),
+        order: order_of(arguments.text_of("endianness")),
+        statistics: arguments.is_given("statistics"),
+        profile_check: arguments.is_given("profile-check"),
+    }
+}
+
+/// The byte order by its name, little-endian where none is given.
+fn order_of(name: Option<&str>) -> Order
+    ensures { result ≡ order_of (option_copied name.entry) }
+{
+    match name {
+        Some(name) if name == "big" => Order::Big,
+        _ => Order::Little,
+    }
+}

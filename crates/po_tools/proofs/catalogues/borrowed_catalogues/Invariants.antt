@@ -1,7 +1,0 @@
-use Rattle.std.proofs.Common.{◌≡◌, take}
-use Rattle.po_tools.specs.Catalogues.{catalogue_files}
-use Rattle.po_tools.specs.NamedFile.{named_files}
-use Rattle.po_tools.proofs.catalogues.borrowed_catalogues.Given as goal
-
-abbrev pub invariant-loop-catalogue : goal.invariant-loop-catalogue
-invariant-loop-catalogue l = named_files l.borrowed.items ≡ catalogue_files (take l.catalogue-index l.catalogues)

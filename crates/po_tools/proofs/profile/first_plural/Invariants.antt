@@ -1,8 +1,0 @@
-use Rattle.std.proofs.Common.{◌≡◌, drop, find}
-use Rattle.po_catalog.specs.JoinedView.{input_entries}
-use Rattle.po_tools.specs.Profile.{is_plural}
-use Rattle.po_tools.proofs.profile.first_plural.Given as goal
-
--- the entries that are left decide
-abbrev pub invariant-loop-joined : goal.invariant-loop-joined
-invariant-loop-joined l = find is_plural (input_entries (drop l.joined-index l.entries)) ≡ find is_plural (input_entries l.entries)

@@ -1,8 +1,0 @@
-use Rattle.std.proofs.Common.{◌≡◌, drop, find}
-use Rattle.po_catalog.specs.JoinedView.{input_entries}
-use Rattle.po_tools.specs.Profile.{is_header_entry}
-use Rattle.po_tools.proofs.profile.header_of.Given as goal
-
--- the entries that are left decide
-abbrev pub invariant-loop-joined : goal.invariant-loop-joined
-invariant-loop-joined l = find is_header_entry (input_entries (drop l.joined-index l.entries)) ≡ find is_header_entry (input_entries l.entries)

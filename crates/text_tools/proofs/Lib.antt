@@ -1,0 +1,9 @@
+pub mod MsgattribLemmas
+pub mod MsgcatLemmas
+pub mod DigestLemmas
+pub mod SelectedLemmas
+pub mod OneText
+pub mod SegmentLemmas
+pub mod HeldLemmas
+pub mod InterleavedText
+pub mod NulNames

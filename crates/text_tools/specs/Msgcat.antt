@@ -1,0 +1,89 @@
+-- What msgcat writes and reports (manual, "Invoking the msgcat Program").
+use Rattle.std.specs.Prelude.{◌≡◌, ◌≢◌, ◌⊎◌, ◌==◌, ◌&&◌, ℕ, All, Bool, Contains, not, List, [], ◌∷◌, ◌++◌, codes, is_some}
+use Rattle.std.specs.List.{AllZip}
+use Rattle.po_syntax.specs.declared.fault.PoError.{PoError}
+use Rattle.po_syntax.specs.declared.fault.PoFault.TheVariants.{ForeignCharset, OutOfMemory as NoMemory}
+use Rattle.po_entry.specs.Bytes.{Lacks}
+use Rattle.po_entry.specs.Header.{HasAdmittedCharset}
+use Rattle.po_compile.specs.Accepted.{ReadsDistinct, IsTextFault}
+use Rattle.po_merge.specs.Inputs.{Input}
+use Rattle.po_merge.specs.Merged.{merged}
+use Rattle.po_merge.specs.declared.input.MergeOptions.{MergeOptions}
+use Rattle.po_writer.specs.WrittenText.{written_text}
+use Rattle.tool_runs.specs.declared.inputs.InputFault.TheVariants.{CannotOpen}
+use Rattle.tool_runs.specs.FaultText.{text_line}
+use Rattle.tool_runs.specs.Inputs.{input_fault_text}
+use Rattle.tool_runs.specs.NamedFile.{NamedFile}
+use Rattle.tool_runs.specs.Run.{RunView, refusal}
+use Rattle.text_tools.specs.Written.{written_run}
+
+-- a file is read as the catalogue of an input, in which no live entry repeats an earlier one
+pub record IsReadAs (file : NamedFile) (input : Input) : Type 0 where
+  pub name : input.name ≡ file.name
+  pub reads : ReadsDistinct file.bytes input.entries
+
+abbrev pub AreReadAs : List NamedFile → List Input → Type 0
+AreReadAs files inputs = AllZip IsReadAs files inputs
+
+-- the first file that isn't read, and why
+pub record IsFileFault (files : List NamedFile) (name : List ℕ) (error : PoError) : Type 0 where
+  pub before : List NamedFile
+  pub file : NamedFile
+  pub after : List NamedFile
+  pub order : files ≡ before ++ file ∷ after
+  pub inputs : List Input
+  pub read : AreReadAs before inputs
+  pub name_is : name ≡ file.name
+  pub fault : IsTextFault file.bytes error
+
+-- the line that reports a fault of a file
+abbrev pub msgcat_line : List ℕ → PoError → List ℕ
+msgcat_line name error = text_line (codes "msgcat") name error
+
+-- a file isn't read, which is reported of the first such file
+pub record IsUnread (files : List NamedFile) (run : RunView) : Type 0 where
+  pub name : List ℕ
+  pub error : PoError
+  pub fault : IsFileFault files name error
+  pub not_memory : error.kind ≢ NoMemory
+  pub run_is : run ≡ refusal (msgcat_line name error)
+
+abbrev pub first_name : List NamedFile → List ℕ
+first_name [] = []
+first_name (file ∷ files) = file.name
+
+-- the files are read, and a merged header names a charset that isn't admitted, which is reported with the first file's name
+pub record IsForeign (files : List NamedFile) (o : MergeOptions) (run : RunView) : Type 0 where
+  pub inputs : List Input
+  pub read : AreReadAs files inputs
+  pub foreign : All HasAdmittedCharset (merged o inputs) → ⊥
+  pub run_is : run ≡ refusal (msgcat_line (first_name files) (record { kind = ForeignCharset; line = 0 }))
+
+-- the files are read, each merged header's charset is admitted, and what they are merged to is written
+pub record IsMerged (files : List NamedFile) (o : MergeOptions) (run : RunView) : Type 0 where
+  pub inputs : List Input
+  pub read : AreReadAs files inputs
+  pub admitted : All HasAdmittedCharset (merged o inputs)
+  pub run_is : run ≡ written_run (merged o inputs)
+
+-- what a run of msgcat comes to
+abbrev pub IsMsgcatRun : List NamedFile → MergeOptions → RunView → Type 0
+IsMsgcatRun files o run = IsUnread files run ⊎ (IsForeign files o run ⊎ IsMerged files o run)
+
+-- every message is kept
+abbrev pub keeps_all : MergeOptions → Bool
+keeps_all o = (not o.unique && not (is_some o.less_than)) && (o.more_than == 0)
+
+-- the files are read, and this is the text of what they are merged to
+pub record IsMergedText (files : List NamedFile) (o : MergeOptions) (written : List ℕ) : Type 0 where
+  pub inputs : List Input
+  pub read : AreReadAs files inputs
+  pub admitted : All HasAdmittedCharset (merged o inputs)
+  pub text_is : written ≡ written_text (merged o inputs)
+
+-- one of the files has a name with a NUL, so that it can't be opened
+pub record HasNulName (files : List NamedFile) (text : List ℕ) : Type 0 where
+  pub file : NamedFile
+  pub among : Contains files file
+  pub nul : Lacks 0 file.name → ⊥
+  pub text_is : text ≡ input_fault_text file.name CannotOpen

@@ -1,0 +1,25 @@
+//! msgattrib and msgcat as functions of their inputs: what each writes and reports, and its exit
+//! status.
+//!
+//! The modules in reading order: `written`, `digests`, `selected_text`, `msgattrib`; then, for
+//! several inputs, `repeated`, `segment_texts`, `held`, `merged_text`, `msgcat`, `unread`; and
+//! `options`.
+
+#![tactic(auto)]
+
+mod digests;
+mod held;
+mod merged_text;
+mod msgattrib;
+mod msgcat;
+mod options;
+mod repeated;
+mod segment_texts;
+mod selected_text;
+mod unread;
+mod written;
+
+pub use msgattrib::{plan_msgattrib, run_msgattrib};
+pub use msgcat::{plan_msgcat, plan_msgcat_before};
+pub use options::{merge_options_of, selection_of};
+pub use unread::plan_msgcat_of;

@@ -1,0 +1,54 @@
+-- The arguments that are left to read, and what they add to the inputs before.
+use Rattle.std.proofs.Common.{◌≡◌, ◌≤◌, ◌<◌, ◌+◌, ◌||◌, ℕ, Bool, false, List, [], ◌∷◌, ◌++◌, Option, None, Some, refl, drop, get_or, map, length, ap, subst, append_assoc, append-nil, drop-cons, drop_of_length-le, add-one}
+use Rattle.std.specs.Borrow.{Bor}
+use Rattle.tool_runs.specs.declared.inputs.Input.{Input}
+use Rattle.tool_runs.specs.declared.inputs.InputFault.{InputFault}
+use Rattle.tool_runs.specs.Inputs.{AreInputs, ReadsAs, Reading, gives, refuses, done, read, unread, input_fault_text, named_input, named_inputs}
+use Rattle.tool_runs.specs.NamedFile.{NamedFile}
+use Rattle.tool_runs.specs.Run.{is_standard, shown_name}
+
+abbrev pub arguments_now : List (Bor (List ℕ)) → List (List ℕ)
+arguments_now arguments = map (λ argument. argument.now) arguments
+
+-- one more input stands after those before
+pub named-more : (texts : List Input) (input : Input) (name : List ℕ) → input.name.now ≡ name
+    → named_inputs (texts ++ input ∷ []) ≡ named_inputs texts ++ record { name = name; bytes = input.bytes.items } ∷ []
+named-more [] input name is = rw is refl
+named-more (text ∷ texts) input name is = ap (λ list. named_input text ∷ list) (named-more texts input name is)
+
+module _ (file : List ℕ → Reading → Type 0) (standard : Reading → Type 0) where
+  -- whatever the arguments from i on add completes what the arguments before made
+  pub record Completes (arguments : List (Bor (List ℕ))) (i : ℕ) (seen : Bool) (inputs : List NamedFile) : Type 0 where
+    pub completes : (more : List NamedFile) (fault : Option (List ℕ)) → AreInputs file standard seen (arguments_now (drop i arguments)) more fault
+        → AreInputs file standard false (arguments_now arguments) (inputs ++ more) fault
+
+  -- the next argument stands before those that are left
+  next-argument : (arguments : List (Bor (List ℕ))) (i : ℕ) (d : Bor (List ℕ)) → i < length arguments
+      → arguments_now (drop i arguments) ≡ (get_or arguments i d).now ∷ arguments_now (drop (i + 1) arguments)
+  next-argument arguments i d below = let next : drop i arguments ≡ get_or arguments i d ∷ drop (i + 1) arguments = rw add-one (drop-cons arguments i d below) in ap arguments_now next
+
+  pub Completes-none : (arguments : List (Bor (List ℕ))) → Completes arguments 0 false []
+  Completes-none arguments = record { completes = λ more fault are. are }
+
+  pub Completes-read : (arguments : List (Bor (List ℕ))) (i : ℕ) (d : Bor (List ℕ)) (seen : Bool) (inputs : List NamedFile) (bytes : List ℕ) → i < length arguments
+      → ReadsAs file standard (get_or arguments i d).now (is_standard (get_or arguments i d).now) seen (gives bytes) → Completes arguments i seen inputs
+      → Completes arguments (i + 1) (seen || is_standard (get_or arguments i d).now) (inputs ++ record { name = shown_name (get_or arguments i d).now; bytes = bytes } ∷ [])
+  Completes-read arguments i d seen inputs bytes below reads before = record {
+    completes = λ more fault are.
+        rw append_assoc (before.completes (record { name = shown_name (get_or arguments i d).now; bytes = bytes } ∷ more) fault
+        (rw (next-argument arguments i d below) (read reads are)));
+  }
+
+  pub Completes-unread : (arguments : List (Bor (List ℕ))) (i : ℕ) (d : Bor (List ℕ)) (seen : Bool) (inputs : List NamedFile) (why : InputFault) → i < length arguments
+      → ReadsAs file standard (get_or arguments i d).now (is_standard (get_or arguments i d).now) seen (refuses why) → Completes arguments i seen inputs
+      → AreInputs file standard false (arguments_now arguments) inputs (Some (input_fault_text (shown_name (get_or arguments i d).now) why))
+  Completes-unread arguments i d seen inputs why below reads before =
+      let Are : List NamedFile → Type 0 = λ list. AreInputs file standard false (arguments_now arguments) list (Some (input_fault_text (shown_name (get_or arguments i d).now) why)) in
+      subst Are (append-nil inputs)
+      (before.completes [] (Some (input_fault_text (shown_name (get_or arguments i d).now) why)) (rw (next-argument arguments i d below) (unread why reads)))
+
+  pub Completes-all : (arguments : List (Bor (List ℕ))) (i : ℕ) (seen : Bool) (inputs : List NamedFile) → length arguments ≤ i → Completes arguments i seen inputs
+      → AreInputs file standard false (arguments_now arguments) inputs None
+  Completes-all arguments i seen inputs past before =
+      let Are : List NamedFile → Type 0 = λ list. AreInputs file standard false (arguments_now arguments) list None in
+      subst Are (append-nil inputs) (before.completes [] None (rw (drop_of_length-le arguments past) done))

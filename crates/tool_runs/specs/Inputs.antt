@@ -1,0 +1,49 @@
+-- What the tools read: the inputs that the command line names, in order, up to the first that can't be read (manual, "Invoking the msgfmt
+-- Program": "If input file is `-`, standard input is read").
+use Rattle.std.specs.Prelude.{◌≡◌, ◌++◌, ◌∷◌, ◌||◌, ℕ, Bool, true, false, List, [], map, Option, Some, None, codes}
+use Rattle.tool_runs.specs.declared.inputs.Input.{Input}
+use Rattle.tool_runs.specs.declared.inputs.InputFault.{InputFault}
+use Rattle.tool_runs.specs.declared.inputs.InputFault.TheVariants.{CannotOpen, ReadFault, OutOfMemory}
+use Rattle.tool_runs.specs.NamedFile.{NamedFile}
+use Rattle.tool_runs.specs.Run.{is_standard, shown_name}
+
+-- what reading an input comes to: its bytes, or why it can't be read
+pub data Reading : Type 0 where
+  gives : List ℕ → Reading
+  refuses : InputFault → Reading
+
+-- what an argument is read as: a file; standard input, where it isn't read yet; and no bytes, where it is
+abbrev pub ReadsAs : (List ℕ → Reading → Type 0) → (Reading → Type 0) → List ℕ → Bool → Bool → Reading → Type 0
+ReadsAs file standard argument false seen reading = file argument reading
+ReadsAs file standard argument true false reading = standard reading
+ReadsAs file standard argument true true reading = reading ≡ gives []
+
+-- what is wrong with an input that can't be read
+abbrev pub input_fault_text : List ℕ → InputFault → List ℕ
+input_fault_text name CannotOpen = name ++ codes ": cannot open"
+input_fault_text name ReadFault = name ++ codes ": read fault"
+input_fault_text name OutOfMemory = codes "out of memory"
+
+-- the only input can't be read, and this is what is wrong with it
+pub record IsInputFault (file : List ℕ → Reading → Type 0) (standard : Reading → Type 0) (argument : List ℕ) (text : List ℕ) : Type 0 where
+  pub why : InputFault
+  pub reads : ReadsAs file standard argument (is_standard argument) false (refuses why)
+  pub text_is : text ≡ input_fault_text (shown_name argument) why
+
+-- The inputs that arguments name, before which `-` was seen or not: each with its bytes, up to the
+-- first that can't be read and what is wrong with it.
+pub data AreInputs (file : List ℕ → Reading → Type 0) (standard : Reading → Type 0) : Bool → List (List ℕ) → List NamedFile → Option (List ℕ) → Type 0 where
+  done : {seen : Bool} → AreInputs file standard seen [] [] None
+  read : {seen : Bool} {argument : List ℕ} {arguments : List (List ℕ)} {bytes : List ℕ} {inputs : List NamedFile} {fault : Option (List ℕ)}
+      → ReadsAs file standard argument (is_standard argument) seen (gives bytes) → AreInputs file standard (seen || is_standard argument) arguments inputs fault
+      → AreInputs file standard seen (argument ∷ arguments) (record { name = shown_name argument; bytes = bytes } ∷ inputs) fault
+  unread : {seen : Bool} {argument : List ℕ} {arguments : List (List ℕ)} (why : InputFault)
+      → ReadsAs file standard argument (is_standard argument) seen (refuses why)
+      → AreInputs file standard seen (argument ∷ arguments) [] (Some (input_fault_text (shown_name argument) why))
+
+-- what contracts see of an input
+abbrev pub named_input : Input → NamedFile
+named_input input = record { name = input.name.now; bytes = input.bytes.items }
+
+abbrev pub named_inputs : List Input → List NamedFile
+named_inputs inputs = map named_input inputs

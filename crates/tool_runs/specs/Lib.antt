@@ -1,0 +1,10 @@
+pub mod Run
+pub mod ProgramFaults
+pub mod FaultText
+pub mod Inputs
+pub mod NamedFile
+pub mod Outputs
+pub mod Positional
+pub mod PositionalView
+pub mod Delivered
+pub mod SomeText

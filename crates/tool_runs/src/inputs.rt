@@ -1,0 +1,185 @@
+//! The inputs of a tool, read in the order of the command line.
+ghost use Rattle.std.specs.Prelude.{◌≡◌, ◌≢◌, ◌⊎◌, ◌^◌, ℕ, List, take, Err, IfErr, IfSome, map, option_map, false, Some, MatchOption, MatchResult, IfOk};
+ghost use Rattle.tool_runs.specs.Inputs.{AreInputs, IsInputFault, ReadsAs, Reading, gives, refuses, named_inputs, input_fault_text};
+ghost use Rattle.tool_runs.specs.NamedFile.{named_files};
+ghost use Rattle.tool_runs.specs.ProgramFaults.{program_text};
+ghost use Rattle.tool_runs.specs.Run.{is_standard, shown_name};
+
+use crate::program_fault::ProgramFault;
+use crate::run::{STANDARD, shown_name};
+use po_shell::{Counted, ToolFault, read_input};
+use std::alloc::{AllocError, Global};
+use std::io::Read;
+
+/// Why an input isn't read.
+#[derive(Clone, Copy, Debug, PartialEq, Eq)]
+pub enum InputFault {
+    /// The file can't be opened.
+    CannotOpen,
+    /// It was opened, and reading it failed.
+    ReadFault,
+    /// An allocation failed.
+    OutOfMemory,
+}
+
+/// Where inputs are read from: the files of a system, and its standard input.
+pub trait InputSource {
+    // What reading the file of a name may come to.
+    ghost file: { Self → List ℕ → Reading → Type 0 };
+
+    // What reading standard input may come to.
+    ghost standard: { Self → Reading → Type 0 };
+
+    /// The bytes of the file of this name.
+    fn read_file(&self, alloc: Global, name: &str) -> Result<Vec<u8>, InputFault>
+        ensures { MatchResult result (λ bytes. file self.now name.now (gives bytes.items))
+            (λ why. (why ≡ InputFault.OutOfMemory) ⊎ file self.now name.now (refuses why)) };
+
+    /// The bytes of standard input.
+    fn read_standard(&self, alloc: Global) -> Result<Vec<u8>, InputFault>
+        ensures { MatchResult result (λ bytes. standard self.now (gives bytes.items))
+            (λ why. (why ≡ InputFault.OutOfMemory) ⊎ standard self.now (refuses why)) };
+}
+
+/// An input with its name in fault lines.
+#[derive(Drop)]
+pub struct Input<'a> {
+    /// The name: that of a file, or `<stdin>`.
+    pub name: &'a str,
+    /// What was read.
+    pub bytes: Vec<u8>,
+}
+
+/// The inputs that a command line names, up to the first that can't be read.
+#[derive(Drop)]
+pub struct Inputs<'a> {
+    /// Each input that was read, in order.
+    pub texts: Vec<Input<'a>>,
+    /// Why the next one can't be read, where one can't.
+    pub fault: Option<ProgramFault<'a>>,
+}
+
+impl<'a> Inputs<'a> {
+    /// Reads the file of each argument, or standard input for `-`, which is empty from the second time on.
+    /// The first that can't be read ends the inputs. Refused only where an allocation failed.
+    pub fn read<S: InputSource>(
+        alloc: Global,
+        source: &S,
+        arguments: &[&'a str],
+    ) -> Result<Inputs<'a>, AllocError>
+        ensures { IfOk result (λ inputs. AreInputs (S.file source.now) (S.standard source.now) false
+            (map (λ argument. argument.now) arguments.now) (named_inputs inputs.texts.items)
+            (option_map program_text inputs.fault)) }
+    {
+        let mut texts = Vec::new(alloc);
+        let mut is_stdin_read = false;
+        for argument in arguments {
+            let standard = is_standard(argument);
+            match read_argument(alloc, source, argument, standard, is_stdin_read) {
+                Ok(bytes) => texts.push(Input {
+                    name: shown_name(argument),
+                    bytes,
+                })?,
+                Err(why) => return ended(texts, argument, why),
+            }
+            is_stdin_read = is_stdin_read || standard;
+        }
+        Ok(Inputs { texts, fault: None })
+    }
+
+    /// The inputs that were read, borrowed.
+    pub fn borrowed(&self, alloc: Global) -> Result<Vec<(&str, &[u8])>, AllocError>
+        ensures { IfOk result (λ borrowed. named_files borrowed.items ≡ named_inputs self.now.texts.items) }
+    {
+        let mut borrowed = Vec::with_capacity(alloc, self.texts.len())?;
+        for input in &self.texts {
+            borrowed.push((input.name, input.bytes.as_slice()))?;
+        }
+        Ok(borrowed)
+    }
+}
+
+/// The bytes of the only input, by the argument for it.
+pub fn read_one<'a, S: InputSource>(
+    alloc: Global,
+    source: &S,
+    argument: &'a str,
+) -> Result<Vec<u8>, ProgramFault<'a>>
+    ensures bytes { IfOk result (λ bytes.
+        ReadsAs (S.file source.now) (S.standard source.now) argument.now (is_standard argument.now) false
+        (gives bytes.items)) }
+    ensures fault { IfErr result (λ reported. (reported ≡ ProgramFault.OutOfMemory)
+        ⊎ IsInputFault (S.file source.now) (S.standard source.now) argument.now (program_text reported)) }
+{
+    read_argument(alloc, source, argument, is_standard(argument), false).map_err(|why| fault_of(
+        shown_name(argument),
+        why,
+    ).unwrap_or(ProgramFault::OutOfMemory))
+}
+
+/// The bytes that are left of an open file or of standard input, but no more than 2,147,483,648.
+pub fn read_whole<F: Read + Drop>(alloc: Global, file: F) -> Result<Vec<u8>, InputFault>
+    ensures bytes { IfOk result (λ bytes. IfSome (F.remaining file) (λ all. bytes.items ≡ take (2 ^ 31) all)) }
+    ensures opened { result ≢ Err InputFault.CannotOpen }
+{
+    match read_input(alloc, &mut Counted::new(file)) {
+        Ok(bytes) => Ok(bytes),
+        Err(ToolFault::OutOfMemory) => Err(InputFault::OutOfMemory),
+        Err(_) => Err(InputFault::ReadFault),
+    }
+}
+
+/// Whether the argument stands for standard input.
+fn is_standard(argument: &str) -> bool
+    ensures { result ≡ is_standard argument.now }
+{
+    argument == STANDARD
+}
+
+/// Reads what one argument stands for.
+fn read_argument<S: InputSource>(
+    alloc: Global,
+    source: &S,
+    argument: &str,
+    standard: bool,
+    is_stdin_read: bool,
+) -> Result<Vec<u8>, InputFault>
+    ensures { MatchResult result
+        (λ bytes. ReadsAs (S.file source.now) (S.standard source.now) argument.now standard is_stdin_read
+        (gives bytes.items))
+        (λ why. (why ≡ InputFault.OutOfMemory)
+        ⊎ ReadsAs (S.file source.now) (S.standard source.now) argument.now standard is_stdin_read (refuses why)) }
+{
+    match (standard, is_stdin_read) {
+        (false, _) => source.read_file(alloc, argument),
+        (true, false) => source.read_standard(alloc),
+        (true, true) => Ok(Vec::new(alloc)),
+    }
+}
+
+/// The inputs that end at one that can't be read.
+fn ended<'a>(
+    texts: Vec<Input<'a>>,
+    argument: &'a str,
+    why: InputFault,
+) -> Result<Inputs<'a>, AllocError>
+    ensures { IfOk result (λ inputs. (inputs.texts.items ≡ texts.entry.items)
+        × (option_map program_text inputs.fault ≡ Some (input_fault_text (shown_name argument.now) why))
+        × (why ≢ InputFault.OutOfMemory)) }
+{
+    let fault = Some(fault_of(shown_name(argument), why).ok_or(AllocError)?);
+    Ok(Inputs { texts, fault })
+}
+
+/// The fault of an input that can't be read; none for a failed allocation, which is no fault of the
+/// input.
+fn fault_of(name: &str, why: InputFault) -> Option<ProgramFault<'_>>
+    ensures { MatchOption result (why ≡ InputFault.OutOfMemory)
+        (λ fault. (why ≢ InputFault.OutOfMemory) × (program_text fault ≡ input_fault_text name.now why)) }
+{
+    match why {
+        InputFault::CannotOpen => Some(ProgramFault::CannotOpen(name)),
+        InputFault::ReadFault => Some(ProgramFault::ReadFault(name)),
+        InputFault::OutOfMemory => None,
+    }
+}

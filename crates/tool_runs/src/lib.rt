@@ -1,0 +1,23 @@
+//! What the tools of pokit share: what a run comes to and how it is delivered, inputs and outputs,
+//! options and arguments, and the lines of faults.
+//!
+//! The modules in reading order: `run`, `program_fault`, `fault_text`, `inputs`, `outputs`,
+//! `arguments`, `positional`.
+
+#![tactic(auto)]
+
+mod arguments;
+mod fault_text;
+mod inputs;
+mod outputs;
+mod positional;
+mod program_fault;
+mod run;
+
+pub use arguments::Arguments;
+pub use fault_text::{push_location, push_mo_text, push_numbered, push_po_text};
+pub use inputs::{Input, InputFault, InputSource, Inputs, read_one, read_whole};
+pub use outputs::{OutputFault, OutputTarget, write_run, write_whole};
+pub use positional::{EnvsubstArguments, GettextArguments, NgettextArguments};
+pub use program_fault::{ProgramFault, report_fault};
+pub use run::{Run, STANDARD, STDIN_NAME, deliver, refused, shown_name};

@@ -1,0 +1,87 @@
+//! The arguments of the tools after their options.
+ghost use Rattle.std.specs.Prelude.{◌≡◌, map, option_map};
+ghost use Rattle.tool_runs.specs.Positional.{envsubst_usage, gettext_usage, ngettext_usage};
+ghost use Rattle.tool_runs.specs.PositionalView.{envsubst_arguments, gettext_arguments, ngettext_arguments};
+
+/// The arguments of `gettext`.
+#[derive(Clone, Copy)]
+pub struct GettextArguments<'w, 'a> {
+    /// TEXTDOMAIN, where it is given.
+    pub domain: Option<&'a str>,
+    /// The MSGIDs.
+    pub messages: &'w [&'a str],
+}
+
+impl<'w, 'a> GettextArguments<'w, 'a> {
+    /// Takes `[TEXTDOMAIN] MSGID`, or with `shell` `MSGID..`. Other arguments fit no usage of the
+    /// tool.
+    pub fn of(shell: bool, arguments: &'w [&'a str]) -> Option<GettextArguments<'w, 'a>>
+        ensures { option_map gettext_arguments result
+            ≡ gettext_usage shell (map (λ argument. argument.now) arguments.now) }
+    {
+        let (domain, messages) = match arguments {
+            _ if shell => (None, arguments),
+            [_] => (None, arguments),
+            [domain, _] => (Some(*domain), &arguments[1..]),
+            _ => return None,
+        };
+        Some(GettextArguments { domain, messages })
+    }
+}
+
+/// The arguments of `ngettext`.
+#[derive(Clone, Copy)]
+pub struct NgettextArguments<'a> {
+    /// TEXTDOMAIN, where it is given.
+    pub domain: Option<&'a str>,
+    /// MSGID.
+    pub id: &'a str,
+    /// MSGID-PLURAL.
+    pub plural: &'a str,
+    /// COUNT.
+    pub count: &'a str,
+}
+
+impl<'a> NgettextArguments<'a> {
+    /// Takes `[TEXTDOMAIN] MSGID MSGID-PLURAL COUNT`. Other arguments fit no usage of the tool.
+    pub fn of(arguments: &[&'a str]) -> Option<NgettextArguments<'a>>
+        ensures { option_map ngettext_arguments result ≡ ngettext_usage (map (λ argument. argument.now) arguments.now) }
+    {
+        let (domain, id, plural, count) = match arguments {
+            [id, plural, count] => (None, *id, *plural, *count),
+            [domain, id, plural, count] => (Some(*domain), *id, *plural, *count),
+            _ => return None,
+        };
+        Some(NgettextArguments {
+            domain,
+            id,
+            plural,
+            count,
+        })
+    }
+}
+
+/// What `envsubst` is asked for.
+#[derive(Clone, Copy)]
+pub enum EnvsubstArguments<'a> {
+    /// The names of the variables in SHELL-FORMAT.
+    Names(&'a str),
+    /// The input with its variables replaced: all, or those that SHELL-FORMAT refers to.
+    Replaced(Option<&'a str>),
+}
+
+impl<'a> EnvsubstArguments<'a> {
+    /// Takes `[SHELL-FORMAT]`, or with `variables` `SHELL-FORMAT`. Other arguments fit no usage of
+    /// the tool.
+    pub fn of(variables: bool, arguments: &[&'a str]) -> Option<EnvsubstArguments<'a>>
+        ensures { option_map envsubst_arguments result
+            ≡ envsubst_usage variables (map (λ argument. argument.now) arguments.now) }
+    {
+        match (variables, arguments) {
+            (true, [format]) => Some(EnvsubstArguments::Names(format)),
+            (false, []) => Some(EnvsubstArguments::Replaced(None)),
+            (false, [format]) => Some(EnvsubstArguments::Replaced(Some(format))),
+            _ => None,
+        }
+    }
+}
