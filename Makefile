@@ -1,17 +1,15 @@
 # pokit: proved, built, shown, tested and installed.
 PREFIX ?= /usr/local
-SOURCES := $(shell find crates crates.txt -name out -prune -o -type f -print)
 
-all: build/pokit build/libpokit.a build/libpokit.so
+all: proved build/libpokit.so
 
-# Each crate is proved before the program is built.
-build/pokit: $(SOURCES)
+# Proves what has changed, and builds build/pokit and build/libpokit.a: the program, and the look-up for C.
+proved:
+	@scripts/needs-rt
 	@scripts/build
 
-# The look-up for C, proved with the program.
-build/libpokit.a: build/pokit
-	cd crates/pokit_c && rt lib > /dev/null
-	install -D -m 644 crates/pokit_c/out/libpokit_c.a $@
+build/libpokit.a: proved
+	@:
 
 # The same as a shared library, where there is a C compiler to link it.
 build/libpokit.so: build/libpokit.a
@@ -20,7 +18,7 @@ build/libpokit.so: build/libpokit.a
 	else echo "build/libpokit.so is left out: there is no C compiler ($(CC))"; fi
 
 # Compiles the examples, and asks messages of them.
-demo: build/pokit build/libpokit.a
+demo: proved
 	@examples/demo build/pokit build/libpokit.a
 
 # The gate, and then the runs of the program that it built.
@@ -32,15 +30,15 @@ mutants:
 	@tests/mutants/run
 
 # Measures the program against GNU's tools, where they are on the machine.
-bench: build/pokit
+bench: proved
 	bench/run --svg build/bench.svg
 
 # Measures look-ups from C against glibc's and a plain C search.
-bench-lookup: build/libpokit.a
+bench-lookup: proved
 	bench/lookup
 
 # The program, GNU's names for its tools in a folder of their own, manuals, completions, and the library for C.
-install: build/pokit build/libpokit.a build/libpokit.so
+install: $(if $(wildcard build/pokit),,all)
 	scripts/install install "$(DESTDIR)" "$(PREFIX)"
 
 uninstall:
@@ -49,4 +47,4 @@ uninstall:
 clean:
 	rm -rf build
 
-.PHONY: all demo test mutants bench bench-lookup install uninstall clean
+.PHONY: all proved demo test mutants bench bench-lookup install uninstall clean
