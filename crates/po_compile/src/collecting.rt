@@ -2,15 +2,15 @@ ghost use Rattle.std.specs.Prelude.{◌≡◌, ◌++◌, ◌∷◌, ℕ, List, I
 ghost use Rattle.std.specs.List.{join_with_byte};
 ghost use Rattle.mo_file.specs.Key.{query_key};
 ghost use Rattle.po_entry.specs.TextEntry.{TextEntry, texts};
-ghost use Rattle.po_reader.specs.Refusals.{IsTextRefusal};
+ghost use Rattle.po_reader.specs.PieceRead.{IsTextError};
 ghost use Rattle.po_compile.specs.CompiledMessages.{plural_part, translation_of};
 ghost use Rattle.po_compile.specs.Collected.{message_bytes, lengths_of, HoldsLive, ReadsLive};
 
 use crate::messages::is_compiled;
 use po_catalog::has_translation;
 use po_entry::Entry;
-use po_reader::{PIECE, Refusal, next_messages};
-use po_syntax::Pieces;
+use po_reader::{PIECE, next_messages};
+use po_syntax::{Pieces, PoError};
 use std::alloc::{AllocError, Global};
 
 /// How many bytes an entry usually has in a text, at least.
@@ -130,14 +130,11 @@ fn add_messages(
 
 /// Collects the messages of the live entries of a text, piece by piece. Comments and references
 /// aren't read, and what else an entry holds is dropped before the next piece is read.
-pub(crate) fn collect(alloc: Global, text: &[u8], use_fuzzy: bool) -> Result<Collected, Refusal>
+pub(crate) fn collect(alloc: Global, text: &[u8], use_fuzzy: bool) -> Result<Collected, PoError>
     ensures found { IfOk result (ReadsLive use_fuzzy text.now) }
-    ensures fault { IfErr result (IsTextRefusal text.now) }
+    ensures fault { IfErr result (IsTextError text.now) }
 {
-    let mut pieces = match Pieces::of(text) {
-        Ok(pieces) => pieces,
-        Err(error) => return Err(Refusal::Fault(error)),
-    };
+    let mut pieces = Pieces::of(text)?;
     let mut collected = Collected {
         bytes: Vec::with_capacity(alloc, text.len())?,
         lengths: Vec::with_capacity(alloc, text.len() / USUAL_LEN)?,

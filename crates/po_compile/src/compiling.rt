@@ -10,12 +10,11 @@ use crate::collecting::{Collected, collect};
 use crate::laws::messages_mean_entries;
 use crate::messages::{messages_of, sort_messages};
 use crate::options::{Compiled, Options};
-use crate::reading::{read_all, read_whole_distinct};
+use crate::reading::read_all;
 use crate::sorting::{sorted_pairs, statistics_of};
 use mo_file::{BuildError, build, build_sorted, layout_is_mo_file};
 use po_catalog::{JoinError, entry_statistics, into_joined};
 use po_entry::Catalogue;
-use po_reader::Refusal;
 use po_reader::laws::entries_can_stand;
 use po_syntax::{PoError, PoFault};
 use std::alloc::Global;
@@ -62,8 +61,7 @@ pub fn compile(alloc: Global, text: &[u8], options: Options) -> Result<Compiled,
 {
     match collect(alloc, text, options.use_fuzzy) {
         Ok(collected) => compile_live(alloc, text, &collected, options),
-        Err(Refusal::Fault(error)) => Err(error),
-        Err(Refusal::Whole) => compile_whole(alloc, text, options),
+        Err(error) => Err(error),
     }
 }
 
@@ -107,20 +105,6 @@ fn compile_collected(
             stats: statistics_of(&collected.lengths),
         }),
         Err(error) => Err(reported_fault(error).error),
-    }
-}
-
-/// Compiles a text that is read in one piece.
-fn compile_whole(alloc: Global, text: &[u8], options: Options) -> Result<Compiled, PoError>
-    ensures { MatchResult result (AreCompiled options (text.now ∷ []))
-        (λ e. IsCompileFault options (text.now ∷ []) (fault_of_only_input e)) }
-{
-    let catalogue = read_whole_distinct(alloc, text)?;
-    let mut catalogues = Vec::with_capacity(alloc, 1)?;
-    catalogues.push(catalogue)?;
-    match compile_catalogues(alloc, catalogues, options) {
-        Ok(compiled) => Ok(compiled),
-        Err(error) => Err(error.error),
     }
 }
 

@@ -5,7 +5,7 @@ ghost use Rattle.po_compile.specs.Accepted.{AreRead, fault_of_input, IsReadingFa
 
 use po_catalog::{JoinError, duplicates, joined_duplicates};
 use po_entry::Catalogue;
-use po_reader::{read, read_whole};
+use po_reader::read;
 use po_syntax::{PoError, PoFault};
 use std::alloc::Global;
 
@@ -40,16 +40,6 @@ pub fn read_distinct(alloc: Global, text: &[u8]) -> Result<Catalogue, PoError>
     let catalogue = read(alloc, text)?;
     duplicates(alloc, &catalogue)?;
     Ok(catalogue)
-}
-
-/// The catalogue of a text that is read in one piece, as `read_distinct` reads it.
-pub(crate) fn read_whole_distinct(alloc: Global, text: &[u8]) -> Result<Catalogue, PoError>
-    ensures { MatchResult result (ReadsDistinct text.now) (λ e. (e ≡ out_of_memory)
-        ⊎ ((e.kind ≢ PoFault.OutOfMemory) × IsTextFault text.now e)) }
-{
-    let whole = read_whole(alloc, text)?;
-    duplicates(alloc, &whole)?;
-    Ok(whole)
 }
 
 /// The fault of an input. Out of memory is of no input.

@@ -2,9 +2,10 @@
 use Rattle.std.proofs.Common.{◌≡◌, ◌≢◌, ◌⊎◌, inl, inr, refl, sym, subst, ℕ, ◌<◌, Bool, List, [], ◌∷◌, ◌++◌, append-nil, append_assoc, arith, length}
 use Rattle.std.proofs.lemmas.List.Elements.{All-nil, All-append}
 use Rattle.po_syntax.specs.declared.fault.PoFault.{PoFault}
-use Rattle.po_syntax.specs.LinesLeft.{LinesLeft, SpellsLeft, LeftStops, EndsInString}
+use Rattle.po_syntax.specs.LinesLeft.{BeginsAnew, EndsInString, LeftAnew, LeftStops, LinesLeft, SpellsLeft}
 use Rattle.po_syntax.specs.PoText.{SpellsText, SpellsLines, LinesStop, TextFault}
-use Rattle.po_syntax.specs.TextItem.{TextItem}
+use Rattle.po_syntax.specs.TextItem.{TextItem, Comment, Word, Str}
+use Rattle.po_syntax.specs.declared.item.Keyword.TheVariants.{MsgCtxt, MsgId, MsgIdPlural, MsgStr, MsgStrAt}
 use Rattle.po_entry.specs.TextEntry.{TextEntry}
 use Rattle.po_entry.specs.Header.{HasAdmittedCharset}
 use Rattle.po_entry.specs.Validity.{HasTexts}
@@ -12,7 +13,8 @@ use Rattle.po_entry.specs.ReadsText.{ReadsText, ReadsLeft}
 use Rattle.po_entry.specs.Spelling.{SpellsEntries}
 use Rattle.po_entry.specs.Spelling as spelling
 use Rattle.po_entry.proofs.JoinedPieces.{entries_joined}
-use Rattle.po_reader.proofs.RestFaults.{anew_after, items_stop_after, no_entries, nothing_stops}
+use Rattle.po_reader.proofs.Looks.{IsApart}
+use Rattle.po_reader.proofs.RestFaults.{items_stop_after, no_entries, nothing_stops}
 use Rattle.po_reader.proofs.StopFaults.{items_fault}
 use Rattle.po_reader.specs.Faults.{IsReadFault}
 use Rattle.po_reader.specs.Faults as faults
@@ -20,9 +22,6 @@ use Rattle.po_reader.specs.ItemsRead.{ReadsItems, ItemsStop}
 use Rattle.po_reader.specs.ItemsRead as stops
 use Rattle.po_reader.specs.PieceRead.{SpellsOn, ReadsOn, KeepsReading, KeepsItems, StopsStay, FaultsStay, IsShorter, IsLeftFault}
 use Rattle.po_reader.specs.PieceRead as piece
-use Rattle.po_reader.specs.Refusals.{IsItemsRefusal, IsLeftRefusal, IsTextRefusal}
-use Rattle.po_reader.specs.declared.piecewise.Refusal.{Refusal}
-use Rattle.po_reader.specs.declared.piecewise.Refusal.TheVariants.{Fault, Whole}
 
 -- where no line is left, nothing reads as no entries
 pub left_over : (left : LinesLeft) → left.lines ≡ [] → ReadsLeft left []
@@ -76,13 +75,24 @@ stop_fault spelt (stops.in_items stopped) = faults.in_items spelt (items_fault s
 stop_fault spelt (stops.in_texts reads stopped) = faults.in_texts spelt reads stopped
 stop_fault spelt (stops.in_charset reads texts stopped) = faults.in_charset spelt reads texts stopped
 
+-- items that begin anew begin with neither a string nor a plural form
+apart : (items : List TextItem) → BeginsAnew items → IsApart items
+apart [] new = (refl, refl)
+apart (Comment kind text line ∷ items) new = (refl, refl)
+apart (Word MsgCtxt marks line ∷ items) new = (refl, refl)
+apart (Word MsgId marks line ∷ items) new = (refl, refl)
+apart (Word MsgIdPlural marks line ∷ items) new = (refl, refl)
+apart (Word MsgStr marks line ∷ items) new = (refl, refl)
+apart (Word (MsgStrAt index) marks line ∷ items) new = absurd new
+apart (Str bytes marks line ∷ items) new = absurd new
+
 -- the faults of what is left after a piece that reads
-pub piece_faults : (old new : LinesLeft) (items : List TextItem) (entries : List TextEntry) → SpellsOn old new items → StopsStay old new → (new.lines ≡ []) ⊎ EndsInString items → ReadsItems items entries
+pub piece_faults : (old new : LinesLeft) (items : List TextItem) (entries : List TextEntry) → SpellsOn old new items → StopsStay old new → (new.lines ≡ []) ⊎ EndsInString items → LeftAnew new → ReadsItems items entries
     → FaultsStay old new
-piece_faults old new items entries spelt stops ends read fault line (piece.in_lines stopped) = piece.in_lines (stops fault line stopped)
-piece_faults old new items entries spelt stops (inr ends) read fault line (piece.in_items {items = rest} more anew stopped) =
-    piece.in_items (spelt rest more) (anew_after items rest entries read anew) (items_stop_after items rest entries read ends anew stopped)
-piece_faults old new items entries spelt stops (inl none) read fault line (piece.in_items {items = rest} more anew stopped) =
+piece_faults old new items entries spelt stops ends anew read fault line (piece.in_lines stopped) = piece.in_lines (stops fault line stopped)
+piece_faults old new items entries spelt stops (inr ends) anew read fault line (piece.in_items {items = rest} more stopped) =
+    piece.in_items (spelt rest more) (items_stop_after items rest entries read ends (apart rest (anew rest more)) stopped)
+piece_faults old new items entries spelt stops (inl none) anew read fault line (piece.in_items {items = rest} more stopped) =
     absurd (nothing_stops rest (nothing_left new rest none more) stopped)
 
 no_line_stops : (new : LinesLeft) (fault : PoFault) (line : ℕ) → new.lines ≡ [] → LeftStops new fault line → ⊥
@@ -91,7 +101,7 @@ no_line_stops new fault line none stopped = subst (λ (lines : List (List ℕ)).
 -- nothing is wrong where no line is left
 pub faults_over : (old new : LinesLeft) → new.lines ≡ [] → FaultsStay old new
 faults_over old new none fault line (piece.in_lines stopped) = absurd (no_line_stops new fault line none stopped)
-faults_over old new none fault line (piece.in_items {items = rest} more anew stopped) = absurd (nothing_stops rest (nothing_left new rest none more) stopped)
+faults_over old new none fault line (piece.in_items {items = rest} more stopped) = absurd (nothing_stops rest (nothing_left new rest none more) stopped)
 
 -- fewer lines are left where none is
 pub none_shorter : (old new : LinesLeft) → new.lines ≡ [] → IsShorter old new
@@ -106,41 +116,12 @@ spelt_over old new items spelt none =
     let nothing : SpellsLeft new [] = subst (λ (lines : List (List ℕ)). SpellsLines new.number lines []) (sym none) refl in
     rw append-nil at (spelt [] nothing)
 
--- items, and then those of what is left after them
-pub spelt_joined : (old middle new : LinesLeft) (items rest : List TextItem) → SpellsOn old middle items → SpellsOn middle new rest → SpellsOn old new (items ++ rest)
-spelt_joined old middle new items rest first second more h = rw append_assoc (first (rest ++ more) (second more h))
-
 -- where the items of what is left are kept, what is left is
 pub items_kept : (all : Bool) (old new : LinesLeft) (items : List TextItem) (kept : List TextEntry) → SpellsOn old new items → (new.lines ≡ []) ⊎ EndsInString items → KeepsItems all items kept → KeepsReading all old new kept
 items_kept all old new items kept spelt ends h = (h.0, h.2, piece_joined old new items h.0 spelt ends h.1)
-
--- the fault of the items of what is left is that of what is left
-pub items_refused : (old : LinesLeft) (items : List TextItem) (refusal : Refusal) → SpellsLeft old items → IsItemsRefusal items refusal → IsLeftRefusal old refusal
-items_refused old items (Fault error) spelt h = record {
-  fault = λ other. let fault = h.fault other in piece.in_items spelt fault.0 fault.1;
-  memory = h.memory;
-}
-items_refused old items Whole spelt h = tt
-
--- the fault of what is left of a text is that of the text, where it is so of what was left before
-pub refusal_of_text : (text : List ℕ) (old : LinesLeft) → ((fault : PoFault) (line : ℕ) → IsLeftFault old fault line → IsReadFault text fault line) → (refusal : Refusal) → IsLeftRefusal old refusal → IsTextRefusal text refusal
-refusal_of_text text old faults (Fault error) h = record { fault = λ other. faults error.kind error.line (h.fault other); memory = h.memory }
-refusal_of_text text old faults Whole h = tt
 
 -- the fault of all of a text is that of the text
 pub fault_of_text : (text : List ℕ) (old : LinesLeft) → ((items : List TextItem) → SpellsLeft old items → SpellsText text items) → ((fault : PoFault) (line : ℕ) → LeftStops old fault line → TextFault text fault line)
     → (fault : PoFault) (line : ℕ) → IsLeftFault old fault line → IsReadFault text fault line
 fault_of_text text old spelt stops fault line (piece.in_lines stopped) = faults.in_text (stops fault line stopped)
-fault_of_text text old spelt stops fault line (piece.in_items {items = items} h anew stopped) = stop_fault (spelt items h) stopped
-
--- where items and then those of all that is left are kept, all of it is
-pub rest_kept : (all : Bool) (old middle new : LinesLeft) (items rest joined : List TextItem) (kept : List TextEntry) → joined ≡ items ++ rest → SpellsOn old middle items → SpellsOn middle new rest → new.lines ≡ []
-    → KeepsItems all joined kept → KeepsReading all old new kept
-rest_kept all old middle new items rest joined kept is first second none h =
-    items_kept all old new joined kept (subst (SpellsOn old new) (sym is) (spelt_joined old middle new items rest first second)) (inl none) h
-
--- and their fault is that of all of it
-pub rest_refused : (old middle new : LinesLeft) (items rest joined : List TextItem) (refusal : Refusal) → joined ≡ items ++ rest → SpellsOn old middle items → SpellsOn middle new rest → new.lines ≡ []
-    → IsItemsRefusal joined refusal → IsLeftRefusal old refusal
-rest_refused old middle new items rest joined refusal is first second none h =
-    items_refused old joined refusal (spelt_over old new joined (subst (SpellsOn old new) (sym is) (spelt_joined old middle new items rest first second)) none) h
+fault_of_text text old spelt stops fault line (piece.in_items {items = items} h stopped) = stop_fault (spelt items h) stopped

@@ -83,10 +83,6 @@ items_stop_after front rest entries read ends apart (items.in_texts reads stops)
 items_stop_after front rest entries read ends apart (items.in_charset {entries = others} reads texts stops) =
     items.in_charset (entries_joined read.reads ends reads) (All-append HasTexts entries others read.texts texts) (charset_stops_after entries read.charsets stops)
 
--- and these begin anew
-pub anew_after : (front rest : List TextItem) (entries : List TextEntry) → ReadsItems front entries → IsApart rest → IsApart (front ++ rest)
-anew_after front rest entries read apart = apart_joined front rest (reads_look (spelt_reads read.reads)) apart
-
 -- no items read as no entries
 pub no_entries : {rest : List TextItem} {entries : List TextEntry} → SpellsEntries rest entries → rest ≡ [] → entries ≡ []
 no_entries {entries = entries} read none = spelt_once (subst (λ (x : List TextItem). SpellsEntries x entries) none read) (spelling.comments tt)

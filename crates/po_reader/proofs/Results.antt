@@ -22,3 +22,7 @@ ok_same P x (Err e) same p = tt
 pub ok_always : {T E : Type 0} {P : T → Type 0} (r : Result T E) → ((y : T) → P y) → IfOk r P
 ok_always (Ok y) f = f y
 ok_always (Err e) f = tt
+
+pub err_both : {T E : Type 0} {P Q R : E → Type 0} (r : Result T E) → ((e : E) → P e → Q e → R e) → IfErr r P → IfErr r Q → IfErr r R
+err_both (Ok y) f p q = tt
+err_both (Err e) f p q = f e p q

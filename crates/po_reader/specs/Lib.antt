@@ -11,5 +11,4 @@ pub mod Faults
 pub mod KeptComments
 pub mod ItemsRead
 pub mod PieceRead
-pub mod Refusals
 pub mod SeenFlags

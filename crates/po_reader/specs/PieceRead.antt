@@ -2,18 +2,21 @@
 -- pieces (manual, "The Format of PO Files").
 use Rattle.std.specs.Prelude.{◌≡◌, ◌≢◌, ◌<◌, ℕ, Bool, false, List, [], ◌++◌, map, length}
 use Rattle.po_syntax.specs.declared.fault.PoFault.{PoFault}
+use Rattle.po_syntax.specs.declared.fault.PoError.{PoError}
+use Rattle.po_syntax.specs.declared.fault.PoFault.TheVariants.{OutOfMemory}
+use Rattle.po_reader.specs.Faults.{IsReadFault}
+use Rattle.po_reader.specs.Stops.{IsStop}
 use Rattle.po_syntax.specs.LinesLeft.{LinesLeft, SpellsLeft, LeftStops}
 use Rattle.po_syntax.specs.TextItem.{TextItem}
 use Rattle.po_entry.specs.TextEntry.{TextEntry}
-use Rattle.po_reader.specs.Body.{begins_form}
 use Rattle.po_entry.specs.ReadsText.{ReadsLeft}
-use Rattle.po_reader.specs.Strings.{begins_string}
 use Rattle.po_reader.specs.KeptComments.{kept_entry, without_comments}
 use Rattle.po_reader.specs.ItemsRead.{ReadsItems, ItemsStop}
 
--- neither a string nor a plural form stands first, so that no entry before goes on with these items
-abbrev pub BeginsAnew : List TextItem → Type 0
-BeginsAnew items = (begins_string items ≡ false) × (begins_form items ≡ false)
+-- the error is such a fault, or out of memory, without a line
+pub record IsFaultOf (Has : PoFault → ℕ → Type 0) (error : PoError) : Type 0 where
+  pub fault : IsStop Has error
+  pub memory : error.kind ≡ OutOfMemory → error.line ≡ 0
 
 -- if the lines left in `new` spell some items, the lines left in `old` spell `items` and then those
 abbrev pub SpellsOn : LinesLeft → LinesLeft → List TextItem → Type 0
@@ -28,10 +31,6 @@ ReadsOn old new entries = (more : List TextEntry) → ReadsLeft new more → Rea
 abbrev pub KeepsReading : Bool → LinesLeft → LinesLeft → List TextEntry → Type 0
 KeepsReading all old new kept = (entries : List TextEntry) × (kept ≡ map (kept_entry all) entries) × ReadsOn old new entries
 
--- the same of all lines `old` that spell these items and then what the lines `left` spell
-abbrev pub KeepsRest : Bool → LinesLeft → LinesLeft → List TextItem → List TextEntry → Type 0
-KeepsRest all left new items kept = (old : LinesLeft) → SpellsOn old left items → KeepsReading all old new kept
-
 -- the same of entries that are kept without their comments and references
 abbrev pub ReadsMessages : LinesLeft → LinesLeft → List TextEntry → Type 0
 ReadsMessages old new messages =
@@ -42,10 +41,10 @@ abbrev pub KeepsItems : Bool → List TextItem → List TextEntry → Type 0
 KeepsItems all items kept = (entries : List TextEntry) × ReadsItems items entries × (kept ≡ map (kept_entry all) entries)
 
 -- The fault of what is left to be read, with its line: that of the first line that has one; or that
--- of the items, if no entry before can go on with them.
+-- of the items.
 pub data IsLeftFault (left : LinesLeft) : PoFault → ℕ → Type 0 where
   in_lines : {fault : PoFault} {line : ℕ} → LeftStops left fault line → IsLeftFault left fault line
-  in_items : {items : List TextItem} {fault : PoFault} {line : ℕ} → SpellsLeft left items → BeginsAnew items → ItemsStop items fault line → IsLeftFault left fault line
+  in_items : {items : List TextItem} {fault : PoFault} {line : ℕ} → SpellsLeft left items → ItemsStop items fault line → IsLeftFault left fault line
 
 -- a fault of a line that is left is one of the lines that were left before
 abbrev pub StopsStay : LinesLeft → LinesLeft → Type 0
@@ -58,3 +57,11 @@ FaultsStay old new = (fault : PoFault) (line : ℕ) → IsLeftFault new fault li
 -- fewer lines are left, where there were any
 abbrev pub IsShorter : LinesLeft → LinesLeft → Type 0
 IsShorter old new = old.lines ≢ [] → length new.lines < length old.lines
+
+-- the error is the fault of what is left to be read, or out of memory, without a line
+abbrev pub IsLeftError : LinesLeft → PoError → Type 0
+IsLeftError left error = IsFaultOf (IsLeftFault left) error
+
+-- the error is the fault of the text, or out of memory, without a line
+abbrev pub IsTextError : List ℕ → PoError → Type 0
+IsTextError text error = IsFaultOf (IsReadFault text) error

@@ -16,19 +16,8 @@ use po_entry::{Catalogue, Entry, Fields, check_texts};
 use po_syntax::{Item, PoError, PoFault};
 use std::alloc::Global;
 
-/// The catalogue of the entries that items spell.
-pub(crate) fn catalogue_of_items(alloc: Global, items: Vec<Item<'_>>) -> Result<Catalogue, PoError>
-    requires hold { All HoldsText (views items.items) }
-    requires few { vec_len items ≤ 2 ^ 31 }
-    ensures found { IfOk result (ReadsItems (views items.entry.items)) }
-    ensures fault { IfErr result (IsStop (ItemsStop (views items.entry.items))) }
-    ensures memory { IfErr result (λ e. e.kind ≡ PoFault.OutOfMemory → e.line ≡ 0) }
-{
-    last_entries_of(alloc, items, true)
-}
-
 /// The entries that items spell, with their comments and references or without.
-pub(crate) fn last_entries_of(
+pub(crate) fn entries_of(
     alloc: Global,
     items: Vec<Item<'_>>,
     with_comments: bool,
@@ -41,24 +30,6 @@ pub(crate) fn last_entries_of(
 {
     let drafts = drafts_of(alloc, &items, last_line(&items), with_comments)?;
     drop(items);
-    check_drafts(&drafts)?;
-    catalogue_of(alloc, drafts)
-}
-
-/// The entries that items spell, with their comments and references or without. The items stay with
-/// the caller, who reads them again with those after them if they spell no entries. So nothing is
-/// said of which fault is returned.
-pub(crate) fn entries_of(
-    alloc: Global,
-    items: &[Item<'_>],
-    with_comments: bool,
-) -> Result<Catalogue, PoError>
-    requires hold { All HoldsText (views items.now) }
-    requires few { length items.now ≤ 2 ^ 31 }
-    ensures found { IfOk result (KeepsItems with_comments (views items.now)) }
-    ensures memory { IfErr result (λ e. e.kind ≡ PoFault.OutOfMemory → e.line ≡ 0) }
-{
-    let drafts = drafts_of(alloc, items, 0, with_comments)?;
     check_drafts(&drafts)?;
     catalogue_of(alloc, drafts)
 }

@@ -2,8 +2,8 @@
 //! items of a text, with a function for each part of an entry. What it makes of an entry's items is
 //! a draft, and becomes an entry once its texts and charset are checked.
 //!
-//! [`read`] reads a text piece by piece, and [`read_whole`] as one. A caller that keeps no
-//! catalogue takes the pieces one by one: [`next_catalogue`] and [`next_messages`].
+//! [`read`] reads a text piece by piece. A caller that keeps no catalogue takes the pieces one by
+//! one: [`next_catalogue`] and [`next_messages`].
 //!
 //! The modules in reading order: `rest`, `strings`, `keywords`, `body`, `comment_texts`, `head`,
 //! `flags`, `drafts`, `items`, `piecewise`, `reading`, `laws`.
@@ -23,5 +23,5 @@ mod reading;
 mod rest;
 mod strings;
 
-pub use crate::piecewise::{Refusal, next_catalogue, next_messages};
-pub use crate::reading::{PIECE, read, read_in_pieces, read_whole};
+pub use crate::piecewise::{next_catalogue, next_messages};
+pub use crate::reading::{PIECE, read};

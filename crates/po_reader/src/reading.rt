@@ -2,11 +2,9 @@ ghost use Rattle.std.specs.Prelude.{◌≡◌, ◌≢◌, IfOk, IfErr};
 ghost use Rattle.po_entry.specs.ReadsText.{ReadsText};
 ghost use Rattle.po_reader.specs.Faults.{IsReadFault};
 
-use crate::items::catalogue_of_items;
-use crate::piecewise::{Refusal, read_pieces};
+use crate::piecewise::next_catalogue;
 use po_entry::Catalogue;
-use po_syntax::laws::items_hold_text;
-use po_syntax::{PoError, PoFault, items};
+use po_syntax::{Pieces, PoError, PoFault};
 use std::alloc::Global;
 
 /// How many bytes of a text are read at a time, at least: few enough that the items and entries of
@@ -34,30 +32,11 @@ pub fn read(alloc: Global, text: &[u8]) -> Result<Catalogue, PoError>
     ensures fault { IfErr result (λ e. e.kind ≢ PoFault.OutOfMemory → IsReadFault text.now e.kind e.line) }
     ensures memory { IfErr result (λ e. e.kind ≡ PoFault.OutOfMemory → e.line ≡ 0) }
 {
-    read_in_pieces(alloc, text, PIECE)
-}
-
-/// Reads a PO text as `read` does, in pieces of at least this many bytes, each of which goes on to
-/// the next empty line after a string, or to the end of the text.
-pub fn read_in_pieces(alloc: Global, text: &[u8], size: usize) -> Result<Catalogue, PoError>
-    ensures found { IfOk result (λ entries. ReadsText text.now entries) }
-    ensures fault { IfErr result (λ e. e.kind ≢ PoFault.OutOfMemory → IsReadFault text.now e.kind e.line) }
-    ensures memory { IfErr result (λ e. e.kind ≡ PoFault.OutOfMemory → e.line ≡ 0) }
-{
-    match read_pieces(alloc, text, size) {
-        Ok(catalogue) => Ok(catalogue),
-        Err(Refusal::Fault(error)) => Err(error),
-        Err(Refusal::Whole) => read_whole(alloc, text),
+    let mut pieces = Pieces::of(text)?;
+    let mut catalogue = Catalogue::new(alloc);
+    while !pieces.are_over() {
+        let piece = next_catalogue(alloc, &mut pieces, PIECE)?;
+        catalogue.append(piece)?;
     }
-}
-
-/// Reads a PO text as `read` does, in one piece.
-pub fn read_whole(alloc: Global, text: &[u8]) -> Result<Catalogue, PoError>
-    ensures found { IfOk result (λ entries. ReadsText text.now entries) }
-    ensures fault { IfErr result (λ e. e.kind ≢ PoFault.OutOfMemory → IsReadFault text.now e.kind e.line) }
-    ensures memory { IfErr result (λ e. e.kind ≡ PoFault.OutOfMemory → e.line ≡ 0) }
-{
-    let items = items(alloc, text)?;
-    items_hold_text();
-    catalogue_of_items(alloc, items)
+    Ok(catalogue)
 }

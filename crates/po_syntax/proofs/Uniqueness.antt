@@ -94,7 +94,7 @@ tokens_stop_once (after_string {inner = inner} e p h) (after_string {inner = oth
     let read = quoted_once p (subst (λ t. IsQuoted t bytes rest) same q) in
     tokens_stop_once h (subst (λ t. TokensStop t fault) (sym read.1) g)
 
-line_once : {line : ℕ} {text : List ℕ} {items others : List TextItem} → SpellsLine line text items → SpellsLine line text others → items ≡ others
+pub line_once : {line : ℕ} {text : List ℕ} {items others : List TextItem} → SpellsLine line text items → SpellsLine line text others → items ≡ others
 line_once {line} (comment {rest = rest} {kind = kind} e) (comment {rest = other} {kind = sort} f) =
     let same : rest ≡ other = cc in
     let named : kind ≡ sort = cc in
@@ -120,7 +120,7 @@ line_stops_once (in_tokens e h) (no_shape f) = absurd (cc)
 line_stops_once (in_tokens {rest = rest} e h) (in_tokens {rest = other} {fault = fault} f g) =
     let same : other ≡ rest = cc in tokens_stop_once h (subst (λ t. TokensStop t fault) same g)
 
-lines_once : (number : ℕ) (lines : List (List ℕ)) {items others : List TextItem} → SpellsLines number lines items → SpellsLines number lines others → items ≡ others
+pub lines_once : (number : ℕ) (lines : List (List ℕ)) {items others : List TextItem} → SpellsLines number lines items → SpellsLines number lines others → items ≡ others
 lines_once number [] h g = h ∙ sym g
 lines_once number (line ∷ lines) h g =
     h.4 ∙ rw (line_once h.2 g.2, lines_once (number + 1) lines h.3 g.3) (sym g.4)

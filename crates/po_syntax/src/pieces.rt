@@ -1,13 +1,13 @@
-ghost use Rattle.std.specs.Prelude.{◌≡◌, ◌≢◌, ◌⊎◌, ◌+◌, ◌<◌, ◌≤◌, ◌^◌, ◌++◌, [], None, List, ℕ, All, length, vec_len, true, false, IfOk, IfErr, OnOk, OnErr};
+ghost use Rattle.std.specs.Prelude.{◌≡◌, ◌≢◌, ◌⊎◌, ◌+◌, ◌<◌, ◌≤◌, ◌^◌, ◌++◌, [], take, drop, None, List, ℕ, All, length, vec_len, true, false, IfOk, IfErr, OnOk, OnErr};
 ghost use Rattle.po_syntax.specs.declared.fault.PoFault.{PoFault};
 ghost use Rattle.po_syntax.specs.CleanLine.{AreCleanLines};
 ghost use Rattle.po_syntax.specs.ItemContents.{HoldsText};
-ghost use Rattle.po_syntax.specs.LinesLeft.{LinesLeft, SpellsLeft, LeftStops, EndsInString, lines_of_rest, HasRoom};
+ghost use Rattle.po_syntax.specs.LinesLeft.{LinesLeft, SpellsLeft, LeftStops, LeftAnew, BeginsAnew, HasNew, EndsInString, lines_of_rest, HasRoom};
 ghost use Rattle.po_syntax.specs.PoText.{SpellsText, TextFault, SpellsLines, LinesStop, lines_of};
 ghost use Rattle.po_syntax.specs.TextItem.{TextItem, views};
 
 use crate::fault::{PoError, PoFault};
-use crate::item::Item;
+use crate::item::{Item, Keyword};
 use crate::text::{add_numbered_line, checked, first_line};
 use std::alloc::Global;
 use std::marker::Model;
@@ -40,20 +40,61 @@ struct Piece<'a> {
 /// For how many items a piece has room at first.
 const FIRST_ROOM: usize = 128;
 
-/// Whether a line holds nothing but a CR, if that.
-fn is_empty_line(line: &[u8]) -> bool {
-    matches!(line, [] | [b'\r'])
-}
-
 /// Whether the last item is a string.
 fn ends_in_string(items: &[Item<'_>]) -> bool
-    ensures { result ≡ true → EndsInString (views items.now) }
+    ensures some { result ≡ true → 0 < length items.now }
+    ensures string { result ≡ true → EndsInString (views items.now) }
 {
     matches!(items.last(), Some(Item::Str(..)))
 }
 
-/// Reads the first piece of a text whose first line has this number: the shortest of at least this
-/// many bytes that ends with an empty line after a string; or all of the text.
+/// Whether the first item is one with which no entry goes on after its last string.
+fn begins_anew(items: &[Item<'_>]) -> bool
+    ensures { result ≡ true → HasNew (views items.now) }
+{
+    matches!(
+        items.first(),
+        Some(
+            Item::Comment(..)
+                | Item::Word(
+                    Keyword::MsgCtxt | Keyword::MsgId | Keyword::MsgIdPlural | Keyword::MsgStr,
+                    ..
+                )
+        )
+    )
+}
+
+/// The keyword of an item, where it is one.
+fn keyword_of(item: &Item<'_>) -> Option<Keyword> {
+    match item {
+        Item::Word(keyword, ..) => Some(*keyword),
+        _ => None,
+    }
+}
+
+/// Whether the last keyword is that of a translation.
+fn has_translation(items: &[Item<'_>]) -> bool {
+    for item in items.iter().rev() {
+        if let Some(keyword) = keyword_of(item) {
+            return matches!(keyword, Keyword::MsgStr | Keyword::MsgStrAt(_));
+        }
+    }
+    false
+}
+
+/// Whether an entry ends before the item of this index.
+fn is_border(items: &[Item<'_>], index: usize) -> bool
+    requires { index ≤ length items.now }
+    ensures some { result ≡ true → 0 < index }
+    ensures ends { result ≡ true → EndsInString (take index (views items.now)) }
+    ensures anew { result ≡ true → HasNew (drop index (views items.now)) }
+{
+    let (before, after) = items.split_at(index);
+    ends_in_string(before) && begins_anew(after) && has_translation(before)
+}
+
+/// Reads the first piece of a text whose first line has this number: whole lines, the fewest of at
+/// least this many bytes after which an entry ends; or all of the text.
 fn read_piece<'a>(
     alloc: Global,
     text: &'a [u8],
@@ -68,6 +109,8 @@ fn read_piece<'a>(
         → LinesStop p.line (lines_of_rest p.rest) fault line → LinesStop number (lines_of text.now) fault line) }
     ensures hold { IfOk result (λ p. All HoldsText (views p.items.items)) }
     ensures ends { IfOk result (λ p. (p.rest ≡ None) ⊎ EndsInString (views p.items.items)) }
+    ensures anew { IfOk result (λ p. (more : List TextItem) → SpellsLines p.line (lines_of_rest p.rest) more → BeginsAnew more) }
+    ensures whole { 2 ^ 31 < size → IfOk result (λ p. p.rest ≡ None) }
     ensures few { IfOk result (λ p. vec_len p.items ≤ 2 ^ 31) }
     ensures clean { IfOk result (λ p. AreCleanLines (lines_of_rest p.rest)) }
     ensures room { IfOk result (λ p. HasRoom p.line p.rest) }
@@ -81,7 +124,16 @@ fn read_piece<'a>(
     let mut line = number;
     loop {
         let (first, after) = first_line(rest);
+        let own = items.len();
         add_numbered_line(alloc, &mut items, first, line)?;
+        if text.len() - rest.len() >= size && is_border(&items, own) {
+            items.truncate(own);
+            return Ok(Piece {
+                items,
+                rest: Some(rest),
+                line,
+            });
+        }
         let Some(after) = after else {
             return Ok(Piece {
                 items,
@@ -89,18 +141,8 @@ fn read_piece<'a>(
                 line,
             });
         };
-        let ends_piece = is_empty_line(first)
-            && text.len() - after.len() >= size
-            && ends_in_string(&items);
         rest = after;
         line += 1;
-        if ends_piece {
-            return Ok(Piece {
-                items,
-                rest: Some(rest),
-                line,
-            });
-        }
     }
 }
 
@@ -123,6 +165,16 @@ impl<'a> Pieces<'a> {
         })
     }
 
+    /// The same lines once more.
+    pub fn copy(&self) -> Pieces<'a>
+        ensures { result ≡ self.now }
+    {
+        Pieces {
+            rest: self.rest,
+            line: self.line,
+        }
+    }
+
     /// Whether no line is left.
     pub fn are_over(&self) -> bool
         ensures over { result ≡ true → self.now.lines ≡ [] }
@@ -143,6 +195,8 @@ impl<'a> Pieces<'a> {
             → LeftStops self.old fault line) }
         ensures hold { IfOk result (λ items. All HoldsText (views items.items)) }
         ensures ends { IfOk result (λ items. (self.new.lines ≡ []) ⊎ EndsInString (views items.items)) }
+        ensures anew { OnOk result (LeftAnew self.new) }
+        ensures whole { 2 ^ 31 < size → OnOk result (self.new.lines ≡ []) }
         ensures few { IfOk result (λ items. vec_len items ≤ 2 ^ 31) }
         ensures fewer { OnOk result (self.old.lines ≢ [] → length self.new.lines < length self.old.lines) }
         ensures fault { IfErr result (λ e. e.kind ≢ PoFault.OutOfMemory → LeftStops self.old e.kind e.line) }

@@ -1,19 +1,22 @@
 use Rattle.std.proofs.Common.{[], ◌++◌, append-nil, append_assoc}
+use Rattle.std.proofs.lemmas.Result.{err_from_is_err_and}
 use Rattle.po_reader.specs.Faults.IsReadFault.{in_text}
 use Rattle.po_reader.proofs.PieceReading.{fault_of_text, left_over, whole_left}
 use Rattle.po_compile.proofs.CollectedLemmas.{holds_whole}
 use Rattle.po_compile.proofs.collecting.collect.Goals as goal
 
-pub returns-in-Err-clause-fault : goal.returns-in-Err-clause-fault
-returns-in-Err-clause-fault c = record {
-  fault = λ other. in_text c.in-Err.ensures.fault;
-  memory = λ memory. absurd (c.in-Err.ensures.memory memory);
-}
+pub returns-in_err-pieces-clause-fault : goal.returns-in_err-pieces-clause-fault
+returns-in_err-pieces-clause-fault c =
+    let p = err_from_is_err_and c.from_residual.result c.from_residual.ensures.1 in
+    rw (p.1, p.2) (record {
+      fault = λ other. in_text c.in_err-pieces.ensures.fault;
+      memory = λ memory. absurd (c.in_err-pieces.ensures.memory memory);
+    })
 
 pub loop-pieces-init : goal.loop-pieces-init
 loop-pieces-init c = record {
-  reads = ([], whole_left c.args.text.now c.in-Ok.pieces c.in-Ok.ensures.found, record { bytes = c.in_ok-with_capacity.ensures.items; lengths = c.in_ok-with_capacity-2.ensures.items });
-  faults = fault_of_text c.args.text.now c.in-Ok.pieces c.in-Ok.ensures.found c.in-Ok.ensures.stops;
+  reads = ([], whole_left c.args.text.now c.in_ok-pieces.pieces c.in_ok-pieces.ensures.found, record { bytes = c.in_ok-with_capacity.ensures.items; lengths = c.in_ok-with_capacity-2.ensures.items });
+  faults = fault_of_text c.args.text.now c.in_ok-pieces.pieces c.in_ok-pieces.ensures.found c.in_ok-pieces.ensures.stops;
 }
 
 pub loop-pieces-preserved : goal.loop-pieces-preserved

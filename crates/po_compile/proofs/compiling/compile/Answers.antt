@@ -3,7 +3,7 @@ use Rattle.po_syntax.specs.declared.fault.PoError.{PoError}
 use Rattle.po_syntax.specs.declared.fault.PoFault.{PoFault}
 use Rattle.po_syntax.specs.declared.fault.PoFault.TheVariants.{OutOfMemory}
 use Rattle.po_reader.specs.Faults.{IsReadFault}
-use Rattle.po_reader.specs.Refusals.{IsFaultOf}
+use Rattle.po_reader.specs.PieceRead.{IsFaultOf}
 use Rattle.po_entry.specs.Validity.{out_of_memory}
 use Rattle.po_compile.specs.Accepted.{IsTextFault}
 use Rattle.po_compile.proofs.ReadingLemmas.{only_refused}
@@ -18,7 +18,6 @@ fault_by_kind text error kind is h =
     let other : error.kind ≢ OutOfMemory = λ memory. absurd (cc (is, memory)) in
     inr (other, inl (h.fault other))
 
-pub returns-in-Err-Fault : goal.returns-in-Err-Fault
-returns-in-Err-Fault c =
-    let refusal = rw c.in-Err-Fault.field-0-is at c.in-Err-Fault.ensures.fault in
-    only_refused c.args.text.now c.args.options c.in-Err-Fault.error (fault_by_kind c.args.text.now c.in-Err-Fault.error c.in-Err-Fault.error.kind refl refusal)
+pub returns-in-Err : goal.returns-in-Err
+returns-in-Err c =
+    only_refused c.args.text.now c.args.options c.in-Err.error (fault_by_kind c.args.text.now c.in-Err.error c.in-Err.error.kind refl c.in-Err.ensures.fault)

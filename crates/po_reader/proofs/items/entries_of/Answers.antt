@@ -1,16 +1,33 @@
-use Rattle.std.proofs.Common.{◌∙◌, subst, sym}
+use Rattle.std.proofs.Common.{◌∙◌, List, subst, sym}
 use Rattle.std.specs.Prelude.{All}
 use Rattle.std.proofs.lemmas.List.Elements.{All-map}
 use Rattle.std.proofs.lemmas.Result.{err_from_is_err_and}
 use Rattle.po_entry.specs.Header.{HasAdmittedCharset}
 use Rattle.po_entry.specs.EntryView.{entry_view}
 use Rattle.po_entry.specs.Validity.{HasTexts}
+use Rattle.po_entry.specs.TextEntry.{TextEntry}
 use Rattle.po_reader.proofs.Spelt.{reads_spelt}
+use Rattle.po_reader.specs.Faults.{CharsetStops, TextsStop}
+use Rattle.po_reader.specs.ItemsRead.{in_items, in_texts, in_charset}
+use Rattle.po_reader.proofs.KeptEntries.{kept_sound, kept_texts, kept_admitted, kept_texts_stop, kept_charset_stops}
 use Rattle.po_reader.proofs.SoundCatalogue.{SoundEntry, entries_sound, drafts_valid}
 use Rattle.po_reader.proofs.NoMemory.{texts_reported}
-use Rattle.po_reader.proofs.KeptEntries.{kept_sound, kept_texts, kept_admitted}
-use Rattle.po_reader.proofs.Results.{ok_both, ok_step}
+use Rattle.po_reader.proofs.Results.{ok_both, ok_step, err_step}
 use Rattle.po_reader.proofs.items.entries_of.Goals as goal
+
+pub returns-in_err-drafts-clause-fault : goal.returns-in_err-drafts-clause-fault
+returns-in_err-drafts-clause-fault c =
+    let p = err_from_is_err_and c.from_residual.result c.from_residual.ensures.1 in
+    let stops = rw (c.last_line.ensures, c.deref.ensures.value, c.deref-2.ensures.value) at c.in_err-drafts.ensures.fault in
+    rw (p.1, p.2) (λ other. in_items (stops other))
+
+pub returns-in_err-check_drafts-clause-fault : goal.returns-in_err-check_drafts-clause-fault
+returns-in_err-check_drafts-clause-fault c =
+    let p = err_from_is_err_and c.from_residual-in_err-check_drafts.result c.from_residual-in_err-check_drafts.ensures.1 in
+    let spelt = rw c.deref.ensures.value at c.in_ok-drafts.ensures.found in
+    let stops = rw c.deref-3.ensures.value at c.in_err-check_drafts.ensures.fault in
+    let kept = subst (λ (es : List TextEntry). TextsStop es c.in_err-check_drafts.field-0.0.kind c.in_err-check_drafts.field-0.0.line) spelt.2 stops in
+    rw (p.1, p.2) (λ other. in_texts (reads_spelt spelt.1) (kept_texts_stop c.args.with_comments spelt.0 kept))
 
 pub returns-in_err-check_drafts-clause-memory : goal.returns-in_err-check_drafts-clause-memory
 returns-in_err-check_drafts-clause-memory c =
@@ -19,15 +36,15 @@ returns-in_err-check_drafts-clause-memory c =
 
 pub catalogue_of-requires : goal.catalogue_of-requires
 catalogue_of-requires c =
-    let spelt = c.in_ok-drafts.ensures.found in
+    let spelt = rw c.deref.ensures.value at c.in_ok-drafts.ensures.found in
     let sound = subst (All SoundEntry) (sym spelt.2) (kept_sound c.args.with_comments spelt.0 (entries_sound spelt.1 c.requires.hold)) in
-    let asked = rw c.deref.ensures.value at c.in_ok-check_drafts.ensures.ok in
+    let asked = rw c.deref-3.ensures.value at c.in_ok-check_drafts.ensures.ok in
     drafts_valid _ sound asked
 
 pub returns-clause-found : goal.returns-clause-found
 returns-clause-found c =
-    let spelt = c.in_ok-drafts.ensures.found in
-    let asked = rw c.deref.ensures.value at c.in_ok-check_drafts.ensures.ok in
+    let spelt = rw c.deref.ensures.value at c.in_ok-drafts.ensures.found in
+    let asked = rw c.deref-3.ensures.value at c.in_ok-check_drafts.ensures.ok in
     let texts = kept_texts c.args.with_comments spelt.0 (subst (All HasTexts) spelt.2 (All-map HasTexts entry_view c.in_ok-drafts.drafts.items asked)) in
     let admitted = ok_step c.catalogue_of.result (λ _ charsets. kept_admitted c.args.with_comments spelt.0 (subst (All HasAdmittedCharset) spelt.2 charsets)) c.catalogue_of.ensures.charsets in
     ok_both c.catalogue_of.result (λ made is charsets. (
@@ -35,3 +52,13 @@ returns-clause-found c =
       record { reads = reads_spelt spelt.1; texts = texts; charsets = charsets },
       is ∙ spelt.2,
     )) c.catalogue_of.ensures.entries admitted
+
+pub returns-clause-fault : goal.returns-clause-fault
+returns-clause-fault c =
+    let spelt = rw c.deref.ensures.value at c.in_ok-drafts.ensures.found in
+    let asked = rw c.deref-3.ensures.value at c.in_ok-check_drafts.ensures.ok in
+    let texts = kept_texts c.args.with_comments spelt.0 (subst (All HasTexts) spelt.2 (All-map HasTexts entry_view c.in_ok-drafts.drafts.items asked)) in
+    err_step c.catalogue_of.result (λ e h other.
+    let foreign = h other in
+    let stops = kept_charset_stops c.args.with_comments spelt.0 (subst (λ (es : List TextEntry). CharsetStops es e.line) spelt.2 foreign.1) in
+    rw foreign.0 (in_charset (reads_spelt spelt.1) texts stops)) c.catalogue_of.ensures.fault

@@ -1,4 +1,4 @@
-use Rattle.std.proofs.Common.{ℕ, ◌+◌, ◌≤◌, ◌^◌, ◌++◌, List, length}
+use Rattle.std.proofs.Common.{ℕ, ◌+◌, ◌<◌, ◌≤◌, ◌^◌, ◌++◌, List, length}
 use Rattle.std.specs.Prelude.{All}
 use Rattle.po_syntax.specs.declared.fault.PoFault.{PoFault}
 use Rattle.po_syntax.specs.CleanLine.{AreCleanLines}
@@ -16,6 +16,7 @@ invariant-loop-items l = record {
   room : l.line + length l.rest ≤ 2 ^ 31;
   few : length (views l.items.items) + length l.rest ≤ length l.text;
   fewer : length (lines_of l.rest) ≤ length (lines_of l.text);
+  past : 0 < length l.items.items → length (lines_of l.rest) < length (lines_of l.text);
 }
 
 abbrev pub decreases-loop-items : goal.decreases-loop-items

@@ -4,7 +4,7 @@ use Rattle.po_entry.specs.TextEntry.{TextEntry}
 use Rattle.po_entry.specs.ReadsText.{ReadsLeft, ReadsText}
 use Rattle.po_reader.specs.Faults.{IsReadFault}
 use Rattle.po_reader.specs.PieceRead.{IsLeftFault}
-use Rattle.po_reader.proofs.piecewise.read_pieces.Given as goal
+use Rattle.po_reader.proofs.reading.read.Given as goal
 
 abbrev pub invariant-loop-pieces : goal.invariant-loop-pieces
 invariant-loop-pieces l = record {

@@ -4,15 +4,17 @@ use Rattle.po_entry.specs.ReadsText.{ReadsText}
 use Rattle.po_entry.specs.TextEntry.{TextEntry}
 use Rattle.po_reader.specs.Faults.IsReadFault.{in_text}
 use Rattle.po_reader.proofs.PieceReading.{fault_of_text, left_over, whole_left}
-use Rattle.po_reader.proofs.piecewise.read_pieces.Goals as goal
+use Rattle.po_reader.proofs.reading.read.Goals as goal
 
 pub returns-in_err-pieces-clause-fault : goal.returns-in_err-pieces-clause-fault
 returns-in_err-pieces-clause-fault c =
     let p = err_from_is_err_and c.from_residual.result c.from_residual.ensures.1 in
-    rw (p.1, p.2) (record {
-      fault = λ other. in_text c.in_err-pieces.ensures.fault;
-      memory = λ memory. absurd (c.in_err-pieces.ensures.memory memory);
-    })
+    rw (p.1, p.2) (λ other. in_text c.in_err-pieces.ensures.fault)
+
+pub returns-in_err-pieces-clause-memory : goal.returns-in_err-pieces-clause-memory
+returns-in_err-pieces-clause-memory c =
+    let p = err_from_is_err_and c.from_residual.result c.from_residual.ensures.1 in
+    rw (p.1, p.2) (λ memory. absurd (c.in_err-pieces.ensures.memory memory))
 
 pub loop-pieces-init : goal.loop-pieces-init
 loop-pieces-init c = record {
