@@ -2,13 +2,15 @@
 
 use crate::assertions::{Refused, assert_refused};
 use crate::summary::summaries;
-use po_reader::read_in_pieces;
-use po_syntax::PoFault;
+use po_entry::Catalogue;
+use po_reader::next_catalogue;
+use po_syntax::{Pieces, PoError, PoFault};
 use std::alloc::Global;
 use std::test::Fail;
 
 /// Texts with the summaries of their entries. An empty line stands inside an entry, before and
-/// after comments, and between the strings of a text; lines end with CR LF after a byte order mark.
+/// after comments, and between the strings of a text; lines end with CR LF after a byte order mark;
+/// no line is empty, and one line has an entry and the beginning of the next.
 const TEXTS: &[(&[u8], &[u8])] = &[
     (
         b"# one\n\nmsgid \"a\"\n\nmsgstr \"A\"\n\n# two\n\n#. e\nmsgid \"b\"\nmsgstr \"B\"\n\"C\"\n\n\n#~ msgid \"d\"\n#~ msgstr \"D\"\n\n# end\n",
@@ -25,6 +27,10 @@ const TEXTS: &[(&[u8], &[u8])] = &[
     (
         b"msgid \"a\"\nmsgstr \"A\"\nmsgid \"b\"\nmsgstr \"B\"\n",
         b"||||-;-;-;|-|a|-|A;.\n||||-;-;-;|-|b|-|B;.\n",
+    ),
+    (
+        b"# t\nmsgid \"a\"\nmsgstr \"A\"\n\"B\"\n#. e\nmsgctxt \"c\"\nmsgid \"b\"\nmsgid_plural \"p\"\nmsgstr[0] \"C\"\nmsgstr[1] \"D\"\n#~ msgid \"d\"\n#~ msgstr \"E\"\n#| msgid \"o\"\nmsgid \"f\"\nmsgstr \"F\"\nmsgid \"g\" msgstr \"G\" msgid \"h\"\nmsgstr \"H\"\n# end\n",
+        b" t;||||-;-;-;|-|a|-|AB;.\n| e;|||-;-;-;|c|b|p|C;D;.\n||||-;-;-;|-|d|-|E;~\n||||-;o;-;|-|f|-|F;.\n||||-;-;-;|-|g|-|G;.\n||||-;-;-;|-|h|-|H;.\n",
     ),
 ];
 
@@ -50,7 +56,58 @@ const REFUSED: &[Refused] = &[
         PoFault::BadEscape,
         8,
     ),
+    (
+        b"\"x\"\nmsgid \"a\"\nmsgstr \"A\"\n",
+        PoFault::BadOrder,
+        1,
+    ),
+    (
+        b"msgid \"a\"\nmsgstr \"\\xff\"\nmsgid \"b\"\nmsgstr \"B\"\n",
+        PoFault::NotUtf8,
+        1,
+    ),
+    (
+        b"msgid \"a\"\nmsgstr \"\\xff\"\nmsgid \"b\"\nmsgstr \"B\\q\"\n",
+        PoFault::BadEscape,
+        4,
+    ),
+    (
+        b"msgid \"a\"\nmsgstr \"A\"\nmsgid \"b\"\n",
+        PoFault::BadOrder,
+        3,
+    ),
+    (
+        b"msgid \"a\"\nmsgstr \"A\"\n# c\n\"B\"\nmsgid \"b\"\nmsgstr \"B\"\n",
+        PoFault::BadOrder,
+        4,
+    ),
+    (
+        b"msgid \"a\"\nmsgstr \"A\"\nmsgstr[1] \"B\"\n",
+        PoFault::BadOrder,
+        3,
+    ),
+    (
+        b"msgid \"a\"\nmsgid_plural \"p\"\nmsgstr[0] \"A\"\nmsgstr[2] \"B\"\n",
+        PoFault::BadPluralIndex,
+        4,
+    ),
+    (
+        b"msgid \"a\"\nmsgstr \"A\"\n#~ \"B\"\n",
+        PoFault::MixedObsolete,
+        3,
+    ),
 ];
+
+/// The catalogue of a text that is read in pieces of this size.
+fn read_in_pieces(alloc: Global, text: &[u8], size: usize) -> Result<Catalogue, PoError> {
+    let mut pieces = Pieces::of(text)?;
+    let mut catalogue = Catalogue::new(alloc);
+    while !pieces.are_over() {
+        let piece = next_catalogue(alloc, &mut pieces, size)?;
+        catalogue.append(piece)?;
+    }
+    Ok(catalogue)
+}
 
 /// The summaries of the entries of a text that is read in pieces of this size.
 fn summaries_of_pieces(alloc: Global, text: &[u8], size: usize) -> Result<Vec<u8>, Fail> {
