@@ -1,6 +1,6 @@
 -- The items of two pieces of a text, joined, where those of the first end in a string.
 use Rattle.std.proofs.Common.{◌≡◌, refl, List, [], ◌∷◌, ◌++◌, append_assoc}
-use Rattle.po_syntax.specs.LinesLeft.{EndsInString}
+use Rattle.po_syntax.specs.Piece.{EndsInString}
 use Rattle.po_syntax.specs.TextItem.{TextItem, Comment, Word, Str}
 use Rattle.po_entry.specs.TextEntry.{TextEntry}
 use Rattle.po_entry.specs.Spelling.{AreComments, SpellsEntries, comments, entries}

@@ -1,7 +1,7 @@
 //! Laws of entries, each the contract of a function that does nothing: a call brings the law into a
 //! proof.
 ghost use Rattle.std.specs.Prelude.{◌≡◌, ◌↔◌, ◌++◌, ℕ, List, Decides};
-ghost use Rattle.po_syntax.specs.LinesLeft.{EndsInString};
+ghost use Rattle.po_syntax.specs.Piece.{EndsInString};
 ghost use Rattle.po_syntax.specs.TextItem.{TextItem};
 ghost use Rattle.po_entry.specs.TextEntry.{TextEntry, SameButLine};
 ghost use Rattle.po_entry.specs.Charset.{NamesCharset};

@@ -2,7 +2,8 @@
 use Rattle.std.proofs.Common.{◌≡◌, ◌≢◌, ◌⊎◌, inl, inr, refl, sym, subst, ℕ, ◌<◌, Bool, List, [], ◌∷◌, ◌++◌, append-nil, append_assoc, arith, length}
 use Rattle.std.proofs.lemmas.List.Elements.{All-nil, All-append}
 use Rattle.po_syntax.specs.declared.fault.PoFault.{PoFault}
-use Rattle.po_syntax.specs.LinesLeft.{BeginsAnew, EndsInString, LeftAnew, LeftStops, LinesLeft, SpellsLeft}
+use Rattle.po_syntax.specs.LinesLeft.{LeftStops, LinesLeft, SpellsLeft}
+use Rattle.po_syntax.specs.Piece.{EndsInString, IsNew, LeftAnew}
 use Rattle.po_syntax.specs.PoText.{SpellsText, SpellsLines, LinesStop, TextFault}
 use Rattle.po_syntax.specs.TextItem.{TextItem, Comment, Word, Str}
 use Rattle.po_syntax.specs.declared.item.Keyword.TheVariants.{MsgCtxt, MsgId, MsgIdPlural, MsgStr, MsgStrAt}
@@ -20,7 +21,7 @@ use Rattle.po_reader.specs.Faults.{IsReadFault}
 use Rattle.po_reader.specs.Faults as faults
 use Rattle.po_reader.specs.ItemsRead.{ReadsItems, ItemsStop}
 use Rattle.po_reader.specs.ItemsRead as stops
-use Rattle.po_reader.specs.PieceRead.{SpellsOn, ReadsOn, KeepsReading, KeepsItems, StopsStay, FaultsStay, IsShorter, IsLeftFault}
+use Rattle.po_reader.specs.PieceRead.{SpellsOn, ReadsOn, KeepsReading, KeepsItems, StopsStay, FaultsStay, IsLeftFault}
 use Rattle.po_reader.specs.PieceRead as piece
 
 -- where no line is left, nothing reads as no entries
@@ -75,23 +76,25 @@ stop_fault spelt (stops.in_items stopped) = faults.in_items spelt (items_fault s
 stop_fault spelt (stops.in_texts reads stopped) = faults.in_texts spelt reads stopped
 stop_fault spelt (stops.in_charset reads texts stopped) = faults.in_charset spelt reads texts stopped
 
--- items that begin anew begin with neither a string nor a plural form
-apart : (items : List TextItem) → BeginsAnew items → IsApart items
-apart [] new = (refl, refl)
-apart (Comment kind text line ∷ items) new = (refl, refl)
-apart (Word MsgCtxt marks line ∷ items) new = (refl, refl)
-apart (Word MsgId marks line ∷ items) new = (refl, refl)
-apart (Word MsgIdPlural marks line ∷ items) new = (refl, refl)
-apart (Word MsgStr marks line ∷ items) new = (refl, refl)
-apart (Word (MsgStrAt index) marks line ∷ items) new = absurd new
-apart (Str bytes marks line ∷ items) new = absurd new
+-- lines that begin anew spell items that begin with neither a string nor a plural form
+apart : (left : LinesLeft) (items : List TextItem) → LeftAnew left → SpellsLeft left items → IsApart items
+apart left [] anew h = (refl, refl)
+apart left (item ∷ items) anew h = first item (anew item items h) where
+  first : (item : TextItem) → IsNew item → IsApart (item ∷ items)
+  first (Comment kind text line) new = (refl, refl)
+  first (Word MsgCtxt marks line) new = (refl, refl)
+  first (Word MsgId marks line) new = (refl, refl)
+  first (Word MsgIdPlural marks line) new = (refl, refl)
+  first (Word MsgStr marks line) new = (refl, refl)
+  first (Word (MsgStrAt index) marks line) new = absurd new
+  first (Str bytes marks line) new = absurd new
 
 -- the faults of what is left after a piece that reads
 pub piece_faults : (old new : LinesLeft) (items : List TextItem) (entries : List TextEntry) → SpellsOn old new items → StopsStay old new → (new.lines ≡ []) ⊎ EndsInString items → LeftAnew new → ReadsItems items entries
     → FaultsStay old new
 piece_faults old new items entries spelt stops ends anew read fault line (piece.in_lines stopped) = piece.in_lines (stops fault line stopped)
 piece_faults old new items entries spelt stops (inr ends) anew read fault line (piece.in_items {items = rest} more stopped) =
-    piece.in_items (spelt rest more) (items_stop_after items rest entries read ends (apart rest (anew rest more)) stopped)
+    piece.in_items (spelt rest more) (items_stop_after items rest entries read ends (apart new rest anew more) stopped)
 piece_faults old new items entries spelt stops (inl none) anew read fault line (piece.in_items {items = rest} more stopped) =
     absurd (nothing_stops rest (nothing_left new rest none more) stopped)
 
@@ -102,19 +105,6 @@ no_line_stops new fault line none stopped = subst (λ (lines : List (List ℕ)).
 pub faults_over : (old new : LinesLeft) → new.lines ≡ [] → FaultsStay old new
 faults_over old new none fault line (piece.in_lines stopped) = absurd (no_line_stops new fault line none stopped)
 faults_over old new none fault line (piece.in_items {items = rest} more stopped) = absurd (nothing_stops rest (nothing_left new rest none more) stopped)
-
--- fewer lines are left where none is
-pub none_shorter : (old new : LinesLeft) → new.lines ≡ [] → IsShorter old new
-none_shorter old new none some = rw none (some_length old.lines some) where
-  some_length : (lines : List (List ℕ)) → lines ≢ [] → 0 < length lines
-  some_length [] some = absurd (some refl)
-  some_length (line ∷ lines) some = omega arith
-
--- where no line is left after the items, what was left spells them
-pub spelt_over : (old new : LinesLeft) (items : List TextItem) → SpellsOn old new items → new.lines ≡ [] → SpellsLeft old items
-spelt_over old new items spelt none =
-    let nothing : SpellsLeft new [] = subst (λ (lines : List (List ℕ)). SpellsLines new.number lines []) (sym none) refl in
-    rw append-nil at (spelt [] nothing)
 
 -- where the items of what is left are kept, what is left is
 pub items_kept : (all : Bool) (old new : LinesLeft) (items : List TextItem) (kept : List TextEntry) → SpellsOn old new items → (new.lines ≡ []) ⊎ EndsInString items → KeepsItems all items kept → KeepsReading all old new kept

@@ -3,6 +3,7 @@ ghost use Rattle.po_reader.specs.PieceRead.{ReadsOn, KeepsReading, ReadsMessages
 
 use crate::items::entries_of;
 use po_entry::Catalogue;
+use po_syntax::laws::pieces_are_cut_off;
 use po_syntax::{Pieces, PoError, PoFault};
 use std::alloc::Global;
 
@@ -54,6 +55,7 @@ fn next_entries(
 {
     let start = pieces.copy();
     let items = pieces.next(alloc, size)?;
+    pieces_are_cut_off();
     match entries_of(alloc, items, with_comments) {
         Ok(entries) => Ok(entries),
         Err(error) => match error.kind {
@@ -78,5 +80,6 @@ fn all_entries(
     ensures fault { IfErr result (IsLeftError pieces.old) }
 {
     let items = pieces.next(alloc, usize::MAX)?;
+    pieces_are_cut_off();
     entries_of(alloc, items, with_comments)
 }

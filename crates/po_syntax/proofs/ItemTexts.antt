@@ -196,7 +196,7 @@ pub line_texts : {number : ℕ} {line : List ℕ} {items : List TextItem} → Sp
 line_texts (comment {text = line} {rest = rest} {kind = kind} e) clean = All-cons HoldsText _ [] (comment_text line kind rest clean (comment_line-sound line e)) no_items
 line_texts (tokens {text = line} e h) clean = tokens_texts h (All-rest (λ b. b ≢ 0) line clean.no_nul (tokens-rest line e))
 
-lines_texts : (number : ℕ) (lines : List (List ℕ)) (items : List TextItem) → SpellsLines number lines items → AreCleanLines lines → All HoldsText items
+pub lines_texts : (number : ℕ) (lines : List (List ℕ)) (items : List TextItem) → SpellsLines number lines items → AreCleanLines lines → All HoldsText items
 lines_texts number [] items h clean = rw h no_items
 lines_texts number (line ∷ lines) items h clean =
     rw h.4 (All-append HoldsText h.0 h.1 (line_texts h.2 clean.0) (lines_texts (number + 1) lines h.1 h.3 clean.1))

@@ -1,7 +1,9 @@
 -- A text spells at most one item for each of its bytes.
-use Rattle.std.proofs.Common.{◌≡◌, ◌<◌, ◌==◌, ap, subst, ℕ, ◌+◌, ◌≤◌, Bool, true, false, cond, if◌then◌else◌, List, [], ◌∷◌, length, length-append, drop, length-drop, arith}
+use Rattle.std.proofs.Common.{◌≡◌, ◌≢◌, refl, ◌<◌, ◌==◌, ap, subst, ℕ, ◌+◌, ◌≤◌, Bool, true, false, cond, if◌then◌else◌, List, [], ◌∷◌, length, length-append, drop, length-drop, arith}
 use Rattle.po_syntax.specs.declared.item.CommentKind.{CommentKind}
 use Rattle.std.specs.List.{onto_first}
+use Rattle.std.proofs.lemmas.List.Sums.{sum_by-cons}
+use Rattle.po_syntax.specs.LinesLeft.{lines_len}
 use Rattle.po_syntax.specs.declared.item.CommentKind.TheVariants.{Translator, Extracted, Reference, Flags}
 use Rattle.po_syntax.specs.declared.item.Marks.{Marks}
 use Rattle.po_syntax.specs.Line.{Shape, CommentLine, Tokens, NoShape, comment_shape, obsolete_shape, tilde_shape, hash_shape, first_shape, shape_of, SpellsTokens, none, word, string, SpellsLine, comment, tokens}
@@ -77,27 +79,34 @@ pub line-few : {line : ℕ} {text : List ℕ} {items : List TextItem} → Spells
 line-few (comment {text = text} e) = omega (arith, comment-some text e)
 line-few (tokens {text = text} e h) = omega (arith, rest-le text (tokens-rest text e), tokens-few h)
 
--- how many bytes stand on the lines
-abbrev byte_count : List (List ℕ) → ℕ
-byte_count [] = 0
-byte_count (line ∷ lines) = length line + byte_count lines
-
-lines-few : (number : ℕ) (lines : List (List ℕ)) (items : List TextItem) → SpellsLines number lines items → length items ≤ byte_count lines
+-- each item takes a byte, and each line one more for its LF
+pub lines-few : (number : ℕ) (lines : List (List ℕ)) (items : List TextItem) → SpellsLines number lines items → length items + length lines ≤ lines_len lines
 lines-few number [] items h = omega (arith, ap length h)
 lines-few number (line ∷ lines) items h =
-    omega (arith, ap length h.4, length-append h.0 h.1, line-few h.2, lines-few (number + 1) lines h.1 h.3)
+    omega (arith, ap length h.4, length-append h.0 h.1, line-few h.2, lines-few (number + 1) lines h.1 h.3, sum_by-cons (λ (l : List ℕ). length l + 1) line lines)
 
-onto_first-bytes : (b : ℕ) (lines : List (List ℕ)) → byte_count (onto_first b lines) ≤ 1 + byte_count lines
-onto_first-bytes b [] = omega arith
-onto_first-bytes b (line ∷ lines) = omega arith
+onto_first-len : (b : ℕ) (lines : List (List ℕ)) → lines ≢ [] → lines_len (onto_first b lines) ≡ lines_len lines + 1
+onto_first-len b [] some = absurd (some refl)
+onto_first-len b (line ∷ lines) some =
+    omega (arith, sum_by-cons (λ (l : List ℕ). length l + 1) line lines, sum_by-cons (λ (l : List ℕ). length l + 1) (b ∷ line) lines)
 
-cut_cases : (b : ℕ) (lines : List (List ℕ)) (n : ℕ) (feed : Bool) → byte_count lines ≤ n → byte_count (cond feed ([] ∷ lines) (onto_first b lines)) ≤ 1 + n
-cut_cases b lines n true h = omega arith
-cut_cases b lines n false h = omega (arith, onto_first-bytes b lines)
+cut_cases : (b : ℕ) (lines : List (List ℕ)) (feed : Bool) → lines ≢ [] → lines_len (cond feed ([] ∷ lines) (onto_first b lines)) ≡ lines_len lines + 1
+cut_cases b lines true some = omega (arith, sum_by-cons (λ (l : List ℕ). length l + 1) [] lines)
+cut_cases b lines false some = onto_first-len b lines some
 
-lines_of-bytes : (text : List ℕ) → byte_count (lines_of text) ≤ length text
-lines_of-bytes [] = omega arith
-lines_of-bytes (b ∷ text) = omega (arith, cut_cases b (lines_of text) (length text) (b == 10) (lines_of-bytes text))
+cut_some : (cut : List (List ℕ)) (b : ℕ) (feed : Bool) → cut ≢ [] → cond feed ([] ∷ cut) (onto_first b cut) ≢ []
+cut_some cut b true h = λ e. absurd (cc)
+cut_some [] b false h = λ e. h refl
+cut_some (line ∷ cut) b false h = λ e. absurd (cc)
+
+-- a text has a line, though it be empty
+pub lines_some : (text : List ℕ) → lines_of text ≢ []
+lines_some [] = λ e. absurd (cc)
+lines_some (b ∷ text) = cut_some (lines_of text) b (b == 10) (lines_some text)
+
+pub lines_len-lines_of : (text : List ℕ) → lines_len (lines_of text) ≡ length text + 1
+lines_len-lines_of [] = refl
+lines_len-lines_of (b ∷ text) = omega (arith, cut_cases b (lines_of text) (b == 10) (lines_some text), lines_len-lines_of text)
 
 mark_cases : (marked : Bool) (text : List ℕ) → length (if marked then drop 3 text else text) ≤ length text
 mark_cases true text = omega (arith, length-drop 3 text)
@@ -106,6 +115,10 @@ mark_cases false text = omega arith
 pub without_byte_order_mark-le : (text : List ℕ) → length (without_byte_order_mark text) ≤ length text
 without_byte_order_mark-le text = mark_cases _ text
 
+some_length : (lines : List (List ℕ)) → lines ≢ [] → 0 < length lines
+some_length [] some = absurd (some refl)
+some_length (line ∷ lines) some = omega arith
+
 pub items-few : (text : List ℕ) (items : List TextItem) → SpellsLines 1 (lines_of (without_byte_order_mark text)) items → length items ≤ length text
 items-few text items h =
-    omega (arith, lines-few 1 (lines_of (without_byte_order_mark text)) items h, lines_of-bytes (without_byte_order_mark text), without_byte_order_mark-le text)
+    omega (arith, lines-few 1 (lines_of (without_byte_order_mark text)) items h, lines_len-lines_of (without_byte_order_mark text), some_length (lines_of (without_byte_order_mark text)) (lines_some (without_byte_order_mark text)), without_byte_order_mark-le text)

@@ -1,59 +1,34 @@
 -- What a piece of a text holds.
-use Rattle.std.proofs.Common.{◌∙◌, sym, ap, map, take, drop, ◌≡◌, ◌≢◌, ◌==◌, refl, subst, ℕ, zero, suc, ◌+◌, ◌≤◌, Bool, true, false, cond, List, [], ◌∷◌, ◌++◌, length, length-append, All, Option, Some, None, ◌-◌, arith}
+use Rattle.std.proofs.Common.{◌≡◌, ◌≢◌, ◌⊎◌, ◌↔◌, ◌∙◌, inl, inr, refl, sym, subst, ap, ℕ, zero, suc, ◌+◌, ◌-◌, ◌<◌, ◌≤◌, ◌^◌, true, List, [], ◌∷◌, ◌++◌, append-nil, append_assoc, length, get_or, take, drop, length-drop, All, Option, Some, None, arith}
 use Rattle.std.specs.Borrow.{Bor}
-use Rattle.std.specs.Prelude.{is_some, slice_get, MatchOption}
+use Rattle.std.specs.Prelude.{is_some, MatchOption}
 use Rattle.std.proofs.Math.Seq.{take-append_seam, drop-append_seam}
-use Rattle.std.proofs.lemmas.List.{length-map, take-map}
-use Rattle.std.specs.List.{onto_first}
+use Rattle.std.proofs.lemmas.Bool.{cases_lt}
+use Rattle.std.proofs.lemmas.List.{drop-drop, drop_all, length-map}
+use Rattle.std.proofs.lemmas.List.Elements.{All-cons, All-drop, All-head, All-tail}
+use Rattle.std.proofs.lemmas.List.Sums.{sum_by-take-drop, sum_by-take-le, sum_by-cons}
+use Rattle.po_syntax.specs.declared.fault.PoFault.{PoFault}
 use Rattle.po_syntax.specs.declared.item.Item.{Item}
-use Rattle.std.proofs.lemmas.List.Elements.{All-append}
-use Rattle.po_syntax.specs.CleanLine.{IsCleanLine}
+use Rattle.po_syntax.specs.CleanLine.{AreCleanLines}
 use Rattle.po_syntax.specs.ItemContents.{HoldsText}
-use Rattle.po_syntax.specs.Line.{SpellsLine}
-use Rattle.po_syntax.specs.LinesLeft.{BeginsAnew, EndsInString, HasNew, IsString, lines_of_rest}
-use Rattle.po_syntax.specs.PoText.{SpellsLines, lines_of}
-use Rattle.po_syntax.proofs.Uniqueness.{line_once}
-use Rattle.po_syntax.specs.TextItem.{TextItem, view, views}
-use Rattle.po_syntax.proofs.ItemTexts.{line_texts}
-use Rattle.po_syntax.proofs.Lines.{line-few}
-
--- the items of one clean line more
-pub more_hold : {number : ℕ} {line : List ℕ} (before here : List TextItem) → All HoldsText before → SpellsLine number line here → IsCleanLine line → All HoldsText (before ++ here)
-more_hold before here h spelt clean = All-append HoldsText before here h (line_texts spelt clean)
-
--- no more items than bytes: those of one line more
-pub more_few : {number : ℕ} {line : List ℕ} (before here : List TextItem) → SpellsLine number line here → length (before ++ here) ≤ length before + length line
-more_few before here spelt = omega (arith, length-append before here, line-few spelt)
-
-cut_some : (cut : List (List ℕ)) (b : ℕ) (feed : Bool) → cut ≢ [] → cond feed ([] ∷ cut) (onto_first b cut) ≢ []
-cut_some cut b true h = λ e. absurd (cc)
-cut_some [] b false h = λ e. h refl
-cut_some (line ∷ cut) b false h = λ e. absurd (cc)
-
--- a text has a line, though it be empty
-pub lines_some : (text : List ℕ) → lines_of text ≢ []
-lines_some [] = λ e. absurd (cc)
-lines_some (b ∷ text) = cut_some (lines_of text) b (b == 10) (lines_some text)
+use Rattle.po_syntax.specs.Line.{SpellsLine, LineStops}
+use Rattle.po_syntax.specs.LinesLeft.{LinesLeft, SpellsLeft, LeftStops, AreOfText, left_after, lines_len, lines_of_rest}
+use Rattle.po_syntax.specs.Piece.{IsString, IsTranslationWord, IsTranslation, EndsTranslation, IsNew, BeginsAnew, LineBeginsAnew, CanEnd, IsPiece, EndsInString, LeftAnew}
+use Rattle.po_syntax.specs.PoText.{SpellsLines, LinesStop, lines_of}
+use Rattle.po_syntax.specs.TextItem.{TextItem, Comment, Word, Str, view, views}
+use Rattle.po_syntax.proofs.ItemTexts.{lines_texts}
+use Rattle.po_syntax.proofs.Lines.{lines-few, lines_some}
+use Rattle.po_syntax.proofs.Uniqueness.{line_once, lines_once}
 
 -- where some text is left, a line is
 pub some_left : (rest : Option (Bor (List ℕ))) → is_some rest ≡ true → lines_of_rest rest ≢ []
 some_left None e = absurd (cc)
 some_left (Some rest) e = lines_some rest.now
 
-pub some_length : (items : List Item) (item : Item) → Some item ≡ slice_get items (length items - 1) → length items - 1 + 1 ≡ length items
-some_length [] item e = cc
-some_length (first ∷ items) item e = omega arith
-
-abbrev is_string_item : Item → Type 0
-is_string_item item = IsString (view item)
-
--- where the last item is a string, the items end in one
-pub string_last : (items : List Item) (n : ℕ) (item : Item) → n + 1 ≡ length items → Some item ≡ slice_get items n → IsString (view item) → EndsInString (views items)
-string_last [] n item e is h = tt
-string_last (first ∷ []) zero item e is h = let same : item ≡ first = cc in subst is_string_item same h
-string_last (first ∷ []) (suc n) item e is h = absurd (omega (arith, e))
-string_last (first ∷ second ∷ items) zero item e is h = absurd (omega (arith, e))
-string_last (first ∷ second ∷ items) (suc n) item e is h = string_last (second ∷ items) n item (omega (arith, e)) is h
+-- the first line, and those after it
+pub lines_begin : (text line : List ℕ) (rest : Option (Bor (List ℕ))) → MatchOption rest (lines_of text ≡ line ∷ []) (λ r. lines_of text ≡ line ∷ lines_of r.now) → lines_of text ≡ line ∷ lines_of_rest rest
+lines_begin text line None h = h
+lines_begin text line (Some rest) h = h
 
 -- items that are cut off again
 pub cut_back : (before after : List Item) (here : List TextItem) (own : ℕ) → own ≡ length before → views after ≡ views before ++ here → take own (views after) ≡ views before
@@ -66,14 +41,362 @@ cut_rest before after here own own_is is =
     let long : own ≡ length (views before) = own_is ∙ sym (length-map before view) in
     ap (drop own) is ∙ ap (λ (n : ℕ). drop n (views before ++ here)) long ∙ drop-append_seam (views before) here
 
--- where the items of a line begin anew, so does whatever the lines from it on spell
-pub line_anew : {number : ℕ} {line : List ℕ} (here : List TextItem) → SpellsLine number line here → HasNew here → (lines : List (List ℕ)) (more : List TextItem) → SpellsLines number (line ∷ lines) more → BeginsAnew more
-line_anew [] spelt new lines more h = absurd new
-line_anew (item ∷ here) spelt new lines more h =
-    let same : h.0 ≡ item ∷ here = line_once h.2 spelt in
-    subst BeginsAnew (sym (h.4 ∙ ap (λ (x : List TextItem). x ++ h.1) same)) new
+-- a string more before strings
+pub strings_more : (items : List Item) (n m : ℕ) (item : Item) → m ≡ n + 1 → n < length items → item ≡ get_or items n item → IsString (view item) → All IsString (drop m (views items)) → All IsString (drop n (views items))
+strings_more [] n m item e h is string more = absurd (omega arith)
+strings_more (first ∷ items) zero zero item e h is string more = absurd (omega arith)
+strings_more (first ∷ items) zero (suc m) item e h is string more =
+    let none : m ≡ 0 = omega arith in
+    All-cons IsString (view first) (views items) (subst (λ (i : Item). IsString (view i)) is string) (subst (λ (n : ℕ). All IsString (drop n (views items))) none more)
+strings_more (first ∷ items) (suc n) zero item e h is string more = absurd (omega arith)
+strings_more (first ∷ items) (suc n) (suc m) item e h is string more = strings_more items n m item (omega arith) (omega arith) is string more
 
--- the first line, and those after it
-pub lines_begin : (text line : List ℕ) (rest : Option (Bor (List ℕ))) → MatchOption rest (lines_of text ≡ line ∷ []) (λ r. lines_of text ≡ line ∷ lines_of r.now) → lines_of text ≡ line ∷ lines_of_rest rest
-lines_begin text line None h = h
-lines_begin text line (Some rest) h = h
+-- what is read at an index is the first of the items from it on
+pub item_first : (items : List Item) (n : ℕ) (item : Item) (first : TextItem) (others : List TextItem) → item ≡ get_or items n item → drop n (views items) ≡ first ∷ others → first ≡ view item
+item_first [] zero item first others is e = absurd (cc)
+item_first [] (suc n) item first others is e = absurd (cc)
+item_first (x ∷ items) zero item first others is e = let front : view x ≡ first = cc in sym (ap view is ∙ front)
+item_first (x ∷ items) (suc n) item first others is e = item_first items n item first others is e
+
+no_string_word : (item : TextItem) → IsTranslationWord item → IsString item → ⊥
+no_string_word (Comment kind text line) word string = string
+no_string_word (Word keyword marks line) word string = string
+no_string_word (Str bytes marks line) word string = word
+
+-- a list that is dropped to its end, or has a first item
+dropped : (n : ℕ) (items : List TextItem) → n < length items → (first : TextItem) × (others : List TextItem) × (drop n items ≡ first ∷ others)
+dropped n [] h = absurd (omega arith)
+dropped zero (first ∷ items) h = (first, items, refl)
+dropped (suc n) (first ∷ items) h = dropped n items (omega arith)
+
+drop_rest : {X : Type 0} (n : ℕ) (xs : List X) (first : X) (others : List X) → drop n xs ≡ first ∷ others → drop (suc n) xs ≡ others
+drop_rest zero [] first others e = absurd (cc)
+drop_rest zero (x ∷ xs) first others e = cc
+drop_rest (suc n) [] first others e = absurd (cc)
+drop_rest (suc n) (x ∷ xs) first others e = drop_rest n xs first others e
+
+some_line : {X : Type 0} (n : ℕ) (xs : List X) (first : X) (others : List X) → drop n xs ≡ first ∷ others → suc n ≤ length xs
+some_line n xs first others e = omega (arith, length-drop n xs, ap length e)
+
+-- behind where strings alone stand, a string stands
+string_at : (m n : ℕ) (items : List TextItem) (first : TextItem) (others : List TextItem) → All IsString (drop m items) → m ≤ n → drop n items ≡ first ∷ others → IsString first
+string_at m n items first others strings le e =
+    let sum : m + (n - m) ≡ n = omega arith in
+    let here : drop (n - m) (drop m items) ≡ first ∷ others = drop-drop (n - m) m items ∙ ap (λ (k : ℕ). drop k items) sum ∙ e in
+    All-head IsString first others (subst (All IsString) here (All-drop IsString (n - m) (drop m items) strings))
+
+-- the item before this place is no string
+abbrev pub IsLastOther : List TextItem → ℕ → Type 0
+IsLastOther items count = (at : ℕ) (item : TextItem) (strings : List TextItem) → at + 1 ≡ count → drop at items ≡ item ∷ strings → IsString item → ⊥
+
+-- the translation with which items end begins before its strings
+pub translation_at : (items : List TextItem) (count before : ℕ) → count ≤ length items → All IsString (drop count items)
+    → IsLastOther items count → IsTranslation (drop before items) → before + 1 ≡ count
+translation_at items count before within strings last is = found (drop before items) refl is where
+  found : (behind : List TextItem) → drop before items ≡ behind → IsTranslation behind → before + 1 ≡ count
+  found [] e is = absurd is
+  found (word ∷ others) e is =
+      elim (cases_lt before count) [
+        | inr le ↦ absurd (no_string_word word is.0 (string_at count before items word others strings le e))
+        | inl less ↦
+            elim (cases_lt (before + 1) count) [
+              | inr le ↦ omega arith
+              | inl later ↦
+                  let first = dropped (count - 1) items (omega arith) in
+                  let all : All IsString (drop (suc before) items) = subst (All IsString) (sym (drop_rest before items word others e)) is.2 in
+                  absurd (last (count - 1) first.0 first.1 (omega arith) first.2 (string_at (suc before) (count - 1) items first.0 first.1 all (omega arith) first.2))
+            ]
+      ]
+
+-- items end a translation exactly where the item before their last strings is its keyword
+pub ends_at : (items : List Item) (count : ℕ) (item : Item) → 0 < count → count < length items → All IsString (drop count (views items)) → IsLastOther (views items) count → item ≡ get_or items (count - 1) item
+    → IsTranslationWord (view item) ↔ EndsTranslation (views items)
+ends_at items count item some within strings last is =
+    let all = views items in
+    let long = length-map items view in
+    let found = dropped (count - 1) all (omega arith) in
+    let first : found.0 ≡ view item = item_first items (count - 1) item found.0 found.1 is found.2 in
+    let next : suc (count - 1) ≡ count = omega arith in
+    let rest : drop count all ≡ found.1 = sym (ap (λ (n : ℕ). drop n all) next) ∙ drop_rest (count - 1) all found.0 found.1 found.2 in
+    let string = dropped count all (omega arith) in
+    let more : found.1 ≢ [] = λ none. let e : string.0 ∷ string.1 ≡ [] = sym string.2 ∙ rest ∙ none in absurd (cc) in (
+      λ word. (count - 1, subst IsTranslation (sym found.2) (subst IsTranslationWord (sym first) word, more, subst (All IsString) rest strings)),
+      λ ends.
+          let at : ends.0 ≡ count - 1 = let e = translation_at all count ends.0 (omega arith) strings last ends.1 in omega arith in
+          let here : IsTranslation (found.0 ∷ found.1) = subst IsTranslation (ap (λ (n : ℕ). drop n all) at ∙ found.2) ends.1 in
+          subst IsTranslationWord first here.0,
+    )
+
+-- items that are strings alone, or end in no string, end no translation
+pub ends_nowhere : (items : List TextItem) (count : ℕ) → count ≤ length items → All IsString (drop count items) → IsLastOther items count → (count ≡ 0) ⊎ (length items ≤ count) → EndsTranslation items → ⊥
+ends_nowhere items count within strings last (inl none) ends =
+    let at = translation_at items count ends.0 within strings last ends.1 in omega arith
+ends_nowhere items count within strings last (inr all) ends =
+    let at = translation_at items count ends.0 within strings last ends.1 in found (drop ends.0 items) refl ends.1 at where
+      found : (behind : List TextItem) → drop ends.0 items ≡ behind → IsTranslation behind → ends.0 + 1 ≡ count → ⊥
+      found [] e is at = is
+      found (word ∷ others) e is at =
+          let next : suc ends.0 ≡ count = omega arith in
+          is.1 (sym (drop_rest ends.0 items word others e) ∙ drop_all (suc ends.0) items (omega arith))
+
+-- what lines spell after which others are left, and what those spell
+joined_after : (count number : ℕ) (lines : List (List ℕ)) (items more : List TextItem) → SpellsLines number (take count lines) items → SpellsLines (number + count) (drop count lines) more → SpellsLines number lines (items ++ more)
+joined_after zero number lines items more h g =
+    let same : number + 0 ≡ number = omega arith in
+    rw h (subst (λ (n : ℕ). SpellsLines n lines more) same g)
+joined_after (suc count) number [] items more h g = rw (h, g) refl
+joined_after (suc count) number (line ∷ lines) items more h g =
+    let sum : number + suc count ≡ (number + 1) + count = omega arith in (
+      h.0,
+      h.1 ++ more,
+      h.2,
+      joined_after count (number + 1) lines h.1 more h.3 (subst (λ (n : ℕ). SpellsLines n (drop count lines) more) sum g),
+      ap (λ (x : List TextItem). x ++ more) h.4 ∙ append_assoc h.0 h.1 more,
+    )
+
+-- the fault of lines that are left after others that have none
+stops_after : (count number : ℕ) (lines : List (List ℕ)) (items : List TextItem) (fault : PoFault) (line : ℕ) → SpellsLines number (take count lines) items → LinesStop (number + count) (drop count lines) fault line → LinesStop number lines fault line
+stops_after zero number lines items fault line h g =
+    let same : number + 0 ≡ number = omega arith in subst (λ (n : ℕ). LinesStop n lines fault line) same g
+stops_after (suc count) number [] items fault line h g = g
+stops_after (suc count) number (first ∷ lines) items fault line h g =
+    let sum : number + suc count ≡ (number + 1) + count = omega arith in
+    inr (h.0, h.2, stops_after count (number + 1) lines h.1 fault line h.3 (subst (λ (n : ℕ). LinesStop n (drop count lines) fault line) sum g))
+
+-- one line more
+spelt_more : (count number : ℕ) (lines : List (List ℕ)) (line : List ℕ) (others : List (List ℕ)) (items here : List TextItem) → SpellsLines number (take count lines) items → drop count lines ≡ line ∷ others → SpellsLine (number + count) line here
+    → SpellsLines number (take (suc count) lines) (items ++ here)
+spelt_more zero number [] line others items here h e g = absurd (cc)
+spelt_more zero number (first ∷ lines) line others items here h e g =
+    let same : line ≡ first = cc in
+    let sum : number + 0 ≡ number = omega arith in
+    rw h (here, [], subst (λ (n : ℕ). SpellsLine n first here) sum (subst (λ (l : List ℕ). SpellsLine (number + 0) l here) same g), refl, sym (append-nil here))
+spelt_more (suc count) number [] line others items here h e g = absurd (cc)
+spelt_more (suc count) number (first ∷ lines) line others items here h e g =
+    let sum : number + suc count ≡ (number + 1) + count = omega arith in (
+      h.0,
+      h.1 ++ here,
+      h.2,
+      spelt_more count (number + 1) lines line others h.1 here h.3 e (subst (λ (n : ℕ). SpellsLine n line here) sum g),
+      ap (λ (x : List TextItem). x ++ here) h.4 ∙ append_assoc h.0 h.1 here,
+    )
+
+len_more : (count : ℕ) (lines : List (List ℕ)) (line : List ℕ) (others : List (List ℕ)) → drop count lines ≡ line ∷ others → lines_len (take (suc count) lines) ≡ lines_len (take count lines) + (length line + 1)
+len_more zero [] line others e = absurd (cc)
+len_more zero (first ∷ lines) line others e = let same : first ≡ line = cc in rw same refl
+len_more (suc count) [] line others e = absurd (cc)
+len_more (suc count) (first ∷ lines) line others e =
+    omega (arith, len_more count lines line others e, sum_by-cons (λ (l : List ℕ). length l + 1) first (take (suc count) lines), sum_by-cons (λ (l : List ℕ). length l + 1) first (take count lines))
+
+-- So many lines of `old` are read, which have these items and this length, and `now` is left; and
+-- no piece could end before.
+pub record HasRead (size : ℕ) (old now : LinesLeft) (items : List TextItem) (len : ℕ) : Type 0 where
+  pub count : ℕ
+  pub within : count ≤ length old.lines
+  pub rest : now ≡ left_after old count
+  pub spelt : SpellsLines old.number (take count old.lines) items
+  pub len_is : len ≡ lines_len (take count old.lines)
+  pub fewest : (fewer : ℕ) → fewer < count → CanEnd size old fewer → ⊥
+
+pub nothing_read : (size : ℕ) (old : LinesLeft) → HasRead size old old [] 0
+nothing_read size old = record {
+  count = 0;
+  within = omega arith;
+  rest = ap (λ (n : ℕ). record { number = n; lines = old.lines }) (omega arith);
+  spelt = refl;
+  len_is = refl;
+  fewest = λ fewer less _. absurd (omega arith);
+}
+
+next_line : {size : ℕ} {old now : LinesLeft} {items : List TextItem} {len : ℕ} (read : HasRead size old now items len) (line : List ℕ) (others : List (List ℕ)) → now.lines ≡ line ∷ others → drop read.count old.lines ≡ line ∷ others
+next_line read line others e = sym (ap (λ (left : LinesLeft). left.lines) read.rest) ∙ e
+
+here_spelt : {size : ℕ} {old now : LinesLeft} {items : List TextItem} {len : ℕ} (read : HasRead size old now items len) (line : List ℕ) (here : List TextItem) → SpellsLine now.number line here → SpellsLine (old.number + read.count) line here
+here_spelt read line here spelt = subst (λ (left : LinesLeft). SpellsLine left.number line here) read.rest spelt
+
+-- a piece can end before a line only where its items and those before them say so
+no_end : {size : ℕ} {old now : LinesLeft} {items : List TextItem} {len : ℕ} (read : HasRead size old now items len) (line : List ℕ) (others : List (List ℕ)) (here : List TextItem) → now.lines ≡ line ∷ others → SpellsLine now.number line here
+    → (size ≤ len → EndsTranslation items → BeginsAnew here → ⊥) → CanEnd size old read.count → ⊥
+no_end {size} {old} read line others here e spelt none can =
+    let items = lines_once old.number (take read.count old.lines) can.entry.spelt read.spelt in
+    let anew : LineBeginsAnew (old.number + read.count) (line ∷ others) = subst (LineBeginsAnew (old.number + read.count)) (next_line read line others e) can.entry.anew in
+    let same = line_once anew.1 (here_spelt read line here spelt) in
+    none (subst (λ (l : ℕ). size ≤ l) (sym read.len_is) can.large) (subst EndsTranslation items can.entry.ends) (subst BeginsAnew same anew.2)
+
+-- a line more is read
+pub read_on : (size : ℕ) (old now : LinesLeft) (items : List TextItem) (len : ℕ) (line : List ℕ) (others : List (List ℕ)) (here : List TextItem) → HasRead size old now items len → now.lines ≡ line ∷ others → SpellsLine now.number line here
+    → (size ≤ len → EndsTranslation items → BeginsAnew here → ⊥) → HasRead size old (record { number = now.number + 1; lines = others }) (items ++ here) (len + (length line + 1))
+read_on size old now items len line others here read e spelt none =
+    let next = next_line read line others e in
+    let number : now.number ≡ old.number + read.count = ap (λ (left : LinesLeft). left.number) read.rest in
+    let rest : record { number = now.number + 1; lines = others } ≡ left_after old (suc read.count) =
+    let counted : now.number + 1 ≡ old.number + suc read.count = omega arith in
+    rw (counted, ← drop_rest read.count old.lines line others next) refl in
+    record {
+      count = suc read.count;
+      within = some_line read.count old.lines line others next;
+      rest = rest;
+      spelt = spelt_more read.count old.number old.lines line others items here read.spelt next (here_spelt read line here spelt);
+      len_is = omega (arith, len_more read.count old.lines line others next, read.len_is);
+      fewest = λ fewer less can.
+          elim (cases_lt fewer read.count) [
+            | inl before ↦ read.fewest fewer before can
+            | inr last ↦
+                let same : fewer ≡ read.count = omega arith in
+                no_end read line others here e spelt none (subst (CanEnd size old) same can)
+          ];
+    }
+
+-- a piece ends before a line that begins anew
+pub ended_before : (size : ℕ) (old now : LinesLeft) (items : List TextItem) (len : ℕ) (line : List ℕ) (others : List (List ℕ)) (here : List TextItem) → HasRead size old now items len → now.lines ≡ line ∷ others → SpellsLine now.number line here
+    → size ≤ len → EndsTranslation items → BeginsAnew here → IsPiece size old now items
+ended_before size old now items len line others here read e spelt large ends anew = record {
+  count = read.count;
+  within = read.within;
+  rest = read.rest;
+  spelt = read.spelt;
+  ends = inr (record {
+    large = subst (λ (l : ℕ). size ≤ l) read.len_is large;
+    entry = record {
+      items = items;
+      spelt = read.spelt;
+      ends = ends;
+      anew = subst (LineBeginsAnew (old.number + read.count)) (sym (next_line read line others e)) (here, here_spelt read line here spelt, anew);
+    };
+  });
+  fewest = read.fewest;
+}
+
+-- a piece ends where no line is left
+pub ended_after : (size : ℕ) (old now : LinesLeft) (items : List TextItem) (len : ℕ) → HasRead size old now items len → now.lines ≡ [] → IsPiece size old now items
+ended_after size old now items len read over = record {
+  count = read.count;
+  within = read.within;
+  rest = read.rest;
+  spelt = read.spelt;
+  ends = inl over;
+  fewest = read.fewest;
+}
+
+-- the fault of the line that is read next
+pub line_stops : (size : ℕ) (old now : LinesLeft) (items : List TextItem) (len : ℕ) (line : List ℕ) (others : List (List ℕ)) (fault : PoFault) → HasRead size old now items len → now.lines ≡ line ∷ others → LineStops line fault → LeftStops old fault now.number
+line_stops size old now items len line others fault read e stops =
+    let number : now.number ≡ old.number + read.count = ap (λ (left : LinesLeft). left.number) read.rest in
+    stops_after read.count old.number old.lines items fault now.number read.spelt (subst (λ (lines : List (List ℕ)). LinesStop (old.number + read.count) lines fault now.number) (sym (next_line read line others e)) (inl (stops, number)))
+
+-- what is left of lines of a text
+pub of_text_after : (count : ℕ) (left : LinesLeft) → AreOfText left → count ≤ length left.lines → AreOfText (left_after left count)
+of_text_after count left h within = record {
+  clean = clean_after count left.lines h.clean;
+  small = omega (arith, h.small, count_le count left.lines within, sum_by-take-drop (λ (l : List ℕ). length l + 1) left.lines count);
+} where
+  clean_after : (count : ℕ) (lines : List (List ℕ)) → AreCleanLines lines → AreCleanLines (drop count lines)
+  clean_after zero lines h = h
+  clean_after (suc count) [] h = h
+  clean_after (suc count) (line ∷ lines) h = clean_after count lines h.1
+
+  count_le : (count : ℕ) (lines : List (List ℕ)) → count ≤ length lines → count ≤ lines_len (take count lines)
+  count_le zero lines h = omega arith
+  count_le (suc count) [] h = absurd (omega arith)
+  count_le (suc count) (line ∷ lines) h = omega (arith, count_le count lines (omega arith), sum_by-cons (λ (l : List ℕ). length l + 1) line (take count lines))
+
+-- what is left of a text that is read
+pub read_of_text : (size : ℕ) (old now : LinesLeft) (items : List TextItem) (len : ℕ) → HasRead size old now items len → AreOfText old → AreOfText now
+read_of_text size old now items len read h = subst AreOfText (sym read.rest) (of_text_after read.count old h read.within)
+
+-- what is read is of a text
+pub len_read : (size : ℕ) (old now : LinesLeft) (items : List TextItem) (len : ℕ) → HasRead size old now items len → AreOfText old → len ≤ 2 ^ 31 + 1
+len_read size old now items len read h = omega (arith, read.len_is, h.small, sum_by-take-le (λ (l : List ℕ). length l + 1) old.lines read.count)
+
+-- a piece above 2 ^ 31 bytes is all that is left
+pub piece_whole : {size : ℕ} {old new : LinesLeft} {items : List TextItem} → IsPiece size old new items → AreOfText old → 2 ^ 31 < size → new.lines ≡ []
+piece_whole {size} {old} {new} piece h large = ended piece.ends where
+  some_next : (number : ℕ) (lines : List (List ℕ)) → LineBeginsAnew number lines → 0 < lines_len lines
+  some_next number [] anew = absurd anew
+  some_next number (line ∷ lines) anew = omega (arith, sum_by-cons (λ (l : List ℕ). length l + 1) line lines)
+
+  ended : (new.lines ≡ []) ⊎ CanEnd size old piece.count → new.lines ≡ []
+  ended (inl over) = over
+  ended (inr can) =
+      let next = some_next (old.number + piece.count) (drop piece.count old.lines) can.entry.anew in
+      absurd (omega (arith, can.large, h.small, next, sum_by-take-drop (λ (l : List ℕ). length l + 1) old.lines piece.count))
+
+pub piece_hold : {size : ℕ} {old new : LinesLeft} {items : List TextItem} → IsPiece size old new items → AreOfText old → All HoldsText items
+piece_hold {size} {old} {new} {items} piece h = lines_texts old.number (take piece.count old.lines) items piece.spelt (clean_before piece.count old.lines h.clean) where
+  clean_before : (count : ℕ) (lines : List (List ℕ)) → AreCleanLines lines → AreCleanLines (take count lines)
+  clean_before zero lines h = tt
+  clean_before (suc count) [] h = h
+  clean_before (suc count) (line ∷ lines) h = (h.0, clean_before count lines h.1)
+
+pub piece_few : {size : ℕ} {old new : LinesLeft} {items : List TextItem} → IsPiece size old new items → AreOfText old → length items ≤ 2 ^ 31
+piece_few {size} {old} {new} {items} piece h = few (take piece.count old.lines) piece.spelt (sum_by-take-le (λ (l : List ℕ). length l + 1) old.lines piece.count) where
+  few : (lines : List (List ℕ)) → SpellsLines old.number lines items → lines_len lines ≤ lines_len old.lines → length items ≤ 2 ^ 31
+  few [] spelt le = omega (arith, ap length spelt)
+  few (line ∷ lines) spelt le = omega (arith, lines-few old.number (line ∷ lines) items spelt, h.small)
+
+-- what is left after a piece, in what was left before
+pub piece_spelt : (size : ℕ) (old new : LinesLeft) (items more : List TextItem) → IsPiece size old new items → SpellsLeft new more → SpellsLeft old (items ++ more)
+piece_spelt size old new items more piece h =
+    joined_after piece.count old.number old.lines items more piece.spelt (subst (λ (left : LinesLeft). SpellsLeft left more) piece.rest h)
+
+-- where no line is left after a piece, what was left before spells its items
+pub piece_all : (size : ℕ) (old new : LinesLeft) (items : List TextItem) → IsPiece size old new items → new.lines ≡ [] → SpellsLeft old items
+piece_all size old new items piece over =
+    let nothing : SpellsLeft new [] = subst (λ (lines : List (List ℕ)). SpellsLines new.number lines []) (sym over) refl in
+    rw append-nil at (piece_spelt size old new items [] piece nothing)
+
+pub piece_stops : (size : ℕ) (old new : LinesLeft) (items : List TextItem) (fault : PoFault) (line : ℕ) → IsPiece size old new items → LeftStops new fault line → LeftStops old fault line
+piece_stops size old new items fault line piece h =
+    stops_after piece.count old.number old.lines items fault line piece.spelt (subst (λ (left : LinesLeft). LeftStops left fault line) piece.rest h)
+
+-- items that end a translation end in a string
+ends_in_string : (before : ℕ) (items : List TextItem) → IsTranslation (drop before items) → EndsInString items
+ends_in_string zero [] is = tt
+ends_in_string zero (word ∷ strings) is = after word strings is.1 is.2 where
+  after : (item : TextItem) (strings : List TextItem) → strings ≢ [] → All IsString strings → EndsInString (item ∷ strings)
+  after item [] some all = absurd (some refl)
+  after item (string ∷ []) some all = All-head IsString string [] all
+  after item (string ∷ next ∷ strings) some all = after string (next ∷ strings) (λ e. absurd (cc)) (All-tail IsString string (next ∷ strings) all)
+ends_in_string (suc before) [] is = tt
+ends_in_string (suc before) (item ∷ []) is = absurd (subst IsTranslation (drop_all before [] (omega arith)) is)
+ends_in_string (suc before) (item ∷ next ∷ items) is = ends_in_string before (next ∷ items) is
+
+pub piece_ends : (size : ℕ) (old new : LinesLeft) (items : List TextItem) → IsPiece size old new items → (new.lines ≡ []) ⊎ EndsInString items
+piece_ends size old new items piece = ended piece.ends where
+  ended : (new.lines ≡ []) ⊎ CanEnd size old piece.count → (new.lines ≡ []) ⊎ EndsInString items
+  ended (inl over) = inl over
+  ended (inr can) =
+      let same = lines_once old.number (take piece.count old.lines) can.entry.spelt piece.spelt in
+      inr (subst EndsInString same (ends_in_string can.entry.ends.0 can.entry.items can.entry.ends.1))
+
+-- where the items of a line begin anew, so does whatever the lines from it on spell
+line_anew : (number : ℕ) (lines : List (List ℕ)) (item : TextItem) (items : List TextItem) → LineBeginsAnew number lines → SpellsLines number lines (item ∷ items) → IsNew item
+line_anew number [] item items anew h = absurd anew
+line_anew number (line ∷ lines) item items anew h = first anew.0 anew.2 (line_once anew.1 h.2) where
+  first : (here : List TextItem) → BeginsAnew here → here ≡ h.0 → IsNew item
+  first [] new same = absurd new
+  first (one ∷ here) new same =
+      let is : item ≡ one = let all = h.4 in cc in
+      subst IsNew (sym is) new
+
+pub piece_anew : (size : ℕ) (old new : LinesLeft) (items : List TextItem) → IsPiece size old new items → LeftAnew new
+piece_anew size old new items piece item more h = ended piece.ends where
+  ended : (new.lines ≡ []) ⊎ CanEnd size old piece.count → IsNew item
+  ended (inl over) = let none : item ∷ more ≡ [] = subst (λ (lines : List (List ℕ)). SpellsLines new.number lines (item ∷ more)) over h in absurd (cc)
+  ended (inr can) = line_anew (old.number + piece.count) (drop piece.count old.lines) item more can.entry.anew (subst (λ (left : LinesLeft). SpellsLeft left (item ∷ more)) piece.rest h)
+
+pub piece_shorter : (size : ℕ) (old new : LinesLeft) (items : List TextItem) → IsPiece size old new items → old.lines ≢ [] → length new.lines < length old.lines
+piece_shorter size old new items piece some = ended piece.ends where
+  some_length : (lines : List (List ℕ)) → lines ≢ [] → 0 < length lines
+  some_length [] some = absurd (some refl)
+  some_length (line ∷ lines) some = omega arith
+
+  counted : (count : ℕ) (others : List TextItem) → SpellsLines old.number (take count old.lines) others → EndsTranslation others → 0 < count
+  counted zero others spelt ends = absurd (subst IsTranslation (drop_all ends.0 [] (omega arith)) (subst (λ (x : List TextItem). IsTranslation (drop ends.0 x)) spelt ends.1))
+  counted (suc count) others spelt ends = omega arith
+
+  ended : (new.lines ≡ []) ⊎ CanEnd size old piece.count → length new.lines < length old.lines
+  ended (inl over) = rw over (some_length old.lines some)
+  ended (inr can) =
+      let length_is = ap (λ (left : LinesLeft). length left.lines) piece.rest in
+      omega (arith, length_is, length-drop piece.count old.lines, counted piece.count can.entry.items can.entry.spelt can.entry.ends, some_length old.lines some)

@@ -11,4 +11,5 @@ pub mod ItemContents
 pub mod PoText
 pub mod CleanLine
 pub mod LinesLeft
+pub mod Piece
 pub mod QuotedForm

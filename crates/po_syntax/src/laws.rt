@@ -1,11 +1,13 @@
 //! Laws of PO texts, each the contract of a function that does nothing: a call brings the law into
 //! a proof.
-ghost use Rattle.std.specs.Prelude.{◌≡◌, ◌≢◌, ◌↔◌, ◌⊎◌, ◌<◌, ◌≤◌, ℕ, List, ◌++◌, All, IsUtf8};
+ghost use Rattle.std.specs.Prelude.{◌≡◌, ◌≢◌, ◌↔◌, ◌⊎◌, ◌<◌, ◌≤◌, ℕ, List, [], ◌++◌, length, All, IsUtf8};
 ghost use Rattle.po_syntax.specs.declared.fault.PoFault.{PoFault};
 ghost use Rattle.po_syntax.specs.Escapes.{SpellsString};
 ghost use Rattle.po_syntax.specs.ItemContents.{HoldsText};
 ghost use Rattle.po_syntax.specs.Line.{LineStops, SpellsLine};
 ghost use Rattle.po_syntax.specs.LineFaults.{LineFault};
+ghost use Rattle.po_syntax.specs.LinesLeft.{LinesLeft, SpellsLeft, LeftStops};
+ghost use Rattle.po_syntax.specs.Piece.{IsPiece, EndsInString, LeftAnew};
 ghost use Rattle.po_syntax.specs.PoText.{SpellsText, TextFault};
 ghost use Rattle.po_syntax.specs.QuotedForm.{quoted};
 ghost use Rattle.po_syntax.specs.QuotedString.{IsQuoted};
@@ -92,4 +94,22 @@ pub fn quoted_form_holds_text()
     ensures utf8 { (bytes : List ℕ) → IsUtf8 bytes → IsUtf8 (quoted bytes) }
     ensures shown { (bytes : List ℕ)
         → All (λ b. b < 256) bytes → All (λ b. 32 ≤ b) (quoted bytes) }
+{}
+
+/// After a piece, what is left reads on: where it spells items, what was left before spells those of
+/// the piece and then these; its first fault is the first fault of what was left before; and it
+/// begins with no item with which an entry of the piece could go on.
+pub fn pieces_are_cut_off()
+    ensures spelt { (size : ℕ) (old new : LinesLeft) (items more : List TextItem)
+        → IsPiece size old new items → SpellsLeft new more → SpellsLeft old (items ++ more) }
+    ensures all { (size : ℕ) (old new : LinesLeft) (items : List TextItem)
+        → IsPiece size old new items → new.lines ≡ [] → SpellsLeft old items }
+    ensures stops { (size : ℕ) (old new : LinesLeft) (items : List TextItem) (fault : PoFault) (line : ℕ)
+        → IsPiece size old new items → LeftStops new fault line → LeftStops old fault line }
+    ensures ends { (size : ℕ) (old new : LinesLeft) (items : List TextItem)
+        → IsPiece size old new items → (new.lines ≡ []) ⊎ EndsInString items }
+    ensures anew { (size : ℕ) (old new : LinesLeft) (items : List TextItem)
+        → IsPiece size old new items → LeftAnew new }
+    ensures shorter { (size : ℕ) (old new : LinesLeft) (items : List TextItem)
+        → IsPiece size old new items → old.lines ≢ [] → length new.lines < length old.lines }
 {}

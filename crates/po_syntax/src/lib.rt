@@ -23,7 +23,6 @@ mod token;
 
 pub use crate::fault::{PoError, PoFault};
 pub use crate::item::{CommentKind, Item, Keyword, Marks};
-pub use crate::pieces::Pieces;
+pub use crate::pieces::{Pieces, items};
 pub use crate::quoting::quote;
-pub use crate::text::items;
 pub use crate::token::{is_blank, skip_blanks};

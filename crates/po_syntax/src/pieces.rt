@@ -1,20 +1,19 @@
-ghost use Rattle.std.specs.Prelude.{◌≡◌, ◌≢◌, ◌⊎◌, ◌+◌, ◌<◌, ◌≤◌, ◌^◌, ◌++◌, [], take, drop, None, List, ℕ, All, length, vec_len, true, false, IfOk, IfErr, OnOk, OnErr};
+ghost use Rattle.std.specs.Prelude.{◌≡◌, ◌≢◌, ◌↔◌, ◌+◌, ◌<◌, ◌≤◌, ◌^◌, ◌∷◌, [], take, drop, List, ℕ, All, length, vec_len, true, false, IfOk, IfErr, OnOk, OnErr, IsTrue};
 ghost use Rattle.po_syntax.specs.declared.fault.PoFault.{PoFault};
-ghost use Rattle.po_syntax.specs.CleanLine.{AreCleanLines};
 ghost use Rattle.po_syntax.specs.ItemContents.{HoldsText};
-ghost use Rattle.po_syntax.specs.LinesLeft.{LinesLeft, SpellsLeft, LeftStops, LeftAnew, BeginsAnew, HasNew, EndsInString, lines_of_rest, HasRoom};
-ghost use Rattle.po_syntax.specs.PoText.{SpellsText, TextFault, SpellsLines, LinesStop, lines_of};
-ghost use Rattle.po_syntax.specs.TextItem.{TextItem, views};
+ghost use Rattle.po_syntax.specs.LinesLeft.{LinesLeft, SpellsLeft, LeftStops, AreOfText, lines_of_rest};
+ghost use Rattle.po_syntax.specs.Piece.{BeginsAnew, EndsTranslation, IsPiece, IsString, IsTranslationWord};
+ghost use Rattle.po_syntax.specs.PoText.{SpellsText, TextFault};
+ghost use Rattle.po_syntax.specs.TextItem.{TextItem, view, views};
 
-use crate::fault::{PoError, PoFault};
+use crate::fault::PoError;
 use crate::item::{Item, Keyword};
 use crate::text::{add_numbered_line, checked, first_line};
 use std::alloc::Global;
 use std::marker::Model;
 
-/// A PO text that is read in pieces, each of which ends with an empty line after a string, or with
-/// the text itself: the text that is left to be read, and the number of its first line, counted
-/// from 1 (manual, "The Format of PO Files").
+/// A PO text that is read in pieces, each of which ends where an entry does: the text that is left
+/// to be read, and the number of its first line, counted from 1 (manual, "The Format of PO Files").
 #[derive(Drop)]
 pub struct Pieces<'a> {
     rest: Option<&'a [u8]>,
@@ -26,31 +25,54 @@ impl<'a> Model for Pieces<'a> {
 
     ghost view = { λ p. record { number = p.line; lines = lines_of_rest p.rest } };
 
-    ghost invariant = { λ p. AreCleanLines (lines_of_rest p.rest) × HasRoom p.line p.rest };
-}
-
-/// The items of a piece, and what of the text is left after it.
-#[derive(Drop)]
-struct Piece<'a> {
-    items: Vec<Item<'a>>,
-    rest: Option<&'a [u8]>,
-    line: u32,
+    ghost invariant = { λ p. AreOfText (record { number = p.line; lines = lines_of_rest p.rest }) };
 }
 
 /// For how many items a piece has room at first.
 const FIRST_ROOM: usize = 128;
 
-/// Whether the last item is a string.
-fn ends_in_string(items: &[Item<'_>]) -> bool
-    ensures some { result ≡ true → 0 < length items.now }
-    ensures string { result ≡ true → EndsInString (views items.now) }
+/// Whether an item is a quoted string.
+fn is_string(item: &Item<'_>) -> bool
+    ensures { IsTrue result ↔ IsString (view item.now) }
 {
-    matches!(items.last(), Some(Item::Str(..)))
+    matches!(item, Item::Str(..))
+}
+
+/// Whether an item is the keyword of a translation.
+fn is_translation_word(item: &Item<'_>) -> bool
+    ensures { IsTrue result ↔ IsTranslationWord (view item.now) }
+{
+    matches!(item, Item::Word(Keyword::MsgStr | Keyword::MsgStrAt(_), ..))
+}
+
+/// How many items there are before the strings with which they end.
+fn before_strings(items: &[Item<'_>]) -> usize
+    ensures within { result ≤ length items.now }
+    ensures strings { All IsString (drop result (views items.now)) }
+    ensures last { (before : ℕ) (item : TextItem) (strings : List TextItem) → before + 1 ≡ result
+        → drop before (views items.now) ≡ item ∷ strings → IsString item → ⊥ }
+{
+    let mut count = items.len();
+    while count > 0 && is_string(&items[count - 1]) {
+        count -= 1;
+    }
+    count
+}
+
+/// Whether the items end with a translation: its keyword and strings.
+fn ends_translation(items: &[Item<'_>]) -> bool
+    ensures { IsTrue result ↔ EndsTranslation (views items.now) }
+{
+    let count = before_strings(items);
+    if count == 0 {
+        return false;
+    }
+    count < items.len() && is_translation_word(&items[count - 1])
 }
 
 /// Whether the first item is one with which no entry goes on after its last string.
 fn begins_anew(items: &[Item<'_>]) -> bool
-    ensures { result ≡ true → HasNew (views items.now) }
+    ensures { IsTrue result ↔ BeginsAnew (views items.now) }
 {
     matches!(
         items.first(),
@@ -64,86 +86,13 @@ fn begins_anew(items: &[Item<'_>]) -> bool
     )
 }
 
-/// The keyword of an item, where it is one.
-fn keyword_of(item: &Item<'_>) -> Option<Keyword> {
-    match item {
-        Item::Word(keyword, ..) => Some(*keyword),
-        _ => None,
-    }
-}
-
-/// Whether the last keyword is that of a translation.
-fn has_translation(items: &[Item<'_>]) -> bool {
-    for item in items.iter().rev() {
-        if let Some(keyword) = keyword_of(item) {
-            return matches!(keyword, Keyword::MsgStr | Keyword::MsgStrAt(_));
-        }
-    }
-    false
-}
-
 /// Whether an entry ends before the item of this index.
-fn is_border(items: &[Item<'_>], index: usize) -> bool
+fn ends_entry(items: &[Item<'_>], index: usize) -> bool
     requires { index ≤ length items.now }
-    ensures some { result ≡ true → 0 < index }
-    ensures ends { result ≡ true → EndsInString (take index (views items.now)) }
-    ensures anew { result ≡ true → HasNew (drop index (views items.now)) }
+    ensures { IsTrue result ↔ (EndsTranslation (take index (views items.now)) × BeginsAnew (drop index (views items.now))) }
 {
     let (before, after) = items.split_at(index);
-    ends_in_string(before) && begins_anew(after) && has_translation(before)
-}
-
-/// Reads the first piece of a text whose first line has this number: whole lines, the fewest of at
-/// least this many bytes after which an entry ends; or all of the text.
-fn read_piece<'a>(
-    alloc: Global,
-    text: &'a [u8],
-    number: u32,
-    size: usize,
-) -> Result<Piece<'a>, PoError>
-    requires clean { AreCleanLines (lines_of text.now) }
-    requires room { number + length text.now ≤ 2 ^ 31 }
-    ensures found { IfOk result (λ p. (more : List TextItem) → SpellsLines p.line (lines_of_rest p.rest) more
-        → SpellsLines number (lines_of text.now) (views p.items.items ++ more)) }
-    ensures stops { IfOk result (λ p. (fault : PoFault) (line : ℕ)
-        → LinesStop p.line (lines_of_rest p.rest) fault line → LinesStop number (lines_of text.now) fault line) }
-    ensures hold { IfOk result (λ p. All HoldsText (views p.items.items)) }
-    ensures ends { IfOk result (λ p. (p.rest ≡ None) ⊎ EndsInString (views p.items.items)) }
-    ensures anew { IfOk result (λ p. (more : List TextItem) → SpellsLines p.line (lines_of_rest p.rest) more → BeginsAnew more) }
-    ensures whole { 2 ^ 31 < size → IfOk result (λ p. p.rest ≡ None) }
-    ensures few { IfOk result (λ p. vec_len p.items ≤ 2 ^ 31) }
-    ensures clean { IfOk result (λ p. AreCleanLines (lines_of_rest p.rest)) }
-    ensures room { IfOk result (λ p. HasRoom p.line p.rest) }
-    ensures fewer { IfOk result (λ p. length (lines_of_rest p.rest) < length (lines_of text.now)) }
-    ensures fault { IfErr result (λ e. e.kind ≢ PoFault.OutOfMemory
-        → LinesStop number (lines_of text.now) e.kind e.line) }
-    ensures memory { IfErr result (λ e. e.kind ≡ PoFault.OutOfMemory → e.line ≡ 0) }
-{
-    let mut items = Vec::with_capacity(alloc, FIRST_ROOM)?;
-    let mut rest = text;
-    let mut line = number;
-    loop {
-        let (first, after) = first_line(rest);
-        let own = items.len();
-        add_numbered_line(alloc, &mut items, first, line)?;
-        if text.len() - rest.len() >= size && is_border(&items, own) {
-            items.truncate(own);
-            return Ok(Piece {
-                items,
-                rest: Some(rest),
-                line,
-            });
-        }
-        let Some(after) = after else {
-            return Ok(Piece {
-                items,
-                rest: None,
-                line,
-            });
-        };
-        rest = after;
-        line += 1;
-    }
+    begins_anew(after) && ends_translation(before)
 }
 
 impl<'a> Pieces<'a> {
@@ -183,32 +132,53 @@ impl<'a> Pieces<'a> {
         self.rest.is_none()
     }
 
-    /// The items of the next piece: the shortest of at least this many bytes that ends with an
-    /// empty line after a string; or all that is left. A comment is in one piece with the entry
-    /// after it. Where the lines that are left spell items, they spell those of the piece and then
-    /// those of the rest. Refused with the leftmost fault of the first line that has one, or with
-    /// `OutOfMemory`; then as much is left as before.
+    /// The items of the next piece: the fewest whole lines of at least this many bytes at whose end
+    /// an entry ends, as the next line begins another; or all that is left. So comments are in one
+    /// piece with the entry after them. Refused with the leftmost fault of the first line that has
+    /// one, or with `OutOfMemory`; then as much is left as before.
     pub fn next(&mut self, alloc: Global, size: usize) -> Result<Vec<Item<'a>>, PoError>
-        ensures found { IfOk result (λ items. (more : List TextItem) → SpellsLeft self.new more
-            → SpellsLeft self.old (views items.items ++ more)) }
-        ensures stops { OnOk result ((fault : PoFault) (line : ℕ) → LeftStops self.new fault line
-            → LeftStops self.old fault line) }
-        ensures hold { IfOk result (λ items. All HoldsText (views items.items)) }
-        ensures ends { IfOk result (λ items. (self.new.lines ≡ []) ⊎ EndsInString (views items.items)) }
-        ensures anew { OnOk result (LeftAnew self.new) }
+        ensures piece { IfOk result (λ items. IsPiece size self.old self.new (views items.items)) }
         ensures whole { 2 ^ 31 < size → OnOk result (self.new.lines ≡ []) }
+        ensures hold { IfOk result (λ items. All HoldsText (views items.items)) }
         ensures few { IfOk result (λ items. vec_len items ≤ 2 ^ 31) }
-        ensures fewer { OnOk result (self.old.lines ≢ [] → length self.new.lines < length self.old.lines) }
         ensures fault { IfErr result (λ e. e.kind ≢ PoFault.OutOfMemory → LeftStops self.old e.kind e.line) }
         ensures memory { IfErr result (λ e. e.kind ≡ PoFault.OutOfMemory → e.line ≡ 0) }
         ensures unchanged { OnErr result (self.new ≡ self.old) }
     {
-        let Some(text) = self.rest else {
-            return Ok(Vec::new(alloc));
-        };
-        let piece = read_piece(alloc, text, self.line, size)?;
-        self.rest = piece.rest;
-        self.line = piece.line;
-        Ok(piece.items)
+        let mut items = Vec::with_capacity(alloc, FIRST_ROOM)?;
+        let mut rest = self.rest;
+        let mut line = self.line;
+        let mut len = 0;
+        while let Some(text) = rest {
+            let (first, after) = first_line(text);
+            let count = items.len();
+            add_numbered_line(alloc, &mut items, first, line)?;
+            if len >= size && ends_entry(&items, count) {
+                items.truncate(count);
+                break;
+            }
+            rest = after;
+            line += 1;
+            len += first.len() + 1;
+        }
+        *self = Pieces { rest, line };
+        Ok(items)
     }
+}
+
+/// Reads the items of a PO text (manual, "The Format of PO Files").
+///
+/// Refusals, the first that holds: `TooLarge`, without a line, above 2,147,483,647 bytes; `NotUtf8`
+/// at the first byte that is not; `ForbiddenByte` at the first NUL; then the leftmost fault of the
+/// first line that has one: `BadToken`, `BadEscape`, `ForbiddenByte` for an escape of value 0,
+/// `BadPluralIndex` for an index above 4,294,967,295, or `UnterminatedString` at an opening quote.
+/// `OutOfMemory`, without a line, may come in place of any result.
+pub fn items(alloc: Global, text: &[u8]) -> Result<Vec<Item<'_>>, PoError>
+    ensures found { IfOk result (λ items. SpellsText text.now (views items.items)) }
+    ensures fault { IfErr result (λ e. e.kind ≢ PoFault.OutOfMemory → TextFault text.now e.kind e.line) }
+    ensures memory { IfErr result (λ e. e.kind ≡ PoFault.OutOfMemory → e.line ≡ 0) }
+    ensures few { IfOk result (λ items. vec_len items ≤ length text.now) }
+{
+    let mut pieces = Pieces::of(text)?;
+    pieces.next(alloc, usize::MAX)
 }

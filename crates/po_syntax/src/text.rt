@@ -1,8 +1,7 @@
-ghost use Rattle.std.specs.Prelude.{◌≡◌, ◌≢◌, ◌+◌, ◌<◌, ◌≤◌, ◌^◌, ◌∷◌, [], length, vec_len, IfOk, IfErr, IfSome, OnOk, IsUtf8, MatchOption};
-ghost use Rattle.po_syntax.specs.PoText.{SpellsText, TextFault, IsSmall, HasNoNul, SpellsLines, LinesStop, line_number, without_byte_order_mark, lines_of};
+ghost use Rattle.std.specs.Prelude.{◌≡◌, ◌≢◌, ◌+◌, ◌<◌, ◌≤◌, ◌^◌, ◌∷◌, [], length, IfOk, IfErr, IfSome, OnOk, IsUtf8, MatchOption};
+ghost use Rattle.po_syntax.specs.PoText.{TextFault, IsSmall, HasNoNul, line_number, without_byte_order_mark, lines_of};
 ghost use Rattle.po_syntax.specs.Line.{SpellsLine, LineStops};
 ghost use Rattle.po_syntax.specs.CodeView.{AddsItems};
-ghost use Rattle.po_syntax.specs.TextItem.{views};
 
 use crate::fault::{PoError, PoFault};
 use crate::item::Item;
@@ -73,28 +72,6 @@ pub(crate) fn add_numbered_line<'a>(
     }
 }
 
-/// The items of the lines of a text.
-fn read_lines(alloc: Global, text: &[u8]) -> Result<Vec<Item<'_>>, PoError>
-    requires { length text.now < 2 ^ 31 }
-    ensures found { IfOk result (λ items. SpellsLines 1 (lines_of text.now) (views items.items)) }
-    ensures fault { IfErr result (λ e.
-        e.kind ≢ PoFault.OutOfMemory → LinesStop 1 (lines_of text.now) e.kind e.line) }
-    ensures memory { IfErr result (λ e. e.kind ≡ PoFault.OutOfMemory → e.line ≡ 0) }
-{
-    let mut items = Vec::new(alloc);
-    let mut rest = text;
-    let mut line = 1;
-    loop {
-        let (first, after) = first_line(rest);
-        add_numbered_line(alloc, &mut items, first, line)?;
-        let Some(after) = after else {
-            return Ok(items);
-        };
-        rest = after;
-        line += 1;
-    }
-}
-
 /// The text after a byte order mark at its start. Refused with `TooLarge`, `NotUtf8` or
 /// `ForbiddenByte`, as `items` is.
 pub(crate) fn checked(text: &[u8]) -> Result<&[u8], PoError>
@@ -126,21 +103,4 @@ pub(crate) fn checked(text: &[u8]) -> Result<&[u8], PoError>
         });
     }
     Ok(without_byte_order_mark(text))
-}
-
-/// Reads the items of a PO text (manual, "The Format of PO Files").
-///
-/// Refusals, the first that holds: `TooLarge`, without a line, above 2,147,483,647 bytes; `NotUtf8`
-/// at the first byte that is not; `ForbiddenByte` at the first NUL; then the leftmost fault of the
-/// first line that has one: `BadToken`, `BadEscape`, `ForbiddenByte` for an escape of value 0,
-/// `BadPluralIndex` for an index above 4,294,967,295, or `UnterminatedString` at an opening quote.
-/// `OutOfMemory`, without a line, may come in place of any result.
-pub fn items(alloc: Global, text: &[u8]) -> Result<Vec<Item<'_>>, PoError>
-    ensures found { IfOk result (λ items. SpellsText text.now (views items.items)) }
-    ensures fault { IfErr result (λ e. e.kind ≢ PoFault.OutOfMemory → TextFault text.now e.kind e.line) }
-    ensures memory { IfErr result (λ e. e.kind ≡ PoFault.OutOfMemory → e.line ≡ 0) }
-    ensures few { IfOk result (λ items. vec_len items ≤ length text.now) }
-{
-    let text = checked(text)?;
-    read_lines(alloc, text)
 }

@@ -1,7 +1,7 @@
 use Rattle.std.proofs.Common.{◌^◌, ◌<◌, arith}
 use Rattle.std.proofs.lemmas.Result.{err_from_is_err_and}
 use Rattle.po_reader.specs.PieceRead.IsLeftFault.{in_items, in_lines}
-use Rattle.po_reader.proofs.PieceReading.{faults_over, items_kept, none_shorter, spelt_over}
+use Rattle.po_reader.proofs.PieceReading.{faults_over, items_kept}
 use Rattle.po_reader.proofs.Results.{ok_always, ok_step, err_both}
 use Rattle.po_reader.proofs.piecewise.all_entries.Goals as goal
 
@@ -12,14 +12,18 @@ returns-in_err-items-clause-fault c =
 
 pub returns-clause-found : goal.returns-clause-found
 returns-clause-found c =
-    ok_step c.entries_of.result (λ kept h. items_kept c.args.with_comments _ _ _ kept c.in_ok-items.ensures.found c.in_ok-items.ensures.ends h) c.entries_of.ensures.found
+    let law = c.pieces_are_cut_off.ensures in
+    let piece = c.in_ok-items.ensures.piece in
+    ok_step c.entries_of.result (λ kept h. items_kept c.args.with_comments _ _ _ kept (λ more. law.spelt _ _ _ _ more piece) (law.ends _ _ _ _ piece) h) c.entries_of.ensures.found
 
 pub returns-clause-faults : goal.returns-clause-faults
 returns-clause-faults c =
     ok_always c.entries_of.result (λ kept. faults_over c.args.pieces.now c.next.new.self (c.in_ok-items.ensures.whole (omega arith)))
 
+pub returns-clause-fewer : goal.returns-clause-fewer
+returns-clause-fewer c = ok_always c.entries_of.result (λ kept. c.pieces_are_cut_off.ensures.shorter _ _ _ _ c.in_ok-items.ensures.piece)
+
 pub returns-clause-fault : goal.returns-clause-fault
 returns-clause-fault c =
-    let spelt = spelt_over c.args.pieces.now c.next.new.self _ c.in_ok-items.ensures.found (c.in_ok-items.ensures.whole (omega arith)) in
-    let memory = c.entries_of.ensures.memory in
-    err_both c.entries_of.result (λ e h m. record { fault = λ other. in_items spelt (h other); memory = m }) c.entries_of.ensures.fault memory
+    let spelt = c.pieces_are_cut_off.ensures.all _ _ _ _ c.in_ok-items.ensures.piece (c.in_ok-items.ensures.whole (omega arith)) in
+    err_both c.entries_of.result (λ e h m. record { fault = λ other. in_items spelt (h other); memory = m }) c.entries_of.ensures.fault c.entries_of.ensures.memory

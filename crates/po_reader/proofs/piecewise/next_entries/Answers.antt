@@ -10,11 +10,19 @@ returns-in_err-items-clause-fault c =
 
 pub returns-in-Ok-clause-found : goal.returns-in-Ok-clause-found
 returns-in-Ok-clause-found c =
-    items_kept c.args.with_comments _ _ _ _ c.in_ok-items.ensures.found c.in_ok-items.ensures.ends c.in-Ok.ensures.found
+    let law = c.pieces_are_cut_off.ensures in
+    let piece = c.in_ok-items.ensures.piece in
+    items_kept c.args.with_comments _ _ _ _ (λ more. law.spelt _ _ _ _ more piece) (law.ends _ _ _ _ piece) c.in-Ok.ensures.found
 
 pub returns-in-Ok-clause-faults : goal.returns-in-Ok-clause-faults
 returns-in-Ok-clause-faults c =
-    piece_faults _ _ _ c.in-Ok.ensures.found.0 c.in_ok-items.ensures.found c.in_ok-items.ensures.stops c.in_ok-items.ensures.ends c.in_ok-items.ensures.anew c.in-Ok.ensures.found.1
+    let law = c.pieces_are_cut_off.ensures in
+    let piece = c.in_ok-items.ensures.piece in
+    let read = c.in-Ok.ensures.found in
+    piece_faults _ _ _ read.0 (λ more. law.spelt _ _ _ _ more piece) (λ fault line. law.stops _ _ _ _ fault line piece) (law.ends _ _ _ _ piece) (law.anew _ _ _ _ piece) read.1
+
+pub returns-in-Ok-clause-fewer : goal.returns-in-Ok-clause-fewer
+returns-in-Ok-clause-fewer c = c.pieces_are_cut_off.ensures.shorter _ _ _ _ c.in_ok-items.ensures.piece
 
 pub returns-in_default-clause-found : goal.returns-in_default-clause-found
 returns-in_default-clause-found c = rw c.copy-start.ensures at c.all_entries.ensures.found

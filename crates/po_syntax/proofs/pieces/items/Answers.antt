@@ -1,0 +1,35 @@
+use Rattle.std.proofs.Common.{◌≡◌, [], arith, Result, Ok, Err, IfOk}
+use Rattle.std.proofs.lemmas.List.{length-map}
+use Rattle.std.proofs.lemmas.Result.{IfOk-weaker, IfErr-weaker, err_from_is_err_and}
+use Rattle.po_syntax.specs.TextItem.{view, views}
+use Rattle.po_syntax.proofs.Lines.{items-few}
+use Rattle.po_syntax.proofs.PieceLemmas.{piece_all}
+use Rattle.po_syntax.proofs.pieces.items.Goals as goal
+
+ok_both : {T E : Type 0} {P Q R : T → Type 0} (r : Result T E) → ((y : T) → P y → Q y → R y) → IfOk r P → IfOk r Q → IfOk r R
+ok_both (Ok y) f p q = f y p q
+ok_both (Err e) f p q = tt
+
+pub returns-in_err-pieces-clause-fault : goal.returns-in_err-pieces-clause-fault
+returns-in_err-pieces-clause-fault c =
+    let p = err_from_is_err_and c.from_residual.result c.from_residual.ensures.1 in
+    rw (p.1, p.2) (λ other. c.in_err-pieces.ensures.fault)
+
+pub returns-in_err-pieces-clause-memory : goal.returns-in_err-pieces-clause-memory
+returns-in_err-pieces-clause-memory c =
+    let p = err_from_is_err_and c.from_residual.result c.from_residual.ensures.1 in
+    rw (p.1, p.2) (λ memory. absurd (c.in_err-pieces.ensures.memory memory))
+
+-- the text spells the items of a piece that is all of it
+pub returns-clause-found : goal.returns-clause-found
+returns-clause-found c =
+    let over : IfOk c.next.result (λ items. c.next.new.self.lines ≡ []) = c.next.ensures.whole (omega arith) in
+    ok_both c.next.result (λ items piece none. c.in_ok-pieces.ensures.found (views items.items) (piece_all _ _ _ _ piece none)) c.next.ensures.piece over
+
+pub returns-clause-fault : goal.returns-clause-fault
+returns-clause-fault c =
+    IfErr-weaker c.next.result _ _ (λ e h other. c.in_ok-pieces.ensures.stops e.kind e.line (h other)) c.next.ensures.fault
+
+pub returns-clause-few : goal.returns-clause-few
+returns-clause-few c =
+    IfOk-weaker c.next.result _ _ (λ items h. omega (arith, items.ok.0, length-map items.items view, items-few c.args.text.now (views items.items) h.lines)) (returns-clause-found c)

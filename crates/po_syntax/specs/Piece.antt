@@ -1,0 +1,86 @@
+-- Where a piece of a text ends: at a line with which an entry begins anew after a translation
+-- (manual, "The Format of PO Files").
+use Rattle.std.specs.Prelude.{◌≡◌, ◌≢◌, ◌⊎◌, ℕ, ◌+◌, ◌<◌, ◌≤◌, List, [], ◌∷◌, length, take, drop, All}
+use Rattle.po_syntax.specs.LinesLeft.{LinesLeft, SpellsLeft, left_after, lines_len}
+use Rattle.po_syntax.specs.Line.{SpellsLine}
+use Rattle.po_syntax.specs.PoText.{SpellsLines}
+use Rattle.po_syntax.specs.TextItem.{TextItem, Comment, Word, Str}
+use Rattle.po_syntax.specs.declared.item.Keyword.TheVariants.{MsgCtxt, MsgId, MsgIdPlural, MsgStr, MsgStrAt}
+
+-- a quoted string
+abbrev pub IsString : TextItem → Type 0
+IsString (Comment kind text line) = ⊥
+IsString (Word keyword marks line) = ⊥
+IsString (Str bytes marks line) = Unit {0}
+
+-- `msgstr` or `msgstr[i]`
+abbrev pub IsTranslationWord : TextItem → Type 0
+IsTranslationWord (Comment kind text line) = ⊥
+IsTranslationWord (Word MsgCtxt marks line) = ⊥
+IsTranslationWord (Word MsgId marks line) = ⊥
+IsTranslationWord (Word MsgIdPlural marks line) = ⊥
+IsTranslationWord (Word MsgStr marks line) = Unit {0}
+IsTranslationWord (Word (MsgStrAt index) marks line) = Unit {0}
+IsTranslationWord (Str bytes marks line) = ⊥
+
+-- `msgstr` or `msgstr[i]`, and then strings alone, at least one
+abbrev pub IsTranslation : List TextItem → Type 0
+IsTranslation [] = ⊥
+IsTranslation (word ∷ strings) = IsTranslationWord word × (strings ≢ []) × All IsString strings
+
+-- from some item on, the items are such a translation
+abbrev pub EndsTranslation : List TextItem → Type 0
+EndsTranslation items = (before : ℕ) × IsTranslation (drop before items)
+
+-- an item with which no entry goes on after its last string: neither a string nor `msgstr[i]`
+abbrev pub IsNew : TextItem → Type 0
+IsNew (Comment kind text line) = Unit {0}
+IsNew (Word MsgCtxt marks line) = Unit {0}
+IsNew (Word MsgId marks line) = Unit {0}
+IsNew (Word MsgIdPlural marks line) = Unit {0}
+IsNew (Word MsgStr marks line) = Unit {0}
+IsNew (Word (MsgStrAt index) marks line) = ⊥
+IsNew (Str bytes marks line) = ⊥
+
+-- there is a first item, and it is such an item
+abbrev pub BeginsAnew : List TextItem → Type 0
+BeginsAnew [] = ⊥
+BeginsAnew (item ∷ items) = IsNew item
+
+-- there is a first line, and what it spells begins so
+abbrev pub LineBeginsAnew : ℕ → List (List ℕ) → Type 0
+LineBeginsAnew number [] = ⊥
+LineBeginsAnew number (line ∷ lines) = (here : List TextItem) × SpellsLine number line here × BeginsAnew here
+
+-- an entry ends after so many of the lines that are left: what these spell ends a translation, and
+-- the line after them begins anew
+pub record EndsEntry (left : LinesLeft) (count : ℕ) : Type 0 where
+  pub items : List TextItem
+  pub spelt : SpellsLines left.number (take count left.lines) items
+  pub ends : EndsTranslation items
+  pub anew : LineBeginsAnew (left.number + count) (drop count left.lines)
+
+-- a piece of at least this many bytes can end after so many of the lines that are left
+pub record CanEnd (size : ℕ) (left : LinesLeft) (count : ℕ) : Type 0 where
+  pub large : size ≤ lines_len (take count left.lines)
+  pub entry : EndsEntry left count
+
+-- From `old` a piece was read that has these items, and `new` is left: the piece is the fewest
+-- lines after which it can end, or all of them where it can't.
+pub record IsPiece (size : ℕ) (old new : LinesLeft) (items : List TextItem) : Type 0 where
+  pub count : ℕ
+  pub within : count ≤ length old.lines
+  pub rest : new ≡ left_after old count
+  pub spelt : SpellsLines old.number (take count old.lines) items
+  pub ends : (new.lines ≡ []) ⊎ CanEnd size old count
+  pub fewest : (fewer : ℕ) → fewer < count → CanEnd size old fewer → ⊥
+
+-- the last item, where there is one, is a quoted string
+abbrev pub EndsInString : List TextItem → Type 0
+EndsInString [] = Unit {0}
+EndsInString (item ∷ []) = IsString item
+EndsInString (item ∷ next ∷ items) = EndsInString (next ∷ items)
+
+-- whatever these lines spell begins anew, if they spell an item
+abbrev pub LeftAnew : LinesLeft → Type 0
+LeftAnew left = (item : TextItem) (items : List TextItem) → SpellsLeft left (item ∷ items) → IsNew item
