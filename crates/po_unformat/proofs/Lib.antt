@@ -4,3 +4,4 @@ pub mod FaultLemmas
 pub mod ReturnLemmas
 pub mod SettledMessages
 pub mod OneFault
+mod EntryParts

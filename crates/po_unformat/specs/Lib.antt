@@ -2,3 +2,4 @@ pub mod Unformatted
 pub mod Unformatting
 pub mod RoundTrip
 pub mod Refused
+pub mod MessageParts

@@ -1,6 +1,7 @@
 //! Laws of msgunfmt, each the contract of a function that does nothing: a call brings the law into
 //! a proof.
 
+ghost use Rattle.po_unformat.specs.MessageParts.{EntriesAreOfMessages};
 ghost use Rattle.po_unformat.specs.RoundTrip.{EmptyText, NoFaultWhereUnformatted, OneText, OneUnformatFault, TextOrFault, UnformatThenCompile};
 
 use mo_file::{mo_file_or_fault, one_first_fault, one_message_list};
@@ -62,3 +63,9 @@ pub fn text_or_fault()
 {
     mo_file_or_fault();
 }
+
+/// Each entry has the texts of its message: the key's context and msgid, the plural and the forms,
+/// each where a NUL, an EOT or an end says. So it is of the messages of any valid file.
+pub fn entries_are_of_messages()
+    ensures { EntriesAreOfMessages }
+{}
