@@ -1,11 +1,14 @@
--- Each step inside a quoted string reads what spells its byte.
-use Rattle.std.proofs.Common.{◌≡◌, ◌==◌, ◌⊎◌, inl, inr, refl, sym, subst, ℕ, zero, suc, ◌+◌, ◌<◌, ◌≤◌, Bool, true, false, cond, if◌then◌else◌, nat_lt, List, [], ◌∷◌, length, take, drop, Option, arith}
+-- Each step inside a quoted string reads what spells its byte, or stops at a fault.
+use Rattle.std.proofs.Common.{◌≡◌, ◌==◌, ◌⊎◌, inl, inr, refl, sym, subst, ℕ, zero, suc, ◌+◌, ◌<◌, ◌≤◌, Bool, true, false, cond, if◌then◌else◌, nat_lt, List, [], ◌∷◌, ◌++◌, length, take, drop, Option, arith}
 use Rattle.std.specs.Char.{digit_value, is_digit}
 use Rattle.std.specs.Str.Parse.{AllDigits, digits_value}
 use Rattle.std.proofs.lemmas.List.{take-append-drop, length-take}
-use Rattle.std.proofs.lemmas.Bool.{eqb-true, eqb-false, ltb-true, ltb-false}
-use Rattle.po_syntax.specs.declared.fault.PoFault.TheVariants.{BadEscape}
-use Rattle.po_syntax.specs.QuotedString.{Step, End, Byte, Stop, digit_count, number_step, letter_value, letter_step, escape_at, step_at, IsQuoted, ended, spelt}
+use Rattle.std.proofs.lemmas.Bool.{both_ways, eqb-true, eqb-false, lt-ltb, ltb-true, ltb-false}
+use Rattle.po_syntax.specs.declared.fault.PoFault.{PoFault}
+use Rattle.po_syntax.specs.declared.fault.PoFault.TheVariants.{BadEscape, ForbiddenByte}
+use Rattle.po_syntax.specs.LineFaults.{EscapeFault, at_end, no_escape, octal as octal_fault, no_digit, hexadecimal_digits, NumberFault, nul, large, StartsEscape, StringFault, not_closed, in_escape, after_plain, after_escape}
+use Rattle.po_syntax.specs.LineFaults as starts
+use Rattle.po_syntax.specs.QuotedString.{Step, End, Byte, Stop, digit_count, number_step, letter_value, letter_step, escape_at, step_at, IsQuoted, ended, spelt, QuotedStops, here, later}
 use Rattle.po_syntax.specs.Escapes.{NoDigitFirst, SpellsEscape, alert, backspace, form_feed, line_feed, carriage_return, tab, vertical_tab, backslash, quote, octal, hexadecimal, SpellsString, closed, plain, escape}
 
 -- the first n bytes are digits, at most so many, and no digit follows where there are fewer
@@ -39,7 +42,7 @@ all_digits base (b ∷ text) = all_step base b text (digit_count base text) (1 +
 abbrev EscapeSays : List ℕ → Step → Type 0
 EscapeSays text (End rest) = ⊥
 EscapeSays text (Byte b rest) = SpellsEscape text b rest
-EscapeSays text (Stop fault) = Unit {0}
+EscapeSays text (Stop fault) = EscapeFault text fault
 
 if_escape : (text : List ℕ) (test : Bool) (s t : Step) → (test ≡ true → EscapeSays text s) → (test ≡ false → EscapeSays text t) → EscapeSays text (if test then s else t)
 if_escape text true s t p q = p refl
@@ -49,56 +52,89 @@ pub positive : (n : ℕ) → (n == 0) ≡ false → 0 < n
 positive zero e = absurd (cc)
 positive (suc n) e = omega arith
 
--- the number of a prefix of digits, where the escape that it numbers is spelt
-number_says : (base count : ℕ) (text whole : List ℕ) → ((0 < digits_value base (take count text)) × (digits_value base (take count text) < 256) → SpellsEscape whole (digits_value base (take count text)) (drop count text)) → EscapeSays whole (number_step base count text)
-number_says base count text whole spells =
+-- the number of a prefix of digits, where the escape that it numbers is spelt, or has a fault
+number_says : (base count : ℕ) (text whole : List ℕ) → ((0 < digits_value base (take count text)) × (digits_value base (take count text) < 256) → SpellsEscape whole (digits_value base (take count text)) (drop count text))
+    → ((fault : PoFault) → NumberFault (digits_value base (take count text)) fault → EscapeFault whole fault) → EscapeSays whole (number_step base count text)
+number_says base count text whole spells stops =
     let number = digits_value base (take count text) in
-    if_escape whole (number == 0) _ _ (λ _. tt) (λ other.
-    if_escape whole (nat_lt number 256) (Byte number (drop count text)) (Stop BadEscape) (λ less. spells (positive number other, ltb-true number 256 less)) (λ _. tt))
+    if_escape whole (number == 0) _ _ (λ none. stops ForbiddenByte (subst (λ n. NumberFault n ForbiddenByte) (sym (eqb-true number 0 none)) nul)) (λ other.
+    if_escape whole (nat_lt number 256) (Byte number (drop count text)) (Stop BadEscape) (λ less. spells (positive number other, ltb-true number 256 less)) (λ past. stops BadEscape (large (ltb-false number 256 past))))
 
 octal_says : (b : ℕ) (text : List ℕ) → is_digit b 8 ≡ true → EscapeSays (b ∷ text) (number_step 8 (digit_count 8 (take 3 (b ∷ text))) (b ∷ text))
 octal_says b text e =
     let count = digit_count 8 (take 3 (b ∷ text)) in
+    let read = take count (b ∷ text) in
+    let rest = drop count (b ∷ text) in
     let digits = prefix 8 3 (b ∷ text) in
     let counted : 0 < count = rw e (omega arith) in
-    let some : 0 < length (take count (b ∷ text)) = omega (arith, counted, length-take count (b ∷ text)) in
-    number_says 8 count (b ∷ text) (b ∷ text) (λ small. subst (λ t. SpellsEscape t (digits_value 8 (take count (b ∷ text))) (drop count (b ∷ text))) (take-append-drop count (b ∷ text)) (octal (take count (b ∷ text)) (some, digits.0) digits.1 digits.2 small))
+    let some : 0 < length read = omega (arith, counted, length-take count (b ∷ text)) in
+    let whole : read ++ rest ≡ b ∷ text = take-append-drop count (b ∷ text) in
+    number_says 8 count (b ∷ text) (b ∷ text) (λ small. subst (λ t. SpellsEscape t (digits_value 8 read) rest) whole (octal read (some, digits.0) digits.1 digits.2 small))
+    (λ fault h. subst (λ t. EscapeFault t fault) whole (octal_fault read rest (some, digits.0) digits.1 digits.2 h))
 
 hexadecimal_says : (text : List ℕ) → (digit_count 16 text == 0) ≡ false → EscapeSays (120 ∷ text) (number_step 16 (digit_count 16 text) text)
 hexadecimal_says text other =
     let count = digit_count 16 text in
+    let read = take count text in
+    let rest = drop count text in
     let digits = all_digits 16 text in
-    let some : 0 < length (take count text) = omega (arith, positive count other, digits.1) in
-    number_says 16 count text (120 ∷ text) (λ small. subst (λ t. SpellsEscape (120 ∷ t) (digits_value 16 (take count text)) (drop count text)) (take-append-drop count text) (hexadecimal (take count text) (some, digits.0) digits.2 small))
+    let some : 0 < length read = omega (arith, positive count other, digits.1) in
+    let whole : read ++ rest ≡ text = take-append-drop count text in
+    number_says 16 count text (120 ∷ text) (λ small. subst (λ t. SpellsEscape (120 ∷ t) (digits_value 16 read) rest) whole (hexadecimal read (some, digits.0) digits.2 small))
+    (λ fault h. subst (λ t. EscapeFault (120 ∷ t) fault) whole (hexadecimal_digits read rest (some, digits.0) digits.2 h))
+
+no_digit_says : (text : List ℕ) → (digit_count 16 text == 0) ≡ true → EscapeFault (120 ∷ text) BadEscape
+no_digit_says text none =
+    let count : digit_count 16 text ≡ 0 = eqb-true (digit_count 16 text) 0 none in
+    no_digit (subst (λ n. NoDigitFirst 16 (drop n text)) count (all_digits 16 text).2)
 
 if_letter : (b : ℕ) (text : List ℕ) (test : Bool) (s t : Option ℕ) → (test ≡ true → EscapeSays (b ∷ text) (letter_step s text)) → (test ≡ false → EscapeSays (b ∷ text) (letter_step t text)) → EscapeSays (b ∷ text) (letter_step (if test then s else t) text)
 if_letter b text true s t p q = p refl
 if_letter b text false s t p q = q refl
 
-letter_says : (b : ℕ) (text : List ℕ) → EscapeSays (b ∷ text) (letter_step (letter_value b) text)
-letter_says b text =
-    if_letter b text (b == 97) _ _ (λ e. rw (eqb-true b 97 e) alert) (λ _.
-    if_letter b text (b == 98) _ _ (λ e. rw (eqb-true b 98 e) backspace) (λ _.
-    if_letter b text (b == 102) _ _ (λ e. rw (eqb-true b 102 e) form_feed) (λ _.
-    if_letter b text (b == 110) _ _ (λ e. rw (eqb-true b 110 e) line_feed) (λ _.
-    if_letter b text (b == 114) _ _ (λ e. rw (eqb-true b 114 e) carriage_return) (λ _.
-    if_letter b text (b == 116) _ _ (λ e. rw (eqb-true b 116 e) tab) (λ _.
-    if_letter b text (b == 118) _ _ (λ e. rw (eqb-true b 118 e) vertical_tab) (λ _.
-    if_letter b text (b == 92) _ _ (λ e. rw (eqb-true b 92 e) backslash) (λ _.
-    if_letter b text (b == 34) _ _ (λ e. rw (eqb-true b 34 e) quote) (λ _. tt)))))))))
+-- a byte that no escape begins with
+no_start : (b : ℕ) → is_digit b 8 ≡ false → (b == 120) ≡ false → (b == 97) ≡ false → (b == 98) ≡ false → (b == 102) ≡ false → (b == 110) ≡ false → (b == 114) ≡ false → (b == 116) ≡ false → (b == 118) ≡ false → (b == 92) ≡ false → (b == 34) ≡ false
+    → StartsEscape b → ⊥
+no_start b p q a c d e f g h i j (starts.octal_digit low) = both_ways (is_digit b 8) p (lt-ltb (digit_value b) 8 low)
+no_start b p q a c d e f g h i j starts.hexadecimal = eqb-false 120 120 q refl
+no_start b p q a c d e f g h i j starts.alert = eqb-false 97 97 a refl
+no_start b p q a c d e f g h i j starts.backspace = eqb-false 98 98 c refl
+no_start b p q a c d e f g h i j starts.form_feed = eqb-false 102 102 d refl
+no_start b p q a c d e f g h i j starts.line_feed = eqb-false 110 110 e refl
+no_start b p q a c d e f g h i j starts.carriage_return = eqb-false 114 114 f refl
+no_start b p q a c d e f g h i j starts.tab = eqb-false 116 116 g refl
+no_start b p q a c d e f g h i j starts.vertical_tab = eqb-false 118 118 h refl
+no_start b p q a c d e f g h i j starts.backslash = eqb-false 92 92 i refl
+no_start b p q a c d e f g h i j starts.quote = eqb-false 34 34 j refl
+
+letter_says : (b : ℕ) (text : List ℕ) → is_digit b 8 ≡ false → (b == 120) ≡ false → EscapeSays (b ∷ text) (letter_step (letter_value b) text)
+letter_says b text no_octal no_x =
+    if_letter b text (b == 97) _ _ (λ e. rw (eqb-true b 97 e) alert) (λ n97.
+    if_letter b text (b == 98) _ _ (λ e. rw (eqb-true b 98 e) backspace) (λ n98.
+    if_letter b text (b == 102) _ _ (λ e. rw (eqb-true b 102 e) form_feed) (λ n102.
+    if_letter b text (b == 110) _ _ (λ e. rw (eqb-true b 110 e) line_feed) (λ n110.
+    if_letter b text (b == 114) _ _ (λ e. rw (eqb-true b 114 e) carriage_return) (λ n114.
+    if_letter b text (b == 116) _ _ (λ e. rw (eqb-true b 116 e) tab) (λ n116.
+    if_letter b text (b == 118) _ _ (λ e. rw (eqb-true b 118 e) vertical_tab) (λ n118.
+    if_letter b text (b == 92) _ _ (λ e. rw (eqb-true b 92 e) backslash) (λ n92.
+    if_letter b text (b == 34) _ _ (λ e. rw (eqb-true b 34 e) quote) (λ n34. no_escape (no_start b no_octal no_x n97 n98 n102 n110 n114 n116 n118 n92 n34))))))))))
 
 escape_says : (text : List ℕ) → EscapeSays text (escape_at text)
 unfolding escape_at
-escape_says [] = tt
+escape_says [] = at_end
 escape_says (b ∷ text) =
-    if_escape (b ∷ text) (is_digit b 8) _ _ (λ e. octal_says b text e) (λ _.
-    if_escape (b ∷ text) (b == 120) _ _ (λ is. if_escape (b ∷ text) (digit_count 16 text == 0) _ _ (λ _. tt) (λ other. subst (λ x. EscapeSays (x ∷ text) (number_step 16 (digit_count 16 text) text)) (sym (eqb-true b 120 is)) (hexadecimal_says text other))) (λ _. letter_says b text))
+    if_escape (b ∷ text) (is_digit b 8) _ _ (λ e. octal_says b text e) (λ no_octal.
+    if_escape (b ∷ text) (b == 120) _ _
+    (λ is.
+    subst (λ x. EscapeSays (x ∷ text) (if digit_count 16 text == 0 then Stop BadEscape else number_step 16 (digit_count 16 text) text)) (sym (eqb-true b 120 is))
+    (if_escape (120 ∷ text) (digit_count 16 text == 0) (Stop BadEscape) _ (no_digit_says text) (hexadecimal_says text)))
+    (letter_says b text no_octal))
 
 -- what a step inside a quoted string says of the text
 abbrev StepSays : List ℕ → Step → Type 0
 StepSays text (End rest) = SpellsString text [] rest
-StepSays text (Byte b next) = (bytes rest : List ℕ) → SpellsString next bytes rest → SpellsString text (b ∷ bytes) rest
-StepSays text (Stop fault) = Unit {0}
+StepSays text (Byte b next) = ((bytes rest : List ℕ) → SpellsString next bytes rest → SpellsString text (b ∷ bytes) rest) × ((fault : PoFault) → StringFault next fault → StringFault text fault)
+StepSays text (Stop fault) = StringFault text fault
 
 if_step : (text : List ℕ) (test : Bool) (s t : Step) → (test ≡ true → StepSays text s) → (test ≡ false → StepSays text t) → StepSays text (if test then s else t)
 if_step text true s t p q = p refl
@@ -106,17 +142,21 @@ if_step text false s t p q = q refl
 
 after_backslash : (text : List ℕ) (step : Step) → EscapeSays text step → StepSays (92 ∷ text) step
 after_backslash text (End rest) h = absurd h
-after_backslash text (Byte b next) h = λ bytes rest more. escape h more
-after_backslash text (Stop fault) h = tt
+after_backslash text (Byte b next) h = (λ bytes rest more. escape h more, λ fault more. after_escape h more)
+after_backslash text (Stop fault) h = in_escape h
 
 step_says : (text : List ℕ) → StepSays text (step_at text)
 unfolding step_at
-step_says [] = tt
+step_says [] = not_closed
 step_says (b ∷ text) =
     if_step (b ∷ text) (b == 34) (End text) _ (λ is. subst (λ x. SpellsString (x ∷ text) [] text) (sym (eqb-true b 34 is)) closed) (λ inside.
-    if_step (b ∷ text) (b == 92) _ (Byte b text) (λ is. subst (λ x. StepSays (x ∷ text) (escape_at text)) (sym (eqb-true b 92 is)) (after_backslash text (escape_at text) (escape_says text))) (λ raw bytes rest more. plain (eqb-false b 34 inside) (eqb-false b 92 raw) more))
+    if_step (b ∷ text) (b == 92) _ (Byte b text) (λ is. subst (λ x. StepSays (x ∷ text) (escape_at text)) (sym (eqb-true b 92 is)) (after_backslash text (escape_at text) (escape_says text))) (λ raw. (λ bytes rest more. plain (eqb-false b 34 inside) (eqb-false b 92 raw) more, λ fault more. after_plain (eqb-false b 34 inside) (eqb-false b 92 raw) more)))
 
 pub quoted_spelt : {text bytes rest : List ℕ} → IsQuoted text bytes rest → SpellsString text bytes rest
 quoted_spelt (ended {text = text} e) = subst (StepSays text) e (step_says text)
 quoted_spelt (spelt {text = text} {bytes = bytes} {rest = rest} e h) =
-    let says = subst (StepSays text) e (step_says text) in says bytes rest (quoted_spelt h)
+    let says = subst (StepSays text) e (step_says text) in says.0 bytes rest (quoted_spelt h)
+
+pub string_fault : {text : List ℕ} {fault : PoFault} → QuotedStops text fault → StringFault text fault
+string_fault (here {text = text} e) = subst (StepSays text) e (step_says text)
+string_fault (later {text = text} {fault = fault} e h) = let says = subst (StepSays text) e (step_says text) in says.1 fault (string_fault h)

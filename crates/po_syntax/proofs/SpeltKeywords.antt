@@ -1,18 +1,20 @@
--- Each keyword is read where it is spelt, and what is read as one is spelt.
-use Rattle.std.proofs.Common.{◌≡◌, ◌∙◌, refl, sym, ap, subst, ℕ, ◌^◌, ◌<◌, ◌≤◌, ◌==◌, ◌||◌, Bool, true, false, if◌then◌else◌, nat_lt, List, [], ◌∷◌, ◌++◌, length, take, drop, codes, bytes_eq, All, inl, inr, arith}
+-- Each keyword is read where it is spelt, and what is read as one is spelt, or has a fault.
+use Rattle.std.proofs.Common.{◌≡◌, ◌∙◌, refl, sym, ap, subst, ℕ, suc, ◌+◌, ◌^◌, ◌<◌, ◌≤◌, ◌==◌, ◌||◌, Bool, true, false, if◌then◌else◌, nat_lt, List, [], ◌∷◌, ◌++◌, length, take, drop, codes, bytes_eq, All, inl, inr, arith}
 use Rattle.std.specs.Char.{digit_value}
 use Rattle.std.specs.Int.{is_in_range}
 use Rattle.std.specs.List.{prefix_len, list_all}
 use Rattle.std.specs.Str.Parse.{IsNumeral, digits_value}
+use Rattle.std.proofs.Math.Numerals.{one-add}
 use Rattle.std.proofs.Math.Seq.{take-append_seam, drop-append_seam}
-use Rattle.std.proofs.lemmas.Bool.{and_parts, and_from, or_cases, or_left, or_right, both_ways, cond-false, eqb-true, eqb-false, ne_eqb, leb-true, le-leb, ltb-true, ltb-false, lt-ltb, false_from_ne_true}
+use Rattle.std.proofs.lemmas.Bool.{cond-true, and_parts, and_from, or_cases, or_left, or_right, both_ways, cond-false, eqb-true, eqb-false, ne_eqb, leb-true, le-leb, ltb-true, ltb-false, lt-ltb, false_from_ne_true}
 use Rattle.std.proofs.lemmas.List.{take-append-drop}
-use Rattle.std.proofs.lemmas.List.Elements.{All-head}
+use Rattle.std.proofs.lemmas.List.Elements.{All-cons, All-head}
 use Rattle.std.proofs.lemmas.Slice.Eq.{bytes_eq-Decides}
-use Rattle.po_syntax.specs.declared.fault.PoFault.TheVariants.{BadToken}
+use Rattle.po_syntax.specs.declared.fault.PoFault.TheVariants.{BadPluralIndex, BadToken}
 use Rattle.po_syntax.specs.declared.item.Keyword.{Keyword}
 use Rattle.po_syntax.specs.declared.item.Keyword.TheVariants.{MsgCtxt, MsgId, MsgIdPlural, MsgStr, MsgStrAt}
 use Rattle.po_syntax.specs.Escapes.{NoDigitFirst}
+use Rattle.po_syntax.specs.LineFaults.{BeginsWithNoBlank, NoBracketFirst, KeywordFault, no_keyword, no_index, large_index, not_closed_index, TokensFault, no_token, in_keyword}
 use Rattle.po_syntax.specs.QuotedString.{digit_count}
 use Rattle.po_syntax.specs.Runs.{FailsFirst, parts_of, run_length, all_pass}
 use Rattle.po_syntax.specs.Spelling.{IsBlank, space, tab, vertical_tab, form_feed, carriage_return, IsWordByte, upper, lower, digit, underscore, EndsWord, HasNoBracket, SpellsKeyword, msgctxt, msgid, msgid_plural, msgstr, form}
@@ -177,7 +179,7 @@ abbrev pub TokenSays : List ℕ → Token → Type 0
 TokenSays text LineEnd = text ≡ []
 TokenSays text (OpeningQuote rest) = text ≡ 34 ∷ rest
 TokenSays text (KeywordToken word rest) = SpellsKeyword text word rest
-TokenSays text (WrongToken fault) = Unit {0}
+TokenSays text (WrongToken fault) = BeginsWithNoBlank text → TokensFault text fault
 
 if_says : (text : List ℕ) (test : Bool) (s t : Token) → (test ≡ true → TokenSays text s) → (test ≡ false → TokenSays text t) → TokenSays text (if test then s else t)
 if_says text true s t p q = p refl
@@ -188,17 +190,29 @@ record IsOpened (whole before inside index : List ℕ) : Type 0 where
   text : whole ≡ codes "msgstr" ++ (before ++ 91 ∷ (inside ++ index))
   before_blank : All IsBlank before
   inside_blank : All IsBlank inside
+  index_begins : BeginsWithNoBlank index
 
-close_says : (whole before inside index digits : List ℕ) → IsOpened whole before inside index → IsNumeral 10 digits → digits_value 10 digits < 2 ^ 32 → (rest after end : List ℕ) → index ≡ digits ++ rest → rest ≡ after ++ end → All IsBlank after
+pub fails_begins : (rest : List ℕ) → FailsFirst is_blank rest → BeginsWithNoBlank rest
+fails_begins [] h = tt
+fails_begins (b ∷ rest) h = λ is. both_ways (is_blank b) h (blank_passes is)
+
+-- an index that no closing bracket follows
+not_closed_says : (whole before inside index digits : List ℕ) → IsOpened whole before inside index → IsNumeral 10 digits → digits_value 10 digits < 2 ^ 32 → (rest after end : List ℕ) → index ≡ digits ++ rest → rest ≡ after ++ end → NoDigitFirst 10 rest → All IsBlank after → NoBracketFirst end
+    → KeywordFault whole BadToken
+not_closed_says whole before inside index digits opened numeral fits rest after end is ends none all other =
+    let text = opened.text ∙ ap (λ l. codes "msgstr" ++ (before ++ 91 ∷ (inside ++ l))) (is ∙ ap (λ l. digits ++ l) ends) in
+    subst (λ t. KeywordFault t BadToken) (sym text) (not_closed_index before inside digits after end opened.before_blank opened.inside_blank numeral (subst (NoDigitFirst 10) ends none) fits all other)
+
+close_says : (whole before inside index digits : List ℕ) → IsOpened whole before inside index → IsNumeral 10 digits → digits_value 10 digits < 2 ^ 32 → (rest after end : List ℕ) → index ≡ digits ++ rest → rest ≡ after ++ end → NoDigitFirst 10 rest → All IsBlank after → FailsFirst is_blank end
     → TokenSays whole (close_token (digits_value 10 digits) end)
-close_says whole before inside index digits opened numeral fits rest after [] is ends all = tt
-close_says whole before inside index digits opened numeral fits rest after (b ∷ end) is ends all =
+close_says whole before inside index digits opened numeral fits rest after [] is ends none all begins = λ _. in_keyword (not_closed_says whole before inside index digits opened numeral fits rest after [] is ends none all tt)
+close_says whole before inside index digits opened numeral fits rest after (b ∷ end) is ends none all begins =
     if_says whole (b == 93) _ _
     (λ e.
     let closing : rest ≡ after ++ 93 ∷ end = ends ∙ ap (λ a. after ++ a ∷ end) (eqb-true b 93 e) in
     let text = opened.text ∙ ap (λ l. codes "msgstr" ++ (before ++ 91 ∷ (inside ++ l))) (is ∙ ap (λ l. digits ++ l) closing) in
     subst (λ t. SpellsKeyword t (MsgStrAt (digits_value 10 digits)) end) (sym text) (form before inside digits after opened.before_blank opened.inside_blank numeral fits all))
-    (λ _. tt)
+    (λ other _. in_keyword (not_closed_says whole before inside index digits opened numeral fits rest after (b ∷ end) is ends none all (fails_begins (b ∷ end) begins, eqb-false b 93 other)))
 
 index_says : (whole before inside index : List ℕ) → IsOpened whole before inside index → TokenSays whole (index_token index)
 unfolding index_token
@@ -207,13 +221,20 @@ index_says whole before inside index opened =
     let digits = take count index in
     let rest = drop count index in
     let all = all_digits 10 index in
-    if_says whole (count == 0) _ _ (λ _. tt) (λ other.
+    let parted : index ≡ digits ++ rest = sym (take-append-drop count index) in
+    if_says whole (count == 0) _ _
+    (λ zero _.
+    let none : NoDigitFirst 10 index = subst (λ n. NoDigitFirst 10 (drop n index)) (eqb-true count 0 zero) all.2 in
+    in_keyword (subst (λ t. KeywordFault t BadToken) (sym opened.text) (no_index before inside index opened.before_blank opened.inside_blank opened.index_begins none)))
+    (λ other.
+    let some : 0 < length digits = omega (arith, positive count other, all.1) in
     if_says whole (nat_lt (digits_value 10 digits) (2 ^ 32)) _ _
     (λ less.
-    let some : 0 < length digits = omega (arith, positive count other, all.1) in
     let parts = skips rest in
-    close_says whole before inside index digits opened (some, all.0) (ltb-true _ _ less) rest parts.blanks (skip_blanks rest) (sym (take-append-drop count index)) (sym parts.whole) parts.are_blanks)
-    (λ _. tt))
+    close_says whole before inside index digits opened (some, all.0) (ltb-true _ _ less) rest parts.blanks (skip_blanks rest) parted (sym parts.whole) all.2 parts.are_blanks parts.other)
+    (λ past _.
+    let text = opened.text ∙ ap (λ l. codes "msgstr" ++ (before ++ 91 ∷ (inside ++ l))) parted in
+    in_keyword (subst (λ t. KeywordFault t BadPluralIndex) (sym text) (large_index before inside digits rest opened.before_blank opened.inside_blank (some, all.0) all.2 (ltb-false _ _ past)))))
 
 no_bracket_from : (rest after : List ℕ) → skip_blanks rest ≡ after → ((inside : List ℕ) → after ≡ 91 ∷ inside → ⊥) → HasNoBracket rest
 no_bracket_from rest after is none blanks inside all e = none inside (sym is ∙ ap skip_blanks e ∙ skip_prefix blanks (91 ∷ inside) all refl)
@@ -231,27 +252,44 @@ bracket_says whole rest text ends before (b ∷ inside) is parts all =
       text = text ∙ ap (λ l. codes "msgstr" ++ l) (parts ∙ ap (λ a. before ++ a ∷ inside) (eqb-true b 91 e) ∙ ap (λ l. before ++ 91 ∷ l) (sym more.whole));
       before_blank = all;
       inside_blank = more.are_blanks;
+      index_begins = fails_begins (skip_blanks inside) more.other;
     }))
     (λ other. subst (λ t. SpellsKeyword t MsgStr rest) (sym text) (msgstr ends (no_bracket_from rest (b ∷ inside) is (λ more e. eqb-false b 91 other (head_same more e))))) where
       head_same : (more : List ℕ) → b ∷ inside ≡ 91 ∷ more → b ≡ 91
       head_same more e = cc
 
-keyword_says : (whole word rest : List ℕ) → whole ≡ word ++ rest → EndsWord rest → TokenSays whole (keyword_token word rest)
+keyword_says : (whole : List ℕ) (b : ℕ) (word rest : List ℕ) → whole ≡ (b ∷ word) ++ rest → All IsWordByte (b ∷ word) → EndsWord rest → TokenSays whole (keyword_token (b ∷ word) rest)
 unfolding keyword_token
-keyword_says whole word rest text ends =
-    let is = λ (name : List ℕ) (e : bytes_eq word name ≡ true). text ∙ ap (λ w. w ++ rest) ((bytes_eq-Decides word name).0 e) in
-    if_says whole (bytes_eq word (codes "msgctxt")) (KeywordToken MsgCtxt rest) _ (λ e. subst (λ t. SpellsKeyword t MsgCtxt rest) (sym (is (codes "msgctxt") e)) (msgctxt ends)) (λ _.
-    if_says whole (bytes_eq word (codes "msgid")) (KeywordToken MsgId rest) _ (λ e. subst (λ t. SpellsKeyword t MsgId rest) (sym (is (codes "msgid") e)) (msgid ends)) (λ _.
-    if_says whole (bytes_eq word (codes "msgid_plural")) (KeywordToken MsgIdPlural rest) _ (λ e. subst (λ t. SpellsKeyword t MsgIdPlural rest) (sym (is (codes "msgid_plural") e)) (msgid_plural ends)) (λ _.
-    if_says whole (bytes_eq word (codes "msgstr")) _ (WrongToken BadToken)
+keyword_says whole b word rest text all ends =
+    let read = b ∷ word in
+    let is = λ (name : List ℕ) (e : bytes_eq read name ≡ true). text ∙ ap (λ w. w ++ rest) ((bytes_eq-Decides read name).0 e) in
+    let differs = λ (name : List ℕ) (e : bytes_eq read name ≡ false) (same : read ≡ name). both_ways (bytes_eq read name) e ((bytes_eq-Decides read name).1 same) in
+    if_says whole (bytes_eq read (codes "msgctxt")) (KeywordToken MsgCtxt rest) _ (λ e. subst (λ t. SpellsKeyword t MsgCtxt rest) (sym (is (codes "msgctxt") e)) (msgctxt ends)) (λ no_context.
+    if_says whole (bytes_eq read (codes "msgid")) (KeywordToken MsgId rest) _ (λ e. subst (λ t. SpellsKeyword t MsgId rest) (sym (is (codes "msgid") e)) (msgid ends)) (λ no_id.
+    if_says whole (bytes_eq read (codes "msgid_plural")) (KeywordToken MsgIdPlural rest) _ (λ e. subst (λ t. SpellsKeyword t MsgIdPlural rest) (sym (is (codes "msgid_plural") e)) (msgid_plural ends)) (λ no_plural.
+    if_says whole (bytes_eq read (codes "msgstr")) _ (WrongToken BadToken)
     (λ e. let parts = skips rest in bracket_says whole rest (is (codes "msgstr") e) ends parts.blanks (skip_blanks rest) refl (sym parts.whole) parts.are_blanks)
-    (λ _. tt))))
+    (λ no_translation _.
+    in_keyword (subst (λ t. KeywordFault t BadToken) (sym text) (no_keyword b word rest all ends (record {
+      context = differs (codes "msgctxt") no_context;
+      id = differs (codes "msgid") no_id;
+      plural = differs (codes "msgid_plural") no_plural;
+      translation = differs (codes "msgstr") no_translation;
+    })))))))
+
+word_says : (b : ℕ) (rest : List ℕ) → is_word_byte b ≡ true → TokenSays (b ∷ rest) (word_token (b ∷ rest))
+word_says b rest is =
+    let count = prefix_len is_word_byte rest in
+    let parts = parts_of is_word_byte rest in
+    let counted : prefix_len is_word_byte (b ∷ rest) ≡ suc count = cond-true (is_word_byte b) (1 + count) 0 is ∙ one-add count in
+    let bytes : All IsWordByte (b ∷ take count rest) = All-cons IsWordByte b (take count rest) (word_byte_says b is) (λ k d below. word_byte_says _ (parts.passes k d below)) in
+    subst (TokenSays (b ∷ rest)) (ap (λ n. keyword_token (take n (b ∷ rest)) (drop n (b ∷ rest))) (sym counted))
+    (keyword_says (b ∷ rest) b (take count rest) (drop count rest) (ap (λ l. b ∷ l) (sym parts.whole)) bytes (fails_ends (drop count rest) parts.ends))
 
 pub first_says : (text : List ℕ) → TokenSays text (first_token text)
 unfolding first_token
 first_says [] = refl
 first_says (b ∷ rest) =
-    if_says (b ∷ rest) (b == 34) (OpeningQuote rest) _ (λ e. ap (λ a. a ∷ rest) (eqb-true b 34 e)) (λ _.
-    if_says (b ∷ rest) (is_word_byte b) _ _
-    (λ _. let parts = parts_of is_word_byte (b ∷ rest) in keyword_says (b ∷ rest) _ _ (sym parts.whole) (fails_ends _ parts.ends))
-    (λ _. tt))
+    if_says (b ∷ rest) (b == 34) (OpeningQuote rest) _ (λ e. ap (λ a. a ∷ rest) (eqb-true b 34 e)) (λ no_quote.
+    if_says (b ∷ rest) (is_word_byte b) _ _ (word_says b rest)
+    (λ no_word no_blank. no_token no_blank (eqb-false b 34 no_quote) (λ is. both_ways (is_word_byte b) no_word (word_byte_passes is))))

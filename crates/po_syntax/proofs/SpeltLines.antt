@@ -1,22 +1,24 @@
--- Each line is read as the items that it holds, and holds what is read of it.
-use Rattle.std.proofs.Common.{◌≡◌, ◌==◌, ◌∙◌, refl, sym, ap, subst, ℕ, ◌+◌, Bool, true, false, if◌then◌else◌, List, [], ◌∷◌, ◌++◌, drop, All, arith}
+-- Each line is read as the items that it holds, and holds what is read of it, or has the fault at which reading it stops.
+use Rattle.std.proofs.Common.{◌≡◌, ◌⊎◌, inl, inr, ◌==◌, ◌∙◌, refl, sym, ap, subst, ℕ, ◌+◌, Bool, true, false, if◌then◌else◌, List, [], ◌∷◌, ◌++◌, drop, All, arith}
 use Rattle.std.specs.List.{prefix_len}
 use Rattle.std.proofs.Math.Numerals.{one-add}
-use Rattle.std.proofs.lemmas.Bool.{cond-true, cond-false, eqb-true, eqb-false, ne_eqb, eq-eqb}
+use Rattle.std.proofs.lemmas.Bool.{both_ways, cond-true, cond-false, eqb-true, eqb-false, ne_eqb, eq-eqb}
 use Rattle.std.proofs.lemmas.List.Elements.{All-head, All-tail}
+use Rattle.po_syntax.specs.declared.fault.PoFault.{PoFault}
 use Rattle.po_syntax.specs.declared.fault.PoFault.TheVariants.{BadToken}
 use Rattle.po_syntax.specs.declared.item.CommentKind.{CommentKind}
 use Rattle.po_syntax.specs.declared.item.CommentKind.TheVariants.{Translator, Extracted, Reference, Flags}
 use Rattle.po_syntax.specs.declared.item.Marks.{Marks}
 use Rattle.po_syntax.specs.Line as line
-use Rattle.po_syntax.specs.Line.{Shape, CommentLine, Tokens, NoShape, comment_shape, obsolete_shape, tilde_shape, hash_shape, first_shape, shape_of, trim_returns, SpellsTokens, none, word, SpellsLine}
-use Rattle.po_syntax.specs.Runs.{end_parts, kept_is}
+use Rattle.po_syntax.specs.Line.{Shape, CommentLine, Tokens, NoShape, comment_shape, obsolete_shape, tilde_shape, hash_shape, first_shape, shape_of, trim_returns, SpellsTokens, none, word, SpellsLine, TokensStop, halt, after_word, LineStops, no_shape, in_tokens}
+use Rattle.po_syntax.specs.LineFaults.{TokensFault, blank as fault_blank, in_string as fault_in_string, after_keyword, after_string as fault_after_string, BeginsTokens, BeginsWithNoBar, LineFault, indented as fault_indent, previous_again, obsolete_again, live as fault_live, previous as fault_previous, obsolete as fault_obsolete, obsolete_previous as fault_obsolete_previous}
+use Rattle.po_syntax.specs.Runs.{FailsFirst, end_parts, kept_is}
 use Rattle.po_syntax.specs.Spelling.{IsBlank, HoldsTokens, end, blank, keyword, string, IsMark, dot, colon, comma, bar, tilde, SpellsComment, extracted, reference, flags, translator, IsWithoutReturns, marked, HoldsItems, indented, comment, obsolete_comment, live, previous, obsolete, obsolete_previous}
 use Rattle.po_syntax.specs.TextItem.{TextItem, Comment, Str}
 use Rattle.po_syntax.specs.Token.{Token, LineEnd, OpeningQuote, KeywordToken, WrongToken, is_blank, skip_blanks, first_token, token_at}
-use Rattle.po_syntax.proofs.Escapes.{quoted_spelt}
+use Rattle.po_syntax.proofs.Escapes.{quoted_spelt, string_fault}
 use Rattle.po_syntax.proofs.SpeltEscapes.{spelt_quoted}
-use Rattle.po_syntax.proofs.SpeltKeywords.{blank_passes, skips, skip_prefix, keyword_read, TokenSays, first_says}
+use Rattle.po_syntax.proofs.SpeltKeywords.{blank_passes, skips, skip_prefix, fails_begins, keyword_read, TokenSays, first_says}
 
 -- blanks before tokens
 after_blanks : {marks : Marks} {number : ℕ} {items : List TextItem} (blanks text : List ℕ) → All IsBlank blanks → HoldsTokens marks number text items → HoldsTokens marks number (blanks ++ text) items
@@ -93,8 +95,9 @@ is_trimmed text kept h =
 -- what a shape says of the line that it is read from
 abbrev ShapeSays : List ℕ → Shape → Type 0
 ShapeSays text (CommentLine kind rest) = (number : ℕ) → HoldsItems number text (Comment kind (trim_returns rest) number ∷ [])
-ShapeSays text (Tokens marks rest) = (number : ℕ) (items : List TextItem) → HoldsTokens marks number rest items → HoldsItems number text items
-ShapeSays text NoShape = Unit {0}
+ShapeSays text (Tokens marks rest) =
+    ((number : ℕ) (items : List TextItem) → HoldsTokens marks number rest items → HoldsItems number text items) × ((fault : PoFault) → TokensFault rest fault → LineFault text fault)
+ShapeSays text NoShape = LineFault text BadToken
 
 if_says : (text : List ℕ) (test : Bool) (s t : Shape) → (test ≡ true → ShapeSays text s) → (test ≡ false → ShapeSays text t) → ShapeSays text (if test then s else t)
 if_says text true s t p q = p refl
@@ -104,7 +107,7 @@ if_says text false s t p q = q refl
 abbrev CommentSays : List ℕ → Shape → Type 0
 CommentSays text (CommentLine kind rest) = SpellsComment text kind rest
 CommentSays text (Tokens marks rest) = ⊥
-CommentSays text NoShape = Unit {0}
+CommentSays text NoShape = (rest : List ℕ) × ((text ≡ 124 ∷ rest) ⊎ (text ≡ 126 ∷ rest))
 
 if_comment : (text : List ℕ) (test : Bool) (s t : Shape) → (test ≡ true → CommentSays text s) → (test ≡ false → CommentSays text t) → CommentSays text (if test then s else t)
 if_comment text true s t p q = p refl
@@ -123,57 +126,76 @@ comment_says (b ∷ rest) =
     if_comment (b ∷ rest) (b == 46) (CommentLine Extracted rest) _ (λ e. subst (λ a. SpellsComment (a ∷ rest) Extracted rest) (sym (eqb-true b 46 e)) extracted) (λ p.
     if_comment (b ∷ rest) (b == 58) (CommentLine Reference rest) _ (λ e. subst (λ a. SpellsComment (a ∷ rest) Reference rest) (sym (eqb-true b 58 e)) reference) (λ q.
     if_comment (b ∷ rest) (b == 44) (CommentLine Flags rest) _ (λ e. subst (λ a. SpellsComment (a ∷ rest) Flags rest) (sym (eqb-true b 44 e)) flags) (λ r.
-    if_comment (b ∷ rest) (b == 124) NoShape _ (λ _. tt) (λ s.
-    if_comment (b ∷ rest) (b == 126) NoShape (CommentLine Translator (b ∷ rest)) (λ _. tt) (λ t. translator (no_mark b p q r s t))))))
+    if_comment (b ∷ rest) (b == 124) NoShape _ (λ e. (rest, inl (ap (λ a. a ∷ rest) (eqb-true b 124 e)))) (λ s.
+    if_comment (b ∷ rest) (b == 126) NoShape (CommentLine Translator (b ∷ rest)) (λ e. (rest, inr (ap (λ a. a ∷ rest) (eqb-true b 126 e)))) (λ t. translator (no_mark b p q r s t))))))
 
-comment_line : (text : List ℕ) (shape : Shape) → CommentSays text shape → ShapeSays (35 ∷ text) shape
-comment_line text (CommentLine kind rest) h = λ number. comment h (trimmed rest)
-comment_line text (Tokens marks rest) h = absurd h
-comment_line text NoShape h = tt
+-- a text that no bar and no tilde begins
+abbrev BeginsComment : List ℕ → Type 0
+BeginsComment text = (rest : List ℕ) → (text ≡ 124 ∷ rest) ⊎ (text ≡ 126 ∷ rest) → ⊥
+
+comment_line : (text : List ℕ) (shape : Shape) → BeginsComment text → CommentSays text shape → ShapeSays (35 ∷ text) shape
+comment_line text (CommentLine kind rest) other h = λ number. comment h (trimmed rest)
+comment_line text (Tokens marks rest) other h = absurd h
+comment_line text NoShape other h = absurd (other h.0 h.1)
 
 obsolete_comment_line : (blanks text : List ℕ) (shape : Shape) → All IsBlank blanks → CommentSays text shape → ShapeSays (35 ∷ 126 ∷ (blanks ++ 35 ∷ text)) shape
 obsolete_comment_line blanks text (CommentLine kind rest) all h = λ number. obsolete_comment blanks all h (trimmed rest)
 obsolete_comment_line blanks text (Tokens marks rest) all h = absurd h
-obsolete_comment_line blanks text NoShape all h = tt
+obsolete_comment_line blanks text NoShape all h =
+    let Q : List ℕ → Type 0 = λ t. LineFault (35 ∷ 126 ∷ (blanks ++ 35 ∷ t)) BadToken in
+    elim h.1 [ inl is ↦ subst Q (sym is) (previous_again blanks h.0 all) | inr is ↦ subst Q (sym is) (obsolete_again blanks h.0 all) ]
 
-obsolete_says : (blanks after : List ℕ) → All IsBlank blanks → ShapeSays (35 ∷ 126 ∷ (blanks ++ after)) (obsolete_shape after)
+-- a text that begins with no blank, and not with `#`
+begins_tokens : (b : ℕ) (text : List ℕ) → FailsFirst is_blank (b ∷ text) → (b == 35) ≡ false → BeginsTokens (b ∷ text)
+begins_tokens b text fails other = (λ is. both_ways (is_blank b) fails (blank_passes is), eqb-false b 35 other)
+
+obsolete_says : (blanks after : List ℕ) → All IsBlank blanks → BeginsWithNoBar (blanks ++ after) → FailsFirst is_blank after → ShapeSays (35 ∷ 126 ∷ (blanks ++ after)) (obsolete_shape after)
 unfolding obsolete_shape
-obsolete_says blanks [] all = λ number items h. obsolete (after_blanks blanks [] all h)
-obsolete_says blanks (b ∷ rest) all =
+obsolete_says blanks [] all no_bar fails = (λ number items h. obsolete (after_blanks blanks [] all h), λ fault h. fault_obsolete blanks all tt no_bar h)
+obsolete_says blanks (b ∷ rest) all no_bar fails =
     if_says (35 ∷ 126 ∷ (blanks ++ b ∷ rest)) (b == 35) _ (Tokens (marked true false) (b ∷ rest))
     (λ e. subst (λ a. ShapeSays (35 ∷ 126 ∷ (blanks ++ a ∷ rest)) (comment_shape rest)) (sym (eqb-true b 35 e)) (obsolete_comment_line blanks rest (comment_shape rest) all (comment_says rest)))
-    (λ _ number items h. obsolete (after_blanks blanks (b ∷ rest) all h))
+    (λ other. (λ number items h. obsolete (after_blanks blanks (b ∷ rest) all h), λ fault h. fault_obsolete blanks all (begins_tokens b rest fails other) no_bar h))
 
-obsolete_line : (text : List ℕ) → ShapeSays (35 ∷ 126 ∷ text) (obsolete_shape (skip_blanks text))
-obsolete_line text =
+obsolete_line : (text : List ℕ) → BeginsWithNoBar text → ShapeSays (35 ∷ 126 ∷ text) (obsolete_shape (skip_blanks text))
+obsolete_line text no_bar =
     let parts = skips text in
-    subst (λ t. ShapeSays (35 ∷ 126 ∷ t) (obsolete_shape (skip_blanks text))) parts.whole (obsolete_says parts.blanks (skip_blanks text) parts.are_blanks)
+    subst (λ t. ShapeSays (35 ∷ 126 ∷ t) (obsolete_shape (skip_blanks text))) parts.whole
+    (obsolete_says parts.blanks (skip_blanks text) parts.are_blanks (subst BeginsWithNoBar (sym parts.whole) no_bar) parts.other)
 
 tilde_says : (text : List ℕ) → ShapeSays (35 ∷ 126 ∷ text) (tilde_shape text)
 unfolding tilde_shape
-tilde_says [] = obsolete_line []
+tilde_says [] = obsolete_line [] tt
 tilde_says (b ∷ rest) =
     if_says (35 ∷ 126 ∷ b ∷ rest) (b == 124) (Tokens (marked true true) rest) _
-    (λ e number items h. subst (λ a. HoldsItems number (35 ∷ 126 ∷ a ∷ rest) items) (sym (eqb-true b 124 e)) (obsolete_previous h))
-    (λ _. obsolete_line (b ∷ rest))
+    (λ e. subst (λ a. ShapeSays (35 ∷ 126 ∷ a ∷ rest) (Tokens (marked true true) rest)) (sym (eqb-true b 124 e)) (λ number items h. obsolete_previous h, λ fault h. fault_obsolete_previous h))
+    (λ other. obsolete_line (b ∷ rest) (eqb-false b 124 other))
+
+nothing_begins : BeginsComment []
+nothing_begins rest (inl e) = cc
+nothing_begins rest (inr e) = cc
+
+other_begins : (b : ℕ) (text : List ℕ) → (b == 124) ≡ false → (b == 126) ≡ false → BeginsComment (b ∷ text)
+other_begins b text no_bar no_tilde rest (inl e) = eqb-false b 124 no_bar cc
+other_begins b text no_bar no_tilde rest (inr e) = eqb-false b 126 no_tilde cc
 
 hash_says : (text : List ℕ) → ShapeSays (35 ∷ text) (hash_shape text)
 unfolding hash_shape
-hash_says [] = comment_line [] (comment_shape []) (comment_says [])
+hash_says [] = comment_line [] (comment_shape []) nothing_begins (comment_says [])
 hash_says (b ∷ rest) =
     if_says (35 ∷ b ∷ rest) (b == 124) (Tokens (marked false true) rest) _
-    (λ e number items h. subst (λ a. HoldsItems number (35 ∷ a ∷ rest) items) (sym (eqb-true b 124 e)) (previous h)) (λ _.
+    (λ e. subst (λ a. ShapeSays (35 ∷ a ∷ rest) (Tokens (marked false true) rest)) (sym (eqb-true b 124 e)) (λ number items h. previous h, λ fault h. fault_previous h)) (λ no_bar.
     if_says (35 ∷ b ∷ rest) (b == 126) _ _
     (λ e. subst (λ a. ShapeSays (35 ∷ a ∷ rest) (tilde_shape rest)) (sym (eqb-true b 126 e)) (tilde_says rest))
-    (λ _. comment_line (b ∷ rest) (comment_shape (b ∷ rest)) (comment_says (b ∷ rest))))
+    (λ no_tilde. comment_line (b ∷ rest) (comment_shape (b ∷ rest)) (other_begins b rest no_bar no_tilde) (comment_says (b ∷ rest))))
 
-shape_says : (text : List ℕ) → ShapeSays text (first_shape text)
+shape_says : (text : List ℕ) → FailsFirst is_blank text → ShapeSays text (first_shape text)
 unfolding first_shape
-shape_says [] = λ number items h. live h
-shape_says (b ∷ rest) =
+shape_says [] fails = (λ number items h. live h, λ fault h. fault_live tt h)
+shape_says (b ∷ rest) fails =
     if_says (b ∷ rest) (b == 35) _ (Tokens (marked false false) (b ∷ rest))
     (λ e. subst (λ a. ShapeSays (a ∷ rest) (hash_shape rest)) (sym (eqb-true b 35 e)) (hash_says rest))
-    (λ _ number items h. live h)
+    (λ other. (λ number items h. live h, λ fault h. fault_live (begins_tokens b rest fails other) h))
 
 -- blanks before a line's items
 indented_all : {number : ℕ} {items : List TextItem} (blanks text : List ℕ) → All IsBlank blanks → HoldsItems number text items → HoldsItems number (blanks ++ text) items
@@ -186,11 +208,42 @@ after_indent {number} {items} text h =
     subst (λ t. HoldsItems number t items) parts.whole (indented_all parts.blanks (skip_blanks text) parts.are_blanks h)
 
 line_says : (text : List ℕ) (shape : Shape) → shape_of text ≡ shape → ShapeSays (skip_blanks text) shape
-line_says text shape e = subst (ShapeSays (skip_blanks text)) e (shape_says (skip_blanks text))
+line_says text shape e = subst (ShapeSays (skip_blanks text)) e (shape_says (skip_blanks text) (skips text).other)
 
 pub line_holds : {number : ℕ} {text : List ℕ} {items : List TextItem} → SpellsLine number text items → HoldsItems number text items
 line_holds {number} (line.comment {text = text} {rest = rest} {kind = kind} e) = after_indent text (line_says text (CommentLine kind rest) e number)
-line_holds {number} (line.tokens {text = text} {rest = rest} {marks = marks} {items = items} e more) = after_indent text (line_says text (Tokens marks rest) e number items (tokens_hold more))
+line_holds {number} (line.tokens {text = text} {rest = rest} {marks = marks} {items = items} e more) = after_indent text ((line_says text (Tokens marks rest) e).0 number items (tokens_hold more))
+
+-- blanks before a fault
+fault_after_blanks : {fault : PoFault} (blanks text : List ℕ) → All IsBlank blanks → TokensFault text fault → TokensFault (blanks ++ text) fault
+fault_after_blanks [] text all h = h
+fault_after_blanks (b ∷ blanks) text all h = fault_blank (All-head IsBlank b blanks all) (fault_after_blanks blanks text (All-tail IsBlank b blanks all) h)
+
+fault_after_skipped : {fault : PoFault} (text : List ℕ) → TokensFault (skip_blanks text) fault → TokensFault text fault
+fault_after_skipped {fault} text h =
+    let parts = skips text in
+    subst (λ t. TokensFault t fault) parts.whole (fault_after_blanks parts.blanks (skip_blanks text) parts.are_blanks h)
+
+tokens_fault : {text : List ℕ} {fault : PoFault} → TokensStop text fault → TokensFault text fault
+tokens_fault (halt {text = text} {fault = fault} e) = fault_after_skipped text (says_at text (WrongToken fault) e (fails_begins (skip_blanks text) (skips text).other))
+tokens_fault (line.in_string {text = text} {inner = inner} {fault = fault} e h) =
+    fault_after_skipped text (subst (λ t. TokensFault t fault) (sym (says_at text (OpeningQuote inner) e)) (fault_in_string (string_fault h)))
+tokens_fault (after_word {text = text} {rest = rest} {keyword = key} e h) = fault_after_skipped text (after_keyword (says_at text (KeywordToken key rest) e) (tokens_fault h))
+tokens_fault (line.after_string {text = text} {inner = inner} {fault = fault} e quoted h) =
+    fault_after_skipped text (subst (λ t. TokensFault t fault) (sym (says_at text (OpeningQuote inner) e)) (fault_after_string (quoted_spelt quoted) (tokens_fault h)))
+
+fault_indented : {fault : PoFault} (blanks text : List ℕ) → All IsBlank blanks → LineFault text fault → LineFault (blanks ++ text) fault
+fault_indented [] text all h = h
+fault_indented (b ∷ blanks) text all h = fault_indent (All-head IsBlank b blanks all) (fault_indented blanks text (All-tail IsBlank b blanks all) h)
+
+fault_after_indent : {fault : PoFault} (text : List ℕ) → LineFault (skip_blanks text) fault → LineFault text fault
+fault_after_indent {fault} text h =
+    let parts = skips text in
+    subst (λ t. LineFault t fault) parts.whole (fault_indented parts.blanks (skip_blanks text) parts.are_blanks h)
+
+pub line_fault : {text : List ℕ} {fault : PoFault} → LineStops text fault → LineFault text fault
+line_fault (no_shape {text = text} e) = fault_after_indent text (line_says text NoShape e)
+line_fault (in_tokens {text = text} {rest = rest} {marks = marks} {fault = fault} e h) = fault_after_indent text ((line_says text (Tokens marks rest) e).1 fault (tokens_fault h))
 
 -- a line whose shape is that of another spells the same items
 same_line : {number : ℕ} {text other : List ℕ} {items : List TextItem} → shape_of text ≡ shape_of other → SpellsLine number other items → SpellsLine number text items

@@ -68,11 +68,11 @@ pub fn lines_are_spelt()
         → SpellsLine line text items ↔ HoldsItems line text items }
 {}
 
-/// The fault of a line is the one at which reading it stops: at the first place where no comment,
+/// Reading a line stops at exactly the fault that it has: at the first place where no comment,
 /// keyword, index, string or escape can go on. So a line has at most one such fault, and none if it
 /// holds items.
 pub fn line_faults_are_first()
-    ensures { (text : List ℕ) (fault : PoFault) → LineFault text fault → LineStops text fault }
+    ensures { (text : List ℕ) (fault : PoFault) → LineStops text fault ↔ LineFault text fault }
 {}
 
 /// The quoted form of bytes without NUL spells just these bytes, and its last byte is the closing
