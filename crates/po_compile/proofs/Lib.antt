@@ -17,3 +17,4 @@ pub mod PrefixLemmas
 pub mod CollectedLemmas
 pub mod RepeatLemmas
 pub mod FirstRepeat
+pub mod CompiledLemmas

@@ -8,3 +8,4 @@ pub mod Parts
 pub mod Collected
 pub mod Prefix
 pub mod Repeats
+pub mod CompiledEntries

@@ -1,6 +1,7 @@
 //! Laws of compiling, each the contract of a function that does nothing: a call brings the law into
 //! a proof.
 
+ghost use Rattle.po_compile.specs.CompiledEntries.{CompiledListIsKept};
 ghost use Rattle.po_compile.specs.Headline.{AcceptedOrFault, CataloguesAreOne, LookUpMeansEntries, MessagesAreOne, MessagesMeanEntries, NoFaultWhereAccepted, NoFaultWhereDistinct, OneCompileFault, OneTextFault};
 ghost use Rattle.po_compile.specs.Parts.{JoinedEntriesCanStand, MessagesDiffer, MessagesHaveParts, OneTextIsRead};
 
@@ -10,6 +11,12 @@ use po_reader::laws::{
     entries_can_stand, entries_or_fault, no_fault_is_memory, no_fault_where_entries, one_fault,
     one_reading,
 };
+
+/// Of a catalogue's entries the live ones that have a translation are compiled, but for fuzzy ones
+/// if these aren't asked for. A live translated header is compiled whatever its flags.
+pub fn compiled_list_is_kept()
+    ensures { CompiledListIsKept }
+{}
 
 /// The messages that entries are compiled to answer every query as the entries do.
 pub fn messages_mean_entries()
