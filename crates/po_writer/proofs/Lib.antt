@@ -13,3 +13,4 @@ pub mod Entries
 pub mod Texts
 pub mod Rewritten
 pub mod Parted
+pub mod CutLines

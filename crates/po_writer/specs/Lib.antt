@@ -1,3 +1,4 @@
 pub mod WrittenText
 pub mod Separated
 pub mod TextParts
+pub mod TextLines

@@ -5,9 +5,16 @@ ghost use Rattle.po_syntax.specs.PoText.{IsSmall};
 ghost use Rattle.po_entry.specs.TextEntry.{TextEntry, with_line};
 ghost use Rattle.po_entry.specs.Validity.{IsCatalogueEntry};
 ghost use Rattle.po_entry.specs.ReadsText.{ReadsText};
+ghost use Rattle.po_writer.specs.TextLines.{TextsAreWritten};
 ghost use Rattle.po_writer.specs.WrittenText.{arranged, written_text};
 
 use po_syntax::laws::quoted_form_spells;
+
+/// After its keyword a text is written as one string, if no LF is before its last byte; else as an
+/// empty string, and then line by line.
+pub fn texts_are_written()
+    ensures { TextsAreWritten }
+{}
 
 /// The written text of a catalogue's entries, if it is within the limit of a text, reads as the
 /// same entries but for their lines, arranged: the live ones, then the obsolete ones.
