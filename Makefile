@@ -29,6 +29,10 @@ test:
 mutants:
 	@tests/mutants/run
 
+# Changed texts and files for the tools, for a minute; tests/fuzz/run --help has more.
+fuzz: proved
+	tests/fuzz/run build/pokit
+
 # Measures the program against GNU's tools, where they are on the machine.
 bench: proved
 	bench/run --svg build/bench.svg
@@ -47,4 +51,4 @@ uninstall:
 clean:
 	rm -rf build
 
-.PHONY: all proved demo test mutants bench bench-lookup install uninstall clean
+.PHONY: all proved demo test mutants fuzz bench bench-lookup install uninstall clean
