@@ -1,4 +1,5 @@
-// The calls on PO texts, entries, catalogues and MO files.
+//! The calls on PO texts, entries, catalogues and MO files.
+
 use crate::outcomes::{Outcome, is_memory, of_bytes};
 use mo_file::{BuildError, Order, Pair, build};
 use po_catalog::{Stats, duplicates, joined_duplicates, read, write};
@@ -18,6 +19,10 @@ pub(crate) const ONE_FILE: &[u8] =
 /// A fuzzy header, and a translated, a fuzzy, an untranslated and an obsolete message.
 pub(crate) const FUZZY_AND_OBSOLETE: &[u8] =
     b"#, fuzzy\nmsgid \"\"\nmsgstr \"Content-Type: text/plain; charset=UTF-8\\n\"\n\nmsgid \"a\"\nmsgstr \"A\"\n\n#, fuzzy\nmsgid \"b\"\nmsgstr \"B\"\n\nmsgid \"c\"\nmsgstr \"\"\n\n#~ msgid \"d\"\n#~ msgstr \"D\"\n";
+
+/// One msgid in the empty context, in the context `c` and without a context.
+const CONTEXTS: &[u8] =
+    b"msgctxt \"\"\nmsgid \"x\"\nmsgstr \"1\"\n\nmsgctxt \"c\"\nmsgid \"x\"\nmsgstr \"2\"\n\nmsgid \"x\"\nmsgstr \"3\"\n";
 
 pub(crate) const ONLY_FUZZY_TEXT: &[u8] =
     b"#, fuzzy\nmsgid \"\"\nmsgstr \"Content-Type: text/plain; charset=UTF-8\\n\"\n\n#, fuzzy\nmsgid \"b\"\nmsgstr \"B\"\n";
@@ -64,13 +69,16 @@ pub(crate) fn outcome(alloc: Global, row: &str) -> Outcome {
     match row {
         "items" => items_of(alloc),
         "quote" => quoted(alloc),
-        "read" => read_text(alloc),
+        "quote-after-text" => quoted_after_text(alloc),
+        "read" => read_text(alloc, FUZZY_AND_OBSOLETE, 5),
+        "read-contexts" => read_text(alloc, CONTEXTS, 3),
         "write" => written(alloc),
         "duplicates" => repeated(alloc),
         "joined_duplicates" => repeated_across(alloc),
         "Stats::line" => statistics(alloc),
         "build" => built(alloc),
-        "compile" => compiled(alloc),
+        "compile" => compiled(alloc, ONE_MESSAGE, 1, 48),
+        "compile-contexts" => compiled(alloc, CONTEXTS, 3, 91),
         "compile_all" => all_compiled(alloc),
         "unformat" => unformatted(alloc),
         "select" => selected(alloc),
@@ -93,6 +101,14 @@ fn items_of(alloc: Global) -> Outcome {
 
 fn quoted(alloc: Global) -> Outcome {
     let mut out = Vec::new(alloc);
+    match quote(b"a\nb", &mut out) {
+        Ok(()) => Outcome::Answered(out.as_slice() == b"\"a\\nb\"".as_slice()),
+        Err(error) => Outcome::OutOfMemory(is_memory(error) && out.is_empty()),
+    }
+}
+
+fn quoted_after_text(alloc: Global) -> Outcome {
+    let mut out = Vec::new(alloc);
     if out.extend_from_slice(b"x").is_err() {
         return Outcome::Unready;
     }
@@ -105,9 +121,9 @@ fn quoted(alloc: Global) -> Outcome {
     }
 }
 
-fn read_text(alloc: Global) -> Outcome {
-    match read(alloc, FUZZY_AND_OBSOLETE) {
-        Ok(catalogue) => Outcome::Answered(catalogue.entries().len() == 5),
+fn read_text(alloc: Global, text: &[u8], length: usize) -> Outcome {
+    match read(alloc, text) {
+        Ok(catalogue) => Outcome::Answered(catalogue.entries().len() == length),
         Err(error) => Outcome::OutOfMemory(is_memory(error)),
     }
 }
@@ -183,9 +199,9 @@ fn built(alloc: Global) -> Outcome {
     }
 }
 
-fn compiled(alloc: Global) -> Outcome {
-    match compile(alloc, ONE_MESSAGE, OPTIONS) {
-        Ok(compiled) => Outcome::Answered(compiled.bytes.as_slice() == ONE_FILE),
+fn compiled(alloc: Global, text: &[u8], n: u32, length: usize) -> Outcome {
+    match compile(alloc, text, OPTIONS) {
+        Ok(compiled) => Outcome::Answered(compiled.n == n && compiled.bytes.len() == length),
         Err(error) => Outcome::OutOfMemory(is_memory(error)),
     }
 }

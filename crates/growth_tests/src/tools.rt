@@ -1,4 +1,5 @@
-// The calls of po_tools.
+//! The calls of po_tools.
+
 use crate::outcomes::Outcome;
 use crate::texts::{
     A, B, DUPLICATE, FUZZY_AND_OBSOLETE, MERGE, MERGED, ONE_FILE, ONE_MESSAGE, ONLY_FUZZY,
@@ -41,7 +42,8 @@ const FILES: NgettextOptions<'static> = NgettextOptions {
 /// What comes of the row of this name.
 pub(crate) fn outcome(alloc: Global, row: &str) -> Outcome {
     match row {
-        "profile_check" => checked(alloc),
+        "profile_check" => checked(alloc, ONE_MESSAGE, Err((0, CheckFault::NoHeader))),
+        "profile_check-passed" => checked(alloc, FUZZY_AND_OBSOLETE, Ok(())),
         "plan_msgfmt" => of_run(
             plan_msgfmt(alloc, &[("<stdin>", DUPLICATE)], &STATISTICS),
             b"",
@@ -83,14 +85,13 @@ fn of_run(plan: Result<Run, ToolFault>, output: &[u8], messages: &[u8]) -> Outco
     }
 }
 
-fn checked(alloc: Global) -> Outcome {
-    let Ok(catalogue) = read(alloc, ONE_MESSAGE) else {
+fn checked(alloc: Global, text: &[u8], wanted: Result<(), (u32, CheckFault)>) -> Outcome {
+    let Ok(catalogue) = read(alloc, text) else {
         return Outcome::Unready;
     };
     match profile_check(alloc, from_ref(&catalogue), false) {
-        Err((0, CheckFault::NoHeader)) => Outcome::Answered(true),
         Err((input, CheckFault::OutOfMemory)) => Outcome::OutOfMemory(input == 0),
-        _ => Outcome::Answered(false),
+        reported => Outcome::Answered(reported == wanted),
     }
 }
 

@@ -5,6 +5,9 @@
 //! - 3: it answered out of memory, and left its arguments as they were;
 //! - 4: an allocation failed before the call;
 //! - 1: anything else; 2: there is no such row.
+//!
+//! The modules in reading order: `outcomes`, `texts`, `shell`, `tools`.
+
 #![tactic(auto)]
 
 mod outcomes;

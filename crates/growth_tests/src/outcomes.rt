@@ -1,4 +1,5 @@
-// What comes of a row.
+//! What comes of a row.
+
 use po_syntax::{PoError, PoFault};
 
 /// What comes of a row.

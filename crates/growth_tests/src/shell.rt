@@ -1,5 +1,7 @@
-// The calls of po_shell.
+//! The calls of po_shell.
+
 use crate::outcomes::Outcome;
+use crate::texts::ONE_MESSAGE;
 use po_shell::{
     Counted, Environment, ToolFault, catalogue_path, catalogue_paths, expand, locale_candidates,
     name_lines, names, read_input, run_envsubst_in_blocks, variables_in,
@@ -83,8 +85,8 @@ fn expanded(alloc: Global) -> Outcome {
 }
 
 fn read_all(alloc: Global) -> Outcome {
-    match read_input(alloc, &mut Counted::new(b"msgid".as_slice())) {
-        Ok(input) => Outcome::Answered(input.as_slice() == b"msgid".as_slice()),
+    match read_input(alloc, &mut Counted::new(ONE_MESSAGE)) {
+        Ok(input) => Outcome::Answered(input.as_slice() == ONE_MESSAGE),
         Err(fault) => Outcome::OutOfMemory(fault == ToolFault::OutOfMemory),
     }
 }
