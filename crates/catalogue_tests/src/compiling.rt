@@ -29,6 +29,8 @@ const EMPTY_FILE: &[u8] = b"\xde\x12\x04\x95\0\0\0\0\0\0\0\0\x1c\0\0\0\x1c\0\0\0
 
 const ONE_MESSAGE: &[u8] = b"msgid \"a\"\nmsgstr \"b\"\n";
 
+const OTHER_MESSAGE: &[u8] = b"msgid \"c\"\nmsgstr \"d\"\n";
+
 const THREE_CONTEXTS: &[u8] =
     b"msgctxt \"\"\nmsgid \"x\"\nmsgstr \"1\"\n\nmsgctxt \"c\"\nmsgid \"x\"\nmsgstr \"2\"\n\nmsgid \"x\"\nmsgstr \"3\"\n";
 
@@ -157,6 +159,22 @@ fn joined(rt: &impl Abort, alloc: Global, texts: &[&[u8]]) -> Compiled
 fn no_input(rt: HostRuntime) {
     let none = joined(&rt, rt.alloc(), &[]);
     assert!(rt; none.bytes.as_slice() == EMPTY_FILE);
+}
+
+#[test]
+fn empty_text(rt: HostRuntime) {
+    let empty = compiled(&rt, rt.alloc(), b"", LITTLE);
+    assert!(rt; empty.n == 0 && empty.bytes.as_slice() == EMPTY_FILE);
+}
+
+/// The two messages of `ONE_MESSAGE` and `OTHER_MESSAGE`.
+const TWO_FILE: &[u8] =
+    b"\xde\x12\x04\x95\0\0\0\0\x02\0\0\0\x1c\0\0\0\x2c\0\0\0\0\0\0\0\x3c\0\0\0\x01\0\0\0\x3c\0\0\0\x01\0\0\0\x3e\0\0\0\x01\0\0\0\x40\0\0\0\x01\0\0\0\x42\0\0\0a\0c\0b\0d\0";
+
+#[test]
+fn two_inputs(rt: HostRuntime) {
+    let both = joined(&rt, rt.alloc(), &[ONE_MESSAGE, OTHER_MESSAGE]);
+    assert!(rt; both.n == 2 && both.bytes.as_slice() == TWO_FILE && both.stats.translated == 2);
 }
 
 /// The header of the first of two inputs.

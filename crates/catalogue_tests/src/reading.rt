@@ -168,11 +168,13 @@ fn lines_and_marks(rt: HostRuntime) -> Result<(), Fail> {
     Ok(())
 }
 
-/// Whether the only entry of a catalogue, at line 2, equals one that is built with this form.
+/// Whether the only entry of a catalogue, at line 2, equals one that is built with this form, and
+/// its copy.
 fn equals_built(alloc: Global, entries: &[Entry], form: &[u8]) -> Result<bool, Fail> {
     let built = Entry::message(alloc, None, b"a", None, &[form])?;
+    let copy = built.copy(alloc)?;
     Ok(match entries {
-        [entry] => entry.line() == 2 && *entry == built,
+        [entry] => entry.line() == 2 && *entry == built && *entry == copy,
         _ => false,
     })
 }

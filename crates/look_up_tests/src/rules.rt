@@ -78,8 +78,8 @@ const EXPRESSIONS: &[(&str, u64, u32, u64, Option<u64>, u32)] = &[
     ("nplurals=2; plural=\tn \t!= 1 ;", 2, 3, 1, Some(0), 3),
     ("nplurals=2; plural=(n!=1);", 2, 3, 0, Some(1), 3),
     (
-        "nplurals=2; plural=18446744073709551615;",
-        2,
+        "nplurals=1; plural=18446744073709551615;",
+        1,
         1,
         0,
         Some(u64::MAX),
@@ -101,7 +101,7 @@ fn expressions(rt: HostRuntime) {
 
 /// The header text, the number of forms, and the value at 5.
 const FIELDS: &[(&str, u64, u64)] = &[
-    ("nplurals=1; plural=18446744073709551615;", 1, u64::MAX),
+    ("nplurals=2; plural=18446744073709551615;", 2, u64::MAX),
     ("nplurals=0; plural=0;", 0, 0),
     ("nplurals= \t4; plural=n", 4, 5),
     ("nplurals=4x; plural=n\n; plural=0;", 4, 5),
@@ -158,7 +158,7 @@ const DEFAULTS: &[(&str, Reason)] = &[
     ("nplurals=2; plural=N;", Reason::Unreadable),
     ("nplurals=2; plural=n,1;", Reason::Unreadable),
     (
-        "nplurals=2; plural=18446744073709551616;",
+        "nplurals=1; plural=18446744073709551616;",
         Reason::Unreadable,
     ),
     ("nplurals=2; plural=n\0;", Reason::Unreadable),
@@ -211,6 +211,7 @@ const LONG_EXPRESSIONS: &[(
     (2047, ("(", "n", ")"), Ok((1, 5, 5, 1))),
     (4096, ("!", "n", ""), Err(Reason::TooLong)),
     (1025, (" ", "", ""), Err(Reason::Unreadable)),
+    (1100, (" ", "n==1", ""), Ok((3, 1, 1, 3))),
     (4096, (" ", "", ""), Err(Reason::Unreadable)),
     (4097, (" ", "", ""), Err(Reason::TooLong)),
 ];
