@@ -28,7 +28,7 @@ cut byte [] = nowhere (All-nil (λ c. c ≢ byte))
 cut byte (b ∷ text) =
     let P : Bool → Type 0 = λ t. (b == byte) ≡ t → Cut byte (b ∷ text) in
     (elim (b == byte) as P [
-      true ↦ λ same. subst (λ (x : ℕ). Cut byte (x ∷ text)) (sym ((Decides-eqb b byte).0 same)) (at [] text (All-nil (λ c. c ≢ byte)))
+      | true ↦ λ same. subst (λ (x : ℕ). Cut byte (x ∷ text)) (sym ((Decides-eqb b byte).0 same)) (at [] text (All-nil (λ c. c ≢ byte)))
       | false ↦ λ differ. cut_more byte b (λ e. let same : (b == byte) ≡ true = (Decides-eqb b byte).1 e in cc) (cut byte text)
     ]) refl
 
@@ -88,7 +88,7 @@ parts_of (b ∷ text) =
     let inner = parts_of text in
     let P : Bool → Type 0 = λ t. is_nul b ≡ t → Parts (b ∷ text) in
     (elim (is_nul b) as P [
-      true ↦ λ nul. record { first = []; others = inner.first ∷ inner.others; are = slice_split-cons_yes is_nul b text nul ∙ ap (λ l. [] ∷ l) inner.are; lack = All-cons (Lacks 0) [] (inner.first ∷ inner.others) empty inner.lack }
+      | true ↦ λ nul. record { first = []; others = inner.first ∷ inner.others; are = slice_split-cons_yes is_nul b text nul ∙ ap (λ l. [] ∷ l) inner.are; lack = All-cons (Lacks 0) [] (inner.first ∷ inner.others) empty inner.lack }
       | false ↦ λ other. record {
         first = b ∷ inner.first;
         others = inner.others;

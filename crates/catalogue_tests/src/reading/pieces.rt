@@ -56,11 +56,7 @@ const REFUSED: &[Refused] = &[
         PoFault::BadEscape,
         8,
     ),
-    (
-        b"\"x\"\nmsgid \"a\"\nmsgstr \"A\"\n",
-        PoFault::BadOrder,
-        1,
-    ),
+    (b"\"x\"\nmsgid \"a\"\nmsgstr \"A\"\n", PoFault::BadOrder, 1),
     (
         b"msgid \"a\"\nmsgstr \"\\xff\"\nmsgid \"b\"\nmsgstr \"B\"\n",
         PoFault::NotUtf8,
