@@ -1,5 +1,6 @@
 # pokit: proved, built, shown, tested and installed.
 PREFIX ?= /usr/local
+export DESTDIR PREFIX LIBDIR
 
 all: proved build/libpokit.so
 
@@ -41,12 +42,13 @@ bench: proved
 bench-lookup: proved
 	bench/lookup
 
-# The program, GNU's names for its tools in a folder of their own, manuals, completions, and the library for C.
+# The program, GNU's names for its tools in a folder of their own, manuals, completions, documents, and the library
+# for C in LIBDIR, or PREFIX/lib.
 install: $(if $(wildcard build/pokit),,all)
-	scripts/install install "$(DESTDIR)" "$(PREFIX)"
+	scripts/install install "$$DESTDIR" "$$PREFIX" "$$LIBDIR"
 
 uninstall:
-	scripts/install uninstall "$(DESTDIR)" "$(PREFIX)"
+	scripts/install uninstall "$$DESTDIR" "$$PREFIX" "$$LIBDIR"
 
 clean:
 	rm -rf build
