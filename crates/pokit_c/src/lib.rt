@@ -3,14 +3,16 @@
 //!
 //! A catalogue lies in memory of the caller. [`pokit_catalog_open`](opening::pokit_catalog_open)
 //! checks the bytes of an MO file once and reads the plural rule of their header entry;
-//! [`pokit_catalog_look`](looking::pokit_catalog_look) answers a query. Neither allocates, and
-//! there is no state besides the arguments. C calls them by the inline functions of
-//! include/pokit.h.
+//! [`pokit_catalog_look`](looking::pokit_catalog_look) answers a query.
+//! [`pokit_candidate`](candidate::pokit_candidate) names the locales whose catalogues are looked
+//! for. None of them allocates, and there is no state besides the arguments. C calls them by the
+//! inline functions of include/pokit.h.
 //!
-//! The modules in reading order: `catalog`, `fault`, `opening`, `query`, `looking`.
+//! The modules in reading order: `catalog`, `fault`, `opening`, `query`, `looking`, `candidate`.
 
 #![tactic(auto)]
 
+mod candidate;
 mod catalog;
 mod fault;
 mod looking;

@@ -10,18 +10,18 @@ ghost use Rattle.std.specs.Option.{option_copied};
 #[repr(C)]
 #[derive(Clone, Copy, Drop)]
 pub struct PokitQuery<'q> {
-    /// The context, which counts where `has_context` is true.
+    /// The context, which counts where `has_context` isn't 0.
     pub context: &'q [u8],
     /// The msgid.
     pub id: &'q [u8],
-    /// The plural, which counts where `has_plural` is true.
+    /// The plural, which counts where `has_plural` isn't 0.
     pub plural: &'q [u8],
     /// The count that selects the plural form.
     pub count: u64,
-    /// Whether a context is given.
-    pub has_context: bool,
-    /// Whether a plural and a count are given.
-    pub has_plural: bool,
+    /// Whether a context is given: 0 is no, and anything else yes.
+    pub has_context: u8,
+    /// Whether a plural and a count are given: 0 is no, and anything else yes.
+    pub has_plural: u8,
 }
 
 /// An answer, and what it cost.
@@ -44,10 +44,10 @@ impl<'q> PokitQuery<'q> {
     pub(crate) fn context(&self) -> Option<&'q [u8]>
         ensures { option_copied result ≡ (query_view self.now).context }
     {
-        if self.has_context {
-            Some(self.context)
-        } else {
+        if self.has_context == 0 {
             None
+        } else {
+            Some(self.context)
         }
     }
 
@@ -55,10 +55,10 @@ impl<'q> PokitQuery<'q> {
     pub(crate) fn plural(&self) -> Option<(&'q [u8], u64)>
         ensures { given result ≡ (query_view self.now).plural }
     {
-        if self.has_plural {
-            Some((self.plural, self.count))
-        } else {
+        if self.has_plural == 0 {
             None
+        } else {
+            Some((self.plural, self.count))
         }
     }
 }

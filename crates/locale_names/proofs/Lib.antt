@@ -1,0 +1,3 @@
+pub mod SearchLemmas
+pub mod PartLemmas
+pub mod CandidateLemmas

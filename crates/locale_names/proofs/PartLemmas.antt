@@ -1,0 +1,60 @@
+-- Lemmas on the parts of LANGUAGE.
+use Rattle.std.proofs.Common.{◌≡◌, ℕ, ◌+◌, ◌<◌, Bool, true, false, not, cond, eqb, ◌==◌, inl, inr, List, [], ◌∷◌, length, take, drop, filter, refl, sym, ap, ◌∙◌, arith}
+use Rattle.std.specs.Prelude.{take_while}
+use Rattle.std.specs.List.{slice_split, position_or_len, onto_first}
+use Rattle.std.proofs.lemmas.Bool.{cases_Bool, eqb-true}
+use Rattle.std.proofs.lemmas.List.Splits.{slice_split_first, slice_split-cons_no}
+use Rattle.std.proofs.lemmas.List.Sums.{take_while-cons}
+use Rattle.memchr.specs.Find.{is_byte}
+use Rattle.locale_names.specs.Names.{is_untranslated, is_path_part, language_parts}
+use Rattle.locale_names.proofs.SearchLemmas.{byte-here, byte-later}
+
+-- the parts of a text, up to the first separator and after it
+split-next : (bs : List ℕ) (n : ℕ) → n ≡ position_or_len (is_byte 58) bs → n < length bs → slice_split (is_byte 58) bs ≡ take n bs ∷ slice_split (is_byte 58) (drop (n + 1) bs)
+split-next bs n index l =
+    slice_split_first (is_byte 58) bs 0 (omega (arith, index))
+    ∙ ap (λ m. take m bs ∷ slice_split (is_byte 58) (drop (m + 1) bs)) (sym index)
+
+split-last : (bs : List ℕ) → position_or_len (is_byte 58) bs ≡ length bs → slice_split (is_byte 58) bs ≡ bs ∷ []
+split-last [] e = refl
+split-last (b ∷ bs) e = elim (cases_Bool (eqb b 58)) [
+  | inl here ↦ absurd (omega (arith, e, byte-here 58 b bs here))
+  | inr later ↦ slice_split-cons_no (is_byte 58) b bs later ∙ ap (onto_first b) (split-last bs (omega (arith, e, byte-later 58 b bs later)))
+]
+
+abbrev counts : List ℕ → Bool
+counts part = not (is_untranslated part)
+
+-- the parts that count of a part and those after it
+kept : (untranslated fits : Bool) (part : List ℕ) (parts : List (List ℕ)) → untranslated ≡ is_untranslated part → fits ≡ is_path_part part
+    → filter is_path_part (take_while counts (part ∷ parts)) ≡ cond untranslated [] (cond fits (part ∷ filter is_path_part (take_while counts parts)) (filter is_path_part (take_while counts parts)))
+kept true fits part parts u f =
+    ap (filter is_path_part) (take_while-cons counts part parts ∙ ap (λ t. cond (not t) (part ∷ take_while counts parts) []) (sym u))
+kept false fits part parts u f =
+    ap (filter is_path_part) (take_while-cons counts part parts ∙ ap (λ t. cond (not t) (part ∷ take_while counts parts) []) (sym u))
+    ∙ ap (λ t. cond t (part ∷ filter is_path_part (take_while counts parts)) (filter is_path_part (take_while counts parts))) (sym f)
+
+-- a part that ends at a separator, and those after it
+pub parts-next : (bs : List ℕ) (n : ℕ) → n ≡ position_or_len (is_byte 58) bs → n < length bs
+    → language_parts bs ≡ cond (is_untranslated (take n bs)) [] (cond (is_path_part (take n bs)) (take n bs ∷ language_parts (drop (n + 1) bs)) (language_parts (drop (n + 1) bs)))
+unfolding language_parts is_untranslated
+parts-next bs n index l =
+    ap (λ parts. filter is_path_part (take_while counts parts)) (split-next bs n index l)
+    ∙ kept _ _ (take n bs) (slice_split (is_byte 58) (drop (n + 1) bs)) refl refl
+
+-- the last part
+pub parts-last : (bs : List ℕ) → position_or_len (is_byte 58) bs ≡ length bs
+    → language_parts bs ≡ cond (is_untranslated bs) [] (cond (is_path_part bs) (bs ∷ language_parts []) (language_parts []))
+unfolding language_parts is_untranslated
+parts-last bs end =
+    ap (λ parts. filter is_path_part (take_while counts parts)) (split-last bs end)
+    ∙ kept _ _ bs [] refl refl
+
+-- without a text there is no part
+pub parts-none : language_parts [] ≡ []
+unfolding language_parts is_untranslated
+parts-none = refl
+
+pub parts-empty : (text : List ℕ) → (length text == 0) ≡ true → language_parts text ≡ []
+parts-empty [] e = parts-none
+parts-empty (x ∷ xs) e = absurd (omega (arith, eqb-true (length (x ∷ xs)) 0 e))
