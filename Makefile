@@ -12,11 +12,9 @@ proved:
 build/libpokit.a: proved
 	@:
 
-# The same as a shared library, where there is a C compiler to link it.
+# The same as a shared library with an export for each function of pokit.h, where there is a C compiler to link it.
 build/libpokit.so: build/libpokit.a
-	@if command -v $(CC) > /dev/null; then set -x; \
-	$(CC) -shared -o $@ -Wl,-soname,libpokit.so -Wl,--whole-archive $< -Wl,--no-whole-archive; \
-	else echo "build/libpokit.so is left out: there is no C compiler ($(CC))"; fi
+	@scripts/shared $< build
 
 # Compiles the examples, and asks messages of them.
 demo: proved

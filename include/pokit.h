@@ -6,7 +6,7 @@
  *     uint32_t message;
  *     if (pokit_open(&catalog, bytes, len, &message) != POKIT_OK) { ... }
  *     puts(pokit_gettext(&catalog, "Open"));
- *     printf(pokit_ngettext(&catalog, "%d book", "%d books", n), n);
+ *     printf(pokit_ngettext(&catalog, "%d book", "%d books", (uint64_t)n), n);
  *
  * pokit_open checks the bytes of a file of any origin, in either byte order, and reports its first fault by name. After
  * that a look-up makes at most floor(log2 N) + 1 comparisons among N messages and evaluates each node of the plural
@@ -27,15 +27,41 @@
  * Stack. pokit_open takes up to 110 KB of the stack. A look-up takes about 1 KB where the plural expression has at most
  * 64 nodes, which is more than any language needs, and up to 45 KB where it has more.
  *
- * Works from C99 and from C++. */
+ * Charsets. A text is the bytes of the file: nothing is converted. pokit_charset answers the charset that the header
+ * entry names.
+ *
+ * Other languages. libpokit.so has each function of this header as an export of its name, those that are inline in C
+ * among them: pokit_lookup asks with plain arguments, and pokit_catalog_size says how much memory a catalogue takes.
+ *
+ * Works from C99 and from C++11, where a pointer and a size_t have 64 bits. */
 #ifndef POKIT_H
 #define POKIT_H
+
+#define POKIT_VERSION_MAJOR 0
+#define POKIT_VERSION_MINOR 1
+#define POKIT_VERSION "0.1"
 
 #include <stddef.h>
 #include <stdint.h>
 #include <string.h>
 #ifndef __cplusplus
 #include <stdbool.h>
+#endif
+
+#if UINTPTR_MAX != 0xffffffffffffffff || SIZE_MAX != 0xffffffffffffffff
+#error "libpokit is for machines with pointers of 64 bits"
+#endif
+
+/* What a function of this header is: inline in C, and an export in libpokit.so. */
+#ifndef POKIT_FUNCTION
+#define POKIT_FUNCTION static inline
+#endif
+
+/* The answer is a format where argument `n` is one. */
+#ifdef __GNUC__
+#define POKIT_FORMAT_ARG(n) __attribute__((format_arg(n)))
+#else
+#define POKIT_FORMAT_ARG(n)
 #endif
 
 #ifdef __cplusplus
@@ -78,14 +104,15 @@ typedef struct pokit_catalog {
     pokit_node nodes[4096];
 } pokit_catalog;
 
-/* What is asked. A query of all zeros asks for the empty msgid, which is the header entry. */
+/* What is asked. A query of all zeros asks for the empty msgid, which is the header entry. A context, a plural and a
+ * count that aren't given are not read. */
 typedef struct pokit_query {
     pokit_bytes context;
     pokit_bytes id;
     pokit_bytes plural;
     uint64_t count;
-    bool has_context;
-    bool has_plural;
+    uint8_t has_context; /* whether a context is given: 0 is no, and anything else yes */
+    uint8_t has_plural;  /* whether a plural and a count are */
 } pokit_query;
 
 /* What is answered. */
@@ -96,18 +123,54 @@ typedef struct pokit_answer {
     bool found;           /* whether it is a translation */
 } pokit_answer;
 
-/* The exports of the library. No pointer is NULL, not even that of no bytes, and each bool is 0 or 1 before the call:
- * call the inline functions below, which see to that. */
+/* What a chain of catalogues answers. */
+typedef struct pokit_chain_answer {
+    pokit_bytes text;     /* a NUL follows it where it is a translation */
+    uint64_t comparisons; /* how many keys were compared, in all catalogues that were asked */
+    size_t asked;         /* how many members were asked: where there is a translation, the last of them has it */
+    uint32_t steps;       /* how many nodes of the answering catalogue's plural expression were evaluated */
+    bool found;           /* whether it is a translation */
+} pokit_chain_answer;
+
+/* The structs are those that the library was compiled with. */
+typedef char pokit_bytes_has_16_bytes[sizeof(pokit_bytes) == 16 ? 1 : -1];
+typedef char pokit_node_has_10_bytes[sizeof(pokit_node) == 10 ? 1 : -1];
+typedef char pokit_catalog_has_40992_bytes[sizeof(pokit_catalog) == 40992 ? 1 : -1];
+typedef char pokit_query_has_64_bytes[sizeof(pokit_query) == 64 ? 1 : -1];
+typedef char pokit_answer_has_32_bytes[sizeof(pokit_answer) == 32 ? 1 : -1];
+
+/* The exports of libpokit.a, which are proved. No pointer is NULL, not even that of no bytes: call the functions after
+ * them, which see to that. */
 uint32_t pokit_catalog_open(pokit_catalog *catalog, const uint8_t *bytes, size_t len, uint32_t *message);
 uint32_t pokit_catalog_len(const pokit_catalog *catalog);
 void pokit_catalog_look(const pokit_catalog *catalog, const pokit_query *query, pokit_answer *answer);
 
-#ifdef __cplusplus
+/* Candidate `index`, counted from 0, of a locale ("de_DE.UTF-8") and the value of LANGUAGE, of which no bytes are an
+ * unset one: the names of locales whose catalogues are looked for, the first to be asked first. They are five for each
+ * language in LANGUAGE, or for the locale where LANGUAGE is unset: of L_T.C@M the name itself, L_T@M, L@M, L_T and L;
+ * some may be equal. There are none without a locale, in C and POSIX, and in a locale whose name has a slash; a part of
+ * LANGUAGE that is empty or has a slash has none, and C or POSIX in LANGUAGE ends the list. The result is the length of
+ * the name, or POKIT_END where there is no such candidate. A name of no more than `size` bytes is written to the
+ * beginning of `name`, without a NUL; else `name` stays as it is. A locale without a language, as "@euro", has empty
+ * names among its candidates: pass them over. */
+#define POKIT_END SIZE_MAX
+size_t pokit_candidate(const uint8_t *locale, size_t locale_len, const uint8_t *language, size_t language_len,
+                       uint32_t index, uint8_t *name, size_t size);
+
+/* The version of this header; of libpokit.so, that of the library. */
+POKIT_FUNCTION const char *pokit_version(void)
+{
+    return POKIT_VERSION;
 }
-#endif
+
+/* How many bytes a catalogue has. They are aligned to 8. */
+POKIT_FUNCTION size_t pokit_catalog_size(void)
+{
+    return sizeof(pokit_catalog);
+}
 
 /* Bytes with a pointer that isn't NULL. */
-static inline pokit_bytes pokit_bytes_of(const void *ptr, size_t len)
+POKIT_FUNCTION pokit_bytes pokit_bytes_of(const void *ptr, size_t len)
 {
     pokit_bytes bytes;
     bytes.ptr = ptr != NULL ? (const uint8_t *)ptr : (const uint8_t *)"";
@@ -115,10 +178,16 @@ static inline pokit_bytes pokit_bytes_of(const void *ptr, size_t len)
     return bytes;
 }
 
+/* The bytes of a C string, which may be NULL, and is then one of no bytes. */
+POKIT_FUNCTION pokit_bytes pokit_bytes_of_string(const char *string)
+{
+    return pokit_bytes_of(string, string != NULL ? strlen(string) : 0);
+}
+
 /* Opens the `len` bytes of a file. On a fault `*message` is the index of the message that has it, counted from 0, and
  * the catalogue is one that isn't open: it has no message. `catalog` isn't NULL. `bytes` may be, and is then a file of
  * no bytes; `message` may be NULL too. */
-static inline enum pokit_error pokit_open(pokit_catalog *catalog, const void *bytes, size_t len, uint32_t *message)
+POKIT_FUNCTION enum pokit_error pokit_open(pokit_catalog *catalog, const void *bytes, size_t len, uint32_t *message)
 {
     uint32_t unused;
     pokit_bytes file = pokit_bytes_of(bytes, len);
@@ -132,52 +201,106 @@ static inline enum pokit_error pokit_open(pokit_catalog *catalog, const void *by
 }
 
 /* How many messages a catalogue has, its header entry among them: 0 where it isn't open. */
-static inline uint32_t pokit_len(const pokit_catalog *catalog)
+POKIT_FUNCTION uint32_t pokit_len(const pokit_catalog *catalog)
 {
     return catalog->node_count != 0 ? pokit_catalog_len(catalog) : 0;
 }
 
-/* Answers a query. Pointers of the query may be NULL, and are then those of no bytes. A context or a msgid that holds a
- * byte 0 or 4 has no translation. A message without a translation is answered by the msgid, or by the plural for a count
- * that isn't 1; and so is every message where the catalogue isn't open. */
-static inline pokit_answer pokit_look(const pokit_catalog *catalog, pokit_query query)
+/* The query with all of its fields set, and pointers that aren't NULL. */
+static inline pokit_query pokit_whole(pokit_query query)
+{
+    query.has_context = query.has_context != 0;
+    query.has_plural = query.has_plural != 0;
+    query.id = pokit_bytes_of(query.id.ptr, query.id.len);
+    query.context = query.has_context ? pokit_bytes_of(query.context.ptr, query.context.len) : pokit_bytes_of(NULL, 0);
+    query.plural = query.has_plural ? pokit_bytes_of(query.plural.ptr, query.plural.len) : pokit_bytes_of(NULL, 0);
+    query.count = query.has_plural ? query.count : 1;
+    return query;
+}
+
+/* The answer where there is no translation. */
+static inline pokit_answer pokit_untranslated(pokit_query query)
 {
     pokit_answer answer;
-    query.context = pokit_bytes_of(query.context.ptr, query.context.len);
-    query.id = pokit_bytes_of(query.id.ptr, query.id.len);
-    query.plural = pokit_bytes_of(query.plural.ptr, query.plural.len);
     answer.text = query.has_plural && query.count != 1 ? query.plural : query.id;
     answer.comparisons = 0;
     answer.steps = 0;
     answer.found = false;
-    if (catalog->node_count != 0)
-        pokit_catalog_look(catalog, &query, &answer);
     return answer;
 }
 
-/* Asks `count` catalogues one after the other, and answers from the first that has a translation. `comparisons` is that
- * of the last one that was asked. */
-static inline pokit_answer pokit_look_chain(const pokit_catalog *const *catalogs, size_t count, pokit_query query)
+/* Answers a query. Pointers of the query may be NULL, and are then those of no bytes. A context or a msgid that holds a
+ * byte 0 or 4 has no translation. A message without a translation is answered by the msgid, or by the plural for a
+ * count that isn't 1; and so is every message where the catalogue isn't open. */
+POKIT_FUNCTION pokit_answer pokit_look(const pokit_catalog *catalog, pokit_query query)
 {
-    pokit_answer answer;
-    size_t i;
-    answer.text = query.has_plural && query.count != 1 ? pokit_bytes_of(query.plural.ptr, query.plural.len)
-                                                       : pokit_bytes_of(query.id.ptr, query.id.len);
-    answer.comparisons = 0;
-    answer.steps = 0;
-    answer.found = false;
-    for (i = 0; i < count && !answer.found; i++)
-        answer = pokit_look(catalogs[i], query);
+    pokit_query whole = pokit_whole(query);
+    pokit_answer answer = pokit_untranslated(whole);
+    if (catalog->node_count != 0)
+        pokit_catalog_look(catalog, &whole, &answer);
     return answer;
 }
 
-/* The query of C strings. The context may be NULL: there is none. The plural may be NULL: no plural form is asked for. */
-static inline pokit_query pokit_query_of(const char *context, const char *msgid, const char *plural, uint64_t count)
+/* Whether a text contains the byte 0 or 4, which no key has. */
+static inline bool pokit_has_separator(pokit_bytes text)
+{
+    return memchr(text.ptr, 0, text.len) != NULL || memchr(text.ptr, 4, text.len) != NULL;
+}
+
+/* Asks `count` catalogues one after the other, up to the first that has a translation. For a context or a msgid that
+ * holds a byte 0 or 4 none is asked. A member that is NULL, or that isn't open, has no message. */
+POKIT_FUNCTION pokit_chain_answer pokit_look_chain(const pokit_catalog *const *catalogs, size_t count,
+                                                   pokit_query query)
+{
+    pokit_query whole = pokit_whole(query);
+    pokit_answer answer = pokit_untranslated(whole);
+    pokit_chain_answer chain;
+    chain.comparisons = 0;
+    chain.asked = 0;
+    if (pokit_has_separator(whole.context) || pokit_has_separator(whole.id))
+        count = 0;
+    while (chain.asked < count && !answer.found) {
+        const pokit_catalog *member = catalogs[chain.asked++];
+        if (member != NULL) {
+            answer = pokit_look(member, whole);
+            chain.comparisons += answer.comparisons;
+        }
+    }
+    chain.text = answer.text;
+    chain.steps = answer.steps;
+    chain.found = answer.found;
+    return chain;
+}
+
+/* A look-up with plain arguments: the translation, which a NUL follows and which has none inside, or NULL where there
+ * is none. The context may be NULL: there is none. The plural may be NULL: no plural form is asked for, and `count`
+ * isn't read. `answer` may be NULL; else it is what pokit_look answers. */
+POKIT_FUNCTION const char *pokit_lookup(const pokit_catalog *catalog, const char *context, size_t context_len,
+                                        const char *msgid, size_t msgid_len, const char *plural, size_t plural_len,
+                                        uint64_t count, pokit_answer *answer)
 {
     pokit_query query;
-    query.context = pokit_bytes_of(context, context != NULL ? strlen(context) : 0);
-    query.id = pokit_bytes_of(msgid, msgid != NULL ? strlen(msgid) : 0);
-    query.plural = pokit_bytes_of(plural, plural != NULL ? strlen(plural) : 0);
+    pokit_answer found;
+    query.context = pokit_bytes_of(context, context_len);
+    query.id = pokit_bytes_of(msgid, msgid_len);
+    query.plural = pokit_bytes_of(plural, plural_len);
+    query.count = count;
+    query.has_context = context != NULL;
+    query.has_plural = plural != NULL;
+    found = pokit_look(catalog, query);
+    if (answer != NULL)
+        *answer = found;
+    return found.found ? (const char *)found.text.ptr : NULL;
+}
+
+/* The query of C strings. The context may be NULL: there is none. The plural may be NULL: no plural form is asked
+ * for. */
+POKIT_FUNCTION pokit_query pokit_query_of(const char *context, const char *msgid, const char *plural, uint64_t count)
+{
+    pokit_query query;
+    query.context = pokit_bytes_of_string(context);
+    query.id = pokit_bytes_of_string(msgid);
+    query.plural = pokit_bytes_of_string(plural);
     query.count = count;
     query.has_context = context != NULL;
     query.has_plural = plural != NULL;
@@ -187,32 +310,97 @@ static inline pokit_query pokit_query_of(const char *context, const char *msgid,
 /* The translation of a message with a context and a plural form, as a C string; or the msgid, or for a count that isn't
  * 1 the plural. Where `msgid` is NULL the answer is NULL. The functions after it are the same without a context,
  * without a plural, or without both. */
-static inline const char *pokit_npgettext(const pokit_catalog *catalog, const char *context, const char *msgid,
-                                          const char *plural, uint64_t count)
+POKIT_FORMAT_ARG(3) POKIT_FORMAT_ARG(4)
+POKIT_FUNCTION const char *pokit_npgettext(const pokit_catalog *catalog, const char *context, const char *msgid,
+                                           const char *plural, uint64_t count)
 {
     if (msgid == NULL)
         return NULL;
     return (const char *)pokit_look(catalog, pokit_query_of(context, msgid, plural, count)).text.ptr;
 }
 
-static inline const char *pokit_ngettext(const pokit_catalog *catalog, const char *msgid, const char *plural,
-                                         uint64_t count)
+POKIT_FORMAT_ARG(2) POKIT_FORMAT_ARG(3)
+POKIT_FUNCTION const char *pokit_ngettext(const pokit_catalog *catalog, const char *msgid, const char *plural,
+                                          uint64_t count)
 {
     return pokit_npgettext(catalog, NULL, msgid, plural, count);
 }
 
-static inline const char *pokit_pgettext(const pokit_catalog *catalog, const char *context, const char *msgid)
+POKIT_FORMAT_ARG(3)
+POKIT_FUNCTION const char *pokit_pgettext(const pokit_catalog *catalog, const char *context, const char *msgid)
 {
     return pokit_npgettext(catalog, context, msgid, NULL, 1);
 }
 
-static inline const char *pokit_gettext(const pokit_catalog *catalog, const char *msgid)
+POKIT_FORMAT_ARG(2)
+POKIT_FUNCTION const char *pokit_gettext(const pokit_catalog *catalog, const char *msgid)
 {
     return pokit_npgettext(catalog, NULL, msgid, NULL, 1);
 }
 
-/* The text of a fault. */
-static inline const char *pokit_error_text(enum pokit_error error)
+/* The charset of the texts, as "UTF-8": what follows the first "charset=" of the header entry, up to a blank, a line's
+ * end or a semicolon. It is a part of the file, and no NUL follows it. No bytes where the header entry names none. */
+POKIT_FUNCTION pokit_bytes pokit_charset(const pokit_catalog *catalog)
+{
+    pokit_answer header = pokit_look(catalog, pokit_query_of(NULL, "", NULL, 0));
+    const char *text = header.found ? (const char *)header.text.ptr : "";
+    const char *field = strstr(text, "charset=");
+    const char *charset = field != NULL ? field + strlen("charset=") : "";
+    return pokit_bytes_of(charset, strcspn(charset, " \t\r\n;"));
+}
+
+/* Whether candidate `index` is one of those before it that stand for the same name. */
+static inline bool pokit_is_repeated(pokit_bytes locale, pokit_bytes language, uint32_t index, const char *name,
+                                     size_t len)
+{
+    uint8_t other[256];
+    uint32_t at;
+    for (at = index - index % 5; at < index; at++)
+        if (pokit_candidate(locale.ptr, locale.len, language.ptr, language.len, at, other, sizeof other) == len
+            && len <= sizeof other && memcmp(other, name, len) == 0)
+            return true;
+    return false;
+}
+
+/* Writes the path FOLDER/NAME/CATEGORY/DOMAIN.mo of the next candidate of a locale and LANGUAGE, with a NUL, and
+ * answers its length, or 0 after the last one. `*next` is 0 before the first call. Where the path doesn't fit into
+ * `size` bytes, of which there is at least one, its length is answered and the path is empty. Empty names are passed
+ * over, and those that stand for a name more than once. The locale and LANGUAGE may be NULL: they are unset. A domain
+ * that is empty or has a slash has no path. A common folder is "/usr/share/locale", a common category "LC_MESSAGES". */
+POKIT_FUNCTION size_t pokit_path(const char *folder, const char *category, const char *domain, const char *locale,
+                                 const char *language, uint32_t *next, char *path, size_t size)
+{
+    pokit_bytes locale_bytes = pokit_bytes_of_string(locale), language_bytes = pokit_bytes_of_string(language);
+    size_t before = strlen(folder) + 1, category_len = strlen(category), domain_len = strlen(domain), len;
+    size_t around = before + category_len + domain_len + strlen("//.mo");
+    char *name = path + (before < size ? before : 0);
+    size_t room = around < size ? size - around - 1 : 0;
+    path[0] = 0;
+    if (domain_len == 0 || strchr(domain, '/') != NULL)
+        return 0;
+    do {
+        len = pokit_candidate(locale_bytes.ptr, locale_bytes.len, language_bytes.ptr, language_bytes.len, *next,
+                              (uint8_t *)name, room);
+        if (len == POKIT_END)
+            return 0;
+        (*next)++;
+    } while (len == 0 || (len <= room && pokit_is_repeated(locale_bytes, language_bytes, *next - 1, name, len)));
+    if (len > room)
+        return around + len;
+    memcpy(path, folder, before - 1);
+    path[before - 1] = '/';
+    name += len;
+    *name++ = '/';
+    memcpy(name, category, category_len);
+    name += category_len;
+    *name++ = '/';
+    memcpy(name, domain, domain_len);
+    memcpy(name + domain_len, ".mo", sizeof ".mo");
+    return around + len;
+}
+
+/* The text of a fault, as pokit_open answers it. */
+POKIT_FUNCTION const char *pokit_error_text(uint32_t error)
 {
     switch (error) {
     case POKIT_OK: return "no fault";
@@ -223,8 +411,12 @@ static inline const char *pokit_error_text(enum pokit_error error)
     case POKIT_STRING_OUTSIDE: return "string outside the file";
     case POKIT_NO_TERMINATOR: return "string without a final NUL";
     case POKIT_NOT_SORTED: return "string out of order";
+    default: return "unknown fault";
     }
-    return "unknown fault";
 }
+
+#ifdef __cplusplus
+}
+#endif
 
 #endif
