@@ -2,7 +2,7 @@
 PREFIX ?= /usr/local
 export DESTDIR PREFIX LIBDIR
 
-all: proved build/libpokit.so
+all: proved build/libpokit.so build/libpokit_intl.so
 
 # Proves what has changed, and builds build/pokit and build/libpokit.a: the program, and the look-up for C.
 proved:
@@ -15,6 +15,10 @@ build/libpokit.a: proved
 # The same as a shared library with an export for each function of pokit.h, where there is a C compiler to link it.
 build/libpokit.so: build/libpokit.a
 	@scripts/shared $< build
+
+# The drop-in for libintl, shared and as an archive.
+build/libpokit_intl.so: build/libpokit.a
+	@scripts/intl $< build
 
 # Compiles the examples, and asks messages of them.
 demo: proved
@@ -36,7 +40,7 @@ fuzz: proved
 bench: proved
 	bench/run --svg build/bench.svg
 
-# Measures look-ups from C against glibc's and a plain C search.
+# Measures look-ups from C against glibc's and a plain C search, and those of the drop-in for libintl and of Python.
 bench-lookup: proved
 	bench/lookup
 

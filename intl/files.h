@@ -1,0 +1,102 @@
+/* Catalogues, each read once and kept by its path. All of this is called under the lock. */
+enum { LARGEST_FILE = 1 << 28 }; /* bytes */
+
+struct file {
+    struct file *next;
+    const char *path;
+    const pokit_catalog *catalog; /* NULL where there is none, or it was refused */
+    struct conversion *conversions;
+};
+
+static struct file *files[BUCKETS];
+static char path[PATH_MAX];
+
+/* Adds a line on the refused file at `path` to the file that POKIT_INTL_LOG names. `message` is -1 where no message has
+ * the fault. */
+static void tell(const char *fault, int64_t message)
+{
+    static char line[PATH_MAX + 100];
+    const char *name = secure_getenv("POKIT_INTL_LOG");
+    int log, len;
+    if (name == NULL || (log = open(name, O_WRONLY | O_APPEND | O_CREAT | O_NONBLOCK | O_NOCTTY | O_CLOEXEC, 0666)) < 0)
+        return;
+    len = snprintf(line, sizeof line, message >= 0 ? "%s: %s, message %d\n" : "%s: %s\n", path, fault, (int)message);
+    if (write(log, line, (size_t)len) != len)
+        errno = EIO;
+    close(log);
+}
+
+static size_t read_all(int fd, char *bytes, size_t len)
+{
+    size_t done = 0;
+    while (done < len) {
+        ssize_t got = read(fd, bytes + done, len - done);
+        if (got == 0 || (got < 0 && errno != EINTR))
+            break;
+        done += got > 0 ? (size_t)got : 0;
+    }
+    return done;
+}
+
+/* Reads and checks an open file. `*again` tells that only memory was missing. */
+static const pokit_catalog *read_catalog(int fd, bool *again)
+{
+    struct stat info = {0};
+    uint32_t message;
+    enum pokit_error error;
+    if (fstat(fd, &info) != 0 || !S_ISREG(info.st_mode) || info.st_size > LARGEST_FILE) {
+        tell(S_ISREG(info.st_mode) ? "too large" : "not a regular file", -1);
+        return NULL;
+    }
+    size_t len = (size_t)info.st_size, size = sizeof(pokit_catalog) + len;
+    pokit_catalog *catalog = mmap(NULL, size, PROT_READ | PROT_WRITE, MAP_PRIVATE | MAP_ANONYMOUS, -1, 0);
+    *again = catalog == MAP_FAILED;
+    if (*again)
+        return NULL;
+    len = read_all(fd, (char *)(catalog + 1), len);
+    error = pokit_open(catalog, catalog + 1, len, &message);
+    if (error != POKIT_OK)
+        tell(pokit_error_text(error), error >= POKIT_STRING_OUTSIDE ? (int64_t)message : -1);
+    else if (mprotect(catalog, size, PROT_READ) == 0)
+        return catalog;
+    else
+        *again = true;
+    munmap(catalog, size);
+    return NULL;
+}
+
+/* The catalogue of the file at `path`. */
+static const pokit_catalog *load(bool *again)
+{
+    const pokit_catalog *catalog = NULL;
+    int fd = open(path, O_RDONLY | O_NONBLOCK | O_NOCTTY | O_CLOEXEC);
+    *again = fd < 0 && (errno == EMFILE || errno == ENFILE || errno == ENOMEM || errno == EINTR);
+    if (fd >= 0) {
+        catalog = read_catalog(fd, again);
+        close(fd);
+    } else if (!*again && errno != ENOENT && errno != ENOTDIR) {
+        tell("can't be opened", -1);
+    }
+    return catalog;
+}
+
+/* The file at `path`, or NULL where memory is missing. */
+static struct file *file_at_path(void)
+{
+    struct file **bucket = &files[hash_of(0, path) % BUCKETS], *file;
+    bool again;
+    for (file = *bucket; file != NULL; file = file->next)
+        if (strcmp(file->path, path) == 0)
+            return file;
+    const char *name = interned(path);
+    file = name != NULL ? take(sizeof *file) : NULL;
+    if (file == NULL)
+        return NULL;
+    file->path = name;
+    file->catalog = load(&again);
+    if (again)
+        return NULL;
+    file->next = *bucket;
+    *bucket = file;
+    return file;
+}

@@ -1,0 +1,132 @@
+/* The drop-in when calls of the system fail: each mmap, open, mprotect, realloc, iconv_open and creation of a thread in
+ * turn, alone and with all after it. A text is the translation or the msgid then, and the translation when calls work
+ * again. It also counts what is called for a message that was loaded: nothing.
+ *
+ *     faults FOLDER LOCALE
+ */
+#define _GNU_SOURCE
+#include "catalogues.h"
+#include <fcntl.h>
+#include <iconv.h>
+#include <pthread.h>
+#include <sys/mman.h>
+#include <sys/wait.h>
+#include <unistd.h>
+
+static int calls, first_failing = -1, last_failing = -1;
+
+static bool fails(int error)
+{
+    int call = calls++;
+    if (call < first_failing || call > last_failing)
+        return false;
+    errno = error;
+    return true;
+}
+
+#define mmap(...) (fails(ENOMEM) ? MAP_FAILED : mmap(__VA_ARGS__))
+#define mprotect(...) (fails(ENOMEM) ? -1 : mprotect(__VA_ARGS__))
+#define open(...) (fails(EMFILE) ? -1 : open(__VA_ARGS__))
+#define realloc(...) (fails(ENOMEM) ? NULL : realloc(__VA_ARGS__))
+#define iconv_open(...) (fails(ENOMEM) ? (iconv_t)-1 : iconv_open(__VA_ARGS__))
+#define pthread_create(...) (fails(EAGAIN) ? EAGAIN : pthread_create(__VA_ARGS__))
+#define pthread_mutex_lock(...) (calls++, pthread_mutex_lock(__VA_ARGS__))
+#include "../../intl/intl.c"
+#undef pthread_create
+
+static const struct message german[] = {HEADER("UTF-8", GERMAN), MESSAGE("Open", "Öffnen"), MESSAGE("file\0files", "a\0b")};
+static const struct message latin[] = {HEADER("ISO-8859-1", GERMAN), MESSAGE("Open", "\326ffnen")};
+static const char *folder;
+
+static bool is_right(const char *domain, const char *msgid, const char *wanted, bool in_any_case)
+{
+    const char *text = dgettext(domain, msgid);
+    return (text == msgid && !in_any_case) || strcmp(text, wanted) == 0;
+}
+
+static bool all_right(bool in_any_case)
+{
+    errno = 7;
+    const char *plural = dngettext("app", "file", "files", 2);
+    return is_right("app", "Open", "Öffnen", in_any_case) && is_right("latin", "Open", "Öffnen", in_any_case) &&
+           is_right("absent", "Open", "Open", true) && strcmp(plural, in_any_case || *plural == 'b' ? "b" : "files") == 0 &&
+           errno == 7;
+}
+
+static void *ask(void *result)
+{
+    bindtextdomain("app", folder);
+    bindtextdomain("latin", folder);
+    *(bool *)result = all_right(false);
+    first_failing = last_failing = -1;
+    bindtextdomain("app", folder);
+    bindtextdomain("latin", folder);
+    *(bool *)result = *(bool *)result && all_right(true);
+    return NULL;
+}
+
+/* What a child comes to whose calls from `first` to `last` fail: 0, 1 where a text is wrong, 2 where none failed. */
+static int outcome(int first, int last, bool in_thread)
+{
+    bool right = false;
+    int status = 3;
+    pid_t child = fork();
+    if (child == 0) {
+        pthread_t thread;
+        alarm(20);
+        calls = 0;
+        first_failing = first;
+        last_failing = last;
+        if (in_thread && pthread_create(&thread, NULL, ask, &right) == 0)
+            pthread_join(thread, NULL);
+        else
+            ask(&right);
+        _exit(!right ? 1 : calls <= first ? 2 : 0);
+    }
+    waitpid(child, &status, 0);
+    return WIFEXITED(status) ? WEXITSTATUS(status) : 3;
+}
+
+static void try_faults(bool in_thread, bool all_after)
+{
+    char name[100];
+    for (int i = 0; i < 200; i++) {
+        int result = outcome(i, all_after ? 1 << 30 : i, in_thread);
+        snprintf(name, sizeof name, "call %d%s fails%s", i, all_after ? " and all after it" : "", in_thread ? " in a thread" : "");
+        check(result == 0 || result == 2, name);
+        if (result == 2)
+            return;
+    }
+    check(false, "200 calls");
+}
+
+/* Once a message was answered, asking again calls none of these functions, and takes no lock. */
+static void count_calls(void)
+{
+    bool right;
+    ask(&right);
+    int before = calls;
+    right = right && all_right(true);
+    check(right && calls == before, "no call and no lock for what was loaded");
+}
+
+int main(int argc, char **argv)
+{
+    if (argc != 3)
+        return 2;
+    folder = argv[1];
+    struct mo_file file = FILE_OF(german);
+    write_file(below(folder, "de/LC_MESSAGES/app.mo"), file.bytes, file.len);
+    file = FILE_OF(latin);
+    write_file(below(folder, "de/LC_MESSAGES/latin.mo"), file.bytes, file.len);
+    setenv("LANGUAGE", "de", 1);
+    if (setlocale(LC_ALL, argv[2]) == NULL) {
+        printf("skipped  failing calls (the machine has no locale %s)\n", argv[2]);
+        return counts();
+    }
+    fflush(stdout);
+    for (int i = 0; i < 4; i++)
+        try_faults(i % 2 == 1, i / 2 == 1);
+    count_calls();
+    return counts();
+}

@@ -1,0 +1,244 @@
+/* What stands in a catalogue's place, or becomes of it while it is in use. Each is tried in a child.
+ *
+ *     files FOLDER
+ *
+ * POKIT_INTL_LOG names FOLDER/log, which has to tell of each refused file by its path. */
+#define _GNU_SOURCE
+#include "catalogues.h"
+#include <fcntl.h>
+#include <libintl.h>
+#include <locale.h>
+#include <sys/wait.h>
+#include <unistd.h>
+
+static const struct message german[] = {HEADER("UTF-8", GERMAN), MESSAGE("Close", "Schließen"), MESSAGE("Open", "Öffnen")};
+static const struct message changed[] = {HEADER("UTF-8", GERMAN), MESSAGE("Open", "Aufmachen")};
+static const char *folder, *path, *log_path;
+static struct mo_file sound;
+
+static bool answers(const char *wanted)
+{
+    return strcmp(dgettext("files", "Open"), wanted) == 0;
+}
+
+static void put(const char *at)
+{
+    write_file(at, sound.bytes, sound.len);
+}
+
+/* Each returns whether all was as it has to be. */
+static bool is_sound(void)
+{
+    put(path);
+    return answers("Öffnen");
+}
+
+static bool is_cut_while_in_use(void)
+{
+    put(path);
+    bool right = answers("Öffnen") && truncate(path, 0) == 0;
+    return right && answers("Öffnen") && strcmp(dgettext("files", "Close"), "Schließen") == 0;
+}
+
+static bool is_overwritten_while_in_use(void)
+{
+    put(path);
+    bool right = answers("Öffnen");
+    int fd = open(path, O_WRONLY);
+    for (size_t i = 0; i < sound.len; i++)
+        right = right && write(fd, "\377", 1) == 1;
+    close(fd);
+    return right && answers("Öffnen") && strcmp(dgettext("files", "Close"), "Schließen") == 0;
+}
+
+static bool is_renamed_over(void)
+{
+    struct mo_file other = FILE_OF(changed);
+    put(path);
+    bool right = answers("Öffnen");
+    write_file(path, other.bytes, other.len);
+    return right && answers("Öffnen");
+}
+
+static bool is_removed(void)
+{
+    put(path);
+    return answers("Öffnen") && unlink(path) == 0 && answers("Öffnen");
+}
+
+static bool is_missing(void)
+{
+    return answers("Open");
+}
+
+static bool is_empty(void)
+{
+    write_file(path, "", 0);
+    return answers("Open");
+}
+
+static bool is_cut(void)
+{
+    write_file(path, sound.bytes, sound.len / 2);
+    return answers("Open");
+}
+
+static bool is_fifo(void)
+{
+    return mkfifo(path, 0666) == 0 && answers("Open");
+}
+
+static bool is_folder(void)
+{
+    return mkdir(path, 0777) == 0 && answers("Open");
+}
+
+static bool is_device(void)
+{
+    return symlink("/dev/zero", path) == 0 && answers("Open");
+}
+
+static bool is_terminal(void)
+{
+    return symlink("/dev/tty", path) == 0 && answers("Open");
+}
+
+static bool is_link_to_itself(void)
+{
+    return symlink(path, path) == 0 && answers("Open");
+}
+
+static bool is_link_to_a_file(void)
+{
+    char beside[4096];
+    snprintf(beside, sizeof beside, "%s.target", path);
+    put(beside);
+    return symlink(beside, path) == 0 && answers("Öffnen");
+}
+
+/* 300 MB and 2 TB without a block. */
+static bool is_huge(off_t size)
+{
+    put(path);
+    return truncate(path, size) != 0 || answers("Open");
+}
+
+static bool is_large(void)
+{
+    return is_huge(300000000);
+}
+
+static bool is_enormous(void)
+{
+    return is_huge((off_t)2 << 40);
+}
+
+/* Bytes after the last string are no fault. */
+static bool is_longer(void)
+{
+    put(path);
+    return truncate(path, 1 << 20) == 0 && answers("Öffnen");
+}
+
+static bool has_no_descriptor(void)
+{
+    put(path);
+    while (open("/dev/null", O_RDONLY) >= 0)
+        ;
+    bool right = answers("Open");
+    close(5);
+    return right && answers("Öffnen");
+}
+
+static bool has_long_names(void)
+{
+    static char name[70000];
+    memset(name, 'x', sizeof name - 1);
+    memcpy(name, folder, strlen(folder));
+    bool right = strcmp(dgettext(name + 1, "Open"), "Open") == 0;
+    bindtextdomain("files", name);
+    right = right && answers("Open");
+    bindtextdomain("files", folder);
+    setenv("LANGUAGE", name + 60000, 1);
+    textdomain("files");
+    right = right && answers("Open");
+    memcpy(name + 60000, "xx:de:", 6);
+    name[60300] = 0;
+    setenv("LANGUAGE", name + 60000, 1);
+    put(path);
+    textdomain("files");
+    return right && answers("Öffnen");
+}
+
+/* The last line of the log that names the path, without the path. */
+static const char *told(void)
+{
+    static char line[5000], last[5000];
+    FILE *in = fopen(log_path, "r");
+    last[0] = 0;
+    while (in != NULL && fgets(line, sizeof line, in) != NULL)
+        if (strncmp(line, path, strlen(path)) == 0)
+            strcpy(last, line + strlen(path));
+    if (in != NULL)
+        fclose(in);
+    last[strcspn(last, "\n")] = 0;
+    return last;
+}
+
+static void try(const char *name, bool (*holds)(void), const char *line)
+{
+    int status = 1;
+    rmdir(path);
+    unlink(path);
+    unlink(log_path);
+    pid_t child = fork();
+    if (child == 0) {
+        alarm(20);
+        _exit(!holds());
+    }
+    waitpid(child, &status, 0);
+    check(status == 0, name);
+    check(strcmp(told(), line) == 0, name);
+    if (strcmp(told(), line) != 0)
+        printf("         told '%s'\n", told());
+}
+
+int main(int argc, char **argv)
+{
+    if (argc != 2)
+        return 2;
+    folder = argv[1];
+    path = strdup(below(folder, "de/LC_MESSAGES/files.mo"));
+    log_path = strdup(below(folder, "log"));
+    make_folders(path);
+    sound = FILE_OF(german);
+    setenv("POKIT_INTL_LOG", log_path, 1);
+    setenv("LANGUAGE", "de", 1);
+    if (setlocale(LC_ALL, "C.UTF-8") == NULL) {
+        puts("skipped  files (the machine has no locale C.UTF-8)");
+        return counts();
+    }
+    bindtextdomain("files", folder);
+    fflush(stdout);
+    try("a file", is_sound, "");
+    try("cut while in use", is_cut_while_in_use, "");
+    try("overwritten while in use", is_overwritten_while_in_use, "");
+    try("renamed over while in use", is_renamed_over, "");
+    try("removed while in use", is_removed, "");
+    try("missing", is_missing, "");
+    try("empty", is_empty, ": file too short");
+    try("cut", is_cut, ": string outside the file, message 0");
+    try("a FIFO", is_fifo, ": not a regular file");
+    try("a folder", is_folder, ": not a regular file");
+    try("a device", is_device, ": not a regular file");
+    if (access("/dev/tty", R_OK) == 0 && open("/dev/tty", O_RDONLY | O_NOCTTY) >= 0)
+        try("a terminal", is_terminal, ": not a regular file");
+    try("a link to itself", is_link_to_itself, ": can't be opened");
+    try("a link to a file", is_link_to_a_file, "");
+    try("300 MB", is_large, ": too large");
+    try("2 TB", is_enormous, ": too large");
+    try("1 MB after the last string", is_longer, "");
+    try("no descriptor is left", has_no_descriptor, "");
+    try("long names", has_long_names, "");
+    return counts();
+}

@@ -1,0 +1,192 @@
+/* Runs a trace of libintl's calls: see the file `trace`.
+ *
+ *     trace FOLDER FILE [glibc]
+ *
+ * writes the trace's catalogues below FOLDER and compares each answer with the one in FILE; with `glibc`, with glibc's
+ * where the line has that too. Each call has to leave errno as it was, and to give the same pointer twice. */
+#define _GNU_SOURCE
+#include "catalogues.h"
+#include <libintl.h>
+#include <locale.h>
+#include <unistd.h>
+
+extern int _nl_msg_cat_cntr;
+
+static const struct message german[] = {
+    HEADER("UTF-8", GERMAN), MESSAGE("Close", "Schließen"),  MESSAGE("Open", "Öffnen"),
+    MESSAGE("file\0files", "Datei\0Dateien"), MESSAGE("menu\004Open", "Auf"),
+    MESSAGE("menu\004item\0items", "Punkt\0Punkte"), MESSAGE("same", "same"), MESSAGE("snowman", "☃ …")};
+static const struct message austrian[] = {HEADER("UTF-8", GERMAN), MESSAGE("Open", "Aufmachen")};
+static const struct message valencian[] = {HEADER("UTF-8", GERMAN), MESSAGE("Open", "Obri")};
+static const struct message french[] = {HEADER("UTF-8", "nplurals=2; plural=n > 1"), MESSAGE("Open", "Ouvrir"),
+                                        MESSAGE("Print", "Imprimer"), MESSAGE("file\0files", "fichier\0fichiers")};
+static const struct message other[] = {HEADER("UTF-8", GERMAN), MESSAGE("Open", "Öffnen (B)")};
+static const struct message time_of_day[] = {HEADER("UTF-8", GERMAN), MESSAGE("Open", "Ouvrir (LC_TIME)")};
+static const struct message standard[] = {HEADER("UTF-8", GERMAN), MESSAGE("Open", "Öffnen (messages)")};
+static const struct message english[] = {HEADER("UTF-8", GERMAN), MESSAGE("Open", "Open!")};
+static const struct message latin[] = {HEADER("ISO-8859-1", GERMAN), MESSAGE("Open", "\326ffnen"),
+                                       MESSAGE("file\0files", "St\374ck\0St\374cke")};
+static const struct message template[] = {HEADER("CHARSET", GERMAN), MESSAGE("Open", "Vorlage")};
+static const struct message headless[] = {MESSAGE("Open", "Ohne Kopf"), MESSAGE("file\0files", "eine\0viele")};
+static const struct message broken[] = {HEADER("UTF-8", GERMAN), MESSAGE("Open", "Schon \326ffnen"),
+                                        MESSAGE("Read", "Lesen")};
+static const struct message polish[] = {
+    HEADER("UTF-8", "nplurals=3; plural=n==1 ? 0 : n%10>=2 && n%10<=4 && (n%100<10 || n%100>=20) ? 1 : 2"),
+    MESSAGE("file\0files", "plik\0pliki\0plików")};
+
+static void write_messages(const char *folder, const char *name, const struct message *messages, size_t count)
+{
+    struct mo_file file = file_of(messages, (uint32_t)count);
+    write_file(below(folder, name), file.bytes, file.len);
+}
+#define WRITE(name, messages) write_messages(folder, name, messages, sizeof messages / sizeof messages[0])
+
+static void write_catalogues(const char *folder)
+{
+    WRITE("A/de/LC_MESSAGES/app.mo", german);
+    WRITE("A/de_AT/LC_MESSAGES/app.mo", austrian);
+    WRITE("A/ca@valencia/LC_MESSAGES/app.mo", valencian);
+    WRITE("A/fr/LC_MESSAGES/app.mo", french);
+    WRITE("A/fr/LC_TIME/app.mo", time_of_day);
+    WRITE("A/C/LC_MESSAGES/app.mo", english);
+    WRITE("A/en/LC_MESSAGES/app.mo", english);
+    WRITE("A/pl/LC_MESSAGES/app.mo", polish);
+    WRITE("A/de/LC_MESSAGES/messages.mo", standard);
+    WRITE("A/de/LC_MESSAGES/latin.mo", latin);
+    WRITE("A/de/LC_MESSAGES/template.mo", template);
+    WRITE("A/de/LC_MESSAGES/headless.mo", headless);
+    WRITE("A/de/LC_MESSAGES/broken.mo", broken);
+    WRITE("B/de/LC_MESSAGES/app.mo", other);
+    WRITE("relative/locale/de/LC_MESSAGES/app.mo", other);
+}
+
+static int category_of(const char *name)
+{
+    static const struct {
+        const char *name;
+        int category;
+    } all[] = {{"LC_ALL", LC_ALL}, {"LC_CTYPE", LC_CTYPE}, {"LC_MESSAGES", LC_MESSAGES}, {"LC_TIME", LC_TIME}};
+    for (size_t i = 0; i < sizeof all / sizeof all[0]; i++)
+        if (strcmp(all[i].name, name) == 0)
+            return all[i].category;
+    return 77;
+}
+
+/* A word of a line: `-` is NULL, `""` is empty, `@` stands for the folder, `~` for a blank and `^` for EOT. */
+static char *word_of(const char *folder, const char *word)
+{
+    static char rooms[8][4096];
+    static int used;
+    char *to = rooms[used++ % 8], *at = to;
+    if (strcmp(word, "-") == 0)
+        return NULL;
+    if (strcmp(word, "\"\"") == 0)
+        word = "";
+    for (; *word != 0; word++)
+        if (*word == '@' && at == to)
+            at += sprintf(at, "%s", folder);
+        else
+            *at++ = *word == '~' ? ' ' : *word == '^' ? '\004' : *word;
+    *at = 0;
+    return to;
+}
+
+static const char *setting(const char *call, char **w)
+{
+    if (strcmp(call, "textdomain") == 0)
+        return textdomain(w[1]);
+    if (strcmp(call, "bindtextdomain") == 0)
+        return bindtextdomain(w[1], w[2]);
+    if (strcmp(call, "codeset") == 0)
+        return bind_textdomain_codeset(w[1], w[2]);
+    if (strcmp(call, "setlocale") == 0)
+        return setlocale(category_of(w[1]), w[2]);
+    if (strcmp(call, "uselocale") == 0)
+        return uselocale(w[1] != NULL ? newlocale(LC_ALL_MASK, w[1], NULL) : LC_GLOBAL_LOCALE) != 0 ? "set" : NULL;
+    if (strcmp(call, "setenv") == 0)
+        return (w[2] != NULL ? setenv(w[1], w[2], 1) : unsetenv(w[1])) == 0 ? "set" : NULL;
+    if (strcmp(call, "chdir") == 0)
+        return chdir(w[1]) == 0 ? "set" : NULL;
+    _nl_msg_cat_cntr++;
+    return "set";
+}
+
+static const char *asked(const char *call, char **w)
+{
+    if (strcmp(call, "gettext") == 0)
+        return gettext(w[1]);
+    if (strcmp(call, "dgettext") == 0)
+        return dgettext(w[1], w[2]);
+    if (strcmp(call, "dcgettext") == 0)
+        return dcgettext(w[1], w[2], category_of(w[3]));
+    if (strcmp(call, "ngettext") == 0)
+        return ngettext(w[1], w[2], strtoul(w[3], NULL, 10));
+    if (strcmp(call, "dngettext") == 0)
+        return dngettext(w[1], w[2], w[3], strtoul(w[4], NULL, 10));
+    if (strcmp(call, "dcngettext") == 0)
+        return dcngettext(w[1], w[2], w[3], strtoul(w[4], NULL, 10), category_of(w[5]));
+    return NULL;
+}
+
+/* Whether what a call answered is what stands after the arrow: `msgid` and `plural` are the pointers given. */
+static bool is_answer(const char *got, const char *wanted, char **w, bool has_domain)
+{
+    if (wanted == NULL || got == NULL)
+        return wanted == got;
+    if (strcmp(wanted, "msgid") == 0)
+        return got == w[1 + has_domain];
+    if (strcmp(wanted, "plural") == 0)
+        return got == w[2 + has_domain];
+    return strcmp(got, wanted) == 0;
+}
+
+/* One line: CALL WORD.. -> ANSWER [| glibc: ANSWER]. Returns false at a locale that the machine lacks. */
+static bool run_line(const char *folder, char *line, int number, bool glibc)
+{
+    char *arrow = strstr(line, " -> "), *other_answer = strstr(line, " | glibc: "), name[5000], *w[7] = {0}, *at;
+    const char *got, *again;
+    int n = 0;
+    if (line[0] == '#' || arrow == NULL)
+        return true;
+    snprintf(name, sizeof name, "%d: %s", number, line);
+    *arrow = 0;
+    if (other_answer != NULL)
+        *other_answer = 0;
+    char *wanted = word_of(folder, other_answer != NULL && glibc ? other_answer + 10 : arrow + 4);
+    for (at = strtok(line, " "); at != NULL && n < 6; at = strtok(NULL, " "))
+        w[n++] = word_of(folder, at);
+    errno = 7;
+    got = asked(w[0], w);
+    again = asked(w[0], w);
+    bool kept = errno == 7 && got == again, has_domain = w[0][0] == 'd';
+    if (strstr(w[0], "gettext") == NULL) {
+        got = setting(w[0], w);
+        kept = true;
+        if (strcmp(w[0], "setlocale") == 0 && got == NULL && wanted != NULL)
+            return false;
+    }
+    check(kept && is_answer(got, wanted, w, has_domain), name);
+    if (!kept || !is_answer(got, wanted, w, has_domain))
+        printf("         got %s\n", got != NULL ? got : "NULL");
+    return true;
+}
+
+int main(int argc, char **argv)
+{
+    char line[4096];
+    if (argc < 3)
+        return 2;
+    write_catalogues(argv[1]);
+    FILE *in = fopen(argv[2], "r");
+    if (in == NULL)
+        return 2;
+    for (int number = 1; fgets(line, sizeof line, in) != NULL; number++) {
+        line[strcspn(line, "\n")] = 0;
+        if (!run_line(argv[1], line, number, argc > 3)) {
+            printf("skipped  the trace from line %d on (the machine lacks a locale)\n", number);
+            break;
+        }
+    }
+    fclose(in);
+    return counts();
+}
