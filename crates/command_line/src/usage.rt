@@ -3,29 +3,101 @@ use clap::Error;
 use std::alloc::{AllocError, Global};
 
 /// How clap's text of an unknown option begins.
-const UNKNOWN: &str = "error: unexpected argument '";
+const UNKNOWN_OPTION: &str = "error: unexpected argument '";
 
-/// How clap's advice to pass an option as a file begins.
+/// How clap's text of an unknown tool begins.
+const UNKNOWN_TOOL: &str = "error: unrecognized subcommand '";
+
+/// How clap's advice begins, and that to pass an option as a file.
+const TIP: &str = "  tip: ";
 const AS_A_VALUE: &str = "  tip: to pass '";
 
 /// Options of GNU's msgfmt that check a text, or show its version.
 static CHECKS: [&str; 8] = [
-    "-c'",
-    "-C'",
-    "-V'",
-    "--check'",
-    "--check-format'",
-    "--check-header'",
-    "--check-domain'",
-    "--version'",
+    "-c",
+    "-C",
+    "-V",
+    "--check",
+    "--check-format",
+    "--check-header",
+    "--check-domain",
+    "--version",
 ];
 
-/// The advice in place of clap's where one of `CHECKS` was given.
+/// The advice where one of `CHECKS` was given to msgfmt.
 const CHECK_TIP: &str =
     "  tip: '--profile-check' checks headers, plural forms and newlines; the msgfmt that
        'make install' puts into libexec/pokit takes GNU's '-c', '--check' and '--version'
 
 ";
+
+/// The tools of GNU gettext that pokit doesn't have.
+static GNU_TOOLS: [&str; 14] = [
+    "autopoint",
+    "gettextize",
+    "msgcmp",
+    "msgcomm",
+    "msgconv",
+    "msgen",
+    "msgexec",
+    "msgfilter",
+    "msggrep",
+    "msginit",
+    "msgmerge",
+    "msguniq",
+    "recode-sr-latin",
+    "xgettext",
+];
+
+/// Long options of GNU's msgfmt, msgunfmt, msgattrib and msgcat that pokit doesn't have.
+static GNU_OPTIONS: [&str; 46] = [
+    "--add-location",
+    "--alignment",
+    "--check",
+    "--check-accelerators",
+    "--check-compatibility",
+    "--check-domain",
+    "--check-format",
+    "--check-header",
+    "--color",
+    "--csharp",
+    "--csharp-resources",
+    "--desktop",
+    "--directory",
+    "--escape",
+    "--files-from",
+    "--force-po",
+    "--ignore-file",
+    "--indent",
+    "--java",
+    "--java2",
+    "--keyword",
+    "--lang",
+    "--language",
+    "--locale",
+    "--no-convert",
+    "--no-escape",
+    "--no-location",
+    "--no-redundancy",
+    "--only-file",
+    "--properties-input",
+    "--properties-output",
+    "--qt",
+    "--resource",
+    "--sort-by-file",
+    "--sort-output",
+    "--source",
+    "--strict",
+    "--stringtable-input",
+    "--stringtable-output",
+    "--style",
+    "--tcl",
+    "--template",
+    "--to-code",
+    "--verbose",
+    "--width",
+    "--xml",
+];
 
 /// The command line, where `help TOOL` is spelled out as `TOOL --help`, and `help` as `--help`.
 pub fn spelled_out(alloc: Global, arguments: &[String]) -> Result<Vec<&str>, AllocError> {
@@ -45,27 +117,31 @@ pub fn spelled_out(alloc: Global, arguments: &[String]) -> Result<Vec<&str>, All
     Ok(spelled)
 }
 
-/// The text of a fault of the command line. For a tool that takes files it omits clap's advice to
-/// pass an unknown option as a file; for an option of GNU's msgfmt that checks a text it has
-/// `CHECK_TIP`.
+/// The text of a fault of the command line. An option or a tool that GNU's alone has gets one
+/// advice, in place of clap's. For a tool that takes files clap's advice to pass an unknown option
+/// as a file is omitted.
 pub fn text_of(alloc: Global, tool: Option<&str>, error: &Error) -> Result<String, AllocError> {
     let whole = format!(in alloc; "{error}")?;
-    if !tool.is_some_and(takes_files) {
-        return Ok(whole);
+    let omitted = if tool.is_some_and(takes_files) {
+        AS_A_VALUE
+    } else {
+        "\n\n"
+    };
+    match own_tip(alloc, tool, whole.as_str())? {
+        Some(tip) => with_tip(alloc, whole.as_str(), TIP, tip.as_str()),
+        None => with_tip(alloc, whole.as_str(), omitted, ""),
     }
-    let is_check = tool == Some("msgfmt") && asks_for_check(whole.as_str());
+}
+
+/// A text of clap's without the lines that begin with `omitted`, and with a tip before its usage.
+fn with_tip(alloc: Global, whole: &str, omitted: &str, tip: &str) -> Result<String, AllocError> {
     let mut text = String::with_capacity(alloc, whole.len())?;
     let mut is_blank = false;
-    for line in whole.as_str().split_inclusive('\n') {
-        if is_check && line.starts_with("Usage: ") {
-            text.push_str(CHECK_TIP)?;
+    for line in whole.split_inclusive('\n') {
+        if line.starts_with("Usage: ") {
+            text.push_str(tip)?;
         }
-        let is_omitted = if is_check {
-            line.starts_with("  tip: ")
-        } else {
-            line.starts_with(AS_A_VALUE)
-        };
-        if !is_omitted && !(is_blank && line == "\n") {
+        if !line.starts_with(omitted) && !(is_blank && line == "\n") {
             text.push_str(line)?;
             is_blank = line == "\n";
         }
@@ -73,15 +149,51 @@ pub fn text_of(alloc: Global, tool: Option<&str>, error: &Error) -> Result<Strin
     Ok(text)
 }
 
+/// The advice for an option or a tool of GNU's that pokit doesn't have.
+fn own_tip(alloc: Global, tool: Option<&str>, text: &str) -> Result<Option<String>, AllocError> {
+    if let Some(option) = word_of(text, UNKNOWN_OPTION) {
+        if tool == Some("msgfmt") && CHECKS.iter().any(|check| *check == option) {
+            return Ok(Some(String::from_str(alloc, CHECK_TIP)?));
+        }
+        if is_gnus(tool, option) {
+            return Ok(Some(tip_on(alloc, option, "an option")?));
+        }
+    }
+    if let Some(other) = word_of(text, UNKNOWN_TOOL) {
+        if GNU_TOOLS.iter().any(|gnu| *gnu == other) {
+            return Ok(Some(tip_on(alloc, other, "a tool")?));
+        }
+    }
+    Ok(None)
+}
+
+/// The advice on what GNU's alone has.
+fn tip_on(alloc: Global, word: &str, kind: &str) -> Result<String, AllocError> {
+    format!(in alloc;
+        "  tip: '{word}' is {kind} of GNU gettext alone; see DIFFERENCES in the manual pokit(1)\n\n")
+}
+
+/// What stands between a beginning of a text and the next quote.
+fn word_of<'t>(text: &'t str, beginning: &str) -> Option<&'t str> {
+    let (word, _) = text.strip_prefix(beginning)?.split_once('\'')?;
+    Some(word)
+}
+
+/// Whether GNU's tool of that name has the option, and pokit's doesn't.
+fn is_gnus(tool: Option<&str>, option: &str) -> bool {
+    let letters = match tool {
+        Some("msgfmt") => "-C -D -L -P -V -a -c -d -j -k -l -r -v",
+        Some("msgunfmt") => "-E -V -d -e -i -j -l -p -r -s -v -w",
+        Some("msgattrib") => "-D -E -F -P -V -e -i -n -p -s -w",
+        Some("msgcat") => "-D -E -F -P -V -e -f -i -n -p -s -t -w",
+        _ => "-V",
+    };
+    let is_letter = letters.split(' ').any(|letter| letter == option);
+    let is_long = tool.is_some_and(takes_files) && GNU_OPTIONS.iter().any(|gnu| *gnu == option);
+    is_letter || is_long || option == "--version"
+}
+
 /// Whether the arguments of the tool are files.
 fn takes_files(tool: &str) -> bool {
     matches!(tool, "msgfmt" | "msgunfmt" | "msgattrib" | "msgcat")
-}
-
-/// Whether the fault is of an option of GNU's that checks a text or shows the version.
-fn asks_for_check(text: &str) -> bool {
-    match text.strip_prefix(UNKNOWN) {
-        Some(option) => CHECKS.iter().any(|check| option.starts_with(*check)),
-        None => false,
-    }
 }
