@@ -155,6 +155,59 @@ def write_parts(paths, count, seed):
         out.close()
 
 
+def write_shares(paths, count, seed):
+    """The messages of a catalogue, dealt out to several, each to one, and the header to the first."""
+    chance = random.Random(seed)
+    files = [open(path, "w", encoding="utf-8") for path in paths]
+    files[0].write(HEADER)
+    for number in range(count):
+        files[number % len(files)].write("\n" + message(chance, number))
+    for out in files:
+        out.close()
+
+
+def obsolete(text):
+    """A catalogue of which all messages but the header are obsolete."""
+    header, entries = text.split("\n\n", 1)
+    lines = entries.replace("#~ ", "").replace("#~| ", "#| ").split("\n")
+    return header + "\n\n" + "\n".join(marked(line) for line in lines)
+
+
+def marked(line):
+    """A line of an entry that is made obsolete, without its references."""
+    if line.startswith("#| "):
+        return "#~| " + line[3:]
+    return "" if line.startswith("#:") else line if line[:1] in ("", "#") else "#~ " + line
+
+
+def with_previous(text):
+    """A catalogue in which each message that has none gets previous texts."""
+    header, *entries = text.rstrip("\n").split("\n\n")
+    marked = [entry if "#| " in entry or "#~" in entry else previous(entry) for entry in entries]
+    return "\n\n".join([header] + marked) + "\n"
+
+
+def previous(entry):
+    """An entry that is fuzzy, with the line of its msgid as the previous one too."""
+    lines = entry.split("\n")
+    at = next((i for i, line in enumerate(lines) if line[:1] not in ("", "#")), len(lines))
+    id = next((line for line in lines if line.startswith("msgid ") and line != 'msgid ""'), 'msgid "x"')
+    notes = [line for line in lines[:at] if not line.startswith("#,")]
+    return "\n".join(notes + ["#, fuzzy", "#| " + id] + lines[at:])
+
+
+# Shapes of a catalogue that a tool might find hard.
+SHAPES = {
+    "no empty lines": lambda text: text.replace("\n\n", "\n"),
+    "all obsolete": obsolete,
+    "all with previous texts": with_previous,
+}
+
+# Catalogues with the known message alone: spelt with an escape, and obsolete.
+TWIN = HEADER + f'\n#~ msgid "{KNOWN}"\n#~ msgstr "x"\n'
+ESCAPED = HEADER + '\nmsgid "\\141' + KNOWN[1:] + '"\nmsgstr "x"\n'
+
+
 def write_template(path, count, seed):
     """A text of so many lines for envsubst, each with two references."""
     chance = random.Random(seed)
