@@ -3,3 +3,5 @@ pub mod DuplicateLemmas
 pub mod JoiningLemmas
 pub mod FirstDuplicates
 pub mod OmittedHeaders
+pub mod FirstOnes
+pub mod MessageIndex

@@ -4,3 +4,7 @@ pub mod JoinedView
 pub mod Duplicate
 pub mod Statistics
 pub mod Digest
+pub mod FirstOnes
+pub mod Message
+pub mod MessageView
+pub mod Hashing

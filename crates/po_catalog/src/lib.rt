@@ -13,11 +13,13 @@ mod digests;
 mod duplicate;
 mod joining;
 pub mod laws;
+mod message_index;
 mod stats;
 
 pub use crate::digests::digest;
 pub use crate::duplicate::{JoinError, duplicates, joined_duplicates};
 pub use crate::joining::{JoinedEntry, into_joined, is_live, is_live_header, joined};
+pub use crate::message_index::{MessageKey, Repeat, first_repeat, grouped, message_key};
 pub use crate::stats::{Stats, entry_statistics, has_translation, statistics};
 pub use po_entry::{Catalogue, Entry, Fields, Previous};
 pub use po_reader::read;
