@@ -1,10 +1,11 @@
 -- A text is cut into its lines.
-use Rattle.std.proofs.Common.{◌≡◌, ◌≢◌, ◌∙◌, refl, sym, ap, subst, ℕ, ◌<◌, ◌==◌, Bool, true, false, cond, nat_lt, List, [], ◌∷◌, ◌++◌, length, arith}
-use Rattle.std.specs.List.{flat_map, onto_first}
+use Rattle.std.proofs.Common.{◌≡◌, ◌≢◌, ◌∙◌, refl, sym, ap, subst, ℕ, ◌<◌, ◌==◌, Bool, true, false, cond, nat_lt, List, [], ◌∷◌, ◌++◌, drop, length, length-append, append-nil, append_assoc, inl, inr, arith}
+use Rattle.std.specs.List.{concat, flat_map, onto_first}
+use Rattle.std.proofs.lemmas.List.Concat.{concat_is}
 use Rattle.std.proofs.lemmas.Bool.{cond_both, cond-true, eqb-true, eqb-false, lt-ltb}
 use Rattle.std.proofs.lemmas.List.Elements.{All-cons, All-nil}
 use Rattle.po_entry.specs.Bytes.{Lacks}
-use Rattle.po_writer.specs.TextLines.{ContainsLines, none, last, ended, WritesText, one_line, one_ended_line, each_line}
+use Rattle.po_writer.specs.TextLines.{ContainsLines, none, last, ended, WritesText, one_line, one_ended_line, each_line, EachEndsInItsOnlyFeed}
 use Rattle.po_writer.specs.WrittenText.{lines_with_ends, string_line, text_lines}
 
 empty : Lacks 10 []
@@ -48,3 +49,31 @@ writes prefix (ended line lacks (ended (b ∷ next) {text = rest} {lines = lines
 
 pub texts_are_written : (prefix text : List ℕ) → WritesText prefix text (text_lines prefix text)
 texts_are_written prefix text = writes prefix (lines_are text)
+
+joined : {text : List ℕ} {lines : List (List ℕ)} → ContainsLines text lines → flat_map (λ line. line) lines ≡ text
+joined none = refl
+joined (last {b = b} {line = line} lacks) = append-nil (b ∷ line)
+joined (ended line {text = text} {lines = lines} lacks others) =
+    ap (λ rest. (line ++ 10 ∷ []) ++ rest) (joined others) ∙ append_assoc line (10 ∷ []) text
+
+pub lines_joined : (text : List ℕ) → concat (lines_with_ends text) ≡ text
+lines_joined text = concat_is (lines_with_ends text) ∙ joined (lines_are text)
+
+nothing_there : (before after : List (List ℕ)) (line : List ℕ) → [] ≡ before ++ line ∷ after → ⊥
+nothing_there before after line is = omega (arith, ap length is, length-append before (line ∷ after))
+
+each : {text : List ℕ} {lines : List (List ℕ)} → ContainsLines text lines → EachEndsInItsOnlyFeed lines
+each none before after line is = absurd (nothing_there before after line is)
+each (last {b = b} {line = only} lacks) [] after line is =
+    let same : b ∷ only ≡ line = cc in
+    inr (record {
+      last = sym (ap (drop 1) is);
+      no_feed = subst (Lacks 10) same lacks;
+      some = λ empty. absurd (omega (arith, ap length (same ∙ empty)));
+    })
+each (last lacks) (x ∷ before) after line is = absurd (nothing_there before after line (ap (drop 1) is))
+each (ended text lacks others) [] after line is = inl (text, cc, lacks)
+each (ended text lacks others) (x ∷ before) after line is = each others before after line (ap (drop 1) is)
+
+pub lines_ended : (text : List ℕ) → EachEndsInItsOnlyFeed (lines_with_ends text)
+lines_ended text = each (lines_are text)

@@ -1,4 +1,4 @@
--- The written text entry by entry, as it grows. Internal to this crate.
+-- A text entry by entry, as it grows (manual, "The Format of PO Files").
 use Rattle.std.specs.Prelude.{ℕ, ◌==◌, Bool, List, [], ◌∷◌, ◌++◌, length, filter, if◌then◌else◌}
 use Rattle.std.specs.Bool.{beq}
 use Rattle.po_entry.specs.TextEntry.{TextEntry}

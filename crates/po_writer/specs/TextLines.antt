@@ -1,5 +1,5 @@
 -- How a text stands after its keyword, with a case for each form (manual, "The Format of PO Files").
-use Rattle.std.specs.Prelude.{ℕ, List, [], ◌∷◌, ◌++◌}
+use Rattle.std.specs.Prelude.{◌≡◌, ◌≢◌, ◌⊎◌, ℕ, List, [], ◌∷◌, ◌++◌}
 use Rattle.std.specs.List.{flat_map}
 use Rattle.po_entry.specs.Bytes.{Lacks}
 use Rattle.po_writer.specs.WrittenText.{string_line, text_lines}
@@ -20,3 +20,19 @@ pub data WritesText (prefix : List ℕ) : List ℕ → List ℕ → Type 0 where
 
 abbrev pub TextsAreWritten : Type 0
 TextsAreWritten = (prefix text : List ℕ) → WritesText prefix text (text_lines prefix text)
+
+-- the line ends in a LF and contains no other
+abbrev pub EndsInItsOnlyFeed : List ℕ → Type 0
+EndsInItsOnlyFeed line = (text : List ℕ) × (line ≡ text ++ 10 ∷ []) × Lacks 10 text
+
+-- the line is the last one, has no LF, and isn't empty
+pub record IsLastLine (line : List ℕ) (after : List (List ℕ)) : Type 0 where
+  pub last : after ≡ []
+  pub no_feed : Lacks 10 line
+  pub some : line ≢ []
+
+-- each line but the last ends in its only LF, and so does the last, if it has one
+abbrev pub EachEndsInItsOnlyFeed : List (List ℕ) → Type 0
+EachEndsInItsOnlyFeed lines =
+    (before after : List (List ℕ)) (line : List ℕ) → lines ≡ before ++ line ∷ after
+    → EndsInItsOnlyFeed line ⊎ IsLastLine line after

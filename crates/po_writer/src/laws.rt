@@ -1,14 +1,22 @@
 //! Laws of the written text, each the contract of a function that does nothing: a call brings the
 //! law into a proof.
-ghost use Rattle.std.specs.Prelude.{◌≡◌, List, [], All, false, map};
+ghost use Rattle.std.specs.Prelude.{◌≡◌, ℕ, List, [], All, false, map};
+ghost use Rattle.std.specs.List.{concat};
 ghost use Rattle.po_syntax.specs.PoText.{IsSmall};
 ghost use Rattle.po_entry.specs.TextEntry.{TextEntry, with_line};
 ghost use Rattle.po_entry.specs.Validity.{IsCatalogueEntry};
 ghost use Rattle.po_entry.specs.ReadsText.{ReadsText};
-ghost use Rattle.po_writer.specs.TextLines.{TextsAreWritten};
-ghost use Rattle.po_writer.specs.WrittenText.{arranged, written_text};
+ghost use Rattle.po_writer.specs.TextLines.{EachEndsInItsOnlyFeed, TextsAreWritten};
+ghost use Rattle.po_writer.specs.WrittenText.{arranged, lines_with_ends, written_text};
 
 use po_syntax::laws::quoted_form_spells;
+
+/// The lines of a text, joined, are the text. Each but the last ends in its only LF; the last may
+/// have none, and then it isn't empty.
+pub fn lines_are_cut_after_feeds()
+    ensures joined { (text : List ℕ) → concat (lines_with_ends text) ≡ text }
+    ensures ended { (text : List ℕ) → EachEndsInItsOnlyFeed (lines_with_ends text) }
+{}
 
 /// After its keyword a text is written as one string, if no LF is before its last byte; else as an
 /// empty string, and then line by line.

@@ -1,6 +1,6 @@
 ghost use Rattle.std.specs.Prelude.{◌≡◌, ◌++◌, List, [], OnOk, IfOk};
 ghost use Rattle.po_entry.specs.TextEntry.{TextEntry};
-ghost use Rattle.po_writer.specs.TextParts.{AreParts, AreSeparated, separated};
+ghost use Rattle.po_writer.specs.TextParts.{AreAdded, AreParts, AreSeparated, joined_parts, separated, with_separated};
 ghost use Rattle.po_writer.specs.WrittenText.{in_order, written_text};
 
 use crate::text::push_entries;
@@ -20,7 +20,8 @@ pub struct TextParts {
 /// Appends the text of further entries, each of which stands after an empty line. The first entry
 /// of a text has none before it.
 fn append_text(text: &mut Vec<u8>, more: &[u8]) -> Result<(), AllocError>
-    ensures { OnOk result ((before entries : List TextEntry) → text.old.items ≡ in_order before
+    ensures any { OnOk result (text.new.items ≡ with_separated text.old.items more.now) }
+    ensures written { OnOk result ((before entries : List TextEntry) → text.old.items ≡ in_order before
         → more.now ≡ separated entries → text.new.items ≡ in_order (before ++ entries)) }
 {
     if !text.is_empty() {
@@ -47,7 +48,8 @@ impl TextParts {
     /// Adds entries after those that were added before. Refused only where an allocation failed;
     /// then a part may end within an entry.
     pub fn add(&mut self, entries: &[Entry]) -> Result<(), AllocError>
-        ensures { OnOk result ((before : List TextEntry) → AreParts before self.old
+        ensures added { OnOk result (AreAdded entries.now self.old self.new) }
+        ensures parts { OnOk result ((before : List TextEntry) → AreParts before self.old
             → AreParts (before ++ entries.now) self.new) }
     {
         push_entries(&mut self.live, entries, false)?;
@@ -58,7 +60,11 @@ impl TextParts {
     /// and of the obsolete ones, in which each stands after an empty line. Refused only where an
     /// allocation failed; then a part may end within an entry.
     pub fn add_texts(&mut self, live: &[u8], obsolete: &[u8]) -> Result<(), AllocError>
-        ensures { OnOk result ((before entries : List TextEntry) → AreParts before self.old
+        ensures live { OnOk result
+            (self.new.live.items ≡ with_separated self.old.live.items live.now) }
+        ensures obsolete { OnOk result
+            (self.new.obsolete.items ≡ with_separated self.old.obsolete.items obsolete.now) }
+        ensures parts { OnOk result ((before entries : List TextEntry) → AreParts before self.old
             → AreSeparated entries live.now obsolete.now → AreParts (before ++ entries) self.new) }
     {
         append_text(&mut self.live, live)?;
@@ -67,7 +73,8 @@ impl TextParts {
 
     /// The text of the entries that were added. Refused only where an allocation failed.
     pub fn join(self) -> Result<Vec<u8>, AllocError>
-        ensures { IfOk result (λ text. (entries : List TextEntry) → AreParts entries self
+        ensures joined { IfOk result (λ text. text.items ≡ joined_parts self) }
+        ensures written { IfOk result (λ text. (entries : List TextEntry) → AreParts entries self
             → text.items ≡ written_text entries) }
     {
         let TextParts { mut live, obsolete } = self;

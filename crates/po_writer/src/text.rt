@@ -46,10 +46,12 @@ pub(crate) fn push_entries(
     Ok(())
 }
 
-/// Appends a live entry to the text of live entries, after an empty line if it isn't the first.
+/// Appends a live entry to a text, as that of live entries, after an empty line if it isn't the
+/// first.
 /// Refused only where an allocation failed; then the text may end within the entry.
 pub fn append(text: &mut Vec<u8>, entry: &Entry) -> Result<(), PoError>
     requires { entry.now.obsolete ≡ false }
+    ensures any { OnOk result (text.new.items ≡ with_entry text.old.items entry.now) }
     ensures appended { OnOk result ((entries : List TextEntry) → All (λ e. e.obsolete ≡ false) entries
         → text.old.items ≡ written_text entries → text.new.items ≡ written_text (entries ++ entry.now ∷ [])) }
     ensures memory { IfErr result (λ e. e ≡ out_of_memory) }

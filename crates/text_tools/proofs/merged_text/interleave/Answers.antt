@@ -30,7 +30,7 @@ loop-end-preserved c =
     segment_interleaved c.args.texts.now c.args.merged.now segments after (drop i ends) (drop (i + 1) ends) (get_or ends i none) c.loop-end.live c.loop-end.obsolete c.loop-end.left.now c.in_ok-left.left.now c.loop-end.parts
     c.add_texts.new.self c.add_next.new.parts c.between.result.now c.between-in-loop-end.result.now are (c.loop-end.invariant segments after are) (drop-cons ends i none c.loop-end-test.true ∙ ap (λ k. get_or ends i none ∷ drop k ends) next)
     (λ b o a is. c.between.ensures b o a (c.deref.ensures.value ∙ is)) (λ b o a is. c.between-in-loop-end.ensures b o a (c.deref-in-loop-end.ensures.value ∙ is))
-    c.in_ok-add_texts.ensures c.in_ok-left.ensures.added c.in_ok-left.ensures.left
+    c.in_ok-add_texts.ensures.parts c.in_ok-left.ensures.added c.in_ok-left.ensures.left
 
 pub returns : goal.returns
 returns c =
@@ -43,4 +43,4 @@ returns c =
     c.between-2.result.now c.between-3.result.now are (c.loop-end.invariant segments after are) (drop_of_length-le ends past)
     (c.len.ensures ∙ texts.live.ok.0) (c.len-2.ensures ∙ texts.obsolete.ok.0)
     (λ b o a is. c.between-2.ensures b o a (c.deref-2.ensures.value ∙ is)) (λ b o a is. c.between-3.ensures b o a (c.deref-3.ensures.value ∙ is))
-    c.in_ok-add_texts-2.ensures
+    c.in_ok-add_texts-2.ensures.parts

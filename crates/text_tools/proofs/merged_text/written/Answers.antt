@@ -16,5 +16,5 @@ returns c =
     (subst (All IsCatalogueEntry) c.entries.ensures.entries c.entries.ensures.valid)
     (c.in_ok-add_digests.ensures ∙ ap (λ l. c.args.held.digests.items ++ map digest l) c.entries.ensures.entries)
     (c.are_distinct.ensures c.if-not-are_distinct.false)
-    (c.in_ok-text.ensures (interleaved digest h.segments c.in-Ok.merged h.after)
+    (c.in_ok-text.ensures.written (interleaved digest h.segments c.in-Ok.merged h.after)
     (subst (λ l. AreParts (interleaved digest h.segments l h.after) c.in_ok-interleave.field-0) c.entries-2.ensures.entries (c.in_ok-interleave.ensures h.segments h.after h.texts)))

@@ -20,4 +20,4 @@ returns c =
           c.in_ok-add_digests.ensures ∙ ap₂ (λ done entries. done ++ map digest entries) have.digests c.entries.ensures.entries
           ∙ sym (map-append digest before c.args.piece);
     })
-    c.add.ensures
+    c.add.ensures.parts

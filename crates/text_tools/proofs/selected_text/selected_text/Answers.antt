@@ -13,5 +13,5 @@ returns c =
       entries = whole.entries;
       reads = whole.reads;
       differ = digests_differ whole.entries (subst AreDistinct whole.have.digests (c.are_distinct.ensures c.if-not-are_distinct.false));
-      text_is = c.in_ok-join.ensures (selected c.args.selection.now whole.entries) whole.have.parts;
+      text_is = c.in_ok-join.ensures.written (selected c.args.selection.now whole.entries) whole.have.parts;
     }

@@ -5,8 +5,8 @@ use Rattle.po_writer.specs.Separated.{with_entry, entries_marked}
 use Rattle.po_writer.proofs.Parted.{live_grown, obsolete_grown}
 use Rattle.po_writer.proofs.parts.TextParts.add.Goals as goal
 
-pub returns : goal.returns
-returns c =
+pub returns-clause-parts : goal.returns-clause-parts
+returns-clause-parts c =
     on_ok_weaker c.push_entries-2.result
     (λ appended before are. record {
       live = c.in_ok-push_entries.ensures.appended ∙ ap (λ text. fold with_entry text (entries_marked false c.args.entries.now)) are.live ∙ live_grown before c.args.entries.now;
