@@ -77,6 +77,12 @@ pub under-searched : (messages : List Message) (key : List ℕ) (index : Option 
 under-searched messages key None rising none = under-none messages key none
 under-searched messages key (Some i) rising is = under-found messages key i rising is.0 is.1
 
+-- the same for keys that are known to be those of the messages
+pub under-listed : (listed : List (List ℕ)) (messages : List Message) (key : List ℕ) (index : Option ℕ) → listed ≡ keys messages →
+    AreRising listed → IsIndexOf listed key index →
+    translation_under key messages ≡ option_and_then (slice_get (translations messages)) index
+under-listed listed messages key index are rising is = under-searched messages key index (rw are at rising) (rw are at is)
+
 not_below_empty : (x : List ℕ) → key_cmp x [] ≢ Less
 not_below_empty [] less = (cc)
 not_below_empty (b ∷ bs) less = (cc)
@@ -104,3 +110,15 @@ header-first messages translation rising some equal first =
 -- the header text, where no key is empty
 pub header-none : (messages : List Message) → ((i : ℕ) → i < length (keys messages) → key_at (keys messages) i ≢ []) → header_text messages ≡ []
 header-none messages none = ap (λ t. option_map_or (λ t. form_at (forms t) 0) t []) (under-none messages [] none)
+
+-- both for keys that are known to be those of the messages
+pub listed-header-first : (listed : List (List ℕ)) (messages : List Message) (translation : List ℕ) → listed ≡ keys messages →
+    AreRising listed → 0 < length listed → key_cmp (key_at listed 0) [] ≡ Equal → slice_get (translations messages) 0 ≡ Some translation →
+    header_text messages ≡ form_at (forms translation) 0
+listed-header-first listed messages translation are rising some equal first =
+    header-first messages translation (rw are at rising) (rw are at some) (rw are at equal) first
+
+pub listed-header-none : (listed : List (List ℕ)) (messages : List Message) → listed ≡ keys messages → AreRising listed →
+    (key_cmp (key_at listed 0) [] ≢ Equal) → header_text messages ≡ []
+listed-header-none listed messages are rising unequal =
+    header-none messages (rw are at (none-empty listed rising unequal))

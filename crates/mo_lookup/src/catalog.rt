@@ -18,6 +18,7 @@ ghost use Rattle.mo_lookup.specs.Answer.{answer_view, translated};
 use crate::answer::Answer;
 use crate::forms::before_nul;
 use crate::looking::{answered_form, look, translation};
+use crate::messages::{Messages, ViewMessages};
 use mo_file::{Meter, MoError, MoView};
 use plural_rule::Rule;
 use std::cmp::Ordering;
@@ -45,21 +46,22 @@ impl<'a> Model for Catalog<'a> {
     ghost invariant = { λ c. IsCatalogView c.view c.rule };
 }
 
-/// The text of a file's header entry, which stands under the empty key and so first; empty where
-/// there is none. For a file with messages this is one comparison.
+/// The text of the header entry, which stands under the empty key and so first; empty where there
+/// is none. Where there are messages this is one comparison.
 #[inline(never)]
-fn header_text<'a>(view: &MoView<'a>, meter: &mut Meter) -> &'a [u8]
-    requires { meter.old < 2 ^ 63 + length view.now }
-    ensures text { result.now ≡ header_text view.now }
-    ensures rising { AreRising (keys view.now) }
-    ensures never_falls { meter.old ≤ meter.new }
-    ensures bound { meter.new ≤ meter.old + min 1 (length view.now) }
+fn header_text<'a, M: Messages<'a>>(messages: &mut M) -> &'a [u8]
+    requires keys { M.listed messages.old ≡ keys (M.messages messages.old) }
+    requires room { M.counted messages.old < 2 ^ 63 + length (M.messages messages.old) }
+    ensures text { result.now ≡ header_text (M.messages messages.old) }
+    ensures rising { AreRising (keys (M.messages messages.old)) }
+    ensures cost { M.counted messages.new ≡ M.counted messages.old + min 1 (length (M.messages messages.old)) }
+    ensures same_counter { M.counter messages.new ≡ M.counter messages.old }
 {
-    if view.len() == 0 {
+    if messages.len() == 0 {
         return b"";
     }
-    match view.compare(0, None, b"", meter) {
-        Ordering::Equal => before_nul(view.translation(0)),
+    match messages.compare(0, None, b"") {
+        Ordering::Equal => before_nul(messages.translation(0)),
         _ => b"",
     }
 }
@@ -67,9 +69,8 @@ fn header_text<'a>(view: &MoView<'a>, meter: &mut Meter) -> &'a [u8]
 impl<'a> Catalog<'a> {
     /// Opens the bytes of an MO file in either byte order. They are checked whole, and refused with
     /// the first fault in the order of `MoError` exactly where they are no valid file. The meter
-    /// rises by at most the number of messages. Where message `i` is refused as out of order it
-    /// rises by at most `i`, and on any other refusal not at all. Before the call its count is
-    /// below 2^63.
+    /// rises by the number of messages. Where message `i` is refused as out of order it rises by
+    /// `i`, and on any other refusal not at all. Before the call its count is below 2^63.
     #[inline(always)]
     pub fn open(bytes: &'a [u8], meter: &mut Meter) -> Result<Catalog<'a>, MoError>
         requires { meter.old < 2 ^ 63 }
@@ -77,12 +78,11 @@ impl<'a> Catalog<'a> {
             (IsFirstFault bytes.now) }
         ensures only { (order : Order) (messages : List Message) → IsMoFile order bytes.now messages → IsOk result }
         ensures view { IfOk result (λ catalog. IsCatalogView catalog.messages catalog.rule) }
-        ensures bound { MatchResult result (λ catalog. meter.new ≤ meter.old + length catalog.messages)
-            (λ fault. meter.new ≤ meter.old + comparisons_before fault) }
-        ensures never_falls { meter.old ≤ meter.new }
+        ensures cost { MatchResult result (λ catalog. meter.new ≡ meter.old + length catalog.messages)
+            (λ fault. meter.new ≡ meter.old + comparisons_before fault) }
     {
         let view = MoView::open(bytes, meter)?;
-        let header = header_text(&view, meter);
+        let header = header_text(&mut ViewMessages { view: &view, meter });
         Ok(Catalog {
             rule: Rule::parse(header),
             view,
@@ -130,14 +130,14 @@ impl<'a> Catalog<'a> {
         ensures no_key { can_be_key (option_copied context.entry) id.now ≡ false → result.comparisons ≡ 0 }
         ensures nodes { result.steps ≤ nodes self.now.rule.tree }
     {
+        let view = &self.view;
         look(
-            &self.view,
+            &mut ViewMessages { view, meter },
             self.rule.nplurals(),
             self.rule.table(),
             context,
             id,
             plural,
-            meter,
         )
     }
 
@@ -158,7 +158,8 @@ impl<'a> Catalog<'a> {
         ensures bound { meter.new ≤ meter.old + search_bound (length self.now.messages) }
         ensures at_most_32 { meter.new ≤ meter.old + 32 }
     {
-        translation(&self.view, context, id, meter)
+        let view = &self.view;
+        translation(&mut ViewMessages { view, meter }, context, id)
     }
 
     /// The form of a translation that is the answer: form 0 where no plural is given, else the one

@@ -7,7 +7,7 @@
 //! catalogue after the other. None of them allocates: texts are slices of the file or of the query.
 //! [`find`] is the binary search over any list of [`Keys`], which it only compares.
 //!
-//! The modules in reading order: `query`, `search`, `view_keys`, `forms`, `answer`, `looking`,
+//! The modules in reading order: `query`, `search`, `messages`, `forms`, `answer`, `looking`,
 //! `catalog`, `chain`, `laws`.
 
 #![tactic(auto)]
@@ -18,9 +18,9 @@ mod chain;
 mod forms;
 mod laws;
 mod looking;
+mod messages;
 mod query;
 mod search;
-mod view_keys;
 
 pub use answer::Answer;
 pub use catalog::Catalog;
@@ -30,6 +30,7 @@ pub use laws::{
     search_halves, search_is_bounded,
 };
 pub use looking::look;
+pub use messages::{Messages, ViewMessages};
 pub use plural_rule::laws::{longer_limit, one_rule, one_tree, visited_at_most_nodes};
 pub use plural_rule::{EXPRESSION_LIMIT, Node, Reason, Rule, Source};
 pub use search::{Keys, find};

@@ -1,5 +1,11 @@
 //! A catalogue as C holds it.
 
+ghost use Rattle.std.specs.Prelude.{◌≡◌, ◌≤◌, length};
+ghost use Rattle.plural_rule.specs.PluralRule.{expression_limit};
+ghost use Rattle.plural_rule.specs.PostOrder.{post_order, tree_of};
+ghost use Rattle.mo_lookup.specs.CatalogView.{CatalogView};
+ghost use Rattle.pokit_c.specs.Opened.{IsOpened};
+
 use plural_rule::Node;
 
 /// A catalogue that [`pokit_catalog_open`](crate::opening::pokit_catalog_open) has opened. It is
@@ -16,4 +22,17 @@ pub struct PokitCatalog<'a> {
     pub node_count: u32,
     /// The nodes of the plural expression, and after them nodes that aren't read.
     pub nodes: [Node; 4096],
+}
+
+impl PokitCatalog<'_> {
+    /// The nodes of the plural expression, as plural_rule's `evaluate` takes them.
+    #[inline(always)]
+    pub(crate) fn table(&self) -> &[Node]
+        requires { (view : CatalogView) × IsOpened self.now view }
+        ensures post_order { result.now ≡ post_order 0 (tree_of result.now) }
+        ensures limit { length result.now ≤ expression_limit }
+        ensures tree { (view : CatalogView) → IsOpened self.now view → tree_of result.now ≡ view.rule.tree }
+    {
+        &self.nodes[..self.node_count as usize]
+    }
 }

@@ -26,6 +26,7 @@ pub extern "C" fn pokit_catalog_open<'a>(
 ) -> u32
     ensures opened { result ≡ 0 → (view : CatalogView) × IsOpened catalog.new view }
     ensures same { result ≡ 0 → catalog.new.bytes.now ≡ bytes.now }
+    ensures no_message { result ≡ 0 → message.new ≡ 0 }
     ensures fault { 0 < result → (fault : MoError) × (result ≡ kind fault) × (message.new ≡ index fault)
         × IsFirstFault bytes.now fault }
     ensures unchanged { 0 < result → catalog.new ≡ catalog.old }

@@ -28,6 +28,8 @@ impl Letters {
 impl Keys for Letters {
     ghost listed = { λ keys. map (λ i. (98 + 2 * i) ∷ []) (range_with_len 0 keys.many) };
 
+    ghost messages = { λ _. [] };
+
     ghost counted = { λ keys. keys.compared };
 
     ghost counter = { λ _. 0 };

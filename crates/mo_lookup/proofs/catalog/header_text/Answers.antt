@@ -1,28 +1,22 @@
-use Rattle.std.proofs.Common.{sym, ◌∙◌, arith}
-use Rattle.std.proofs.lemmas.List.{length-map}
-use Rattle.mo_file.specs.Key.{key_of}
-use Rattle.mo_lookup.proofs.TranslationLemmas.{header-first, header-none, none-empty}
+use Rattle.std.proofs.Common.{sym, ap, ◌∙◌, arith, slice_get}
+use Rattle.mo_file.specs.Message.{translations}
+use Rattle.mo_lookup.proofs.TranslationLemmas.{listed-header-first, listed-header-none}
 use Rattle.mo_lookup.proofs.catalog.header_text.Goals as goal
 
 pub returns-in-Equal-clause-text : goal.returns-in-Equal-clause-text
-returns-in-Equal-clause-text c =
+returns-in-Equal-clause-text g c =
     c.before_nul.ensures
     ∙ sym
     (
-    header-first c.args.view.now c.translation.result.now c.len.ensures.rising
-    (omega (arith, length-map c.args.view.now (λ m. key_of m.original))) (sym c.in-Equal.ensures.order)
-    c.translation.ensures
+    listed-header-first _ _ c.translation.result.now c.requires.keys c.len.ensures.rising (omega arith)
+    (sym c.in-Equal.ensures.order)
+    (ap (λ ms. slice_get (translations ms) 0) (sym c.compare.ensures.same_messages) ∙ c.translation.ensures)
     )
 
-pub returns-in_default : goal.returns-in_default
-returns-in_default c = record {
-  text =
-      sym
-      (
-      header-none c.args.view.now
-      (none-empty _ c.len.ensures.rising (λ equal. c.in_default.not-Equal (c.compare.ensures.order ∙ equal)))
-      );
-  rising = c.len.ensures.rising;
-  never_falls = omega arith;
-  bound = omega arith;
-}
+pub returns-in_default-clause-text : goal.returns-in_default-clause-text
+returns-in_default-clause-text g c =
+    sym
+    (
+    listed-header-none _ _ c.requires.keys c.len.ensures.rising
+    (λ equal. c.in_default.not-Equal (c.compare.ensures.order ∙ equal))
+    )
