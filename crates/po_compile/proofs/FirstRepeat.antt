@@ -1,27 +1,28 @@
--- The fault of a text whose live entries are sorted, and repeat.
-use Rattle.std.proofs.Common.{◌≡◌, ◌≢◌, inl, inr, refl, sym, ap, ap₂, subst, ◌∙◌, ℕ, suc, ◌+◌, ◌-◌, ◌<◌, ◌≤◌, nat_lt, Bool, true, false, cond, List, [], ◌∷◌, ◌++◌, length, get_or, take, drop, map, filter, arith, All, AllPairs, IsPermutation}
+-- The fault of a joined list whose live entries are sorted, and repeat.
+use Rattle.std.proofs.Common.{◌≡◌, ◌≢◌, inl, inr, sym, ap, ap₂, subst, ◌∙◌, ℕ, suc, ◌+◌, ◌-◌, ◌<◌, ◌≤◌, nat_lt, Bool, true, false, cond, List, [], ◌∷◌, ◌++◌, length, get_or, take, drop, map, filter, arith, All, AllPairs, IsPermutation}
 use Rattle.std.specs.Str.{bytes_eq}
 use Rattle.std.proofs.Math.Seq.{drop-cons}
 use Rattle.std.proofs.lemmas.Bool.{cases_lt, lt-ltb}
 use Rattle.std.proofs.lemmas.Cmp.{nat_list_eq_equiv}
-use Rattle.std.proofs.lemmas.List.{get_or_default, get_or-map, get_or-take, length-map, length-take, map-append, take_all, take-append-drop, take-map}
+use Rattle.std.proofs.lemmas.List.{get_or_default, get_or-map, get_or-take, length-map, length-take, take_all, take-append-drop, take-map}
 use Rattle.std.proofs.lemmas.List.Elements.{All-weaker, All-filter}
 use Rattle.std.proofs.lemmas.List.Sorted.{All-permutation, IsPermutation-map}
 use Rattle.std.proofs.lemmas.Map.Keys.{IsDistinct-IsPermutation}
 use Rattle.std.proofs.lemmas.Map.Made.{AllPairs-from_IsDistinct, IsDistinct-from_AllPairs}
 use Rattle.std.proofs.lemmas.Slice.Eq.{bytes_eq-Decides}
-use Rattle.po_syntax.specs.declared.fault.PoError.{PoError}
+use Rattle.po_catalog.specs.declared.duplicate.JoinError.{JoinError}
 use Rattle.po_syntax.specs.declared.fault.PoFault.TheVariants.{Duplicate}
 use Rattle.po_entry.specs.TextEntry.{TextEntry}
 use Rattle.po_entry.specs.Validity.{IsCatalogueEntry}
-use Rattle.po_catalog.specs.Joined.{is_live, in_input, entries_of}
-use Rattle.po_catalog.specs.Duplicate.{AllDiffer, IsDuplicateFaultOf, live_entries}
+use Rattle.po_catalog.specs.Joined.{InputEntry, is_live, entries_of}
+use Rattle.po_catalog.specs.Duplicate.{AllDiffer, IsDuplicateFault, live_entries}
 use Rattle.po_compile.specs.Collected.{LiveMessage, live_message, row_view}
+use Rattle.po_compile.specs.JoinedRows.{AreJoinedRows, InputMessage, input_message, input_view, row_fault}
 use Rattle.po_compile.specs.Repeats.{ArePlaced, AreSorted, IsEarliestRepeat}
 use Rattle.po_compile.specs.declared.row.Row.{Row}
 use Rattle.po_compile.proofs.FilteredMoves.{IsPermutation-filter}
 use Rattle.po_compile.proofs.MeaningLemmas.{LacksSeparators, entry_lacks_separators}
-use Rattle.po_compile.proofs.ReadingLemmas.{entries_of_input}
+use Rattle.po_compile.proofs.JoinedLemmas.{entries_alone, live_of, message_alone, rows_alone}
 use Rattle.po_compile.proofs.RepeatLemmas.{key, is_before, keys_before, not_before, places_of_pair}
 use Rattle.po_compile.proofs.RowLemmas.{key_of_entry, keys_of_rows, live_differ}
 use Rattle.po_compile.proofs.TextLemmas.{query_key_is_one}
@@ -44,18 +45,10 @@ first_rows (row ∷ rows) from place placed =
           ap (λ (t : Bool). cond t (row ∷ filter (is_before place) rows) (filter (is_before place) rows)) dropped ∙ later ∙ ap (λ (n : ℕ). take n rows) none ∙ ap (λ (n : ℕ). take n (row ∷ rows)) (sym short)
     ]
 
-split_at : (entries : List TextEntry) (i : ℕ) (e : TextEntry) → i < length entries → entries ≡ take i entries ++ get_or entries i e ∷ drop (suc i) entries
+split_at : (entries : List InputEntry) (i : ℕ) (e : InputEntry) → i < length entries → entries ≡ take i entries ++ get_or entries i e ∷ drop (suc i) entries
 split_at entries i e inside = sym (take-append-drop i entries) ∙ ap (λ es. take i entries ++ es) (drop-cons entries i e inside)
 
-live_inputs : (entries : List TextEntry) → live_entries (map (in_input 0) entries) ≡ map (in_input 0) (filter is_live entries)
-live_inputs [] = refl
-live_inputs (entry ∷ entries) = kept (is_live entry) (live_inputs entries) where
-  kept : (t : Bool) → live_entries (map (in_input 0) entries) ≡ map (in_input 0) (filter is_live entries)
-      → cond t (in_input 0 entry ∷ live_entries (map (in_input 0) entries)) (live_entries (map (in_input 0) entries)) ≡ map (in_input 0) (cond t (entry ∷ filter is_live entries) (filter is_live entries))
-  kept true more = ap (λ es. in_input 0 entry ∷ es) more
-  kept false more = more
-
-first_entry : (entries : List TextEntry) → 0 < length entries → TextEntry
+first_entry : (entries : List InputEntry) → 0 < length entries → InputEntry
 first_entry [] some = absurd (omega arith)
 first_entry (entry ∷ entries) some = entry
 
@@ -67,12 +60,12 @@ first_row (row ∷ rows) some = row
 abbrev place_text : Row → List ℕ
 place_text row = row.place ∷ []
 
-module _ (use_fuzzy : Bool) (live : List TextEntry) (rows sorted : List Row) (made : map row_view rows ≡ map (live_message use_fuzzy) live) (placed : ArePlaced rows) (permuted : IsPermutation rows sorted) where
+module _ (use_fuzzy : Bool) (live : List InputEntry) (rows sorted : List Row) (made : map input_view rows ≡ map (input_message use_fuzzy) live) (placed : ArePlaced rows) (permuted : IsPermutation rows sorted) where
   abbrev IsRowOf : Row → Type 0
-  IsRowOf row = (row.place < length live) × ((e : TextEntry) → row_view row ≡ live_message use_fuzzy (get_or live row.place e))
+  IsRowOf row = (row.place < length live) × ((e : InputEntry) → input_view row ≡ input_message use_fuzzy (get_or live row.place e))
 
   long : length rows ≡ length live
-  long = sym (length-map rows row_view) ∙ ap length made ∙ length-map live (live_message use_fuzzy)
+  long = sym (length-map rows input_view) ∙ ap length made ∙ length-map live (input_message use_fuzzy)
 
   rows_of_live : All IsRowOf rows
   rows_of_live = λ k d inside.
@@ -80,8 +73,8 @@ module _ (use_fuzzy : Bool) (live : List TextEntry) (rows sorted : List Row) (ma
       let same = long in (
         omega (arith, place, same, inside),
         λ e.
-            sym (get_or-map row_view rows k d (row_view d) inside) ∙ ap (λ ms. get_or ms k (row_view d)) made ∙ get_or-map (live_message use_fuzzy) live k e (row_view d) (omega (arith, same, inside))
-            ∙ ap (λ (n : ℕ). live_message use_fuzzy (get_or live n e)) (sym place),
+            sym (get_or-map input_view rows k d (input_view d) inside) ∙ ap (λ ms. get_or ms k (input_view d)) made ∙ get_or-map (input_message use_fuzzy) live k e (input_view d) (omega (arith, same, inside))
+            ∙ ap (λ (n : ℕ). input_message use_fuzzy (get_or live n e)) (sym place),
       )
 
   sorted_of_live : All IsRowOf sorted
@@ -105,23 +98,27 @@ module _ (use_fuzzy : Bool) (live : List TextEntry) (rows sorted : List Row) (ma
       omega (arith, both, first, second, below))))
 
   -- the live entries before the place of the earliest repeating one differ
-  entries_before : (place : ℕ) → AllPairs (λ k l. k ≢ l) (map key (filter (is_before place) sorted)) → AllDiffer (take place live)
+  entries_before : (place : ℕ) → AllPairs (λ k l. k ≢ l) (map key (filter (is_before place) sorted)) → AllDiffer (entries_of (take place live))
   entries_before place keys =
       let kept = filter (is_before place) sorted in
       let none : place - 0 ≡ place = omega arith in
       let taken : filter (is_before place) rows ≡ take place rows = first_rows rows 0 place (λ i d inside. placed i d inside ∙ (let e : i ≡ 0 + i = omega arith in e)) ∙ ap (λ (n : ℕ). take n rows) none in
-      let messages : map row_view (filter (is_before place) rows) ≡ map (live_message use_fuzzy) (take place live) =
-      ap (map row_view) taken ∙ sym (take-map row_view place rows) ∙ ap (take place) made ∙ take-map (live_message use_fuzzy) place live in
-      let moved : IsPermutation (map (live_message use_fuzzy) (take place live)) (map row_view kept) =
+      let with_inputs : map input_view (filter (is_before place) rows) ≡ map (input_message use_fuzzy) (take place live) =
+      ap (map input_view) taken ∙ sym (take-map input_view place rows) ∙ ap (take place) made ∙ take-map (input_message use_fuzzy) place live in
+      let messages : map row_view (filter (is_before place) rows) ≡ map (live_message use_fuzzy) (entries_of (take place live)) =
+      sym (rows_alone (filter (is_before place) rows)) ∙ ap (map message_alone) with_inputs ∙ entries_alone use_fuzzy (take place live) in
+      let moved : IsPermutation (map (live_message use_fuzzy) (entries_of (take place live))) (map row_view kept) =
       subst (λ (ms : List LiveMessage). IsPermutation ms (map row_view kept)) messages (IsPermutation-map row_view (filter (is_before place) rows) kept (IsPermutation-filter (is_before place) rows sorted permuted)) in
-      live_differ use_fuzzy (take place live) (map row_view kept) moved (subst (λ (ks : List (List ℕ)). AllPairs (λ k l. k ≢ l) ks) (sym (keys_of_rows kept)) keys)
+      live_differ use_fuzzy (entries_of (take place live)) (map row_view kept) moved (subst (λ (ks : List (List ℕ)). AllPairs (λ k l. k ≢ l) ks) (sym (keys_of_rows kept)) keys)
 
 -- the fault that the earliest repeating row shows
-pub repeat_fault : (use_fuzzy : Bool) (entries : List TextEntry) (rows sorted : List Row) (index : ℕ) (a b : Row) → All IsCatalogueEntry entries → map row_view rows ≡ map (live_message use_fuzzy) (filter is_live entries)
-    → ArePlaced rows → IsPermutation rows sorted → AreSorted sorted → IsEarliestRepeat sorted (length sorted) index
-    → a ≡ get_or sorted (index - 1) a → b ≡ get_or sorted index b → IsDuplicateFaultOf entries (record { kind = Duplicate a.line; line = b.line })
-repeat_fault use_fuzzy entries rows sorted index a b valid made placed permuted in_order found first_row_is last_row_is =
-    let live = filter is_live entries in
+pub repeat_fault : (use_fuzzy : Bool) (entries : List InputEntry) (rows sorted : List Row) (index : ℕ) (a b : Row) → All IsCatalogueEntry (entries_of entries) → AreJoinedRows use_fuzzy entries rows
+    → IsPermutation rows sorted → AreSorted sorted → IsEarliestRepeat sorted (length sorted) index
+    → a ≡ get_or sorted (index - 1) a → b ≡ get_or sorted index b → IsDuplicateFault entries (row_fault a b)
+repeat_fault use_fuzzy entries rows sorted index a b valid are permuted in_order found first_row_is last_row_is =
+    let live = live_entries entries in
+    let made = are.messages in
+    let placed = are.placed in
     let inside = found.inside in
     let next = found.next in
     let d = first_row sorted (omega (arith, inside)) in
@@ -144,37 +141,34 @@ repeat_fault use_fuzzy entries rows sorted index a b valid made placed permuted 
     let first = get_or (take later.place live) earlier.place e in
     let first_is : first ≡ get_or live earlier.place e = get_or-take later.place live earlier.place e below in
     let last = get_or live later.place e in
-    let before = take earlier.place (take later.place live) in
-    let between = drop (suc earlier.place) (take later.place live) in
-    let after = drop (suc later.place) live in
-    let order : live ≡ (before ++ first ∷ between) ++ last ∷ after = split_at live later.place e later_inside ∙ ap (λ es. es ++ last ∷ after) first_split in
-    let clean : All LacksSeparators live = All-weaker IsCatalogueEntry LacksSeparators (λ x v. entry_lacks_separators x v.valid) live (All-filter is_live IsCatalogueEntry entries valid) in
-    let clean_first : LacksSeparators first = subst LacksSeparators (sym first_is) (clean earlier.place e (omega (arith, below, later_inside))) in
-    let clean_last : LacksSeparators last = clean later.place e later_inside in
-    let view_first = of_earlier.1 e in
+    let clean : All LacksSeparators (entries_of live) = All-weaker IsCatalogueEntry LacksSeparators (λ x v. entry_lacks_separators x v.valid) (entries_of live) (subst (All IsCatalogueEntry) (sym (live_of entries)) (All-filter is_live IsCatalogueEntry (entries_of entries) valid)) in
+    let clean_at : (k : ℕ) → k < length live → LacksSeparators (get_or live k e).entry = λ k within.
+    subst LacksSeparators (get_or-map entry_of live k e e.entry within) (clean k e.entry (omega (arith, within, length-map live entry_of))) in
+    let clean_first : LacksSeparators first.entry = subst (λ (x : InputEntry). LacksSeparators x.entry) (sym first_is) (clean_at earlier.place (omega (arith, below, later_inside))) in
+    let clean_last : LacksSeparators last.entry = clean_at later.place later_inside in
+    let view_first : input_view earlier ≡ input_message use_fuzzy first = of_earlier.1 e ∙ ap (input_message use_fuzzy) (sym first_is) in
     let view_last = of_later.1 e in
-    let keys : key_of_entry first ≡ key_of_entry last =
-    ap key_of_entry first_is ∙ sym (ap (λ (m : LiveMessage). m.key) view_first) ∙ found.same d ∙ ap (λ (m : LiveMessage). m.key) view_last in
+    let keys : key_of_entry first.entry ≡ key_of_entry last.entry =
+    sym (ap (λ (m : InputMessage). m.message.key) view_first) ∙ found.same d ∙ ap (λ (m : InputMessage). m.message.key) view_last in
     let differ = entries_before use_fuzzy live rows sorted made placed permuted later.place (keys_before sorted index d found) in
     inr (
-      in_input 0 first,
-      in_input 0 last,
+      first,
+      last,
       record {
-        before = map (in_input 0) before;
-        between = map (in_input 0) between;
-        after = map (in_input 0) after;
-        order = live_inputs entries ∙ ap (map (in_input 0)) order ∙ map-append (in_input 0) (before ++ first ∷ between) (last ∷ after)
-            ∙ ap (λ es. es ++ in_input 0 last ∷ map (in_input 0) after) (map-append (in_input 0) before (first ∷ between));
-        same = query_key_is_one first.context last.context first.id last.id clean_first.context_eot clean_last.context_eot clean_first.id_eot clean_last.id_eot keys;
-        differ = subst AllDiffer (sym (ap entries_of (sym (map-append (in_input 0) before (first ∷ between))) ∙ entries_of_input 0 (before ++ first ∷ between))) (subst AllDiffer first_split differ);
+        before = take earlier.place (take later.place live);
+        between = drop (suc earlier.place) (take later.place live);
+        after = drop (suc later.place) live;
+        order = split_at live later.place e later_inside ∙ ap (λ es. es ++ last ∷ drop (suc later.place) live) first_split;
+        same = query_key_is_one first.entry.context last.entry.context first.entry.id last.entry.id clean_first.context_eot clean_last.context_eot clean_first.id_eot clean_last.id_eot keys;
+        differ = subst (λ (es : List InputEntry). AllDiffer (entries_of es)) first_split differ;
       },
-      ap₂ fault_at (ap line earlier_is ∙ ap (λ (m : LiveMessage). m.line) view_first ∙ ap (λ (x : TextEntry). x.line) (sym first_is)) (ap line later_is ∙ ap (λ (m : LiveMessage). m.line) view_last),
+      ap₂ row_fault earlier_is later_is ∙ ap₂ view_fault view_first view_last,
     ) where
       strictly : (m n : ℕ) → m ≤ n → m ≢ n → m < n
       strictly m n least apart = elim (cases_lt m n) [ inl below ↦ below | inr past ↦ absurd (apart (omega (arith, least, past))) ]
 
-      line : Row → ℕ
-      line row = row.line
+      entry_of : InputEntry → TextEntry
+      entry_of e = e.entry
 
-      fault_at : ℕ → ℕ → PoError
-      fault_at m n = record { kind = Duplicate m; line = n }
+      view_fault : InputMessage → InputMessage → JoinError
+      view_fault m n = record { input = n.input; first_input = m.input; error = record { kind = Duplicate m.message.line; line = n.message.line } }

@@ -18,3 +18,6 @@ pub mod CollectedLemmas
 pub mod RepeatLemmas
 pub mod FirstRepeat
 pub mod CompiledLemmas
+pub mod JoinedLemmas
+pub mod OneHeader
+pub mod InputLemmas

@@ -9,12 +9,10 @@ use Rattle.po_syntax.specs.declared.fault.PoFault.{PoFault}
 use Rattle.po_syntax.specs.declared.fault.PoFault.TheVariants.{NotUtf8, BadToken, UnterminatedString, BadEscape, ForbiddenByte, BadOrder, BadPluralIndex, MixedObsolete, Duplicate, ForeignCharset, TooLarge, OutOfMemory}
 use Rattle.po_entry.specs.TextEntry.{TextEntry, slice_texts}
 use Rattle.po_catalog.specs.Joined.{joined, joined_entries, entries_of, in_input}
-use Rattle.po_compile.specs.Compiling.{IsLayoutFault}
-use Rattle.po_compile.specs.declared.options.Options.{Options}
 use Rattle.po_catalog.specs.Duplicate.{HasNoDuplicate, IsDuplicateFault}
 use Rattle.po_entry.specs.Validity.{out_of_memory}
 use Rattle.po_catalog.specs.declared.duplicate.JoinError.{JoinError}
-use Rattle.po_compile.specs.Accepted.{ReadsDistinct, AreRead, IsTextFault, IsReadingFault, IsCompileFault, fault_input, fault_of_input, fault_of_only_input}
+use Rattle.po_compile.specs.Accepted.{ReadsDistinct, AreRead, IsTextFault, IsReadingFault, fault_input, fault_of_input}
 
 zip_push : (texts : List (List ℕ)) (catalogues : List (List TextEntry)) (text : List ℕ) (entries : List TextEntry)
     → AllZip ReadsDistinct texts catalogues → ReadsDistinct text entries → AllZip ReadsDistinct (texts ++ text ∷ []) (catalogues ++ entries ∷ [])
@@ -44,7 +42,7 @@ input_of_fault input TooLarge other = refl
 input_of_fault input OutOfMemory other = absurd (other refl)
 
 module _ (texts : List (Bor (List ℕ))) (i : ℕ) (text : Bor (List ℕ)) (inside : i < length texts) (here : text ≡ get_or texts i text) where
-  more_texts : slice_texts (take (i + 1) texts) ≡ slice_texts (take i texts) ++ text.now ∷ []
+  pub more_texts : slice_texts (take (i + 1) texts) ≡ slice_texts (take i texts) ++ text.now ∷ []
   more_texts =
       let now : Bor (List ℕ) → List ℕ = λ s. s.now in
       ap slice_texts (take_more texts i text inside) ∙ map-append now (take i texts) (get_or texts i text ∷ []) ∙ ap (λ (t : Bor (List ℕ)). slice_texts (take i texts) ++ t.now ∷ []) (sym here)
@@ -54,7 +52,7 @@ module _ (texts : List (Bor (List ℕ))) (i : ℕ) (text : Bor (List ℕ)) (insi
   read_more catalogues entries each reads =
       subst (λ ts. AllZip ReadsDistinct ts (catalogues ++ entries ∷ [])) (sym more_texts) (zip_push (slice_texts (take i texts)) catalogues text.now entries each reads)
 
-  split_texts : slice_texts texts ≡ slice_texts (take i texts) ++ text.now ∷ slice_texts (drop (suc i) texts)
+  pub split_texts : slice_texts texts ≡ slice_texts (take i texts) ++ text.now ∷ slice_texts (drop (suc i) texts)
   split_texts =
       let now : Bor (List ℕ) → List ℕ = λ s. s.now in
       ap slice_texts (sym (take-append-drop i texts)) ∙ map-append now (take i texts) (drop i texts)
@@ -95,11 +93,6 @@ joined_refused texts catalogues error each fault =
     ⊎_elim (λ memory. inl memory)
     (λ found. inr (inr (record { catalogues = catalogues; each = each; first = found.0; later = found.1; duplicate = found.2; error_is = found.3 }))) fault
 
--- as many catalogues as texts
-pub read_count : (texts : List (Bor (List ℕ))) (catalogues : List (List TextEntry)) → AllZip ReadsDistinct (slice_texts texts) catalogues → length texts ≡ length catalogues
-read_count texts catalogues each =
-    sym (length-map texts (λ (s : Bor (List ℕ)). s.now)) ∙ zip_length (slice_texts texts) catalogues each
-
 pub entries_of_input : (input : ℕ) (entries : List TextEntry) → entries_of (map (in_input input) entries) ≡ entries
 entries_of_input input [] = refl
 entries_of_input input (x ∷ xs) = ap (λ l. x ∷ l) (entries_of_input input xs)
@@ -120,32 +113,3 @@ module _ (text : List ℕ) where
   pub only_read : (entries : List TextEntry) → ReadsDistinct text entries → AreRead (text ∷ []) (entries ∷ [])
   only_read entries reads =
       record { each = (reads, tt); distinct = subst HasNoDuplicate (sym (joined_one entries)) reads.distinct }
-
-  -- why one text isn't read
-  pub only_refused : (options : Options) (error : PoError) → (error ≡ out_of_memory) ⊎ ((error.kind ≢ OutOfMemory) × IsTextFault text error)
-      → IsCompileFault options (text ∷ []) (fault_of_only_input error)
-  only_refused options error why =
-      ⊎_elim (λ memory. inl (inl (ap fault_of_only_input memory)))
-      (λ fault. inl (inr (inl (record {
-        before = [];
-        text = text;
-        after = [];
-        order = refl;
-        catalogues = [];
-        faultless = tt;
-        input = refl;
-        first_input = refl;
-        fault = fault.1;
-      })))) why
-
-  -- why what one text reads as isn't laid out
-  pub only_too_large : (options : Options) (catalogues : List (List TextEntry)) (error : JoinError) → AreRead (text ∷ []) catalogues
-      → IsLayoutFault options (joined_entries catalogues) error → IsCompileFault options (text ∷ []) (fault_of_only_input error.error)
-  only_too_large options catalogues error read fault =
-      ⊎_elim (λ memory. inl (inl (ap (λ (e : JoinError). fault_of_only_input e.error) memory)))
-      (λ large. inr (record {
-        catalogues = catalogues;
-        read = read;
-        large = large.1;
-        error_is = ap (λ (e : JoinError). fault_of_only_input e.error) large.0;
-      })) fault

@@ -8,7 +8,7 @@ use Rattle.std.proofs.lemmas.List.{length-map}
 use Rattle.std.proofs.Math.ListN.{get_or-map}
 use Rattle.std.proofs.lemmas.List.Elements.{All-nil, All-cons, All-head, All-tail, All-map, All-weaker, All-filter}
 use Rattle.std.proofs.lemmas.List.Kept.{AllPairs-cons}
-use Rattle.std.proofs.lemmas.List.Sorted.{All-permutation, IsPermutation-map, IsPermutation-sym}
+use Rattle.std.proofs.lemmas.List.Sorted.{All-permutation, IsPermutation-map, IsPermutation-sym, length_permutation}
 use Rattle.std.proofs.lemmas.Map.Keys.{IsDistinct-IsPermutation}
 use Rattle.std.proofs.lemmas.Map.Made.{AllPairs-from_IsDistinct, IsDistinct-from_AllPairs}
 use Rattle.std.proofs.lemmas.Slice.Eq.{bytes_eq-Decides}
@@ -19,10 +19,10 @@ use Rattle.po_entry.specs.TextEntry.{TextEntry}
 use Rattle.po_entry.specs.Validity.{IsCatalogueEntry}
 use Rattle.po_catalog.specs.Joined.{is_live}
 use Rattle.po_catalog.specs.Duplicate.{AllDiffer, HasNoDuplicate, IsSameMessage}
-use Rattle.po_compile.specs.Collected.{LiveMessage, live_message, row_view, lengths_of, counts_of, IsSortedOf}
+use Rattle.po_compile.specs.Collected.{LiveMessage, live_message, row_view, IsSortedOf}
+use Rattle.po_compile.specs.JoinedRows.{counts_of}
 use Rattle.std.proofs.lemmas.List.Sums.{length-filter}
 use Rattle.po_catalog.specs.Statistics.{stats_of, is_translated, is_fuzzy, is_untranslated}
-use Rattle.po_compile.specs.declared.collecting.Lengths.{Lengths}
 use Rattle.po_compile.specs.declared.row.Row.{Row}
 use Rattle.po_compile.specs.CompiledList.{is_compiled, compiled_list}
 use Rattle.po_compile.specs.CompiledMessages.{AreMessagesOf, message_of, messages_of_entries}
@@ -36,7 +36,7 @@ abbrev message_view : LiveMessage → Message
 message_view m = m.message
 
 abbrev compiled_view : LiveMessage → Bool
-compiled_view m = m.compiled
+compiled_view m = m.status.compiled
 
 abbrev pub key_of_entry : TextEntry → List ℕ
 key_of_entry entry = query_key entry.context entry.id
@@ -66,7 +66,7 @@ kept_rises m ms false below rises = rises
 filter_rises : (ms : List LiveMessage) → Rises ms → Rises (filter compiled_view ms)
 filter_rises [] h = tt
 filter_rises (m ∷ ms) h =
-    kept_rises m (filter compiled_view ms) m.compiled (All-filter compiled_view (λ (n : LiveMessage). key_cmp m.key n.key ≡ Less) ms h.0) (filter_rises ms h.1)
+    kept_rises m (filter compiled_view ms) m.status.compiled (All-filter compiled_view (λ (n : LiveMessage). key_cmp m.key n.key ≡ Less) ms h.0) (filter_rises ms h.1)
 
 -- the key is that of the original
 abbrev IsKeyed : LiveMessage → Type 0
@@ -178,24 +178,24 @@ rows_mean use_fuzzy entries rows sorted messages valid made permuted rising is =
       are_messages = subst (AreMessagesOf (compiled_list use_fuzzy entries)) (sym is) (kept_messages use_fuzzy entries (map row_view sorted) valid moved rises);
     }
 
-count_step : (use_fuzzy : Bool) (f : TextEntry → Bool) (g : Lengths → Bool) (entry : TextEntry) (live counted : List TextEntry) (b c : Bool) → g (lengths_of use_fuzzy entry) ≡ c → (b ≡ false → c ≡ false)
-    → length (filter g (map (lengths_of use_fuzzy) live)) ≡ length counted
-    → length (filter g (map (lengths_of use_fuzzy) (cond b (entry ∷ live) live))) ≡ length (cond c (entry ∷ counted) counted)
-count_step use_fuzzy f g entry live counted true true e only same =
-    let rest = filter g (map (lengths_of use_fuzzy) live) in
-    ap (λ (d : Bool). length (cond d (lengths_of use_fuzzy entry ∷ rest) rest)) e ∙ ap suc same
-count_step use_fuzzy f g entry live counted true false e only same =
-    let rest = filter g (map (lengths_of use_fuzzy) live) in
-    ap (λ (d : Bool). length (cond d (lengths_of use_fuzzy entry ∷ rest) rest)) e ∙ same
-count_step use_fuzzy f g entry live counted false true e only same = absurd (let no : true ≡ false = only refl in cc)
-count_step use_fuzzy f g entry live counted false false e only same = same
+count_step : (use_fuzzy : Bool) (g : LiveMessage → Bool) (entry : TextEntry) (live counted : List TextEntry) (b c : Bool) → g (live_message use_fuzzy entry) ≡ c → (b ≡ false → c ≡ false)
+    → length (filter g (map (live_message use_fuzzy) live)) ≡ length counted
+    → length (filter g (map (live_message use_fuzzy) (cond b (entry ∷ live) live))) ≡ length (cond c (entry ∷ counted) counted)
+count_step use_fuzzy g entry live counted true true e only same =
+    let rest = filter g (map (live_message use_fuzzy) live) in
+    ap (λ (d : Bool). length (cond d (live_message use_fuzzy entry ∷ rest) rest)) e ∙ ap suc same
+count_step use_fuzzy g entry live counted true false e only same =
+    let rest = filter g (map (live_message use_fuzzy) live) in
+    ap (λ (d : Bool). length (cond d (live_message use_fuzzy entry ∷ rest) rest)) e ∙ same
+count_step use_fuzzy g entry live counted false true e only same = absurd (let no : true ≡ false = only refl in cc)
+count_step use_fuzzy g entry live counted false false e only same = same
 
 -- only live entries count
-live_count : (use_fuzzy : Bool) (f : TextEntry → Bool) (g : Lengths → Bool) → ((entry : TextEntry) → g (lengths_of use_fuzzy entry) ≡ f entry) → ((entry : TextEntry) → is_live entry ≡ false → f entry ≡ false)
-    → (entries : List TextEntry) → length (filter g (map (lengths_of use_fuzzy) (filter is_live entries))) ≡ length (filter f entries)
+live_count : (use_fuzzy : Bool) (f : TextEntry → Bool) (g : LiveMessage → Bool) → ((entry : TextEntry) → g (live_message use_fuzzy entry) ≡ f entry) → ((entry : TextEntry) → is_live entry ≡ false → f entry ≡ false)
+    → (entries : List TextEntry) → length (filter g (map (live_message use_fuzzy) (filter is_live entries))) ≡ length (filter f entries)
 live_count use_fuzzy f g same only [] = refl
 live_count use_fuzzy f g same only (entry ∷ entries) =
-    count_step use_fuzzy f g entry (filter is_live entries) (filter f entries) (is_live entry) (f entry) (same entry) (only entry) (live_count use_fuzzy f g same only entries)
+    count_step use_fuzzy g entry (filter is_live entries) (filter f entries) (is_live entry) (f entry) (same entry) (only entry) (live_count use_fuzzy f g same only entries)
 
 both_dead : (b v w : Bool) → b ≡ false → (b && v) && w ≡ false
 both_dead true v w e = absurd (cc)
@@ -205,12 +205,26 @@ three_dead : (b v w x : Bool) → b ≡ false → (b && v) && w && x ≡ false
 three_dead true v w x e = absurd (cc)
 three_dead false v w x e = refl
 
--- the statistics of the entries
-pub counts_mean : (use_fuzzy : Bool) (entries : List TextEntry) (lengths : List Lengths) → lengths ≡ map (lengths_of use_fuzzy) (filter is_live entries) → counts_of lengths ≡ stats_of entries
-counts_mean use_fuzzy entries lengths is =
-    let of : List Lengths = map (lengths_of use_fuzzy) (filter is_live entries) in
-    let translated : count_by (λ (l : Lengths). l.translated) of ≡ length (filter is_translated entries) = sym (length-filter (λ (l : Lengths). l.translated) of) ∙ live_count use_fuzzy is_translated (λ l. l.translated) (λ e. refl) (λ e dead. three_dead (is_live e) _ _ _ dead) entries in
-    let fuzzy : count_by (λ (l : Lengths). l.fuzzy) of ≡ length (filter is_fuzzy entries) = sym (length-filter (λ (l : Lengths). l.fuzzy) of) ∙ live_count use_fuzzy is_fuzzy (λ l. l.fuzzy) (λ e. refl) (λ e dead. three_dead (is_live e) _ _ _ dead) entries in
-    let untranslated : count_by (λ (l : Lengths). l.untranslated) of ≡ length (filter is_untranslated entries) = sym (length-filter (λ (l : Lengths). l.untranslated) of) ∙ live_count use_fuzzy is_untranslated (λ l. l.untranslated) (λ e. refl) (λ e dead. both_dead (is_live e) _ _ dead) entries in
-    let whole : counts_of of ≡ stats_of entries = cc in
-    ap counts_of is ∙ whole
+-- how many rows there are of a kind, in whatever order they stand
+module _ (use_fuzzy : Bool) (entries : List TextEntry) (rows sorted : List Row) (made : map row_view rows ≡ map (live_message use_fuzzy) (filter is_live entries)) (permuted : IsPermutation rows sorted) where
+  count_of : (f : TextEntry → Bool) (g : LiveMessage → Bool) → ((entry : TextEntry) → g (live_message use_fuzzy entry) ≡ f entry) → ((entry : TextEntry) → is_live entry ≡ false → f entry ≡ false)
+      → count_by (λ (r : Row). g (row_view r)) sorted ≡ length (filter f entries)
+  count_of f g same only =
+      let p : Row → Bool = λ r. g (row_view r) in
+      sym (length-filter p sorted) ∙ length_permutation (filter p rows) (filter p sorted) (IsPermutation-filter p rows sorted permuted)
+      ∙ sym (length-map (filter p rows) row_view) ∙ ap length (seen rows) ∙ ap (λ ms. length (filter g ms)) made ∙ live_count use_fuzzy f g same only entries where
+        seen : (rs : List Row) → map row_view (filter (λ r. g (row_view r)) rs) ≡ filter g (map row_view rs)
+        seen [] = refl
+        seen (r ∷ rs) = one (g (row_view r)) (seen rs) where
+          one : (t : Bool) → map row_view (filter (λ r. g (row_view r)) rs) ≡ filter g (map row_view rs)
+              → map row_view (cond t (r ∷ filter (λ r. g (row_view r)) rs) (filter (λ r. g (row_view r)) rs)) ≡ cond t (row_view r ∷ filter g (map row_view rs)) (filter g (map row_view rs))
+          one true more = ap (λ ms. row_view r ∷ ms) more
+          one false more = more
+
+  -- the statistics of the entries
+  pub counts_mean : counts_of sorted ≡ stats_of entries
+  counts_mean =
+      let translated = count_of is_translated (λ m. m.status.translated) (λ e. refl) (λ e dead. three_dead (is_live e) _ _ _ dead) in
+      let fuzzy = count_of is_fuzzy (λ m. m.status.fuzzy) (λ e. refl) (λ e dead. three_dead (is_live e) _ _ _ dead) in
+      let untranslated = count_of is_untranslated (λ m. m.status.untranslated) (λ e. refl) (λ e dead. both_dead (is_live e) _ _ dead) in
+      cc

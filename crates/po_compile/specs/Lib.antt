@@ -6,6 +6,7 @@ pub mod Accepted
 pub mod Headline
 pub mod Parts
 pub mod Collected
+pub mod JoinedRows
 pub mod Prefix
 pub mod Repeats
 pub mod CompiledEntries

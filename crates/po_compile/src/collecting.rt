@@ -4,7 +4,7 @@ ghost use Rattle.mo_file.specs.Key.{query_key};
 ghost use Rattle.po_entry.specs.TextEntry.{TextEntry, texts};
 ghost use Rattle.po_reader.specs.PieceRead.{IsTextError};
 ghost use Rattle.po_compile.specs.CompiledMessages.{plural_part, translation_of};
-ghost use Rattle.po_compile.specs.Collected.{message_bytes, lengths_of, HoldsLive, ReadsLive};
+ghost use Rattle.po_compile.specs.Collected.{message_bytes, lengths_of, status_of, HoldsLive, ReadsLive};
 
 use crate::messages::is_compiled;
 use po_catalog::has_translation;
@@ -16,22 +16,29 @@ use std::alloc::{AllocError, Global};
 /// How many bytes an entry usually has in a text, at least.
 const USUAL_LEN: usize = 128;
 
-/// How long the parts of a live entry's message are, in bytes, and how the entry counts.
+/// Whether a live entry is compiled, and what the statistics count it as.
 #[derive(Clone, Copy)]
-pub(crate) struct Lengths {
-    pub(crate) key: usize,
-    /// The key, and after it a NUL and the plural, where there is one.
-    pub(crate) original: usize,
-    pub(crate) translation: usize,
-    /// The line of its msgid.
-    pub(crate) line: u32,
+pub(crate) struct Status {
     pub(crate) compiled: bool,
     pub(crate) translated: bool,
     pub(crate) fuzzy: bool,
     pub(crate) untranslated: bool,
 }
 
-/// The messages of the live entries of a text, in their order.
+/// How long the parts of a live entry's message are, in bytes, and the entry's line and status.
+#[derive(Clone, Copy)]
+pub(crate) struct Lengths {
+    /// 0 for a header alone.
+    pub(crate) key: usize,
+    /// The key, and after it a NUL and the plural, where there is one.
+    pub(crate) original: usize,
+    pub(crate) translation: usize,
+    /// The line of its msgid.
+    pub(crate) line: u32,
+    pub(crate) status: Status,
+}
+
+/// The messages of the live entries of an input, in their order.
 #[derive(Drop)]
 pub(crate) struct Collected {
     /// The original and the translation of each, one after another.
@@ -96,18 +103,27 @@ fn add_message(bytes: &mut Vec<u8>, entry: &Entry, use_fuzzy: bool) -> Result<Le
     let original = bytes.len() - start;
     add_forms(bytes, entry)?;
     let translation = bytes.len() - start - original;
-    let is_counted = !entry.obsolete() && !entry.is_header();
-    let has_translation = has_translation(entry);
     Ok(Lengths {
         key,
         original,
         translation,
         line: entry.line(),
+        status: status_of(entry, use_fuzzy),
+    })
+}
+
+/// Whether an entry is compiled, and what the statistics count it as.
+fn status_of(entry: &Entry, use_fuzzy: bool) -> Status
+    ensures { result ≡ status_of use_fuzzy entry.now }
+{
+    let is_counted = !entry.obsolete() && !entry.is_header();
+    let has_translation = has_translation(entry);
+    Status {
         compiled: is_compiled(entry, use_fuzzy),
         translated: is_counted && has_translation && !entry.fuzzy(),
         fuzzy: is_counted && has_translation && entry.fuzzy(),
         untranslated: is_counted && !has_translation,
-    })
+    }
 }
 
 /// Adds the live ones of further entries.

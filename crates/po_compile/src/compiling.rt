@@ -1,18 +1,22 @@
 ghost use Rattle.std.specs.Prelude.{◌≡◌, ◌≢◌, ◌⊎◌, ◌<◌, ◌^◌, [], ◌∷◌, List, length, IfOk, IfErr, MatchResult};
+ghost use Rattle.std.specs.List.{AllZip};
 ghost use Rattle.po_entry.specs.TextEntry.{TextEntry, slice_texts};
 ghost use Rattle.po_catalog.specs.Joined.{joined_entries};
-ghost use Rattle.po_catalog.specs.Duplicate.{HasNoDuplicate, IsDuplicateFaultOf};
-ghost use Rattle.po_compile.specs.Collected.{HoldsEntries, IsLargeText, ReadsLive};
+ghost use Rattle.po_catalog.specs.Duplicate.{HasNoDuplicate};
+ghost use Rattle.po_compile.specs.Collected.{HoldsEntries};
+ghost use Rattle.po_compile.specs.JoinedRows.{AreDistinct, IsLargeList, IsRepeatFault};
 ghost use Rattle.po_compile.specs.Accepted.{AreCompiled, IsCompileFault, fault_of_only_input};
 ghost use Rattle.po_compile.specs.Compiling.{IsCompilation, IsLayoutFault, IsReportedFault};
 
-use crate::collecting::{Collected, collect};
+use crate::collecting::Collected;
+use crate::inputs::{collect_all, distinct_rows};
 use crate::laws::messages_mean_entries;
 use crate::messages::{messages_of, sort_messages};
 use crate::options::{Compiled, Options};
-use crate::reading::read_all;
-use crate::sorting::{sorted_pairs, statistics_of};
+use crate::rows::compiled_pairs;
+use crate::sorting::statistics_of;
 use mo_file::{BuildError, build, build_sorted, layout_is_mo_file};
+use po_catalog::laws::no_first_duplicate_where_none;
 use po_catalog::{JoinError, entry_statistics, into_joined};
 use po_entry::Catalogue;
 use po_reader::laws::entries_can_stand;
@@ -29,26 +33,12 @@ pub fn compile_all(alloc: Global, texts: &[&[u8]], options: Options) -> Result<C
     ensures { MatchResult result (AreCompiled options (slice_texts texts.now))
         (IsCompileFault options (slice_texts texts.now)) }
 {
-    match texts {
-        [text] => match compile(alloc, text, options) {
-            Ok(compiled) => Ok(compiled),
-            Err(error) => Err(fault_of_only_input(error)),
-        },
-        _ => {
-            let catalogues = read_all(alloc, texts)?;
-            compile_catalogues(alloc, catalogues, options)
+    match collect_all(alloc, texts, options.use_fuzzy) {
+        Ok(inputs) => {
+            entries_can_stand();
+            compile_inputs(alloc, &inputs, options)
         }
-    }
-}
-
-/// The fault of a text that is the only input.
-fn fault_of_only_input(error: PoError) -> JoinError
-    ensures { result ≡ fault_of_only_input error }
-{
-    JoinError {
-        input: 0,
-        first_input: 0,
-        error,
+        Err(error) => Err(error),
     }
 }
 
@@ -59,42 +49,31 @@ pub fn compile(alloc: Global, text: &[u8], options: Options) -> Result<Compiled,
     ensures { MatchResult result (AreCompiled options (text.now ∷ []))
         (λ e. IsCompileFault options (text.now ∷ []) (fault_of_only_input e)) }
 {
-    match collect(alloc, text, options.use_fuzzy) {
-        Ok(collected) => compile_live(alloc, text, &collected, options),
-        Err(error) => Err(error),
+    no_first_duplicate_where_none();
+    match compile_all(alloc, &[text], options) {
+        Ok(compiled) => Ok(compiled),
+        Err(error) => Err(error.error),
     }
 }
 
-/// Compiles a text whose live entries are collected.
-fn compile_live(
+/// Compiles the joined list of inputs whose live entries are collected.
+fn compile_inputs(
     alloc: Global,
-    text: &[u8],
-    collected: &Collected,
+    inputs: &[Collected],
     options: Options,
-) -> Result<Compiled, PoError>
-    requires { ReadsLive options.use_fuzzy text.now collected.now }
-    ensures { MatchResult result (AreCompiled options (text.now ∷ []))
-        (λ e. IsCompileFault options (text.now ∷ []) (fault_of_only_input e)) }
+) -> Result<Compiled, JoinError>
+    requires few { length inputs.now < 2 ^ 32 }
+    requires held { (catalogues : List (List TextEntry))
+        × AllZip (HoldsEntries options.use_fuzzy) catalogues inputs.now }
+    ensures found { IfOk result (λ compiled. (catalogues : List (List TextEntry))
+        → AllZip (HoldsEntries options.use_fuzzy) catalogues inputs.now
+        → AreDistinct catalogues × IsCompilation options (joined_entries catalogues) compiled) }
+    ensures fault { IfErr result (λ e. (catalogues : List (List TextEntry))
+        → AllZip (HoldsEntries options.use_fuzzy) catalogues inputs.now
+        → IsRepeatFault catalogues e ⊎ IsLargeList options catalogues e) }
 {
-    entries_can_stand();
-    compile_collected(alloc, collected, options)
-}
-
-/// Compiles the live entries that are collected.
-fn compile_collected(
-    alloc: Global,
-    collected: &Collected,
-    options: Options,
-) -> Result<Compiled, PoError>
-    requires { (entries : List TextEntry) × HoldsEntries options.use_fuzzy entries collected.now }
-    ensures found { IfOk result (λ compiled. (entries : List TextEntry)
-        → HoldsEntries options.use_fuzzy entries collected.now
-        → HasNoDuplicate entries × IsCompilation options entries compiled) }
-    ensures fault { IfErr result (λ e. (entries : List TextEntry)
-        → HoldsEntries options.use_fuzzy entries collected.now → IsDuplicateFaultOf entries e
-        ⊎ IsLargeText options entries e) }
-{
-    let pairs = sorted_pairs(alloc, collected)?;
+    let rows = distinct_rows(alloc, inputs)?;
+    let pairs = compiled_pairs(alloc, &rows)?;
     let count = pairs.len();
     layout_is_mo_file();
     messages_mean_entries();
@@ -102,9 +81,9 @@ fn compile_collected(
         Ok(bytes) => Ok(Compiled {
             bytes,
             n: count as u32,
-            stats: statistics_of(&collected.lengths),
+            stats: statistics_of(&rows),
         }),
-        Err(error) => Err(reported_fault(error).error),
+        Err(error) => Err(reported_fault(error)),
     }
 }
 

@@ -1,16 +1,16 @@
 //! Compiling PO catalogues to MO files (GNU gettext manual, "Invoking the msgfmt Program").
 //!
-//! [`compile`] compiles one text, [`compile_all`] several, and [`compile_catalogues`] catalogues
-//! that were read before. A text alone is compiled without a catalogue of it: its messages are
-//! collected in one buffer and sorted there.
+//! [`compile`] compiles one text, [`compile_all`] several. No catalogue is made of them: the messages
+//! of each text are collected in a buffer of its own, and their rows are sorted.
 //!
-//! The modules in reading order: `options`, `compiling`, `reading`, `messages`; for a text alone
-//! `collecting`, `prefix`, `row`, `rows`, `sorting`; then `laws`.
+//! The modules in reading order: `options`, `compiling`, `messages`, `collecting`, `prefix`, `row`,
+//! `rows`, `sorting`, `inputs`, `reading`; then `laws`.
 
 #![tactic(auto)]
 
 mod collecting;
 mod compiling;
+mod inputs;
 pub mod laws;
 mod messages;
 mod options;

@@ -43,7 +43,7 @@ pub fn read_distinct(alloc: Global, text: &[u8]) -> Result<Catalogue, PoError>
 }
 
 /// The fault of an input. Out of memory is of no input.
-fn fault_of_input(input: u32, error: PoError) -> JoinError
+pub(crate) fn fault_of_input(input: u32, error: PoError) -> JoinError
     ensures { result ≡ fault_of_input input error }
 {
     let input = match error.kind {

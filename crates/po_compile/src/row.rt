@@ -2,6 +2,7 @@ ghost use Rattle.std.specs.Prelude.{◌≡◌, ◌<◌, All};
 ghost use Rattle.mo_file.specs.Key.{key_cmp};
 ghost use Rattle.po_compile.specs.Prefix.{prefix_of, second_prefix_of};
 
+use crate::collecting::Status;
 use std::cmp::Ordering;
 
 /// A live entry's message, whose parts are borrowed from what was collected. Most rows are compared
@@ -16,11 +17,13 @@ pub(crate) struct Row<'b> {
     pub(crate) key: &'b [u8],
     pub(crate) original: &'b [u8],
     pub(crate) translation: &'b [u8],
-    /// How many live entries stand before it.
+    /// How many live entries stand before it in the joined list.
     pub(crate) place: usize,
+    /// The input of its entry, counted from 0.
+    pub(crate) input: u32,
     /// The line of its msgid.
     pub(crate) line: u32,
-    pub(crate) compiled: bool,
+    pub(crate) status: Status,
     ghost bytes: { All (λ byte. byte < 256) key.now },
     ghost first: { prefix ≡ prefix_of key.now },
     ghost next: { second_prefix ≡ second_prefix_of key.now },

@@ -1,10 +1,14 @@
-ghost use Rattle.std.specs.Prelude.{◌≡◌, ◌<◌, None, IfOk, IfSome, map, length, take, drop, IsPermutation};
+ghost use Rattle.std.specs.Prelude.{◌≡◌, ◌==◌, ◌<◌, ◌^◌, ◌++◌, ◌∷◌, [], None, IfOk, OnOk, IfSome, map, length, take, drop, IsPermutation, if◌then◌else◌};
+ghost use Rattle.std.specs.List.{list_any};
 ghost use Rattle.mo_file.specs.Key.{AreRising};
 ghost use Rattle.mo_file.specs.Pairs.{messages_of_borrowed};
-ghost use Rattle.po_compile.specs.Collected.{row_view, AreRowsOf, compiled_of};
-ghost use Rattle.po_compile.specs.Repeats.{ArePlaced, AreSorted, IsEarlier, IsEarliestRepeat, row_cmp};
+ghost use Rattle.po_catalog.specs.Joined.{joined};
+ghost use Rattle.po_compile.specs.declared.collecting.Lengths.{Lengths as LengthsSeen};
+ghost use Rattle.po_compile.specs.Collected.{row_view, compiled_of};
+ghost use Rattle.po_compile.specs.JoinedRows.{is_joined, AddsRows, AreJoinedRows, OfAllInputs};
+ghost use Rattle.po_compile.specs.Repeats.{AreSorted, IsEarlier, IsEarliestRepeat, row_cmp};
 
-use crate::collecting::Lengths;
+use crate::collecting::{Collected, Lengths};
 use crate::prefix::{prefix_of, second_prefix_of};
 use crate::row::{Row, compare};
 use mo_file::BorrowedPair;
@@ -22,17 +26,19 @@ fn split_at_most(bytes: &[u8], len: usize) -> (&[u8], &[u8])
 /// The row of the message at this place, with the prefix of its key.
 fn row_of<'b>(
     place: usize,
+    input: u32,
     key: &'b [u8],
     original: &'b [u8],
     translation: &'b [u8],
     lengths: &Lengths,
 ) -> Row<'b>
     ensures place { result.place ≡ place }
+    ensures input { result.input ≡ input }
     ensures key { result.key.now ≡ key.now }
     ensures original { result.original.now ≡ original.now }
     ensures translation { result.translation.now ≡ translation.now }
     ensures line { result.line ≡ lengths.now.line }
-    ensures compiled { result.compiled ≡ lengths.now.compiled }
+    ensures status { result.status ≡ lengths.now.status }
 {
     Row {
         prefix: prefix_of(key),
@@ -41,29 +47,75 @@ fn row_of<'b>(
         original,
         translation,
         place,
+        input,
         line: lengths.line,
-        compiled: lengths.compiled,
+        status: lengths.status,
     }
 }
 
-/// The rows of the messages that were collected.
-pub(crate) fn rows_of<'b>(
-    alloc: Global,
-    bytes: &'b [u8],
-    lengths: &[Lengths],
-) -> Result<Vec<Row<'b>>, AllocError>
-    ensures messages { IfOk result (λ rows. AreRowsOf bytes.now lengths.now rows.items) }
-    ensures placed { IfOk result (λ rows. ArePlaced rows.items) }
+/// Adds a row, unless it is that of a header where an earlier input has one.
+fn add_row<'b>(rows: &mut Vec<Row<'b>>, row: Row<'b>, headed: bool) -> Result<(), AllocError>
+    ensures { OnOk result (rows.new.items ≡ rows.old.items
+        ++ (if is_joined headed (row_view row.entry) then row.entry ∷ [] else [])) }
 {
-    let mut rows = Vec::with_capacity(alloc, lengths.len())?;
-    let mut rest = bytes;
-    for parts in lengths {
+    if headed && row.key.is_empty() {
+        return Ok(());
+    }
+    rows.push(row)?;
+    Ok(())
+}
+
+/// Adds the rows of an input, without those of headers where an earlier input has one.
+fn add_rows<'b>(
+    rows: &mut Vec<Row<'b>>,
+    input: u32,
+    collected: &'b Collected,
+    headed: bool,
+) -> Result<(), AllocError>
+    ensures { OnOk result (AddsRows input headed collected.now rows.old.items rows.new.items) }
+{
+    let mut rest = collected.bytes.as_slice();
+    for parts in &collected.lengths {
         let (original, after) = split_at_most(rest, parts.original);
         let (translation, next) = split_at_most(after, parts.translation);
         let (key, _) = split_at_most(original, parts.key);
-        let row = row_of(rows.len(), key, original, translation, parts);
-        rows.push(row)?;
+        let row = row_of(rows.len(), input, key, original, translation, parts);
+        add_row(rows, row, headed)?;
         rest = next;
+    }
+    Ok(())
+}
+
+/// Whether one of the entries is a header.
+fn has_header(lengths: &[Lengths]) -> bool
+    ensures { result ≡ list_any (λ (l : LengthsSeen). l.key == 0) lengths.now }
+{
+    lengths.iter().any(|l| l.key == 0)
+}
+
+/// How many messages the inputs have.
+fn row_count(inputs: &[Collected]) -> usize {
+    let mut count: usize = 0;
+    for collected in inputs {
+        count = count.saturating_add(collected.lengths.len());
+    }
+    count
+}
+
+/// The rows of the joined list of the inputs, in its order.
+pub(crate) fn joined_rows<'b>(
+    alloc: Global,
+    inputs: &'b [Collected],
+) -> Result<Vec<Row<'b>>, AllocError>
+    requires { length inputs.now < 2 ^ 32 }
+    ensures { IfOk result (λ rows. OfAllInputs inputs.now (λ use_fuzzy catalogues.
+        AreJoinedRows use_fuzzy (joined catalogues) rows.items)) }
+{
+    let mut rows = Vec::with_capacity(alloc, row_count(inputs))?;
+    let mut headed = false;
+    for (input, collected) in inputs.iter().enumerate() {
+        add_rows(&mut rows, input as u32, collected, headed)?;
+        headed = headed || has_header(&collected.lengths);
     }
     Ok(rows)
 }
@@ -132,7 +184,7 @@ pub(crate) fn compiled_pairs<'b>(
 {
     let mut pairs = Vec::with_capacity(alloc, rows.len())?;
     for row in rows {
-        if row.compiled {
+        if row.status.compiled {
             pairs.push(BorrowedPair {
                 original: row.original,
                 translation: row.translation,

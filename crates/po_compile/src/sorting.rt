@@ -1,69 +1,76 @@
-ghost use Rattle.std.specs.Prelude.{◌≡◌, count_by, IfOk, IfErr};
-ghost use Rattle.mo_file.specs.Pairs.{messages_of_borrowed};
-ghost use Rattle.po_catalog.specs.Duplicate.{IsDuplicateFaultOf};
-ghost use Rattle.po_compile.specs.declared.collecting.Lengths.{Lengths as LengthsSeen};
-ghost use Rattle.po_compile.specs.Collected.{OfAllCollected, IsSortedOf, counts_of};
+ghost use Rattle.std.specs.Prelude.{◌≡◌, ◌<◌, ◌^◌, count_by, length, IfOk, IfErr};
+ghost use Rattle.po_catalog.specs.Duplicate.{IsDuplicateFault};
+ghost use Rattle.po_catalog.specs.Joined.{joined, joined_entries};
+ghost use Rattle.po_compile.specs.JoinedRows.{AreSortedRows, OfAllInputs, counts_of, row_fault};
+ghost use Rattle.po_compile.specs.declared.row.Row.{Row as RowSeen};
 
-use crate::collecting::{Collected, Lengths};
-use crate::rows::{compiled_pairs, earliest_repeat, rows_of, sort_rows};
-use mo_file::BorrowedPair;
-use po_catalog::Stats;
+use crate::collecting::Collected;
+use crate::row::Row;
+use crate::rows::{earliest_repeat, joined_rows, sort_rows};
+use po_catalog::{JoinError, Stats};
 use po_syntax::{PoError, PoFault};
 use std::alloc::Global;
 
-/// The messages that are compiled, in the order of their keys. The keys of all live entries are
-/// sorted once, so that equal keys are neighbours. Refused with the fault of `duplicates`, and
-/// where an allocation failed.
-pub(crate) fn sorted_pairs(
-    alloc: Global,
-    collected: &Collected,
-) -> Result<Vec<BorrowedPair<'_>>, PoError>
-    ensures messages { IfOk result (λ pairs. OfAllCollected collected.now
-        (λ f es. IsSortedOf f es (messages_of_borrowed pairs.items))) }
-    ensures fault { IfErr result (λ e. OfAllCollected collected.now (λ _ entries. IsDuplicateFaultOf entries e)) }
+/// The rows of the joined list of the inputs, in the order of their keys. All are sorted once, so
+/// that equal keys are neighbours. Refused with the fault of `joined_duplicates`, and where an
+/// allocation failed.
+pub(crate) fn sorted_rows(alloc: Global, inputs: &[Collected]) -> Result<Vec<Row<'_>>, JoinError>
+    requires { length inputs.now < 2 ^ 32 }
+    ensures rows { IfOk result (λ rows. OfAllInputs inputs.now (λ use_fuzzy catalogues.
+        AreSortedRows use_fuzzy (joined_entries catalogues) rows.items)) }
+    ensures fault { IfErr result (λ e. OfAllInputs inputs.now (λ _ catalogues.
+        IsDuplicateFault (joined catalogues) e)) }
 {
-    let mut rows = rows_of(alloc, &collected.bytes, &collected.lengths)?;
+    let mut rows = joined_rows(alloc, inputs)?;
     sort_rows(&mut rows);
     match earliest_repeat(&rows) {
-        None => {
-            let pairs = compiled_pairs(alloc, &rows)?;
-            Ok(pairs)
-        }
-        Some(index) => Err(PoError {
-            kind: PoFault::Duplicate(rows[index - 1].line),
-            line: rows[index].line,
-        }),
+        None => Ok(rows),
+        Some(index) => Err(row_fault(&rows[index - 1], &rows[index])),
+    }
+}
+
+/// What is reported of a row that repeats an earlier one.
+fn row_fault(first: &Row<'_>, later: &Row<'_>) -> JoinError
+    ensures { result ≡ row_fault first.now later.now }
+{
+    JoinError {
+        input: later.input,
+        first_input: first.input,
+        error: PoError {
+            kind: PoFault::Duplicate(first.line),
+            line: later.line,
+        },
     }
 }
 
 /// How many messages are translated, fuzzy and untranslated.
-pub(crate) fn statistics_of(lengths: &[Lengths]) -> Stats
-    ensures { result ≡ counts_of lengths.now }
+pub(crate) fn statistics_of(rows: &[Row<'_>]) -> Stats
+    ensures { result ≡ counts_of rows.now }
 {
     Stats {
-        translated: translated_count(lengths),
-        fuzzy: fuzzy_count(lengths),
-        untranslated: untranslated_count(lengths),
+        translated: translated_count(rows),
+        fuzzy: fuzzy_count(rows),
+        untranslated: untranslated_count(rows),
     }
 }
 
 /// How many messages are translated.
-fn translated_count(lengths: &[Lengths]) -> u64
-    ensures { result ≡ count_by (λ (l : LengthsSeen). l.translated) lengths.now }
+fn translated_count(rows: &[Row<'_>]) -> u64
+    ensures { result ≡ count_by (λ (r : RowSeen). r.status.translated) rows.now }
 {
-    lengths.iter().filter(|l| l.translated).count() as u64
+    rows.iter().filter(|row| row.status.translated).count() as u64
 }
 
 /// How many messages are fuzzy.
-fn fuzzy_count(lengths: &[Lengths]) -> u64
-    ensures { result ≡ count_by (λ (l : LengthsSeen). l.fuzzy) lengths.now }
+fn fuzzy_count(rows: &[Row<'_>]) -> u64
+    ensures { result ≡ count_by (λ (r : RowSeen). r.status.fuzzy) rows.now }
 {
-    lengths.iter().filter(|l| l.fuzzy).count() as u64
+    rows.iter().filter(|row| row.status.fuzzy).count() as u64
 }
 
 /// How many messages are untranslated.
-fn untranslated_count(lengths: &[Lengths]) -> u64
-    ensures { result ≡ count_by (λ (l : LengthsSeen). l.untranslated) lengths.now }
+fn untranslated_count(rows: &[Row<'_>]) -> u64
+    ensures { result ≡ count_by (λ (r : RowSeen). r.status.untranslated) rows.now }
 {
-    lengths.iter().filter(|l| l.untranslated).count() as u64
+    rows.iter().filter(|row| row.status.untranslated).count() as u64
 }

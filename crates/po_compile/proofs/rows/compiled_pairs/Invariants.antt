@@ -5,4 +5,4 @@ use Rattle.po_compile.proofs.rows.compiled_pairs.Given as goal
 
 abbrev pub invariant-loop-row : goal.invariant-loop-row
 invariant-loop-row l =
-    messages_of_borrowed l.pairs.items ≡ map (λ (m : LiveMessage). m.message) (filter (λ (m : LiveMessage). m.compiled) (map row_view (take l.row-index l.rows)))
+    messages_of_borrowed l.pairs.items ≡ map (λ (m : LiveMessage). m.message) (filter (λ (m : LiveMessage). m.status.compiled) (map row_view (take l.row-index l.rows)))

@@ -1,0 +1,108 @@
+ghost use Rattle.std.specs.Prelude.{◌≡◌, ◌==◌, ◌⊎◌, ◌<◌, ◌^◌, true, count_by, length, All, IfOk, IfErr, OnOk};
+ghost use Rattle.std.specs.List.{AllZip};
+ghost use Rattle.po_catalog.specs.Duplicate.{HasNoDuplicate, join_out_of_memory};
+ghost use Rattle.po_catalog.specs.Joined.{joined_entries};
+ghost use Rattle.po_entry.specs.TextEntry.{slice_texts};
+ghost use Rattle.po_compile.specs.Accepted.{IsReadingFault};
+ghost use Rattle.po_compile.specs.Collected.{ReadsLive};
+ghost use Rattle.po_compile.specs.JoinedRows.{AreDistinct, AreSortedRows, HasOneHeader, IsRepeatFault, IsRepeatInInput, OfAllInputs};
+ghost use Rattle.po_compile.specs.declared.collecting.Lengths.{Lengths as LengthsSeen};
+
+use crate::collecting::{Collected, Lengths, collect};
+use crate::reading::fault_of_input;
+use crate::row::Row;
+use crate::sorting::sorted_rows;
+use po_catalog::JoinError;
+use po_reader::laws::entries_can_stand;
+use std::alloc::Global;
+use std::slice::from_ref;
+
+/// Collects the messages of the live entries of several texts. Refused with the fault of `read`, of
+/// the first text that has one, if no text before it has a duplicate, and else with the first of
+/// those; and where an allocation failed.
+pub(crate) fn collect_all(
+    alloc: Global,
+    texts: &[&[u8]],
+    use_fuzzy: bool,
+) -> Result<Vec<Collected>, JoinError>
+    requires { length texts.now < 2 ^ 32 }
+    ensures found { IfOk result (λ inputs. AllZip (ReadsLive use_fuzzy) (slice_texts texts.now) inputs.items) }
+    ensures fault { IfErr result (IsReadingFault (slice_texts texts.now)) }
+{
+    let mut inputs = Vec::with_capacity(alloc, texts.len())?;
+    for (input, text) in texts.iter().enumerate() {
+        match collect(alloc, text, use_fuzzy) {
+            Ok(collected) => inputs.push(collected)?,
+            Err(error) => {
+                entries_can_stand();
+                check_each(alloc, &inputs)?;
+                return Err(fault_of_input(input as u32, error));
+            }
+        }
+    }
+    Ok(inputs)
+}
+
+/// Whether no live entry of an input repeats another of the same input. Refused with the fault of
+/// `duplicates`, of the first input that has one; and where an allocation failed.
+fn check_each(alloc: Global, inputs: &[Collected]) -> Result<(), JoinError>
+    requires { length inputs.now < 2 ^ 32 }
+    ensures distinct { OnOk result (OfAllInputs inputs.now (λ _ catalogues. All HasNoDuplicate catalogues)) }
+    ensures fault { IfErr result (λ e. OfAllInputs inputs.now (λ _ catalogues.
+        (e ≡ join_out_of_memory) ⊎ IsRepeatInInput catalogues e)) }
+{
+    for (input, collected) in inputs.iter().enumerate() {
+        match sorted_rows(alloc, from_ref(collected)) {
+            Ok(_) => {}
+            Err(error) => return Err(fault_of_input(input as u32, error.error)),
+        }
+    }
+    Ok(())
+}
+
+/// How many of the entries are headers.
+fn header_count(lengths: &[Lengths]) -> usize
+    ensures { result ≡ count_by (λ (l : LengthsSeen). l.key == 0) lengths.now }
+{
+    lengths.iter().filter(|l| l.key == 0).count()
+}
+
+/// Whether each input has one header at most.
+fn have_one_header(inputs: &[Collected]) -> bool
+    ensures { result ≡ true → All HasOneHeader inputs.now }
+{
+    for collected in inputs {
+        if header_count(&collected.lengths) > 1 {
+            return false;
+        }
+    }
+    true
+}
+
+/// The sorted rows of inputs, where no live entry repeats another of its input or of the joined
+/// list. The inputs are looked at one by one only where a live entry repeats another of the joined
+/// list, and where an input has two headers, which that list may not have.
+///
+/// Refused with the fault of `duplicates`, of the first input that has one; then with that of
+/// `joined_duplicates`; and where an allocation failed.
+pub(crate) fn distinct_rows(alloc: Global, inputs: &[Collected]) -> Result<Vec<Row<'_>>, JoinError>
+    requires { length inputs.now < 2 ^ 32 }
+    ensures distinct { OnOk result (OfAllInputs inputs.now (λ _ catalogues. AreDistinct catalogues)) }
+    ensures rows { IfOk result (λ rows. OfAllInputs inputs.now (λ use_fuzzy catalogues.
+        AreSortedRows use_fuzzy (joined_entries catalogues) rows.items)) }
+    ensures fault { IfErr result (λ e. OfAllInputs inputs.now (λ _ catalogues. IsRepeatFault catalogues e)) }
+{
+    match sorted_rows(alloc, inputs) {
+        Ok(rows) => {
+            if have_one_header(inputs) {
+                return Ok(rows);
+            }
+            check_each(alloc, inputs)?;
+            Ok(rows)
+        }
+        Err(error) => {
+            check_each(alloc, inputs)?;
+            Err(error)
+        }
+    }
+}
