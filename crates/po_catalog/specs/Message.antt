@@ -1,6 +1,6 @@
 -- What a message is known by (manual, "The Format of PO Files": a msgid may appear twice only under
 -- another context).
-use Rattle.std.specs.Prelude.{◌≡◌, ◌≢◌, ℕ, ◌<◌, Bool, ◌&&◌, List, length, take, AllPairs, Option, get_or}
+use Rattle.std.specs.Prelude.{◌≡◌, ◌≢◌, ℕ, ◌<◌, Bool, ◌&&◌, List, length, map, take, AllPairs, Option, get_or}
 use Rattle.std.specs.Option.{option_eq}
 use Rattle.std.specs.Str.{bytes_eq}
 use Rattle.po_entry.specs.TextEntry.{TextEntry}
@@ -16,6 +16,9 @@ same_message a b = option_eq bytes_eq a.context b.context && bytes_eq a.id b.id
 
 abbrev pub entry_message : TextEntry → Message
 entry_message entry = record { context = entry.context; id = entry.id }
+
+abbrev pub entry_messages : List TextEntry → List Message
+entry_messages entries = map entry_message entries
 
 -- the message at `later` is the first that stands before it too, at `first`
 pub record IsFirstRepeat (messages : List Message) (first later : ℕ) : Type 0 where

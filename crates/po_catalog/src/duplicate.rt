@@ -1,14 +1,16 @@
-ghost use Rattle.std.specs.Prelude.{◌≡◌, ◌<◌, ◌^◌, length, MatchResult, IsOkUnless};
-ghost use Rattle.po_catalog.specs.JoinedView.{input_entries};
+ghost use Rattle.std.specs.Prelude.{◌≡◌, ◌<◌, ◌^◌, length, IfOk, MatchResult, IsOkUnless};
+ghost use Rattle.po_catalog.specs.JoinedView.{input_entry, input_entries};
 ghost use Rattle.po_catalog.specs.Joined.{joined, joined_entries, entries_of};
-ghost use Rattle.po_catalog.specs.Duplicate.{HasNoDuplicate, IsDuplicateFault, IsDuplicateFaultOf, join_out_of_memory};
+ghost use Rattle.po_catalog.specs.Duplicate.{HasNoDuplicate, IsDuplicateFault, IsDuplicateFaultOf, duplicate_fault, join_out_of_memory, live_entries};
+ghost use Rattle.po_catalog.specs.Message.{entry_messages};
+ghost use Rattle.po_catalog.specs.MessageView.{messages};
 ghost use Rattle.po_entry.specs.Validity.{out_of_memory};
 
 use crate::joining::{JoinedEntry, add_entries, is_live, joined};
+use crate::message_index::{MessageKey, first_repeat, message_key};
 use po_entry::Catalogue;
 use po_syntax::{PoError, PoFault};
 use std::alloc::{AllocError, AllocFailed, Global};
-use std::collections::BTreeMap;
 use thiserror::Error;
 
 /// A fault of one of several inputs.
@@ -80,24 +82,55 @@ fn first_duplicate(alloc: Global, entries: &[JoinedEntry<'_>]) -> Result<(), Joi
     ensures exact { MatchResult result (λ _. HasNoDuplicate (entries_of (input_entries entries.now)))
         (IsDuplicateFault (input_entries entries.now)) }
 {
-    // A map that compares its keys, so that no choice of msgids makes it slow.
-    let mut seen = BTreeMap::new(alloc);
-    for joined in entries {
-        let entry = joined.entry;
-        if !is_live(entry) {
+    let live = live_entries(alloc, entries)?;
+    let keys = keys_of(alloc, &live)?;
+    match first_repeat(alloc, &keys)? {
+        Some(repeat) => Err(duplicate(&live[repeat.first], &live[repeat.later])),
+        None => Ok(()),
+    }
+}
+
+/// The live ones of the entries.
+fn live_entries<'a>(
+    alloc: Global,
+    entries: &[JoinedEntry<'a>],
+) -> Result<Vec<JoinedEntry<'a>>, AllocError>
+    ensures { IfOk result (λ live. input_entries live.items ≡ live_entries (input_entries entries.now)) }
+{
+    let mut live = Vec::with_capacity(alloc, entries.len())?;
+    for entry in entries {
+        if !is_live(entry.entry) {
             continue;
         }
-        let location = (joined.input, entry.line());
-        if let Some((first_input, line)) = seen.insert((entry.context(), entry.id()), location)? {
-            return Err(JoinError {
-                input: joined.input,
-                first_input,
-                error: PoError {
-                    kind: PoFault::Duplicate(line),
-                    line: entry.line(),
-                },
-            });
-        }
+        live.push(*entry)?;
     }
-    Ok(())
+    Ok(live)
+}
+
+/// The keys of the entries' messages.
+fn keys_of<'a>(
+    alloc: Global,
+    entries: &[JoinedEntry<'a>],
+) -> Result<Vec<MessageKey<'a>>, AllocError>
+    ensures { IfOk result (λ keys. messages keys.items ≡ entry_messages (entries_of (input_entries entries.now))) }
+{
+    let mut keys = Vec::with_capacity(alloc, entries.len())?;
+    for entry in entries {
+        keys.push(message_key(entry.entry))?;
+    }
+    Ok(keys)
+}
+
+/// What is reported of an entry that repeats an earlier one.
+fn duplicate(first: &JoinedEntry<'_>, later: &JoinedEntry<'_>) -> JoinError
+    ensures { result ≡ duplicate_fault (input_entry first.now) (input_entry later.now) }
+{
+    JoinError {
+        input: later.input,
+        first_input: first.input,
+        error: PoError {
+            kind: PoFault::Duplicate(first.entry.line()),
+            line: later.entry.line(),
+        },
+    }
 }
