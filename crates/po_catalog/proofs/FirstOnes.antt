@@ -1,10 +1,12 @@
 -- The first ones of a list and their numbers, where being alike is an equivalence.
-use Rattle.std.proofs.Common.{◌≡◌, ℕ, ◌+◌, ◌<◌, Bool, true, false, cond, not, ◌||◌, List, [], ◌∷◌, ◌++◌, refl, sym, ap, ap₂, ◌∙◌, subst, length, map, fold, All, append_assoc, arith}
+use Rattle.std.proofs.Common.{◌≡◌, ℕ, ◌+◌, ◌<◌, Bool, true, false, cond, not, ◌||◌, List, [], ◌∷◌, ◌++◌, refl, sym, ap, ap₂, ◌∙◌, subst, length, map, fold, All, take, drop, get_or, suc, append_assoc, append-nil, length-take, arith}
+use Rattle.std.proofs.Math.Seq.{drop-cons}
 use Rattle.std.specs.Prelude.{if◌then◌else◌}
 use Rattle.std.specs.List.{list_any, position_or_len}
 use Rattle.std.specs.Cmp.{IsEquivalence}
 use Rattle.std.proofs.lemmas.List.Folds.{list_any-append, position_or_len_push}
-use Rattle.std.proofs.lemmas.List.{map-append}
+use Rattle.std.proofs.lemmas.List.{map-append, length-map, get_or_at, get_or-map, take-append-drop}
+use Rattle.std.proofs.lemmas.List.Sums.{passes_at_first}
 use Rattle.std.proofs.lemmas.List.Elements.{All-nil, All-cons, All-head, All-tail}
 use Rattle.po_catalog.specs.FirstOnes.{with_new, first_ones, group_numbers}
 
@@ -110,3 +112,37 @@ module _ {X : Type 0} (alike : X → X → Bool) (laws : IsEquivalence alike) wh
       ap (λ (fs : List X). map (λ y. position_or_len (alike y) fs) (xs ++ x ∷ [])) (firsts_push xs x)
       ∙ map-append (λ y. position_or_len (alike y) (with_new alike firsts x)) xs (x ∷ [])
       ∙ ap₂ (λ (ns : List ℕ) (n : ℕ). ns ++ n ∷ []) (numbers_stay firsts x xs (all_are_found xs)) (number_of_new firsts x)
+
+  -- the numbers of more elements go on from those of fewer
+  more_numbers : (xs ys : List X) → (rest : List ℕ) × (group_numbers alike (xs ++ ys) ≡ group_numbers alike xs ++ rest)
+  more_numbers xs [] = ([], ap (group_numbers alike) (append-nil xs) ∙ sym (append-nil (group_numbers alike xs)))
+  more_numbers xs (y ∷ ys) =
+      let n = position_or_len (alike y) (first_ones alike xs) in
+      let more = more_numbers (xs ++ y ∷ []) ys in
+      (n ∷ more.0, ap (group_numbers alike) (sym (append_assoc xs (y ∷ []) ys)) ∙ more.1 ∙ ap (λ (l : List ℕ). l ++ more.0) (numbers_push xs y) ∙ append_assoc (group_numbers alike xs) (n ∷ []) more.0)
+
+  -- the number of an element is its place among the first ones before it
+  pub number_at : (xs : List X) (i : ℕ) (d : X) → i < length xs → get_or (group_numbers alike xs) i 0 ≡ position_or_len (alike (get_or xs i d)) (first_ones alike (take i xs))
+  number_at xs i d inside =
+      let x = get_or xs i d in
+      let n = position_or_len (alike x) (first_ones alike (take i xs)) in
+      let more = more_numbers (take i xs ++ x ∷ []) (drop (suc i) xs) in
+      let whole : xs ≡ (take i xs ++ x ∷ []) ++ drop (suc i) xs =
+      sym (take-append-drop i xs) ∙ ap (λ (l : List X). take i xs ++ l) (drop-cons xs i d inside) ∙ sym (append_assoc (take i xs) (x ∷ []) (drop (suc i) xs)) in
+      let long : length (group_numbers alike (take i xs)) ≡ i = omega (arith, length-map (take i xs) (λ y. position_or_len (alike y) (first_ones alike (take i xs))), length-take i xs, inside) in
+      ap (λ (l : List ℕ). get_or l i 0) (ap (group_numbers alike) whole ∙ more.1 ∙ ap (λ (l : List ℕ). l ++ more.0) (numbers_push (take i xs) x) ∙ append_assoc (group_numbers alike (take i xs)) (n ∷ []) more.0)
+      ∙ get_or_at (group_numbers alike (take i xs)) n more.0 0 i long
+
+  -- elements with one number are alike
+  pub one_number : (xs : List X) (i j : ℕ) (d : X) → i < length xs → j < length xs → get_or (group_numbers alike xs) i 0 ≡ get_or (group_numbers alike xs) j 0 → alike (get_or xs i d) (get_or xs j d) ≡ true
+  one_number xs i j d a b same =
+      let firsts = first_ones alike xs in
+      let number : X → ℕ = λ y. position_or_len (alike y) firsts in
+      let x = get_or xs i d in
+      let y = get_or xs j d in
+      let equal : number x ≡ number y = sym (get_or-map number xs i d 0 a) ∙ same ∙ get_or-map number xs j d 0 b in
+      let found : number x < length firsts = found_within (alike x) firsts (all_are_found xs i d a) in
+      let found_too : number y < length firsts = found_within (alike y) firsts (all_are_found xs j d b) in
+      let at_x : alike x (get_or firsts (number x) d) ≡ true = passes_at_first (alike x) firsts d found in
+      let at_y : alike y (get_or firsts (number y) d) ≡ true = passes_at_first (alike y) firsts d found_too in
+      laws.congr x (get_or firsts (number x) d) y at_x ∙ ap (λ (n : ℕ). alike (get_or firsts n d) y) equal ∙ laws.symm (get_or firsts (number y) d) y ∙ at_y

@@ -5,3 +5,4 @@ pub mod FirstDuplicates
 pub mod OmittedHeaders
 pub mod FirstOnes
 pub mod MessageIndex
+pub mod CountedOnce

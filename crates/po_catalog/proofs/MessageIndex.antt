@@ -1,5 +1,5 @@
 -- The index of messages: its keys are the first ones of those so far.
-use Rattle.std.proofs.Common.{◌≡◌, ◌≢◌, ℕ, ◌+◌, ◌<◌, Bool, true, false, ◌&&◌, cond, not, List, [], ◌∷◌, ◌++◌, Option, Some, None, refl, sym, ap, ap₂, ◌∙◌, subst, length, take, get_or, AllPairs, arith, length-take, true≢false, get_or-take}
+use Rattle.std.proofs.Common.{◌≡◌, ◌≢◌, ◌↔◌, ℕ, ◌+◌, ◌<◌, Bool, true, false, ◌&&◌, cond, not, List, [], ◌∷◌, ◌++◌, Option, Some, None, refl, sym, ap, ap₂, ◌∙◌, subst, length, take, get_or, AllPairs, arith, length-take, true≢false, get_or-take}
 use Rattle.std.specs.Borrow.{Bor}
 use Rattle.std.specs.Option.{option_eq, option_copied}
 use Rattle.std.specs.Str.{bytes_eq}
@@ -17,7 +17,7 @@ use Rattle.po_catalog.specs.declared.message_index.MessageKey.{MessageKey}
 use Rattle.po_catalog.specs.FirstOnes.{with_new, first_ones, group_numbers}
 use Rattle.po_catalog.specs.Message.{Message, IsFirstRepeat, same_message}
 use Rattle.po_catalog.specs.MessageView.{message_of, messages}
-use Rattle.po_catalog.proofs.FirstOnes.{firsts_push, found_within, numbers_push}
+use Rattle.po_catalog.proofs.FirstOnes.{firsts_push, found_within, numbers_push, one_number}
 
 -- whether two keys are equal
 abbrev pub same_key : MessageKey → MessageKey → Bool
@@ -155,3 +155,13 @@ module _ (keys index new : List MessageKey) (i : ℕ) (key d : MessageKey) (insi
   key_repeats is_false first is =
       repeats (messages keys) i (message_of key) (message_of key) long at apart_before (seen ∙ ap not is_false) first
       (is ∙ sym (place_of_key key index) ∙ ap (λ (l : List Message). position_or_len (same_message (message_of key)) l) (so_far.all ∙ sym (take-map message_of i keys)))
+
+-- messages have one number exactly where they are the same
+pub numbers_tell : (ms : List Message) (i j : ℕ) (d : Message) → i < length ms → j < length ms
+    → (get_or (group_numbers same_message ms) i 0 ≡ get_or (group_numbers same_message ms) j 0) ↔ (get_or ms i d ≡ get_or ms j d)
+numbers_tell ms i j d a b = (
+  λ same. messages_are (get_or ms i d) (get_or ms j d) (one_number same_message same_message_laws ms i j d a b same),
+  λ same.
+      let number : Message → ℕ = λ m. position_or_len (same_message m) (first_ones same_message ms) in
+      get_or-map number ms i d 0 a ∙ ap number same ∙ sym (get_or-map number ms j d 0 b),
+)

@@ -8,3 +8,4 @@ pub mod FirstOnes
 pub mod Message
 pub mod MessageView
 pub mod Hashing
+pub mod StatisticsLaws

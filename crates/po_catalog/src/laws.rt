@@ -1,13 +1,17 @@
 //! Laws of catalogues, each the contract of a function that does nothing: a call brings the law
 //! into a proof. Those of the crates below are re-exported.
-ghost use Rattle.std.specs.Prelude.{◌≡◌, ◌⊎◌, List, All, map};
+ghost use Rattle.std.specs.Prelude.{◌≡◌, ◌⊎◌, ◌↔◌, ℕ, ◌<◌, List, All, get_or, length, map, take};
+ghost use Rattle.std.specs.List.{position_or_len};
 ghost use Rattle.po_syntax.specs.PoText.{IsSmall};
 ghost use Rattle.po_entry.specs.TextEntry.{TextEntry, with_line};
 ghost use Rattle.po_entry.specs.Validity.{IsCatalogueEntry};
 ghost use Rattle.po_entry.specs.ReadsText.{ReadsText};
 ghost use Rattle.po_catalog.specs.Duplicate.{HasNoDuplicate, IsFirstDuplicate};
 ghost use Rattle.po_catalog.specs.Joined.{InputEntry, entries_of};
+ghost use Rattle.po_catalog.specs.FirstOnes.{first_ones, group_numbers};
+ghost use Rattle.po_catalog.specs.Message.{Message, same_message};
 ghost use Rattle.po_catalog.specs.Omitted.{OmitsLaterHeaders};
+ghost use Rattle.po_catalog.specs.StatisticsLaws.{CountsAddUp, EmptyAreUntranslated, FlaggedAreFuzzy};
 ghost use Rattle.po_writer.specs.WrittenText.{arranged, written_text};
 
 pub use po_entry::laws::equal_but_line;
@@ -60,4 +64,28 @@ pub fn one_first_duplicate()
 /// that stands after one with a live header.
 pub fn later_headers_are_omitted()
     ensures { (inputs : List (List TextEntry)) → OmitsLaterHeaders inputs }
+{}
+
+/// Messages have one number exactly where they are the same.
+pub fn one_number_is_one_message()
+    ensures { (messages : List Message) (i j : ℕ) (d : Message) → i < length messages → j < length messages
+        → (get_or (group_numbers same_message messages) i 0 ≡ get_or (group_numbers same_message messages) j 0)
+        ↔ (get_or messages i d ≡ get_or messages j d) }
+{}
+
+/// The number of a message is its place among the different messages before it, in order of first
+/// appearance; where none of them is that message, it is how many there are.
+pub fn messages_are_numbered_in_order()
+    ensures { (messages : List Message) (i : ℕ) (d : Message) → i < length messages
+        → get_or (group_numbers same_message messages) i 0
+        ≡ position_or_len (same_message (get_or messages i d)) (first_ones same_message (take i messages)) }
+{}
+
+/// The statistics count each live entry but the header once. The untranslated ones are those with
+/// an empty first form, whether they are fuzzy or not; of the others those with the flag `fuzzy`
+/// are fuzzy.
+pub fn statistics_count_each_once()
+    ensures sum { (entries : List TextEntry) → CountsAddUp entries }
+    ensures untranslated { (entries : List TextEntry) → EmptyAreUntranslated entries }
+    ensures fuzzy { (entries : List TextEntry) → FlaggedAreFuzzy entries }
 {}
