@@ -40,7 +40,7 @@ pub struct Selection {
 
 impl Selection {
     /// Whether an entry is kept: as a live header, or since it meets each given condition.
-    pub(crate) fn keeps(&self, entry: &Entry) -> bool
+    pub fn keeps(&self, entry: &Entry) -> bool
         ensures { result ≡ is_kept self.now entry.now }
     {
         is_live_header(entry) || self.is_met_by(entry)
@@ -93,7 +93,7 @@ impl Selection {
     }
 
     /// Whether an entry is obsolete once it is changed.
-    fn obsolete_after(&self, entry: &Entry) -> bool
+    pub fn obsolete_after(&self, entry: &Entry) -> bool
         ensures { result ≡ obsolete_after self.now entry.now }
     {
         if self.set_obsolete {

@@ -1,4 +1,3 @@
-pub mod MsgattribLemmas
 pub mod MsgcatLemmas
 pub mod DigestLemmas
 pub mod SelectedLemmas
@@ -7,3 +6,5 @@ pub mod SegmentLemmas
 pub mod HeldLemmas
 pub mod InterleavedText
 pub mod NulNames
+pub mod KeyLemmas
+pub mod RepeatLemmas

@@ -30,31 +30,6 @@ all_kept more less true use_first h = absurd (let no : false ≡ true = h in cc)
 all_kept more (Some limit) false use_first h = absurd (let no : false ≡ true = h in cc)
 all_kept more None false use_first h = ap (λ (n : ℕ). options_of n None false use_first) (eqb-true more 0 h)
 
--- the text of one input, of which everything is selected
-pub one_merged : (file : NamedFile) (o : MergeOptions) (written : List ℕ) → keeps_all o ≡ true
-    → ((text : List ℕ) (entries : List TextEntry) → ReadsText text entries → All IsCatalogueEntry entries)
-    → ((entries : List TextEntry) → selected every_entry entries ≡ entries) → ((use_first : Bool) (input : Input) → OneInputStays use_first input)
-    → IsSelectedText every_entry file.bytes written → IsMergedText (file ∷ []) o written
-one_merged file o written all stand everything stays of =
-    let input : Input = record { name = file.name; entries = of.entries } in
-    let kept : merged o (input ∷ []) ≡ of.entries = ap (λ (p : MergeOptions). merged p (input ∷ [])) (all_kept o.more_than o.less_than o.unique o.use_first all) ∙ stays o.use_first input of.differ in
-    record {
-      inputs = input ∷ [];
-      read = (record { name = refl; reads = record { reads = of.reads; distinct = live_differ of.entries of.differ } }, tt);
-      admitted = subst (All HasAdmittedCharset) (sym kept) (All-weaker IsCatalogueEntry HasAdmittedCharset (λ e v. v.charset) of.entries (stand file.bytes of.entries of.reads));
-      text_is = of.text_is ∙ ap written_text (everything of.entries ∙ sym kept);
-    }
-
--- what is selected of the one input of a list
-pub one_input : (files : List (Bor (List ℕ) × Bor (List ℕ))) (d : Bor (List ℕ) × Bor (List ℕ)) (o : MergeOptions) (found : Option (Vec ℕ Global)) → 1 ≤ length files → length files < 2 → keeps_all o ≡ true
-    → ((text : List ℕ) (entries : List TextEntry) → ReadsText text entries → All IsCatalogueEntry entries)
-    → ((entries : List TextEntry) → selected every_entry entries ≡ entries) → ((use_first : Bool) (input : Input) → OneInputStays use_first input)
-    → IfSome found (λ written. IsSelectedText every_entry (get_or files 0 d).1.now written.items) → IfSome found (λ written. IsMergedText (named_files files) o written.items)
-one_input [] d o found some few all stand everything stays of = absurd (omega arith)
-one_input (file ∷ []) d o None some few all stand everything stays of = tt
-one_input (file ∷ []) d o (Some written) some few all stand everything stays of = one_merged (named_file file) o written.items all stand everything stays of
-one_input (file ∷ other ∷ files) d o found some few all stand everything stays of = absurd (omega arith)
-
 -- the run that writes it
 pub merged_done : (files : List NamedFile) (o : MergeOptions) (written : List ℕ) (run : RunView) → IsMergedText files o written
     → ((entries : List TextEntry) → written ≡ written_text entries → run ≡ written_run entries) → IsMsgcatRun files o run

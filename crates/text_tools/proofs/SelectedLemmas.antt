@@ -1,44 +1,104 @@
 -- What is selected of the entries of a text.
-use Rattle.std.proofs.Common.{◌≡◌, sym, ap, ◌∙◌, ℕ, ◌<◌, List, ◌++◌, map, filter, length, arith, inr}
+use Rattle.std.proofs.Common.{◌≡◌, ◌≢◌, refl, sym, ap, ap₂, subst, ◌∙◌, ℕ, ◌<◌, Bool, true, false, cond, not, ◌&&◌, List, [], ◌∷◌, ◌++◌, map, filter, length, arith, inl, inr, get_or}
+use Rattle.std.specs.Prelude.{All, Contains}
+use Rattle.std.specs.List.{position_or_len}
 use Rattle.std.proofs.lemmas.List.{get_or-map, length-map, map-append}
-use Rattle.std.proofs.lemmas.List.Elements.{filter-append}
+use Rattle.std.proofs.lemmas.Simd.{map-map}
+use Rattle.std.proofs.lemmas.List.Elements.{All-filter, All-map, filter-append}
 use Rattle.std.proofs.lemmas.List.Kept.{AllPairs-filter}
+use Rattle.po_syntax.specs.declared.fault.PoError.{PoError}
+use Rattle.po_syntax.specs.declared.fault.PoFault.TheVariants.{Duplicate, OutOfMemory}
 use Rattle.po_entry.specs.TextEntry.{TextEntry}
 use Rattle.po_catalog.specs.Duplicate.{AllDiffer, HasNoDuplicate, IsSameMessage}
-use Rattle.po_catalog.specs.Joined.{is_live}
+use Rattle.po_catalog.specs.Joined.{in_input, is_live}
 use Rattle.po_select.specs.declared.selection.Selection.{Selection}
-use Rattle.po_select.specs.Selected.{changed, is_kept, selected}
+use Rattle.po_select.specs.Selected.{changed, is_kept, obsolete_after, selected}
 use Rattle.po_writer.specs.WrittenText.{written_text}
-use Rattle.text_tools.specs.Msgattrib.{IsMsgattribRun}
-use Rattle.tool_runs.specs.Run.{RunView}
-use Rattle.text_tools.specs.SelectedText.{IsSelectedText}
+use Rattle.po_catalog.specs.FirstOnes.{first_ones, group_numbers}
+use Rattle.po_catalog.specs.Message.{Message, entry_message, same_message}
+use Rattle.text_tools.specs.Msgattrib.{IsMsgattribRun, error_line}
+use Rattle.text_tools.specs.Repeats.{IsFirstRepeat, NumbersDiffer, are_numbered, numbered}
+use Rattle.text_tools.specs.SelectedText.{AreDistinct, HoldRows, IsSelectedText, IsSelectionFault, Repeats, RepeatsSelected, stays_live}
 use Rattle.text_tools.specs.Written.{written_run}
+use Rattle.text_tools.specs.declared.selected_text.Rows.{Rows}
+use Rattle.std.proofs.lemmas.List.Folds.{list_any_at}
+use Rattle.std.proofs.lemmas.List.Sums.{passes_at_first}
+use Rattle.po_catalog.proofs.FirstOnes.{any_first_ones, found_within}
+use Rattle.po_catalog.proofs.MessageIndex.{messages_are, same_message_laws}
+use Rattle.text_tools.proofs.RepeatLemmas.{AreAmong, AreOwn, all_among, duplicate_of, numbers_differ}
+use Rattle.tool_runs.specs.Run.{RunView, refusal, run_view}
+use Rattle.tool_runs.specs.declared.run.Run.{Run}
 
 -- entries are selected one by one
 pub selected_joined : (s : Selection) (before entries : List TextEntry) → selected s before ++ selected s entries ≡ selected s (before ++ entries)
 selected_joined s before entries =
     sym (ap (map (changed s)) (filter-append (is_kept s) before entries) ∙ map-append (changed s) (filter (is_kept s) before) (filter (is_kept s) entries))
 
--- a change leaves each entry its message
-changed_differ : (s : Selection) (entries : List TextEntry) → AllDiffer entries → AllDiffer (map (changed s) entries)
-changed_differ s entries differ =
-    λ i j d below inside same.
-    let within : j < length entries = omega (arith, inside, length-map entries (changed s)) in
-    let first = get_or-map (changed s) entries i d d (omega (arith, below, within)) in
-    let second = get_or-map (changed s) entries j d d within in
-    differ i j d below within (
-      sym (ap (λ (e : TextEntry). e.context) first) ∙ same.0 ∙ ap (λ (e : TextEntry). e.context) second,
-      sym (ap (λ (e : TextEntry). e.id) first) ∙ same.1 ∙ ap (λ (e : TextEntry). e.id) second,
-    )
-
 -- entries of different messages have no duplicate
 pub live_differ : (entries : List TextEntry) → AllDiffer entries → HasNoDuplicate entries
 live_differ entries differ = AllPairs-filter (λ a b. ¬ IsSameMessage a b) is_live entries differ
 
--- nor have those that are selected of them
-selected_differ : (s : Selection) (entries : List TextEntry) → AllDiffer entries → HasNoDuplicate (selected s entries)
-selected_differ s entries differ =
-    live_differ (selected s entries) (changed_differ s (filter (is_kept s) entries) (AllPairs-filter (λ a b. ¬ IsSameMessage a b) (is_kept s) entries differ))
+-- the number of a message among those of the entries
+abbrev pub number_in : List TextEntry → Message → ℕ
+number_in entries message = position_or_len (same_message message) (first_ones same_message (map entry_message entries))
+
+pub numbers_are : (keys : List Message) (entries : List TextEntry) (numbers : List ℕ) → numbers ≡ group_numbers same_message keys → keys ≡ map entry_message entries → numbers ≡ are_numbered (number_in entries) entries
+numbers_are keys entries numbers is keys_are = is ∙ ap (group_numbers same_message) keys_are ∙ map-map (number_in entries) entry_message entries
+
+-- no two of the messages have one number
+pub own_of : (entries : List TextEntry) → AreOwn (map entry_message entries) (number_in entries)
+own_of entries a b first later same =
+    let known = map entry_message entries in
+    let firsts = first_ones same_message known in
+    let found : (m : Message) → Contains known m → m ≡ get_or firsts (number_in entries m) a = λ m among.
+    let met = any_first_ones same_message same_message_laws m known ∙ list_any_at (same_message m) known among.0 m among.1 (ap (same_message m) among.2 ∙ same_message_laws.refl m) in
+    messages_are m (get_or firsts (number_in entries m) a) (passes_at_first (same_message m) firsts a (found_within (same_message m) firsts met)) in
+    found a first ∙ ap (λ n. get_or firsts n a) same ∙ sym (found b later)
+
+-- the selected entries that are live
+live_selected : (s : Selection) (number_of : Message → ℕ) (entries : List TextEntry)
+    → map (numbered number_of) (filter (stays_live s) entries) ≡ map (numbered number_of) (filter is_live (selected s entries))
+live_selected s number_of [] = refl
+live_selected s number_of (e ∷ entries) = step (is_kept s e) (not (obsolete_after s e)) refl (live_selected s number_of entries) where
+  step : (b c : Bool) → not (obsolete_after s e) ≡ c → map (numbered number_of) (filter (stays_live s) entries) ≡ map (numbered number_of) (filter is_live (selected s entries))
+      → map (numbered number_of) (cond (b && c) (e ∷ filter (stays_live s) entries) (filter (stays_live s) entries))
+      ≡ map (numbered number_of) (filter is_live (map (changed s) (cond b (e ∷ filter (is_kept s) entries) (filter (is_kept s) entries))))
+  step false c is more = more
+  step true true is more =
+      ap (λ l. numbered number_of e ∷ l) more ∙ ap (λ (b : Bool). map (numbered number_of) (cond b (changed s e ∷ filter is_live (selected s entries)) (filter is_live (selected s entries)))) (sym is)
+  step true false is more =
+      more ∙ ap (λ (b : Bool). map (numbered number_of) (cond b (changed s e ∷ filter is_live (selected s entries)) (filter is_live (selected s entries)))) (sym is)
+
+among_selected : (s : Selection) (entries : List TextEntry) → AreAmong (map entry_message entries) (filter is_live (selected s entries))
+among_selected s entries =
+    let Known : TextEntry → Type 0 = λ e. Contains (map entry_message entries) (entry_message e) in
+    All-filter is_live Known (selected s entries) (All-map Known (changed s) (filter (is_kept s) entries) (All-filter (is_kept s) Known entries (all_among entries)))
+
+-- a number that stands twice among the live entries
+pub repeats_read : (entries : List TextEntry) (lines : ℕ × ℕ) (error : PoError) → IsFirstRepeat (map (numbered (number_in entries)) (filter is_live entries)) lines
+    → error ≡ record { kind = Duplicate lines.0; line = lines.1 } → Repeats entries error
+repeats_read entries lines error repeat error_is =
+    let known = map entry_message entries in
+    let found = duplicate_of known (number_in entries) 0 entries (filter is_live entries) lines (own_of entries) refl (All-filter is_live (λ e. Contains known (entry_message e)) entries (all_among entries)) repeat in
+    (in_input 0 found.0, in_input 0 found.1, found.2, error_is ∙ ap (λ (l : ℕ × ℕ). record { kind = Duplicate l.0; line = l.1 }) found.3)
+
+-- one that stands twice among those that are selected
+pub repeats_selected : (s : Selection) (entries : List TextEntry) (lines : ℕ × ℕ) (error : PoError) → HasNoDuplicate entries
+    → IsFirstRepeat (map (numbered (number_in entries)) (filter (stays_live s) entries)) lines → error ≡ record { kind = Duplicate lines.0; line = 0 } → RepeatsSelected s entries error
+repeats_selected s entries lines error distinct repeat error_is =
+    let live = subst (λ l. IsFirstRepeat l lines) (live_selected s (number_in entries) entries) repeat in
+    let found = duplicate_of (map entry_message entries) (number_in entries) 0 (selected s entries) (filter is_live (selected s entries)) lines (own_of entries) refl (among_selected s entries) live in
+    record {
+      distinct = distinct;
+      first = in_input 0 found.0;
+      later = in_input 0 found.1;
+      duplicate = found.2;
+      error_is = error_is ∙ ap (λ (l : ℕ × ℕ). record { kind = Duplicate l.0; line = 0 }) found.3;
+    }
+
+-- no number stands twice among them
+pub selected_differ : (s : Selection) (entries : List TextEntry) → NumbersDiffer (map (numbered (number_in entries)) (filter (stays_live s) entries)) → HasNoDuplicate (selected s entries)
+selected_differ s entries differ = numbers_differ (number_in entries) (filter is_live (selected s entries)) (subst NumbersDiffer (live_selected s (number_in entries) entries) differ)
 
 -- the run that writes what is selected
 pub run_done : (name text : List ℕ) (s : Selection) (written : List ℕ) (run : RunView) → IsSelectedText s text written
@@ -46,7 +106,22 @@ pub run_done : (name text : List ℕ) (s : Selection) (written : List ℕ) (run 
 run_done name text s written run of run_is =
     inr (inr (record {
       entries = of.entries;
-      read = record { reads = of.reads; distinct = live_differ of.entries of.differ };
-      distinct = selected_differ s of.entries of.differ;
+      read = record { reads = of.reads; distinct = of.distinct.read };
+      distinct = of.distinct.kept;
       run_is = run_is (selected s of.entries) of.text_is;
+    }))
+
+-- the run that reports a fault
+pub run_refused : (name text : List ℕ) (s : Selection) (error : PoError) (run : Run) → IsSelectionFault s text error → (error.kind ≢ OutOfMemory) × (run_view run ≡ refusal (error_line name error))
+    → IsMsgattribRun name s text (run_view run)
+run_refused name text s error run (inl memory) reported = absurd (reported.0 memory)
+run_refused name text s error run (inr (inl fault)) reported = inl (record { error = error; fault = fault; not_memory = reported.0; run_is = reported.1 })
+run_refused name text s error run (inr (inr of)) reported =
+    inr (inl (record {
+      entries = of.entries;
+      read = record { reads = of.reads; distinct = of.repeats.distinct };
+      first = of.repeats.first;
+      later = of.repeats.later;
+      duplicate = of.repeats.duplicate;
+      run_is = reported.1 ∙ ap (λ (e : PoError). refusal (error_line name e)) of.repeats.error_is;
     }))

@@ -6,3 +6,5 @@ pub mod SelectedText
 pub mod Held
 pub mod SegmentTexts
 pub mod Options
+pub mod Keys
+pub mod Repeats

@@ -1,19 +1,21 @@
 //! msgattrib and msgcat as functions of their inputs: what each writes and reports, and its exit
 //! status.
 //!
-//! The modules in reading order: `written`, `digests`, `selected_text`, `msgattrib`; then, for
-//! several inputs, `repeated`, `segment_texts`, `held`, `merged_text`, `msgcat`, `unread`; and
+//! The modules in reading order: `written`, `keys`, `repeats`, `selected_text`, `msgattrib`; then,
+//! for msgcat, `digests`, `repeated`, `segment_texts`, `held`, `merged_text`, `msgcat`, `unread`; and
 //! `options`.
 
 #![tactic(auto)]
 
 mod digests;
 mod held;
+mod keys;
 mod merged_text;
 mod msgattrib;
 mod msgcat;
 mod options;
 mod repeated;
+mod repeats;
 mod segment_texts;
 mod selected_text;
 mod unread;

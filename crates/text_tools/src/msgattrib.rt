@@ -6,13 +6,10 @@ ghost use Rattle.text_tools.specs.Msgattrib.{IsMsgattribRun};
 ghost use Rattle.tool_runs.specs.Run.{run_view};
 
 use crate::selected_text::selected_text;
-use crate::written::{refused_text, text_run, written_run};
-use po_catalog::duplicates;
-use po_compile::read_distinct;
-use po_select::{Selection, select};
+use crate::written::{refused_text, text_run};
+use po_select::Selection;
 use po_shell::{ByteIn, ByteOut, ToolFault, read_input};
-use po_syntax::PoError;
-use std::alloc::{AllocError, Global};
+use std::alloc::Global;
 use tool_runs::{Run, deliver};
 
 /// What `msgattrib` writes and reports of a text with its name: the selected entries, changed as
@@ -28,31 +25,9 @@ pub fn plan_msgattrib(
     ensures run { IfOk result (λ run. IsMsgattribRun name.now selection.now text.now (run_view run)) }
     ensures memory { OnErr result (result ≡ Err ToolFault.OutOfMemory) }
 {
-    match selected_text(alloc, text, selection)? {
-        Some(output) => Ok(text_run(alloc, output)),
-        None => Ok(plan_whole(alloc, text, name, selection)?),
-    }
-}
-
-/// The same, of a text that is read as one catalogue.
-fn plan_whole(
-    alloc: Global,
-    text: &[u8],
-    name: &str,
-    selection: &Selection,
-) -> Result<Run, AllocError>
-    ensures { IfOk result (λ run. IsMsgattribRun name.now selection.now text.now (run_view run)) }
-{
-    let catalogue = match read_distinct(alloc, text) {
-        Ok(catalogue) => catalogue,
-        Err(error) => return refused_text(alloc, "msgattrib", name, error),
-    };
-    let Ok(selected) = select(catalogue, selection) else {
-        return Err(AllocError);
-    };
-    match duplicates(alloc, &selected) {
-        Ok(()) => written_run(alloc, &selected),
-        Err(error) => refused_text(alloc, "msgattrib", name, PoError { line: 0, ..error }),
+    match selected_text(alloc, text, selection) {
+        Ok(output) => Ok(text_run(alloc, output)),
+        Err(error) => Ok(refused_text(alloc, "msgattrib", name, error)?),
     }
 }
 

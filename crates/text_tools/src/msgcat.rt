@@ -9,34 +9,13 @@ ghost use Rattle.tool_runs.specs.NamedFile.{named_files};
 ghost use Rattle.tool_runs.specs.Run.{refusal, run_view};
 
 use crate::merged_text::merged_text;
-use crate::selected_text::selected_text;
 use crate::written::{refused_text, text_run, written_run};
 use po_compile::read_distinct;
-use po_merge::laws::one_input_stays;
 use po_merge::{MergeOptions, Named, merge};
-use po_reader::laws::entries_can_stand;
-use po_select::Selection;
-use po_select::laws::nothing_given_selects_all;
 use po_shell::ToolFault;
 use po_syntax::{PoError, PoFault};
 use std::alloc::{AllocError, Global};
 use tool_runs::{ProgramFault, Run};
-
-/// The selection of every entry, unchanged.
-const EVERY_ENTRY: Selection = Selection {
-    translated: false,
-    untranslated: false,
-    no_fuzzy: false,
-    only_fuzzy: false,
-    no_obsolete: false,
-    only_obsolete: false,
-    set_fuzzy: false,
-    clear_fuzzy: false,
-    set_obsolete: false,
-    clear_obsolete: false,
-    clear_previous: false,
-    empty: false,
-};
 
 /// Why a file isn't read.
 #[derive(Clone, Copy)]
@@ -138,14 +117,10 @@ fn text_of_pieces(
     ensures { IfOk result (λ found. IfSome found
         (λ written. IsMergedText (named_files inputs.now) options.now written.items)) }
 {
-    entries_can_stand();
-    nothing_given_selects_all();
-    one_input_stays();
-    match inputs {
-        [(_, text)] if keeps_all(options) => selected_text(alloc, text, &EVERY_ENTRY),
-        [_, _, ..] if keeps_all(options) => merged_text(alloc, inputs, options),
-        _ => Ok(None),
+    if keeps_all(options) {
+        return merged_text(alloc, inputs, options);
     }
+    Ok(None)
 }
 
 /// Whether every message is kept.

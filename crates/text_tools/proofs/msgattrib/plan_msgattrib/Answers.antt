@@ -1,12 +1,8 @@
-use Rattle.std.proofs.Common.{subst}
-use Rattle.std.specs.Prelude.{IfSome}
+use Rattle.std.proofs.Common.{◌≡◌}
 use Rattle.tool_runs.specs.Run.{run_view}
-use Rattle.text_tools.specs.SelectedText.{IsSelectedText}
-use Rattle.text_tools.proofs.SelectedLemmas.{run_done}
+use Rattle.text_tools.proofs.SelectedLemmas.{run_refused}
 use Rattle.text_tools.proofs.msgattrib.plan_msgattrib.Goals as goal
 
-pub returns-in-Some-clause-run : goal.returns-in-Some-clause-run
-returns-in-Some-clause-run c =
-    run_done c.args.name.now c.args.text.now c.args.selection.now c.in-Some.output.items (run_view c.text_run.result)
-    (subst (λ found. IfSome found (λ written. IsSelectedText c.args.selection.now c.args.text.now written.items)) c.in-Some.is c.in_ok-output.ensures)
-    c.text_run.ensures
+pub returns-in_ok-refused_text-in-Err-clause-run : goal.returns-in_ok-refused_text-in-Err-clause-run
+returns-in_ok-refused_text-in-Err-clause-run c =
+    run_refused c.args.name.now c.args.text.now c.args.selection.now c.in-Err.error c.in_ok-refused_text-in-Err.field-0 c.in-Err.ensures c.in_ok-refused_text-in-Err.ensures.run

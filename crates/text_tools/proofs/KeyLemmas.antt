@@ -1,0 +1,40 @@
+-- Lists made of the same elements, element by element.
+use Rattle.std.proofs.Common.{◌≡◌, refl, ap, ℕ, zero, suc, ◌+◌, ◌<◌, List, [], ◌∷◌, ◌++◌, sym, ◌∙◌, ap₂, Bool, cond, true, false, append-nil, not, filter, length, get_or, take, drop, map, arith, add-one}
+use Rattle.std.proofs.lemmas.List.{map-append}
+use Rattle.std.proofs.lemmas.List.Elements.{filter-append}
+
+-- the element at an index, and what two functions give of it
+pub element_at : {X Y Z : Type 0} (f : X → Y) (g : X → Z) (xs : List X) (ys : List Y) (zs : List Z) (i : ℕ) (d : Y) (e : Z) → ys ≡ map f xs → zs ≡ map g xs → i < length ys
+    → (x : X) × (take (i + 1) xs ≡ take i xs ++ x ∷ []) × (drop i xs ≡ x ∷ drop (i + 1) xs) × (get_or ys i d ≡ f x) × (get_or zs i e ≡ g x)
+element_at {X = X} f g xs ys zs i d e is js inside = rw (is, js) (found xs i (rw is at inside)) where
+  found : (xs : List X) (i : ℕ) → i < length (map f xs) → (x : X) × (take (i + 1) xs ≡ take i xs ++ x ∷ []) × (drop i xs ≡ x ∷ drop (i + 1) xs) × (get_or (map f xs) i d ≡ f x) × (get_or (map g xs) i e ≡ g x)
+  found [] i inside = absurd (omega (arith, inside))
+  found (x ∷ xs) zero inside = (x, refl, refl, refl, refl)
+  found (y ∷ xs) (suc i) inside =
+      let less : i < length (map f xs) = omega (arith, inside) in
+      let later = found xs i less in
+      (later.0, rw add-one (rw add-one at (ap (λ l. y ∷ l) later.1)), rw add-one (rw add-one at later.2), later.3, later.4)
+
+-- one more element, if it passes a test
+pub filtered_more : {X Y : Type 0} (p : X → Bool) (f : X → Y) (xs : List X) (i : ℕ) (x : X) (b : Bool) → take (i + 1) xs ≡ take i xs ++ x ∷ [] → p x ≡ b
+    → map f (filter p (take (i + 1) xs)) ≡ map f (filter p (take i xs)) ++ cond b (f x ∷ []) []
+filtered_more {Y = Y} p f xs i x b one passes =
+    ap (λ l. map f (filter p l)) one ∙ ap (map f) (filter-append p (take i xs) (x ∷ []) ∙ ap (λ (c : Bool). filter p (take i xs) ++ cond c (x ∷ []) []) passes)
+    ∙ map-append f (filter p (take i xs)) (cond b (x ∷ []) []) ∙ ap (λ (l : List Y). map f (filter p (take i xs)) ++ l) (kept b) where
+      kept : (b : Bool) → map f (cond b (x ∷ []) []) ≡ cond b (f x ∷ []) []
+      kept true = refl
+      kept false = refl
+
+pub not_true : (b : Bool) → not b ≡ true → b ≡ false
+not_true true h = cc
+not_true false h = refl
+
+pub not_false : (b : Bool) → not b ≡ false → b ≡ true
+not_false true h = refl
+not_false false h = cc
+
+-- what stands for a missing element doesn't matter where none is missing
+pub same_at : {X : Type 0} (xs : List X) (i : ℕ) (d e : X) → i < length xs → get_or xs i d ≡ get_or xs i e
+same_at [] i d e inside = absurd (omega (arith, inside))
+same_at (x ∷ xs) zero d e inside = refl
+same_at (x ∷ xs) (suc i) d e inside = let less : i < length xs = omega (arith, inside) in same_at xs i d e less

@@ -1,0 +1,36 @@
+-- Live entries that repeat an earlier one, by the numbers of their messages. Internal to this crate.
+use Rattle.std.specs.Prelude.{◌≡◌, ◌≢◌, ℕ, Bool, List, ◌∷◌, ◌++◌, AllPairs, map}
+use Rattle.po_entry.specs.TextEntry.{TextEntry}
+use Rattle.po_catalog.specs.Message.{Message, entry_message}
+use Rattle.text_tools.specs.declared.repeats.Numbered.{Numbered}
+use Rattle.text_tools.specs.declared.repeats.Place.{Place}
+
+-- the numbers of the entries' messages
+abbrev pub are_numbered : (Message → ℕ) → List TextEntry → List ℕ
+are_numbered number_of entries = map (λ e. number_of (entry_message e)) entries
+
+-- where the entries stand, and which of them are looked at
+abbrev pub place_of : (TextEntry → Bool) → TextEntry → Place
+place_of is_there entry = record { line = entry.line; is_live = is_there entry }
+
+abbrev pub are_placed : (TextEntry → Bool) → List TextEntry → List Place
+are_placed is_there entries = map (place_of is_there) entries
+
+abbrev pub numbered : (Message → ℕ) → TextEntry → Numbered
+numbered number_of entry = record { number = number_of (entry_message entry); line = entry.line }
+
+-- no two have one number
+abbrev pub NumbersDiffer : List Numbered → Type 0
+NumbersDiffer entries = AllPairs (λ a b. a.number ≢ b.number) entries
+
+-- the lines of the earliest that has the number of an earlier one: that of the earlier one, and its own
+pub record IsFirstRepeat (entries : List Numbered) (lines : ℕ × ℕ) : Type 0 where
+  pub before : List Numbered
+  pub first : Numbered
+  pub between : List Numbered
+  pub later : Numbered
+  pub after : List Numbered
+  pub order : entries ≡ (before ++ first ∷ between) ++ later ∷ after
+  pub same : first.number ≡ later.number
+  pub differ : NumbersDiffer (before ++ first ∷ between)
+  pub lines_are : lines ≡ (first.line, later.line)
