@@ -1,15 +1,13 @@
 -- The first ones of a list, where being alike is an equivalence.
-use Rattle.std.proofs.Common.{◌≡◌, ℕ, ◌<◌, Bool, true, false, cond, ◌||◌, List, [], ◌∷◌, ◌++◌, Option, Some, None, refl, sym, ap, ap₂, ◌∙◌, subst, length, map, filter, fold, suc, append-nil, get_or, set, arith}
-use Rattle.std.specs.Prelude.{if◌then◌else◌, option_map, unwrap_or}
-use Rattle.std.specs.Option.{option_or}
-use Rattle.std.specs.List.{list_any}
+use Rattle.std.proofs.Common.{◌≡◌, ℕ, ◌+◌, ◌<◌, Bool, true, false, cond, not, ◌||◌, List, [], ◌∷◌, ◌++◌, refl, sym, ap, ap₂, ◌∙◌, subst, length, map, filter, fold, suc, append-nil, get_or, set, arith}
+use Rattle.std.specs.Prelude.{if◌then◌else◌}
+use Rattle.std.specs.List.{list_any, position_or_len}
 use Rattle.std.specs.Cmp.{IsEquivalence}
 use Rattle.std.proofs.lemmas.List.Folds.{list_any-append}
 use Rattle.std.proofs.lemmas.List.{map-append}
 use Rattle.std.proofs.lemmas.List.Elements.{filter-append}
 use Rattle.std.proofs.lemmas.Bool.{false≢true}
 use Rattle.po_merge.specs.Groups.{with_new, first_ones}
-use Rattle.po_merge.specs.Grouping.{index}
 
 pub or_false : (b : Bool) → (b || false) ≡ b
 or_false true = refl
@@ -91,23 +89,22 @@ module _ {X : Type 0} (alike : X → X → Bool) (laws : IsEquivalence alike) wh
   more_of xs x f e = filter-append (λ y. alike y f) xs (x ∷ []) ∙ ap (λ (b : Bool). group_of alike xs f ++ cond b (x ∷ []) []) e
 
   -- one more element that is like a first one grows its group alone
-  pub grown : (xs : List X) (x : X) (fs : List X) (i : ℕ) (d : List X) → Apart alike fs → index (alike x) fs ≡ Some i
+  pub grown : (xs : List X) (x : X) (fs : List X) (i : ℕ) (d : List X) → Apart alike fs → position_or_len (alike x) fs ≡ i → i < length fs
       → map (group_of alike (xs ++ x ∷ [])) fs ≡ set (map (group_of alike xs) fs) i (get_or (map (group_of alike xs) fs) i d ++ x ∷ [])
-  grown xs x [] i d h e = cc
-  grown xs x (f ∷ fs) i d h e = found (alike x f) refl (index (alike x) fs) refl e (λ j p. grown xs x fs j d h.1 p) where
-    found : (b : Bool) → alike x f ≡ b → (r : Option ℕ) → index (alike x) fs ≡ r → cond b (Some 0) (option_map suc r) ≡ Some i
-        → ((j : ℕ) → index (alike x) fs ≡ Some j → map (group_of alike (xs ++ x ∷ [])) fs ≡ set (map (group_of alike xs) fs) j (get_or (map (group_of alike xs) fs) j d ++ x ∷ []))
-        → map (group_of alike (xs ++ x ∷ [])) (f ∷ fs) ≡ set (map (group_of alike xs) (f ∷ fs)) i (get_or (map (group_of alike xs) (f ∷ fs)) i d ++ x ∷ [])
-    found true a r p q more =
-        let zero_is : 0 ≡ i = ap (λ (o : Option ℕ). unwrap_or o 0) q in
-        let P : ℕ → Type 0 = λ j. map (group_of alike (xs ++ x ∷ [])) (f ∷ fs) ≡ set (map (group_of alike xs) (f ∷ fs)) j (get_or (map (group_of alike xs) (f ∷ fs)) j d ++ x ∷ []) in
-        subst P zero_is (ap₂ (λ (g : List X) (gs : List (List X)). g ∷ gs) (more_of xs x f a) (skipped xs x fs (any_alike x f a fs ∙ h.0)))
-    found false a None p q more = cc
-    found false a (Some j) p q more =
-        let suc_is : suc j ≡ i = ap (λ (o : Option ℕ). unwrap_or o 0) q in
-        let P : ℕ → Type 0 = λ k. map (group_of alike (xs ++ x ∷ [])) (f ∷ fs) ≡ set (map (group_of alike xs) (f ∷ fs)) k (get_or (map (group_of alike xs) (f ∷ fs)) k d ++ x ∷ []) in
+  grown xs x [] i d h e less = absurd (omega (arith, less))
+  grown xs x (f ∷ fs) i d h e less = found (alike x f) refl e (λ more. grown xs x fs (position_or_len (alike x) fs) d h.1 refl more) where
+    P : ℕ → Type 0
+    P j = map (group_of alike (xs ++ x ∷ [])) (f ∷ fs) ≡ set (map (group_of alike xs) (f ∷ fs)) j (get_or (map (group_of alike xs) (f ∷ fs)) j d ++ x ∷ [])
+
+    found : (b : Bool) → alike x f ≡ b → cond (not b) (1 + position_or_len (alike x) fs) 0 ≡ i
+        → (position_or_len (alike x) fs < length fs
+        → map (group_of alike (xs ++ x ∷ [])) fs ≡ set (map (group_of alike xs) fs) (position_or_len (alike x) fs) (get_or (map (group_of alike xs) fs) (position_or_len (alike x) fs) d ++ x ∷ []))
+        → P i
+    found true a q more = subst P q (ap₂ (λ (g : List X) (gs : List (List X)). g ∷ gs) (more_of xs x f a) (skipped xs x fs (any_alike x f a fs ∙ h.0)))
+    found false a q more =
+        let suc_is : suc (position_or_len (alike x) fs) ≡ i = omega (arith, q) in
         let here : group_of alike (xs ++ x ∷ []) f ≡ group_of alike xs f = filter-append (λ y. alike y f) xs (x ∷ []) ∙ ap (λ (b : Bool). group_of alike xs f ++ cond b (x ∷ []) []) a ∙ append-nil (group_of alike xs f) in
-        subst P suc_is (ap₂ (λ (g : List X) (gs : List (List X)). g ∷ gs) here (more j p))
+        subst P suc_is (ap₂ (λ (g : List X) (gs : List (List X)). g ∷ gs) here (more (omega (arith, less, q))))
 
   pub none_alike : (x : X) (xs : List X) → list_any (alike x) xs ≡ false → group_of alike xs x ≡ []
   none_alike x [] h = refl
@@ -130,33 +127,36 @@ module _ {X : Type 0} (alike : X → X → Bool) (laws : IsEquivalence alike) wh
   firsts_more xs x h = fold_push (with_new alike) [] xs x ∙ ap (λ (b : Bool). if b then first_ones alike xs else first_ones alike xs ++ x ∷ []) h
 
 module _ {X : Type 0} (test : X → Bool) where
-  pub place_none : (xs : List X) → index test xs ≡ None → list_any test xs ≡ false
-  place_none [] e = refl
-  place_none (x ∷ xs) e = found (test x) (index test xs) refl e (place_none xs) where
-    found : (b : Bool) (r : Option ℕ) → index test xs ≡ r → cond b (Some 0) (option_map suc r) ≡ None → (index test xs ≡ None → list_any test xs ≡ false) → (b || list_any test xs) ≡ false
-    found true r p q more = cc
-    found false None p q more = more p
-    found false (Some i) p q more = cc
+  pub place_within : (xs : List X) → list_any test xs ≡ true → position_or_len test xs < length xs
+  place_within [] h = cc
+  place_within (x ∷ xs) h = found (test x) (place_within xs) h where
+    found : (b : Bool) → (list_any test xs ≡ true → position_or_len test xs < length xs) → (b || list_any test xs) ≡ true → cond (not b) (1 + position_or_len test xs) 0 < length (x ∷ xs)
+    found true rest e = omega arith
+    found false rest e = let less = rest e in omega (arith, less)
 
-  pub place_some : (xs : List X) (i : ℕ) → index test xs ≡ Some i → (list_any test xs ≡ true) × (i < length xs)
-  place_some [] i e = cc
-  place_some (x ∷ xs) i e = found (test x) (index test xs) refl e (place_some xs) where
-    found : (b : Bool) (r : Option ℕ) → index test xs ≡ r → cond b (Some 0) (option_map suc r) ≡ Some i → ((j : ℕ) → index test xs ≡ Some j → (list_any test xs ≡ true) × (j < length xs))
-        → ((b || list_any test xs) ≡ true) × (i < length (x ∷ xs))
-    found true r p q more = let zero_is : 0 ≡ i = ap (λ (o : Option ℕ). unwrap_or o 0) q in (refl, omega (arith, zero_is))
-    found false None p q more = cc
-    found false (Some j) p q more = let suc_is : suc j ≡ i = ap (λ (o : Option ℕ). unwrap_or o 0) q in let h = more j p in (h.0, omega (arith, suc_is, h.1))
+  pub place_past : (xs : List X) → list_any test xs ≡ false → position_or_len test xs ≡ length xs
+  place_past [] h = refl
+  place_past (x ∷ xs) h = found (test x) (place_past xs) h where
+    found : (b : Bool) → (list_any test xs ≡ false → position_or_len test xs ≡ length xs) → (b || list_any test xs) ≡ false → cond (not b) (1 + position_or_len test xs) 0 ≡ length (x ∷ xs)
+    found true rest e = cc
+    found false rest e = let same = rest e in omega (arith, same)
 
-  pub place_push : (xs : List X) (x : X) → index test (xs ++ x ∷ []) ≡ option_or (index test xs) (cond (test x) (Some (length xs)) None)
-  place_push [] x = refl
-  place_push (y ∷ ys) x = found (test y) (index test ys) (test x) (place_push ys x) where
-    found : (b : Bool) (r : Option ℕ) (c : Bool) → index test (ys ++ x ∷ []) ≡ option_or r (cond c (Some (length ys)) None)
-        → cond b (Some 0) (option_map suc (index test (ys ++ x ∷ []))) ≡ option_or (cond b (Some 0) (option_map suc r)) (cond c (Some (length (y ∷ ys))) None)
-    found true r c e = refl
-    found false (Some i) c e = ap (λ (o : Option ℕ). option_map suc o) e
-    found false None true e = ap (λ (o : Option ℕ). option_map suc o) e
-    found false None false e = ap (λ (o : Option ℕ). option_map suc o) e
+module _ {X Y : Type 0} (f : X → Y) (alike : Y → Y → Bool) where
+  any_map : (y : Y) (xs : List X) → list_any (alike y) (map f xs) ≡ list_any (λ x. alike y (f x)) xs
+  any_map y [] = refl
+  any_map y (x ∷ xs) = ap (λ (b : Bool). alike y (f x) || b) (any_map y xs)
 
-pub place_same : {X : Type 0} (p q : X → Bool) → ((x : X) → p x ≡ q x) → (xs : List X) → index p xs ≡ index q xs
-place_same p q h [] = refl
-place_same p q h (x ∷ xs) = ap₂ (λ (b : Bool) (r : Option ℕ). cond b (Some 0) (option_map suc r)) (h x) (place_same p q h xs)
+  firsts_from : (fs xs : List X) → fold (with_new alike) (map f fs) (map f xs) ≡ map f (fold (with_new (λ a b. alike (f a) (f b))) fs xs)
+  firsts_from fs [] = refl
+  firsts_from fs (x ∷ xs) = ap (λ (l : List Y). fold (with_new alike) l (map f xs)) (one (list_any (λ y. alike (f x) (f y)) fs) (any_map (f x) fs)) ∙ firsts_from (with_new (λ a b. alike (f a) (f b)) fs x) xs where
+    one : (b : Bool) → list_any (alike (f x)) (map f fs) ≡ b → with_new alike (map f fs) (f x) ≡ map f (if b then fs else fs ++ x ∷ [])
+    one true e = ap (λ (t : Bool). if t then map f fs else map f fs ++ f x ∷ []) e
+    one false e = ap (λ (t : Bool). if t then map f fs else map f fs ++ f x ∷ []) e ∙ sym (map-append f fs (x ∷ []))
+
+  -- the first ones of what elements are mapped to
+  pub first_ones-map : (xs : List X) → first_ones alike (map f xs) ≡ map f (first_ones (λ a b. alike (f a) (f b)) xs)
+  first_ones-map xs = firsts_from [] xs
+
+  pub place-map : (y : Y) (xs : List X) → position_or_len (alike y) (map f xs) ≡ position_or_len (λ x. alike y (f x)) xs
+  place-map y [] = refl
+  place-map y (x ∷ xs) = ap (λ (n : ℕ). cond (not (alike y (f x))) (1 + n) 0) (place-map y xs)

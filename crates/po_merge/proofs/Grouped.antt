@@ -1,70 +1,101 @@
 -- One more entry among those that are grouped.
-use Rattle.std.proofs.Common.{◌≡◌, ℕ, Bool, ◌<◌, cond, List, [], ◌∷◌, ◌++◌, Some, None, sym, ap, ap₂, ◌∙◌, length, map, get_or, set, arith}
+use Rattle.std.proofs.Common.{◌≡◌, ◌≢◌, ℕ, ◌+◌, Bool, true, false, ◌<◌, ◌≤◌, List, [], ◌∷◌, ◌++◌, refl, sym, ap, ap₂, ◌∙◌, length, map, take, get_or, set, arith}
 use Rattle.std.specs.Global.{Vec}
-use Rattle.std.specs.BTreeMap.{is_at, get}
-use Rattle.std.proofs.lemmas.List.{map-set, map-append, length-map}
-use Rattle.std.proofs.Math.ListN.{get_or-map}
+use Rattle.std.specs.List.{list_any, position_or_len}
+use Rattle.std.proofs.lemmas.List.{map-set, map-append, length-map, take-map, take_all, take_more, get_or-map}
+use Rattle.std.proofs.Math.ListN.{get_or-map as get_or-mapped}
+use Rattle.po_catalog.specs.FirstOnes.{first_ones as firsts_of}
+use Rattle.po_catalog.specs.Message.{Message, entry_message, same_message as one_message}
+use Rattle.po_catalog.specs.MessageView.{message_of, messages}
+use Rattle.po_catalog.specs.declared.message_index.MessageKey.{MessageKey}
 use Rattle.po_merge.specs.declared.definition.Definition.{Definition}
-use Rattle.po_merge.specs.declared.grouping.Groups.{Groups as Grouped}
 use Rattle.po_merge.specs.Inputs.{NamedEntry}
 use Rattle.po_merge.specs.InputsView.{named_entry, named_entries}
 use Rattle.po_merge.specs.Groups.{same_message, first_ones, groups}
-use Rattle.po_merge.specs.Grouping.{Key, Message, IsGrouped, is_message_of, key_cmp, key_of, message_cmp, index, group_entries}
-use Rattle.po_merge.proofs.FirstOnes.{group_of, apart_first_ones, firsts_same, firsts_more, grown, grouped_new, place_some, place_none}
-use Rattle.po_merge.proofs.Messages.{IsMessage, keys_tie, same_message_laws, message_of_entry, places_more}
+use Rattle.po_merge.specs.Grouping.{group_entries, message_numbers, named_messages}
+use Rattle.po_merge.proofs.FirstOnes.{group_of, apart_first_ones, firsts_same, firsts_more, grown, grouped_new, place_within, place_past, first_ones-map, place-map}
+use Rattle.po_merge.proofs.Messages.{same_message_laws}
 
-entries_of : Vec Definition → List NamedEntry
-entries_of group = named_entries group.items
+abbrev message : NamedEntry → Message
+message e = entry_message e.entry
 
-pub place_within : (grouped : Grouped) (es : List NamedEntry) (m : Message) (i : ℕ) → IsGrouped grouped es → Some i ≡ get key_cmp grouped.indices (key_of m) → i < length grouped.groups.items
-place_within grouped es m i h looked =
-    let at = place_some (is_message_of m) (first_ones same_message es) i (sym (h.are_places m) ∙ sym looked) in
-    let long : length (group_entries grouped.groups.items) ≡ length (groups es) = ap length h.are_groups in
-    omega (arith, at.1, long, length-map grouped.groups.items (λ (g : Vec Definition). named_entries g.items), length-map (first_ones same_message es) (group_of same_message es))
+-- how messages are numbered in order of first appearance
+abbrev NumberedInOrder : Type 0
+NumberedInOrder = (messages : List Message) (i : ℕ) (d : Message) → i < length messages
+    → get_or (map (λ m. position_or_len (one_message m) (firsts_of one_message messages)) messages) i 0 ≡ position_or_len (one_message (get_or messages i d)) (firsts_of one_message (take i messages))
 
--- an entry of a message that is there
-pub grown_grouped : (grouped new : Grouped) (es : List NamedEntry) (m : Message) (d : Definition) (i : ℕ) (v old : Vec Definition) → IsMessage m (named_entry d) → IsGrouped grouped es
-    → Some i ≡ get key_cmp grouped.indices (key_of m) → new.indices ≡ grouped.indices → new.groups.items ≡ set grouped.groups.items i v
-    → v.items ≡ old.items ++ d ∷ [] → get_or grouped.groups.items i old ≡ old → IsGrouped new (es ++ named_entry d ∷ [])
-grown_grouped grouped new es m d i v old is_message h looked same_places items pushed at =
-    let e = named_entry d in
-    let F = first_ones same_message es in
-    let found : index (same_message e) F ≡ Some i = sym (message_of_entry m e is_message F) ∙ sym (h.are_places m) ∙ sym looked in
-    let met = (place_some (same_message e) F i found).0 in
-    let firsts : first_ones same_message (es ++ e ∷ []) ≡ F = firsts_same same_message same_message_laws es e met in
-    let group : named_entries v.items ≡ get_or (groups es) i (named_entries old.items) ++ e ∷ [] =
-    ap named_entries pushed ∙ map-append named_entry old.items (d ∷ [])
-    ∙ ap (λ (l : List NamedEntry). l ++ e ∷ []) (ap (λ (g : Vec Definition). named_entries g.items) (sym at) ∙ sym (get_or-map (λ (g : Vec Definition). named_entries g.items) grouped.groups.items i old) ∙ ap (λ (gs : List (List NamedEntry)). get_or gs i (named_entries old.items)) h.are_groups) in
-    record {
-      are_groups =
-          ap group_entries items ∙ map-set (λ (g : Vec Definition). named_entries g.items) grouped.groups.items i v
-          ∙ ap₂ (λ (gs : List (List NamedEntry)) (g : List NamedEntry). set gs i g) h.are_groups group
-          ∙ sym (grown same_message same_message_laws es e F i (named_entries old.items) (apart_first_ones same_message same_message_laws es) found)
-          ∙ ap (λ (fs : List NamedEntry). map (group_of same_message (es ++ e ∷ [])) fs) (sym firsts);
-      are_places = λ q. ap (λ indices. get key_cmp indices (key_of q)) same_places ∙ h.are_places q ∙ ap (index (is_message_of q)) (sym firsts);
-    }
+-- the number of an entry's message is its place among the first ones of the entries before it
+pub number_is : NumberedInOrder → (es : List NamedEntry) (i : ℕ) (e : NamedEntry) → i < length es → e ≡ get_or es i e
+    → get_or (message_numbers es) i 0 ≡ position_or_len (same_message e) (first_ones same_message (take i es))
+number_is law es i e inside here =
+    let long : i < length (named_messages es) = omega (arith, inside, length-map es message) in
+    law (named_messages es) i (message e) long
+    ∙ ap₂ (λ (m : Message) (ms : List Message). position_or_len (one_message m) (firsts_of one_message ms)) (get_or-map message es i e (message e) inside ∙ ap message (sym here)) (take-map message i es)
+    ∙ ap (λ (fs : List Message). position_or_len (one_message (message e)) fs) (first_ones-map message one_message (take i es))
+    ∙ place-map message one_message (message e) (first_ones same_message (take i es))
 
--- an entry of a message that is not there
-pub new_grouped : (grouped new : Grouped) (es : List NamedEntry) (m : Message) (d : Definition) (v : Vec Definition) (n : ℕ) → IsMessage m (named_entry d) → IsGrouped grouped es
-    → get key_cmp grouped.indices (key_of m) ≡ None → n ≡ length grouped.groups.items
-    → ((q : Key) → get key_cmp new.indices q ≡ cond (is_at (key_cmp (key_of m)) q) (Some n) (get key_cmp grouped.indices q))
-    → new.groups.items ≡ grouped.groups.items ++ v ∷ [] → v.items ≡ d ∷ [] → IsGrouped new (es ++ named_entry d ∷ [])
-new_grouped grouped new es m d v n is_message h absent count updated items pushed =
-    let e = named_entry d in
-    let F = first_ones same_message es in
-    let nowhere : index (same_message e) F ≡ None = sym (message_of_entry m e is_message F) ∙ sym (h.are_places m) ∙ absent in
-    let unmet = place_none (same_message e) F nowhere in
-    let firsts : first_ones same_message (es ++ e ∷ []) ≡ F ++ e ∷ [] = firsts_more same_message same_message_laws es e unmet in
-    let long : n ≡ length F = count ∙ sym (length-map grouped.groups.items (λ (g : Vec Definition). named_entries g.items)) ∙ ap length h.are_groups ∙ length-map F (group_of same_message es) in
-    record {
-      are_groups =
-          ap group_entries items ∙ map-append (λ (g : Vec Definition). named_entries g.items) grouped.groups.items (v ∷ [])
-          ∙ ap₂ (λ (gs : List (List NamedEntry)) (g : List NamedEntry). gs ++ g ∷ []) h.are_groups (ap named_entries pushed)
-          ∙ sym (grouped_new same_message same_message_laws es e unmet)
-          ∙ ap (λ (fs : List NamedEntry). map (group_of same_message (es ++ e ∷ [])) fs) (sym firsts);
-      are_places = λ q.
-          places_more (λ r. get key_cmp grouped.indices (key_of r)) (λ r. get key_cmp new.indices (key_of r)) m e F is_message h.are_places absent
-          (λ r. updated (key_of r) ∙ ap (λ (b : Bool). cond b (Some n) (get key_cmp grouped.indices (key_of r))) (keys_tie m r)
-          ∙ ap (λ (k : ℕ). cond (is_at (message_cmp m) r) (Some k) (get key_cmp grouped.indices (key_of r))) long) q
-          ∙ ap (index (is_message_of q)) (sym firsts);
-    }
+grouped_length : (gs : List (Vec Definition)) (es : List NamedEntry) → group_entries gs ≡ groups es → length gs ≡ length (first_ones same_message es)
+grouped_length gs es are = sym (length-map gs (λ (g : Vec Definition). named_entries g.items)) ∙ ap length are ∙ length-map (first_ones same_message es) (group_of same_message es)
+
+module _ (gs : List (Vec Definition)) (es : List NamedEntry) (d : Definition) (number : ℕ) (are : group_entries gs ≡ groups es) (is : number ≡ position_or_len (same_message (named_entry d)) (first_ones same_message es)) where
+  abbrev pub e : NamedEntry
+  e = named_entry d
+
+  abbrev pub F : List NamedEntry
+  F = first_ones same_message es
+
+  -- an entry of a message that is there
+  module _ (other : number ≢ length gs) where
+    met : list_any (same_message e) F ≡ true
+    met = found (list_any (same_message e) F) refl where
+      found : (b : Bool) → list_any (same_message e) F ≡ b → b ≡ true
+      found true h = refl
+      found false h = absurd (other (is ∙ place_past (same_message e) F h ∙ sym (grouped_length gs es are)))
+
+    pub within : number < length gs
+    within = let less = place_within (same_message e) F met in omega (arith, less, is, grouped_length gs es are)
+
+    pub grown_groups : (new : List (Vec Definition)) (v old : Vec Definition) → new ≡ set gs number v → v.items ≡ old.items ++ d ∷ [] → get_or gs number old ≡ old → group_entries new ≡ groups (es ++ e ∷ [])
+    grown_groups new v old items pushed at =
+        let less : number < length F = omega (arith, within, grouped_length gs es are) in
+        let group : named_entries v.items ≡ get_or (groups es) number (named_entries old.items) ++ e ∷ [] =
+        ap named_entries pushed ∙ map-append named_entry old.items (d ∷ [])
+        ∙ ap (λ (l : List NamedEntry). l ++ e ∷ []) (ap (λ (g : Vec Definition). named_entries g.items) (sym at) ∙ sym (get_or-mapped (λ (g : Vec Definition). named_entries g.items) gs number old) ∙ ap (λ (l : List (List NamedEntry)). get_or l number (named_entries old.items)) are) in
+        ap group_entries items ∙ map-set (λ (g : Vec Definition). named_entries g.items) gs number v
+        ∙ ap₂ (λ (l : List (List NamedEntry)) (g : List NamedEntry). set l number g) are group
+        ∙ sym (grown same_message same_message_laws es e F number (named_entries old.items) (apart_first_ones same_message same_message_laws es) (sym is) less)
+        ∙ ap (λ (fs : List NamedEntry). map (group_of same_message (es ++ e ∷ [])) fs) (sym (firsts_same same_message same_message_laws es e met))
+
+  -- an entry of a message that is not there
+  module _ (last : number ≡ length gs) where
+    unmet : list_any (same_message e) F ≡ false
+    unmet = found (list_any (same_message e) F) refl where
+      found : (b : Bool) → list_any (same_message e) F ≡ b → b ≡ false
+      found true h = let less = place_within (same_message e) F h in absurd (omega (arith, less, is, last, grouped_length gs es are))
+      found false h = refl
+
+    pub new_group : (new : List (Vec Definition)) (v : Vec Definition) → new ≡ gs ++ v ∷ [] → v.items ≡ d ∷ [] → group_entries new ≡ groups (es ++ e ∷ [])
+    new_group new v items alone =
+        ap group_entries items ∙ map-append (λ (g : Vec Definition). named_entries g.items) gs (v ∷ [])
+        ∙ ap₂ (λ (l : List (List NamedEntry)) (g : List NamedEntry). l ++ g ∷ []) are (ap named_entries alone)
+        ∙ sym (grouped_new same_message same_message_laws es e unmet)
+        ∙ ap (λ (fs : List NamedEntry). map (group_of same_message (es ++ e ∷ [])) fs) (sym (firsts_more same_message same_message_laws es e unmet))
+
+-- the entries, with one more
+pub entries_taken : (ds : List Definition) (i : ℕ) (d : Definition) → i < length ds → d ≡ get_or ds i d → take (i + 1) (named_entries ds) ≡ take i (named_entries ds) ++ named_entry d ∷ []
+entries_taken ds i d inside here =
+    take_more (named_entries ds) i (named_entry d) (omega (arith, inside, length-map ds named_entry))
+    ∙ ap (λ (x : NamedEntry). take i (named_entries ds) ++ x ∷ []) (get_or-map named_entry ds i d (named_entry d) inside ∙ ap named_entry (sym here))
+
+pub named_at : (ds : List Definition) (i : ℕ) (d : Definition) → i < length ds → d ≡ get_or ds i d → named_entry d ≡ get_or (named_entries ds) i (named_entry d)
+named_at ds i d inside here = ap named_entry here ∙ sym (get_or-map named_entry ds i d (named_entry d) inside)
+
+pub all_taken : (ds : List Definition) (i : ℕ) → length ds ≤ i → take i (named_entries ds) ≡ named_entries ds
+all_taken ds i past = take_all i (named_entries ds) (omega (arith, past, length-map ds named_entry))
+
+-- the keys of the entries, with that of one more
+pub key_more : (ds : List Definition) (i : ℕ) (d : Definition) (keys new : List MessageKey) (key : MessageKey) → i < length ds → d ≡ get_or ds i d → messages keys ≡ named_messages (take i (named_entries ds))
+    → new ≡ keys ++ key ∷ [] → message_of key ≡ entry_message d.entry.now → messages new ≡ named_messages (take (i + 1) (named_entries ds))
+key_more ds i d keys new key inside here are pushed is =
+    ap messages pushed ∙ map-append message_of keys (key ∷ []) ∙ ap₂ (λ (l : List Message) (m : Message). l ++ m ∷ []) are is
+    ∙ sym (ap named_messages (entries_taken ds i d inside here) ∙ map-append message (take i (named_entries ds)) (named_entry d ∷ []))

@@ -12,3 +12,4 @@ pub mod MergedMessages
 pub mod MessagesOnce
 pub mod SameInput
 pub mod Interleaving
+pub mod NumberedGroups

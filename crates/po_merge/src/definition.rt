@@ -13,11 +13,11 @@ use std::alloc::{AllocError, Global};
 
 /// An entry of one of several inputs, with that input's name.
 #[derive(Clone, Copy)]
-pub(crate) struct Definition<'a> {
+pub struct Definition<'a> {
     /// The name of the input.
-    pub(crate) name: &'a str,
+    pub name: &'a str,
     /// The entry.
-    pub(crate) entry: &'a Entry,
+    pub entry: &'a Entry,
 }
 
 /// Whether one of the entries is live.
@@ -54,7 +54,7 @@ fn has_header(definitions: &[Definition<'_>]) -> bool
 }
 
 /// Whether messages with this many definitions are asked for.
-fn is_wanted(options: &MergeOptions, count: usize) -> bool
+pub fn is_wanted(options: &MergeOptions, count: usize) -> bool
     ensures { result ≡ is_wanted options.now count }
 {
     let is_below = match options.less_than {

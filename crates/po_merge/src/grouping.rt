@@ -1,77 +1,86 @@
-ghost use Rattle.std.specs.Prelude.{◌≡◌, ◌++◌, ◌∷◌, ℕ, List, [], All, IfOk, IsUtf8, OnOk, map};
+ghost use Rattle.std.specs.Prelude.{◌≡◌, ◌++◌, ◌∷◌, [], All, IfOk, IsUtf8, OnOk, map};
+ghost use Rattle.po_catalog.specs.MessageView.{messages};
 ghost use Rattle.po_entry.specs.Bytes.{Lacks};
-ghost use Rattle.po_merge.specs.Grouping.{IsGrouped, IsDefinition, group_entries};
+ghost use Rattle.po_merge.specs.Grouping.{IsDefinition, group_entries, message_numbers, named_messages};
 ghost use Rattle.po_merge.specs.Groups.{groups};
-ghost use Rattle.po_merge.specs.Inputs.{NamedEntry, named, all_entries};
-ghost use Rattle.po_merge.specs.InputsView.{inputs_view, named_entry};
+ghost use Rattle.po_merge.specs.Inputs.{named, all_entries};
+ghost use Rattle.po_merge.specs.InputsView.{inputs_view, named_entries};
 
 use crate::definition::Definition;
 use crate::input::Named;
-use po_catalog::{Entry, digest};
+use po_catalog::laws::messages_are_numbered_in_order;
+use po_catalog::{Entry, MessageKey, message_key};
 use std::alloc::{AllocError, Global};
-use std::collections::BTreeMap;
 
-/// The digest of a message, and its context and msgid.
-type Key<'a> = (u64, Option<&'a [u8]>, &'a [u8]);
-
-/// Entries, grouped by their messages. A group is found by comparing, first the digests and then
-/// the messages themselves, so that no choice of msgids makes this slow.
-#[derive(Drop)]
-pub(crate) struct Groups<'a> {
-    /// The index of each message's group.
-    indices: BTreeMap<Key<'a>, usize>,
-    /// The entries of each message, in the order in which the messages first appear.
-    groups: Vec<Vec<Definition<'a>>>,
+/// Appends the entries of an input of this name.
+fn push_all<'a>(
+    all: &mut Vec<Definition<'a>>,
+    name: &'a str,
+    entries: &'a [Entry],
+) -> Result<(), AllocError>
+    ensures utf8 { IsUtf8 name.now }
+    ensures pushed { OnOk result (named_entries all.new.items
+        ≡ named_entries all.old.items ++ map (named name.now) entries.now) }
+{
+    for entry in entries {
+        all.push(Definition { name, entry })?;
+    }
+    Ok(())
 }
 
-impl<'a> Groups<'a> {
-    /// No groups.
-    fn new(alloc: Global) -> Groups<'a>
-        ensures { IsGrouped result [] }
-    {
-        Groups {
-            indices: BTreeMap::new(alloc),
-            groups: Vec::new(alloc),
-        }
+/// The entries of the inputs, in order.
+fn entries_of<'a>(alloc: Global, inputs: &'a [Named<'a>]) -> Result<Vec<Definition<'a>>, AllocError>
+    requires { All (λ input. Lacks 0 input.name.now) inputs.now }
+    ensures all { IfOk result (λ all. named_entries all.items ≡ all_entries (inputs_view inputs.now)) }
+    ensures valid { OnOk result (All IsDefinition (all_entries (inputs_view inputs.now))) }
+{
+    let mut all = Vec::new(alloc);
+    for input in inputs {
+        push_all(&mut all, input.name, input.catalogue.entries())?;
     }
+    Ok(all)
+}
 
-    /// Adds an entry to the group of its message.
-    fn add(&mut self, alloc: Global, definition: Definition<'a>) -> Result<(), AllocError>
-        requires { (entries : List NamedEntry) × IsGrouped self.old entries }
-        ensures { (entries : List NamedEntry) → IsGrouped self.old entries
-            → OnOk result (IsGrouped self.new (entries ++ named_entry definition.entry ∷ [])) }
-    {
-        let context = definition.entry.context();
-        let id = definition.entry.id();
-        let key = (digest(definition.entry), context, id);
-        if let Some(index) = self.indices.get(&key).copied() {
-            self.groups[index].push(definition)?;
-            return Ok(());
-        }
-        let mut group = Vec::new(alloc);
-        group.push(definition)?;
-        self.indices.insert(key, self.groups.len())?;
-        self.groups.push(group)?;
-        Ok(())
+/// The keys of the entries' messages.
+fn keys_of<'a>(alloc: Global, entries: &[Definition<'a>]) -> Result<Vec<MessageKey<'a>>, AllocError>
+    ensures { IfOk result (λ keys. messages keys.items ≡ named_messages (named_entries entries.now)) }
+{
+    let mut keys = Vec::with_capacity(alloc, entries.len())?;
+    for definition in entries {
+        keys.push(message_key(definition.entry))?;
     }
+    Ok(keys)
+}
 
-    /// Adds the entries of an input of this name.
-    fn add_all(
-        &mut self,
-        alloc: Global,
-        name: &'a str,
-        entries: &'a [Entry],
-    ) -> Result<(), AllocError>
-        requires { (before : List NamedEntry) × IsGrouped self.old before }
-        ensures utf8 { IsUtf8 name.now }
-        ensures grouped { (before : List NamedEntry) → IsGrouped self.old before
-            → OnOk result (IsGrouped self.new (before ++ map (named name.now) entries.now)) }
-    {
-        for entry in entries {
-            self.add(alloc, Definition { name, entry })?;
+/// A group of one entry.
+fn alone<'a>(alloc: Global, definition: Definition<'a>) -> Result<Vec<Definition<'a>>, AllocError>
+    ensures { IfOk result (λ group. group.items ≡ definition.entry ∷ []) }
+{
+    let mut group = Vec::new(alloc);
+    group.push(definition)?;
+    Ok(group)
+}
+
+/// The entries of each message, by the numbers of their messages.
+fn groups_of<'a>(
+    alloc: Global,
+    entries: &[Definition<'a>],
+    numbers: &[usize],
+) -> Result<Vec<Vec<Definition<'a>>>, AllocError>
+    requires { numbers.now ≡ message_numbers (named_entries entries.now) }
+    ensures { IfOk result (λ all. group_entries all.items ≡ groups (named_entries entries.now)) }
+{
+    messages_are_numbered_in_order();
+    let mut groups = Vec::new(alloc);
+    for (place, definition) in entries.iter().enumerate() {
+        let number = numbers[place];
+        if number == groups.len() {
+            groups.push(alone(alloc, *definition)?)?;
+            continue;
         }
-        Ok(())
+        groups[number].push(*definition)?;
     }
+    Ok(groups)
 }
 
 /// The entries of the inputs, grouped by their messages.
@@ -83,9 +92,8 @@ pub(crate) fn grouped<'a>(
     ensures groups { IfOk result (λ all. group_entries all.items ≡ groups (all_entries (inputs_view inputs.now))) }
     ensures valid { OnOk result (All IsDefinition (all_entries (inputs_view inputs.now))) }
 {
-    let mut groups = Groups::new(alloc);
-    for input in inputs {
-        groups.add_all(alloc, input.name, input.catalogue.entries())?;
-    }
-    Ok(groups.groups)
+    let entries = entries_of(alloc, inputs)?;
+    let keys = keys_of(alloc, &entries)?;
+    let numbers = po_catalog::grouped(alloc, &keys)?;
+    groups_of(alloc, &entries, &numbers)
 }

@@ -4,7 +4,7 @@ ghost use Rattle.std.specs.Prelude.{ℕ, Bool, List, Option};
 ghost use Rattle.po_merge.specs.declared.input.MergeOptions.{MergeOptions};
 ghost use Rattle.po_merge.specs.Inputs.{Input, NamedEntry};
 ghost use Rattle.po_entry.specs.TextEntry.{TextEntry};
-ghost use Rattle.po_merge.specs.MergeLaws.{FormsAreOfOne, KeptMessagesStand, MergedAreEntries, MergedCanStand, MessagesStandOnce, OneDefinitionStays, OneInputStays, WithItself};
+ghost use Rattle.po_merge.specs.MergeLaws.{FormsAreOfOne, GroupsByNumber, KeptMessagesStand, MergedAreEntries, MergedCanStand, MessagesStandOnce, OneDefinitionStays, OneInputStays, WithItself};
 ghost use Rattle.po_merge.specs.Interleaved.{Segment, InterleavedAreAdmitted, InterleavedAreMerged};
 
 /// A message with one definition is merged to the entry of that definition.
@@ -52,4 +52,9 @@ pub fn interleaved_entries_are_merged()
         → InterleavedAreMerged use_first number segments rest }
     ensures admitted { (number : TextEntry → ℕ) (segments : List Segment) (merged : List TextEntry)
         (rest : List NamedEntry) → InterleavedAreAdmitted number segments merged rest }
+{}
+
+/// The groups of entries are those of the numbers of their messages, from 0 on.
+pub fn groups_are_numbered()
+    ensures { (entries : List NamedEntry) (count : ℕ) → GroupsByNumber entries count }
 {}

@@ -17,5 +17,6 @@ mod joining;
 pub mod laws;
 mod merging;
 
+pub use crate::definition::{Definition, is_wanted};
 pub use crate::input::{MergeOptions, Named};
-pub use crate::merging::merge;
+pub use crate::merging::{merge, merge_definitions};

@@ -116,6 +116,25 @@ fn push_entry(catalogue: &mut Catalogue, entry: Entry) -> Result<(), PoError>
     }
 }
 
+/// What the definitions of one message are merged to, as a catalogue of one entry. Refused, without
+/// a line, with `ForeignCharset` for a header whose charset isn't admitted, or with `OutOfMemory`.
+pub fn merge_definitions(
+    alloc: Global,
+    options: &MergeOptions,
+    definitions: &[Definition<'_>],
+) -> Result<Catalogue, PoError>
+    requires some { 0 < length definitions.now }
+    requires valid { All IsDefinition (named_entries definitions.now) }
+    ensures merged { IfOk result (λ merged. merged
+        ≡ merged_entry options.now (named_entries definitions.now) ∷ []) }
+    ensures fault { IfErr result (IsMergeFault (merged_entry options.now (named_entries definitions.now) ∷ [])) }
+{
+    let entry = merged_entry(alloc, options, definitions)?;
+    let mut merged = Catalogue::new(alloc);
+    push_entry(&mut merged, entry)?;
+    Ok(merged)
+}
+
 /// Adds what the definitions of one message are merged to, where the message is kept.
 fn push_message(
     alloc: Global,
