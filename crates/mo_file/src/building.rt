@@ -4,10 +4,11 @@ ghost use Rattle.mo_file.specs.Key.{AreRising, keys};
 ghost use Rattle.mo_file.specs.Layout.{LayoutFits, layout};
 ghost use Rattle.mo_file.specs.Pairs.{messages_of_borrowed, messages_of_pairs};
 
-use crate::byte_order::Order;
+use crate::byte_order::{FileOrder, Order};
 use crate::file_header::HEADER_LEN;
 use crate::pairs::{BorrowedPair, Pair, Part, are_rising, borrowed_pairs};
 use crate::writing::{originals_offset, push_header, push_strings, push_table};
+use byteorder::{BigEndian, LittleEndian};
 use std::alloc::{AllocError, Global};
 use thiserror::Error;
 
@@ -123,12 +124,27 @@ fn laid_out(
     requires { len ≡ length (layout order (messages_of_borrowed pairs.now)) }
     ensures { IfOk result (λ bytes. bytes.items ≡ layout order (messages_of_borrowed pairs.now)) }
 {
+    match order {
+        Order::Little => laid_out_in::<LittleEndian>(alloc, pairs, len),
+        Order::Big => laid_out_in::<BigEndian>(alloc, pairs, len),
+    }
+}
+
+/// The same in a byte order that is known here.
+fn laid_out_in<T: FileOrder>(
+    alloc: Global,
+    pairs: &[BorrowedPair<'_>],
+    len: u32,
+) -> Result<Vec<u8>, AllocError>
+    requires { len ≡ length (layout T.order (messages_of_borrowed pairs.now)) }
+    ensures { IfOk result (λ bytes. bytes.items ≡ layout T.order (messages_of_borrowed pairs.now)) }
+{
     let count = pairs.len() as u32;
     let mut out = Vec::with_capacity(alloc, len as usize)?;
-    push_header(&mut out, order, count)?;
+    push_header::<T>(&mut out, count)?;
     let originals = originals_offset(count);
-    let translations = push_table(&mut out, order, pairs, Part::Original, originals)?;
-    push_table(&mut out, order, pairs, Part::Translation, translations)?;
+    let translations = push_table::<T>(&mut out, pairs, Part::Original, originals)?;
+    push_table::<T>(&mut out, pairs, Part::Translation, translations)?;
     push_strings(&mut out, pairs, Part::Original)?;
     push_strings(&mut out, pairs, Part::Translation)?;
     Ok(out)

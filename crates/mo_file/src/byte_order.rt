@@ -51,27 +51,66 @@ impl Order {
     }
 }
 
-/// The 32-bit word at an offset, in this byte order.
-#[tactic(auto, unfolding(crate::specs::Word::word_at))]
-pub(crate) fn word(order: Order, bytes: &[u8], at: usize) -> u32
-    requires { at + 4 ≤ length bytes.now }
-    ensures { result ≡ word_at order bytes.now at }
-{
-    match order {
-        Order::Little => LittleEndian::read_u32(&bytes[at..]),
-        Order::Big => BigEndian::read_u32(&bytes[at..]),
+/// A byte order of the crate `byteorder`, as the one that a file may have.
+pub(crate) trait FileOrder: ByteOrder {
+    ghost use Rattle.std.specs.Prelude.{◌≡◌, ℕ, List, drop};
+    ghost use Rattle.mo_file.specs.declared.byte_order.Order.{Order};
+    ghost use Rattle.mo_file.specs.Word.{word_at, word_bytes};
+
+    ghost order: { Order };
+
+    /// The byte order by its name.
+    fn order() -> Order
+        ensures { result ≡ order };
+
+    ghost reads: { (bytes : List ℕ) (at : ℕ) → Self.number_of 4 (drop at bytes) ≡ word_at order bytes at };
+
+    ghost writes: { (number : ℕ) → Self.bytes_of 4 number ≡ word_bytes order number };
+}
+
+impl FileOrder for LittleEndian {
+    ghost use Rattle.mo_file.specs.Word.{little_word_at, little_word_bytes};
+    ghost use Rattle.mo_file.specs.declared.byte_order.Order.TheVariants.{Little};
+
+    ghost order = { Little };
+
+    ghost reads = { little_word_at };
+
+    ghost writes = { little_word_bytes };
+
+    fn order() -> Order {
+        Order::Little
     }
 }
 
+impl FileOrder for BigEndian {
+    ghost use Rattle.mo_file.specs.Word.{big_word_at, big_word_bytes};
+    ghost use Rattle.mo_file.specs.declared.byte_order.Order.TheVariants.{Big};
+
+    ghost order = { Big };
+
+    ghost reads = { big_word_at };
+
+    ghost writes = { big_word_bytes };
+
+    fn order() -> Order {
+        Order::Big
+    }
+}
+
+/// The 32-bit word at an offset, in this byte order.
+pub(crate) fn word<T: FileOrder>(bytes: &[u8], at: usize) -> u32
+    requires { at + 4 ≤ length bytes.now }
+    ensures { result ≡ word_at T.order bytes.now at }
+{
+    T::read_u32(&bytes[at..])
+}
+
 /// Appends a 32-bit word in this byte order.
-#[tactic(auto, unfolding(crate::specs::Word::word_bytes))]
-pub(crate) fn push_word(out: &mut Vec<u8>, order: Order, number: u32) -> Result<(), AllocError>
-    ensures { OnOk result (out.new.items ≡ out.old.items ++ word_bytes order number) }
+pub(crate) fn push_word<T: FileOrder>(out: &mut Vec<u8>, number: u32) -> Result<(), AllocError>
+    ensures { OnOk result (out.new.items ≡ out.old.items ++ word_bytes T.order number) }
 {
     let mut bytes = [0; 4];
-    match order {
-        Order::Little => LittleEndian::write_u32(&mut bytes, number),
-        Order::Big => BigEndian::write_u32(&mut bytes, number),
-    }
+    T::write_u32(&mut bytes, number);
     out.extend_from_slice(&bytes)
 }

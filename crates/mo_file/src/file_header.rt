@@ -1,12 +1,14 @@
-ghost use Rattle.std.specs.Prelude.{◌≡◌, List, IfErr, MatchResult};
+ghost use Rattle.std.specs.Prelude.{◌≡◌, ◌≤◌, List, IfErr, MatchResult, length};
 ghost use Rattle.mo_file.specs.declared.byte_order.Order.{Order};
+ghost use Rattle.mo_file.specs.FileHeader.{HasMagicOf, message_count, originals_table, translations_table};
 ghost use Rattle.mo_file.specs.MoFile.{IsMoFile};
 ghost use Rattle.mo_file.specs.Fault.{IsFirstFault, comparisons_before};
 ghost use Rattle.mo_file.specs.Message.{Message};
 ghost use Rattle.mo_file.specs.Checking.{IsChecked, IsHeader};
 
-use crate::byte_order::{Order, word};
+use crate::byte_order::{FileOrder, Order, word};
 use crate::fault::MoError;
+use byteorder::{BigEndian, LittleEndian};
 
 /// The length of the file header in bytes: seven words of 4.
 pub(crate) const HEADER_LEN: u32 = 28;
@@ -27,35 +29,43 @@ pub(crate) struct FileHeader {
 }
 
 impl FileHeader {
-    /// Reads the file header, and checks that both tables lie inside the file.
-    pub(crate) fn read(bytes: &[u8]) -> Result<FileHeader, MoError>
+    /// The words of the file header, read in this byte order.
+    fn of_words<T: FileOrder>(bytes: &[u8]) -> FileHeader
+        requires { 28 ≤ length bytes.now }
+        ensures order { result.order ≡ T.order }
+        ensures count { result.count ≡ message_count result.order bytes.now }
+        ensures originals { result.originals ≡ originals_table result.order bytes.now }
+        ensures translations { result.translations ≡ translations_table result.order bytes.now }
+    {
+        FileHeader {
+            order: T::order(),
+            count: word::<T>(bytes, 8),
+            originals: word::<T>(bytes, 12),
+            translations: word::<T>(bytes, 16),
+        }
+    }
+
+    /// Reads the file header in the byte order that the magic number shows, and checks that both
+    /// tables lie inside the file.
+    pub(crate) fn read<T: FileOrder>(bytes: &[u8]) -> Result<FileHeader, MoError>
+        requires long { 28 ≤ length bytes.now }
+        requires shows { HasMagicOf T.order bytes.now }
         ensures exact { MatchResult result
-            (λ header. IsHeader header bytes.now)
+            (λ header. IsHeader header bytes.now × (header.order ≡ T.order))
             (IsFirstFault bytes.now) }
         ensures no_comparison { IfErr result (λ e. comparisons_before e ≡ 0) }
     {
-        if bytes.len() < HEADER_LEN as usize {
-            return Err(MoError::TooShort);
-        }
-        let order = Order::of_file(bytes).ok_or(MoError::BadMagic)?;
-        if word(order, bytes, 4) >> 16 > 1 {
+        if word::<T>(bytes, 4) >> 16 > 1 {
             return Err(MoError::BadRevision);
         }
-        let count = word(order, bytes, 8);
-        let originals = word(order, bytes, 12);
-        let translations = word(order, bytes, 16);
-        let table_len = DESCRIPTOR_LEN as usize * count as usize;
-        if originals as usize + table_len > bytes.len()
-            || translations as usize + table_len > bytes.len()
+        let header = FileHeader::of_words::<T>(bytes);
+        let table_len = DESCRIPTOR_LEN as usize * header.count as usize;
+        if header.originals as usize + table_len > bytes.len()
+            || header.translations as usize + table_len > bytes.len()
         {
             return Err(MoError::TableOutside);
         }
-        Ok(FileHeader {
-            order,
-            count,
-            originals,
-            translations,
-        })
+        Ok(header)
     }
 
     /// Reads the file header of a file that has been checked, and checks nothing.
@@ -64,12 +74,22 @@ impl FileHeader {
         ensures { (order : Order) (messages : List Message) → IsMoFile order bytes.now messages
             → (result.order ≡ order) × IsChecked result bytes.now }
     {
-        let order = Order::of_checked(bytes);
-        FileHeader {
-            order,
-            count: word(order, bytes, 8),
-            originals: word(order, bytes, 12),
-            translations: word(order, bytes, 16),
+        match Order::of_checked(bytes) {
+            Order::Little => FileHeader::of_words::<LittleEndian>(bytes),
+            Order::Big => FileHeader::of_words::<BigEndian>(bytes),
         }
     }
+}
+
+/// The byte order of a file that is long enough for the file header.
+pub(crate) fn order_of(bytes: &[u8]) -> Result<Order, MoError>
+    ensures exact { MatchResult result
+        (λ order. (28 ≤ length bytes.now) × HasMagicOf order bytes.now)
+        (IsFirstFault bytes.now) }
+    ensures no_comparison { IfErr result (λ e. comparisons_before e ≡ 0) }
+{
+    if bytes.len() < HEADER_LEN as usize {
+        return Err(MoError::TooShort);
+    }
+    Order::of_file(bytes).ok_or(MoError::BadMagic)
 }

@@ -3,7 +3,8 @@ ghost use Rattle.std.specs.Option.{option_copied};
 ghost use Rattle.std.specs.declared.cmp.Ordering.TheVariants.{Less};
 ghost use Rattle.mo_file.specs.Key.{key_cmp, key_of, query_key};
 
-use crate::common_prefix::{byte_at, common_prefix_len, find_byte, long_common_prefix_len};
+use crate::common_prefix::{byte_at, common_prefix_len, long_common_prefix_len};
+use memchr::memchr;
 use std::cmp::Ordering;
 
 /// The byte that stands between a context and a msgid.
@@ -13,7 +14,7 @@ const EOT: u8 = 4;
 pub(crate) fn key_of(original: &[u8]) -> &[u8]
     ensures { result.now ≡ key_of original.now }
 {
-    match find_byte(0, original) {
+    match memchr(0, original) {
         Some(end) => &original[..end],
         None => original,
     }
@@ -53,6 +54,7 @@ fn compare_id(original: &[u8], id: &[u8]) -> Ordering
 }
 
 /// Whether the key of an original is below that of another.
+#[inline(always)]
 pub(crate) fn is_below(original: &[u8], other: &[u8]) -> bool
     ensures { IsTrue result ↔ (key_cmp (key_of original.now) (key_of other.now) ≡ Less) }
 {

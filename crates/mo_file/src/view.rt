@@ -1,17 +1,20 @@
-ghost use Rattle.std.specs.Prelude.{◌≡◌, ◌+◌, ◌-◌, ◌^◌, ◌<◌, ℕ, List, Some, length, IsOk, MatchResult, slice_get};
+ghost use Rattle.std.specs.Prelude.{◌≡◌, ◌+◌, ◌-◌, ◌^◌, ◌<◌, ◌≤◌, ℕ, List, Some, length, IsOk, MatchResult, slice_get};
 ghost use Rattle.std.specs.Option.{option_copied};
 ghost use Rattle.mo_file.specs.declared.byte_order.Order.{Order};
+ghost use Rattle.mo_file.specs.FileHeader.{HasMagicOf};
 ghost use Rattle.mo_file.specs.MoFile.{IsMoFile};
 ghost use Rattle.mo_file.specs.Fault.{IsFirstFault, comparisons_before};
 ghost use Rattle.mo_file.specs.Key.{AreRising, key_at, key_cmp, keys, query_key};
 ghost use Rattle.mo_file.specs.Message.{Message, originals, translations};
 
+use crate::byte_order::{FileOrder, Order};
 use crate::checking::{check_keys, check_strings};
 use crate::counting::Meter;
 use crate::fault::MoError;
-use crate::file_header::FileHeader;
+use crate::file_header::{FileHeader, order_of};
 use crate::key::compare_key;
 use crate::strings::{original_at, rest_at, translation_at};
+use byteorder::{BigEndian, LittleEndian};
 use std::cmp::Ordering;
 use std::marker::Model;
 
@@ -55,9 +58,27 @@ impl<'a> MoView<'a> {
             (λ messages. meter.new ≡ meter.old + (length messages - 1))
             (λ e. meter.new ≡ meter.old + comparisons_before e) }
     {
-        let header = FileHeader::read(bytes)?;
-        check_strings(header, bytes)?;
-        check_keys(header, bytes, meter)?;
+        match order_of(bytes)? {
+            Order::Little => MoView::open_in::<LittleEndian>(bytes, meter),
+            Order::Big => MoView::open_in::<BigEndian>(bytes, meter),
+        }
+    }
+
+    /// Checks bytes after the magic number, which shows this byte order.
+    fn open_in<T: FileOrder>(bytes: &'a [u8], meter: &mut Meter) -> Result<MoView<'a>, MoError>
+        requires long { 28 ≤ length bytes.now }
+        requires shows { HasMagicOf T.order bytes.now }
+        requires room { meter.old < 2 ^ 63 }
+        ensures exact { MatchResult result
+            (λ messages. (order : Order) × IsMoFile order bytes.now messages)
+            (IsFirstFault bytes.now) }
+        ensures cost { MatchResult result
+            (λ messages. meter.new ≡ meter.old + (length messages - 1))
+            (λ e. meter.new ≡ meter.old + comparisons_before e) }
+    {
+        let header = FileHeader::read::<T>(bytes)?;
+        check_strings::<T>(header, bytes)?;
+        check_keys::<T>(header, bytes, meter)?;
         Ok(MoView { bytes, header })
     }
 

@@ -2,7 +2,7 @@ ghost use Rattle.std.specs.Prelude.{◌≡◌, ◌+◌, ◌*◌, ◌^◌, ◌<�
 ghost use Rattle.mo_file.specs.Layout.{header, table, terminated};
 ghost use Rattle.mo_file.specs.Pairs.{strings_of};
 
-use crate::byte_order::{BIG_MAGIC, LITTLE_MAGIC, Order, push_word};
+use crate::byte_order::{BIG_MAGIC, FileOrder, LITTLE_MAGIC, Order, push_word};
 use crate::file_header::{DESCRIPTOR_LEN, HEADER_LEN};
 use crate::pairs::{BorrowedPair, Part};
 use std::alloc::AllocError;
@@ -16,43 +16,42 @@ pub(crate) fn originals_offset(count: u32) -> u32
 }
 
 /// Appends the file header of a file of so many messages.
-pub(crate) fn push_header(out: &mut Vec<u8>, order: Order, count: u32) -> Result<(), AllocError>
+pub(crate) fn push_header<T: FileOrder>(out: &mut Vec<u8>, count: u32) -> Result<(), AllocError>
     requires { 28 + 16 * count < 2 ^ 32 }
-    ensures { OnOk result (out.new.items ≡ out.old.items ++ header order count) }
+    ensures { OnOk result (out.new.items ≡ out.old.items ++ header T.order count) }
 {
-    let magic = match order {
+    let magic = match T::order() {
         Order::Little => LITTLE_MAGIC,
         Order::Big => BIG_MAGIC,
     };
     out.extend_from_slice(&magic)?;
-    push_word(out, order, 0)?;
-    push_word(out, order, count)?;
-    push_word(out, order, HEADER_LEN)?;
-    push_word(out, order, HEADER_LEN + DESCRIPTOR_LEN * count)?;
-    push_word(out, order, 0)?;
-    push_word(out, order, originals_offset(count))
+    push_word::<T>(out, 0)?;
+    push_word::<T>(out, count)?;
+    push_word::<T>(out, HEADER_LEN)?;
+    push_word::<T>(out, HEADER_LEN + DESCRIPTOR_LEN * count)?;
+    push_word::<T>(out, 0)?;
+    push_word::<T>(out, originals_offset(count))
 }
 
 /// Appends the table of strings of which the first is to stand at `offset`, and returns the offset
 /// after the NUL of the last.
-pub(crate) fn push_table(
+pub(crate) fn push_table<T: FileOrder>(
     out: &mut Vec<u8>,
-    order: Order,
     pairs: &[BorrowedPair<'_>],
     part: Part,
     offset: u32,
 ) -> Result<u32, AllocError>
     requires { offset + length (terminated (strings_of part pairs.now)) < 2 ^ 32 }
     ensures entries { OnOk result
-        (out.new.items ≡ out.old.items ++ table order offset (strings_of part pairs.now)) }
+        (out.new.items ≡ out.old.items ++ table T.order offset (strings_of part pairs.now)) }
     ensures offset { IfOk result
         (λ end. end ≡ offset + length (terminated (strings_of part pairs.now))) }
 {
     let mut at = offset;
     for pair in pairs {
         let len = pair.string(part).len() as u32;
-        push_word(out, order, len)?;
-        push_word(out, order, at)?;
+        push_word::<T>(out, len)?;
+        push_word::<T>(out, at)?;
         at += len + 1;
     }
     Ok(at)

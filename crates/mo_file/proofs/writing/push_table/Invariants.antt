@@ -4,9 +4,9 @@ use Rattle.mo_file.specs.Pairs.{strings_of}
 use Rattle.mo_file.proofs.writing.push_table.Given as goal
 
 abbrev pub invariant-loop-pair : goal.invariant-loop-pair
-invariant-loop-pair l = record {
-  entries : l.out.items ++ table l.order l.at (strings_of l.part (drop l.pair-index l.pairs))
-      ≡ l.initial.out.items ++ table l.order l.offset (strings_of l.part l.pairs);
+invariant-loop-pair g l = record {
+  entries : l.out.items ++ table g.T.FileOrder.order l.at (strings_of l.part (drop l.pair-index l.pairs))
+      ≡ l.initial.out.items ++ table g.T.FileOrder.order l.offset (strings_of l.part l.pairs);
   offsets : l.at + length (terminated (strings_of l.part (drop l.pair-index l.pairs)))
       ≡ l.offset + length (terminated (strings_of l.part l.pairs));
 }

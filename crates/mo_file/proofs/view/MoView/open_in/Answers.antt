@@ -1,8 +1,8 @@
 use Rattle.std.proofs.Common.{arith}
 use Rattle.mo_file.proofs.ViewLemmas.{length-messages_of}
-use Rattle.mo_file.proofs.view.MoView.open.Goals as goal
+use Rattle.mo_file.proofs.view.MoView.open_in.Goals as goal
 
 pub returns-clause-cost : goal.returns-clause-cost
-returns-clause-cost c =
+returns-clause-cost g c =
     let counted = length-messages_of c.in_ok-header.header.order c.args.bytes.now in
-    omega (arith, c.in_ok-check_keys.ensures.cost, c.in_ok-header.ensures.exact.count)
+    omega (arith, c.in_ok-check_keys.ensures.cost, c.in_ok-header.ensures.exact.0.count)
