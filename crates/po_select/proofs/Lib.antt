@@ -1,1 +1,2 @@
 pub mod SelectionLaws
+pub mod OptionLaws
