@@ -13,3 +13,4 @@ pub mod MessagesOnce
 pub mod SameInput
 pub mod Interleaving
 pub mod NumberedGroups
+pub mod EntryLaws

@@ -54,7 +54,7 @@ one_definition_more old new k d found h forms updated q =
     ∙ ap₂ (λ (s t : Bool). s || t) (h q) (sym (or_false tests)) ∙ sym (list_any-append (λ e. texts_eq (texts q.now) e.entry.forms) found (d ∷ []))
 
 -- what both have, the one has whatever is omitted of the other
-has_others : (q : List ℕ) (done ts : List (List ℕ)) → (list_any (bytes_eq q) done || list_any (bytes_eq q) (filter (λ t. not (list_any (bytes_eq t) done)) ts)) ≡ (list_any (bytes_eq q) done || list_any (bytes_eq q) ts)
+pub has_others : (q : List ℕ) (done ts : List (List ℕ)) → (list_any (bytes_eq q) done || list_any (bytes_eq q) (filter (λ t. not (list_any (bytes_eq t) done)) ts)) ≡ (list_any (bytes_eq q) done || list_any (bytes_eq q) ts)
 has_others q done [] = refl
 has_others q done (t ∷ ts) = found (list_any (bytes_eq t) done) refl (bytes_eq q t) refl (list_any (bytes_eq q) done) refl (has_others q done ts) where
   found : (b : Bool) → list_any (bytes_eq t) done ≡ b → (c : Bool) → bytes_eq q t ≡ c → (a : Bool) → list_any (bytes_eq q) done ≡ a

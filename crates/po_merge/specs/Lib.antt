@@ -8,3 +8,4 @@ pub mod Sets
 pub mod Parts
 pub mod MergeLaws
 pub mod Interleaved
+pub mod EntryLaws

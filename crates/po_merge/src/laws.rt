@@ -5,6 +5,8 @@ ghost use Rattle.po_merge.specs.declared.input.MergeOptions.{MergeOptions};
 ghost use Rattle.po_merge.specs.Inputs.{Input, NamedEntry};
 ghost use Rattle.po_entry.specs.TextEntry.{TextEntry};
 ghost use Rattle.po_merge.specs.MergeLaws.{FormsAreOfOne, GroupsByNumber, KeptMessagesStand, MergedAreEntries, MergedCanStand, MessagesStandOnce, OneDefinitionStays, OneInputStays, WithItself};
+ghost use Rattle.po_merge.specs.EntryLaws.{FormsAreJoined, JoinedIsFuzzy, KeptByCount, ObsoleteWhereNoneIsLive, PluralOfFirst, PreviousOfFirst, TextsInOrder, TextsOfAll};
+ghost use Rattle.po_syntax.specs.declared.item.CommentKind.{CommentKind};
 ghost use Rattle.po_merge.specs.Interleaved.{Segment, InterleavedAreAdmitted, InterleavedAreMerged};
 
 /// A message with one definition is merged to the entry of that definition.
@@ -42,6 +44,43 @@ pub fn with_itself()
 /// definitions.
 pub fn forms_are_of_one_definition()
     ensures { (options : MergeOptions) (definitions : List NamedEntry) → FormsAreOfOne options definitions }
+{}
+
+/// Without `use_first` the comments, references and flags of all definitions are in the merged
+/// entry, in the order of the definitions, and each that several definitions have once.
+pub fn texts_of_all_definitions()
+    ensures all { (options : MergeOptions) (kind : CommentKind) (text : List ℕ) (definitions : List NamedEntry)
+        → TextsOfAll options kind text definitions }
+    ensures order { (options : MergeOptions) (kind : CommentKind) (before : List NamedEntry) (definition : NamedEntry)
+        → TextsInOrder options kind before definition }
+{}
+
+/// Where different translations are joined, the merged entry is fuzzy, and each of its forms has
+/// those of the translations, each after the line of its input, in order.
+pub fn translations_are_joined()
+    ensures fuzzy { (options : MergeOptions) (definitions : List NamedEntry) → JoinedIsFuzzy options definitions }
+    ensures forms { (options : MergeOptions) (definitions before : List NamedEntry) (translation : NamedEntry)
+        (after : List NamedEntry) (i : ℕ) (form : List ℕ)
+        → FormsAreJoined options definitions before translation after i form }
+{}
+
+/// Previous texts and the plural are those of the first definition that has some.
+pub fn first_definition_with_a_part()
+    ensures previous { (options : MergeOptions) (before : List NamedEntry) (definition : NamedEntry)
+        (after : List NamedEntry) → PreviousOfFirst options before definition after }
+    ensures plural { (options : MergeOptions) (before : List NamedEntry) (definition : NamedEntry)
+        (after : List NamedEntry) → PluralOfFirst options before definition after }
+{}
+
+/// A merged entry is obsolete exactly if no entry of its message is live.
+pub fn obsolete_where_none_is_live()
+    ensures { (options : MergeOptions) (group : List NamedEntry) → ObsoleteWhereNoneIsLive options group }
+{}
+
+/// A message that isn't a header's is kept exactly if it has more definitions than `more_than`,
+/// fewer than `less_than`, and one alone with `unique`.
+pub fn kept_by_count()
+    ensures { (options : MergeOptions) (definitions : List NamedEntry) → KeptByCount options definitions }
 {}
 
 /// Entries of several inputs that are each the only one of their message needn't be merged: if a

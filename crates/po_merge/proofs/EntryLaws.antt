@@ -1,0 +1,148 @@
+-- The parts of a merged entry, and which messages are kept.
+use Rattle.std.proofs.Common.{◌≡◌, ◌↔◌, ℕ, ◌<◌, Bool, true, false, cond, not, ◌&&◌, ◌||◌, nat_lt, List, [], ◌∷◌, ◌++◌, Option, Some, None, refl, sym, ap, ap₂, ◌∙◌, filter, find, fold, length, get_or, slice_get, arith, append_assoc, bytes_eq}
+use Rattle.std.specs.Prelude.{if◌then◌else◌}
+use Rattle.std.specs.List.{list_any}
+use Rattle.std.specs.Option.{option_map_or}
+use Rattle.std.proofs.lemmas.Bool.{and_parts, lt-ltb, ltb-true}
+use Rattle.std.proofs.lemmas.List.Elements.{filter_agree}
+use Rattle.std.proofs.lemmas.List.Folds.{list_any-append}
+use Rattle.std.proofs.lemmas.List.FromFn.{get_or-map-range_with_len, length-map-range_with_len}
+use Rattle.po_syntax.specs.declared.item.CommentKind.{CommentKind}
+use Rattle.po_syntax.specs.declared.item.CommentKind.TheVariants.{Translator, Extracted, Reference, Flags}
+use Rattle.po_entry.specs.TextEntry.{TextEntry}
+use Rattle.po_catalog.specs.Joined.{is_live}
+use Rattle.po_merge.specs.declared.input.MergeOptions.{MergeOptions}
+use Rattle.po_merge.specs.Inputs.{NamedEntry}
+use Rattle.po_merge.specs.MergedEntry.{collected, comment_of, ended, first_of, first_with, form_count, has_plural, has_previous, joined_form, joined_forms, marked, merged_entry, taken, texts_of, translations, with_others}
+use Rattle.po_merge.specs.Merged.{is_below, is_wanted}
+use Rattle.po_merge.specs.EntryLaws.{FormsAreJoined, JoinedIsFuzzy, KeptByCount, ObsoleteWhereNoneIsLive, PluralOfFirst, PreviousOfFirst, TextsInOrder, TextsOfAll, has_text, input_line}
+use Rattle.po_merge.proofs.FirstOnes.{fold_push, or_assoc, or_false}
+use Rattle.po_merge.proofs.Sets.{has_others}
+
+-- the texts of one kind of a merged entry
+texts_merged : (o : MergeOptions) (kind : CommentKind) (ds : List NamedEntry) → texts_of kind (merged_entry o ds) ≡ comment_of o kind ds
+texts_merged o Translator ds = refl
+texts_merged o Extracted ds = refl
+texts_merged o Reference ds = refl
+texts_merged o Flags ds = refl
+
+texts_collected : (o : MergeOptions) (kind : CommentKind) (ds : List NamedEntry) → o.use_first ≡ false → texts_of kind (merged_entry o ds) ≡ collected (texts_of kind) ds
+texts_collected o kind ds off = texts_merged o kind ds ∙ ap (λ (b : Bool). if b then texts_of kind (taken ds) else collected (texts_of kind) ds) off
+
+-- a text is collected exactly if a definition has it
+any_collected : (kind : CommentKind) (text : List ℕ) (done : List (List ℕ)) (ds : List NamedEntry)
+    → list_any (bytes_eq text) (fold (λ l d. with_others l (texts_of kind d.entry)) done ds) ≡ (list_any (bytes_eq text) done || list_any (λ d. has_text kind text d.entry) ds)
+any_collected kind text done [] = sym (or_false (list_any (bytes_eq text) done))
+any_collected kind text done (d ∷ ds) =
+    any_collected kind text (with_others done (texts_of kind d.entry)) ds
+    ∙ ap (λ (b : Bool). b || list_any (λ x. has_text kind text x.entry) ds)
+    (list_any-append (bytes_eq text) done (filter (λ t. not (list_any (bytes_eq t) done)) (texts_of kind d.entry)) ∙ has_others text done (texts_of kind d.entry))
+    ∙ or_assoc (list_any (bytes_eq text) done) (has_text kind text d.entry) (list_any (λ x. has_text kind text x.entry) ds)
+
+pub texts_of_all : (o : MergeOptions) (kind : CommentKind) (text : List ℕ) (ds : List NamedEntry) → TextsOfAll o kind text ds
+texts_of_all o kind text ds off = ap (list_any (bytes_eq text)) (texts_collected o kind ds off) ∙ any_collected kind text [] ds
+
+pub texts_in_order : (o : MergeOptions) (kind : CommentKind) (before : List NamedEntry) (d : NamedEntry) → TextsInOrder o kind before d
+texts_in_order o kind before d off =
+    texts_collected o kind (before ++ d ∷ []) off
+    ∙ fold_push (λ (done : List (List ℕ)) (x : NamedEntry). with_others done (texts_of kind x.entry)) [] before d
+    ∙ ap₂ (λ (l m : List (List ℕ)). l ++ m) (sym (texts_collected o kind before off))
+    (filter_agree (λ t. not (list_any (bytes_eq t) (collected (texts_of kind) before))) (λ t. not (list_any (λ b. has_text kind t b.entry) before)) (λ t. ap not (any_collected kind t [] before)) (texts_of kind d.entry))
+
+pub joined_is_fuzzy : (o : MergeOptions) (ds : List NamedEntry) → JoinedIsFuzzy o ds
+joined_is_fuzzy o ds joined = ap (λ (b : Bool). b || (taken ds).fuzzy) joined
+
+joined_append : (before after : List NamedEntry) (i : ℕ) → joined_form (before ++ after) i ≡ joined_form before i ++ joined_form after i
+joined_append [] after i = refl
+joined_append (t ∷ before) after i =
+    let here = option_map_or (marked t.name) (slice_get t.entry.forms i) [] in
+    ap (λ (l : List ℕ). here ++ l) (joined_append before after i) ∙ sym (append_assoc here (joined_form before i) (joined_form after i))
+
+marked_is : (name form : List ℕ) → marked name form ≡ input_line name ++ ended form
+marked_is name form = refl
+
+pub forms_are_joined : (o : MergeOptions) (ds before : List NamedEntry) (t : NamedEntry) (after : List NamedEntry) (i : ℕ) (form : List ℕ) → FormsAreJoined o ds before t after i form
+forms_are_joined o ds before t after i form joined split has inside =
+    let all = translations ds in
+    let forms : (merged_entry o ds).forms ≡ joined_forms all = ap (λ (b : Bool). if b then joined_forms all else (taken ds).forms) joined in
+    let below : i < form_count all = omega (arith, inside, ap length forms, length-map-range_with_len (joined_form all) 0 (form_count all)) in
+    ap (λ (l : List (List ℕ)). get_or l i []) forms ∙ get_or-map-range_with_len (joined_form all) 0 (form_count all) i i [] below (omega arith)
+    ∙ ap (λ (l : List NamedEntry). joined_form l i) split ∙ joined_append before (t ∷ after) i
+    ∙ ap (λ (f : Option (List ℕ)). joined_form before i ++ (option_map_or (marked t.name) f [] ++ joined_form after i)) has
+    ∙ ap (λ (l : List ℕ). joined_form before i ++ (l ++ joined_form after i)) (marked_is t.name form)
+    ∙ sym (append_assoc (joined_form before i) (input_line t.name ++ ended form) (joined_form after i))
+
+-- what the first definition has that has something
+first_found : (has : TextEntry → Bool) (before : List NamedEntry) (d : NamedEntry) (after : List NamedEntry) → list_any (λ b. has b.entry) before ≡ false → has d.entry ≡ true
+    → find (λ x. has x.entry) (before ++ d ∷ after) ≡ Some d
+first_found has [] d after none is = ap (λ (b : Bool). cond b (Some d) (find (λ x. has x.entry) after)) is
+first_found has (b ∷ before) d after none is = found (has b.entry) none (first_found has before d after) where
+  found : (t : Bool) → (t || list_any (λ x. has x.entry) before) ≡ false → (list_any (λ x. has x.entry) before ≡ false → has d.entry ≡ true → find (λ x. has x.entry) (before ++ d ∷ after) ≡ Some d)
+      → cond t (Some b) (find (λ x. has x.entry) (before ++ d ∷ after)) ≡ Some d
+  found true e more = cc
+  found false e more = more e is
+
+first_is : (has : TextEntry → Bool) (before : List NamedEntry) (d : NamedEntry) (after : List NamedEntry) → list_any (λ b. has b.entry) before ≡ false → has d.entry ≡ true → first_with has (before ++ d ∷ after) ≡ d.entry
+first_is has before d after none is = ap (λ (r : Option NamedEntry). option_map_or (λ (x : NamedEntry). x.entry) r (first_of (before ++ d ∷ after))) (first_found has before d after none is)
+
+pub previous_of_first : (o : MergeOptions) (before : List NamedEntry) (d : NamedEntry) (after : List NamedEntry) → PreviousOfFirst o before d after
+previous_of_first o before d after none is = ap (λ (e : TextEntry). e.previous) (first_is has_previous before d after none is)
+
+pub plural_of_first : (o : MergeOptions) (before : List NamedEntry) (d : NamedEntry) (after : List NamedEntry) → PluralOfFirst o before d after
+plural_of_first o before d after none is = ap (λ (e : TextEntry). e.plural) (first_is has_plural before d after none is)
+
+not_live : (b : Bool) → not b ≡ true → b ≡ false
+not_live true e = cc
+not_live false e = refl
+
+live_not : (b : Bool) → not b ≡ false → b ≡ true
+live_not true e = refl
+live_not false e = cc
+
+or_left : (a b : Bool) → (a || b) ≡ false → a ≡ false
+or_left true b e = cc
+or_left false b e = refl
+
+live_first : (es : List NamedEntry) → list_any (λ e. is_live e.entry) es ≡ true → (first_of (filter (λ e. is_live e.entry) es)).obsolete ≡ false
+live_first [] h = cc
+live_first (e ∷ es) h = found (is_live e.entry) refl h (live_first es) where
+  found : (b : Bool) → is_live e.entry ≡ b → (b || list_any (λ x. is_live x.entry) es) ≡ true → (list_any (λ x. is_live x.entry) es ≡ true → (first_of (filter (λ x. is_live x.entry) es)).obsolete ≡ false)
+      → (first_of (cond b (e ∷ filter (λ x. is_live x.entry) es) (filter (λ x. is_live x.entry) es))).obsolete ≡ false
+  found true is h more = not_live e.entry.obsolete is
+  found false is h more = more h
+
+obsolete_first : (es : List NamedEntry) → 0 < length es → list_any (λ e. is_live e.entry) es ≡ false → (first_of es).obsolete ≡ true
+obsolete_first [] some h = absurd (omega (arith, some))
+obsolete_first (e ∷ es) some h = live_not e.entry.obsolete (or_left (is_live e.entry) (list_any (λ x. is_live x.entry) es) h)
+
+pub obsolete_where_none_is_live : (o : MergeOptions) (group : List NamedEntry) → ObsoleteWhereNoneIsLive o group
+obsolete_where_none_is_live o group some = found (list_any (λ e. is_live e.entry) group) refl where
+  found : (b : Bool) → list_any (λ e. is_live e.entry) group ≡ b → (first_of (if b then filter (λ e. is_live e.entry) group else group)).obsolete ≡ not b
+  found true e = live_first group e
+  found false e = obsolete_first group some e
+
+below_limit : (given : Option ℕ) (count : ℕ) → (is_below given count ≡ true) ↔ ((limit : ℕ) → given ≡ Some limit → count < limit)
+below_limit None count = (λ h limit is. cc, λ h. refl)
+below_limit (Some n) count = (
+  λ h limit is. let same : n ≡ limit = cc in let less : count < n = ltb-true count n h in omega (arith, less, same),
+  λ h. lt-ltb count n (h n refl),
+)
+
+one_alone : (unique : Bool) (count : ℕ) → 0 < count → ((not unique || nat_lt count 2) ≡ true) ↔ (unique ≡ true → count ≡ 1)
+one_alone true count some = (λ h on. let less : count < 2 = ltb-true count 2 h in omega (arith, less, some), λ h. lt-ltb count 2 (omega (arith, h refl)))
+one_alone false count some = (λ h on. cc, λ h. refl)
+
+pub kept_by_count : (o : MergeOptions) (ds : List NamedEntry) → KeptByCount o ds
+kept_by_count o ds none = (
+  λ kept.
+      let wanted : is_wanted o (length ds) ≡ true = sym (ap (λ (b : Bool). b || is_wanted o (length ds)) none) ∙ kept in
+      let a = and_parts (nat_lt o.more_than (length ds) && is_below o.less_than (length ds)) (not o.unique || nat_lt (length ds) 2) wanted in
+      let b = and_parts (nat_lt o.more_than (length ds)) (is_below o.less_than (length ds)) a.0 in
+      let more : o.more_than < length ds = ltb-true o.more_than (length ds) b.0 in
+      record { more_than = more; less_than = (below_limit o.less_than (length ds)).0 b.1; unique = (one_alone o.unique (length ds) (omega (arith, more))).0 a.1 },
+  λ asked.
+      let more = lt-ltb o.more_than (length ds) asked.more_than in
+      let less = (below_limit o.less_than (length ds)).1 asked.less_than in
+      let alone = (one_alone o.unique (length ds) (omega (arith, asked.more_than))).1 asked.unique in
+      rw (none, more, less, alone) refl,
+)

@@ -1,0 +1,71 @@
+-- What is promised of the entry that the definitions of one message are merged to, and of which
+-- messages are kept (manual, "Invoking the msgcat Program").
+use Rattle.std.specs.Prelude.{◌≡◌, ◌↔◌, ℕ, ◌<◌, Bool, true, false, not, List, [], ◌∷◌, ◌++◌, filter, length, get_or, slice_get, codes, Some, bytes_eq}
+use Rattle.std.specs.List.{list_any}
+use Rattle.po_syntax.specs.declared.item.CommentKind.{CommentKind}
+use Rattle.po_entry.specs.TextEntry.{TextEntry}
+use Rattle.po_entry.specs.Header.{is_header}
+use Rattle.po_catalog.specs.Joined.{is_live}
+use Rattle.po_merge.specs.declared.input.MergeOptions.{MergeOptions}
+use Rattle.po_merge.specs.Inputs.{NamedEntry}
+use Rattle.po_merge.specs.Groups.{definitions}
+use Rattle.po_merge.specs.MergedEntry.{ended, has_plural, has_previous, is_joined, joined_form, merged_entry, texts_of, translations}
+use Rattle.po_merge.specs.Merged.{is_kept}
+
+-- the entry has this comment, reference or flag
+abbrev pub has_text : CommentKind → List ℕ → TextEntry → Bool
+has_text kind text e = list_any (bytes_eq text) (texts_of kind e)
+
+-- Without `--use-first` a comment, reference or flag is in the entry exactly if a definition has it.
+abbrev pub TextsOfAll : MergeOptions → CommentKind → List ℕ → List NamedEntry → Type 0
+TextsOfAll o kind text ds =
+    o.use_first ≡ false → has_text kind text (merged_entry o ds) ≡ list_any (λ d. has_text kind text d.entry) ds
+
+-- They stand in the order of the definitions: one more definition adds, after the others, those of
+-- its texts that no earlier definition has.
+abbrev pub TextsInOrder : MergeOptions → CommentKind → List NamedEntry → NamedEntry → Type 0
+TextsInOrder o kind before d =
+    o.use_first ≡ false
+    → texts_of kind (merged_entry o (before ++ d ∷ []))
+    ≡ texts_of kind (merged_entry o before) ++ filter (λ text. not (list_any (λ b. has_text kind text b.entry) before)) (texts_of kind d.entry)
+
+-- where different translations are joined, the entry is fuzzy
+abbrev pub JoinedIsFuzzy : MergeOptions → List NamedEntry → Type 0
+JoinedIsFuzzy o ds = is_joined o ds ≡ true → (merged_entry o ds).fuzzy ≡ true
+
+-- the line that names the input of a form
+abbrev pub input_line : List ℕ → List ℕ
+input_line name = codes "#-#-#-#-#  " ++ name ++ codes "  #-#-#-#-#\n"
+
+-- A joined form has the form of each different translation, after the line of its input, in order.
+abbrev pub FormsAreJoined : MergeOptions → List NamedEntry → List NamedEntry → NamedEntry → List NamedEntry → ℕ → List ℕ → Type 0
+FormsAreJoined o ds before t after i form =
+    is_joined o ds ≡ true → translations ds ≡ before ++ t ∷ after → slice_get t.entry.forms i ≡ Some form → i < length (merged_entry o ds).forms
+    → get_or (merged_entry o ds).forms i [] ≡ joined_form before i ++ (input_line t.name ++ ended form) ++ joined_form after i
+
+-- The previous texts are those of the first definition that has some.
+abbrev pub PreviousOfFirst : MergeOptions → List NamedEntry → NamedEntry → List NamedEntry → Type 0
+PreviousOfFirst o before d after =
+    list_any (λ b. has_previous b.entry) before ≡ false → has_previous d.entry ≡ true
+    → (merged_entry o (before ++ d ∷ after)).previous ≡ d.entry.previous
+
+-- The plural is that of the first definition that has one.
+abbrev pub PluralOfFirst : MergeOptions → List NamedEntry → NamedEntry → List NamedEntry → Type 0
+PluralOfFirst o before d after =
+    list_any (λ b. has_plural b.entry) before ≡ false → has_plural d.entry ≡ true
+    → (merged_entry o (before ++ d ∷ after)).plural ≡ d.entry.plural
+
+-- The entry is obsolete exactly if no entry of the message is live.
+abbrev pub ObsoleteWhereNoneIsLive : MergeOptions → List NamedEntry → Type 0
+ObsoleteWhereNoneIsLive o group =
+    0 < length group → (merged_entry o (definitions group)).obsolete ≡ not (list_any (λ e. is_live e.entry) group)
+
+-- the counts that the options ask for
+pub record AskFor (o : MergeOptions) (count : ℕ) : Type 0 where
+  pub more_than : o.more_than < count
+  pub less_than : (limit : ℕ) → o.less_than ≡ Some limit → count < limit
+  pub unique : o.unique ≡ true → count ≡ 1
+
+-- A message that isn't the header's is kept exactly if its definitions are as many as is asked for.
+abbrev pub KeptByCount : MergeOptions → List NamedEntry → Type 0
+KeptByCount o ds = list_any (λ d. is_header d.entry) ds ≡ false → (is_kept o ds ≡ true) ↔ AskFor o (length ds)
