@@ -1,5 +1,6 @@
 -- Which options are given, by what clap reads of the arguments.
-use Rattle.std.specs.Prelude.{◌≡◌, ℕ, Bool, true, false, List, Option, None, Some, codes}
+use Rattle.std.specs.Prelude.{◌≡◌, ℕ, Bool, true, false, List, Option, None, Some, Result, codes}
+use Rattle.clap.specs.Matches.{ReadsOne}
 
 -- an option without a value is given where its text is `true`, and isn't where that is `false` or
 -- there is none
@@ -7,3 +8,8 @@ pub record IsFlag (text : Option (List ℕ)) (value : Bool) : Type 0 where
   pub none : text ≡ None → value ≡ false
   pub given : text ≡ Some (codes "true") → value ≡ true
   pub other : text ≡ Some (codes "false") → value ≡ false
+
+-- the number that the first text of an option is read as, and none where it has no text
+pub record IsNumber {E : Type 0} (gives : List ℕ → Result ℕ E → Type 0) (text : Option (List ℕ)) (value : Option ℕ) : Type 0 where
+  pub none : text ≡ None → value ≡ None
+  pub given : (digits : List ℕ) → text ≡ Some digits → ReadsOne gives digits value

@@ -1,5 +1,6 @@
 //! The options of a command line, as `clap` has parsed them.
 use clap::ArgMatches;
+use std::str::FromStr;
 use tool_runs::Arguments;
 
 /// The options that a tool was given.
@@ -7,16 +8,16 @@ use tool_runs::Arguments;
 pub(crate) struct Options<'r, 'a>(pub(crate) &'r ArgMatches<'a>);
 
 impl<'r, 'a> Arguments for Options<'r, 'a> {
-    ghost use Rattle.std.specs.Prelude.{◌≡◌, None};
+    ghost use Rattle.std.specs.Prelude.{◌≡◌};
     ghost use Rattle.clap.specs.Matches.{found_of, first_value, one_text};
-    ghost use Rattle.pokit.specs.Given.{IsFlag};
+    ghost use Rattle.pokit.specs.Given.{IsFlag, IsNumber};
 
     ghost flag = { λ options name value. IsFlag (one_text (found_of options.0.now) name) value };
 
     ghost text = { λ options name value. value ≡ first_value (found_of options.0.now) name };
 
     ghost number = { λ options name value.
-        (one_text (found_of options.0.now) name ≡ None) → (value ≡ None) };
+        IsNumber ⟦<u32 as FromStr>⟧.from_str_gives (one_text (found_of options.0.now) name) value };
 
     fn is_given(&self, name: &str) -> bool {
         self.0.get_flag(name)
