@@ -10,3 +10,4 @@ pub mod Subtrees
 pub mod Searches
 pub mod Rules
 pub mod Uniqueness
+pub mod PartsLemmas

@@ -1,16 +1,16 @@
 -- The parser's table and stack after one step.
-use Rattle.std.proofs.Common.{◌≡◌, ℕ, ◌+◌, ◌-◌, ◌==◌, false, nat_le, inl, inr, List, [], ◌∷◌, ◌++◌, length, Some, None, refl, sym, ap, ◌∙◌, append_assoc, arith, subst, length-append}
+use Rattle.std.proofs.Common.{◌≡◌, ℕ, zero, suc, ◌+◌, ◌-◌, ◌==◌, false, nat_le, nat_eq, MatchBool, inl, inr, List, [], ◌∷◌, ◌++◌, length, Some, None, refl, sym, ap, ◌∙◌, append_assoc, arith, rules, subst, length-append}
 use Rattle.std.proofs.lemmas.Bool.{cases_Bool}
 use Rattle.plural_rule.specs.declared.operator.Operator.{Operator}
 use Rattle.plural_rule.specs.declared.node.Node.{Node}
-use Rattle.plural_rule.specs.declared.parser.Pending.{Pending}
-use Rattle.plural_rule.specs.declared.parser.Pending.TheVariants.{Binary as BinaryPending, Question as QuestionPending, Colon as ColonPending}
+use Rattle.plural_rule.specs.declared.parts.Pending.{Pending}
+use Rattle.plural_rule.specs.declared.parts.Pending.TheVariants.{Binary as BinaryPending, Question as QuestionPending, Colon as ColonPending}
 use Rattle.plural_rule.specs.Expression.{Tree, Count, Number, Not, Binary, Conditional, nodes}
 use Rattle.plural_rule.specs.Grammar.{level}
 use Rattle.plural_rule.specs.Node.{not_node, binary_node, conditional_node}
 use Rattle.plural_rule.specs.PostOrder.{post_order}
-use Rattle.plural_rule.specs.ShiftReduce.{Waiting, WaitNot, WaitOpen, WaitBinary, WaitQuestion, WaitColon, Operand, completed, reduce, reduce_by, at_colon}
-use Rattle.plural_rule.specs.ParserState.{size, waiting_nodes, pending, pendings, completed_node, IsWaiting, IsOperand, Answers}
+use Rattle.plural_rule.specs.ShiftReduce.{Waiting, WaitNot, WaitOpen, WaitBinary, WaitQuestion, WaitColon, Operand, completed, reduce, reduce_by, at_colon, alone}
+use Rattle.plural_rule.specs.ParserState.{size, waiting_nodes, pending, pendings, completed_node, IsWaiting, IsOperand, Answers, HoldsTree}
 
 pub length-post_order : (t : Tree) (base : ℕ) → length (post_order base t) ≡ nodes t
 length-post_order Count base = refl
@@ -185,3 +185,13 @@ answers-colon i last table entries rest stack t h e l =
     subst (λ s. IsOperand table (rest ++ QuestionPending i ∷ []) s t) top.is (subst (λ x. IsOperand table x stack t) e h) in
     subst (λ s. Answers (at_colon s t) (Some false) table (rest ++ ColonPending i last ∷ [])) (sym top.is)
     (colon-newest top.newest top.below i last table rest t top.top_is top.rest_is held l)
+
+-- the end of the tokens after an operand
+pub finishes : (waiting : ℕ) (table : List Node) (entries : List Pending) (stack : List Waiting) (t : Tree) → IsOperand table entries stack t → length entries ≡ waiting → MatchBool (nat_eq waiting 0) (HoldsTree (alone stack t) table) (alone stack t ≡ None)
+finishes zero table entries [] t h l = record { tree = t; read_is = refl; table_is = h.table_is }
+finishes (suc n) table entries [] t h l = absurd (omega (arith, l, ap length h.entries_are))
+finishes zero table entries (w ∷ below) t h l =
+    absurd (omega (arith, l, ap length h.entries_are, length-append (pendings below) (pending (size below) w ∷ [])))
+finishes (suc n) table entries (w ∷ below) t h l =
+    let waits : nat_eq (suc n) 0 ≡ false = search rules in
+    rw waits refl

@@ -6,6 +6,7 @@ pub mod PluralRule
 pub mod Node
 pub mod PostOrder
 pub mod ShiftReduce
+pub mod Parts
 pub mod ParserState
 pub mod Scanner
 pub mod Evaluation

@@ -1,8 +1,8 @@
 -- Internal: how the parser's table and stack stand for what waits and for a complete operand.
 use Rattle.std.specs.Prelude.{◌≡◌, ℕ, ◌+◌, ◌-◌, nat_le, ◌==◌, Bool, true, false, List, [], ◌∷◌, ◌++◌, Option, Some, None, if◌then◌else◌}
 use Rattle.plural_rule.specs.declared.node.Node.{Node}
-use Rattle.plural_rule.specs.declared.parser.Pending.{Pending}
-use Rattle.plural_rule.specs.declared.parser.Pending.TheVariants.{Not as NotPending, Open as OpenPending, Binary as BinaryPending, Question as QuestionPending, Colon as ColonPending}
+use Rattle.plural_rule.specs.declared.parts.Pending.{Pending}
+use Rattle.plural_rule.specs.declared.parts.Pending.TheVariants.{Not as NotPending, Open as OpenPending, Binary as BinaryPending, Question as QuestionPending, Colon as ColonPending}
 use Rattle.plural_rule.specs.Expression.{Tree, nodes}
 use Rattle.plural_rule.specs.Grammar.{level, Spelt}
 use Rattle.plural_rule.specs.PluralRule.{IsReadable}

@@ -1,12 +1,15 @@
 -- The rule that a header text gives, within a limit on the bytes of its expression.
 -- GNU gettext manual, "Plural forms".
-use Rattle.std.specs.Prelude.{◌≡◌, ℕ, ◌^◌, ◌<◌, ◌≤◌, ◌⊎◌, List, Some, None, length}
+use Rattle.std.specs.Prelude.{◌≡◌, ℕ, ◌^◌, ◌<◌, ◌≤◌, ◌⊎◌, List, Some, None, length, take}
 use Rattle.plural_rule.specs.declared.operator.Operator.TheVariants.{NotEqual}
 use Rattle.plural_rule.specs.declared.rule.Source.{Source}
 use Rattle.plural_rule.specs.declared.rule.Source.TheVariants.{Header, Default}
 use Rattle.plural_rule.specs.declared.rule.Reason.{Reason}
 use Rattle.plural_rule.specs.declared.rule.Reason.TheVariants.{NoNumber, NoExpression, Unreadable, TooLong}
+use Rattle.plural_rule.specs.declared.rule.ParsedRule.{ParsedRule}
+use Rattle.plural_rule.specs.declared.node.Node.{Node}
 use Rattle.plural_rule.specs.Expression.{Tree, Count, Number, Binary}
+use Rattle.plural_rule.specs.PostOrder.{tree_of}
 use Rattle.plural_rule.specs.Grammar.{Spelt}
 use Rattle.plural_rule.specs.Header.{nplurals_of, expression_of}
 
@@ -15,6 +18,13 @@ pub record RuleView : Type 0 where
   pub source : Source
   pub nplurals : ℕ
   pub tree : Tree
+
+-- the nodes of a rule that was written to the beginning of an array, and the rule
+abbrev pub nodes_in : ParsedRule → List Node → List Node
+nodes_in parsed room = take parsed.node_count room
+
+abbrev pub rule_in : ParsedRule → List Node → RuleView
+rule_in parsed room = record { source = parsed.source; nplurals = parsed.nplurals; tree = tree_of (nodes_in parsed room) }
 
 -- the most bytes of an expression that is read, and so the most nodes that a rule has
 abbrev pub expression_limit : ℕ

@@ -49,7 +49,7 @@ type Frames<const DEPTH: usize> = ArrayVec<Frame, DEPTH>;
 
 /// The most nodes of an expression that is evaluated with the smaller stack, which costs less to
 /// set up.
-const SHORT: usize = 64;
+const SHORT: usize = 128;
 
 /// What to do next.
 #[derive(Clone, Copy, Drop)]

@@ -5,9 +5,10 @@
 //! rule contains a table of fixed size for its nodes, so neither reading nor evaluating allocates,
 //! and neither takes more of the machine's stack for a deeper expression.
 //!
-//! [`Rule::parse`] reads a rule, and [`evaluate`] computes its value at a count.
+//! [`Rule::parse`] reads a rule, [`Rule::parse_into`] into memory of the caller, and [`evaluate`]
+//! computes its value at a count.
 //!
-//! The modules in reading order: `operator`, `token`, `lexer`, `node`, `parser`, `evaluator`,
+//! The modules in reading order: `operator`, `token`, `lexer`, `node`, `parts`, `parser`, `evaluator`,
 //! `header`, `rule`, `laws`.
 
 #![tactic(auto)]
@@ -19,9 +20,10 @@ mod lexer;
 mod node;
 mod operator;
 mod parser;
+mod parts;
 mod rule;
 mod token;
 
 pub use evaluator::evaluate;
 pub use node::Node;
-pub use rule::{EXPRESSION_LIMIT, Reason, Rule, Source};
+pub use rule::{EXPRESSION_LIMIT, ParsedRule, Reason, Rule, Source};

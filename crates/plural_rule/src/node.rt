@@ -1,10 +1,8 @@
-//! The table of nodes that holds an expression.
+//! The nodes of an expression.
 ghost use Rattle.std.specs.Prelude.{◌≡◌};
 ghost use Rattle.plural_rule.specs.Node.{count_node, numeral_node, not_node, binary_node, conditional_node, numeral, shape_of};
 
 use crate::operator::Operator;
-use crate::rule::EXPRESSION_LIMIT;
-use arrayvec::ArrayVec;
 
 /// A node of an expression as it stands in a table, after its operands: plain numbers, so that C
 /// can hold a table too.
@@ -128,12 +126,3 @@ pub(crate) fn numeral(first: u16, second: u16, third: u16, fourth: u16) -> u64
 {
     ((first as u64 * 65536 + second as u64) * 65536 + third as u64) * 65536 + fourth as u64
 }
-
-impl Default for Node {
-    fn default() -> Self {
-        Node::COUNT
-    }
-}
-
-/// The nodes of an expression, each after its operands: the node of the whole expression is last.
-pub(crate) type Table = ArrayVec<Node, EXPRESSION_LIMIT>;

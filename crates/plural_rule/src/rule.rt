@@ -1,12 +1,12 @@
 //! The rule of a header text.
-ghost use Rattle.std.specs.Prelude.{◌≡◌, ◌≤◌, [], length, MatchResult};
+ghost use Rattle.std.specs.Prelude.{◌≡◌, ◌≤◌, length, take, IfOk, MatchResult};
 ghost use Rattle.plural_rule.specs.Expression.{value, visited, nodes};
-ghost use Rattle.plural_rule.specs.PluralRule.{IsRuleOf, IsReason, default_tree, expression_limit};
+ghost use Rattle.plural_rule.specs.PluralRule.{IsRuleOf, IsReason, default_tree, expression_limit, nodes_in, rule_in};
 ghost use Rattle.plural_rule.specs.PostOrder.{post_order, tree_of};
 ghost use Rattle.plural_rule.specs.ParserState.{HoldsRule};
 
 use crate::evaluator::evaluate;
-use crate::node::{Node, Table};
+use crate::node::Node;
 use crate::operator::Operator;
 use crate::{header, lexer, parser};
 use std::marker::Model;
@@ -40,28 +40,45 @@ pub enum Reason {
 
 /// A plural rule: the number of plural forms, and the expression that chooses one for a count.
 ///
-/// It allocates nothing: its table is part of the value, which has about 41 KB, so pass it by
+/// It allocates nothing: its nodes are part of the value, which has about 41 KB, so pass it by
 /// reference. See the GNU gettext manual, "Plural forms".
 #[derive(Drop)]
 pub struct Rule {
     source: Source,
     nplurals: u64,
-    table: Table,
+    node_count: u32,
+    nodes: [Node; EXPRESSION_LIMIT],
+}
+
+/// A plural rule whose nodes stand in memory of the caller.
+#[derive(Clone, Copy, Debug, PartialEq, Eq, Drop)]
+pub struct ParsedRule {
+    /// Where the rule comes from.
+    pub source: Source,
+    /// The number of plural forms.
+    pub nplurals: u64,
+    /// How many nodes the expression has.
+    pub node_count: u32,
 }
 
 impl Model for Rule {
-    ghost use Rattle.std.specs.Prelude.{◌≡◌};
+    ghost use Rattle.std.specs.Prelude.{◌≡◌, ◌≤◌, take};
     ghost use Rattle.std.specs.Coded.{codes};
-    ghost use Rattle.plural_rule.specs.PluralRule.{RuleView};
+    ghost use Rattle.plural_rule.specs.PluralRule.{RuleView, expression_limit};
     ghost use Rattle.plural_rule.specs.PostOrder.{post_order, tree_of, tree_code};
 
     ghost Value = { RuleView };
 
     ghost coded = { Prim.hlevel (codes, tree_code (Prim.hlevel codes)) };
 
-    ghost view = { λ r. record { source = r.source; nplurals = r.nplurals; tree = tree_of r.table.items } };
+    ghost view = { λ r. record {
+      source = r.source;
+      nplurals = r.nplurals;
+      tree = tree_of (take r.node_count r.nodes);
+    } };
 
-    ghost invariant = { λ r. r.table.items ≡ post_order 0 (tree_of r.table.items) };
+    ghost invariant = { λ r. (take r.node_count r.nodes ≡ post_order 0 (tree_of (take r.node_count r.nodes)))
+        × (r.node_count ≤ expression_limit) };
 }
 
 impl Rule {
@@ -74,12 +91,38 @@ impl Rule {
     pub fn parse(header: &[u8]) -> Rule
         ensures { IsRuleOf expression_limit header.now result }
     {
-        let mut table = Table::new();
-        let (source, nplurals) = fill(header, &mut table);
+        let mut nodes = [Node::COUNT; EXPRESSION_LIMIT];
+        let parsed = Rule::parse_into(header, &mut nodes);
         Rule {
-            source,
-            nplurals,
-            table,
+            source: parsed.source,
+            nplurals: parsed.nplurals,
+            node_count: parsed.node_count,
+            nodes,
+        }
+    }
+
+    /// The same with the nodes at the beginning of `room`, as [`evaluate`] takes them. What stands
+    /// after them is overwritten too.
+    #[inline(never)]
+    pub fn parse_into(header: &[u8], room: &mut [Node; EXPRESSION_LIMIT]) -> ParsedRule
+        ensures rule { IsRuleOf expression_limit header.now (rule_in result room.new) }
+        ensures post_order { nodes_in result room.new ≡ post_order 0 (rule_in result room.new).tree }
+        ensures limit { result.node_count ≤ expression_limit }
+    {
+        match read(header, room) {
+            Ok((nplurals, node_count)) => ParsedRule {
+                source: Source::Header,
+                nplurals,
+                node_count: node_count as u32,
+            },
+            Err(reason) => {
+                write_default(room);
+                ParsedRule {
+                    source: Source::Default(reason),
+                    nplurals: 2,
+                    node_count: 3,
+                }
+            }
         }
     }
 
@@ -103,7 +146,7 @@ impl Rule {
         ensures limit { result ≤ expression_limit }
         ensures some { 1 ≤ result }
     {
-        self.table.len() as u32
+        self.table().len() as u32
     }
 
     /// The value of the expression at a count, or `None` where it divides by 0, and how many nodes
@@ -123,33 +166,17 @@ impl Rule {
         ensures tree { tree_of result.now ≡ self.now.tree }
         ensures limit { length result.now ≤ expression_limit }
     {
-        self.table.as_slice()
+        &self.nodes[..self.node_count as usize]
     }
 }
 
-/// Writes the expression of a header's rule into the empty `table`, and says where the rule comes
-/// from and its number of plural forms.
-#[inline(never)]
-fn fill(header: &[u8], table: &mut Table) -> (Source, u64)
-    requires { table.old.items ≡ [] }
-    ensures rule { IsRuleOf expression_limit header.now
-        (record { source = result.0; nplurals = result.1; tree = tree_of table.new.items }) }
-    ensures post_order { table.new.items ≡ post_order 0 (tree_of table.new.items) }
-{
-    match read(header, table) {
-        Ok(nplurals) => (Source::Header, nplurals),
-        Err(reason) => {
-            write_default(table);
-            (Source::Default(reason), 2)
-        }
-    }
-}
-
-/// Reads the number of plural forms of a header, and its expression into the empty `table`.
-fn read(header: &[u8], table: &mut Table) -> Result<u64, Reason>
-    requires { table.old.items ≡ [] }
-    ensures { MatchResult result (λ nplurals. HoldsRule expression_limit header.now nplurals table.new.items)
+/// Reads the number of plural forms of a header, and its expression to the beginning of `room`: the
+/// number, and how many nodes the expression has.
+fn read(header: &[u8], room: &mut [Node; EXPRESSION_LIMIT]) -> Result<(u64, usize), Reason>
+    ensures rule { MatchResult result
+        (λ read. HoldsRule expression_limit header.now read.0 (take read.1 room.new))
         (λ reason. IsReason expression_limit header.now reason) }
+    ensures limit { IfOk result (λ read. read.1 ≤ expression_limit) }
 {
     let digits = header::nplurals_digits(header).ok_or(Reason::NoNumber)?;
     let text = header::expression(header).ok_or(Reason::NoExpression)?;
@@ -157,19 +184,17 @@ fn read(header: &[u8], table: &mut Table) -> Result<u64, Reason>
         return Err(Reason::TooLong);
     }
     let nplurals = lexer::decimal_value(digits).ok_or(Reason::Unreadable)?;
-    if parser::parse(text, table) {
-        Ok(nplurals)
-    } else {
-        Err(Reason::Unreadable)
+    match parser::parse(text, room) {
+        Some(node_count) => Ok((nplurals, node_count)),
+        None => Err(Reason::Unreadable),
     }
 }
 
-/// Writes `n != 1` in place of what `table` holds.
-fn write_default(table: &mut Table)
-    ensures { table.new.items ≡ post_order 0 default_tree }
+/// Writes the three nodes of `n != 1`.
+fn write_default(room: &mut [Node; EXPRESSION_LIMIT])
+    ensures { take 3 room.new ≡ post_order 0 default_tree }
 {
-    table.clear();
-    table.push(Node::COUNT);
-    table.push(Node::numeral(1));
-    table.push(Node::binary(Operator::NotEqual, 0, 1));
+    room[0] = Node::COUNT;
+    room[1] = Node::numeral(1);
+    room[2] = Node::binary(Operator::NotEqual, 0, 1);
 }
