@@ -44,8 +44,8 @@
 #include "views.h"
 
 enum {
-    SMALL_RULE = 64, /* nodes of a plural expression that libpokit evaluates on 1 KB of stack */
-    EOT = 4          /* stands between context and msgid */
+    SMALL_RULE = 128, /* nodes of a plural expression that libpokit evaluates on 2 KB of stack */
+    EOT = 4           /* stands between context and msgid */
 };
 
 static const char default_domain[] = "messages";

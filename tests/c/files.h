@@ -32,7 +32,7 @@ static inline int counts(void)
 
 /* A file that is made word by word. */
 struct file {
-    uint8_t bytes[4096];
+    uint8_t bytes[8192];
     size_t len;
     int big;
 };

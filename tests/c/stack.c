@@ -11,7 +11,7 @@
 enum { ROOM = 256 * 1024, FILLED = 0xa5 };
 
 /* What each call may take, in bytes. */
-enum { TO_OPEN = 110 * 1024, TO_LOOK = 1024, TO_LOOK_FAR = 45 * 1024, TO_MAKE_A_PATH = 6 * 1024 };
+enum { TO_OPEN = 1024, TO_LOOK = 1792, TO_LOOK_FAR = 42 * 1024, TO_MAKE_A_PATH = 6 * 1024 };
 
 static pokit_catalog catalog;
 static struct file file;
@@ -95,7 +95,10 @@ int main(void)
     check_most("pokit_open", open_file, TO_OPEN);
     check_most("pokit_ngettext", look, TO_LOOK);
     check_most("pokit_path", path, TO_MAKE_A_PATH);
-    make("a rule of 1,001 nodes", 500);
+    make("a rule of 127 nodes", 63);
+    check_most("pokit_open", open_file, TO_OPEN);
+    check_most("pokit_ngettext", look, TO_LOOK);
+    make("a rule of 4,001 nodes", 2000);
     check_most("pokit_open", open_file, TO_OPEN);
     check_most("pokit_ngettext", look, TO_LOOK_FAR);
     return counts();

@@ -1,12 +1,12 @@
 //! A catalogue: an MO file of any origin, and the plural rule of its header.
 
-ghost use Rattle.std.specs.Prelude.{◌≡◌, ◌+◌, ◌^◌, ◌<◌, ◌≤◌, List, length, min, MatchResult, IsOk, IfOk, false};
+ghost use Rattle.std.specs.Prelude.{◌≡◌, ◌+◌, ◌^◌, ◌<◌, ◌≤◌, List, length, MatchResult, IsOk, IfOk, false};
 ghost use Rattle.std.specs.Option.{option_copied};
 ghost use Rattle.plural_rule.specs.Expression.{nodes};
 ghost use Rattle.plural_rule.specs.PluralRule.{IsRuleOf, expression_limit};
 ghost use Rattle.mo_file.specs.declared.byte_order.Order.{Order};
 ghost use Rattle.mo_file.specs.Message.{Message};
-ghost use Rattle.mo_file.specs.Key.{AreRising, keys, query_key};
+ghost use Rattle.mo_file.specs.Key.{keys, query_key};
 ghost use Rattle.mo_file.specs.MoFile.{IsMoFile};
 ghost use Rattle.mo_file.specs.Fault.{IsFirstFault, comparisons_before};
 ghost use Rattle.mo_lookup.specs.Bound.{search_bound};
@@ -16,12 +16,11 @@ ghost use Rattle.mo_lookup.specs.CatalogView.{IsCatalogView, header_text, forms,
 ghost use Rattle.mo_lookup.specs.Answer.{answer_view, translated};
 
 use crate::answer::Answer;
-use crate::forms::before_nul;
 use crate::looking::{answered_form, look, translation};
-use crate::messages::{Messages, ViewMessages};
+use crate::messages::ViewMessages;
+use crate::opening::checked;
 use mo_file::{Meter, MoError, MoView};
 use plural_rule::Rule;
-use std::cmp::Ordering;
 use std::marker::Model;
 
 /// A catalogue of translations in the bytes of an MO file, of whatever origin, in which messages
@@ -46,26 +45,6 @@ impl<'a> Model for Catalog<'a> {
     ghost invariant = { λ c. IsCatalogView c.view c.rule };
 }
 
-/// The text of the header entry, which stands under the empty key and so first; empty where there
-/// is none. Where there are messages this is one comparison.
-#[inline(never)]
-fn header_text<'a, M: Messages<'a>>(messages: &mut M) -> &'a [u8]
-    requires keys { M.listed messages.old ≡ keys (M.messages messages.old) }
-    requires room { M.counted messages.old < 2 ^ 63 + length (M.messages messages.old) }
-    ensures text { result.now ≡ header_text (M.messages messages.old) }
-    ensures rising { AreRising (keys (M.messages messages.old)) }
-    ensures cost { M.counted messages.new ≡ M.counted messages.old + min 1 (length (M.messages messages.old)) }
-    ensures same_counter { M.counter messages.new ≡ M.counter messages.old }
-{
-    if messages.len() == 0 {
-        return b"";
-    }
-    match messages.compare(0, None, b"") {
-        Ordering::Equal => before_nul(messages.translation(0)),
-        _ => b"",
-    }
-}
-
 impl<'a> Catalog<'a> {
     /// Opens the bytes of an MO file in either byte order. They are checked whole, and refused with
     /// the first fault in the order of `MoError` exactly where they are no valid file. The meter
@@ -81,8 +60,7 @@ impl<'a> Catalog<'a> {
         ensures cost { MatchResult result (λ catalog. meter.new ≡ meter.old + length catalog.messages)
             (λ fault. meter.new ≡ meter.old + comparisons_before fault) }
     {
-        let view = MoView::open(bytes, meter)?;
-        let header = header_text(&mut ViewMessages { view: &view, meter });
+        let (view, header) = checked(bytes, meter)?;
         Ok(Catalog {
             rule: Rule::parse(header),
             view,

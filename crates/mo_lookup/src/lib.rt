@@ -2,13 +2,13 @@
 //! count select.
 //!
 //! [`Catalog::open`] checks bytes of any origin once and reads the plural rule of their header
-//! entry. [`Catalog::look`] then answers a query by at most floor(log2 N) + 1 comparisons among N
+//! entry; [`open_into`] does so in memory of the caller. [`Catalog::look`] then answers a query by at most floor(log2 N) + 1 comparisons among N
 //! keys, and evaluates each node of the plural expression at most once. A [`Chain`] asks one
 //! catalogue after the other. None of them allocates: texts are slices of the file or of the query.
 //! [`find`] is the binary search over any list of [`Keys`], which it only compares.
 //!
 //! The modules in reading order: `query`, `search`, `messages`, `forms`, `answer`, `looking`,
-//! `catalog`, `chain`, `laws`.
+//! `opening`, `catalog`, `chain`, `laws`.
 
 #![tactic(auto)]
 
@@ -19,6 +19,7 @@ mod forms;
 mod laws;
 mod looking;
 mod messages;
+mod opening;
 mod query;
 mod search;
 
@@ -31,6 +32,7 @@ pub use laws::{
 };
 pub use looking::look;
 pub use messages::{Messages, ViewMessages};
+pub use opening::open_into;
 pub use plural_rule::laws::{longer_limit, one_rule, one_tree, visited_at_most_nodes};
-pub use plural_rule::{EXPRESSION_LIMIT, Node, Reason, Rule, Source};
+pub use plural_rule::{EXPRESSION_LIMIT, Node, ParsedRule, Reason, Rule, Source};
 pub use search::{Keys, find};

@@ -12,7 +12,7 @@ ghost use Rattle.pokit_c.specs.Opened.{IsOpened};
 use crate::catalog::PokitCatalog;
 use crate::fault::{index, number};
 use mo_file::{Meter, MoView};
-use mo_lookup::Catalog;
+use mo_lookup::open_into;
 
 /// Checks the bytes of an MO file ("The Format of GNU MO Files"). Where they are valid, `catalog`
 /// becomes the catalogue of its messages, and the result is 0. Else the result is the number of the
@@ -33,13 +33,11 @@ pub extern "C" fn pokit_catalog_open<'a>(
     ensures only { (order : Order) (messages : List Message) → IsMoFile order bytes.now messages → result ≡ 0 }
 {
     let mut meter = Meter::new();
-    match Catalog::open(bytes, &mut meter) {
-        Ok(opened) => {
-            let table = opened.rule().table();
+    match open_into(bytes, &mut meter, &mut catalog.nodes) {
+        Ok((_, rule)) => {
             catalog.bytes = bytes;
-            catalog.nplurals = opened.rule().nplurals();
-            catalog.node_count = table.len() as u32;
-            catalog.nodes[..table.len()].copy_from_slice(table);
+            catalog.nplurals = rule.nplurals;
+            catalog.node_count = rule.node_count;
             *message = 0;
             0
         }

@@ -1,7 +1,7 @@
 use Rattle.std.proofs.Common.{sym, ap, ◌∙◌, arith, slice_get}
 use Rattle.mo_file.specs.Message.{translations}
 use Rattle.mo_lookup.proofs.TranslationLemmas.{listed-header-first, listed-header-none}
-use Rattle.mo_lookup.proofs.catalog.header_text.Goals as goal
+use Rattle.mo_lookup.proofs.opening.header_text.Goals as goal
 
 pub returns-in-Equal-clause-text : goal.returns-in-Equal-clause-text
 returns-in-Equal-clause-text g c =

@@ -1,0 +1,83 @@
+//! Opening a file: it is checked whole, and the plural rule of its header entry is read.
+
+ghost use Rattle.std.specs.Prelude.{◌≡◌, ◌+◌, ◌^◌, ◌<◌, ◌≤◌, List, length, min, MatchResult, IsOk, IfOk, OnErr};
+ghost use Rattle.plural_rule.specs.PluralRule.{expression_limit, nodes_in, rule_in};
+ghost use Rattle.plural_rule.specs.PostOrder.{post_order};
+ghost use Rattle.mo_file.specs.declared.byte_order.Order.{Order};
+ghost use Rattle.mo_file.specs.Message.{Message};
+ghost use Rattle.mo_file.specs.Key.{AreRising, keys};
+ghost use Rattle.mo_file.specs.MoFile.{IsMoFile};
+ghost use Rattle.mo_file.specs.Fault.{IsFirstFault, comparisons_before};
+ghost use Rattle.mo_lookup.specs.CatalogView.{IsCatalogView, header_text};
+
+use crate::forms::before_nul;
+use crate::messages::{Messages, ViewMessages};
+use mo_file::{Meter, MoError, MoView};
+use plural_rule::{EXPRESSION_LIMIT, Node, ParsedRule, Rule};
+use std::cmp::Ordering;
+
+/// The text of the header entry, which stands under the empty key and so first; empty where there
+/// is none. Where there are messages this is one comparison.
+#[inline(never)]
+fn header_text<'a, M: Messages<'a>>(messages: &mut M) -> &'a [u8]
+    requires keys { M.listed messages.old ≡ keys (M.messages messages.old) }
+    requires room { M.counted messages.old < 2 ^ 63 + length (M.messages messages.old) }
+    ensures text { result.now ≡ header_text (M.messages messages.old) }
+    ensures rising { AreRising (keys (M.messages messages.old)) }
+    ensures cost { M.counted messages.new ≡ M.counted messages.old + min 1 (length (M.messages messages.old)) }
+    ensures same_counter { M.counter messages.new ≡ M.counter messages.old }
+{
+    if messages.len() == 0 {
+        return b"";
+    }
+    match messages.compare(0, None, b"") {
+        Ordering::Equal => before_nul(messages.translation(0)),
+        _ => b"",
+    }
+}
+
+/// The view of a file, and its header text. It is refused and counted as
+/// [`Catalog::open`](crate::Catalog::open) says.
+pub(crate) fn checked<'a>(
+    bytes: &'a [u8],
+    meter: &mut Meter,
+) -> Result<(MoView<'a>, &'a [u8]), MoError>
+    requires { meter.old < 2 ^ 63 }
+    ensures exact { MatchResult result (λ read. (order : Order) × IsMoFile order bytes.now read.0)
+        (IsFirstFault bytes.now) }
+    ensures only { (order : Order) (messages : List Message) → IsMoFile order bytes.now messages → IsOk result }
+    ensures rising { IfOk result (λ read. AreRising (keys read.0)) }
+    ensures header { IfOk result (λ read. read.1.now ≡ header_text read.0) }
+    ensures cost { MatchResult result (λ read. meter.new ≡ meter.old + length read.0)
+        (λ fault. meter.new ≡ meter.old + comparisons_before fault) }
+{
+    let view = MoView::open(bytes, meter)?;
+    let header = header_text(&mut ViewMessages { view: &view, meter });
+    Ok((view, header))
+}
+
+/// Opens a file as [`Catalog::open`](crate::Catalog::open) does, with the nodes of its plural rule
+/// at the beginning of `room`. Where the file is refused, `room` stays as it was.
+///
+/// It needs little of the machine's stack, whatever the file.
+pub fn open_into<'a>(
+    bytes: &'a [u8],
+    meter: &mut Meter,
+    room: &mut [Node; EXPRESSION_LIMIT],
+) -> Result<(MoView<'a>, ParsedRule), MoError>
+    requires { meter.old < 2 ^ 63 }
+    ensures exact { MatchResult result (λ opened. (order : Order) × IsMoFile order bytes.now opened.0)
+        (IsFirstFault bytes.now) }
+    ensures only { (order : Order) (messages : List Message) → IsMoFile order bytes.now messages → IsOk result }
+    ensures view { IfOk result (λ opened. IsCatalogView opened.0 (rule_in opened.1 room.new)) }
+    ensures post_order { IfOk result (λ opened. nodes_in opened.1 room.new
+        ≡ post_order 0 (rule_in opened.1 room.new).tree) }
+    ensures limit { IfOk result (λ opened. opened.1.node_count ≤ expression_limit) }
+    ensures unchanged { OnErr result (room.new ≡ room.old) }
+    ensures cost { MatchResult result (λ opened. meter.new ≡ meter.old + length opened.0)
+        (λ fault. meter.new ≡ meter.old + comparisons_before fault) }
+{
+    let (view, header) = checked(bytes, meter)?;
+    let rule = Rule::parse_into(header, room);
+    Ok((view, rule))
+}

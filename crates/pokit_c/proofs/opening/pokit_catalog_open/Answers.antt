@@ -1,0 +1,15 @@
+use Rattle.std.proofs.Common.{refl}
+use Rattle.plural_rule.specs.PluralRule.{rule_in}
+use Rattle.pokit_c.proofs.opening.pokit_catalog_open.Goals as goal
+
+pub returns-in-Ok-clause-opened : goal.returns-in-Ok-clause-opened
+returns-in-Ok-clause-opened c zero = (
+  record { messages = c.in-Ok.field-0-0; rule = rule_in c.in-Ok.rule c.open_into.new.room },
+  record {
+    file = c.in-Ok.ensures.exact;
+    rule = rw c.in-Ok.rule-is c.in-Ok.ensures.view;
+    nplurals = refl;
+    few = rw c.in-Ok.rule-is c.in-Ok.ensures.limit;
+    nodes = rw c.in-Ok.rule-is c.in-Ok.ensures.post_order;
+  },
+)
