@@ -113,9 +113,7 @@ fn select_piece(
         → AreSelected selection.now (before ++ piece) so_far.new) }
 {
     so_far.rows.add_all(piece.entries(), selection)?;
-    let Ok(selected) = select(piece, selection) else {
-        return Err(AllocError);
-    };
+    let selected = select(piece, selection).unwrap();
     so_far.parts.add(selected.entries())
 }
 
