@@ -13,7 +13,7 @@ use Rattle.po_entry.specs.TextEntry.{TextEntry}
 use Rattle.po_catalog.specs.Joined.{is_live}
 use Rattle.po_merge.specs.declared.input.MergeOptions.{MergeOptions}
 use Rattle.po_merge.specs.Inputs.{NamedEntry}
-use Rattle.po_merge.specs.MergedEntry.{collected, comment_of, ended, first_of, first_with, form_count, has_plural, has_previous, joined_form, joined_forms, marked, merged_entry, taken, texts_of, translations, with_others}
+use Rattle.po_merge.specs.MergedEntry.{collected, comment_of, ended, first_of, first_with, form_count, has_plural, has_previous, joined_form, joined_forms, marked, merged_entry, first_translated, texts_of, translations, with_others}
 use Rattle.po_merge.specs.Merged.{is_below, is_wanted}
 use Rattle.po_merge.specs.EntryLaws.{FormsAreJoined, JoinedIsFuzzy, KeptByCount, ObsoleteWhereNoneIsLive, PluralOfFirst, PreviousOfFirst, TextsInOrder, TextsOfAll, has_text, input_line}
 use Rattle.po_merge.proofs.FirstOnes.{fold_push, or_assoc, or_false}
@@ -27,7 +27,7 @@ texts_merged o Reference ds = refl
 texts_merged o Flags ds = refl
 
 texts_collected : (o : MergeOptions) (kind : CommentKind) (ds : List NamedEntry) → o.use_first ≡ false → texts_of kind (merged_entry o ds) ≡ collected (texts_of kind) ds
-texts_collected o kind ds off = texts_merged o kind ds ∙ ap (λ (b : Bool). if b then texts_of kind (taken ds) else collected (texts_of kind) ds) off
+texts_collected o kind ds off = texts_merged o kind ds ∙ ap (λ (b : Bool). if b then texts_of kind (first_translated ds) else collected (texts_of kind) ds) off
 
 -- a text is collected exactly if a definition has it
 any_collected : (kind : CommentKind) (text : List ℕ) (done : List (List ℕ)) (ds : List NamedEntry)
@@ -50,7 +50,7 @@ texts_in_order o kind before d off =
     (filter_agree (λ t. not (list_any (bytes_eq t) (collected (texts_of kind) before))) (λ t. not (list_any (λ b. has_text kind t b.entry) before)) (λ t. ap not (any_collected kind t [] before)) (texts_of kind d.entry))
 
 pub joined_is_fuzzy : (o : MergeOptions) (ds : List NamedEntry) → JoinedIsFuzzy o ds
-joined_is_fuzzy o ds joined = ap (λ (b : Bool). b || (taken ds).fuzzy) joined
+joined_is_fuzzy o ds joined = ap (λ (b : Bool). b || (first_translated ds).fuzzy) joined
 
 joined_append : (before after : List NamedEntry) (i : ℕ) → joined_form (before ++ after) i ≡ joined_form before i ++ joined_form after i
 joined_append [] after i = refl
@@ -61,10 +61,10 @@ joined_append (t ∷ before) after i =
 marked_is : (name form : List ℕ) → marked name form ≡ input_line name ++ ended form
 marked_is name form = refl
 
-pub forms_are_joined : (o : MergeOptions) (ds before : List NamedEntry) (t : NamedEntry) (after : List NamedEntry) (i : ℕ) (form : List ℕ) → FormsAreJoined o ds before t after i form
-forms_are_joined o ds before t after i form joined split has inside =
+pub forms_are_joined : (o : MergeOptions) (ds : List NamedEntry) → FormsAreJoined o ds
+forms_are_joined o ds before after t i form joined split has inside =
     let all = translations ds in
-    let forms : (merged_entry o ds).forms ≡ joined_forms all = ap (λ (b : Bool). if b then joined_forms all else (taken ds).forms) joined in
+    let forms : (merged_entry o ds).forms ≡ joined_forms all = ap (λ (b : Bool). if b then joined_forms all else (first_translated ds).forms) joined in
     let below : i < form_count all = omega (arith, inside, ap length forms, length-map-range_with_len (joined_form all) 0 (form_count all)) in
     ap (λ (l : List (List ℕ)). get_or l i []) forms ∙ get_or-map-range_with_len (joined_form all) 0 (form_count all) i i [] below (omega arith)
     ∙ ap (λ (l : List NamedEntry). joined_form l i) split ∙ joined_append before (t ∷ after) i

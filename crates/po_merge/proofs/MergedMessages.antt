@@ -10,7 +10,7 @@ use Rattle.po_merge.specs.declared.input.MergeOptions.{MergeOptions}
 use Rattle.po_merge.specs.Inputs.{Input, NamedEntry, named, all_entries}
 use Rattle.po_merge.specs.Groups.{groups, definitions}
 use Rattle.po_merge.specs.Grouping.{IsDefinition, IsGroup}
-use Rattle.po_merge.specs.MergedEntry.{merged_entry, joined_forms, translations, taken}
+use Rattle.po_merge.specs.MergedEntry.{merged_entry, joined_forms, translations, first_translated}
 use Rattle.po_merge.specs.Merged.{is_kept, messages}
 use Rattle.po_merge.specs.MergeLaws.{IsInput, OneDefinitionStays, MergedAreEntries, MergedCanStand, FormsAreOfOne}
 use Rattle.po_merge.proofs.Valid.{merged_is_entry, first_with_keeps}
@@ -48,7 +48,7 @@ pub forms_of_one : (o : MergeOptions) (ds : List NamedEntry) → FormsAreOfOne o
 forms_of_one o ds some apart =
     let forms_of : NamedEntry → List (List ℕ) = λ d. d.entry.forms in
     let among : All (λ d. Contains (map forms_of ds) d.entry.forms) ds = each ds in
-    subst (λ (b : Bool). Contains (map forms_of ds) (if b then joined_forms (translations ds) else (taken ds).forms)) (sym apart)
+    subst (λ (b : Bool). Contains (map forms_of ds) (if b then joined_forms (translations ds) else (first_translated ds).forms)) (sym apart)
     (first_with_keeps (λ e. Contains (map forms_of ds) e.forms) has_translation ds some among) where
       each : (xs : List NamedEntry) → All (λ d. Contains (map (λ (x : NamedEntry). x.entry.forms) xs) d.entry.forms) xs
       each [] = All-nil (λ d. Contains [] d.entry.forms)

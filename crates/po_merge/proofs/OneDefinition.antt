@@ -12,7 +12,7 @@ use Rattle.po_merge.specs.declared.input.MergeOptions.{MergeOptions}
 use Rattle.po_merge.specs.Inputs.{NamedEntry}
 use Rattle.po_merge.specs.InputsView.{named_entry, named_entries}
 use Rattle.po_merge.specs.Groups.{first_ones}
-use Rattle.po_merge.specs.MergedEntry.{first_of, first_with, has_previous, has_plural, taken, texts_of, collected, comment_of, same_forms, translations, is_joined, joined_forms, merged_entry}
+use Rattle.po_merge.specs.MergedEntry.{first_of, first_with, has_previous, has_plural, first_translated, texts_of, collected, comment_of, same_forms, translations, is_joined, joined_forms, merged_entry}
 
 only_one : (has : TextEntry → Bool) (d : NamedEntry) → first_with has (d ∷ []) ≡ d.entry
 only_one has d = found (has d.entry) where
@@ -26,7 +26,7 @@ all_kept (t ∷ ts) = ap (λ (l : List (List ℕ)). t ∷ l) (all_kept ts)
 
 comment_one : (o : MergeOptions) (kind : CommentKind) (d : NamedEntry) → comment_of o kind (d ∷ []) ≡ texts_of kind d.entry
 comment_one o kind d = found o.use_first where
-  found : (b : Bool) → (if b then texts_of kind (taken (d ∷ [])) else collected (texts_of kind) (d ∷ [])) ≡ texts_of kind d.entry
+  found : (b : Bool) → (if b then texts_of kind (first_translated (d ∷ [])) else collected (texts_of kind) (d ∷ [])) ≡ texts_of kind d.entry
   found true = ap (texts_of kind) (only_one has_translation d)
   found false = all_kept (texts_of kind d.entry)
 
@@ -57,8 +57,8 @@ rebuilt comments extracted references fuzzy flags previous plural forms e = reco
 pub one_definition : (o : MergeOptions) (d : NamedEntry) → merged_entry o (d ∷ []) ≡ d.entry
 one_definition o d =
     let e = d.entry in
-    let fuzzy : (is_joined o (d ∷ []) || (taken (d ∷ [])).fuzzy) ≡ e.fuzzy = ap₂ (λ (a b : Bool). a || b) (not_joined o d) (ap (λ (x : TextEntry). x.fuzzy) (only_one has_translation d)) in
-    let forms : (if is_joined o (d ∷ []) then joined_forms (translations (d ∷ [])) else (taken (d ∷ [])).forms) ≡ e.forms =
+    let fuzzy : (is_joined o (d ∷ []) || (first_translated (d ∷ [])).fuzzy) ≡ e.fuzzy = ap₂ (λ (a b : Bool). a || b) (not_joined o d) (ap (λ (x : TextEntry). x.fuzzy) (only_one has_translation d)) in
+    let forms : (if is_joined o (d ∷ []) then joined_forms (translations (d ∷ [])) else (first_translated (d ∷ [])).forms) ≡ e.forms =
     ap₂ (λ (b : Bool) (fs : List (List ℕ)). if b then joined_forms (translations (d ∷ [])) else fs) (not_joined o d) (ap (λ (x : TextEntry). x.forms) (only_one has_translation d)) in
     λ i. rebuilt (comment_one o Translator d i) (comment_one o Extracted d i) (comment_one o Reference d i) (fuzzy i) (comment_one o Flags d i) (only_one has_previous d i).previous (only_one has_plural d i).plural (forms i) e
 

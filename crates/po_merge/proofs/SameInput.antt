@@ -17,7 +17,7 @@ use Rattle.po_catalog.specs.Statistics.{has_translation}
 use Rattle.po_merge.specs.declared.input.MergeOptions.{MergeOptions}
 use Rattle.po_merge.specs.Inputs.{Input, NamedEntry, named}
 use Rattle.po_merge.specs.Groups.{with_new, first_ones, same_message, definitions}
-use Rattle.po_merge.specs.MergedEntry.{first_with, has_previous, has_plural, taken, texts_of, with_others, collected, comment_of, same_forms, translations, is_joined, joined_forms, merged_entry}
+use Rattle.po_merge.specs.MergedEntry.{first_with, has_previous, has_plural, first_translated, texts_of, with_others, collected, comment_of, same_forms, translations, is_joined, joined_forms, merged_entry}
 use Rattle.po_merge.specs.Merged.{is_kept, merged_messages}
 use Rattle.po_merge.specs.MergeLaws.{keep_all, OneInputStays, WithItself}
 use Rattle.po_merge.proofs.FirstOnes.{Apart, group_of, or_true, or_parts}
@@ -143,7 +143,7 @@ nothing_new ts =
 
 comment_of_two : (o : MergeOptions) (kind : CommentKind) (n m : List ℕ) (e : TextEntry) → comment_of o kind (named n e ∷ named m e ∷ []) ≡ texts_of kind e
 comment_of_two o kind n m e = found o.use_first where
-  found : (b : Bool) → (if b then texts_of kind (taken (named n e ∷ named m e ∷ [])) else collected (texts_of kind) (named n e ∷ named m e ∷ [])) ≡ texts_of kind e
+  found : (b : Bool) → (if b then texts_of kind (first_translated (named n e ∷ named m e ∷ [])) else collected (texts_of kind) (named n e ∷ named m e ∷ [])) ≡ texts_of kind e
   found true = ap (texts_of kind) (first_of_two has_translation n m e)
   found false = ap (λ (l : List (List ℕ)). with_others l (texts_of kind e)) (all_kept (texts_of kind e)) ∙ nothing_new (texts_of kind e)
 
@@ -161,8 +161,8 @@ not_joined o n m e = found (has_translation e) (not o.use_first) where
 same_twice : (o : MergeOptions) (n m : List ℕ) (e : TextEntry) → merged_entry o (named n e ∷ named m e ∷ []) ≡ e
 same_twice o n m e =
     let ds = named n e ∷ named m e ∷ [] in
-    let fuzzy : (is_joined o ds || (taken ds).fuzzy) ≡ e.fuzzy = ap₂ (λ (a b : Bool). a || b) (not_joined o n m e) (ap (λ (x : TextEntry). x.fuzzy) (first_of_two has_translation n m e)) in
-    let forms : (if is_joined o ds then joined_forms (translations ds) else (taken ds).forms) ≡ e.forms =
+    let fuzzy : (is_joined o ds || (first_translated ds).fuzzy) ≡ e.fuzzy = ap₂ (λ (a b : Bool). a || b) (not_joined o n m e) (ap (λ (x : TextEntry). x.fuzzy) (first_of_two has_translation n m e)) in
+    let forms : (if is_joined o ds then joined_forms (translations ds) else (first_translated ds).forms) ≡ e.forms =
     ap₂ (λ (b : Bool) (fs : List (List ℕ)). if b then joined_forms (translations ds) else fs) (not_joined o n m e) (ap (λ (x : TextEntry). x.forms) (first_of_two has_translation n m e)) in
     λ i. rebuilt (comment_of_two o Translator n m e i) (comment_of_two o Extracted n m e i) (comment_of_two o Reference n m e i) (fuzzy i) (comment_of_two o Flags n m e i) (first_of_two has_previous n m e i).previous (first_of_two has_plural n m e i).plural (forms i) e
 

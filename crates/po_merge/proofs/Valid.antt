@@ -23,7 +23,7 @@ use Rattle.po_merge.specs.declared.input.MergeOptions.{MergeOptions}
 use Rattle.po_merge.specs.Inputs.{NamedEntry}
 use Rattle.po_merge.specs.Groups.{with_new}
 use Rattle.po_merge.specs.Grouping.{IsDefinition}
-use Rattle.po_merge.specs.MergedEntry.{first_of, first_with, has_previous, has_plural, taken, texts_of, with_others, collected, comment_of, same_forms, translations, is_joined, ended, marked, joined_form, form_count, joined_forms, merged_entry}
+use Rattle.po_merge.specs.MergedEntry.{first_of, first_with, has_previous, has_plural, first_translated, texts_of, with_others, collected, comment_of, same_forms, translations, is_joined, ended, marked, joined_form, form_count, joined_forms, merged_entry}
 
 -- the first definition that has something
 
@@ -53,7 +53,7 @@ collected_from P of done (d ∷ ds) h g =
 
 comment_all : (P : List ℕ → Type 0) (o : MergeOptions) (kind : CommentKind) (ds : List NamedEntry) → 0 < length ds → All (λ d. All P (texts_of kind d.entry)) ds → All P (comment_of o kind ds)
 comment_all P o kind ds some h = found o.use_first where
-  found : (b : Bool) → All P (if b then texts_of kind (taken ds) else collected (texts_of kind) ds)
+  found : (b : Bool) → All P (if b then texts_of kind (first_translated ds) else collected (texts_of kind) ds)
   found true = first_with_keeps (λ e. All P (texts_of kind e)) has_translation ds some h
   found false = collected_from P (texts_of kind) [] ds (All-nil P) h
 
@@ -87,7 +87,7 @@ distinct_from of done (d ∷ ds) h g =
 
 flags_distinct : (o : MergeOptions) (ds : List NamedEntry) → 0 < length ds → All (λ d. AreDistinct d.entry.flags) ds → AreDistinct (comment_of o Flags ds)
 flags_distinct o ds some h = found o.use_first where
-  found : (b : Bool) → AreDistinct (if b then texts_of Flags (taken ds) else collected (texts_of Flags) ds)
+  found : (b : Bool) → AreDistinct (if b then texts_of Flags (first_translated ds) else collected (texts_of Flags) ds)
   found true = first_with_keeps (λ e. AreDistinct e.flags) has_translation ds some h
   found false = distinct_from (texts_of Flags) [] ds tt h
 
@@ -221,7 +221,7 @@ no_plural ds e = none ds (found (find (λ d. has_plural d.entry) ds) refl e) whe
 -- the merged entry
 
 abbrev merged_forms : MergeOptions → List NamedEntry → List (List ℕ)
-merged_forms o ds = if is_joined o ds then joined_forms (translations ds) else (taken ds).forms
+merged_forms o ds = if is_joined o ds then joined_forms (translations ds) else (first_translated ds).forms
 
 several : (o : MergeOptions) (ds : List NamedEntry) → is_joined o ds ≡ true → 0 < length (translations ds)
 several o ds e = let more = ltb-true 1 (length (translations ds)) (and_parts (not o.use_first) (nat_lt 1 (length (translations ds))) e).1 in omega (arith, more)
@@ -229,7 +229,7 @@ several o ds e = let more = ltb-true 1 (length (translations ds)) (and_parts (no
 -- a fact of the forms, where it holds of joined ones and of those of each definition
 forms_keep : (Q : List (List ℕ) → Type 0) (o : MergeOptions) (ds : List NamedEntry) → 0 < length ds → (is_joined o ds ≡ true → Q (joined_forms (translations ds))) → All (λ d. Q d.entry.forms) ds → Q (merged_forms o ds)
 forms_keep Q o ds some joined each = found (is_joined o ds) refl where
-  found : (b : Bool) → is_joined o ds ≡ b → Q (if b then joined_forms (translations ds) else (taken ds).forms)
+  found : (b : Bool) → is_joined o ds ≡ b → Q (if b then joined_forms (translations ds) else (first_translated ds).forms)
   found true e = joined e
   found false e = first_with_keeps (λ x. Q x.forms) has_translation ds some each
 

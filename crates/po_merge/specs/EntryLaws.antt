@@ -27,7 +27,8 @@ abbrev pub TextsInOrder : MergeOptions → CommentKind → List NamedEntry → N
 TextsInOrder o kind before d =
     o.use_first ≡ false
     → texts_of kind (merged_entry o (before ++ d ∷ []))
-    ≡ texts_of kind (merged_entry o before) ++ filter (λ text. not (list_any (λ b. has_text kind text b.entry) before)) (texts_of kind d.entry)
+    ≡ texts_of kind (merged_entry o before)
+    ++ filter (λ text. not (list_any (λ b. has_text kind text b.entry) before)) (texts_of kind d.entry)
 
 -- where different translations are joined, the entry is fuzzy
 abbrev pub JoinedIsFuzzy : MergeOptions → List NamedEntry → Type 0
@@ -38,10 +39,13 @@ abbrev pub input_line : List ℕ → List ℕ
 input_line name = codes "#-#-#-#-#  " ++ name ++ codes "  #-#-#-#-#\n"
 
 -- A joined form has the form of each different translation, after the line of its input, in order.
-abbrev pub FormsAreJoined : MergeOptions → List NamedEntry → List NamedEntry → NamedEntry → List NamedEntry → ℕ → List ℕ → Type 0
-FormsAreJoined o ds before t after i form =
-    is_joined o ds ≡ true → translations ds ≡ before ++ t ∷ after → slice_get t.entry.forms i ≡ Some form → i < length (merged_entry o ds).forms
-    → get_or (merged_entry o ds).forms i [] ≡ joined_form before i ++ (input_line t.name ++ ended form) ++ joined_form after i
+abbrev pub FormsAreJoined : MergeOptions → List NamedEntry → Type 0
+FormsAreJoined o ds =
+    (before after : List NamedEntry) (t : NamedEntry) (i : ℕ) (form : List ℕ)
+    → is_joined o ds ≡ true → translations ds ≡ before ++ t ∷ after
+    → slice_get t.entry.forms i ≡ Some form → i < length (merged_entry o ds).forms
+    → get_or (merged_entry o ds).forms i []
+    ≡ joined_form before i ++ (input_line t.name ++ ended form) ++ joined_form after i
 
 -- The previous texts are those of the first definition that has some.
 abbrev pub PreviousOfFirst : MergeOptions → List NamedEntry → NamedEntry → List NamedEntry → Type 0

@@ -32,27 +32,31 @@ abbrev pub unnamed : List NamedEntry → List TextEntry
 unnamed entries = map (λ e. e.entry) entries
 
 -- The entries that are alone, in order, and the merged ones among them. The entry that ends a
--- segment is replaced by the next merged entry if both have the same number, and omitted if not.
+-- segment is replaced by the next merged entry if both have the same digest, and omitted if not.
 abbrev pub interleaved : (TextEntry → ℕ) → List Segment → List TextEntry → List NamedEntry → List TextEntry
-interleaved number [] merged rest = unnamed rest
-interleaved number (t ∷ ts) [] rest = unnamed t.0 ++ interleaved number ts [] rest
-interleaved number (t ∷ ts) (m ∷ merged) rest =
-    unnamed t.0 ++ (if number m == number t.1.entry then m ∷ interleaved number ts merged rest else interleaved number ts (m ∷ merged) rest)
+interleaved digest [] merged rest = unnamed rest
+interleaved digest (t ∷ ts) [] rest = unnamed t.0 ++ interleaved digest ts [] rest
+interleaved digest (t ∷ ts) (m ∷ merged) rest =
+    unnamed t.0
+    ++ (if digest m == digest t.1.entry then m ∷ interleaved digest ts merged rest
+    else interleaved digest ts (m ∷ merged) rest)
 
 -- what entries are merged to, where all messages are kept
 abbrev pub all_merged : Bool → List NamedEntry → List TextEntry
 all_merged use_first entries = merged_messages (keep_all use_first) (map definitions (groups entries))
 
--- Entries of one message have one number. If the entries that are alone and the merged others all
--- have different numbers, then all entries are merged to what is interleaved of both.
+-- Entries of one message have one digest. If the entries that are alone and the merged others all
+-- have different digests, then all entries are merged to what is interleaved of both.
 abbrev pub InterleavedAreMerged : Bool → (TextEntry → ℕ) → List Segment → List NamedEntry → Type 0
-InterleavedAreMerged use_first number ts rest =
-    ((a b : TextEntry) → IsSameMessage a b → number a ≡ number b)
-    → AllPairs (λ a b. a ≢ b) (map (λ d. number d.entry) (single_entries ts rest) ++ map number (all_merged use_first (last_entries ts)))
-    → all_merged use_first (segment_entries ts rest) ≡ interleaved number ts (all_merged use_first (last_entries ts)) rest
+InterleavedAreMerged use_first digest ts rest =
+    ((a b : TextEntry) → IsSameMessage a b → digest a ≡ digest b)
+    → AllPairs (λ a b. a ≢ b)
+    (map (λ d. digest d.entry) (single_entries ts rest) ++ map digest (all_merged use_first (last_entries ts)))
+    → all_merged use_first (segment_entries ts rest)
+    ≡ interleaved digest ts (all_merged use_first (last_entries ts)) rest
 
 -- If the charset of each header is admitted, so is that of each header among the interleaved entries.
 abbrev pub InterleavedAreAdmitted : (TextEntry → ℕ) → List Segment → List TextEntry → List NamedEntry → Type 0
-InterleavedAreAdmitted number ts merged rest =
+InterleavedAreAdmitted digest ts merged rest =
     All (λ d. HasAdmittedCharset d.entry) (single_entries ts rest) → All HasAdmittedCharset merged
-    → All HasAdmittedCharset (interleaved number ts merged rest)
+    → All HasAdmittedCharset (interleaved digest ts merged rest)

@@ -5,7 +5,7 @@ pub mod MergedEntry
 pub mod Merged
 pub mod Grouping
 pub mod Sets
-pub mod Parts
+pub mod FirstParts
 pub mod MergeLaws
 pub mod Interleaved
 pub mod EntryLaws

@@ -39,4 +39,6 @@ merged o inputs = merged_messages o (messages inputs)
 -- why entries can't stand in a catalogue: a header's charset isn't admitted, or an allocation
 -- failed
 abbrev pub IsMergeFault : List TextEntry → PoError → Type 0
-IsMergeFault merged error = (error ≡ out_of_memory) ⊎ ((All HasAdmittedCharset merged → ⊥) × (error ≡ record { kind = ForeignCharset; line = 0 }))
+IsMergeFault merged error =
+    (error ≡ out_of_memory)
+    ⊎ ((All HasAdmittedCharset merged → ⊥) × (error ≡ record { kind = ForeignCharset; line = 0 }))

@@ -27,9 +27,9 @@ has_previous e = is_some e.previous.context || is_some e.previous.id || is_some 
 abbrev pub has_plural : TextEntry → Bool
 has_plural e = is_some e.plural
 
--- the definition whose forms are taken, where the translations aren't joined
-abbrev pub taken : List NamedEntry → TextEntry
-taken ds = first_with has_translation ds
+-- the definition whose forms are first_translated, where the translations aren't joined
+abbrev pub first_translated : List NamedEntry → TextEntry
+first_translated ds = first_with has_translation ds
 
 abbrev pub texts_of : CommentKind → TextEntry → List (List ℕ)
 texts_of Translator e = e.comments
@@ -46,7 +46,7 @@ abbrev pub collected : (TextEntry → List (List ℕ)) → List NamedEntry → L
 collected texts_of ds = fold (λ done d. with_others done (texts_of d.entry)) [] ds
 
 abbrev pub comment_of : MergeOptions → CommentKind → List NamedEntry → List (List ℕ)
-comment_of o kind ds = if o.use_first then texts_of kind (taken ds) else collected (texts_of kind) ds
+comment_of o kind ds = if o.use_first then texts_of kind (first_translated ds) else collected (texts_of kind) ds
 
 abbrev pub same_forms : NamedEntry → NamedEntry → Bool
 same_forms a b = texts_eq a.entry.forms b.entry.forms
@@ -84,13 +84,13 @@ merged_entry o ds = record {
   comments = comment_of o Translator ds;
   extracted = comment_of o Extracted ds;
   references = comment_of o Reference ds;
-  fuzzy = is_joined o ds || (taken ds).fuzzy;
+  fuzzy = is_joined o ds || (first_translated ds).fuzzy;
   flags = comment_of o Flags ds;
   previous = (first_with has_previous ds).previous;
   context = (first_of ds).context;
   id = (first_of ds).id;
   plural = (first_with has_plural ds).plural;
-  forms = if is_joined o ds then joined_forms (translations ds) else (taken ds).forms;
+  forms = if is_joined o ds then joined_forms (translations ds) else (first_translated ds).forms;
   obsolete = (first_of ds).obsolete;
   line = (first_of ds).line;
 }

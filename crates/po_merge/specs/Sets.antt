@@ -18,7 +18,9 @@ HoldsTexts seen done =
 -- the set has just the form lists of these definitions
 abbrev pub HasForms : BTreeSet (Bor (List (Vec ℕ))) → List NamedEntry → Type 0
 HasForms seen found =
-    (q : Bor (List (Vec ℕ))) → contains (λ x y. slice_cmp (λ v w. slice_cmp nat_cmp v.items w.items) x.now y.now) seen q ≡ list_any (λ d. texts_eq (texts q.now) d.entry.forms) found
+    (q : Bor (List (Vec ℕ)))
+    → contains (λ x y. slice_cmp (λ v w. slice_cmp nat_cmp v.items w.items) x.now y.now) seen q
+    ≡ list_any (λ d. texts_eq (texts q.now) d.entry.forms) found
 
 -- the translations that have a form of this index
 abbrev pub with_form : ℕ → List NamedEntry → List NamedEntry

@@ -5,7 +5,7 @@ ghost use Rattle.po_entry.specs.Header.{is_header};
 ghost use Rattle.po_merge.specs.InputsView.{named_entries};
 ghost use Rattle.po_merge.specs.Merged.{is_kept, is_wanted};
 ghost use Rattle.po_merge.specs.MergedEntry.{first_with};
-ghost use Rattle.po_merge.specs.Parts.{has_part};
+ghost use Rattle.po_merge.specs.FirstParts.{has_part};
 
 use crate::input::MergeOptions;
 use po_catalog::{Entry, Previous, has_translation, is_live};
@@ -16,7 +16,7 @@ use std::alloc::{AllocError, Global};
 pub struct Definition<'a> {
     /// The name of the input.
     pub name: &'a str,
-    /// The entry.
+    /// The entry, in the catalogue of that input.
     pub entry: &'a Entry,
 }
 

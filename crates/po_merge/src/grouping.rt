@@ -29,7 +29,10 @@ fn push_all<'a>(
 }
 
 /// The entries of the inputs, in order.
-fn entries_of<'a>(alloc: Global, inputs: &'a [Named<'a>]) -> Result<Vec<Definition<'a>>, AllocError>
+fn all_entries<'a>(
+    alloc: Global,
+    inputs: &'a [Named<'a>],
+) -> Result<Vec<Definition<'a>>, AllocError>
     requires { All (λ input. Lacks 0 input.name.now) inputs.now }
     ensures all { IfOk result (λ all. named_entries all.items ≡ all_entries (inputs_view inputs.now)) }
     ensures valid { OnOk result (All IsDefinition (all_entries (inputs_view inputs.now))) }
@@ -72,8 +75,8 @@ fn groups_of<'a>(
 {
     messages_are_numbered_in_order();
     let mut groups = Vec::new(alloc);
-    for (place, definition) in entries.iter().enumerate() {
-        let number = numbers[place];
+    for (index, definition) in entries.iter().enumerate() {
+        let number = numbers[index];
         if number == groups.len() {
             groups.push(alone(alloc, *definition)?)?;
             continue;
@@ -92,7 +95,7 @@ pub(crate) fn grouped<'a>(
     ensures groups { IfOk result (λ all. group_entries all.items ≡ groups (all_entries (inputs_view inputs.now))) }
     ensures valid { OnOk result (All IsDefinition (all_entries (inputs_view inputs.now))) }
 {
-    let entries = entries_of(alloc, inputs)?;
+    let entries = all_entries(alloc, inputs)?;
     let keys = keys_of(alloc, &entries)?;
     let numbers = po_catalog::grouped(alloc, &keys)?;
     groups_of(alloc, &entries, &numbers)

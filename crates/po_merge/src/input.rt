@@ -5,7 +5,7 @@ use po_catalog::Catalogue;
 pub struct Named<'a> {
     /// The name of the input, under which its forms stand where different translations are joined.
     pub name: &'a str,
-    /// The catalogue.
+    /// The entries that are merged.
     pub catalogue: Catalogue,
 }
 

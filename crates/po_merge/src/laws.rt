@@ -59,9 +59,7 @@ pub fn texts_of_all_definitions()
 /// those of the translations, each after the line of its input, in order.
 pub fn translations_are_joined()
     ensures fuzzy { (options : MergeOptions) (definitions : List NamedEntry) → JoinedIsFuzzy options definitions }
-    ensures forms { (options : MergeOptions) (definitions before : List NamedEntry) (translation : NamedEntry)
-        (after : List NamedEntry) (i : ℕ) (form : List ℕ)
-        → FormsAreJoined options definitions before translation after i form }
+    ensures forms { (options : MergeOptions) (definitions : List NamedEntry) → FormsAreJoined options definitions }
 {}
 
 /// Previous texts and the plural are those of the first definition that has some.
@@ -84,13 +82,12 @@ pub fn kept_by_count()
 {}
 
 /// Entries of several inputs that are each the only one of their message needn't be merged: if a
-/// number of each message, as its digest, shows that, they stay as they are, and only the others
-/// are merged.
+/// digest of each message shows that, they stay as they are, and only the others are merged.
 pub fn interleaved_entries_are_merged()
-    ensures merged { (use_first : Bool) (number : TextEntry → ℕ) (segments : List Segment) (rest : List NamedEntry)
-        → InterleavedAreMerged use_first number segments rest }
-    ensures admitted { (number : TextEntry → ℕ) (segments : List Segment) (merged : List TextEntry)
-        (rest : List NamedEntry) → InterleavedAreAdmitted number segments merged rest }
+    ensures merged { (use_first : Bool) (digest : TextEntry → ℕ) (segments : List Segment) (rest : List NamedEntry)
+        → InterleavedAreMerged use_first digest segments rest }
+    ensures admitted { (digest : TextEntry → ℕ) (segments : List Segment) (merged : List TextEntry)
+        (rest : List NamedEntry) → InterleavedAreAdmitted digest segments merged rest }
 {}
 
 /// The groups of entries are those of the numbers of their messages, from 0 on.

@@ -4,16 +4,16 @@
 //! [`merge`] groups the definitions of each message, keeps the groups that [`MergeOptions`] ask
 //! for, and makes one entry of each.
 //!
-//! The modules in reading order: `input`, `definition`, `grouping`, `joining`, `collecting`,
-//! `merging`, `laws`.
+//! The modules in reading order: `input`, `definition`, `grouping`, `joined_translations`,
+//! `comments`, `merging`, `laws`.
 
 #![tactic(auto)]
 
-mod collecting;
+mod comments;
 mod definition;
 mod grouping;
 mod input;
-mod joining;
+mod joined_translations;
 pub mod laws;
 mod merging;
 

@@ -3,15 +3,15 @@ ghost use Rattle.po_entry.specs.Bytes.{Lacks};
 ghost use Rattle.po_entry.specs.TextEntry.{texts};
 ghost use Rattle.po_merge.specs.Grouping.{IsDefinition, IsGroup, group_entries};
 ghost use Rattle.po_merge.specs.InputsView.{inputs_view, named_entries};
-ghost use Rattle.po_merge.specs.MergedEntry.{merged_entry, taken};
+ghost use Rattle.po_merge.specs.MergedEntry.{merged_entry, first_translated};
 ghost use Rattle.po_merge.specs.Groups.{definitions};
 ghost use Rattle.po_merge.specs.Merged.{IsMergeFault, merged, merged_messages};
 
-use crate::collecting::comment_of;
+use crate::comments::comment_of;
 use crate::definition::{Definition, Part, first_with, has_live, is_kept, live};
 use crate::grouping::grouped;
 use crate::input::{MergeOptions, Named};
-use crate::joining::{joined_forms, translations};
+use crate::joined_translations::{joined_forms, translations};
 use po_catalog::{Catalogue, Entry};
 use po_entry::{copy_optional, copy_texts};
 use po_syntax::{CommentKind, PoError, PoFault};
@@ -24,8 +24,8 @@ fn taken_forms(
     definitions: &[Definition<'_>],
 ) -> Result<(Vec<Vec<u8>>, bool), AllocError>
     requires { 0 < length definitions.now }
-    ensures forms { IfOk result (λ r. texts r.0.items ≡ (taken (named_entries definitions.now)).forms) }
-    ensures fuzzy { IfOk result (λ r. r.1 ≡ (taken (named_entries definitions.now)).fuzzy) }
+    ensures forms { IfOk result (λ r. texts r.0.items ≡ (first_translated (named_entries definitions.now)).forms) }
+    ensures fuzzy { IfOk result (λ r. r.1 ≡ (first_translated (named_entries definitions.now)).fuzzy) }
 {
     let taken = first_with(definitions, Part::Translation);
     Ok((copy_texts(alloc, taken.forms())?, taken.fuzzy()))

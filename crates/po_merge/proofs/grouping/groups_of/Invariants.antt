@@ -5,5 +5,5 @@ use Rattle.po_merge.specs.InputsView.{named_entries}
 use Rattle.po_merge.proofs.grouping.groups_of.Given as goal
 
 -- the groups of the entries so far
-abbrev pub invariant-loop-place : goal.invariant-loop-place
-invariant-loop-place l = group_entries l.groups.items ≡ groups (take l.place (named_entries l.entries))
+abbrev pub invariant-loop-index : goal.invariant-loop-index
+invariant-loop-index l = group_entries l.groups.items ≡ groups (take l.index (named_entries l.entries))

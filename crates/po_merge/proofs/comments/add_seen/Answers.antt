@@ -4,7 +4,7 @@ use Rattle.po_entry.specs.TextEntry.{texts}
 use Rattle.po_merge.specs.Sets.{HoldsTexts}
 use Rattle.po_merge.proofs.Sets.{one_text_more}
 use Rattle.po_merge.proofs.Steps.{texts_more}
-use Rattle.po_merge.proofs.collecting.add_seen.Goals as goal
+use Rattle.po_merge.proofs.comments.add_seen.Goals as goal
 
 pub loop-text-init : goal.loop-text-init
 loop-text-init c = λ done h. subst (HoldsTexts c.args.seen.now) (sym (append-nil done)) h

@@ -6,7 +6,7 @@ use Rattle.po_merge.specs.Inputs.{all_entries, named}
 use Rattle.po_merge.specs.InputsView.{inputs_view, named_entries}
 use Rattle.po_merge.specs.Grouping.{IsDefinition}
 use Rattle.po_merge.proofs.Inputs.{entries_more, definitions_more}
-use Rattle.po_merge.proofs.grouping.entries_of.Goals as goal
+use Rattle.po_merge.proofs.grouping.all_entries.Goals as goal
 
 pub loop-input-init : goal.loop-input-init
 loop-input-init c = record { are = ap named_entries c.new-all.ensures.items; valid = All-nil IsDefinition }

@@ -2,7 +2,7 @@ use Rattle.std.proofs.Common.{ℕ, List, sym, ap, ap₂, ◌∙◌, append-nil, 
 use Rattle.std.specs.Prelude.{slice_get}
 use Rattle.po_merge.specs.MergedEntry.{marked}
 use Rattle.po_merge.proofs.Steps.{joined_form_more, form_at, no_form}
-use Rattle.po_merge.proofs.joining.joined_form.Goals as goal
+use Rattle.po_merge.proofs.joined_translations.joined_form.Goals as goal
 
 pub loop-translation-preserved-then-index-forms : goal.loop-translation-preserved-then-index-forms
 loop-translation-preserved-then-index-forms c =

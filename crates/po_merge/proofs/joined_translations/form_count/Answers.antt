@@ -1,7 +1,7 @@
 use Rattle.std.proofs.Common.{sym, ap, ap₂, ◌∙◌, max, length, ℕ}
 use Rattle.std.proofs.lemmas.List.{length-map}
 use Rattle.po_merge.proofs.Steps.{form_count_more}
-use Rattle.po_merge.proofs.joining.form_count.Goals as goal
+use Rattle.po_merge.proofs.joined_translations.form_count.Goals as goal
 
 pub loop-translation-preserved : goal.loop-translation-preserved
 loop-translation-preserved c =

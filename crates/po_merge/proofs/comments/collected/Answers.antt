@@ -9,7 +9,7 @@ use Rattle.po_merge.specs.MergedEntry.{texts_of, with_others}
 use Rattle.po_merge.specs.Sets.{HoldsTexts}
 use Rattle.po_merge.proofs.Sets.{same_texts_met}
 use Rattle.po_merge.proofs.Steps.{collected_more}
-use Rattle.po_merge.proofs.collecting.collected.Goals as goal
+use Rattle.po_merge.proofs.comments.collected.Goals as goal
 
 pub loop-definition-init : goal.loop-definition-init
 loop-definition-init c = record { are_collected = ap texts c.new-all.ensures.items; met = λ q. ap (list_any (is_at (λ y. slice_cmp nat_cmp q.now y.now))) c.new-seen.ensures.empty ∙ sym (ap (λ items. list_any (bytes_eq q.now) (texts items)) c.new-all.ensures.items) }

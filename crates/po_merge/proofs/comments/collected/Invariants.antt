@@ -3,7 +3,7 @@ use Rattle.po_entry.specs.TextEntry.{texts}
 use Rattle.po_merge.specs.InputsView.{named_entries}
 use Rattle.po_merge.specs.MergedEntry.{collected, texts_of}
 use Rattle.po_merge.specs.Sets.{HoldsTexts}
-use Rattle.po_merge.proofs.collecting.collected.Given as goal
+use Rattle.po_merge.proofs.comments.collected.Given as goal
 
 -- the texts of the definitions so far are collected, and the set has them
 abbrev pub invariant-loop-definition : goal.invariant-loop-definition

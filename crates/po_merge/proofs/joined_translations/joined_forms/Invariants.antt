@@ -3,7 +3,7 @@ use Rattle.std.specs.List.{range_with_len}
 use Rattle.po_entry.specs.TextEntry.{texts}
 use Rattle.po_merge.specs.InputsView.{named_entries}
 use Rattle.po_merge.specs.MergedEntry.{joined_form}
-use Rattle.po_merge.proofs.joining.joined_forms.Given as goal
+use Rattle.po_merge.proofs.joined_translations.joined_forms.Given as goal
 
 -- the forms so far are joined, and the translations that are left make the others
 abbrev pub invariant-loop-index : goal.invariant-loop-index

@@ -1,6 +1,6 @@
 use Rattle.std.proofs.Common.{◌≡◌, ℕ, List, ◌++◌, ap, ap₂, ◌∙◌, append_assoc, codes}
 use Rattle.po_merge.specs.MergedEntry.{ended}
-use Rattle.po_merge.proofs.joining.push_marked.Goals as goal
+use Rattle.po_merge.proofs.joined_translations.push_marked.Goals as goal
 
 four : (o a n b e : List ℕ) → (((o ++ a) ++ n) ++ b) ++ e ≡ o ++ (((a ++ n) ++ b) ++ e)
 four o a n b e = ap (λ (x : List ℕ). (x ++ b) ++ e) (append_assoc o a n) ∙ ap (λ (x : List ℕ). x ++ e) (append_assoc o (a ++ n) b) ∙ append_assoc o ((a ++ n) ++ b) e

@@ -5,7 +5,7 @@ use Rattle.po_entry.specs.TextEntry.{texts}
 use Rattle.po_merge.specs.InputsView.{named_entries}
 use Rattle.po_merge.specs.MergedEntry.{joined_form}
 use Rattle.po_merge.proofs.Steps.{with_form_keeps}
-use Rattle.po_merge.proofs.joining.joined_forms.Goals as goal
+use Rattle.po_merge.proofs.joined_translations.joined_forms.Goals as goal
 
 pub loop-index-preserved : goal.loop-index-preserved
 loop-index-preserved c =

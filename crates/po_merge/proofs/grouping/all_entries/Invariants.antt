@@ -3,7 +3,7 @@ use Rattle.std.specs.Prelude.{All}
 use Rattle.po_merge.specs.Inputs.{all_entries}
 use Rattle.po_merge.specs.InputsView.{inputs_view, named_entries}
 use Rattle.po_merge.specs.Grouping.{IsDefinition}
-use Rattle.po_merge.proofs.grouping.entries_of.Given as goal
+use Rattle.po_merge.proofs.grouping.all_entries.Given as goal
 
 -- the entries of the inputs so far, which are valid
 abbrev pub invariant-loop-input : goal.invariant-loop-input

@@ -14,7 +14,7 @@ use Rattle.po_merge.specs.MergedEntry.{translations, same_forms}
 use Rattle.po_merge.specs.Sets.{HasForms}
 use Rattle.po_merge.proofs.Sets.{one_definition_more}
 use Rattle.po_merge.proofs.Steps.{translations_more}
-use Rattle.po_merge.proofs.joining.translations.Goals as goal
+use Rattle.po_merge.proofs.joined_translations.translations.Goals as goal
 
 pub loop-definition-init : goal.loop-definition-init
 loop-definition-init c = record {
