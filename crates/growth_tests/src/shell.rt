@@ -97,8 +97,12 @@ fn substituted(alloc: Global) -> Outcome {
         return Outcome::Unready;
     };
     let mut reader = Counted::new(b"$A${A}${A-x}$$A$9${".as_slice());
-    match run_envsubst_in_blocks(alloc, &mut reader, writer, &[(b"A", b"v")], None) {
-        Ok(written) => Outcome::Answered(written.as_slice() == b"vv${A-x}$v$9${".as_slice()),
+    let mut writer = Counted::new(writer);
+    match run_envsubst_in_blocks(alloc, &mut reader, &mut writer, &[(b"A", b"v")], None) {
+        Ok(()) => {
+            let written = writer.into_inner();
+            Outcome::Answered(written.as_slice() == b"vv${A-x}$v$9${".as_slice())
+        }
         Err(fault) => Outcome::OutOfMemory(fault == ToolFault::OutOfMemory),
     }
 }

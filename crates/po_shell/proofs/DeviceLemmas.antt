@@ -1,8 +1,8 @@
 -- Lemmas on what writers and readers do piece by piece.
-use Rattle.std.proofs.Common.{◌≡◌, ℕ, ◌+◌, ◌-◌, ◌<◌, ◌≤◌, List, [], ◌++◌, length, take, drop, Option, Some, None, IfSome, Result, Ok, Err, OnErr, sym, ap, subst, ◌∙◌, append-nil}
+use Rattle.std.proofs.Common.{◌≡◌, ℕ, ◌+◌, ◌-◌, ◌<◌, ◌≤◌, List, [], ◌++◌, length, take, drop, Option, Some, None, IfSome, Result, Ok, Err, OnErr, sym, ap, subst, ◌∙◌, append-nil, arith, length-take-le}
 use Rattle.std.proofs.lemmas.List.{take_rest, take_all, take_at}
 use Rattle.std.proofs.Math.Seq.{take-add}
-use Rattle.std.proofs.KnownBytes.{Appends-trans}
+use Rattle.std.proofs.KnownBytes.{Appends-trans, Consumes-trans}
 use Rattle.std.specs.Io.KnownBytes.{Appends, Consumes, IsAtEnd}
 
 -- the first n + k of xs: the first n, then the first k of what `&xs[n..]` is
@@ -19,15 +19,21 @@ taken-full n None b bs p e = tt
 taken-full n (Some xs) None bs p e = absurd p
 taken-full n (Some xs) (Some ys) bs p e = sym (ap (take n) p ∙ take_at bs ys n e)
 
--- one that gave no more, for which there was room, had no more
-pub taken-end : (n : ℕ) (a b c : Option (List ℕ)) (bs : List ℕ) (count : ℕ) (room : List ℕ) → Consumes a b bs → Consumes b c (take count room) × (count ≡ 0 → 0 < length room → IsAtEnd c) → count ≡ 0 → 0 < length room → length bs ≤ n
-    → IfSome a (λ xs. bs ≡ take n xs)
-taken-end n None b c bs count room p q none some l = tt
-taken-end n (Some xs) None c bs count room p q none some l = absurd p
-taken-end n (Some xs) (Some ys) None bs count room p q none some l = absurd q.0
-taken-end n (Some xs) (Some ys) (Some zs) bs count room p q none some l =
-    let nothing : ys ≡ [] = q.0 ∙ ap (λ m. take m room ++ zs) none ∙ q.1 none some in
-    sym (ap (take n) (p ∙ ap (λ r. bs ++ r) nothing ∙ append-nil bs) ∙ take_all n bs l)
+-- one that has no more gave all, where that isn't too much
+pub taken-end : (n : ℕ) (a b : Option (List ℕ)) (bs : List ℕ) → Consumes a b bs → IsAtEnd b → length bs ≤ n → IfSome a (λ xs. bs ≡ take n xs)
+taken-end n None b bs p end l = tt
+taken-end n (Some xs) None bs p end l = absurd p
+taken-end n (Some xs) (Some ys) bs p end l = sym (ap (take n) (p ∙ ap (λ r. bs ++ r) end ∙ append-nil bs) ∙ take_all n bs l)
+
+-- the first n bytes were filled, and then k more
+pub filled-more : (a b c : Option (List ℕ)) (n k : ℕ) (xs ys : List ℕ) → Consumes a b (take n xs) → take n ys ≡ take n xs → Consumes b c (take k (drop n ys)) → Consumes a c (take (n + k) ys)
+filled-more a b c n k xs ys before front next = subst (Consumes a c) (sym (take-add n k ys ∙ ap (λ l. l ++ take k (drop n ys)) front)) (Consumes-trans a b c _ _ before next)
+
+-- the first n bytes were filled, and the reader has no more
+pub filled-end : (limit : ℕ) (a b c : Option (List ℕ)) (n k : ℕ) (xs ys : List ℕ) → Consumes a b (take n xs) → take n ys ≡ take n xs → Consumes b c (take k (drop n ys)) → k ≡ 0 → IsAtEnd c → n ≤ length ys → n ≤ limit
+    → IfSome a (λ all. take n ys ≡ take limit all)
+filled-end limit a b c n k xs ys before front next none end fits few =
+    taken-end limit a c (take n ys) (subst (λ m. Consumes a c (take m ys)) (omega (arith, none)) (filled-more a b c n k xs ys before front next)) end (omega (arith, length-take-le n ys fits))
 
 -- what holds holds after an error
 pub on-err : {T E : Type 0} (r : Result T E) (P : Type 0) → P → OnErr r P

@@ -1,7 +1,9 @@
 -- What a run of envsubst writes, by what its reader had ("Invoking the envsubst program" of the GNU
 -- gettext manual).
-use Rattle.std.specs.Prelude.{ℕ, List, Option, IfSome}
+use Rattle.std.specs.Prelude.{◌⊎◌, ℕ, List, Option, IfSome, Result, Ok, Err}
 use Rattle.std.specs.Io.KnownBytes.{Appends, Consumes}
+use Rattle.po_shell.specs.declared.fault.ToolFault.{ToolFault}
+use Rattle.po_shell.specs.declared.fault.ToolFault.TheVariants.{ReadFault, WriteFault, OutOfMemory}
 use Rattle.po_shell.specs.Device.{AppendsPrefix}
 use Rattle.po_shell.specs.Substitution.{Values, substitution}
 use Rattle.po_shell.specs.Stream.{Stops}
@@ -19,3 +21,10 @@ pub record StopsWithin (values : Values) (input left old new : Option (List ℕ)
   pub read : List ℕ
   pub reads : Consumes input left read
   pub stops : Stops values read old new
+
+-- what the writer took, by what is reported
+abbrev pub EndsAs : Values → Option (List ℕ) → Option (List ℕ) → Option (List ℕ) → Option (List ℕ) → Result (Unit {0}) ToolFault → Type 0
+EndsAs values input left old new (Ok _) = Substitutes values input old new
+EndsAs values input left old new (Err ReadFault) = StopsWithin values input left old new
+EndsAs values input left old new (Err WriteFault) = StopsWithin values input left old new ⊎ StopsAtEnd values input old new
+EndsAs values input left old new (Err OutOfMemory) = StopsWithin values input left old new

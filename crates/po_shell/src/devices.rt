@@ -8,4 +8,4 @@ mod input;
 pub use delivery::put_all;
 pub use device::{ByteIn, ByteOut, Counted};
 pub use failing::Failing;
-pub use input::{INPUT_LIMIT, read_input};
+pub use input::{INPUT_LIMIT, read_input, read_sized_input};

@@ -15,7 +15,9 @@ mod locale;
 mod search;
 
 pub use arguments::{Expanded, OTHER_COUNT, count_of, expand};
-pub use devices::{ByteIn, ByteOut, Counted, Failing, INPUT_LIMIT, put_all, read_input};
+pub use devices::{
+    ByteIn, ByteOut, Counted, Failing, INPUT_LIMIT, put_all, read_input, read_sized_input,
+};
 pub use envsubst::{
     LONGEST_NAME, MOST_READS, Substituter, name_and_value, name_lines, names, run_envsubst,
     run_envsubst_in_blocks, variables_in,

@@ -119,16 +119,14 @@ fn substitutes(alloc: Global, row: &Substitution) -> bool {
     outcome == reported && gone_out.as_slice() == written
 }
 
-/// Whether envsubst with its output in blocks reports the same; where it reports no fault, all has
-/// gone out.
+/// Whether envsubst with its output in blocks reports the same, and as much has gone out.
 fn substitutes_in_blocks(alloc: Global, row: &Substitution) -> bool {
     let (text, variables, reads, writes, reported, written) = *row;
     let mut reader = Counted::new(Failing::new(text, reads.0, reads.1));
-    let writer = Failing::new(Vec::new(alloc), writes.0, writes.1);
-    match run_envsubst_in_blocks(alloc, &mut reader, writer, variables, None) {
-        Ok(writer) => reported.is_ok() && writer.into_inner().as_slice() == written,
-        Err(fault) => reported == Err(fault),
-    }
+    let mut writer = Counted::new(Failing::new(Vec::new(alloc), writes.0, writes.1));
+    let outcome = run_envsubst_in_blocks(alloc, &mut reader, &mut writer, variables, None);
+    let gone_out = writer.into_inner().into_inner();
+    outcome == reported && (outcome.is_err() || gone_out.as_slice() == written)
 }
 
 /// Whether `ab` put to such a writer reports this, and this has gone out.

@@ -44,12 +44,11 @@ fn substitute<R: Env + Input + Print>(
 ) -> Result<(), ToolFault> {
     let entries = entries(alloc, rt)?;
     let variables = variables_in(alloc, entries.as_slice())?;
-    let _ = run_envsubst_in_blocks(
+    run_envsubst_in_blocks(
         alloc,
         &mut Counted::new(rt.reader()),
-        io::writer(rt),
+        &mut Counted::new(io::writer(rt)),
         variables.as_slice(),
         only,
-    )?;
-    Ok(())
+    )
 }
