@@ -6,7 +6,7 @@ use Rattle.po_shell.specs.declared.locale.candidates.Environment.{Environment}
 use Rattle.look_up_tools.specs.declared.catalogues.CatalogueFile.{CatalogueFile}
 use Rattle.tool_runs.specs.declared.inputs.InputFault.{InputFault}
 use Rattle.tool_runs.specs.declared.inputs.InputFault.TheVariants.{OutOfMemory}
-use Rattle.tool_runs.specs.Inputs.{Reading, gives, refuses}
+use Rattle.tool_runs.specs.Inputs.{Asked, Asks, Reading, gives, refuses, file_of}
 use Rattle.tool_runs.specs.NamedFile.{NamedFile}
 
 -- what contracts see of a catalogue's file
@@ -29,9 +29,20 @@ pub data AreCatalogues (file : List ℕ → Reading → Type 0) : List (List ℕ
   skipped : {path : List ℕ} {paths : List (List ℕ)} {catalogues : List NamedFile}
       → IsCatalogueAt file path None → AreCatalogues file paths catalogues → AreCatalogues file (path ∷ paths) catalogues
 
+-- what is asked for at a path: its file, and nothing where the path isn't UTF-8
+abbrev pub AsksAt : Option (List Asked) → Option (List Asked) → List ℕ → Type 0
+AsksAt before after path = Asks before after (file_of path ∷ []) ⊎ ((IsUtf8 path → ⊥) × (after ≡ before))
+
+-- what is asked for at these paths, in order
+pub data AsksPaths : Option (List Asked) → List (List ℕ) → Option (List Asked) → Type 0 where
+  none : {now : Option (List Asked)} → AsksPaths now [] now
+  next : {before between after : Option (List Asked)} {path : List ℕ} {paths : List (List ℕ)}
+      → AsksAt before between path → AsksPaths between paths after → AsksPaths before (path ∷ paths) after
+
 -- the catalogues of a text domain, given by an argument or an option: those at the paths that the environment's variables choose
 pub record AreFound (variable : List ℕ → Option (List ℕ) → Type 0) (file : List ℕ → Reading → Type 0)
-    (argument option : Option (List ℕ)) (catalogues : List NamedFile) : Type 0 where
+    (before after : Option (List Asked)) (argument option : Option (List ℕ)) (catalogues : List NamedFile) : Type 0 where
   pub environment : Environment
   pub is_read : IsEnvironment variable (environment_view environment)
   pub are_read : AreCatalogues file (paths_of argument option environment) catalogues
+  pub asked : AsksPaths before (paths_of argument option environment) after

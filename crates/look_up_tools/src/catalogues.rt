@@ -1,7 +1,7 @@
 //! The compiled catalogues of a text domain.
-ghost use Rattle.std.specs.Prelude.{◌≡◌, ◌-◌, ◌^◌, ◌<◌, IfOk, length, map, option_map, take};
+ghost use Rattle.std.specs.Prelude.{◌≡◌, ◌-◌, ◌^◌, ◌<◌, IfOk, OnOk, length, map, option_map, take};
 ghost use Rattle.std.specs.Option.{option_copied};
-ghost use Rattle.look_up_tools.specs.Catalogues.{AreCatalogues, AreFound, IsCatalogueAt, catalogue_file, catalogue_files};
+ghost use Rattle.look_up_tools.specs.Catalogues.{AreCatalogues, AreFound, AsksAt, AsksPaths, IsCatalogueAt, catalogue_file, catalogue_files};
 ghost use Rattle.tool_runs.specs.NamedFile.{named_files};
 
 use po_shell::{OwnedEnvironment, VariableSource, catalogue_paths};
@@ -23,14 +23,14 @@ pub struct CatalogueFile {
 /// failed.
 pub fn find_catalogues<S: InputSource + VariableSource>(
     alloc: Global,
-    source: &S,
+    source: &mut S,
     argument: Option<&str>,
     option: Option<&str>,
 ) -> Result<Vec<CatalogueFile>, AllocError>
-    ensures { IfOk result (λ found. AreFound (S.variable source.now) (S.file source.now)
-        (option_copied argument.entry) (option_copied option.entry) (catalogue_files found.items)) }
+    ensures { IfOk result (λ found. AreFound (S.variable source.old) S.file
+        (S.asked source.old) (S.asked source.new) (option_copied argument.entry) (option_copied option.entry) (catalogue_files found.items)) }
 {
-    let environment = OwnedEnvironment::read(alloc, source)?;
+    let environment = OwnedEnvironment::read(alloc, &*source)?;
     let Ok(paths) = catalogue_paths(
         alloc,
         bytes_of(argument),
@@ -54,11 +54,13 @@ fn bytes_of(text: Option<&str>) -> Option<&[u8]>
 /// allocation failed.
 pub fn read_catalogues<S: InputSource>(
     alloc: Global,
-    source: &S,
+    source: &mut S,
     paths: &[Vec<u8>],
 ) -> Result<Vec<CatalogueFile>, AllocError>
-    ensures { IfOk result (λ found. AreCatalogues (S.file source.now)
+    ensures catalogues { IfOk result (λ found. AreCatalogues S.file
         (map (λ path. path.items) paths.now) (catalogue_files found.items)) }
+    ensures asked { OnOk result (AsksPaths (S.asked source.old) (map (λ path. path.items) paths.now)
+        (S.asked source.new)) }
 {
     let mut found = Vec::new(alloc);
     for path in paths {
@@ -73,10 +75,11 @@ pub fn read_catalogues<S: InputSource>(
 /// The catalogue at a path, where it can be read.
 fn read_catalogue<S: InputSource>(
     alloc: Global,
-    source: &S,
+    source: &mut S,
     path: &[u8],
 ) -> Result<Option<CatalogueFile>, AllocError>
-    ensures { IfOk result (λ found. IsCatalogueAt (S.file source.now) path.now (option_map catalogue_file found)) }
+    ensures catalogue { IfOk result (λ found. IsCatalogueAt S.file path.now (option_map catalogue_file found)) }
+    ensures asked { AsksAt (S.asked source.old) (S.asked source.new) path.now }
 {
     let Ok(name) = str::from_utf8(path) else {
         return Ok(None);

@@ -1,11 +1,15 @@
 //! Inputs by their names, and outputs.
+use po_shell::Counted;
 use std::alloc::Global;
-use std::fs;
+use std::fs::{self, OpenFile};
 use std::io::{self, Input, Print, Write};
 use std::rt::Files;
 use tool_runs::{
     InputFault, InputSource, OutputFault, OutputTarget, ProgramFault, Run, read_whole, write_whole,
 };
+
+/// The length of an input where it isn't known.
+const UNKNOWN_LEN: u64 = 0;
 
 /// Where the inputs of the program are read from.
 #[derive(Drop)]
@@ -13,16 +17,20 @@ pub(crate) struct System<'r, R>(pub(crate) &'r R);
 
 // No contract can say what a file or a stream holds.
 impl<'r, R: Files + Input> InputSource for System<'r, R> {
-    ghost file = { λ _ _ _. Unit {0} };
+    ghost use Rattle.std.specs.Prelude.{None};
 
-    ghost standard = { λ _ _. Unit {0} };
+    ghost file = { λ _ _. Unit {0} };
 
-    fn read_file(&self, alloc: Global, name: &str) -> Result<Vec<u8>, InputFault> {
+    ghost standard = { λ _. Unit {0} };
+
+    ghost asked = { λ _. None };
+
+    fn read_file(&mut self, alloc: Global, name: &str) -> Result<Vec<u8>, InputFault> {
         read_named(alloc, self.0, name)
     }
 
-    fn read_standard(&self, alloc: Global) -> Result<Vec<u8>, InputFault> {
-        read_whole(alloc, self.0.reader())
+    fn read_standard(&mut self, alloc: Global) -> Result<Vec<u8>, InputFault> {
+        read_whole(alloc, &mut Counted::new(self.0.reader()), UNKNOWN_LEN)
     }
 }
 
@@ -32,7 +40,7 @@ pub(crate) fn read_one<'a, R: Files + Input>(
     rt: &R,
     file: &'a str,
 ) -> Result<Vec<u8>, ProgramFault<'a>> {
-    tool_runs::read_one(alloc, &System(rt), file)
+    tool_runs::read_one(alloc, &mut System(rt), file)
 }
 
 /// The bytes of the file of this name.
@@ -42,7 +50,12 @@ pub(crate) fn read_named(
     name: &str,
 ) -> Result<Vec<u8>, InputFault> {
     match fs::open(rt, name) {
-        Ok(file) => read_whole(alloc, file),
+        Ok(file) => {
+            let expected_len = file
+                .metadata()
+                .map_or(UNKNOWN_LEN, |metadata| metadata.len());
+            read_whole(alloc, &mut Counted::new(file), expected_len)
+        }
         Err(_) => Err(InputFault::CannotOpen),
     }
 }

@@ -1,9 +1,9 @@
 -- The arguments that are left to read, and what they add to the inputs before.
-use Rattle.std.proofs.Common.{◌≡◌, ◌≤◌, ◌<◌, ◌+◌, ◌||◌, ℕ, Bool, false, List, [], ◌∷◌, ◌++◌, Option, None, Some, refl, drop, get_or, map, length, ap, subst, append_assoc, append-nil, drop-cons, drop_of_length-le, add-one}
+use Rattle.std.proofs.Common.{◌∙◌, sym, ◌≡◌, ◌≤◌, ◌<◌, ◌+◌, ◌||◌, ℕ, Bool, false, List, [], ◌∷◌, ◌++◌, Option, None, Some, refl, drop, get_or, map, length, ap, subst, append_assoc, append-nil, drop-cons, drop_of_length-le, add-one}
 use Rattle.std.specs.Borrow.{Bor}
 use Rattle.tool_runs.specs.declared.inputs.Input.{Input}
 use Rattle.tool_runs.specs.declared.inputs.InputFault.{InputFault}
-use Rattle.tool_runs.specs.Inputs.{AreInputs, ReadsAs, Reading, gives, refuses, done, read, unread, input_fault_text, named_input, named_inputs}
+use Rattle.tool_runs.specs.Inputs.{AreInputs, Asked, Asks, AsksFirst, ReadsAs, Reading, asked_by, asked_for, gives, refuses, done, read, unread, input_fault_text, named_input, named_inputs}
 use Rattle.tool_runs.specs.NamedFile.{NamedFile}
 use Rattle.tool_runs.specs.Run.{is_standard, shown_name}
 
@@ -16,16 +16,51 @@ pub named-more : (texts : List Input) (input : Input) (name : List ℕ) → inpu
 named-more [] input name is = rw is refl
 named-more (text ∷ texts) input name is = ap (λ list. named_input text ∷ list) (named-more texts input name is)
 
+-- the next argument stands before those that are left
+pub next-argument : (arguments : List (Bor (List ℕ))) (i : ℕ) (d : Bor (List ℕ)) → i < length arguments
+    → arguments_now (drop i arguments) ≡ (get_or arguments i d).now ∷ arguments_now (drop (i + 1) arguments)
+next-argument arguments i d below = let next : drop i arguments ≡ get_or arguments i d ∷ drop (i + 1) arguments = rw add-one (drop-cons arguments i d below) in ap arguments_now next
+
+pub Asks-none : (before : Option (List Asked)) → Asks before before []
+Asks-none None = tt
+Asks-none (Some asked) = sym (append-nil asked)
+
+pub Asks-trans : (a b c : Option (List Asked)) (first next : List Asked) → Asks a b first → Asks b c next → Asks a c (first ++ next)
+Asks-trans None b c first next p q = tt
+Asks-trans (Some xs) None c first next p q = absurd p
+Asks-trans (Some xs) (Some ys) None first next p q = absurd q
+Asks-trans (Some xs) (Some ys) (Some zs) first next p q = q ∙ ap (λ l. l ++ next) p ∙ append_assoc xs first next
+
+-- what the arguments before i ask for was asked for
+pub record AsksBefore (before after : Option (List Asked)) (arguments : List (Bor (List ℕ))) (i : ℕ) (seen : Bool) : Type 0 where
+  pub asked : List Asked
+  pub asks : Asks before after asked
+  pub whole : asked ++ asked_by seen (arguments_now (drop i arguments)) ≡ asked_by false (arguments_now arguments)
+
+pub AsksBefore-none : (before : Option (List Asked)) (arguments : List (Bor (List ℕ))) → AsksBefore before before arguments 0 false
+AsksBefore-none before arguments = record { asked = []; asks = Asks-none before; whole = refl }
+
+pub AsksBefore-more : (a b c : Option (List Asked)) (arguments : List (Bor (List ℕ))) (i : ℕ) (d : Bor (List ℕ)) (seen : Bool) → i < length arguments → AsksBefore a b arguments i seen
+    → Asks b c (asked_for (get_or arguments i d).now (is_standard (get_or arguments i d).now) seen) → AsksBefore a c arguments (i + 1) (seen || is_standard (get_or arguments i d).now)
+AsksBefore-more a b c arguments i d seen below p q = record {
+  asked = p.asked ++ asked_for (get_or arguments i d).now (is_standard (get_or arguments i d).now) seen;
+  asks = Asks-trans a b c p.asked _ p.asks q;
+  whole = append_assoc p.asked _ _ ∙ ap (λ l. p.asked ++ asked_by seen l) (sym (next-argument arguments i d below)) ∙ p.whole;
+}
+
+pub AsksBefore-first : (a b : Option (List Asked)) (arguments : List (Bor (List ℕ))) (i : ℕ) (seen : Bool) → AsksBefore a b arguments i seen → AsksFirst a b (asked_by false (arguments_now arguments))
+AsksBefore-first a b arguments i seen p = record { asked = p.asked; rest = asked_by seen (arguments_now (drop i arguments)); asks = p.asks; first = p.whole }
+
+pub AsksBefore-all : (a b : Option (List Asked)) (arguments : List (Bor (List ℕ))) (i : ℕ) (seen : Bool) → length arguments ≤ i → AsksBefore a b arguments i seen → Asks a b (asked_by false (arguments_now arguments))
+AsksBefore-all a b arguments i seen past p =
+    let none : asked_by seen (arguments_now (drop i arguments)) ≡ [] = ap (λ l. asked_by seen (arguments_now l)) (drop_of_length-le arguments past) in
+    subst (Asks a b) (sym (append-nil p.asked) ∙ ap (λ l. p.asked ++ l) (sym none) ∙ p.whole) p.asks
+
 module _ (file : List ℕ → Reading → Type 0) (standard : Reading → Type 0) where
   -- whatever the arguments from i on add completes what the arguments before made
   pub record Completes (arguments : List (Bor (List ℕ))) (i : ℕ) (seen : Bool) (inputs : List NamedFile) : Type 0 where
     pub completes : (more : List NamedFile) (fault : Option (List ℕ)) → AreInputs file standard seen (arguments_now (drop i arguments)) more fault
         → AreInputs file standard false (arguments_now arguments) (inputs ++ more) fault
-
-  -- the next argument stands before those that are left
-  next-argument : (arguments : List (Bor (List ℕ))) (i : ℕ) (d : Bor (List ℕ)) → i < length arguments
-      → arguments_now (drop i arguments) ≡ (get_or arguments i d).now ∷ arguments_now (drop (i + 1) arguments)
-  next-argument arguments i d below = let next : drop i arguments ≡ get_or arguments i d ∷ drop (i + 1) arguments = rw add-one (drop-cons arguments i d below) in ap arguments_now next
 
   pub Completes-none : (arguments : List (Bor (List ℕ))) → Completes arguments 0 false []
   Completes-none arguments = record { completes = λ more fault are. are }

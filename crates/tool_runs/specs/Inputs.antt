@@ -41,6 +41,35 @@ pub data AreInputs (file : List ℕ → Reading → Type 0) (standard : Reading 
       → ReadsAs file standard argument (is_standard argument) seen (refuses why)
       → AreInputs file standard seen (argument ∷ arguments) [] (Some (input_fault_text (shown_name argument) why))
 
+-- what is asked of a source of inputs
+pub data Asked : Type 0 where
+  standard_input : Asked
+  file_of : List ℕ → Asked
+
+-- these are asked for after what was asked for before, where that is known
+abbrev pub Asks : Option (List Asked) → Option (List Asked) → List Asked → Type 0
+Asks None after asked = Unit {0}
+Asks (Some before) None asked = ⊥
+Asks (Some before) (Some after) asked = after ≡ before ++ asked
+
+-- what an argument asks for: its file; or standard input, unless that was read before
+abbrev pub asked_for : List ℕ → Bool → Bool → List Asked
+asked_for argument false seen = file_of argument ∷ []
+asked_for argument true false = standard_input ∷ []
+asked_for argument true true = []
+
+-- what arguments ask for, in their order, before which `-` was seen or not
+abbrev pub asked_by : Bool → List (List ℕ) → List Asked
+asked_by seen [] = []
+asked_by seen (argument ∷ arguments) = asked_for argument (is_standard argument) seen ++ asked_by (seen || is_standard argument) arguments
+
+-- of these the first are asked for, in their order
+pub record AsksFirst (before after : Option (List Asked)) (all : List Asked) : Type 0 where
+  pub asked : List Asked
+  pub rest : List Asked
+  pub asks : Asks before after asked
+  pub first : asked ++ rest ≡ all
+
 -- what contracts see of an input
 abbrev pub named_input : Input → NamedFile
 named_input input = record { name = input.name.now; bytes = input.bytes.items }

@@ -1,15 +1,15 @@
 //! The inputs of a tool, read in the order of the command line.
-ghost use Rattle.std.specs.Prelude.{◌≡◌, ◌≢◌, ◌⊎◌, ◌^◌, ℕ, List, take, Err, IfErr, IfSome, map, option_map, false, Some, MatchOption, MatchResult, IfOk};
-ghost use Rattle.tool_runs.specs.Inputs.{AreInputs, IsInputFault, ReadsAs, Reading, gives, refuses, named_inputs, input_fault_text};
+ghost use Rattle.std.specs.Prelude.{◌≡◌, ◌≢◌, ◌⊎◌, ◌^◌, ◌+◌, ◌<◌, ◌≤◌, ◌∷◌, [], take, Err, IfErr, IfSome, IsErrOf, OnOk, map, option_map, false, None, Some, MatchOption, MatchResult, IfOk};
+ghost use Rattle.std.specs.Io.KnownBytes.{Consumes};
+ghost use Rattle.tool_runs.specs.Inputs.{AreInputs, Asks, AsksFirst, IsInputFault, ReadsAs, asked_by, asked_for, gives, refuses, named_inputs, input_fault_text};
 ghost use Rattle.tool_runs.specs.NamedFile.{named_files};
 ghost use Rattle.tool_runs.specs.ProgramFaults.{program_text};
 ghost use Rattle.tool_runs.specs.Run.{is_standard, shown_name};
 
 use crate::program_fault::ProgramFault;
 use crate::run::{STANDARD, shown_name};
-use po_shell::{Counted, ToolFault, read_input};
+use po_shell::{ByteIn, ToolFault, read_sized_input};
 use std::alloc::{AllocError, Global};
-use std::io::Read;
 
 /// Why an input isn't read.
 #[derive(Clone, Copy, Debug, PartialEq, Eq)]
@@ -24,21 +24,29 @@ pub enum InputFault {
 
 /// Where inputs are read from: the files of a system, and its standard input.
 pub trait InputSource {
+    ghost use Rattle.std.specs.Prelude.{ℕ, List, Option};
+    ghost use Rattle.tool_runs.specs.Inputs.{Asked, Asks, Reading, gives, refuses, file_of, standard_input};
+
     // What reading the file of a name may come to.
-    ghost file: { Self → List ℕ → Reading → Type 0 };
+    ghost file: { List ℕ → Reading → Type 0 };
 
     // What reading standard input may come to.
-    ghost standard: { Self → Reading → Type 0 };
+    ghost standard: { Reading → Type 0 };
+
+    // What it was asked for so far, where that is known.
+    ghost asked: { Self → Option (List Asked) };
 
     /// The bytes of the file of this name.
-    fn read_file(&self, alloc: Global, name: &str) -> Result<Vec<u8>, InputFault>
-        ensures { MatchResult result (λ bytes. file self.now name.now (gives bytes.items))
-            (λ why. (why ≡ InputFault.OutOfMemory) ⊎ file self.now name.now (refuses why)) };
+    fn read_file(&mut self, alloc: Global, name: &str) -> Result<Vec<u8>, InputFault>
+        ensures reading { MatchResult result (λ bytes. file name.now (gives bytes.items))
+            (λ why. (why ≡ InputFault.OutOfMemory) ⊎ file name.now (refuses why)) }
+        ensures asked { Asks (asked self.old) (asked self.new) (file_of name.now ∷ []) };
 
     /// The bytes of standard input.
-    fn read_standard(&self, alloc: Global) -> Result<Vec<u8>, InputFault>
-        ensures { MatchResult result (λ bytes. standard self.now (gives bytes.items))
-            (λ why. (why ≡ InputFault.OutOfMemory) ⊎ standard self.now (refuses why)) };
+    fn read_standard(&mut self, alloc: Global) -> Result<Vec<u8>, InputFault>
+        ensures reading { MatchResult result (λ bytes. standard (gives bytes.items))
+            (λ why. (why ≡ InputFault.OutOfMemory) ⊎ standard (refuses why)) }
+        ensures asked { Asks (asked self.old) (asked self.new) (standard_input ∷ []) };
 }
 
 /// An input with its name in fault lines.
@@ -64,12 +72,19 @@ impl<'a> Inputs<'a> {
     /// The first that can't be read ends the inputs. Refused only where an allocation failed.
     pub fn read<S: InputSource>(
         alloc: Global,
-        source: &S,
+        source: &mut S,
         arguments: &[&'a str],
     ) -> Result<Inputs<'a>, AllocError>
-        ensures { IfOk result (λ inputs. AreInputs (S.file source.now) (S.standard source.now) false
+        ensures inputs { IfOk result (λ inputs. AreInputs S.file S.standard false
             (map (λ argument. argument.now) arguments.now) (named_inputs inputs.texts.items)
             (option_map program_text inputs.fault)) }
+
+        // Each is asked for in its turn, and standard input once at most.
+        ensures asked { AsksFirst (S.asked source.old) (S.asked source.new)
+            (asked_by false (map (λ argument. argument.now) arguments.now)) }
+        ensures asked_all { IfOk result (λ inputs. option_map program_text inputs.fault ≡ None
+            → Asks (S.asked source.old) (S.asked source.new)
+            (asked_by false (map (λ argument. argument.now) arguments.now))) }
     {
         let mut texts = Vec::new(alloc);
         let mut is_stdin_read = false;
@@ -102,14 +117,16 @@ impl<'a> Inputs<'a> {
 /// The bytes of the only input, by the argument for it.
 pub fn read_one<'a, S: InputSource>(
     alloc: Global,
-    source: &S,
+    source: &mut S,
     argument: &'a str,
 ) -> Result<Vec<u8>, ProgramFault<'a>>
     ensures bytes { IfOk result (λ bytes.
-        ReadsAs (S.file source.now) (S.standard source.now) argument.now (is_standard argument.now) false
+        ReadsAs S.file S.standard argument.now (is_standard argument.now) false
         (gives bytes.items)) }
     ensures fault { IfErr result (λ reported. (reported ≡ ProgramFault.OutOfMemory)
-        ⊎ IsInputFault (S.file source.now) (S.standard source.now) argument.now (program_text reported)) }
+        ⊎ IsInputFault S.file S.standard argument.now (program_text reported)) }
+    ensures asked { Asks (S.asked source.old) (S.asked source.new)
+        (asked_for argument.now (is_standard argument.now) false) }
 {
     read_argument(alloc, source, argument, is_standard(argument), false).map_err(|why| fault_of(
         shown_name(argument),
@@ -118,11 +135,24 @@ pub fn read_one<'a, S: InputSource>(
 }
 
 /// The bytes that are left of an open file or of standard input, but no more than 2,147,483,648.
-pub fn read_whole<F: Read + Drop>(alloc: Global, file: F) -> Result<Vec<u8>, InputFault>
-    ensures bytes { IfOk result (λ bytes. IfSome (F.remaining file) (λ all. bytes.items ≡ take (2 ^ 31) all)) }
+/// `expected_len` is how many are expected, 0 where that isn't known. A `ReadFault` comes where a
+/// call of the reader failed.
+pub fn read_whole<R: ByteIn>(
+    alloc: Global,
+    reader: &mut R,
+    expected_len: u64,
+) -> Result<Vec<u8>, InputFault>
+    requires calls { R.calls reader.old < 2 ^ 63 }
+    requires failures { R.failures reader.old < 2 ^ 63 }
+    ensures bytes { IfOk result (λ bytes. IfSome (R.remaining reader.old) (λ all. bytes.items ≡ take (2 ^ 31) all)) }
+    ensures left { IfOk result (λ bytes. Consumes (R.remaining reader.old) (R.remaining reader.new) bytes.items) }
+    ensures no_failure { OnOk result (R.failures reader.new ≡ R.failures reader.old) }
+    ensures read_fault { IsErrOf result InputFault.ReadFault → R.failures reader.new ≡ R.failures reader.old + 1 }
+    ensures out_of_memory { IsErrOf result InputFault.OutOfMemory → R.failures reader.new ≡ R.failures reader.old }
     ensures opened { result ≢ Err InputFault.CannotOpen }
+    ensures calls { R.calls reader.new ≤ R.calls reader.old + 2 ^ 32 }
 {
-    match read_input(alloc, &mut Counted::new(file)) {
+    match read_sized_input(alloc, reader, expected_len) {
         Ok(bytes) => Ok(bytes),
         Err(ToolFault::OutOfMemory) => Err(InputFault::OutOfMemory),
         Err(_) => Err(InputFault::ReadFault),
@@ -139,16 +169,17 @@ fn is_standard(argument: &str) -> bool
 /// Reads what one argument stands for.
 fn read_argument<S: InputSource>(
     alloc: Global,
-    source: &S,
+    source: &mut S,
     argument: &str,
     standard: bool,
     is_stdin_read: bool,
 ) -> Result<Vec<u8>, InputFault>
-    ensures { MatchResult result
-        (λ bytes. ReadsAs (S.file source.now) (S.standard source.now) argument.now standard is_stdin_read
-        (gives bytes.items))
+    ensures reading { MatchResult result
+        (λ bytes. ReadsAs S.file S.standard argument.now standard is_stdin_read (gives bytes.items))
         (λ why. (why ≡ InputFault.OutOfMemory)
-        ⊎ ReadsAs (S.file source.now) (S.standard source.now) argument.now standard is_stdin_read (refuses why)) }
+        ⊎ ReadsAs S.file S.standard argument.now standard is_stdin_read (refuses why)) }
+    ensures asked { Asks (S.asked source.old) (S.asked source.new)
+        (asked_for argument.now standard is_stdin_read) }
 {
     match (standard, is_stdin_read) {
         (false, _) => source.read_file(alloc, argument),

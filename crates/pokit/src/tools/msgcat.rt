@@ -17,7 +17,7 @@ pub(crate) fn run<'a, R: Files + Input + Print, E: Write + Drop>(
 ) -> Result<u8, ProgramFault<'a>> {
     let files = matches.get_strs("FILE").unwrap_or(&[]);
     let output = matches.get_str("output-file").unwrap_or(STANDARD);
-    let inputs = Inputs::read(alloc, &System(rt), files)?;
+    let inputs = Inputs::read(alloc, &mut System(rt), files)?;
     let options = merge_options_of(&Options(matches));
     let run = plan_msgcat_of(alloc, &inputs, &options)?;
     write_run(rt, errors, &run, output)

@@ -20,7 +20,7 @@ pub(crate) fn run<'a, R: Files + Env + Input + Print, E: Write + Drop>(
     let arguments = NgettextArguments::of(arguments).ok_or(ProgramFault::WrongArguments)?;
     let found = find_catalogues(
         alloc,
-        &System(rt),
+        &mut System(rt),
         arguments.domain,
         matches.get_str("domain"),
     )?;

@@ -2,12 +2,21 @@ use Rattle.std.proofs.Common.{◌≡◌, ◌||◌, ◌+◌, Bool, List, refl, sy
 use Rattle.std.proofs.lemmas.Result.{IfOk-weaker}
 use Rattle.tool_runs.specs.Inputs.{named_inputs}
 use Rattle.tool_runs.specs.NamedFile.{NamedFile}
-use Rattle.tool_runs.proofs.InputLemmas.{Completes, Completes-read, Completes-unread, Completes-all, named-more}
+use Rattle.tool_runs.proofs.InputLemmas.{AsksBefore, AsksBefore-all, AsksBefore-first, AsksBefore-more, AsksBefore-none, Completes, Completes-none, Completes-read, Completes-unread, Completes-all, named-more}
 use Rattle.tool_runs.proofs.inputs.Inputs.read.Goals as goal
 use Rattle.tool_runs.proofs.inputs.Inputs.read.Goals.{then-is_stdin_read, else-is_stdin_read}
 
-pub returns : goal.returns
-returns g c = Completes-all _ _ _ _ _ _ c.loop-argument-test.false c.loop-argument.invariant
+pub loop-argument-init : goal.loop-argument-init
+loop-argument-init g c = record { inputs = rw c.new-texts.ensures.items (Completes-none _ _ _); asked = AsksBefore-none _ _ }
+
+pub returns-clause-inputs : goal.returns-clause-inputs
+returns-clause-inputs g c = Completes-all _ _ _ _ _ _ c.loop-argument-test.false c.loop-argument.invariant.inputs
+
+pub returns-clause-asked : goal.returns-clause-asked
+returns-clause-asked g c = AsksBefore-first _ _ _ _ _ c.loop-argument.invariant.asked
+
+pub returns-clause-asked_all : goal.returns-clause-asked_all
+returns-clause-asked_all g c = λ none. AsksBefore-all _ _ _ _ _ c.loop-argument-test.false c.loop-argument.invariant.asked
 
 pub loop-argument-preserved : goal.loop-argument-preserved
 loop-argument-preserved g c =
@@ -16,19 +25,41 @@ loop-argument-preserved g c =
       | then-is_stdin_read w ↦ rw (w.is_stdin_read-is, w.if-is_stdin_read.true) refl
       | else-is_stdin_read w ↦ rw (w.is_stdin_read-is, w.if-is_stdin_read.false) refl
     ] in
-    let ReaderView : Bool → Type 0 = λ seen. Completes (g.S.InputSource.file c.args.source.now) (g.S.InputSource.standard c.args.source.now) c.args.arguments.now (c.loop-argument.argument-index + 1) seen (named_inputs c.push.new.self.items) in
-    let Done : Bool → List NamedFile → Type 0 = λ seen list. Completes (g.S.InputSource.file c.args.source.now) (g.S.InputSource.standard c.args.source.now) c.args.arguments.now (c.loop-argument.argument-index + 1) seen list in
-    let texts = ap named_inputs c.in_ok-push-in-Ok.ensures.items ∙ named-more c.loop-argument.texts.items _ _ c.shown_name.ensures in
-    subst ReaderView (sym (next ∙ ap (λ s. c.loop-argument.is_stdin_read || s) c.is_standard-standard.ensures))
-    (subst (Done _) (sym texts)
-    (Completes-read _ _ c.args.arguments.now c.loop-argument.argument-index _ c.loop-argument.is_stdin_read (named_inputs c.loop-argument.texts.items) c.in-Ok.bytes.items c.loop-argument-test.true
-    (rw c.is_standard-standard.ensures at c.in-Ok.ensures) c.loop-argument.invariant))
+    let seen = sym (next ∙ ap (λ s. c.loop-argument.is_stdin_read || s) c.is_standard-standard.ensures) in
+    let ReaderView : Bool → Type 0 = λ seen. Completes g.S.InputSource.file g.S.InputSource.standard c.args.arguments.now (c.loop-argument.argument-index + 1) seen (named_inputs c.push.new.self.items) in
+    let Done : Bool → List NamedFile → Type 0 = λ seen list. Completes g.S.InputSource.file g.S.InputSource.standard c.args.arguments.now (c.loop-argument.argument-index + 1) seen list in
+    let AskedOnce : Bool → Type 0 = λ seen. AsksBefore (g.S.InputSource.asked c.args.source.now) (g.S.InputSource.asked c.read_argument.new.source) c.args.arguments.now (c.loop-argument.argument-index + 1) seen in
+    let texts = ap named_inputs c.in_ok-push-in-Ok.ensures.items ∙ named-more c.loop-argument.texts.items _ _ c.shown_name.ensures in record {
+      inputs = subst ReaderView seen
+          (subst (Done _) (sym texts)
+          (Completes-read _ _ c.args.arguments.now c.loop-argument.argument-index _ c.loop-argument.is_stdin_read (named_inputs c.loop-argument.texts.items) c.in-Ok.bytes.items c.loop-argument-test.true
+          (rw c.is_standard-standard.ensures at c.in-Ok.ensures.reading) c.loop-argument.invariant.inputs));
+      asked = subst AskedOnce seen
+          (AsksBefore-more _ _ _ c.args.arguments.now c.loop-argument.argument-index _ c.loop-argument.is_stdin_read c.loop-argument-test.true c.loop-argument.invariant.asked
+          (rw c.is_standard-standard.ensures at c.read_argument.ensures.asked));
+    }
 
-pub returns-in-Err : goal.returns-in-Err
-returns-in-Err g c =
+pub returns-in-Err-clause-inputs : goal.returns-in-Err-clause-inputs
+returns-in-Err-clause-inputs g c =
     IfOk-weaker c.ended.result _ _
     (λ inputs reported.
     rw (reported.0, reported.1)
     (Completes-unread _ _ c.args.arguments.now c.loop-argument.argument-index _ c.loop-argument.is_stdin_read (named_inputs c.loop-argument.texts.items) c.in-Err.why c.loop-argument-test.true
-    (⊎_elim (λ memory. absurd (reported.2 memory)) (λ reads. rw c.is_standard-standard.ensures at reads) c.in-Err.ensures) c.loop-argument.invariant))
+    (⊎_elim (λ memory. absurd (reported.2 memory)) (λ reads. rw c.is_standard-standard.ensures at reads) c.in-Err.ensures.reading) c.loop-argument.invariant.inputs))
     c.ended.ensures
+
+pub returns-in-Err-clause-asked : goal.returns-in-Err-clause-asked
+returns-in-Err-clause-asked g c =
+    AsksBefore-first _ _ _ _ _
+    (AsksBefore-more _ _ _ c.args.arguments.now c.loop-argument.argument-index _ c.loop-argument.is_stdin_read c.loop-argument-test.true c.loop-argument.invariant.asked
+    (rw c.is_standard-standard.ensures at c.read_argument.ensures.asked))
+
+pub returns-in_err-push-in-Ok-clause-asked : goal.returns-in_err-push-in-Ok-clause-asked
+returns-in_err-push-in-Ok-clause-asked g c =
+    AsksBefore-first _ _ _ _ _
+    (AsksBefore-more _ _ _ c.args.arguments.now c.loop-argument.argument-index _ c.loop-argument.is_stdin_read c.loop-argument-test.true c.loop-argument.invariant.asked
+    (rw c.is_standard-standard.ensures at c.read_argument.ensures.asked))
+
+pub returns-in-Err-clause-asked_all : goal.returns-in-Err-clause-asked_all
+returns-in-Err-clause-asked_all g c =
+    IfOk-weaker c.ended.result _ _ (λ inputs reported. λ none. let fault = reported.1 in cc) c.ended.ensures
