@@ -23,5 +23,6 @@ IsAround text before rest = text ≡ before ++ (codes "charset=" ++ rest)
 -- `charset=`
 pub data NamesCharset : List ℕ → List ℕ → Type 0 where
   unnamed : {text : List ℕ} → ((before rest : List ℕ) → IsAround text before rest → ⊥) → NamesCharset text []
-  named : {text name : List ℕ} (before rest : List ℕ) → IsAround text before (name ++ rest) → ((other more : List ℕ) → IsAround text other more → length before ≤ length other)
+  named : {text name : List ℕ} (before rest : List ℕ) → IsAround text before (name ++ rest)
+      → ((other more : List ℕ) → IsAround text other more → length before ≤ length other)
       → All (λ b. EndsName b → ⊥) name → IsAfterName rest → NamesCharset text name

@@ -29,7 +29,9 @@ same_kind Flags Flags = true
 
 -- the texts of the comments of a kind
 abbrev pub texts_of : CommentKind → List CommentText → List (List ℕ)
-texts_of kind comment_texts = map (λ (comment_text : CommentText). comment_text.text) (filter (λ (comment_text : CommentText). same_kind kind comment_text.kind) comment_texts)
+texts_of kind comment_texts =
+    map (λ (comment_text : CommentText). comment_text.text)
+    (filter (λ (comment_text : CommentText). same_kind kind comment_text.kind) comment_texts)
 
 abbrev pub is_not_empty : List ℕ → Bool
 is_not_empty text = not (length text == 0)
@@ -75,7 +77,8 @@ flags_of comment_texts = fold with_flag [] (all_listed_flags comment_texts)
 abbrev pub with_previous : TextPrevious → PreviousText → TextPrevious
 with_previous fields previous =
     if rank previous.keyword == 1 then record { context = Some previous.text; id = fields.id; plural = fields.plural }
-    else if rank previous.keyword == 2 then record { context = fields.context; id = Some previous.text; plural = fields.plural }
+    else if rank previous.keyword == 2
+    then record { context = fields.context; id = Some previous.text; plural = fields.plural }
     else record { context = fields.context; id = fields.id; plural = Some previous.text }
 
 -- each previous text in its field

@@ -23,7 +23,8 @@ entry_view fields = record {
 }
 
 -- the entry of these fields, in the order in which the code has them
-abbrev pub entry_of_fields : (comments extracted references : List (Vec ℕ)) → Bool → List (Vec ℕ) → TextPrevious → Option (Vec ℕ) → List ℕ → Option (Vec ℕ) → List (Vec ℕ) → Bool → ℕ → TextEntry
+abbrev pub entry_of_fields : (comments extracted references : List (Vec ℕ)) → Bool → List (Vec ℕ) → TextPrevious
+    → Option (Vec ℕ) → List ℕ → Option (Vec ℕ) → List (Vec ℕ) → Bool → ℕ → TextEntry
 entry_of_fields comments extracted references fuzzy flags previous context id plural forms obsolete line = record {
   comments = texts comments;
   extracted = texts extracted;
@@ -41,4 +42,5 @@ entry_of_fields comments extracted references fuzzy flags previous context id pl
 
 -- the plain entry of borrowed texts
 abbrev pub borrowed_entry : Option (Bor (List ℕ)) → List ℕ → Option (Bor (List ℕ)) → List (Bor (List ℕ)) → TextEntry
-borrowed_entry context id plural forms = plain_entry (option_copied context) id (option_copied plural) (slice_texts forms)
+borrowed_entry context id plural forms =
+    plain_entry (option_copied context) id (option_copied plural) (slice_texts forms)

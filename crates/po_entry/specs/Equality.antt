@@ -18,11 +18,13 @@ previous_eq a b = optional_eq a.context b.context && optional_eq a.id b.id && op
 
 abbrev pub comments_eq : TextEntry → TextEntry → Bool
 comments_eq a b =
-    texts_eq a.comments b.comments && texts_eq a.extracted b.extracted && texts_eq a.references b.references && beq a.fuzzy b.fuzzy && texts_eq a.flags b.flags
+    texts_eq a.comments b.comments && texts_eq a.extracted b.extracted && texts_eq a.references b.references
+    && beq a.fuzzy b.fuzzy && texts_eq a.flags b.flags
 
 abbrev pub bodies_eq : TextEntry → TextEntry → Bool
 bodies_eq a b =
-    optional_eq a.context b.context && bytes_eq a.id b.id && optional_eq a.plural b.plural && texts_eq a.forms b.forms && beq a.obsolete b.obsolete
+    optional_eq a.context b.context && bytes_eq a.id b.id && optional_eq a.plural b.plural && texts_eq a.forms b.forms
+    && beq a.obsolete b.obsolete
 
 abbrev pub entry_eq : TextEntry → TextEntry → Bool
 entry_eq a b = comments_eq a b && previous_eq a.previous b.previous && bodies_eq a b

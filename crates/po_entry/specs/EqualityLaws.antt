@@ -19,32 +19,77 @@ optional_decide : (a b : Option (List ℕ)) → Decides (optional_eq a b) (a ≡
 optional_decide None None = (λ _. refl, λ _. refl)
 optional_decide None (Some b) = (λ t. absurd (false≢true t), λ e. cc)
 optional_decide (Some a) None = (λ t. absurd (false≢true t), λ e. cc)
-optional_decide (Some a) (Some b) = (λ t. ap (λ (x : List ℕ). Some x) ((bytes_eq-Decides a b).0 t), λ e. let same : a ≡ b = cc in (bytes_eq-Decides a b).1 same)
+optional_decide (Some a) (Some b) = (
+  λ t. ap (λ (x : List ℕ). Some x) ((bytes_eq-Decides a b).0 t),
+  λ e. let same : a ≡ b = cc in (bytes_eq-Decides a b).1 same,
+)
 
 abbrev rebuilt : TextPrevious → TextPrevious
 rebuilt p = record { context = p.context; id = p.id; plural = p.plural }
 
 previous_decide : (a b : TextPrevious) → Decides (previous_eq a b) (a ≡ b)
 previous_decide a b =
-    let fields = both_decide _ _ (both_decide _ _ (optional_decide a.context b.context) (optional_decide a.id b.id)) (optional_decide a.plural b.plural) in (
+    let two = both_decide _ _ (optional_decide a.context b.context) (optional_decide a.id b.id) in
+    let fields = both_decide _ _ two (optional_decide a.plural b.plural) in (
       λ t. let h = fields.0 t in let same : rebuilt a ≡ rebuilt b = rw (h.0.0, h.0.1, h.1) refl in same,
-      λ e. fields.1 ((ap (λ (p : TextPrevious). p.context) e, ap (λ (p : TextPrevious). p.id) e), ap (λ (p : TextPrevious). p.plural) e),
+      λ e. fields.1 (
+        (ap (λ (p : TextPrevious). p.context) e, ap (λ (p : TextPrevious). p.id) e),
+        ap (λ (p : TextPrevious). p.plural) e,
+      ),
     )
 
 pub entry_decide : (a b : TextEntry) → Decides (entry_eq a b) (SameButLine a b)
 entry_decide a b =
-    let comments = both_decide _ _ (both_decide _ _ (both_decide _ _ (both_decide _ _ (texts_decide a.comments b.comments) (texts_decide a.extracted b.extracted)) (texts_decide a.references b.references)) (booleans_Decides a.fuzzy b.fuzzy)) (texts_decide a.flags b.flags) in
-    let messages = both_decide _ _ (both_decide _ _ (both_decide _ _ (both_decide _ _ (optional_decide a.context b.context) (bytes_eq-Decides a.id b.id)) (optional_decide a.plural b.plural)) (texts_decide a.forms b.forms)) (booleans_Decides a.obsolete b.obsolete) in
+    let extracted = both_decide _ _ (texts_decide a.comments b.comments) (texts_decide a.extracted b.extracted) in
+    let references = both_decide _ _ extracted (texts_decide a.references b.references) in
+    let fuzzy = both_decide _ _ references (booleans_Decides a.fuzzy b.fuzzy) in
+    let comments = both_decide _ _ fuzzy (texts_decide a.flags b.flags) in
+    let id = both_decide _ _ (optional_decide a.context b.context) (bytes_eq-Decides a.id b.id) in
+    let plural = both_decide _ _ id (optional_decide a.plural b.plural) in
+    let forms = both_decide _ _ plural (texts_decide a.forms b.forms) in
+    let messages = both_decide _ _ forms (booleans_Decides a.obsolete b.obsolete) in
     let all = both_decide _ _ (both_decide _ _ comments (previous_decide a.previous b.previous)) messages in (
       λ t.
           let h = all.0 t in
-          rw (h.0.0.0.0.0.0, h.0.0.0.0.0.1, h.0.0.0.0.1, h.0.0.0.1, h.0.0.1, h.0.1, h.1.0.0.0.0, h.1.0.0.0.1, h.1.0.0.1, h.1.0.1, h.1.1) refl,
+          let comments = h.0.0 in
+          let message = h.1 in
+          rw (
+            comments.0.0.0.0,
+            comments.0.0.0.1,
+            comments.0.0.1,
+            comments.0.1,
+            comments.1,
+            h.0.1,
+            message.0.0.0.0,
+            message.0.0.0.1,
+            message.0.0.1,
+            message.0.1,
+            message.1,
+          ) refl,
       λ e. all.1 (
         (
-          ((((ap (λ (x : TextEntry). x.comments) e, ap (λ (x : TextEntry). x.extracted) e), ap (λ (x : TextEntry). x.references) e), ap (λ (x : TextEntry). x.fuzzy) e), ap (λ (x : TextEntry). x.flags) e),
+          (
+            (
+              (
+                (ap (λ (x : TextEntry). x.comments) e, ap (λ (x : TextEntry). x.extracted) e),
+                ap (λ (x : TextEntry). x.references) e,
+              ),
+              ap (λ (x : TextEntry). x.fuzzy) e,
+            ),
+            ap (λ (x : TextEntry). x.flags) e,
+          ),
           ap (λ (x : TextEntry). x.previous) e,
         ),
-        ((((ap (λ (x : TextEntry). x.context) e, ap (λ (x : TextEntry). x.id) e), ap (λ (x : TextEntry). x.plural) e), ap (λ (x : TextEntry). x.forms) e), ap (λ (x : TextEntry). x.obsolete) e),
+        (
+          (
+            (
+              (ap (λ (x : TextEntry). x.context) e, ap (λ (x : TextEntry). x.id) e),
+              ap (λ (x : TextEntry). x.plural) e,
+            ),
+            ap (λ (x : TextEntry). x.forms) e,
+          ),
+          ap (λ (x : TextEntry). x.obsolete) e,
+        ),
       ),
     )
 
@@ -56,6 +101,8 @@ answer false false p q = refl
 
 pub entry_eq_laws : IsPartialEquivalence entry_eq
 entry_eq_laws = record {
-  symm = λ x y. answer (entry_eq x y) (entry_eq y x) (λ t. (entry_decide y x).1 (sym ((entry_decide x y).0 t))) (λ t. (entry_decide x y).1 (sym ((entry_decide y x).0 t)));
+  symm = λ x y.
+      answer (entry_eq x y) (entry_eq y x) (λ t. (entry_decide y x).1 (sym ((entry_decide x y).0 t)))
+      (λ t. (entry_decide x y).1 (sym ((entry_decide y x).0 t)));
   trans = λ x y z s t. (entry_decide x z).1 ((entry_decide x y).0 s ∙ (entry_decide y z).0 t);
 }

@@ -12,8 +12,10 @@ EndsReference (b ∷ text) = IsBlank b
 -- the references of a text: its elements, between blanks
 pub data ListsReferences : List ℕ → List (List ℕ) → Type 0 where
   no_text : ListsReferences [] []
-  blank : {b : ℕ} {text : List ℕ} {references : List (List ℕ)} → IsBlank b → ListsReferences text references → ListsReferences (b ∷ text) references
-  reference : {element rest : List ℕ} {references : List (List ℕ)} → element ≢ [] → All (λ b. IsBlank b → ⊥) element → EndsReference rest → ListsReferences rest references
+  blank : {b : ℕ} {text : List ℕ} {references : List (List ℕ)} → IsBlank b → ListsReferences text references
+      → ListsReferences (b ∷ text) references
+  reference : {element rest : List ℕ} {references : List (List ℕ)} → element ≢ [] → All (λ b. IsBlank b → ⊥) element
+      → EndsReference rest → ListsReferences rest references
       → ListsReferences (element ++ rest) (element ∷ references)
 
 -- the text without the blanks at its ends
@@ -34,12 +36,15 @@ pub data NamesFlag : List ℕ → List (List ℕ) → Type 0 where
 -- the flags of a text, between commas
 pub data ListsFlags : List ℕ → List (List ℕ) → Type 0 where
   last : {text : List ℕ} {flags : List (List ℕ)} → Lacks 44 text → NamesFlag text flags → ListsFlags text flags
-  more : {text rest : List ℕ} {here later : List (List ℕ)} → Lacks 44 text → NamesFlag text here → ListsFlags rest later → ListsFlags (text ++ 44 ∷ rest) (here ++ later)
+  more : {text rest : List ℕ} {here later : List (List ℕ)} → Lacks 44 text → NamesFlag text here → ListsFlags rest later
+      → ListsFlags (text ++ 44 ∷ rest) (here ++ later)
 
 -- the flags that an entry keeps of all that its lines name: each where it first stands, and never
 -- `fuzzy`
 pub data KeepsFlags : List (List ℕ) → List (List ℕ) → Type 0 where
   none : KeepsFlags [] []
-  first : {named kept : List (List ℕ)} {flag : List ℕ} → KeepsFlags named kept → flag ≢ codes "fuzzy" → (Contains named flag → ⊥) → KeepsFlags (named ++ flag ∷ []) (kept ++ flag ∷ [])
+  first : {named kept : List (List ℕ)} {flag : List ℕ} → KeepsFlags named kept → flag ≢ codes "fuzzy"
+      → (Contains named flag → ⊥) → KeepsFlags (named ++ flag ∷ []) (kept ++ flag ∷ [])
   fuzzy : {named kept : List (List ℕ)} → KeepsFlags named kept → KeepsFlags (named ++ codes "fuzzy" ∷ []) kept
-  repeated : {named kept : List (List ℕ)} {flag : List ℕ} → KeepsFlags named kept → Contains named flag → KeepsFlags (named ++ flag ∷ []) kept
+  repeated : {named kept : List (List ℕ)} {flag : List ℕ} → KeepsFlags named kept → Contains named flag
+      → KeepsFlags (named ++ flag ∷ []) kept

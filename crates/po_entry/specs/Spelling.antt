@@ -13,11 +13,13 @@ use Rattle.po_entry.specs.Comments.{comments_of, extracted_of, references_of, fu
 -- one string or more, all under these marks: their bytes, joined
 pub data SpellsStrings (marks : Marks) : List TextItem → List ℕ → Type 0 where
   last : {line : ℕ} {bytes : List ℕ} → SpellsStrings marks (Str bytes marks line ∷ []) bytes
-  more : {line : ℕ} {bytes others : List ℕ} {strings : List TextItem} → SpellsStrings marks strings others → SpellsStrings marks (Str bytes marks line ∷ strings) (bytes ++ others)
+  more : {line : ℕ} {bytes others : List ℕ} {strings : List TextItem} → SpellsStrings marks strings others
+      → SpellsStrings marks (Str bytes marks line ∷ strings) (bytes ++ others)
 
 -- a keyword on this line, and after it the strings of its text, under the keyword's marks
 pub data SpellsKeywordText (keyword : Keyword) (marks : Marks) (line : ℕ) : List TextItem → List ℕ → Type 0 where
-  keyword_text : {strings : List TextItem} {text : List ℕ} → SpellsStrings marks strings text → SpellsKeywordText keyword marks line (Word keyword marks line ∷ strings) text
+  keyword_text : {strings : List TextItem} {text : List ℕ} → SpellsStrings marks strings text
+      → SpellsKeywordText keyword marks line (Word keyword marks line ∷ strings) text
 
 -- the marks of an entry's own lines
 abbrev pub own_marks : Bool → Marks
@@ -30,9 +32,12 @@ previous_marks obsolete = record { obsolete = obsolete; previous = true }
 -- comments, and previous texts among them
 pub data SpellsHead : List TextItem → List CommentText → List PreviousText → Type 0 where
   nothing : SpellsHead [] [] []
-  head_comment : {kind : CommentKind} {text : List ℕ} {line : ℕ} {items : List TextItem} {comment_texts : List CommentText} {previous : List PreviousText} → SpellsHead items comment_texts previous
+  head_comment : {kind : CommentKind} {text : List ℕ} {line : ℕ} {items : List TextItem}
+      {comment_texts : List CommentText} {previous : List PreviousText} → SpellsHead items comment_texts previous
       → SpellsHead (Comment kind text line ∷ items) (record { kind = kind; text = text } ∷ comment_texts) previous
-  previous_text : {keyword : Keyword} {obsolete : Bool} {line : ℕ} {text : List ℕ} {own items : List TextItem} {comment_texts : List CommentText} {others : List PreviousText} → SpellsKeywordText keyword (previous_marks obsolete) line own text → SpellsHead items comment_texts others
+  previous_text : {keyword : Keyword} {obsolete : Bool} {line : ℕ} {text : List ℕ} {own items : List TextItem}
+      {comment_texts : List CommentText} {others : List PreviousText}
+      → SpellsKeywordText keyword (previous_marks obsolete) line own text → SpellsHead items comment_texts others
       → SpellsHead (own ++ items) comment_texts (record { keyword = keyword; text = text } ∷ others)
 
 -- the first list is some of the keywords of the second, in their order
@@ -48,26 +53,36 @@ AreInOrder texts = AreSome (map (λ (text : PreviousText). text.keyword) texts) 
 -- `msgctxt` with the context, or nothing
 pub data SpellsContext (obsolete : Bool) : List TextItem → Option (List ℕ) → Type 0 where
   no_context : SpellsContext obsolete [] None
-  context : {line : ℕ} {items : List TextItem} {text : List ℕ} → SpellsKeywordText MsgCtxt (own_marks obsolete) line items text → SpellsContext obsolete items (Some text)
+  context : {line : ℕ} {items : List TextItem} {text : List ℕ}
+      → SpellsKeywordText MsgCtxt (own_marks obsolete) line items text → SpellsContext obsolete items (Some text)
 
 -- `msgstr` with each plural form from this index on, one at least
 pub data SpellsForms (obsolete : Bool) : ℕ → List TextItem → List (List ℕ) → Type 0 where
-  last_form : {index line : ℕ} {items : List TextItem} {form : List ℕ} → SpellsKeywordText (MsgStrAt index) (own_marks obsolete) line items form → SpellsForms obsolete index items (form ∷ [])
-  more_forms : {index line : ℕ} {own items : List TextItem} {form : List ℕ} {forms : List (List ℕ)} → SpellsKeywordText (MsgStrAt index) (own_marks obsolete) line own form → SpellsForms obsolete (index + 1) items forms
+  last_form : {index line : ℕ} {items : List TextItem} {form : List ℕ}
+      → SpellsKeywordText (MsgStrAt index) (own_marks obsolete) line items form
+      → SpellsForms obsolete index items (form ∷ [])
+  more_forms : {index line : ℕ} {own items : List TextItem} {form : List ℕ} {forms : List (List ℕ)}
+      → SpellsKeywordText (MsgStrAt index) (own_marks obsolete) line own form
+      → SpellsForms obsolete (index + 1) items forms
       → SpellsForms obsolete index (own ++ items) (form ∷ forms)
 
 -- `msgstr` with the one form; or `msgid_plural` with the plural, and then the plural forms
 pub data SpellsTranslation (obsolete : Bool) : List TextItem → Option (List ℕ) → List (List ℕ) → Type 0 where
-  single : {line : ℕ} {items : List TextItem} {form : List ℕ} → SpellsKeywordText MsgStr (own_marks obsolete) line items form → SpellsTranslation obsolete items None (form ∷ [])
-  plural : {line : ℕ} {own items : List TextItem} {text : List ℕ} {forms : List (List ℕ)} → SpellsKeywordText MsgIdPlural (own_marks obsolete) line own text → SpellsForms obsolete 0 items forms
+  single : {line : ℕ} {items : List TextItem} {form : List ℕ}
+      → SpellsKeywordText MsgStr (own_marks obsolete) line items form
+      → SpellsTranslation obsolete items None (form ∷ [])
+  plural : {line : ℕ} {own items : List TextItem} {text : List ℕ} {forms : List (List ℕ)}
+      → SpellsKeywordText MsgIdPlural (own_marks obsolete) line own text → SpellsForms obsolete 0 items forms
       → SpellsTranslation obsolete (own ++ items) (Some text) forms
 
 -- an entry's own lines: its context, if any, its msgid with its line, its plural, if any, and its
 -- forms, all obsolete or none
 pub data SpellsBody : List TextItem → Body → Type 0 where
-  own_lines : {obsolete : Bool} {line : ℕ} {first own last : List TextItem} {context : Option (List ℕ)} {id : List ℕ} {plural : Option (List ℕ)} {forms : List (List ℕ)} → SpellsContext obsolete first context
+  own_lines : {obsolete : Bool} {line : ℕ} {first own last : List TextItem} {context : Option (List ℕ)} {id : List ℕ}
+      {plural : Option (List ℕ)} {forms : List (List ℕ)} → SpellsContext obsolete first context
       → SpellsKeywordText MsgId (own_marks obsolete) line own id → SpellsTranslation obsolete last plural forms
-      → SpellsBody (first ++ own ++ last) (record { context = context; id = id; plural = plural; forms = forms; obsolete = obsolete; line = line })
+      → SpellsBody (first ++ own ++ last)
+      (record { context = context; id = id; plural = plural; forms = forms; obsolete = obsolete; line = line })
 
 -- the entry with this head and this body
 abbrev pub entry_from : List CommentText → List PreviousText → Body → TextEntry
@@ -88,7 +103,9 @@ entry_from comment_texts previous body = record {
 
 -- an entry: its head, and then its own lines
 pub data SpellsEntry : List TextItem → TextEntry → Type 0 where
-  entry : {head own : List TextItem} {comment_texts : List CommentText} {previous : List PreviousText} {body : Body} → SpellsHead head comment_texts previous → AreInOrder previous → SpellsBody own body → SpellsEntry (head ++ own) (entry_from comment_texts previous body)
+  entry : {head own : List TextItem} {comment_texts : List CommentText} {previous : List PreviousText} {body : Body}
+      → SpellsHead head comment_texts previous → AreInOrder previous → SpellsBody own body
+      → SpellsEntry (head ++ own) (entry_from comment_texts previous body)
 
 abbrev pub IsCommentItem : TextItem → Type 0
 IsCommentItem (Comment kind text line) = Unit {0}
@@ -102,4 +119,5 @@ AreComments (item ∷ items) = IsCommentItem item × AreComments items
 -- the items of each entry in turn, and then comments that belong to no entry
 pub data SpellsEntries : List TextItem → List TextEntry → Type 0 where
   comments : {items : List TextItem} → AreComments items → SpellsEntries items []
-  entries : {own items : List TextItem} {first : TextEntry} {others : List TextEntry} → SpellsEntry own first → SpellsEntries items others → SpellsEntries (own ++ items) (first ∷ others)
+  entries : {own items : List TextItem} {first : TextEntry} {others : List TextEntry} → SpellsEntry own first
+      → SpellsEntries items others → SpellsEntries (own ++ items) (first ∷ others)

@@ -74,4 +74,5 @@ previous_texts previous =
 -- the texts that an entry's quoted strings spell
 abbrev pub quoted_texts : TextEntry → List (List ℕ)
 quoted_texts entry =
-    previous_texts entry.previous ++ option_to_list entry.context ++ (entry.id ∷ []) ++ option_to_list entry.plural ++ entry.forms
+    previous_texts entry.previous ++ option_to_list entry.context ++ (entry.id ∷ []) ++ option_to_list entry.plural
+    ++ entry.forms

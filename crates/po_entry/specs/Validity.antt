@@ -72,7 +72,8 @@ out_of_memory = record { kind = OutOfMemory; line = 0 }
 -- on its line; or an allocation failed
 abbrev pub IsRefusedEntry : TextEntry → PoError → Type 0
 IsRefusedEntry entry error =
-    ((HasAdmittedCharset entry → ⊥) × (error ≡ record { kind = ForeignCharset; line = entry.line })) ⊎ (error ≡ out_of_memory)
+    ((HasAdmittedCharset entry → ⊥) × (error ≡ record { kind = ForeignCharset; line = entry.line }))
+    ⊎ (error ≡ out_of_memory)
 
 -- why no entry is made of texts that are given: one can't stand in it, or an allocation failed;
 -- there is no line

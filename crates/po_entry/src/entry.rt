@@ -171,7 +171,7 @@ impl Entry {
         &self.fields.flags
     }
 
-    /// The previous texts.
+    /// The context, msgid and plural on `#|` lines, as far as there are any.
     pub fn previous(&self) -> &Previous
         ensures { result.now ≡ self.now.previous }
     {
@@ -185,7 +185,7 @@ impl Entry {
         self.fields.context.as_deref()
     }
 
-    /// The msgid.
+    /// The msgid, which a header has empty.
     pub fn id(&self) -> &[u8]
         ensures { result.now ≡ self.now.id }
     {

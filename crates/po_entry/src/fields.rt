@@ -18,7 +18,7 @@ pub struct Fields {
     pub fuzzy: bool,
     /// The other flags of the `#,` lines.
     pub flags: Vec<Vec<u8>>,
-    /// The previous texts.
+    /// The texts on `#|` lines.
     pub previous: Previous,
     /// The text of `msgctxt`.
     pub context: Option<Vec<u8>>,

@@ -26,13 +26,17 @@ pub data SpellsEscape : List ℕ → ℕ → List ℕ → Type 0 where
   vertical_tab : {rest : List ℕ} → SpellsEscape (118 ∷ rest) 11 rest
   backslash : {rest : List ℕ} → SpellsEscape (92 ∷ rest) 92 rest
   quote : {rest : List ℕ} → SpellsEscape (34 ∷ rest) 34 rest
-  octal : (digits : List ℕ) {rest : List ℕ} → IsNumeral 8 digits → length digits ≤ 3 → (length digits ≡ 3) ⊎ NoDigitFirst 8 rest → IsByteNumber (digits_value 8 digits)
+  octal : (digits : List ℕ) {rest : List ℕ} → IsNumeral 8 digits → length digits ≤ 3
+      → (length digits ≡ 3) ⊎ NoDigitFirst 8 rest → IsByteNumber (digits_value 8 digits)
       → SpellsEscape (digits ++ rest) (digits_value 8 digits) rest
-  hexadecimal : (digits : List ℕ) {rest : List ℕ} → IsNumeral 16 digits → NoDigitFirst 16 rest → IsByteNumber (digits_value 16 digits)
+  hexadecimal : (digits : List ℕ) {rest : List ℕ} → IsNumeral 16 digits → NoDigitFirst 16 rest
+      → IsByteNumber (digits_value 16 digits)
       → SpellsEscape (120 ∷ digits ++ rest) (digits_value 16 digits) rest
 
 -- After an opening quote the text spells these bytes, and the rest stands after the closing quote.
 pub data SpellsString : List ℕ → List ℕ → List ℕ → Type 0 where
   closed : {rest : List ℕ} → SpellsString (34 ∷ rest) [] rest
-  plain : {b : ℕ} {text bytes rest : List ℕ} → b ≢ 34 → b ≢ 92 → SpellsString text bytes rest → SpellsString (b ∷ text) (b ∷ bytes) rest
-  escape : {b : ℕ} {text next bytes rest : List ℕ} → SpellsEscape text b next → SpellsString next bytes rest → SpellsString (92 ∷ text) (b ∷ bytes) rest
+  plain : {b : ℕ} {text bytes rest : List ℕ} → b ≢ 34 → b ≢ 92 → SpellsString text bytes rest
+      → SpellsString (b ∷ text) (b ∷ bytes) rest
+  escape : {b : ℕ} {text next bytes rest : List ℕ} → SpellsEscape text b next → SpellsString next bytes rest
+      → SpellsString (92 ∷ text) (b ∷ bytes) rest

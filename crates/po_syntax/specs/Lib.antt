@@ -6,7 +6,7 @@ pub mod Token
 pub mod Line
 pub mod Spelling
 pub mod LineFaults
-pub mod CodeView
+pub mod LineView
 pub mod ItemContents
 pub mod PoText
 pub mod CleanLine

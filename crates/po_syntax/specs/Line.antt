@@ -69,24 +69,32 @@ trim_returns text = take (length text - suffix_len (λ b. b == 13) text) text
 -- under these marks, on the line of this number, the text spells these items
 pub data SpellsTokens (marks : Marks) (line : ℕ) : List ℕ → List TextItem → Type 0 where
   none : {text : List ℕ} → token_at text ≡ LineEnd → SpellsTokens marks line text []
-  word : {text rest : List ℕ} {keyword : Keyword} {items : List TextItem} → token_at text ≡ KeywordToken keyword rest → SpellsTokens marks line rest items
+  word : {text rest : List ℕ} {keyword : Keyword} {items : List TextItem} → token_at text ≡ KeywordToken keyword rest
+      → SpellsTokens marks line rest items
       → SpellsTokens marks line text (Word keyword marks line ∷ items)
-  string : {text inner bytes rest : List ℕ} {items : List TextItem} → token_at text ≡ OpeningQuote inner → IsQuoted inner bytes rest → SpellsTokens marks line rest items
+  string : {text inner bytes rest : List ℕ} {items : List TextItem} → token_at text ≡ OpeningQuote inner
+      → IsQuoted inner bytes rest → SpellsTokens marks line rest items
       → SpellsTokens marks line text (Str bytes marks line ∷ items)
 
 -- the first place where no token can be read has this fault
 pub data TokensStop : List ℕ → PoFault → Type 0 where
   halt : {text : List ℕ} {fault : PoFault} → token_at text ≡ WrongToken fault → TokensStop text fault
-  in_string : {text inner : List ℕ} {fault : PoFault} → token_at text ≡ OpeningQuote inner → QuotedStops inner fault → TokensStop text fault
-  after_word : {text rest : List ℕ} {keyword : Keyword} {fault : PoFault} → token_at text ≡ KeywordToken keyword rest → TokensStop rest fault → TokensStop text fault
-  after_string : {text inner bytes rest : List ℕ} {fault : PoFault} → token_at text ≡ OpeningQuote inner → IsQuoted inner bytes rest → TokensStop rest fault → TokensStop text fault
+  in_string : {text inner : List ℕ} {fault : PoFault} → token_at text ≡ OpeningQuote inner → QuotedStops inner fault
+      → TokensStop text fault
+  after_word : {text rest : List ℕ} {keyword : Keyword} {fault : PoFault} → token_at text ≡ KeywordToken keyword rest
+      → TokensStop rest fault → TokensStop text fault
+  after_string : {text inner bytes rest : List ℕ} {fault : PoFault} → token_at text ≡ OpeningQuote inner
+      → IsQuoted inner bytes rest → TokensStop rest fault → TokensStop text fault
 
 -- the line of this number spells these items
 pub data SpellsLine (line : ℕ) : List ℕ → List TextItem → Type 0 where
-  comment : {text rest : List ℕ} {kind : CommentKind} → shape_of text ≡ CommentLine kind rest → SpellsLine line text (Comment kind (trim_returns rest) line ∷ [])
-  tokens : {text rest : List ℕ} {marks : Marks} {items : List TextItem} → shape_of text ≡ Tokens marks rest → SpellsTokens marks line rest items → SpellsLine line text items
+  comment : {text rest : List ℕ} {kind : CommentKind} → shape_of text ≡ CommentLine kind rest
+      → SpellsLine line text (Comment kind (trim_returns rest) line ∷ [])
+  tokens : {text rest : List ℕ} {marks : Marks} {items : List TextItem} → shape_of text ≡ Tokens marks rest
+      → SpellsTokens marks line rest items → SpellsLine line text items
 
 -- the line spells no items: its first fault is this one
 pub data LineStops : List ℕ → PoFault → Type 0 where
   no_shape : {text : List ℕ} → shape_of text ≡ NoShape → LineStops text BadToken
-  in_tokens : {text rest : List ℕ} {marks : Marks} {fault : PoFault} → shape_of text ≡ Tokens marks rest → TokensStop rest fault → LineStops text fault
+  in_tokens : {text rest : List ℕ} {marks : Marks} {fault : PoFault} → shape_of text ≡ Tokens marks rest
+      → TokensStop rest fault → LineStops text fault

@@ -29,14 +29,17 @@ lines_of text = slice_split (λ b. b == 10) text
 -- the lines from this number on spell these items
 abbrev pub SpellsLines : ℕ → List (List ℕ) → List TextItem → Type 0
 SpellsLines number [] items = items ≡ []
-SpellsLines number (line ∷ lines) items = (here : List TextItem) × (later : List TextItem) × SpellsLine number line here × SpellsLines (number + 1) lines later × (items ≡ here ++ later)
+SpellsLines number (line ∷ lines) items =
+    (here : List TextItem) × (later : List TextItem) × SpellsLine number line here
+    × SpellsLines (number + 1) lines later × (items ≡ here ++ later)
 
 -- of these lines, counted from `number` on, the first with a fault is the line `at`, and has this
 -- fault
 abbrev pub LinesStop : ℕ → List (List ℕ) → PoFault → ℕ → Type 0
 LinesStop number [] fault at = ⊥
 LinesStop number (line ∷ lines) fault at =
-    (LineStops line fault × (at ≡ number)) ⊎ ((here : List TextItem) × SpellsLine number line here × LinesStop (number + 1) lines fault at)
+    (LineStops line fault × (at ≡ number))
+    ⊎ ((here : List TextItem) × SpellsLine number line here × LinesStop (number + 1) lines fault at)
 
 -- the text spells these items
 pub record SpellsText (text : List ℕ) (items : List TextItem) : Type 0 where
@@ -49,6 +52,9 @@ pub record SpellsText (text : List ℕ) (items : List TextItem) : Type 0 where
 -- line stops.
 pub data TextFault : List ℕ → PoFault → ℕ → Type 0 where
   too_large : {text : List ℕ} → 2 ^ 31 ≤ length text → TextFault text TooLarge 0
-  not_utf8 : {text : List ℕ} {line : ℕ} → IsSmall text → (IsUtf8 text → ⊥) → line ≡ line_number text (utf8_valid_len text) → TextFault text NotUtf8 line
-  nul : {text : List ℕ} {line index : ℕ} → IsSmall text → IsUtf8 text → position (λ b. b == 0) text ≡ Some index → line ≡ line_number text index → TextFault text ForbiddenByte line
-  stops : {text : List ℕ} {fault : PoFault} {line : ℕ} → IsSmall text → IsUtf8 text → HasNoNul text → LinesStop 1 (lines_of (without_byte_order_mark text)) fault line → TextFault text fault line
+  not_utf8 : {text : List ℕ} {line : ℕ} → IsSmall text → (IsUtf8 text → ⊥)
+      → line ≡ line_number text (utf8_valid_len text) → TextFault text NotUtf8 line
+  nul : {text : List ℕ} {line index : ℕ} → IsSmall text → IsUtf8 text → position (λ b. b == 0) text ≡ Some index
+      → line ≡ line_number text index → TextFault text ForbiddenByte line
+  stops : {text : List ℕ} {fault : PoFault} {line : ℕ} → IsSmall text → IsUtf8 text → HasNoNul text
+      → LinesStop 1 (lines_of (without_byte_order_mark text)) fault line → TextFault text fault line

@@ -54,7 +54,8 @@ unfoldable pub escape_at : List ℕ → Step
 escape_at [] = Stop BadEscape
 escape_at (b ∷ text) =
     if is_digit b 8 then number_step 8 (digit_count 8 (take 3 (b ∷ text))) (b ∷ text)
-    else if b == 120 then (if digit_count 16 text == 0 then Stop BadEscape else number_step 16 (digit_count 16 text) text)
+    else if b == 120
+    then (if digit_count 16 text == 0 then Stop BadEscape else number_step 16 (digit_count 16 text) text)
     else letter_step (letter_value b) text
 
 -- any byte but the closing quote and the backslash stands for itself
@@ -65,10 +66,12 @@ step_at (b ∷ text) = if b == 34 then End text else if b == 92 then escape_at t
 -- After an opening quote the text spells these bytes, and the rest stands after the closing quote.
 pub data IsQuoted : List ℕ → List ℕ → List ℕ → Type 0 where
   ended : {text rest : List ℕ} → step_at text ≡ End rest → IsQuoted text [] rest
-  spelt : {text next bytes rest : List ℕ} {b : ℕ} → step_at text ≡ Byte b next → IsQuoted next bytes rest → IsQuoted text (b ∷ bytes) rest
+  spelt : {text next bytes rest : List ℕ} {b : ℕ} → step_at text ≡ Byte b next → IsQuoted next bytes rest
+      → IsQuoted text (b ∷ bytes) rest
 
 -- After an opening quote the first place where no byte and no closing quote can be read has this
 -- fault.
 pub data QuotedStops : List ℕ → PoFault → Type 0 where
   here : {text : List ℕ} {fault : PoFault} → step_at text ≡ Stop fault → QuotedStops text fault
-  later : {text next : List ℕ} {b : ℕ} {fault : PoFault} → step_at text ≡ Byte b next → QuotedStops next fault → QuotedStops text fault
+  later : {text next : List ℕ} {b : ℕ} {fault : PoFault} → step_at text ≡ Byte b next → QuotedStops next fault
+      → QuotedStops text fault

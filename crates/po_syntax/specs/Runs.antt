@@ -21,13 +21,15 @@ pub record Parts {X : Type 0} (test : X → Bool) (xs : List X) : Type 0 where
 abbrev PartsAt : {X : Type 0} → (X → Bool) → List X → ℕ → Type 0
 PartsAt test xs n = All (λ x. test x ≡ true) (take n xs) × FailsFirst test (drop n xs)
 
-step : {X : Type 0} (test : X → Bool) (x : X) (xs : List X) (n more : ℕ) (b : Bool) → more ≡ suc n → test x ≡ b → PartsAt test xs n → PartsAt test (x ∷ xs) (cond b more 0)
+step : {X : Type 0} (test : X → Bool) (x : X) (xs : List X) (n more : ℕ) (b : Bool) → more ≡ suc n → test x ≡ b
+    → PartsAt test xs n → PartsAt test (x ∷ xs) (cond b more 0)
 step test x xs n more true is e h = rw is (All-cons (λ y. test y ≡ true) x (take n xs) e h.0, h.1)
 step test x xs n more false is e h = (All-nil (λ y. test y ≡ true), e)
 
 at_run : {X : Type 0} (test : X → Bool) (xs : List X) → PartsAt test xs (prefix_len test xs)
 at_run test [] = (All-nil (λ y. test y ≡ true), tt)
-at_run test (x ∷ xs) = step test x xs (prefix_len test xs) (1 + prefix_len test xs) (test x) (omega arith) refl (at_run test xs)
+at_run test (x ∷ xs) =
+    step test x xs (prefix_len test xs) (1 + prefix_len test xs) (test x) (omega arith) refl (at_run test xs)
 
 pub parts_of : {X : Type 0} (test : X → Bool) (xs : List X) → Parts test xs
 parts_of test xs = record {
@@ -36,16 +38,19 @@ parts_of test xs = record {
   whole = take-append-drop (prefix_len test xs) xs;
 }
 
-pub run_length : {X : Type 0} (test : X → Bool) (run rest : List X) → All (λ x. test x ≡ true) run → FailsFirst test rest → prefix_len test (run ++ rest) ≡ length run
+pub run_length : {X : Type 0} (test : X → Bool) (run rest : List X) → All (λ x. test x ≡ true) run
+    → FailsFirst test rest → prefix_len test (run ++ rest) ≡ length run
 run_length test [] [] passes ends = refl
 run_length test [] (x ∷ rest) passes ends = cond-false (test x) _ 0 ends
 run_length test (x ∷ run) rest passes ends =
-    cond-true (test x) _ 0 (All-head (λ y. test y ≡ true) x run passes) ∙ omega (arith, run_length test run rest (All-tail (λ y. test y ≡ true) x run passes) ends)
+    cond-true (test x) _ 0 (All-head (λ y. test y ≡ true) x run passes)
+    ∙ omega (arith, run_length test run rest (All-tail (λ y. test y ≡ true) x run passes) ends)
 
 -- a test that passes everywhere in a list
 pub all_pass : {X : Type 0} (test : X → Bool) (xs : List X) → list_all test xs ≡ true → All (λ x. test x ≡ true) xs
 all_pass test [] e = All-nil (λ x. test x ≡ true)
-all_pass test (x ∷ xs) e = let p = and_parts (test x) (list_all test xs) e in All-cons (λ y. test y ≡ true) x xs p.0 (all_pass test xs p.1)
+all_pass test (x ∷ xs) e =
+    let p = and_parts (test x) (list_all test xs) e in All-cons (λ y. test y ≡ true) x xs p.0 (all_pass test xs p.1)
 
 -- the list without the elements at its end that pass
 abbrev pub without_end : {X : Type 0} → (X → Bool) → List X → List X
@@ -62,25 +67,32 @@ pub record EndParts {X : Type 0} (test : X → Bool) (xs kept : List X) : Type 0
   pub whole : xs ≡ kept ++ end
   pub fails : FailsLast test kept
 
-from_reversed : {X : Type 0} (Q : List X → Type 0) → Q [] → ((xs : List X) (x : X) → Q xs → Q (xs ++ x ∷ [])) → (xs : List X) → Q (reverse xs)
+from_reversed : {X : Type 0} (Q : List X → Type 0) → Q [] → ((xs : List X) (x : X) → Q xs → Q (xs ++ x ∷ []))
+    → (xs : List X) → Q (reverse xs)
 from_reversed Q none more [] = none
-from_reversed Q none more (x ∷ xs) = rw (reverse-append (x ∷ []) xs) (more (reverse xs) x (from_reversed Q none more xs))
+from_reversed Q none more (x ∷ xs) =
+    rw (reverse-append (x ∷ []) xs) (more (reverse xs) x (from_reversed Q none more xs))
 
-pub from_end : {X : Type 0} (Q : List X → Type 0) → Q [] → ((xs : List X) (x : X) → Q xs → Q (xs ++ x ∷ [])) → (xs : List X) → Q xs
+pub from_end : {X : Type 0} (Q : List X → Type 0) → Q [] → ((xs : List X) (x : X) → Q xs → Q (xs ++ x ∷ []))
+    → (xs : List X) → Q xs
 from_end Q none more xs = rw reverse-reverse at (from_reversed Q none more (reverse xs))
 
-suffix_step : {X : Type 0} (test : X → Bool) (xs : List X) (x : X) → suffix_len test (xs ++ x ∷ []) ≡ cond (test x) (1 + suffix_len test xs) 0
+suffix_step : {X : Type 0} (test : X → Bool) (xs : List X) (x : X)
+    → suffix_len test (xs ++ x ∷ []) ≡ cond (test x) (1 + suffix_len test xs) 0
 suffix_step test xs x = ap (prefix_len test) (reverse-append xs (x ∷ []))
 
-end_passes : {X : Type 0} (test : X → Bool) (xs : List X) (x : X) → test x ≡ true → without_end test (xs ++ x ∷ []) ≡ without_end test xs
+end_passes : {X : Type 0} (test : X → Bool) (xs : List X) (x : X) → test x ≡ true
+    → without_end test (xs ++ x ∷ []) ≡ without_end test xs
 end_passes test xs x t =
     let passed : suffix_len test (xs ++ x ∷ []) ≡ 1 + suffix_len test xs = suffix_step test xs x ∙ rw t refl in
     let few : suffix_len test xs ≤ length xs = suffix_len-le-length test xs in
-    let count : length (xs ++ x ∷ []) - suffix_len test (xs ++ x ∷ []) ≡ length xs - suffix_len test xs = omega (arith, length-append xs (x ∷ [])) in
+    let count : length (xs ++ x ∷ []) - suffix_len test (xs ++ x ∷ []) ≡ length xs - suffix_len test xs =
+    omega (arith, length-append xs (x ∷ [])) in
     let inside : length xs - suffix_len test xs ≤ length xs = omega arith in
     rw count (take-append-le (length xs - suffix_len test xs) xs (x ∷ []) inside)
 
-end_fails : {X : Type 0} (test : X → Bool) (xs : List X) (x : X) → test x ≡ false → without_end test (xs ++ x ∷ []) ≡ xs ++ x ∷ []
+end_fails : {X : Type 0} (test : X → Bool) (xs : List X) (x : X) → test x ≡ false
+    → without_end test (xs ++ x ∷ []) ≡ xs ++ x ∷ []
 end_fails test xs x t =
     let failed : suffix_len test (xs ++ x ∷ []) ≡ 0 = suffix_step test xs x ∙ rw t refl in
     take_all _ (xs ++ x ∷ []) (omega arith)
@@ -89,11 +101,14 @@ no_last : {X : Type 0} (before : List X) (x : X) → [] ≡ before ++ x ∷ [] �
 no_last [] x e = cc
 no_last (y ∷ before) x e = cc
 
-parts_step : {X : Type 0} (test : X → Bool) (xs : List X) (x : X) (b : Bool) → test x ≡ b → EndParts test xs (without_end test xs) → EndParts test (xs ++ x ∷ []) (without_end test (xs ++ x ∷ []))
+parts_step : {X : Type 0} (test : X → Bool) (xs : List X) (x : X) (b : Bool) → test x ≡ b
+    → EndParts test xs (without_end test xs) → EndParts test (xs ++ x ∷ []) (without_end test (xs ++ x ∷ []))
 parts_step test xs x true t parts =
     subst (EndParts test (xs ++ x ∷ [])) (sym (end_passes test xs x t)) (record {
       end = parts.end ++ x ∷ [];
-      passes = All-append (λ y. test y ≡ true) parts.end (x ∷ []) parts.passes (All-cons (λ y. test y ≡ true) x [] t (All-nil (λ y. test y ≡ true)));
+      passes =
+          All-append (λ y. test y ≡ true) parts.end (x ∷ []) parts.passes
+          (All-cons (λ y. test y ≡ true) x [] t (All-nil (λ y. test y ≡ true)));
       whole = ap (λ l. l ++ x ∷ []) parts.whole ∙ append_assoc (without_end test xs) parts.end (x ∷ []);
       fails = parts.fails;
     })
@@ -107,20 +122,32 @@ parts_step test xs x false t parts =
 
 pub end_parts : {X : Type 0} (test : X → Bool) (xs : List X) → EndParts test xs (without_end test xs)
 end_parts test =
-    from_end (λ xs. EndParts test xs (without_end test xs)) (record { end = []; passes = All-nil (λ y. test y ≡ true); whole = refl; fails = λ before x e. absurd (no_last before x e) })
+    from_end (λ xs. EndParts test xs (without_end test xs))
+    (record {
+      end = [];
+      passes = All-nil (λ y. test y ≡ true);
+      whole = refl;
+      fails = λ before x e. absurd (no_last before x e);
+    })
     (λ xs x parts. parts_step test xs x (test x) refl parts)
 
 kept_all : {X : Type 0} (test : X → Bool) (xs : List X) → FailsLast test xs → without_end test xs ≡ xs
-kept_all test = from_end (λ xs. FailsLast test xs → without_end test xs ≡ xs) (λ fails. refl) (λ xs x ih fails. end_fails test xs x (fails xs x refl))
+kept_all test =
+    from_end (λ xs. FailsLast test xs → without_end test xs ≡ xs) (λ fails. refl)
+    (λ xs x ih fails. end_fails test xs x (fails xs x refl))
 
 last_passes : {X : Type 0} (P : X → Type 0) (xs : List X) (x : X) → All P (xs ++ x ∷ []) → All P xs × P x
 last_passes P [] x h = (All-nil P, All-head P x [] h)
-last_passes P (y ∷ xs) x h = let p = last_passes P xs x (All-tail P y (xs ++ x ∷ []) h) in (All-cons P y xs (All-head P y (xs ++ x ∷ []) h) p.0, p.1)
+last_passes P (y ∷ xs) x h =
+    let p = last_passes P xs x (All-tail P y (xs ++ x ∷ []) h) in
+    (All-cons P y xs (All-head P y (xs ++ x ∷ []) h) p.0, p.1)
 
 -- what is kept of a list, whose end passes, is what stands before that
-pub kept_is : {X : Type 0} (test : X → Bool) (kept : List X) → FailsLast test kept → (end : List X) → All (λ x. test x ≡ true) end → without_end test (kept ++ end) ≡ kept
+pub kept_is : {X : Type 0} (test : X → Bool) (kept : List X) → FailsLast test kept → (end : List X)
+    → All (λ x. test x ≡ true) end → without_end test (kept ++ end) ≡ kept
 kept_is test kept fails =
-    from_end (λ end. All (λ x. test x ≡ true) end → without_end test (kept ++ end) ≡ kept) (λ _. ap (without_end test) (append-nil kept) ∙ kept_all test kept fails)
+    from_end (λ end. All (λ x. test x ≡ true) end → without_end test (kept ++ end) ≡ kept)
+    (λ _. ap (without_end test) (append-nil kept) ∙ kept_all test kept fails)
     (λ end x ih passes.
     let p = last_passes (λ y. test y ≡ true) end x passes in
     ap (without_end test) (sym (append_assoc kept end (x ∷ []))) ∙ end_passes test (kept ++ end) x p.1 ∙ ih p.0)

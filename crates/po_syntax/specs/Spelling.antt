@@ -41,15 +41,20 @@ pub data SpellsKeyword : List ℕ → Keyword → List ℕ → Type 0 where
   msgid : {rest : List ℕ} → EndsWord rest → SpellsKeyword (codes "msgid" ++ rest) MsgId rest
   msgid_plural : {rest : List ℕ} → EndsWord rest → SpellsKeyword (codes "msgid_plural" ++ rest) MsgIdPlural rest
   msgstr : {rest : List ℕ} → EndsWord rest → HasNoBracket rest → SpellsKeyword (codes "msgstr" ++ rest) MsgStr rest
-  form : (before inside digits after : List ℕ) {rest : List ℕ} → All IsBlank before → All IsBlank inside → IsNumeral 10 digits → digits_value 10 digits < 2 ^ 32 → All IsBlank after
-      → SpellsKeyword (codes "msgstr" ++ (before ++ 91 ∷ (inside ++ (digits ++ (after ++ 93 ∷ rest))))) (MsgStrAt (digits_value 10 digits)) rest
+  form : (before inside digits after : List ℕ) {rest : List ℕ} → All IsBlank before → All IsBlank inside
+      → IsNumeral 10 digits → digits_value 10 digits < 2 ^ 32 → All IsBlank after
+      → SpellsKeyword (codes "msgstr" ++ (before ++ 91 ∷ (inside ++ (digits ++ (after ++ 93 ∷ rest)))))
+      (MsgStrAt (digits_value 10 digits)) rest
 
 -- keywords and strings, with any blanks before, between and after them
 pub data HoldsTokens (marks : Marks) (line : ℕ) : List ℕ → List TextItem → Type 0 where
   end : HoldsTokens marks line [] []
-  blank : {b : ℕ} {text : List ℕ} {items : List TextItem} → IsBlank b → HoldsTokens marks line text items → HoldsTokens marks line (b ∷ text) items
-  keyword : {word : Keyword} {text rest : List ℕ} {items : List TextItem} → SpellsKeyword text word rest → HoldsTokens marks line rest items → HoldsTokens marks line text (Word word marks line ∷ items)
-  string : {text bytes rest : List ℕ} {items : List TextItem} → SpellsString text bytes rest → HoldsTokens marks line rest items → HoldsTokens marks line (34 ∷ text) (Str bytes marks line ∷ items)
+  blank : {b : ℕ} {text : List ℕ} {items : List TextItem} → IsBlank b → HoldsTokens marks line text items
+      → HoldsTokens marks line (b ∷ text) items
+  keyword : {word : Keyword} {text rest : List ℕ} {items : List TextItem} → SpellsKeyword text word rest
+      → HoldsTokens marks line rest items → HoldsTokens marks line text (Word word marks line ∷ items)
+  string : {text bytes rest : List ℕ} {items : List TextItem} → SpellsString text bytes rest
+      → HoldsTokens marks line rest items → HoldsTokens marks line (34 ∷ text) (Str bytes marks line ∷ items)
 
 -- a byte that after `#` marks another line than a translator's comment: one of `.:,|~`
 pub data IsMark : ℕ → Type 0 where
@@ -83,11 +88,18 @@ marked obsolete previous = record { obsolete = obsolete; previous = previous }
 -- the line of this number holds these items: tokens, alone or after `#|`, `#~` or `#~|`; or a
 -- comment, alone or after `#~`
 pub data HoldsItems (line : ℕ) : List ℕ → List TextItem → Type 0 where
-  indented : {b : ℕ} {text : List ℕ} {items : List TextItem} → IsBlank b → HoldsItems line text items → HoldsItems line (b ∷ text) items
-  comment : {kind : CommentKind} {text rest shown : List ℕ} → SpellsComment text kind rest → IsWithoutReturns rest shown → HoldsItems line (35 ∷ text) (Comment kind shown line ∷ [])
-  obsolete_comment : (blanks : List ℕ) {kind : CommentKind} {text rest shown : List ℕ} → All IsBlank blanks → SpellsComment text kind rest → IsWithoutReturns rest shown
+  indented : {b : ℕ} {text : List ℕ} {items : List TextItem} → IsBlank b → HoldsItems line text items
+      → HoldsItems line (b ∷ text) items
+  comment : {kind : CommentKind} {text rest shown : List ℕ} → SpellsComment text kind rest → IsWithoutReturns rest shown
+      → HoldsItems line (35 ∷ text) (Comment kind shown line ∷ [])
+  obsolete_comment : (blanks : List ℕ) {kind : CommentKind} {text rest shown : List ℕ} → All IsBlank blanks
+      → SpellsComment text kind rest → IsWithoutReturns rest shown
       → HoldsItems line (35 ∷ 126 ∷ (blanks ++ 35 ∷ text)) (Comment kind shown line ∷ [])
-  live : {text : List ℕ} {items : List TextItem} → HoldsTokens (marked false false) line text items → HoldsItems line text items
-  previous : {text : List ℕ} {items : List TextItem} → HoldsTokens (marked false true) line text items → HoldsItems line (35 ∷ 124 ∷ text) items
-  obsolete : {text : List ℕ} {items : List TextItem} → HoldsTokens (marked true false) line text items → HoldsItems line (35 ∷ 126 ∷ text) items
-  obsolete_previous : {text : List ℕ} {items : List TextItem} → HoldsTokens (marked true true) line text items → HoldsItems line (35 ∷ 126 ∷ 124 ∷ text) items
+  live : {text : List ℕ} {items : List TextItem} → HoldsTokens (marked false false) line text items
+      → HoldsItems line text items
+  previous : {text : List ℕ} {items : List TextItem} → HoldsTokens (marked false true) line text items
+      → HoldsItems line (35 ∷ 124 ∷ text) items
+  obsolete : {text : List ℕ} {items : List TextItem} → HoldsTokens (marked true false) line text items
+      → HoldsItems line (35 ∷ 126 ∷ text) items
+  obsolete_previous : {text : List ℕ} {items : List TextItem} → HoldsTokens (marked true true) line text items
+      → HoldsItems line (35 ∷ 126 ∷ 124 ∷ text) items

@@ -8,7 +8,7 @@ ghost use Rattle.po_syntax.specs.TextItem.{TextItem, view, views};
 
 use crate::fault::PoError;
 use crate::item::{Item, Keyword};
-use crate::text::{add_numbered_line, checked, first_line};
+use crate::text::{add_items, first_line, valid_text};
 use std::alloc::Global;
 use std::marker::Model;
 
@@ -107,7 +107,7 @@ impl<'a> Pieces<'a> {
         ensures fault { IfErr result (λ e. TextFault text.now e.kind e.line) }
         ensures memory { IfErr result (λ e. e.kind ≢ PoFault.OutOfMemory) }
     {
-        let text = checked(text)?;
+        let text = valid_text(text)?;
         Ok(Pieces {
             rest: Some(text),
             line: 1,
@@ -152,7 +152,7 @@ impl<'a> Pieces<'a> {
         while let Some(text) = rest {
             let (first, after) = first_line(text);
             let count = items.len();
-            add_numbered_line(alloc, &mut items, first, line)?;
+            add_items(alloc, &mut items, first, line)?;
             if len >= size && ends_entry(&items, count) {
                 items.truncate(count);
                 break;

@@ -1,7 +1,7 @@
 ghost use Rattle.std.specs.Prelude.{◌≡◌, ◌≢◌, ◌+◌, ◌<◌, ◌≤◌, ◌^◌, ◌∷◌, [], length, IfOk, IfErr, IfSome, OnOk, IsUtf8, MatchOption};
 ghost use Rattle.po_syntax.specs.PoText.{TextFault, IsSmall, HasNoNul, line_number, without_byte_order_mark, lines_of};
 ghost use Rattle.po_syntax.specs.Line.{SpellsLine, LineStops};
-ghost use Rattle.po_syntax.specs.CodeView.{AddsItems};
+ghost use Rattle.po_syntax.specs.LineView.{AddsItems};
 
 use crate::fault::{PoError, PoFault};
 use crate::item::Item;
@@ -50,7 +50,7 @@ pub(crate) fn first_line(text: &[u8]) -> (&[u8], Option<&[u8]>)
 }
 
 /// Appends the items of the line with this number, and reports its fault with the number.
-pub(crate) fn add_numbered_line<'a>(
+pub(crate) fn add_items<'a>(
     alloc: Global,
     items: &mut Vec<Item<'a>>,
     text: &'a [u8],
@@ -74,7 +74,7 @@ pub(crate) fn add_numbered_line<'a>(
 
 /// The text after a byte order mark at its start. Refused with `TooLarge`, `NotUtf8` or
 /// `ForbiddenByte`, as `items` is.
-pub(crate) fn checked(text: &[u8]) -> Result<&[u8], PoError>
+pub(crate) fn valid_text(text: &[u8]) -> Result<&[u8], PoError>
     ensures found { IfOk result (λ rest. rest.now ≡ without_byte_order_mark text.now) }
     ensures small { OnOk result (IsSmall text.now) }
     ensures utf8 { OnOk result (IsUtf8 text.now) }

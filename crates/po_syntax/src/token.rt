@@ -1,7 +1,7 @@
 ghost use Rattle.std.specs.Prelude.{◌≡◌, ◌<◌, ◌≤◌, length};
 ghost use Rattle.std.specs.List.{prefix_len};
 ghost use Rattle.po_syntax.specs.Token.{is_blank, is_word_byte, skip_blanks, index_token, bracket_token, keyword_token, token_at};
-ghost use Rattle.po_syntax.specs.CodeView.{IsKeywordOf, IsTokenOf};
+ghost use Rattle.po_syntax.specs.LineView.{IsKeywordOf, IsTokenOf};
 
 use crate::escape::{digit_count, number_of};
 use crate::fault::PoFault;
@@ -11,7 +11,7 @@ use crate::item::Keyword;
 pub(crate) enum Token<'a> {
     /// The line's end.
     LineEnd,
-    /// An opening quote.
+    /// The quote with which a string begins.
     OpeningQuote(&'a [u8]),
     /// A keyword; `msgstr[i]` with its index.
     Keyword(Keyword, &'a [u8]),

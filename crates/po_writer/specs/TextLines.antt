@@ -8,15 +8,19 @@ use Rattle.po_writer.specs.WrittenText.{string_line, text_lines}
 pub data ContainsLines : List ℕ → List (List ℕ) → Type 0 where
   none : ContainsLines [] []
   last : {b : ℕ} {line : List ℕ} → Lacks 10 (b ∷ line) → ContainsLines (b ∷ line) ((b ∷ line) ∷ [])
-  ended : (line : List ℕ) {text : List ℕ} {lines : List (List ℕ)} → Lacks 10 line → ContainsLines text lines → ContainsLines (line ++ 10 ∷ text) ((line ++ 10 ∷ []) ∷ lines)
+  ended : (line : List ℕ) {text : List ℕ} {lines : List (List ℕ)} → Lacks 10 line → ContainsLines text lines
+      → ContainsLines (line ++ 10 ∷ text) ((line ++ 10 ∷ []) ∷ lines)
 
 -- a text without LF, or whose only LF is its last byte, is one string; any other is an empty string,
 -- and then each of its lines is one, after the prefix
 pub data WritesText (prefix : List ℕ) : List ℕ → List ℕ → Type 0 where
   one_line : {line : List ℕ} → Lacks 10 line → WritesText prefix line (string_line [] line)
-  one_ended_line : (line : List ℕ) → Lacks 10 line → WritesText prefix (line ++ 10 ∷ []) (string_line [] (line ++ 10 ∷ []))
-  each_line : (line : List ℕ) (b : ℕ) {text : List ℕ} {lines : List (List ℕ)} → Lacks 10 line → ContainsLines (b ∷ text) lines
-      → WritesText prefix (line ++ 10 ∷ b ∷ text) (string_line [] [] ++ flat_map (string_line prefix) ((line ++ 10 ∷ []) ∷ lines))
+  one_ended_line : (line : List ℕ) → Lacks 10 line
+      → WritesText prefix (line ++ 10 ∷ []) (string_line [] (line ++ 10 ∷ []))
+  each_line : (line : List ℕ) (b : ℕ) {text : List ℕ} {lines : List (List ℕ)} → Lacks 10 line
+      → ContainsLines (b ∷ text) lines
+      → WritesText prefix (line ++ 10 ∷ b ∷ text)
+      (string_line [] [] ++ flat_map (string_line prefix) ((line ++ 10 ∷ []) ∷ lines))
 
 abbrev pub TextsAreWritten : Type 0
 TextsAreWritten = (prefix text : List ℕ) → WritesText prefix text (text_lines prefix text)

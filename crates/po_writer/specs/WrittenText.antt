@@ -17,7 +17,8 @@ string_line prefix text = prefix ++ quoted text ++ 10 ∷ []
 -- an empty string and then one string for each line.
 abbrev pub text_lines : List ℕ → List ℕ → List ℕ
 text_lines prefix text =
-    if nat_lt 1 (length (lines_with_ends text)) then string_line [] [] ++ flat_map (string_line prefix) (lines_with_ends text)
+    if nat_lt 1 (length (lines_with_ends text))
+    then string_line [] [] ++ flat_map (string_line prefix) (lines_with_ends text)
     else string_line [] text
 
 -- a keyword with its text; the prefix stands on each line
@@ -63,7 +64,8 @@ form_lines prefix index (form ∷ forms) =
 -- the only form after `msgstr`, or the plural and the plural forms
 abbrev pub translation_lines : List ℕ → Option (List ℕ) → List (List ℕ) → List ℕ
 translation_lines prefix None forms = flat_map (keyword_lines prefix (codes "msgstr")) forms
-translation_lines prefix (Some plural) forms = keyword_lines prefix (codes "msgid_plural") plural ++ form_lines prefix 0 forms
+translation_lines prefix (Some plural) forms =
+    keyword_lines prefix (codes "msgid_plural") plural ++ form_lines prefix 0 forms
 
 -- an entry's own lines
 abbrev pub own_lines : List ℕ → TextEntry → List ℕ
@@ -75,7 +77,8 @@ own_lines prefix entry =
 abbrev pub entry_lines : TextEntry → List ℕ
 entry_lines entry =
     comment_lines (codes "#") entry.comments ++ comment_lines (codes "#.") entry.extracted
-    ++ elements_line (codes "#: ") (codes " ") entry.references ++ elements_line (codes "#, ") (codes ", ") (all_flags entry.fuzzy entry.flags)
+    ++ elements_line (codes "#: ") (codes " ") entry.references
+    ++ elements_line (codes "#, ") (codes ", ") (all_flags entry.fuzzy entry.flags)
     ++ previous_lines (previous_prefix entry.obsolete) entry.previous ++ own_lines (own_prefix entry.obsolete) entry
 
 -- the live entries in order, then the obsolete ones in order

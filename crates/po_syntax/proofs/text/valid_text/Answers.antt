@@ -2,7 +2,7 @@ use Rattle.std.proofs.Common.{◌∙◌, ap, arith}
 use Rattle.memchr.specs.Find.{is_byte}
 use Rattle.po_syntax.specs.PoText.{line_number, too_large, not_utf8, nul}
 use Rattle.po_syntax.proofs.Searches.{position_found}
-use Rattle.po_syntax.proofs.text.checked.Goals as goal
+use Rattle.po_syntax.proofs.text.valid_text.Goals as goal
 
 pub returns-then-text-gt-MAX_LEN-clause-fault : goal.returns-then-text-gt-MAX_LEN-clause-fault
 returns-then-text-gt-MAX_LEN-clause-fault c = too_large (omega arith)
