@@ -16,7 +16,6 @@ use Rattle.po_entry.specs.Spelling as spelling
 use Rattle.po_entry.proofs.JoinedPieces.{entries_joined}
 use Rattle.po_reader.proofs.Looks.{IsApart}
 use Rattle.po_reader.proofs.RestFaults.{items_stop_after, no_entries, nothing_stops}
-use Rattle.po_reader.proofs.StopFaults.{items_fault}
 use Rattle.po_reader.specs.Faults.{IsReadFault}
 use Rattle.po_reader.specs.Faults as faults
 use Rattle.po_reader.specs.ItemsRead.{ReadsItems, ItemsStop}
@@ -72,7 +71,7 @@ whole_left text left spelt entries read = record {
 
 -- the fault of the items of a text is that of the text
 pub stop_fault : {text : List ℕ} {items : List TextItem} {fault : PoFault} {line : ℕ} → SpellsText text items → ItemsStop items fault line → IsReadFault text fault line
-stop_fault spelt (stops.in_items stopped) = faults.in_items spelt (items_fault stopped)
+stop_fault spelt (stops.in_items stopped) = faults.in_items spelt stopped
 stop_fault spelt (stops.in_texts reads stopped) = faults.in_texts spelt reads stopped
 stop_fault spelt (stops.in_charset reads texts stopped) = faults.in_charset spelt reads texts stopped
 

@@ -1,5 +1,5 @@
 -- The fault of items that stand after items that read as entries.
-use Rattle.std.proofs.Common.{◌≡◌, refl, sym, ap, subst, ◌∙◌, ℕ, List, [], ◌∷◌, ◌++◌, append_assoc}
+use Rattle.std.proofs.Common.{◌≡◌, refl, sym, ap, subst, subst₂, ◌∙◌, inl, inr, ℕ, List, [], ◌∷◌, ◌++◌, append_assoc}
 use Rattle.std.specs.Prelude.{All}
 use Rattle.std.proofs.lemmas.List.Elements.{All-nil, All-head, All-tail, All-append}
 use Rattle.po_syntax.specs.declared.fault.PoFault.{PoFault}
@@ -13,13 +13,17 @@ use Rattle.po_entry.specs.Validity.{HasTexts}
 use Rattle.po_entry.specs.Spelling.{SpellsEntries}
 use Rattle.po_entry.specs.Spelling as spelling
 use Rattle.po_entry.proofs.JoinedPieces.{ends_rest, no_comment_last, entries_joined}
+use Rattle.po_reader.proofs.ItemsFaults.{fault_unread, items_fault_once}
+use Rattle.po_reader.proofs.Spelt.{reads_spelt}
 use Rattle.po_reader.proofs.SpeltReads.{spelt_reads}
+use Rattle.po_reader.proofs.StopFaults.{items_fault}
+use Rattle.po_reader.proofs.Totality.{entries_end}
 use Rattle.po_reader.specs.Faults as faults
 use Rattle.po_reader.specs.ItemsRead.{ReadsItems, ItemsStop}
 use Rattle.po_reader.specs.ItemsRead as items
-use Rattle.po_reader.specs.Stops.{EntriesStop}
-use Rattle.po_reader.specs.Stops as stop
-use Rattle.po_reader.specs.Viable.{last_line}
+use Rattle.po_reader.specs.Steps.Stops.{EntriesStop}
+use Rattle.po_reader.specs.Steps.Stops as stop
+use Rattle.po_reader.specs.Viable.{ItemsFault, last_line}
 use Rattle.po_reader.proofs.Cuts.{head_cut, body_cut}
 use Rattle.po_reader.proofs.Looks.{IsApart, body_starts, forms_end, reads_look}
 use Rattle.po_reader.proofs.OneReading.{reads_or_stop, spelt_once, texts_go_on, charsets_go_on}
@@ -73,11 +77,21 @@ charset_stops_after [] h stops = stops
 charset_stops_after (first ∷ entries) h stops =
     faults.CharsetStops.later (All-head HasAdmittedCharset first entries h) (charset_stops_after entries (All-tail HasAdmittedCharset first entries h) stops)
 
+-- items stop where their fault is
+fault_stops : {items : List TextItem} {fault : PoFault} {line : ℕ} → ItemsFault items fault line
+    → EntriesStop (last_line items) items fault line
+fault_stops {items} {fault} {line} wrong = elim (entries_end (last_line items) items) [
+  | inl found ↦ absurd (fault_unread wrong (reads_spelt found.1))
+  | inr found ↦
+      let same = items_fault_once (items_fault found.2) wrong in
+      subst₂ (λ (f : PoFault) (l : ℕ). EntriesStop (last_line items) items f l) same.0 same.1 found.2
+]
+
 -- the fault of items that begin anew is that of them after items that read
 pub items_stop_after : (front rest : List TextItem) (entries : List TextEntry) {fault : PoFault} {line : ℕ} → ReadsItems front entries → EndsInString front → IsApart rest → ItemsStop rest fault line
     → ItemsStop (front ++ rest) fault line
 items_stop_after front rest entries read ends apart (items.in_items stops) =
-    items.in_items (entries_stop_after front rest (spelt_reads read.reads) ends apart stops)
+    items.in_items (items_fault (entries_stop_after front rest (spelt_reads read.reads) ends apart (fault_stops stops)))
 items_stop_after front rest entries read ends apart (items.in_texts reads stops) =
     items.in_texts (entries_joined read.reads ends reads) (texts_stop_after entries read.texts stops)
 items_stop_after front rest entries read ends apart (items.in_charset {entries = others} reads texts stops) =
@@ -89,8 +103,8 @@ no_entries {entries = entries} read none = spelt_once (subst (λ (x : List TextI
 
 -- no items have no fault
 pub nothing_stops : {fault : PoFault} {line : ℕ} (rest : List TextItem) → rest ≡ [] → ItemsStop rest fault line → ⊥
-nothing_stops rest none (items.in_items {fault = fault} {line = line} stops) =
-    reads_or_stop (comments tt) (subst (λ (x : List TextItem). EntriesStop (last_line rest) x fault line) none stops)
+nothing_stops rest none (items.in_items stops) =
+    fault_unread stops (subst (λ (x : List TextItem). SpellsEntries x []) (sym none) (spelling.comments tt))
 nothing_stops rest none (items.in_texts reads stops) =
     texts_go_on stops (subst (All HasTexts) (sym (no_entries reads none)) (All-nil HasTexts))
 nothing_stops rest none (items.in_charset reads texts stops) =

@@ -13,7 +13,7 @@ use Rattle.std.proofs.lemmas.List.Folds.{list_any-append}
 use Rattle.std.proofs.lemmas.List.Sums.{fold_push}
 use Rattle.po_entry.specs.TextEntry.{texts}
 use Rattle.po_entry.specs.Comments.{is_fuzzy_flag, with_flag}
-use Rattle.po_reader.specs.SeenFlags.{HasFlags}
+use Rattle.po_reader.specs.Steps.SeenFlags.{HasFlags}
 
 pub list_any-texts : (p : List ℕ → Bool) (elements : List (Vec ℕ)) → list_any (λ flag. p flag.items) elements ≡ list_any p (texts elements)
 list_any-texts p [] = refl

@@ -1,4 +1,5 @@
--- How the items of a text, or of a piece of it, are read, and why they aren't. Internal to this crate.
+-- How the items of a text, or of a piece of it, are read, and why they are not (manual, "The Format of
+-- PO Files").
 use Rattle.std.specs.Prelude.{ℕ, List, All}
 use Rattle.po_syntax.specs.declared.fault.PoFault.{PoFault}
 use Rattle.po_syntax.specs.declared.fault.PoFault.TheVariants.{ForeignCharset}
@@ -8,8 +9,7 @@ use Rattle.po_entry.specs.Header.{HasAdmittedCharset}
 use Rattle.po_entry.specs.Validity.{HasTexts}
 use Rattle.po_entry.specs.Spelling.{SpellsEntries}
 use Rattle.po_reader.specs.Faults.{TextsStop, CharsetStops}
-use Rattle.po_reader.specs.Stops.{EntriesStop}
-use Rattle.po_reader.specs.Viable.{last_line}
+use Rattle.po_reader.specs.Viable.{ItemsFault}
 
 -- the items read as these entries
 pub record ReadsItems (items : List TextItem) (entries : List TextEntry) : Type 0 where
@@ -19,6 +19,8 @@ pub record ReadsItems (items : List TextItem) (entries : List TextEntry) : Type 
 
 -- the first fault of items that don't read, with its line
 pub data ItemsStop (items : List TextItem) : PoFault → ℕ → Type 0 where
-  in_items : {fault : PoFault} {line : ℕ} → EntriesStop (last_line items) items fault line → ItemsStop items fault line
-  in_texts : {entries : List TextEntry} {fault : PoFault} {line : ℕ} → SpellsEntries items entries → TextsStop entries fault line → ItemsStop items fault line
-  in_charset : {entries : List TextEntry} {line : ℕ} → SpellsEntries items entries → All HasTexts entries → CharsetStops entries line → ItemsStop items ForeignCharset line
+  in_items : {fault : PoFault} {line : ℕ} → ItemsFault items fault line → ItemsStop items fault line
+  in_texts : {entries : List TextEntry} {fault : PoFault} {line : ℕ} → SpellsEntries items entries
+      → TextsStop entries fault line → ItemsStop items fault line
+  in_charset : {entries : List TextEntry} {line : ℕ} → SpellsEntries items entries → All HasTexts entries
+      → CharsetStops entries line → ItemsStop items ForeignCharset line

@@ -18,4 +18,5 @@ kept_entry false entry = without_comments entry
 -- all comments, or the flags alone
 abbrev pub kept_comments : Bool → List CommentText → List CommentText
 kept_comments true comment_texts = comment_texts
-kept_comments false comment_texts = filter (λ (comment_text : CommentText). same_kind Flags comment_text.kind) comment_texts
+kept_comments false comment_texts =
+    filter (λ (comment_text : CommentText). same_kind Flags comment_text.kind) comment_texts

@@ -1,14 +1,7 @@
-pub mod Strings
-pub mod Keywords
-pub mod Body
-pub mod Head
+pub mod Steps
 pub mod Reads
-pub mod Stops
 pub mod Viable
-pub mod ReaderView
-pub mod HeadView
 pub mod Faults
 pub mod KeptComments
 pub mod ItemsRead
 pub mod PieceRead
-pub mod SeenFlags

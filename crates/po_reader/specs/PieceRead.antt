@@ -4,8 +4,7 @@ use Rattle.std.specs.Prelude.{◌≡◌, ◌≢◌, ◌<◌, ℕ, Bool, false, L
 use Rattle.po_syntax.specs.declared.fault.PoFault.{PoFault}
 use Rattle.po_syntax.specs.declared.fault.PoError.{PoError}
 use Rattle.po_syntax.specs.declared.fault.PoFault.TheVariants.{OutOfMemory}
-use Rattle.po_reader.specs.Faults.{IsReadFault}
-use Rattle.po_reader.specs.Stops.{IsStop}
+use Rattle.po_reader.specs.Faults.{IsReadFault, IsStop}
 use Rattle.po_syntax.specs.LinesLeft.{LinesLeft, SpellsLeft, LeftStops}
 use Rattle.po_syntax.specs.TextItem.{TextItem}
 use Rattle.po_entry.specs.TextEntry.{TextEntry}
@@ -29,7 +28,8 @@ ReadsOn old new entries = (more : List TextEntry) → ReadsLeft new more → Rea
 
 -- the same of entries that are kept with their comments or without
 abbrev pub KeepsReading : Bool → LinesLeft → LinesLeft → List TextEntry → Type 0
-KeepsReading all old new kept = (entries : List TextEntry) × (kept ≡ map (kept_entry all) entries) × ReadsOn old new entries
+KeepsReading all old new kept =
+    (entries : List TextEntry) × (kept ≡ map (kept_entry all) entries) × ReadsOn old new entries
 
 -- the same of entries that are kept without their comments and references
 abbrev pub ReadsMessages : LinesLeft → LinesLeft → List TextEntry → Type 0
@@ -38,13 +38,15 @@ ReadsMessages old new messages =
 
 -- the items read as entries, which are kept with their comments or without
 abbrev pub KeepsItems : Bool → List TextItem → List TextEntry → Type 0
-KeepsItems all items kept = (entries : List TextEntry) × ReadsItems items entries × (kept ≡ map (kept_entry all) entries)
+KeepsItems all items kept =
+    (entries : List TextEntry) × ReadsItems items entries × (kept ≡ map (kept_entry all) entries)
 
 -- The fault of what is left to be read, with its line: that of the first line that has one; or that
 -- of the items.
 pub data IsLeftFault (left : LinesLeft) : PoFault → ℕ → Type 0 where
   in_lines : {fault : PoFault} {line : ℕ} → LeftStops left fault line → IsLeftFault left fault line
-  in_items : {items : List TextItem} {fault : PoFault} {line : ℕ} → SpellsLeft left items → ItemsStop items fault line → IsLeftFault left fault line
+  in_items : {items : List TextItem} {fault : PoFault} {line : ℕ} → SpellsLeft left items → ItemsStop items fault line
+      → IsLeftFault left fault line
 
 -- a fault of a line that is left is one of the lines that were left before
 abbrev pub StopsStay : LinesLeft → LinesLeft → Type 0

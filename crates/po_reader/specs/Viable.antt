@@ -22,13 +22,17 @@ IsOwn (Str bytes marks line) = marks.previous ≡ false
 -- the item under this obsolete mark
 abbrev pub with_obsolete : Bool → TextItem → TextItem
 with_obsolete obsolete (Comment kind text line) = Comment kind text line
-with_obsolete obsolete (Word keyword marks line) = Word keyword (record { obsolete = obsolete; previous = marks.previous }) line
-with_obsolete obsolete (Str bytes marks line) = Str bytes (record { obsolete = obsolete; previous = marks.previous }) line
+with_obsolete obsolete (Word keyword marks line) =
+    Word keyword (record { obsolete = obsolete; previous = marks.previous }) line
+with_obsolete obsolete (Str bytes marks line) =
+    Str bytes (record { obsolete = obsolete; previous = marks.previous }) line
 
--- the item is an own `msgstr` with an index, and one with another index could follow the prefix, under some obsolete mark
+-- the item is an own `msgstr` with an index, and one with another index could follow the prefix,
+-- under some obsolete mark
 abbrev pub IsWrongIndex : List TextItem → TextItem → Type 0
 IsWrongIndex prefix (Word (MsgStrAt index) marks line) =
-    (marks.previous ≡ false) × (other : ℕ) × (obsolete : Bool) × (other ≢ index) × IsViable (prefix ++ Word (MsgStrAt other) (own_marks obsolete) line ∷ [])
+    (marks.previous ≡ false) × (other : ℕ) × (obsolete : Bool) × (other ≢ index)
+    × IsViable (prefix ++ Word (MsgStrAt other) (own_marks obsolete) line ∷ [])
 IsWrongIndex prefix (Word MsgCtxt marks line) = ⊥
 IsWrongIndex prefix (Word MsgId marks line) = ⊥
 IsWrongIndex prefix (Word MsgIdPlural marks line) = ⊥
@@ -56,5 +60,8 @@ last_line (item ∷ next ∷ items) = last_line (next ∷ items)
 -- viable prefix; or, where the items could still become entries and only end too early, BadOrder on
 -- the last line.
 pub data ItemsFault : List TextItem → PoFault → ℕ → Type 0 where
-  at : {prefix : List TextItem} {item : TextItem} (rest : List TextItem) {fault : PoFault} → IsViable prefix → (IsViable (prefix ++ item ∷ []) → ⊥) → Misfit prefix item fault → ItemsFault (prefix ++ item ∷ rest) fault (line_of item)
-  at_end : {items : List TextItem} → IsViable items → ((entries : List TextEntry) → SpellsEntries items entries → ⊥) → ItemsFault items BadOrder (last_line items)
+  at : {prefix : List TextItem} {item : TextItem} (rest : List TextItem) {fault : PoFault} → IsViable prefix
+      → (IsViable (prefix ++ item ∷ []) → ⊥) → Misfit prefix item fault
+      → ItemsFault (prefix ++ item ∷ rest) fault (line_of item)
+  at_end : {items : List TextItem} → IsViable items → ((entries : List TextEntry) → SpellsEntries items entries → ⊥)
+      → ItemsFault items BadOrder (last_line items)

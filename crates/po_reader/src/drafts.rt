@@ -6,9 +6,10 @@ ghost use Rattle.po_reader.specs.Reads.{Reads};
 ghost use Rattle.po_entry.specs.Spelling.{entry_from};
 ghost use Rattle.po_entry.specs.TextEntry.{TextEntry};
 ghost use Rattle.po_reader.specs.KeptComments.{kept_entry};
-ghost use Rattle.po_reader.specs.HeadView.{HoldsHead};
-ghost use Rattle.po_reader.specs.ReaderView.{body_view};
-ghost use Rattle.po_reader.specs.Stops.{IsStop, EntriesStop};
+ghost use Rattle.po_reader.specs.Steps.HeadView.{HoldsHead};
+ghost use Rattle.po_reader.specs.Steps.ReaderView.{body_view};
+ghost use Rattle.po_reader.specs.Faults.{IsStop};
+ghost use Rattle.po_reader.specs.Steps.Stops.{EntriesStop};
 
 use crate::body::{Body, Original, Translation, take_body};
 use crate::flags::flags_of;

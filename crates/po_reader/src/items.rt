@@ -4,10 +4,9 @@ ghost use Rattle.po_syntax.specs.TextItem.{views};
 ghost use Rattle.po_entry.specs.EntryView.{entry_view};
 ghost use Rattle.po_entry.specs.Header.{HasAdmittedCharset};
 ghost use Rattle.po_entry.specs.Validity.{IsEntry, HasTexts};
-ghost use Rattle.po_reader.specs.Faults.{CharsetStops, TextsStop};
+ghost use Rattle.po_reader.specs.Faults.{CharsetStops, IsStop, TextsStop};
 ghost use Rattle.po_reader.specs.ItemsRead.{ReadsItems, ItemsStop};
 ghost use Rattle.po_reader.specs.PieceRead.{KeepsItems};
-ghost use Rattle.po_reader.specs.Stops.{IsStop};
 ghost use Rattle.po_reader.specs.Viable.{last_line};
 
 use crate::drafts::drafts_of;
@@ -17,7 +16,7 @@ use po_syntax::{Item, PoError, PoFault};
 use std::alloc::Global;
 
 /// The entries that items spell, with their comments and references or without.
-pub(crate) fn entries_of(
+pub(crate) fn read_items(
     alloc: Global,
     items: Vec<Item<'_>>,
     with_comments: bool,

@@ -1,7 +1,7 @@
 ghost use Rattle.std.specs.Prelude.{IfOk, IfErr, OnOk};
 ghost use Rattle.po_reader.specs.PieceRead.{ReadsOn, KeepsReading, ReadsMessages, FaultsStay, IsLeftError, IsShorter};
 
-use crate::items::entries_of;
+use crate::items::read_items;
 use po_entry::Catalogue;
 use po_syntax::laws::pieces_are_cut_off;
 use po_syntax::{Pieces, PoError, PoFault};
@@ -56,7 +56,7 @@ fn next_entries(
     let start = pieces.copy();
     let items = pieces.next(alloc, size)?;
     pieces_are_cut_off();
-    match entries_of(alloc, items, with_comments) {
+    match read_items(alloc, items, with_comments) {
         Ok(entries) => Ok(entries),
         Err(error) => match error.kind {
             PoFault::OutOfMemory => Err(error),
@@ -81,5 +81,5 @@ fn all_entries(
 {
     let items = pieces.next(alloc, usize::MAX)?;
     pieces_are_cut_off();
-    entries_of(alloc, items, with_comments)
+    read_items(alloc, items, with_comments)
 }

@@ -1,6 +1,6 @@
 ghost use Rattle.std.specs.Prelude.{◌≡◌, ◌≢◌, ◌<◌, [], ◌∷◌, drop, length, MatchBool, MatchOption};
 ghost use Rattle.po_syntax.specs.TextItem.{line_of, view, views};
-ghost use Rattle.po_reader.specs.Stops.{line_at};
+ghost use Rattle.po_reader.specs.Steps.Stops.{line_at};
 
 use po_syntax::{Item, PoError, PoFault};
 use std::marker::Model;
@@ -32,7 +32,7 @@ impl<'i, 'a> Rest<'i, 'a> {
         Rest { items, at: 0 }
     }
 
-    /// The first item.
+    /// The first item, if one is left.
     pub(crate) fn first(&self) -> Option<&'i Item<'a>>
         ensures { MatchOption result (self.now ≡ []) (λ item. self.now ≡ view item.now ∷ drop 1 self.now) }
     {

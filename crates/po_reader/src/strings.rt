@@ -1,8 +1,9 @@
 ghost use Rattle.std.specs.Prelude.{◌≡◌, ◌≢◌, ◌<◌, length, IfOk, IfErr, OnOk, MatchResult};
-ghost use Rattle.po_reader.specs.Strings.{IsStrings, string_step, begins_string};
+ghost use Rattle.po_reader.specs.Steps.Strings.{IsStrings, string_step, begins_string};
 ghost use Rattle.po_entry.specs.Spelling.{own_marks};
-ghost use Rattle.po_reader.specs.Strings as spec;
-ghost use Rattle.po_reader.specs.Stops.{IsStop, StringsStop};
+ghost use Rattle.po_reader.specs.Steps.Strings as spec;
+ghost use Rattle.po_reader.specs.Faults.{IsStop};
+ghost use Rattle.po_reader.specs.Steps.Stops.{StringsStop};
 
 use crate::rest::Rest;
 use po_syntax::{Item, Marks, PoError, PoFault};

@@ -5,9 +5,9 @@ use Rattle.po_reader.specs.Reads.Reads.{comments, entry}
 use Rattle.po_entry.specs.TextEntry.{TextEntry}
 use Rattle.po_entry.specs.Spelling.{entry_from}
 use Rattle.po_reader.specs.KeptComments.{kept_comments, kept_entry}
-use Rattle.po_reader.specs.ReaderView.{body_view}
+use Rattle.po_reader.specs.Steps.ReaderView.{body_view}
 use Rattle.po_reader.proofs.Kept.{kept_from}
-use Rattle.po_reader.specs.Stops.EntriesStop.{in_head, in_body, later}
+use Rattle.po_reader.specs.Steps.Stops.EntriesStop.{in_head, in_body, later}
 use Rattle.po_reader.proofs.HeadEnds.{head_over, over_cases, head_at_end}
 use Rattle.po_reader.proofs.drafts.drafts_of.Goals as goal
 

@@ -5,7 +5,7 @@ use Rattle.po_entry.specs.TextEntry.{TextEntry}
 use Rattle.po_entry.specs.EntryView.{entry_view}
 use Rattle.po_reader.specs.Reads.{Reads}
 use Rattle.po_reader.specs.KeptComments.{kept_entry}
-use Rattle.po_reader.specs.Stops.{EntriesStop}
+use Rattle.po_reader.specs.Steps.Stops.{EntriesStop}
 use Rattle.po_reader.proofs.drafts.drafts_of.Given as goal
 
 abbrev pub invariant-loop-drafts : goal.invariant-loop-drafts

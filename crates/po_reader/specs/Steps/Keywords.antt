@@ -1,4 +1,4 @@
--- The reader's steps at the keywords of an entry's own lines, each with its text. Internal to this crate.
+-- The reader's steps at the keywords of an entry's own lines, each with its text.
 use Rattle.std.specs.Prelude.{◌≡◌, ℕ, Bool, true, false, ◌==◌, List, [], ◌∷◌, if◌then◌else◌}
 use Rattle.std.specs.Bool.{beq}
 use Rattle.po_syntax.specs.declared.fault.PoFault.{PoFault}
@@ -8,7 +8,7 @@ use Rattle.po_syntax.specs.declared.item.Keyword.TheVariants.{MsgCtxt, MsgId, Ms
 use Rattle.po_syntax.specs.declared.item.Marks.{Marks}
 use Rattle.po_syntax.specs.TextItem.{TextItem, Comment, Word, Str}
 use Rattle.po_entry.specs.Spelling.{own_marks}
-use Rattle.po_reader.specs.Strings.{IsStrings}
+use Rattle.po_reader.specs.Steps.Strings.{IsStrings}
 
 -- What is wanted next of an entry: `msgid`, after a context; `msgstr` or `msgid_plural`, after a
 -- msgid; or the plural form of this index.
@@ -49,11 +49,13 @@ pub data KeywordStep : Type 0 where
   Take : Keyword → ℕ → List TextItem → KeywordStep
   Refuse : PoFault → KeywordStep
 
--- A keyword of an entry whose own lines bear this obsolete mark: the wanted one, under that mark. A form of another index is reported first, then a keyword out of order, then mixed lines.
+-- A keyword of an entry whose own lines bear this obsolete mark: the wanted one, under that mark. A
+-- form of another index is reported first, then a keyword out of order, then mixed lines.
 abbrev pub keyword_step : Wanted → Bool → Keyword → Marks → ℕ → List TextItem → KeywordStep
 keyword_step wanted obsolete keyword marks line rest =
     if marks.previous then Refuse BadOrder
-    else if is_wanted wanted keyword then (if beq obsolete marks.obsolete then Take keyword line rest else Refuse MixedObsolete)
+    else if is_wanted wanted keyword
+    then (if beq obsolete marks.obsolete then Take keyword line rest else Refuse MixedObsolete)
     else if is_wrong_form wanted keyword then Refuse BadPluralIndex
     else Refuse BadOrder
 
@@ -64,6 +66,8 @@ next_keyword wanted obsolete (Word keyword marks line ∷ rest) = keyword_step w
 next_keyword wanted obsolete (Str bytes marks line ∷ rest) = Refuse BadOrder
 
 -- these items begin with a wanted keyword, which has this line and text, and go on with the rest
-pub data IsKeywordText (wanted : Wanted) (obsolete : Bool) : List TextItem → Keyword → ℕ → List ℕ → List TextItem → Type 0 where
-  keyword_text : {items text rest : List TextItem} {keyword : Keyword} {line : ℕ} {bytes : List ℕ} → next_keyword wanted obsolete items ≡ Take keyword line text → IsStrings (own_marks obsolete) text bytes rest
+pub data IsKeywordText (wanted : Wanted) (obsolete : Bool) : List TextItem → Keyword → ℕ → List ℕ → List TextItem
+    → Type 0 where
+  keyword_text : {items text rest : List TextItem} {keyword : Keyword} {line : ℕ} {bytes : List ℕ}
+      → next_keyword wanted obsolete items ≡ Take keyword line text → IsStrings (own_marks obsolete) text bytes rest
       → IsKeywordText wanted obsolete items keyword line bytes rest

@@ -8,4 +8,5 @@ use Rattle.std.specs.BTreeSet.{BTreeSet, contains}
 
 -- the tree has just these flags
 abbrev pub HasFlags : BTreeSet (Bor (List ℕ)) → List (List ℕ) → Type 0
-HasFlags seen flags = (q : Bor (List ℕ)) → contains (λ x y. slice_cmp nat_cmp x.now y.now) seen q ≡ list_any (bytes_eq q.now) flags
+HasFlags seen flags =
+    (q : Bor (List ℕ)) → contains (λ x y. slice_cmp nat_cmp x.now y.now) seen q ≡ list_any (bytes_eq q.now) flags

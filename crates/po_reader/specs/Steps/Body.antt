@@ -1,12 +1,12 @@
--- The reader's steps through an entry's own lines, from its context or msgid to its last form. Internal to this crate.
+-- The reader's steps through an entry's own lines, from its context or msgid to its last form.
 use Rattle.std.specs.Prelude.{◌≡◌, ℕ, ◌+◌, Bool, true, false, not, List, [], ◌∷◌, Option, Some, None, if◌then◌else◌}
 use Rattle.po_syntax.specs.declared.item.Keyword.{Keyword}
 use Rattle.po_syntax.specs.declared.item.Keyword.TheVariants.{MsgCtxt, MsgId, MsgIdPlural, MsgStr, MsgStrAt}
 use Rattle.po_syntax.specs.TextItem.{TextItem, Comment, Word, Str}
 use Rattle.po_entry.specs.Parts.{Body}
 use Rattle.po_entry.specs.Spelling.{own_marks}
-use Rattle.po_reader.specs.Strings.{IsStrings}
-use Rattle.po_reader.specs.Keywords.{Id, Translation, Form, IsKeywordText}
+use Rattle.po_reader.specs.Steps.Strings.{IsStrings}
+use Rattle.po_reader.specs.Steps.Keywords.{Id, Translation, Form, IsKeywordText}
 
 -- a `msgstr[i]` stands first, and not on a line of previous texts
 abbrev pub begins_form : List TextItem → Bool
@@ -21,18 +21,26 @@ begins_form (Str bytes marks line ∷ rest) = false
 
 -- these items begin with the plural forms from this index on, all that follow each other, and go on with the rest
 pub data IsForms (obsolete : Bool) : ℕ → List TextItem → List (List ℕ) → List TextItem → Type 0 where
-  last : {index line : ℕ} {keyword : Keyword} {items rest : List TextItem} {form : List ℕ} → IsKeywordText (Form index) obsolete items keyword line form rest → begins_form rest ≡ false → IsForms obsolete index items (form ∷ []) rest
-  more : {index line : ℕ} {keyword : Keyword} {items after rest : List TextItem} {form : List ℕ} {forms : List (List ℕ)} → IsKeywordText (Form index) obsolete items keyword line form after → begins_form after ≡ true
+  last : {index line : ℕ} {keyword : Keyword} {items rest : List TextItem} {form : List ℕ}
+      → IsKeywordText (Form index) obsolete items keyword line form rest → begins_form rest ≡ false
+      → IsForms obsolete index items (form ∷ []) rest
+  more : {index line : ℕ} {keyword : Keyword} {items after rest : List TextItem} {form : List ℕ} {forms : List (List ℕ)}
+      → IsKeywordText (Form index) obsolete items keyword line form after → begins_form after ≡ true
       → IsForms obsolete (index + 1) after forms rest → IsForms obsolete index items (form ∷ forms) rest
 
 -- these items begin with what follows a msgid: its only form, or its plural and then the plural
 -- forms from index 0 on; and they go on with the rest
-pub data IsTranslation (obsolete : Bool) : List TextItem → Option (List ℕ) → List (List ℕ) → List TextItem → Type 0 where
-  single : {line : ℕ} {items rest : List TextItem} {form : List ℕ} → IsKeywordText Translation obsolete items MsgStr line form rest → IsTranslation obsolete items None (form ∷ []) rest
-  plural : {line : ℕ} {items after rest : List TextItem} {plural : List ℕ} {forms : List (List ℕ)} → IsKeywordText Translation obsolete items MsgIdPlural line plural after → IsForms obsolete 0 after forms rest
+pub data IsTranslation (obsolete : Bool) : List TextItem → Option (List ℕ) → List (List ℕ) → List TextItem
+    → Type 0 where
+  single : {line : ℕ} {items rest : List TextItem} {form : List ℕ}
+      → IsKeywordText Translation obsolete items MsgStr line form rest
+      → IsTranslation obsolete items None (form ∷ []) rest
+  plural : {line : ℕ} {items after rest : List TextItem} {plural : List ℕ} {forms : List (List ℕ)}
+      → IsKeywordText Translation obsolete items MsgIdPlural line plural after → IsForms obsolete 0 after forms rest
       → IsTranslation obsolete items (Some plural) forms rest
 
--- What stands where an entry's own lines may begin: `msgctxt`, or `msgid` with its line; or something else. The first keyword's obsolete mark is the entry's.
+-- What stands where an entry's own lines may begin: `msgctxt`, or `msgid` with its line; or
+-- something else. The first keyword's obsolete mark is the entry's.
 pub data Start : Type 0 where
   WithContext : Bool → List TextItem → Start
   WithoutContext : Bool → ℕ → List TextItem → Start
@@ -50,9 +58,15 @@ body_start (Str bytes marks line ∷ rest) = NoStart
 
 -- these items begin with an entry's own lines, and go on with the rest
 pub data IsBody : List TextItem → Body → List TextItem → Type 0 where
-  without_context : {obsolete : Bool} {line : ℕ} {items text after rest : List TextItem} {id : List ℕ} {plural : Option (List ℕ)} {forms : List (List ℕ)} → body_start items ≡ WithoutContext obsolete line text
+  without_context : {obsolete : Bool} {line : ℕ} {items text after rest : List TextItem} {id : List ℕ}
+      {plural : Option (List ℕ)} {forms : List (List ℕ)} → body_start items ≡ WithoutContext obsolete line text
       → IsStrings (own_marks obsolete) text id after → IsTranslation obsolete after plural forms rest
-      → IsBody items (record { context = None; id = id; plural = plural; forms = forms; obsolete = obsolete; line = line }) rest
-  with_context : {obsolete : Bool} {keyword : Keyword} {line : ℕ} {items text middle after rest : List TextItem} {context id : List ℕ} {plural : Option (List ℕ)} {forms : List (List ℕ)} → body_start items ≡ WithContext obsolete text
-      → IsStrings (own_marks obsolete) text context middle → IsKeywordText Id obsolete middle keyword line id after → IsTranslation obsolete after plural forms rest
-      → IsBody items (record { context = Some context; id = id; plural = plural; forms = forms; obsolete = obsolete; line = line }) rest
+      → IsBody items
+      (record { context = None; id = id; plural = plural; forms = forms; obsolete = obsolete; line = line }) rest
+  with_context : {obsolete : Bool} {keyword : Keyword} {line : ℕ} {items text middle after rest : List TextItem}
+      {context id : List ℕ} {plural : Option (List ℕ)} {forms : List (List ℕ)}
+      → body_start items ≡ WithContext obsolete text
+      → IsStrings (own_marks obsolete) text context middle → IsKeywordText Id obsolete middle keyword line id after
+      → IsTranslation obsolete after plural forms rest
+      → IsBody items
+      (record { context = Some context; id = id; plural = plural; forms = forms; obsolete = obsolete; line = line }) rest

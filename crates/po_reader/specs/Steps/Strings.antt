@@ -1,4 +1,5 @@
--- The reader's steps through the quoted strings of one text: one or more, directly after their keyword and under its marks, joined. Internal to this crate.
+-- The reader's steps through the quoted strings of one text: one or more, directly after their
+-- keyword and under its marks, joined.
 use Rattle.std.specs.Prelude.{◌≡◌, ℕ, Bool, true, false, ◌&&◌, ◌||◌, List, [], ◌∷◌, ◌++◌, if◌then◌else◌}
 use Rattle.std.specs.Bool.{beq}
 use Rattle.po_syntax.specs.declared.fault.PoFault.{PoFault}
@@ -34,6 +35,8 @@ begins_string (Str bytes marks line ∷ rest) = true
 
 -- these items begin with the strings of a text under these marks, all that follow each other, and go on with the rest
 pub data IsStrings (marks : Marks) : List TextItem → List ℕ → List TextItem → Type 0 where
-  last : {items rest : List TextItem} {bytes : List ℕ} → string_step marks items ≡ Take bytes rest → begins_string rest ≡ false → IsStrings marks items bytes rest
-  more : {items after rest : List TextItem} {bytes others : List ℕ} → string_step marks items ≡ Take bytes after → begins_string after ≡ true → IsStrings marks after others rest
+  last : {items rest : List TextItem} {bytes : List ℕ} → string_step marks items ≡ Take bytes rest
+      → begins_string rest ≡ false → IsStrings marks items bytes rest
+  more : {items after rest : List TextItem} {bytes others : List ℕ} → string_step marks items ≡ Take bytes after
+      → begins_string after ≡ true → IsStrings marks after others rest
       → IsStrings marks items (bytes ++ others) rest

@@ -1,4 +1,4 @@
--- What contracts see of a head while it is read. Internal to this crate.
+-- What contracts see of a head while it is read.
 use Rattle.std.specs.Prelude.{◌≡◌, List}
 use Rattle.po_reader.specs.declared.head.Head.{Head}
 use Rattle.po_entry.specs.TextEntry.{texts}

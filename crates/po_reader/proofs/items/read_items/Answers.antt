@@ -7,19 +7,20 @@ use Rattle.po_entry.specs.EntryView.{entry_view}
 use Rattle.po_entry.specs.Validity.{HasTexts}
 use Rattle.po_entry.specs.TextEntry.{TextEntry}
 use Rattle.po_reader.proofs.Spelt.{reads_spelt}
+use Rattle.po_reader.proofs.StopFaults.{items_fault}
 use Rattle.po_reader.specs.Faults.{CharsetStops, TextsStop}
 use Rattle.po_reader.specs.ItemsRead.{in_items, in_texts, in_charset}
 use Rattle.po_reader.proofs.KeptEntries.{kept_sound, kept_texts, kept_admitted, kept_texts_stop, kept_charset_stops}
 use Rattle.po_reader.proofs.SoundCatalogue.{SoundEntry, entries_sound, drafts_valid}
 use Rattle.po_reader.proofs.NoMemory.{texts_reported}
 use Rattle.po_reader.proofs.Results.{ok_both, ok_step, err_step}
-use Rattle.po_reader.proofs.items.entries_of.Goals as goal
+use Rattle.po_reader.proofs.items.read_items.Goals as goal
 
 pub returns-in_err-drafts-clause-fault : goal.returns-in_err-drafts-clause-fault
 returns-in_err-drafts-clause-fault c =
     let p = err_from_is_err_and c.from_residual.result c.from_residual.ensures.1 in
     let stops = rw (c.last_line.ensures, c.deref.ensures.value, c.deref-2.ensures.value) at c.in_err-drafts.ensures.fault in
-    rw (p.1, p.2) (λ other. in_items (stops other))
+    rw (p.1, p.2) (λ other. in_items (items_fault (stops other)))
 
 pub returns-in_err-check_drafts-clause-fault : goal.returns-in_err-check_drafts-clause-fault
 returns-in_err-check_drafts-clause-fault c =
