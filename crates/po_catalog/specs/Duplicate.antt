@@ -39,7 +39,11 @@ pub record IsFirstDuplicate (entries : List InputEntry) (first later : InputEntr
 
 -- what is reported of a duplicate: where the later entry stands, and where the first
 abbrev pub duplicate_fault : InputEntry → InputEntry → JoinError
-duplicate_fault first later = record { input = later.input; first_input = first.input; error = record { kind = Duplicate first.entry.line; line = later.entry.line } }
+duplicate_fault first later = record {
+  input = later.input;
+  first_input = first.input;
+  error = record { kind = Duplicate first.entry.line; line = later.entry.line };
+}
 
 -- out of memory, which has no line and no input
 abbrev pub join_out_of_memory : JoinError
@@ -48,10 +52,12 @@ join_out_of_memory = record { input = 0; first_input = 0; error = out_of_memory 
 -- why a joined list is refused: its first duplicate, or out of memory
 abbrev pub IsDuplicateFault : List InputEntry → JoinError → Type 0
 IsDuplicateFault entries error =
-    (error ≡ join_out_of_memory) ⊎ ((first later : InputEntry) × IsFirstDuplicate entries first later × (error ≡ duplicate_fault first later))
+    (error ≡ join_out_of_memory)
+    ⊎ ((first later : InputEntry) × IsFirstDuplicate entries first later × (error ≡ duplicate_fault first later))
 
 -- why the entries of one catalogue are refused
 abbrev pub IsDuplicateFaultOf : List TextEntry → PoError → Type 0
 IsDuplicateFaultOf entries error =
     (error ≡ out_of_memory)
-    ⊎ ((first later : InputEntry) × IsFirstDuplicate (map (in_input 0) entries) first later × (error ≡ (duplicate_fault first later).error))
+    ⊎ ((first later : InputEntry) × IsFirstDuplicate (map (in_input 0) entries) first later
+    × (error ≡ (duplicate_fault first later).error))

@@ -29,7 +29,8 @@ kept_entries headed entries = if headed then filter (λ e. not (is_live_header e
 abbrev pub joined_from : ℕ → Bool → List (List TextEntry) → List InputEntry
 joined_from input headed [] = []
 joined_from input headed (entries ∷ inputs) =
-    map (in_input input) (kept_entries headed entries) ++ joined_from (input + 1) (headed || list_any is_live_header entries) inputs
+    map (in_input input) (kept_entries headed entries)
+    ++ joined_from (input + 1) (headed || list_any is_live_header entries) inputs
 
 -- the entries of all inputs in order, without the live headers of an input if an earlier input has
 -- a live header

@@ -15,7 +15,8 @@ has_empty_first_form e = bytes_eq (first_form e.forms) []
 -- each live entry but the header is counted once
 abbrev pub CountsAddUp : List TextEntry → Type 0
 CountsAddUp entries =
-    (stats_of entries).translated + (stats_of entries).fuzzy + (stats_of entries).untranslated ≡ length (live_messages entries)
+    (stats_of entries).translated + (stats_of entries).fuzzy + (stats_of entries).untranslated
+    ≡ length (live_messages entries)
 
 -- the untranslated ones are those with an empty first form, whether they are fuzzy or not
 abbrev pub EmptyAreUntranslated : List TextEntry → Type 0

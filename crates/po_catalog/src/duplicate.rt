@@ -21,7 +21,7 @@ pub struct JoinError {
     pub input: u32,
     /// For a duplicate the input of the earlier entry, else `input`.
     pub first_input: u32,
-    /// The fault.
+    /// The fault, on the line of the later entry.
     pub error: PoError,
 }
 

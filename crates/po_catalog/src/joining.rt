@@ -12,7 +12,7 @@ use std::alloc::{AllocError, Global};
 pub struct JoinedEntry<'a> {
     /// The input, counted from 0.
     pub input: u32,
-    /// The entry.
+    /// The entry, in the catalogue of that input.
     pub entry: &'a Entry,
 }
 

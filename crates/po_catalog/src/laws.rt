@@ -73,7 +73,7 @@ pub fn one_number_is_one_message()
         ↔ (get_or messages i d ≡ get_or messages j d) }
 {}
 
-/// The number of a message is its place among the different messages before it, in order of first
+/// The number of a message is its index among the different messages before it, in order of first
 /// appearance; where none of them is that message, it is how many there are.
 pub fn messages_are_numbered_in_order()
     ensures { (messages : List Message) (i : ℕ) (d : Message) → i < length messages

@@ -12,9 +12,9 @@ use std::hash::{BuildHasher, DefaultHasher, Hash, Hasher};
 /// Format of PO Files").
 #[derive(Clone, Copy, Debug, PartialEq, Eq)]
 pub struct MessageKey<'a> {
-    /// The context.
+    /// What stands in `msgctxt`, where the message has one.
     pub context: Option<&'a [u8]>,
-    /// The msgid.
+    /// What stands in `msgid`.
     pub id: &'a [u8],
 }
 
@@ -99,9 +99,9 @@ pub fn grouped(alloc: Global, keys: &[MessageKey<'_>]) -> Result<Vec<usize>, All
 /// A key that repeats an earlier one.
 #[derive(Clone, Copy, Debug, PartialEq, Eq)]
 pub struct Repeat {
-    /// The place of the earlier key, counted from 0.
+    /// The index of the earlier key.
     pub first: usize,
-    /// The place of the key that repeats it.
+    /// The index of the key that repeats it.
     pub later: usize,
 }
 
