@@ -35,7 +35,7 @@ pub use text_tools::{
     run_msgattrib, selection_of,
 };
 pub use tool_runs::{
-    Arguments, EnvsubstArguments, GettextArguments, Input, InputFault, InputSource, Inputs,
-    NgettextArguments, OutputFault, OutputTarget, ProgramFault, Run, STANDARD, STDIN_NAME, deliver,
-    read_one, read_whole, report_fault, shown_name, write_run, write_whole,
+    Arguments, EnvsubstArguments, FileKind, GettextArguments, Input, InputFault, InputSource,
+    Inputs, NgettextArguments, NotMade, OutputFault, OutputFiles, ProgramFault, Run, STANDARD,
+    STDIN_NAME, deliver, read_one, read_whole, report_fault, shown_name, write_run,
 };

@@ -1,15 +1,21 @@
 //! Inputs by their names, and outputs.
 use po_shell::Counted;
 use std::alloc::Global;
-use std::fs::{self, OpenFile};
-use std::io::{self, Input, Print, Write};
+use std::fs::{self, File, OpenFile, OpenOptions, Permissions};
+use std::io::{self, ErrorKind, Input, Print, Write};
+use std::os::fd::IntoRawFd;
+use std::os::unix::fs::{MetadataExt, OpenOptionsExt, PermissionsExt};
 use std::rt::Files;
 use tool_runs::{
-    InputFault, InputSource, OutputFault, OutputTarget, ProgramFault, Run, read_whole, write_whole,
+    FileKind, InputFault, InputSource, NotMade, OutputFault, OutputFiles, ProgramFault, Run,
+    read_whole,
 };
 
 /// The length of an input where it isn't known.
 const UNKNOWN_LEN: u64 = 0;
+
+/// The bits of a mode that say who may do what with a file.
+const PERMISSION_BITS: u32 = 0o7777;
 
 /// Where the inputs of the program are read from.
 #[derive(Drop)]
@@ -60,41 +66,93 @@ pub(crate) fn read_named(
     }
 }
 
-/// Where the output of the program is written, and its standard error.
+/// The files of the system, as outputs are made.
 #[derive(Drop)]
-pub(crate) struct Outputs<'r, R, E> {
-    system: &'r R,
-    errors: E,
-}
+struct SystemFiles<'r, R>(&'r R);
 
-// No contract can say what a file or a stream takes.
-impl<'r, R: Files + Print, E: Write + Drop> OutputTarget for Outputs<'r, R, E> {
-    ghost file = { λ _ _ _ _. Unit {0} };
+// No contract can say what a file of the system holds, so the log of the calls isn't known.
+impl<'r, R: Files<File = File>> OutputFiles for SystemFiles<'r, R> {
+    ghost use Rattle.std.specs.Prelude.{◌≡◌, ◌∷◌, [], None};
+    ghost use Rattle.po_shell.specs.Counted.{counted_failures};
+    ghost use Rattle.tool_runs.specs.FileCalls.{closes, logged};
 
-    ghost standard = { λ _ _ _. Unit {0} };
+    type File = File;
 
-    fn write_file(self, run: &Run, name: &str) -> Result<(), OutputFault> {
-        match fs::create(self.system, name) {
-            Ok(file) => {
-                let (_, _) = write_whole(run, file, self.errors)?;
-                Ok(())
+    ghost log = { λ _. None };
+
+    fn kind(&mut self, path: &str) -> FileKind {
+        match fs::metadata(self.0, path) {
+            Ok(found) if found.is_file() && found.nlink() > 0 => {
+                FileKind::Regular(Some(found.mode() & PERMISSION_BITS))
             }
-            Err(_) => Err(OutputFault::CannotCreate),
+            Ok(_) => FileKind::Special,
+            Err(error) if error.kind() == ErrorKind::NotFound => FileKind::Regular(None),
+            Err(_) => FileKind::Unknown,
         }
     }
 
-    fn write_standard(self, run: &Run) -> Result<(), OutputFault> {
-        let (_, _) = write_whole(run, io::writer(self.system), self.errors)?;
-        Ok(())
+    fn link(&mut self, alloc: Global, path: &str) -> Result<Option<String>, OutputFault> {
+        match self.0.read_link(alloc, path) {
+            Ok(target) => Ok(Some(target.into_string())),
+            Err(error) => match error.kind() {
+                ErrorKind::InvalidInput | ErrorKind::NotFound => Ok(None),
+                ErrorKind::OutOfMemory => Err(OutputFault::OutOfMemory),
+                _ => Err(OutputFault::CannotCreate),
+            },
+        }
+    }
+
+    fn create_new(&mut self, path: &str, mode: u32) -> Result<File, NotMade> {
+        let mut options = OpenOptions::new();
+        options.write(true).create_new(true).mode(mode);
+        options
+            .open(self.0, path)
+            .map_err(|error| match error.kind() {
+                ErrorKind::AlreadyExists => NotMade::Exists,
+                ErrorKind::PermissionDenied | ErrorKind::ReadOnlyFilesystem => NotMade::Forbidden,
+                _ => NotMade::Failed,
+            })
+    }
+
+    fn set_mode(&mut self, file: &File, mode: u32) -> bool {
+        file.set_permissions(Permissions::from_mode(mode)).is_ok()
+    }
+
+    fn open(&mut self, path: &str) -> Option<File> {
+        let mut options = OpenOptions::new();
+        options.write(true).truncate(true);
+        options.open(self.0, path).ok()
+    }
+
+    fn close(&mut self, file: Counted<File>) -> bool
+        ensures { None ≡ logged (closes None (counted_failures file) result ∷ []) None }
+    {
+        libc::close(file.into_inner().into_raw_fd()) == 0
+    }
+
+    fn rename(&mut self, from: &str, to: &str) -> bool {
+        self.0.rename(from, to).is_ok()
+    }
+
+    fn remove(&mut self, path: &str) {
+        let _ = self.0.remove_file(path);
     }
 }
 
 /// Writes the output and the messages of a run, and returns its status.
-pub(crate) fn write_run<'a, R: Files + Print, E: Write + Drop>(
+pub(crate) fn write_run<'a, R: Files<File = File> + Print, E: Write + Drop>(
+    alloc: Global,
     rt: &R,
     errors: E,
     run: &Run,
     file: &'a str,
 ) -> Result<u8, ProgramFault<'a>> {
-    tool_runs::write_run(Outputs { system: rt, errors }, run, file)
+    tool_runs::write_run(
+        alloc,
+        &mut SystemFiles(rt),
+        &mut Counted::new(io::writer(rt)),
+        &mut Counted::new(errors),
+        run,
+        file,
+    )
 }

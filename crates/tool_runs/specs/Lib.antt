@@ -3,6 +3,8 @@ pub mod ProgramFaults
 pub mod FaultText
 pub mod Inputs
 pub mod NamedFile
+pub mod FileCalls
+pub mod OutputFiles
 pub mod Outputs
 pub mod Positional
 pub mod PositionalView

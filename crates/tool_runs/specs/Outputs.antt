@@ -1,28 +1,56 @@
--- Where a run is written: to the file that is made for its output, or to standard output, and then to standard error.
-use Rattle.std.specs.Prelude.{◌≡◌, ◌++◌, ℕ, List, Option, Some, None, codes}
-use Rattle.tool_runs.specs.declared.outputs.OutputFault.{OutputFault}
-use Rattle.tool_runs.specs.declared.outputs.OutputFault.TheVariants.{CannotCreate, WriteFault}
-use Rattle.tool_runs.specs.Run.{RunView, output_file}
+-- Where a run is written: to its output file, or to standard output, and then to standard error.
+use Rattle.std.specs.Prelude.{◌≡◌, ◌+◌, ◌++◌, ℕ, List, Option, Some, None, codes}
+use Rattle.std.specs.Io.KnownBytes.{Appends}
+use Rattle.po_shell.specs.Device.{AppendsPrefix}
+use Rattle.tool_runs.specs.declared.output_files.OutputFault.{OutputFault}
+use Rattle.tool_runs.specs.declared.output_files.OutputFault.TheVariants.{CannotCreate, WriteFault, OutOfMemory}
+use Rattle.tool_runs.specs.FileCalls.{FileLog, Calls}
+use Rattle.tool_runs.specs.OutputFiles.{WritesFile}
+use Rattle.tool_runs.specs.Run.{RunView, DeliversPrefix}
 
--- what writing a run comes to: to the file of this name, or to standard output where there is no
--- name
-abbrev pub WritesTo : (List ℕ → RunView → Option OutputFault → Type 0) → (RunView → Option OutputFault → Type 0) → Option (List ℕ) → RunView → Option OutputFault
-    → Type 0
-WritesTo file standard None run outcome = standard run outcome
-WritesTo file standard (Some name) run outcome = file name run outcome
+-- how many links are followed at most from the argument for an output file
+abbrev pub link_limit : ℕ
+link_limit = 40
 
--- what writing a run comes to, by the argument for its output
-abbrev pub Writes : (List ℕ → RunView → Option OutputFault → Type 0) → (RunView → Option OutputFault → Type 0) → List ℕ → RunView → Option OutputFault → Type 0
-Writes file standard argument run outcome = WritesTo file standard (output_file run argument) run outcome
+-- what clauses see of a writer: its bytes, and how many of its calls failed
+abbrev pub WriterView : Type 0
+WriterView = Option (List ℕ) × ℕ
+
+-- a writer took all of these bytes
+abbrev pub Takes : WriterView → WriterView → List ℕ → Type 0
+Takes old new bytes = Appends old.0 new.0 bytes × (new.1 ≡ old.1)
+
+-- a writer took a prefix of these bytes, and then a call failed
+abbrev pub Fails : WriterView → WriterView → List ℕ → Type 0
+Fails old new bytes = AppendsPrefix old.0 new.0 bytes × (new.1 ≡ old.1 + 1)
+
+-- what writing a run to the file of this name comes to, and why it isn't written, where it isn't
+pub data MakesFile (run : RunView) (files files' : FileLog) (err err' : WriterView) (name : List ℕ) : Option OutputFault → Type 0 where
+  made : Calls files files' (λ calls. WritesFile run.output link_limit name calls None) → Takes err err' run.messages
+      → MakesFile run files files' err err' name None
+  unreported : Calls files files' (λ calls. WritesFile run.output link_limit name calls None) → Fails err err' run.messages
+      → MakesFile run files files' err err' name (Some WriteFault)
+  unmade : {why : OutputFault} → Calls files files' (λ calls. WritesFile run.output link_limit name calls (Some why)) → err' ≡ err
+      → MakesFile run files files' err err' name (Some why)
+
+-- what writing a run comes to, by the name of its output file, where it has one, and why it isn't
+-- written, where it isn't
+pub data WritesRun (run : RunView) (files files' : FileLog) (out out' err err' : WriterView) : Option (List ℕ) → Option OutputFault → Type 0 where
+  delivered : files' ≡ files → Appends out.0 out'.0 run.output → Appends err.0 err'.0 run.messages → out'.1 ≡ out.1 → err'.1 ≡ err.1
+      → WritesRun run files files' out out' err err' None None
+  cut : files' ≡ files → DeliversPrefix out.0 out'.0 err.0 err'.0 run → out'.1 + err'.1 ≡ out.1 + err.1 + 1
+      → WritesRun run files files' out out' err err' None (Some WriteFault)
+  to_file : {name : List ℕ} {outcome : Option OutputFault} → out' ≡ out → MakesFile run files files' err err' name outcome
+      → WritesRun run files files' out out' err err' (Some name) outcome
 
 -- what is wrong where a run isn't written
 abbrev pub output_fault_text : List ℕ → OutputFault → List ℕ
 output_fault_text argument CannotCreate = argument ++ codes ": cannot create"
 output_fault_text argument WriteFault = codes "write fault"
+output_fault_text argument OutOfMemory = codes "out of memory"
 
 -- the run isn't written, and this is what is wrong
-pub record IsOutputFault (file : List ℕ → RunView → Option OutputFault → Type 0) (standard : RunView → Option OutputFault → Type 0)
-    (argument : List ℕ) (run : RunView) (text : List ℕ) : Type 0 where
+pub record IsOutputFault (Writes : Option OutputFault → Type 0) (argument text : List ℕ) : Type 0 where
   pub why : OutputFault
-  pub writes : Writes file standard argument run (Some why)
+  pub writes : Writes (Some why)
   pub text_is : text ≡ output_fault_text argument why

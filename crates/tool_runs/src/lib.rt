@@ -1,14 +1,17 @@
 //! What the tools of pokit share: what a run comes to and how it is delivered, inputs and outputs,
 //! options and arguments, and the lines of faults.
 //!
-//! The modules in reading order: `run`, `program_fault`, `fault_text`, `inputs`, `outputs`,
-//! `arguments`, `positional`.
+//! The modules in reading order: `run`, `program_fault`, `fault_text`, `inputs`, `output_files`,
+//! `output_paths`, `output_writing`, `outputs`, `arguments`, `positional`.
 
 #![tactic(auto)]
 
 mod arguments;
 mod fault_text;
 mod inputs;
+mod output_files;
+mod output_paths;
+mod output_writing;
 mod outputs;
 mod positional;
 mod program_fault;
@@ -17,7 +20,8 @@ mod run;
 pub use arguments::Arguments;
 pub use fault_text::{push_location, push_mo_text, push_numbered, push_po_text};
 pub use inputs::{Input, InputFault, InputSource, Inputs, read_one, read_whole};
-pub use outputs::{OutputFault, OutputTarget, write_run, write_whole};
+pub use output_files::{FileKind, NotMade, OutputFault, OutputFiles};
+pub use outputs::write_run;
 pub use positional::{EnvsubstArguments, GettextArguments, NgettextArguments};
 pub use program_fault::{ProgramFault, report_fault};
 pub use run::{Run, STANDARD, STDIN_NAME, deliver, refused, shown_name};

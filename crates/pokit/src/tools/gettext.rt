@@ -4,12 +4,13 @@ use clap::ArgMatches;
 use look_up_tools::{GettextOptions, borrowed_catalogues, find_catalogues, plan_gettext};
 use std::alloc::Global;
 use std::env::Env;
+use std::fs::File;
 use std::io::{Input, Print, Write};
 use std::rt::Files;
 use tool_runs::{GettextArguments, ProgramFault, STANDARD};
 
 /// Runs `pokit gettext` and gives its status.
-pub(crate) fn run<'a, R: Files + Env + Input + Print, E: Write + Drop>(
+pub(crate) fn run<'a, R: Files<File = File> + Env + Input + Print, E: Write + Drop>(
     alloc: Global,
     rt: &R,
     errors: E,
@@ -33,5 +34,5 @@ pub(crate) fn run<'a, R: Files + Env + Input + Print, E: Write + Drop>(
     };
     let borrowed = borrowed_catalogues(alloc, found.as_slice())?;
     let run = plan_gettext(alloc, borrowed.as_slice(), &options)?;
-    write_run(rt, errors, &run, STANDARD)
+    write_run(alloc, rt, errors, &run, STANDARD)
 }

@@ -3,13 +3,14 @@ use crate::files::{read_one, write_run};
 use crate::options::Options;
 use clap::ArgMatches;
 use std::alloc::Global;
+use std::fs::File;
 use std::io::{Input, Print, Write};
 use std::rt::Files;
 use text_tools::{plan_msgattrib, selection_of};
 use tool_runs::{ProgramFault, STANDARD, shown_name};
 
 /// Runs `pokit msgattrib` and gives its status.
-pub(crate) fn run<'a, R: Files + Input + Print, E: Write + Drop>(
+pub(crate) fn run<'a, R: Files<File = File> + Input + Print, E: Write + Drop>(
     alloc: Global,
     rt: &R,
     errors: E,
@@ -20,5 +21,5 @@ pub(crate) fn run<'a, R: Files + Input + Print, E: Write + Drop>(
     let text = read_one(alloc, rt, file)?;
     let selection = selection_of(&Options(matches));
     let run = plan_msgattrib(alloc, &text, shown_name(file), &selection)?;
-    write_run(rt, errors, &run, output)
+    write_run(alloc, rt, errors, &run, output)
 }

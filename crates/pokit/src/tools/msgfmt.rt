@@ -5,12 +5,13 @@ use clap::ArgMatches;
 use command_line::DEFAULT_OUTPUT;
 use mo_tools::{msgfmt_options_of, plan_msgfmt_of};
 use std::alloc::Global;
+use std::fs::File;
 use std::io::{Input, Print, Write};
 use std::rt::Files;
 use tool_runs::{Inputs, ProgramFault};
 
 /// Runs `pokit msgfmt` and gives its status.
-pub(crate) fn run<'a, R: Files + Input + Print, E: Write + Drop>(
+pub(crate) fn run<'a, R: Files<File = File> + Input + Print, E: Write + Drop>(
     alloc: Global,
     rt: &R,
     errors: E,
@@ -21,5 +22,5 @@ pub(crate) fn run<'a, R: Files + Input + Print, E: Write + Drop>(
     let inputs = Inputs::read(alloc, &mut System(rt), files)?;
     let options = msgfmt_options_of(&Options(matches));
     let run = plan_msgfmt_of(alloc, &inputs, &options)?;
-    write_run(rt, errors, &run, output)
+    write_run(alloc, rt, errors, &run, output)
 }

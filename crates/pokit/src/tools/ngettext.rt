@@ -5,12 +5,13 @@ use clap::ArgMatches;
 use look_up_tools::{borrowed_catalogues, find_catalogues, ngettext_options_of, plan_ngettext};
 use std::alloc::Global;
 use std::env::Env;
+use std::fs::File;
 use std::io::{Input, Print, Write};
 use std::rt::Files;
 use tool_runs::{NgettextArguments, ProgramFault, STANDARD};
 
 /// Runs `pokit ngettext` and gives its status.
-pub(crate) fn run<'a, R: Files + Env + Input + Print, E: Write + Drop>(
+pub(crate) fn run<'a, R: Files<File = File> + Env + Input + Print, E: Write + Drop>(
     alloc: Global,
     rt: &R,
     errors: E,
@@ -28,5 +29,5 @@ pub(crate) fn run<'a, R: Files + Env + Input + Print, E: Write + Drop>(
     let options = ngettext_options_of(&given, arguments);
     let borrowed = borrowed_catalogues(alloc, found.as_slice())?;
     let run = plan_ngettext(alloc, borrowed.as_slice(), &options)?;
-    write_run(rt, errors, &run, STANDARD)
+    write_run(alloc, rt, errors, &run, STANDARD)
 }

@@ -1,0 +1,18 @@
+use Rattle.std.proofs.Common.{refl}
+use Rattle.tool_runs.specs.Outputs.{made, unreported, unmade}
+use Rattle.tool_runs.proofs.outputs.make_file.Goals as goal
+
+pub returns-in-Ok-put_all : goal.returns-in-Ok-put_all
+returns-in-Ok-put_all g c =
+    let file = rw c.deref.ensures.value at c.in-Ok.ensures in
+    let messages = rw c.deref-in-Ok.ensures.value at c.in-Ok-put_all.ensures.ok in
+    made file (messages, c.in-Ok-put_all.ensures.no_failure)
+
+pub returns-in-Err-put_all : goal.returns-in-Err-put_all
+returns-in-Err-put_all g c =
+    let file = rw c.deref.ensures.value at c.in-Ok.ensures in
+    let messages = rw c.deref-in-Ok.ensures.value at c.in-Err-put_all.ensures.prefix in
+    unreported file (messages, c.in-Err-put_all.ensures.cause)
+
+pub returns-in-Err : goal.returns-in-Err
+returns-in-Err g c = unmade (rw c.deref.ensures.value at c.in-Err.ensures) refl
