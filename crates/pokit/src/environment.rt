@@ -1,10 +1,11 @@
 //! The arguments, which are text, and the environment's variables, whose values are bytes and
 //! needn't be text.
-use crate::files::System;
+use crate::files::{System, read_named};
 use po_shell::VariableSource;
 use std::alloc::{AllocError, Global};
 use std::env::{Env, FillError};
-use tool_runs::ProgramFault;
+use std::rt::Files;
+use tool_runs::{InputFault, ProgramFault};
 
 /// What is asked of the system: a variable by its name, or an entry of the environment or an
 /// argument by its index.
@@ -16,6 +17,12 @@ enum Query<'a> {
 }
 
 const PROGRAM: &str = "pokit";
+
+/// How many entries of the environment are asked for one by one.
+const FEW_ENTRIES: usize = 512;
+
+/// The file with the entries of this process's environment, as it began.
+const ENTRIES_FILE: &str = "/proc/self/environ";
 
 /// How many bytes there is room for when a value is first asked for.
 const FIRST_CAPACITY: usize = 256;
@@ -29,10 +36,40 @@ impl<'r, R: Env> VariableSource for System<'r, R> {
     }
 }
 
-/// All entries of the environment in order, each `NAME=value`.
-pub(crate) fn entries(alloc: Global, env: &impl Env) -> Result<Vec<Vec<u8>>, AllocError> {
+/// All entries of the environment in order, each `NAME=value`. Where there are many, they are read
+/// from the file that has them all, since the system walks to each entry from the first.
+pub(crate) fn entries<R: Env + Files>(alloc: Global, rt: &R) -> Result<Vec<Vec<u8>>, AllocError> {
     let mut entries = Vec::new(alloc);
-    for index in 0..usize::MAX {
+    for index in 0..FEW_ENTRIES {
+        match ask(alloc, rt, Query::Entry(index))? {
+            Some(entry) => entries.push(entry)?,
+            None => return Ok(entries),
+        }
+    }
+    match read_named(alloc, rt, ENTRIES_FILE) {
+        Ok(bytes) => entries_in(alloc, &bytes),
+        Err(InputFault::OutOfMemory) => Err(AllocError),
+        Err(InputFault::CannotOpen | InputFault::ReadFault) => entries_from(alloc, rt, entries),
+    }
+}
+
+/// The entries of a file that has a NUL behind each.
+fn entries_in(alloc: Global, bytes: &[u8]) -> Result<Vec<Vec<u8>>, AllocError> {
+    let mut entries = Vec::new(alloc);
+    for entry in bytes.split(|byte| *byte == 0) {
+        entries.push(Vec::from_slice(alloc, entry)?)?;
+    }
+    Ok(entries)
+}
+
+/// The first entries, and all after them.
+fn entries_from(
+    alloc: Global,
+    env: &impl Env,
+    first: Vec<Vec<u8>>,
+) -> Result<Vec<Vec<u8>>, AllocError> {
+    let mut entries = first;
+    for index in FEW_ENTRIES..usize::MAX {
         match ask(alloc, env, Query::Entry(index))? {
             Some(entry) => entries.push(entry)?,
             None => break,

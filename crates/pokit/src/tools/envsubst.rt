@@ -7,10 +7,11 @@ use po_shell::{
 use std::alloc::Global;
 use std::env::Env;
 use std::io::{self, Input, Print};
+use std::rt::Files;
 use tool_runs::{EnvsubstArguments, ProgramFault};
 
 /// Runs `pokit envsubst` and gives its status.
-pub(crate) fn run<'a, R: Env + Input + Print>(
+pub(crate) fn run<'a, R: Env + Files + Input + Print>(
     alloc: Global,
     rt: &R,
     matches: &ArgMatches<'a>,
@@ -37,7 +38,7 @@ fn print_names(alloc: Global, rt: &impl Print, format: &str) -> Result<(), ToolF
 }
 
 /// Copies standard input to standard output, with its references to variables replaced.
-fn substitute<R: Env + Input + Print>(
+fn substitute<R: Env + Files + Input + Print>(
     alloc: Global,
     rt: &R,
     only: Option<&[&[u8]]>,
