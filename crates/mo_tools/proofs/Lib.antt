@@ -1,3 +1,4 @@
 pub mod Profiles
 pub mod MsgfmtLemmas
 pub mod FirstFaults
+pub mod CheckedMessages

@@ -1,15 +1,19 @@
 -- What a run of msgfmt comes to, by the way in which it ends.
-use Rattle.std.proofs.Common.{◌≡◌, ◌≢◌, ◌⊎◌, ℕ, true, false, List, None, Some, length, IfOk, IfErr, Option, Ok, Err, Result, sym, ap, subst, ◌∙◌, inl, inr, ⊎_elim, arith}
+use Rattle.std.proofs.Common.{◌≡◌, ◌≢◌, ◌⊎◌, ℕ, Bool, true, false, List, None, Some, length, IfOk, IfErr, Option, Ok, Err, Result, sym, ap, subst, ◌∙◌, inl, inr, ⊎_elim, arith}
 use Rattle.std.proofs.lemmas.List.{length-map}
 use Rattle.std.proofs.lemmas.Result.{IfOk-weaker}
 use Rattle.std.proofs.lemmas.Slice.Zip.{AllZip-long}
 use Rattle.std.specs.Borrow.{Bor}
 use Rattle.po_syntax.specs.declared.fault.PoFault.TheVariants.{OutOfMemory as NoMemory}
+use Rattle.po_entry.specs.ReadsText.{ReadsText}
 use Rattle.po_entry.specs.TextEntry.{TextEntry}
 use Rattle.po_catalog.specs.Joined.{joined_entries}
 use Rattle.po_catalog.specs.declared.duplicate.JoinError.{JoinError}
-use Rattle.po_compile.specs.Accepted.{AreRead, ReadsDistinct, IsCompileFault}
-use Rattle.po_compile.specs.Compiling.{IsCompilation, IsLayoutFault}
+use Rattle.po_compile.specs.Accepted.{AreRead, IsCompileFault}
+use Rattle.po_compile.specs.Collected.{HoldsEntries}
+use Rattle.po_compile.specs.CompiledInputs.{AreCollected}
+use Rattle.po_compile.specs.Compiling.{IsCompilation}
+use Rattle.po_compile.specs.declared.collecting.Collected.{Collected}
 use Rattle.po_compile.specs.declared.options.Compiled.{Compiled}
 use Rattle.po_compile.specs.declared.options.Options.{Options}
 use Rattle.mo_tools.specs.declared.msgfmt.MsgfmtOptions.{MsgfmtOptions}
@@ -22,18 +26,12 @@ use Rattle.tool_runs.specs.NamedFile.{NamedFile, named_file, named_files}
 use Rattle.mo_tools.specs.Profile.{Reported}
 use Rattle.tool_runs.specs.Run.{RunView, refusal, run_view}
 
--- each input has its catalogue
-pub read-count : (inputs : List (Bor (List ℕ) × Bor (List ℕ))) (catalogues : List (List TextEntry)) → AreRead (input_texts (named_files inputs)) catalogues
-    → length catalogues ≡ length inputs
-read-count inputs catalogues read =
-    AllZip-long ReadsDistinct (input_texts (named_files inputs)) catalogues read.each ∙ length-map (named_files inputs) (λ file. file.bytes) ∙ length-map inputs named_file
-
--- a layout that is too large refuses the texts that are read
-pub layout-refuses : (options : Options) (texts : List (List ℕ)) (catalogues : List (List TextEntry)) (error : JoinError) → AreRead texts catalogues
-    → IsLayoutFault options (joined_entries catalogues) error → IsCompileFault options texts error
-layout-refuses options texts catalogues error read fault =
-    ⊎_elim (λ memory. inl (inl memory))
-    (λ large. inr (record { catalogues = catalogues; read = read; large = large.1; error_is = large.0 })) fault
+-- each input is collected
+pub collected-count : (use_fuzzy : Bool) (inputs : List (Bor (List ℕ) × Bor (List ℕ))) (collected : List Collected) → AreCollected use_fuzzy (input_texts (named_files inputs)) collected
+    → length collected ≡ length inputs
+collected-count use_fuzzy inputs collected of =
+    AllZip-long (HoldsEntries use_fuzzy) of.catalogues collected of.held ∙ AllZip-long ReadsText (input_texts (named_files inputs)) of.catalogues of.read
+    ∙ length-map (named_files inputs) (λ file. file.bytes) ∙ length-map inputs named_file
 
 -- the run of inputs that aren't compiled
 pub run-refused : {E : Type 0} (inputs : List NamedFile) (o : MsgfmtOptions) (error : JoinError) (r : Result Run E) → IsCompileFault (compile_options o) (input_texts inputs) error

@@ -1,14 +1,14 @@
 -- What msgfmt writes and reports (manual, "Invoking the msgfmt Program").
-use Rattle.std.specs.Prelude.{◌≡◌, ◌≢◌, ◌⊎◌, ◌^◌, ◌≤◌, length, nat_lt, ◌==◌, ℕ, Bool, true, List, [], ◌∷◌, map, filter, slice_get, Option, None, Some, codes, decimal, ◌++◌, if◌then◌else◌}
+use Rattle.std.specs.Prelude.{◌≡◌, ◌≢◌, ◌⊎◌, ◌^◌, ◌≤◌, length, nat_lt, ◌==◌, ℕ, Bool, true, List, [], ◌∷◌, map, slice_get, Option, None, Some, codes, decimal, ◌++◌, if◌then◌else◌}
 use Rattle.std.specs.Option.{option_map_or}
 use Rattle.po_syntax.specs.declared.fault.PoFault.{PoFault}
 use Rattle.po_syntax.specs.declared.fault.PoFault.TheVariants.{Duplicate, OutOfMemory as NoMemory}
 use Rattle.po_entry.specs.TextEntry.{TextEntry}
-use Rattle.po_catalog.specs.Joined.{InputEntry, joined, joined_entries}
+use Rattle.po_catalog.specs.Joined.{joined, joined_entries}
 use Rattle.po_catalog.specs.Statistics.{stats_line}
 use Rattle.po_catalog.specs.declared.duplicate.JoinError.{JoinError}
 use Rattle.po_compile.specs.Accepted.{AreCompiled, AreRead, IsCompileFault}
-use Rattle.po_compile.specs.CompiledList.{is_compiled}
+use Rattle.po_compile.specs.CompiledInputs.{compiled_inputs}
 use Rattle.po_compile.specs.Compiling.{IsCompilation}
 use Rattle.po_compile.specs.declared.options.Compiled.{Compiled}
 use Rattle.po_compile.specs.declared.options.Options.{Options}
@@ -68,10 +68,6 @@ check_text OutOfMemory = codes "out of memory"
 -- the line that reports a fault of the check
 abbrev pub check_line : List NamedFile → Reported → List ℕ
 check_line inputs reported = fault_line (codes "msgfmt") (input_name inputs reported.0) (line_of_fault reported.1) (check_text reported.1)
-
--- the entries of a joined list that are compiled
-abbrev pub compiled_inputs : Bool → List InputEntry → List InputEntry
-compiled_inputs use_fuzzy entries = filter (λ e. is_compiled use_fuzzy e.entry) entries
 
 -- the check of catalogues: its first fault, or none
 abbrev pub AreChecked : Bool → List (List TextEntry) → Option Reported → Type 0

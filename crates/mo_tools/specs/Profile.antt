@@ -1,11 +1,16 @@
 -- What `--profile-check` asks of the messages that are compiled: this project's own part of GNU msgfmt's
 -- checks (manual, "Invoking the msgfmt Program": `--check-header`, `--check-format`; "Plural forms").
-use Rattle.std.specs.Prelude.{◌≡◌, MatchOption, ℕ, ◌-◌, ◌==◌, slice_get, Bool, true, false, not, ◌&&◌, nat_lt, List, [], ◌∷◌, ◌++◌, length, find, Option, None, Some, if◌then◌else◌}
+use Rattle.std.specs.Prelude.{◌≡◌, MatchOption, ℕ, ◌-◌, ◌==◌, slice_get, Bool, true, false, not, ◌&&◌, nat_lt, List, [], ◌∷◌, ◌++◌, length, find, map, Option, None, Some, if◌then◌else◌}
 use Rattle.std.specs.List.{list_any, range_with_len}
 use Rattle.std.specs.Option.{is_some, option_or, option_to_list, option_map_or}
-use Rattle.po_entry.specs.TextEntry.{TextEntry}
+use Rattle.mo_file.specs.Key.{key_of}
+use Rattle.mo_lookup.specs.CatalogView.{forms}
+use Rattle.po_entry.specs.TextEntry.{TextEntry, plain_entry, with_line}
 use Rattle.po_entry.specs.Header.{is_header, first_form}
 use Rattle.po_catalog.specs.Joined.{InputEntry}
+use Rattle.po_compile.specs.CompiledInputs.{CompiledView, compiled_view}
+use Rattle.po_compile.specs.declared.messages.CompiledMessage.{CompiledMessage}
+use Rattle.po_unformat.specs.Unformatted.{context_of, id_of, plural_of}
 use Rattle.plural_rule.specs.Expression.{value}
 use Rattle.plural_rule.specs.PluralRule.{RuleView, IsRuleOf, expression_limit}
 use Rattle.plural_rule.specs.declared.rule.Source.{Source}
@@ -14,6 +19,21 @@ use Rattle.mo_tools.specs.declared.profile.End.{End}
 use Rattle.mo_tools.specs.declared.profile.End.TheVariants.{Beginning, Ending}
 use Rattle.mo_tools.specs.declared.profile.CheckFault.{CheckFault}
 use Rattle.mo_tools.specs.declared.profile.CheckFault.TheVariants.{NoHeader, NoRule, FormCount, LeadingNewline, TrailingNewline, Undefined, IndexOutside}
+
+-- the texts that are taken from the message of an entry, with its input and line
+abbrev pub taken_entry : CompiledView → InputEntry
+taken_entry m = record {
+  input = m.input;
+  entry =
+      with_line m.line
+      (plain_entry (context_of (key_of m.message.original)) (id_of (key_of m.message.original)) (plural_of m.message.original) (forms m.message.translation));
+}
+
+abbrev pub checked_message : CompiledMessage → InputEntry
+checked_message m = taken_entry (compiled_view m)
+
+abbrev pub checked_messages : List CompiledMessage → List InputEntry
+checked_messages messages = map checked_message messages
 
 -- a fault, with the input that it is reported of
 abbrev pub Reported : Type 0

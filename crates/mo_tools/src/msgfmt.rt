@@ -2,20 +2,24 @@
 ghost use Rattle.std.specs.Prelude.{◌≡◌, ◌≢◌, ◌⊎◌, ◌+◌, ◌^◌, ◌<◌, ◌≤◌, ◌++◌, ◌∷◌, decimal, true, false, None, Some, length, MatchResult, IfOk, IfErr, OnOk, OnErr, IsErrOf, Err};
 ghost use Rattle.std.specs.Io.KnownBytes.{Keeps};
 ghost use Rattle.po_entry.specs.TextEntry.{slice_texts};
-ghost use Rattle.po_catalog.specs.JoinedView.{input_entries};
-ghost use Rattle.po_compile.specs.Accepted.{AreRead};
+ghost use Rattle.po_compile.specs.CompiledInputs.{AreCollected};
+ghost use Rattle.po_compile.specs.JoinedRows.{OfAllInputs};
 ghost use Rattle.tool_runs.specs.Delivered.{IsCut, IsDelivered};
 ghost use Rattle.tool_runs.specs.FaultText.{duplicate_text};
 ghost use Rattle.tool_runs.specs.NamedFile.{named_files};
 ghost use Rattle.mo_tools.specs.Msgfmt as Spec;
 ghost use Rattle.tool_runs.specs.Run.{refusal, run_view};
 
-use crate::profile::{CheckFault, check_entries};
+use crate::profile::{CheckFault, check_messages};
 use mo_file::Order;
-use po_catalog::{Catalogue, JoinError, JoinedEntry, joined};
-use po_compile::{Compiled, Options, compile_all, compile_catalogues, is_compiled, read_all};
+use po_catalog::{Catalogue, JoinError};
+use po_compile::{
+    Collected, Compiled, Options, collect_all, collect_catalogues, compile_collected,
+    compiled_messages,
+};
 use po_shell::{ByteIn, ByteOut, ToolFault, read_input};
 use po_syntax::PoFault;
+use po_unformat::laws::texts_come_back;
 use std::alloc::{AllocError, Global};
 use tool_runs::{Run, deliver, push_location, push_numbered, push_po_text, refused};
 
@@ -32,36 +36,28 @@ pub struct MsgfmtOptions {
     pub profile_check: bool,
 }
 
-/// The entries that are compiled.
-fn compiled_entries<'a>(
-    alloc: Global,
-    entries: &[JoinedEntry<'a>],
-    use_fuzzy: bool,
-) -> Result<Vec<JoinedEntry<'a>>, AllocError>
-    ensures { IfOk result (λ compiled. input_entries compiled.items
-        ≡ Spec.compiled_inputs use_fuzzy (input_entries entries.now)) }
+/// The check's first fault, or none.
+fn first_fault(alloc: Global, inputs: &[Collected]) -> Result<Option<(u32, CheckFault)>, AllocError>
+    requires { length inputs.now < 2 ^ 32 }
+    ensures { IfOk result (λ fault. OfAllInputs inputs.now (λ use_fuzzy catalogues. Spec.AreChecked use_fuzzy catalogues fault)) }
 {
-    let mut compiled = Vec::with_capacity(alloc, entries.len())?;
-    for joined in entries {
-        if is_compiled(joined.entry, use_fuzzy) {
-            compiled.push(*joined)?;
-        }
-    }
-    Ok(compiled)
+    texts_come_back();
+    let messages = compiled_messages(alloc, inputs)?;
+    Ok(check_messages(&messages))
 }
 
-/// The check's first fault, or none.
-fn first_fault(
-    alloc: Global,
-    catalogues: &[Catalogue],
-    use_fuzzy: bool,
-) -> Result<Option<(u32, CheckFault)>, AllocError>
-    requires { length catalogues.now < 2 ^ 32 }
-    ensures { IfOk result (Spec.AreChecked use_fuzzy catalogues.now) }
+/// Checks the messages that inputs are compiled to, as `profile_check` does.
+fn check_inputs(alloc: Global, inputs: &[Collected]) -> Result<(), (u32, CheckFault)>
+    requires { length inputs.now < 2 ^ 32 }
+    ensures fit { OnOk result (OfAllInputs inputs.now (λ use_fuzzy catalogues. Spec.AreChecked use_fuzzy catalogues None)) }
+    ensures unfit { IfErr result (λ reported. (reported ≡ (0, CheckFault.OutOfMemory))
+        ⊎ OfAllInputs inputs.now (λ use_fuzzy catalogues. Spec.AreChecked use_fuzzy catalogues (Some reported))) }
 {
-    let entries = joined(alloc, catalogues)?;
-    let compiled = compiled_entries(alloc, &entries, use_fuzzy)?;
-    Ok(check_entries(&compiled))
+    match first_fault(alloc, inputs) {
+        Ok(None) => Ok(()),
+        Ok(Some(reported)) => Err(reported),
+        Err(_) => Err((0, CheckFault::OutOfMemory)),
+    }
 }
 
 /// Checks the messages that catalogues are compiled to, in the order of their joined list: that there is a header;
@@ -79,9 +75,8 @@ pub fn profile_check(
         (λ reported. (reported ≡ (0, CheckFault.OutOfMemory))
         ⊎ Spec.AreChecked use_fuzzy catalogues.now (Some reported)) }
 {
-    match first_fault(alloc, catalogues, use_fuzzy) {
-        Ok(None) => Ok(()),
-        Ok(Some(reported)) => Err(reported),
+    match collect_catalogues(alloc, catalogues, use_fuzzy) {
+        Ok(inputs) => check_inputs(alloc, &inputs),
         Err(_) => Err((0, CheckFault::OutOfMemory)),
     }
 }
@@ -89,17 +84,18 @@ pub fn profile_check(
 /// The check, where it is asked for.
 fn checked(
     alloc: Global,
-    catalogues: &[Catalogue],
+    inputs: &[Collected],
     options: &MsgfmtOptions,
 ) -> Result<(), (u32, CheckFault)>
-    requires { length catalogues.now < 2 ^ 32 }
+    requires { length inputs.now < 2 ^ 32 }
     ensures fit { OnOk result (options.now.profile_check ≡ true
-        → Spec.AreChecked options.now.use_fuzzy catalogues.now None) }
+        → OfAllInputs inputs.now (λ use_fuzzy catalogues. Spec.AreChecked use_fuzzy catalogues None)) }
     ensures unfit { IfErr result (λ reported. (reported ≡ (0, CheckFault.OutOfMemory))
-        ⊎ ((options.now.profile_check ≡ true) × Spec.AreChecked options.now.use_fuzzy catalogues.now (Some reported))) }
+        ⊎ ((options.now.profile_check ≡ true)
+        × OfAllInputs inputs.now (λ use_fuzzy catalogues. Spec.AreChecked use_fuzzy catalogues (Some reported)))) }
 {
     if options.profile_check {
-        profile_check(alloc, catalogues, options.use_fuzzy)
+        check_inputs(alloc, inputs)
     } else {
         Ok(())
     }
@@ -274,23 +270,23 @@ fn compiled_run(
     })
 }
 
-/// The run of inputs that are read.
-fn plan_catalogues(
+/// The run of inputs whose texts are collected.
+fn plan_collected(
     alloc: Global,
     inputs: &[(&str, &[u8])],
-    catalogues: Vec<Catalogue>,
+    collected: &[Collected],
     options: &MsgfmtOptions,
 ) -> Result<Run, AllocError>
-    requires few { length catalogues.items < 2 ^ 32 }
-    requires read { AreRead (Spec.input_texts (named_files inputs.now)) catalogues.items }
+    requires few { length collected.now < 2 ^ 32 }
+    requires read { AreCollected options.now.use_fuzzy (Spec.input_texts (named_files inputs.now)) collected.now }
     ensures { IfOk result (λ run. Spec.IsMsgfmtRun (named_files inputs.now) options.now (run_view run)) }
 {
-    let checked = checked(alloc, &catalogues, options);
+    let checked = checked(alloc, collected, options);
     let compile_options = Options {
         use_fuzzy: options.use_fuzzy,
         order: options.order,
     };
-    let compiled = match compile_catalogues(alloc, catalogues, compile_options) {
+    let compiled = match compile_collected(alloc, collected, compile_options) {
         Ok(compiled) => compiled,
         Err(error) => return refused_run(alloc, inputs, error),
     };
@@ -300,36 +296,13 @@ fn plan_catalogues(
     }
 }
 
-/// The run of inputs with these texts, where the check is not asked for, so that no catalogue is
-/// needed.
-fn plan_compiled(
-    alloc: Global,
-    inputs: &[(&str, &[u8])],
-    texts: &[&[u8]],
-    options: &MsgfmtOptions,
-) -> Result<Run, AllocError>
-    requires few { length texts.now < 2 ^ 32 }
-    requires texts { slice_texts texts.now ≡ Spec.input_texts (named_files inputs.now) }
-    requires unchecked { options.now.profile_check ≡ false }
-    ensures { IfOk result (λ run. Spec.IsMsgfmtRun (named_files inputs.now) options.now (run_view run)) }
-{
-    let compile_options = Options {
-        use_fuzzy: options.use_fuzzy,
-        order: options.order,
-    };
-    match compile_all(alloc, texts, compile_options) {
-        Ok(compiled) => compiled_run(alloc, options, compiled),
-        Err(error) => refused_run(alloc, inputs, error),
-    }
-}
-
 /// What `msgfmt` writes and reports of its inputs, each with its name: the compiled file, where it
 /// has a message, and the statistics, where they are asked for. Why inputs aren't compiled is
 /// reported by one line, with status 1; else the first fault of the check is, where it is asked
 /// for. Refused only where an allocation failed.
 ///
-/// The check comes first, since compiling takes the catalogues and moves their texts into the messages; its fault is
-/// kept, and reported only where the inputs are compiled.
+/// The check comes first, so that what it takes of the memory is free again; its fault is reported only where the
+/// inputs are compiled.
 pub fn plan_msgfmt(
     alloc: Global,
     inputs: &[(&str, &[u8])],
@@ -341,11 +314,8 @@ pub fn plan_msgfmt(
     ensures memory { OnErr result (result ≡ Err ToolFault.OutOfMemory) }
 {
     let texts = texts_of(alloc, inputs)?;
-    if !options.profile_check {
-        return Ok(plan_compiled(alloc, inputs, &texts, options)?);
-    }
-    match read_all(alloc, &texts) {
-        Ok(catalogues) => Ok(plan_catalogues(alloc, inputs, catalogues, options)?),
+    match collect_all(alloc, &texts, options.use_fuzzy) {
+        Ok(collected) => Ok(plan_collected(alloc, inputs, &collected, options)?),
         Err(error) => Ok(refused_run(alloc, inputs, error)?),
     }
 }

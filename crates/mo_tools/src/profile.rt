@@ -1,15 +1,14 @@
 //! What `--profile-check` finds wrong with the messages that are compiled.
-ghost use Rattle.std.specs.Prelude.{◌≡◌, find, option_map};
+ghost use Rattle.std.specs.Prelude.{◌≡◌, find, length, option_map};
 ghost use Rattle.std.specs.List.{list_any};
-ghost use Rattle.po_entry.specs.TextEntry.{texts};
+ghost use Rattle.mo_lookup.specs.CatalogView.{forms};
 ghost use Rattle.po_entry.specs.Header.{first_form};
-ghost use Rattle.po_catalog.specs.JoinedView.{input_entries, input_entry};
 ghost use Rattle.plural_rule.specs.PluralRule.{IsRuleOf, expression_limit};
 ghost use Rattle.mo_tools.specs.Profile as Spec;
 
 use plural_rule::{Reason, Rule, Source};
-use po_catalog::JoinedEntry;
-use po_entry::Entry;
+use po_compile::CompiledMessage;
+use po_unformat::{key_parts, original_parts, split_form};
 use thiserror::Error;
 
 /// What `--profile-check` finds wrong with the messages that are compiled.
@@ -44,11 +43,34 @@ pub enum CheckFault {
 /// At how many counts, from 0 on, a rule's values are checked.
 const CHECKED_COUNTS: u64 = 1001;
 
-/// Whether the entry has a plural.
-fn is_plural(joined: &JoinedEntry<'_>) -> bool
-    ensures { result ≡ Spec.is_plural (input_entry joined.now) }
+/// Whether the entry of a message has a plural.
+fn is_plural(message: &CompiledMessage<'_>) -> bool
+    ensures { result ≡ Spec.is_plural (Spec.checked_message message.now) }
 {
-    joined.entry.plural().is_some()
+    let (_, plural) = original_parts(message.original);
+    plural.is_some()
+}
+
+/// Whether the entry of a message is the header.
+fn is_header(message: &CompiledMessage<'_>) -> bool
+    ensures { result ≡ Spec.is_header_entry (Spec.checked_message message.now) }
+{
+    let (key, _) = original_parts(message.original);
+    let (context, id) = key_parts(key);
+    context.is_none() && id.is_empty()
+}
+
+/// How many forms a translation has.
+fn form_count(translation: &[u8]) -> usize
+    ensures { result ≡ length (forms translation.now) }
+{
+    let mut count = 1;
+    let mut last = translation;
+    while let Some((_, rest)) = split_form(last) {
+        count += 1;
+        last = rest;
+    }
+    count
 }
 
 /// An end of a text.
@@ -81,47 +103,50 @@ fn has_newline(end: End, text: &[u8]) -> bool
 }
 
 /// Whether a form has a newline at this end where none is wanted, or lacks one that is wanted.
-fn any_differs(end: End, wanted: bool, forms: &[Vec<u8>]) -> bool
-    ensures { result ≡ list_any (λ text. Spec.differ wanted (Spec.has_newline end text)) (texts forms.now) }
+fn any_differs(end: End, wanted: bool, translation: &[u8]) -> bool
+    ensures { result ≡ list_any (λ text. Spec.differ wanted (Spec.has_newline end text)) (forms translation.now) }
 {
-    for form in forms {
+    let mut last = translation;
+    while let Some((form, rest)) = split_form(last) {
         if has_newline(end, form) != wanted {
             return true;
         }
+        last = rest;
     }
-    false
+    has_newline(end, last) != wanted
 }
 
 /// Whether the plural or a form differs from the msgid in having a newline at this end.
-fn differs_from_msgid(end: End, entry: &Entry) -> bool
-    ensures { result ≡ Spec.differs_from_msgid end entry.now }
+fn differs_from_msgid(end: End, message: &CompiledMessage<'_>) -> bool
+    ensures { result ≡ Spec.differs_from_msgid end (Spec.checked_message message.now).entry }
 {
-    let wanted = has_newline(end, entry.id());
-    let plural_differs = match entry.plural() {
+    let (key, plural) = original_parts(message.original);
+    let (_, id) = key_parts(key);
+    let wanted = has_newline(end, id);
+    let plural_differs = match plural {
         Some(plural) => has_newline(end, plural) != wanted,
         None => false,
     };
-    plural_differs || any_differs(end, wanted, entry.forms())
+    plural_differs || any_differs(end, wanted, message.translation)
 }
 
-/// What is wrong with an entry but the header, with its input.
-fn entry_fault(nplurals: u64, joined: &JoinedEntry<'_>) -> Option<(u32, CheckFault)>
-    ensures { result ≡ Spec.entry_fault nplurals (input_entry joined.now) }
+/// What is wrong with a message but the header's, with its input.
+fn entry_fault(nplurals: u64, message: &CompiledMessage<'_>) -> Option<(u32, CheckFault)>
+    ensures { result ≡ Spec.entry_fault nplurals (Spec.checked_message message.now) }
 {
-    let entry = joined.entry;
-    let line = entry.line();
-    let fault = if entry.is_header() {
+    let line = message.line;
+    let fault = if is_header(message) {
         return None;
-    } else if is_plural(joined) && entry.forms().len() as u64 != nplurals {
+    } else if is_plural(message) && form_count(message.translation) as u64 != nplurals {
         CheckFault::FormCount(line)
-    } else if differs_from_msgid(End::Beginning, entry) {
+    } else if differs_from_msgid(End::Beginning, message) {
         CheckFault::LeadingNewline(line)
-    } else if differs_from_msgid(End::Ending, entry) {
+    } else if differs_from_msgid(End::Ending, message) {
         CheckFault::TrailingNewline(line)
     } else {
         return None;
     };
-    Some((joined.input, fault))
+    Some((message.input, fault))
 }
 
 /// What is wrong with a rule's value at a count.
@@ -135,12 +160,12 @@ fn count_fault(rule: &Rule, count: u64) -> Option<(u32, CheckFault)>
     }
 }
 
-/// The fault of the first entry with one, but for the header.
-fn first_entry_fault(nplurals: u64, entries: &[JoinedEntry<'_>]) -> Option<(u32, CheckFault)>
-    ensures { result ≡ Spec.first_some (Spec.entry_fault nplurals) (input_entries entries.now) }
+/// The fault of the first message with one, but for the header's.
+fn first_entry_fault(nplurals: u64, messages: &[CompiledMessage<'_>]) -> Option<(u32, CheckFault)>
+    ensures { result ≡ Spec.first_some (Spec.entry_fault nplurals) (Spec.checked_messages messages.now) }
 {
-    for joined in entries {
-        if let Some(fault) = entry_fault(nplurals, joined) {
+    for message in messages {
+        if let Some(fault) = entry_fault(nplurals, message) {
             return Some(fault);
         }
     }
@@ -160,63 +185,64 @@ fn first_count_fault(rule: &Rule, end: u64) -> Option<(u32, CheckFault)>
     None
 }
 
-/// The first form of an entry.
-fn first_form(entry: &Entry) -> &[u8]
-    ensures { result.now ≡ first_form entry.now.forms }
+/// The first form of a translation.
+fn first_form(translation: &[u8]) -> &[u8]
+    ensures { result.now ≡ first_form (forms translation.now) }
 {
-    match entry.forms().first() {
-        Some(form) => form,
-        None => b"",
+    match split_form(translation) {
+        Some((form, _)) => form,
+        None => translation,
     }
 }
 
-/// The first header of the entries.
-fn header_of<'e, 'a>(entries: &'e [JoinedEntry<'a>]) -> Option<&'e JoinedEntry<'a>>
-    ensures { option_map (λ e. input_entry e.now) result ≡ find Spec.is_header_entry (input_entries entries.now) }
+/// The message of the first header.
+fn header_of<'m, 'b>(messages: &'m [CompiledMessage<'b>]) -> Option<&'m CompiledMessage<'b>>
+    ensures { option_map (λ m. Spec.checked_message m.now) result
+        ≡ find Spec.is_header_entry (Spec.checked_messages messages.now) }
 {
-    for joined in entries {
-        if joined.entry.is_header() {
-            return Some(joined);
+    for message in messages {
+        if is_header(message) {
+            return Some(message);
         }
     }
     None
 }
 
-/// The first of the entries that has a plural.
-fn first_plural<'e, 'a>(entries: &'e [JoinedEntry<'a>]) -> Option<&'e JoinedEntry<'a>>
-    ensures { option_map (λ e. input_entry e.now) result ≡ find Spec.is_plural (input_entries entries.now) }
+/// The first message of an entry with a plural.
+fn first_plural<'m, 'b>(messages: &'m [CompiledMessage<'b>]) -> Option<&'m CompiledMessage<'b>>
+    ensures { option_map (λ m. Spec.checked_message m.now) result
+        ≡ find Spec.is_plural (Spec.checked_messages messages.now) }
 {
-    for joined in entries {
-        if is_plural(joined) {
-            return Some(joined);
+    for message in messages {
+        if is_plural(message) {
+            return Some(message);
         }
     }
     None
 }
 
-/// A header without a readable rule is a fault for the first entry with a plural, if there is one.
-fn rule_fault(source: Source, plural: Option<&JoinedEntry<'_>>) -> Option<(u32, CheckFault)>
-    ensures { result ≡ Spec.rule_fault source (option_map (λ e. input_entry e.now) plural.entry) }
+/// A header without a readable rule is a fault for the first message with a plural, if there is one.
+fn rule_fault(source: Source, plural: Option<&CompiledMessage<'_>>) -> Option<(u32, CheckFault)>
+    ensures { result ≡ Spec.rule_fault source (option_map (λ m. Spec.checked_message m.now) plural.entry) }
 {
     match (source, plural) {
-        (Source::Default(reason), Some(plural)) => Some((
-            plural.input,
-            CheckFault::NoRule(plural.entry.line(), reason),
-        )),
+        (Source::Default(reason), Some(plural)) => {
+            Some((plural.input, CheckFault::NoRule(plural.line, reason)))
+        }
         _ => None,
     }
 }
 
-/// The first fault of entries with a header, by its rule.
+/// The first fault of messages with a header, by its rule.
 #[inline(never)]
-fn first_fault(rule: Rule, entries: &[JoinedEntry<'_>]) -> Option<(u32, CheckFault)>
-    ensures { result ≡ Spec.first_fault (input_entries entries.now) rule }
+fn first_fault(rule: Rule, messages: &[CompiledMessage<'_>]) -> Option<(u32, CheckFault)>
+    ensures { result ≡ Spec.first_fault (Spec.checked_messages messages.now) rule }
 {
-    let plural = first_plural(entries);
+    let plural = first_plural(messages);
     if let Some(fault) = rule_fault(rule.source(), plural) {
         return Some(fault);
     }
-    if let Some(fault) = first_entry_fault(rule.nplurals(), entries) {
+    if let Some(fault) = first_entry_fault(rule.nplurals(), messages) {
         return Some(fault);
     }
     match plural {
@@ -238,11 +264,11 @@ fn rule_of(header: &[u8]) -> Rule
 /// at its ends where its msgid has them; and that the rule's values at the counts from 0 to 1,000 are indices of
 /// forms, where an entry has a plural. The first fault is reported, with the input of its line, or input 0.
 #[inline(never)]
-pub(crate) fn check_entries(entries: &[JoinedEntry<'_>]) -> Option<(u32, CheckFault)>
-    ensures { Spec.IsChecked (input_entries entries.now) result }
+pub(crate) fn check_messages(messages: &[CompiledMessage<'_>]) -> Option<(u32, CheckFault)>
+    ensures { Spec.IsChecked (Spec.checked_messages messages.now) result }
 {
-    let Some(header) = header_of(entries) else {
+    let Some(header) = header_of(messages) else {
         return Some((0, CheckFault::NoHeader));
     };
-    first_fault(rule_of(first_form(header.entry)), entries)
+    first_fault(rule_of(first_form(header.translation)), messages)
 }

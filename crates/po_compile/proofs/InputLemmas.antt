@@ -17,6 +17,7 @@ use Rattle.po_catalog.specs.Duplicate.{HasNoDuplicate, IsDuplicateFault, IsFirst
 use Rattle.po_catalog.specs.declared.duplicate.JoinError.{JoinError}
 use Rattle.po_compile.specs.Accepted.{AreRead, IsCompileFault, IsReadingFault, IsTextFault, ReadsDistinct, fault_input, fault_of_input, fault_of_only_input}
 use Rattle.po_compile.specs.Collected.{HoldsEntries, ReadsLive}
+use Rattle.po_compile.specs.CompiledInputs.{AreCollected}
 use Rattle.po_compile.specs.JoinedRows.{AreDistinct, AreSortedRows, HasOneHeader, IsLargeList, IsRepeatFault, IsRepeatInInput, OfAllInputs}
 use Rattle.po_compile.specs.declared.collecting.Collected.{Collected}
 use Rattle.po_compile.specs.declared.options.Options.{Options}
@@ -81,12 +82,7 @@ headers_more inputs i collected inside is one so_far =
 abbrev pub EntriesStand : Type 0
 EntriesStand = (text : List ℕ) (entries : List TextEntry) → ReadsText text entries → All IsCatalogueEntry entries
 
-pub record AreCollectedOf (use_fuzzy : Bool) (texts : List (List ℕ)) (inputs : List Collected) : Type 0 where
-  pub catalogues : List (List TextEntry)
-  pub read : AllZip ReadsText texts catalogues
-  pub held : AllZip (HoldsEntries use_fuzzy) catalogues inputs
-
-pub collected_of : EntriesStand → (use_fuzzy : Bool) (texts : List (List ℕ)) (inputs : List Collected) → AllZip (ReadsLive use_fuzzy) texts inputs → AreCollectedOf use_fuzzy texts inputs
+pub collected_of : EntriesStand → (use_fuzzy : Bool) (texts : List (List ℕ)) (inputs : List Collected) → AllZip (ReadsLive use_fuzzy) texts inputs → AreCollected use_fuzzy texts inputs
 collected_of stand use_fuzzy [] [] h = record { catalogues = []; read = tt; held = tt }
 collected_of stand use_fuzzy [] (c ∷ inputs) h = absurd h
 collected_of stand use_fuzzy (t ∷ texts) [] h = absurd h
@@ -160,13 +156,12 @@ fault_of_kind text error kind is h =
 pub text_fault : (text : List ℕ) (error : PoError) → IsFaultOf (IsReadFault text) error → (error ≡ out_of_memory) ⊎ ((error.kind ≢ OutOfMemory) × IsTextFault text error)
 text_fault text error h = fault_of_kind text error error.kind refl h
 
--- the list of texts, one more of which is collected
-pub zip_more : (use_fuzzy : Bool) (texts : List (List ℕ)) (inputs : List Collected) (text : List ℕ) (collected : Collected)
-    → AllZip (ReadsLive use_fuzzy) texts inputs → ReadsLive use_fuzzy text collected → AllZip (ReadsLive use_fuzzy) (texts ++ text ∷ []) (inputs ++ collected ∷ [])
-zip_more use_fuzzy [] [] text collected each reads = (reads, tt)
-zip_more use_fuzzy [] (c ∷ cs) text collected each reads = absurd each
-zip_more use_fuzzy (t ∷ ts) [] text collected each reads = absurd each
-zip_more use_fuzzy (t ∷ ts) (c ∷ cs) text collected each reads = (each.0, zip_more use_fuzzy ts cs text collected each.1 reads)
+-- two lists, with one more of each
+pub zip_more : {A B : Type 0} (R : A → B → Type 0) (xs : List A) (ys : List B) (x : A) (y : B) → AllZip R xs ys → R x y → AllZip R (xs ++ x ∷ []) (ys ++ y ∷ [])
+zip_more R [] [] x y each one = (one, tt)
+zip_more R [] (b ∷ ys) x y each one = absurd each
+zip_more R (a ∷ xs) [] x y each one = absurd each
+zip_more R (a ∷ xs) (b ∷ ys) x y each one = (each.0, zip_more R xs ys x y each.1 one)
 
 -- what inputs without duplicates are compiled to, and why others aren't
 pub read_distinct : (texts : List (List ℕ)) (catalogues : List (List TextEntry)) → AllZip ReadsText texts catalogues → AreDistinct catalogues → AreRead texts catalogues

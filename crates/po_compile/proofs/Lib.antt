@@ -21,3 +21,4 @@ pub mod CompiledLemmas
 pub mod JoinedLemmas
 pub mod OneHeader
 pub mod InputLemmas
+pub mod CompiledRows

@@ -18,7 +18,7 @@ use Rattle.mo_file.specs.Key.{AreRising, is_nul, key_of, keys, query_key}
 use Rattle.po_entry.specs.Bytes.{Lacks}
 use Rattle.po_entry.specs.Validity.{IsEntry}
 use Rattle.po_compile.specs.CompiledMessages.{plural_part, original_of, message_of, messages_of_entries}
-use Rattle.po_compile.specs.Parts.{MessagesHaveParts, MessagesDiffer}
+use Rattle.po_compile.specs.MessageLaws.{MessagesHaveParts, MessagesDiffer}
 use Rattle.po_compile.proofs.FindLemmas.{rising_differ}
 use Rattle.po_compile.proofs.MeaningLemmas.{LacksSeparators, entry_lacks_separators, key_of-original, forms-translation}
 use Rattle.po_compile.proofs.TextLemmas.{query_key_lacks}

@@ -3,29 +3,15 @@ use Rattle.std.proofs.Common.{◌≡◌, ◌≢◌, ◌⊎◌, ℕ, ◌+◌, ◌
 use Rattle.std.specs.Borrow.{Bor}
 use Rattle.std.specs.List.{AllZip}
 use Rattle.std.proofs.Math.Seq.{drop-cons}
-use Rattle.std.proofs.lemmas.List.{take_more, take-append-drop, take_all, map-append, length-map}
+use Rattle.std.proofs.lemmas.List.{take_more, take-append-drop, map-append, length-map}
 use Rattle.po_syntax.specs.declared.fault.PoError.{PoError}
 use Rattle.po_syntax.specs.declared.fault.PoFault.{PoFault}
 use Rattle.po_syntax.specs.declared.fault.PoFault.TheVariants.{NotUtf8, BadToken, UnterminatedString, BadEscape, ForbiddenByte, BadOrder, BadPluralIndex, MixedObsolete, Duplicate, ForeignCharset, TooLarge, OutOfMemory}
 use Rattle.po_entry.specs.TextEntry.{TextEntry, slice_texts}
-use Rattle.po_catalog.specs.Joined.{joined, joined_entries, entries_of, in_input}
-use Rattle.po_catalog.specs.Duplicate.{HasNoDuplicate, IsDuplicateFault}
+use Rattle.po_catalog.specs.Joined.{joined_entries, entries_of, in_input}
+use Rattle.po_catalog.specs.Duplicate.{HasNoDuplicate}
 use Rattle.po_entry.specs.Validity.{out_of_memory}
-use Rattle.po_catalog.specs.declared.duplicate.JoinError.{JoinError}
 use Rattle.po_compile.specs.Accepted.{ReadsDistinct, AreRead, IsTextFault, IsReadingFault, fault_input, fault_of_input}
-
-zip_push : (texts : List (List ℕ)) (catalogues : List (List TextEntry)) (text : List ℕ) (entries : List TextEntry)
-    → AllZip ReadsDistinct texts catalogues → ReadsDistinct text entries → AllZip ReadsDistinct (texts ++ text ∷ []) (catalogues ++ entries ∷ [])
-zip_push [] [] text entries each reads = (reads, tt)
-zip_push [] (c ∷ cs) text entries each reads = absurd each
-zip_push (t ∷ ts) [] text entries each reads = absurd each
-zip_push (t ∷ ts) (c ∷ cs) text entries each reads = (each.0, zip_push ts cs text entries each.1 reads)
-
-zip_length : (texts : List (List ℕ)) (catalogues : List (List TextEntry)) → AllZip ReadsDistinct texts catalogues → length texts ≡ length catalogues
-zip_length [] [] each = refl
-zip_length [] (c ∷ cs) each = absurd each
-zip_length (t ∷ ts) [] each = absurd each
-zip_length (t ∷ ts) (c ∷ cs) each = ap suc (zip_length ts cs each.1)
 
 input_of_fault : (input : ℕ) (kind : PoFault) → kind ≢ OutOfMemory → fault_input input kind ≡ input
 input_of_fault input NotUtf8 other = refl
@@ -46,11 +32,6 @@ module _ (texts : List (Bor (List ℕ))) (i : ℕ) (text : Bor (List ℕ)) (insi
   more_texts =
       let now : Bor (List ℕ) → List ℕ = λ s. s.now in
       ap slice_texts (take_more texts i text inside) ∙ map-append now (take i texts) (get_or texts i text ∷ []) ∙ ap (λ (t : Bor (List ℕ)). slice_texts (take i texts) ++ t.now ∷ []) (sym here)
-
-  pub read_more : (catalogues : List (List TextEntry)) (entries : List TextEntry) → AllZip ReadsDistinct (slice_texts (take i texts)) catalogues → ReadsDistinct text.now entries
-      → AllZip ReadsDistinct (slice_texts (take (i + 1) texts)) (catalogues ++ entries ∷ [])
-  read_more catalogues entries each reads =
-      subst (λ ts. AllZip ReadsDistinct ts (catalogues ++ entries ∷ [])) (sym more_texts) (zip_push (slice_texts (take i texts)) catalogues text.now entries each reads)
 
   pub split_texts : slice_texts texts ≡ slice_texts (take i texts) ++ text.now ∷ slice_texts (drop (suc i) texts)
   split_texts =
@@ -77,21 +58,6 @@ module _ (texts : List (Bor (List ℕ))) (i : ℕ) (text : Bor (List ℕ)) (insi
         first_input = input ∙ long;
         fault = fault.1;
       }))) why
-
-pub read_few : (texts : List (Bor (List ℕ))) (i : ℕ) (catalogues : List (List TextEntry)) → AllZip ReadsDistinct (slice_texts (take i texts)) catalogues → length catalogues ≤ length texts
-read_few texts i catalogues each =
-    omega (arith, zip_length (slice_texts (take i texts)) catalogues each, length-map (take i texts) (λ (s : Bor (List ℕ)). s.now), length-take i texts)
-
-pub read_to_end : (texts : List (Bor (List ℕ))) (i : ℕ) (catalogues : List (List TextEntry)) → length texts ≤ i → AllZip ReadsDistinct (slice_texts (take i texts)) catalogues
-    → AllZip ReadsDistinct (slice_texts texts) catalogues
-read_to_end texts i catalogues past each = subst (λ ts. AllZip ReadsDistinct (slice_texts ts) catalogues) (take_all i texts past) each
-
--- a duplicate across inputs that are read
-pub joined_refused : (texts : List (List ℕ)) (catalogues : List (List TextEntry)) (error : JoinError) → AllZip ReadsDistinct texts catalogues
-    → IsDuplicateFault (joined catalogues) error → IsReadingFault texts error
-joined_refused texts catalogues error each fault =
-    ⊎_elim (λ memory. inl memory)
-    (λ found. inr (inr (record { catalogues = catalogues; each = each; first = found.0; later = found.1; duplicate = found.2; error_is = found.3 }))) fault
 
 pub entries_of_input : (input : ℕ) (entries : List TextEntry) → entries_of (map (in_input input) entries) ≡ entries
 entries_of_input input [] = refl

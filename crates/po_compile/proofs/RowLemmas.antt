@@ -93,7 +93,7 @@ kept_step use_fuzzy entry live compiled true false e only same =
 kept_step use_fuzzy entry live compiled false true e only same = absurd (let f : true ≡ false = only refl in cc)
 kept_step use_fuzzy entry live compiled false false e only same = same
 
-dead_stays : (b w : Bool) → b ≡ false → b && w ≡ false
+pub dead_stays : (b w : Bool) → b ≡ false → b && w ≡ false
 dead_stays true w e = absurd (cc)
 dead_stays false w e = refl
 

@@ -1,6 +1,6 @@
 -- What a list of entries is compiled to, and when it is refused (manual, "Invoking the msgfmt
 -- Program").
-use Rattle.std.specs.Prelude.{◌≡◌, ◌⊎◌, ◌^◌, ◌<◌, ◌≤◌, List, length}
+use Rattle.std.specs.Prelude.{◌≡◌, ◌^◌, ◌<◌, ◌≤◌, List, length}
 use Rattle.mo_file.specs.Message.{Message}
 use Rattle.mo_file.specs.Layout.{layout}
 use Rattle.mo_file.specs.MoFile.{IsMoFile}
@@ -44,8 +44,3 @@ abbrev pub IsReportedFault : BuildError → JoinError → Type 0
 IsReportedFault Large error = error ≡ layout_fault
 IsReportedFault NotSorted error = ⊥
 IsReportedFault NoMemory error = error ≡ join_out_of_memory
-
--- why entries of which no two live ones are of one message aren't compiled: their layout is too
--- large, or an allocation failed
-abbrev pub IsLayoutFault : Options → List TextEntry → JoinError → Type 0
-IsLayoutFault options entries error = (error ≡ join_out_of_memory) ⊎ ((error ≡ layout_fault) × HasLargeLayout options entries)

@@ -4,9 +4,10 @@ pub mod Meaning
 pub mod Compiling
 pub mod Accepted
 pub mod Headline
-pub mod Parts
+pub mod MessageLaws
 pub mod Collected
 pub mod JoinedRows
 pub mod Prefix
 pub mod Repeats
 pub mod CompiledEntries
+pub mod CompiledInputs

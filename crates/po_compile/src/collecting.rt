@@ -3,10 +3,10 @@ ghost use Rattle.std.specs.List.{join_with_byte};
 ghost use Rattle.mo_file.specs.Key.{query_key};
 ghost use Rattle.po_entry.specs.TextEntry.{TextEntry, texts};
 ghost use Rattle.po_reader.specs.PieceRead.{IsTextError};
+ghost use Rattle.po_compile.specs.CompiledList.{is_compiled};
 ghost use Rattle.po_compile.specs.CompiledMessages.{plural_part, translation_of};
 ghost use Rattle.po_compile.specs.Collected.{message_bytes, lengths_of, status_of, HoldsLive, ReadsLive};
 
-use crate::messages::is_compiled;
 use po_catalog::has_translation;
 use po_entry::Entry;
 use po_reader::{PIECE, next_messages};
@@ -18,32 +18,39 @@ const USUAL_LEN: usize = 128;
 
 /// Whether a live entry is compiled, and what the statistics count it as.
 #[derive(Clone, Copy)]
-pub(crate) struct Status {
-    pub(crate) compiled: bool,
-    pub(crate) translated: bool,
-    pub(crate) fuzzy: bool,
-    pub(crate) untranslated: bool,
+pub struct Status {
+    /// It is compiled.
+    pub compiled: bool,
+    /// It counts as translated.
+    pub translated: bool,
+    /// It counts as fuzzy.
+    pub fuzzy: bool,
+    /// It counts as untranslated.
+    pub untranslated: bool,
 }
 
 /// How long the parts of a live entry's message are, in bytes, and the entry's line and status.
 #[derive(Clone, Copy)]
-pub(crate) struct Lengths {
+pub struct Lengths {
     /// 0 for a header alone.
-    pub(crate) key: usize,
+    pub key: usize,
     /// The key, and after it a NUL and the plural, where there is one.
-    pub(crate) original: usize,
-    pub(crate) translation: usize,
+    pub original: usize,
+    /// The forms, with a NUL between them.
+    pub translation: usize,
     /// The line of its msgid.
-    pub(crate) line: u32,
-    pub(crate) status: Status,
+    pub line: u32,
+    /// Whether it is compiled, and what it counts as.
+    pub status: Status,
 }
 
 /// The messages of the live entries of an input, in their order.
 #[derive(Drop)]
-pub(crate) struct Collected {
+pub struct Collected {
     /// The original and the translation of each, one after another.
-    pub(crate) bytes: Vec<u8>,
-    pub(crate) lengths: Vec<Lengths>,
+    pub bytes: Vec<u8>,
+    /// How long the parts of each are.
+    pub lengths: Vec<Lengths>,
 }
 
 /// Appends the key of an entry.
@@ -126,8 +133,18 @@ fn status_of(entry: &Entry, use_fuzzy: bool) -> Status
     }
 }
 
+/// Whether an entry of a joined list is compiled: it is live and translated, and not fuzzy, unless
+/// fuzzy entries are compiled too. A header's flag `fuzzy` is ignored.
+fn is_compiled(entry: &Entry, use_fuzzy: bool) -> bool
+    ensures { result ≡ is_compiled use_fuzzy entry.now }
+{
+    !entry.obsolete()
+        && has_translation(entry)
+        && (use_fuzzy || !entry.fuzzy() || entry.is_header())
+}
+
 /// Adds the live ones of further entries.
-fn add_messages(
+pub(crate) fn add_messages(
     collected: &mut Collected,
     entries: &[Entry],
     use_fuzzy: bool,

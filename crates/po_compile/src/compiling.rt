@@ -1,25 +1,22 @@
-ghost use Rattle.std.specs.Prelude.{◌≡◌, ◌≢◌, ◌⊎◌, ◌<◌, ◌^◌, [], ◌∷◌, List, length, IfOk, IfErr, MatchResult};
+ghost use Rattle.std.specs.Prelude.{◌≡◌, ◌≢◌, ◌⊎◌, ◌<◌, ◌^◌, ℕ, [], ◌∷◌, List, length, IfOk, IfErr, MatchResult};
 ghost use Rattle.std.specs.List.{AllZip};
 ghost use Rattle.po_entry.specs.TextEntry.{TextEntry, slice_texts};
 ghost use Rattle.po_catalog.specs.Joined.{joined_entries};
-ghost use Rattle.po_catalog.specs.Duplicate.{HasNoDuplicate};
 ghost use Rattle.po_compile.specs.Collected.{HoldsEntries};
 ghost use Rattle.po_compile.specs.JoinedRows.{AreDistinct, IsLargeList, IsRepeatFault};
-ghost use Rattle.po_compile.specs.Accepted.{AreCompiled, IsCompileFault, fault_of_only_input};
-ghost use Rattle.po_compile.specs.Compiling.{IsCompilation, IsLayoutFault, IsReportedFault};
+ghost use Rattle.po_compile.specs.Accepted.{AreCompiled, AreRead, IsCompileFault, fault_of_only_input};
+ghost use Rattle.po_compile.specs.CompiledInputs.{AreCollected};
+ghost use Rattle.po_compile.specs.Compiling.{IsCompilation, IsReportedFault};
 
 use crate::collecting::Collected;
 use crate::inputs::{collect_all, distinct_rows};
 use crate::laws::messages_mean_entries;
-use crate::messages::{messages_of, sort_messages};
 use crate::options::{Compiled, Options};
 use crate::rows::compiled_pairs;
 use crate::sorting::statistics_of;
-use mo_file::{BuildError, build, build_sorted, layout_is_mo_file};
+use mo_file::{BuildError, build_sorted, layout_is_mo_file};
+use po_catalog::JoinError;
 use po_catalog::laws::no_first_duplicate_where_none;
-use po_catalog::{JoinError, entry_statistics, into_joined};
-use po_entry::Catalogue;
-use po_reader::laws::entries_can_stand;
 use po_syntax::{PoError, PoFault};
 use std::alloc::Global;
 
@@ -34,10 +31,7 @@ pub fn compile_all(alloc: Global, texts: &[&[u8]], options: Options) -> Result<C
         (IsCompileFault options (slice_texts texts.now)) }
 {
     match collect_all(alloc, texts, options.use_fuzzy) {
-        Ok(inputs) => {
-            entries_can_stand();
-            compile_inputs(alloc, &inputs, options)
-        }
+        Ok(inputs) => compile_collected(alloc, &inputs, options),
         Err(error) => Err(error),
     }
 }
@@ -54,6 +48,23 @@ pub fn compile(alloc: Global, text: &[u8], options: Options) -> Result<Compiled,
         Ok(compiled) => Ok(compiled),
         Err(error) => Err(error.error),
     }
+}
+
+/// Compiles the joined list of inputs whose live entries are collected. Refused as `compile_all`
+/// refuses their texts.
+pub fn compile_collected(
+    alloc: Global,
+    inputs: &[Collected],
+    options: Options,
+) -> Result<Compiled, JoinError>
+    requires few { length inputs.now < 2 ^ 32 }
+    requires read { (texts : List (List ℕ)) × AreCollected options.use_fuzzy texts inputs.now }
+    ensures found { IfOk result (λ compiled. (texts : List (List ℕ)) (of : AreCollected options.use_fuzzy texts inputs.now)
+        → AreRead texts of.catalogues × IsCompilation options (joined_entries of.catalogues) compiled) }
+    ensures fault { IfErr result (λ e. (texts : List (List ℕ)) → AreCollected options.use_fuzzy texts inputs.now
+        → IsCompileFault options texts e) }
+{
+    compile_inputs(alloc, inputs, options)
 }
 
 /// Compiles the joined list of inputs whose live entries are collected.
@@ -82,35 +93,6 @@ fn compile_inputs(
             bytes,
             n: count as u32,
             stats: statistics_of(&rows),
-        }),
-        Err(error) => Err(reported_fault(error)),
-    }
-}
-
-/// Compiles the joined list of catalogues, in which `joined_duplicates` finds no duplicate. It
-/// takes the catalogues: their texts are moved into the messages, and what else they hold is
-/// dropped before the file is laid out. Refused with `TooLarge`, at line 0 of input 0, where the
-/// file would have more than 4,294,967,295 bytes, and where an allocation failed.
-pub fn compile_catalogues(
-    alloc: Global,
-    catalogues: Vec<Catalogue>,
-    options: Options,
-) -> Result<Compiled, JoinError>
-    requires { HasNoDuplicate (joined_entries catalogues.items) }
-    ensures { MatchResult result (IsCompilation options (joined_entries catalogues.items))
-        (IsLayoutFault options (joined_entries catalogues.items)) }
-{
-    let entries = into_joined(alloc, catalogues)?;
-    let stats = entry_statistics(&entries);
-    let mut pairs = messages_of(alloc, entries, options.use_fuzzy)?;
-    sort_messages(&mut pairs);
-    layout_is_mo_file();
-    messages_mean_entries();
-    match build(alloc, options.order, &pairs) {
-        Ok(bytes) => Ok(Compiled {
-            bytes,
-            n: pairs.len() as u32,
-            stats,
         }),
         Err(error) => Err(reported_fault(error)),
     }

@@ -3,44 +3,77 @@ ghost use Rattle.std.specs.List.{AllZip};
 ghost use Rattle.po_catalog.specs.Duplicate.{HasNoDuplicate, join_out_of_memory};
 ghost use Rattle.po_catalog.specs.Joined.{joined_entries};
 ghost use Rattle.po_entry.specs.TextEntry.{slice_texts};
-ghost use Rattle.po_compile.specs.Accepted.{IsReadingFault};
-ghost use Rattle.po_compile.specs.Collected.{ReadsLive};
+ghost use Rattle.po_compile.specs.Accepted.{IsReadingFault, fault_of_input};
+ghost use Rattle.po_compile.specs.Collected.{HoldsEntries, HoldsLive};
+ghost use Rattle.po_compile.specs.CompiledInputs.{AreCollected};
 ghost use Rattle.po_compile.specs.JoinedRows.{AreDistinct, AreSortedRows, HasOneHeader, IsRepeatFault, IsRepeatInInput, OfAllInputs};
 ghost use Rattle.po_compile.specs.declared.collecting.Lengths.{Lengths as LengthsSeen};
 
-use crate::collecting::{Collected, Lengths, collect};
-use crate::reading::fault_of_input;
+use crate::collecting::{Collected, Lengths, add_messages, collect};
 use crate::row::Row;
 use crate::sorting::sorted_rows;
 use po_catalog::JoinError;
+use po_entry::{Catalogue, Entry};
 use po_reader::laws::entries_can_stand;
-use std::alloc::Global;
+use po_syntax::{PoError, PoFault};
+use std::alloc::{AllocError, Global};
 use std::slice::from_ref;
 
 /// Collects the messages of the live entries of several texts. Refused with the fault of `read`, of
 /// the first text that has one, if no text before it has a duplicate, and else with the first of
 /// those; and where an allocation failed.
-pub(crate) fn collect_all(
+pub fn collect_all(
     alloc: Global,
     texts: &[&[u8]],
     use_fuzzy: bool,
 ) -> Result<Vec<Collected>, JoinError>
     requires { length texts.now < 2 ^ 32 }
-    ensures found { IfOk result (λ inputs. AllZip (ReadsLive use_fuzzy) (slice_texts texts.now) inputs.items) }
+    ensures found { IfOk result (λ inputs. AreCollected use_fuzzy (slice_texts texts.now) inputs.items) }
     ensures fault { IfErr result (IsReadingFault (slice_texts texts.now)) }
 {
+    entries_can_stand();
     let mut inputs = Vec::with_capacity(alloc, texts.len())?;
     for (input, text) in texts.iter().enumerate() {
         match collect(alloc, text, use_fuzzy) {
             Ok(collected) => inputs.push(collected)?,
             Err(error) => {
-                entries_can_stand();
                 check_each(alloc, &inputs)?;
                 return Err(fault_of_input(input as u32, error));
             }
         }
     }
     Ok(inputs)
+}
+
+/// Collects the messages of the live entries of catalogues.
+pub fn collect_catalogues(
+    alloc: Global,
+    catalogues: &[Catalogue],
+    use_fuzzy: bool,
+) -> Result<Vec<Collected>, AllocError>
+    ensures { IfOk result (λ inputs. AllZip (HoldsEntries use_fuzzy) catalogues.now inputs.items) }
+{
+    let mut inputs = Vec::with_capacity(alloc, catalogues.len())?;
+    for catalogue in catalogues {
+        inputs.push(collect_entries(alloc, catalogue.entries(), use_fuzzy)?)?;
+    }
+    Ok(inputs)
+}
+
+/// Collects the messages of the live ones of entries.
+fn collect_entries(
+    alloc: Global,
+    entries: &[Entry],
+    use_fuzzy: bool,
+) -> Result<Collected, AllocError>
+    ensures { IfOk result (HoldsLive use_fuzzy entries.now) }
+{
+    let mut collected = Collected {
+        bytes: Vec::new(alloc),
+        lengths: Vec::new(alloc),
+    };
+    add_messages(&mut collected, entries, use_fuzzy)?;
+    Ok(collected)
 }
 
 /// Whether no live entry of an input repeats another of the same input. Refused with the fault of
@@ -104,5 +137,20 @@ pub(crate) fn distinct_rows(alloc: Global, inputs: &[Collected]) -> Result<Vec<R
             check_each(alloc, inputs)?;
             Err(error)
         }
+    }
+}
+
+/// The fault of an input. Out of memory is of no input.
+fn fault_of_input(input: u32, error: PoError) -> JoinError
+    ensures { result ≡ fault_of_input input error }
+{
+    let input = match error.kind {
+        PoFault::OutOfMemory => 0,
+        _ => input,
+    };
+    JoinError {
+        input,
+        first_input: input,
+        error,
     }
 }

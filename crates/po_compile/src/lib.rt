@@ -2,9 +2,10 @@
 //!
 //! [`compile`] compiles one text, [`compile_all`] several. No catalogue is made of them: the messages
 //! of each text are collected in a buffer of its own, and their rows are sorted.
+//! [`compiled_messages`] are those that are compiled, before they are sorted.
 //!
-//! The modules in reading order: `options`, `compiling`, `messages`, `collecting`, `prefix`, `row`,
-//! `rows`, `sorting`, `inputs`, `reading`; then `laws`.
+//! The modules in reading order: `options`, `compiling`, `inputs`, `collecting`, `prefix`, `row`,
+//! `rows`, `sorting`, `messages`, `reading`; then `laws`.
 
 #![tactic(auto)]
 
@@ -20,7 +21,9 @@ mod row;
 mod rows;
 mod sorting;
 
-pub use crate::compiling::{compile, compile_all, compile_catalogues};
-pub use crate::messages::is_compiled;
+pub use crate::collecting::{Collected, Lengths, Status};
+pub use crate::compiling::{compile, compile_all, compile_collected};
+pub use crate::inputs::{collect_all, collect_catalogues};
+pub use crate::messages::{CompiledMessage, compiled_messages};
 pub use crate::options::{Compiled, Options};
-pub use crate::reading::{read_all, read_distinct};
+pub use crate::reading::read_distinct;

@@ -1,5 +1,5 @@
 -- What stands before the first byte of a kind, and after it.
-use Rattle.std.proofs.Common.{◌≡◌, ◌≢◌, ℕ, ◌+◌, ◌<◌, ◌==◌, Bool, true, false, cond, List, [], ◌∷◌, ◌++◌, None, Some, refl, sym, ap, ◌∙◌, length, get_or, take, drop, slice_get, arith, append_assoc, length-append, All}
+use Rattle.std.proofs.Common.{◌≡◌, ◌≢◌, ℕ, ◌+◌, ◌<◌, ◌==◌, Bool, true, false, cond, List, [], ◌∷◌, ◌++◌, Option, None, Some, MatchOption, IfSome, refl, sym, ap, ◌∙◌, length, get_or, take, drop, slice_get, arith, append_assoc, length-append, All}
 use Rattle.std.specs.List.{list_any, before_first, after_first, position_or_len, slice_split}
 use Rattle.std.specs.Borrow.{Bor}
 use Rattle.std.proofs.Math.Seq.{take-append_seam}
@@ -144,3 +144,16 @@ module _ (done : List (Bor (List ℕ))) (piece : Bor (List ℕ)) (all : List (Li
   -- the rest is the last piece
   pub last_piece : Lacks 0 piece.now → slice_texts done ++ forms piece.now ≡ all → slice_texts (done ++ piece ∷ []) ≡ all
   last_piece lacks so_far = pushed ∙ ap (λ l. slice_texts done ++ l) (sym (forms_one piece.now lacks)) ∙ so_far
+
+-- what is before the first NUL of a translation, and what is after it
+abbrev IsCut : List ℕ → Option (Bor (List ℕ) × Bor (List ℕ)) → Type 0
+IsCut text result = MatchOption result (Lacks 0 text) (λ parts. (text ≡ parts.0.now ++ 0 ∷ parts.1.now) × Lacks 0 parts.0.now)
+
+pub form_split : (text : List ℕ) (result : Option (Bor (List ℕ) × Bor (List ℕ))) → IsCut text result
+    → MatchOption result (forms text ≡ text ∷ []) (λ parts. forms text ≡ parts.0.now ∷ forms parts.1.now)
+form_split text None lacks = forms_one text lacks
+form_split text (Some parts) is = ap forms is.0 ∙ forms_cut parts.0.now parts.1.now is.1
+
+pub rest_shorter : (text : List ℕ) (result : Option (Bor (List ℕ) × Bor (List ℕ))) → IsCut text result → IfSome result (λ parts. length parts.1.now < length text)
+rest_shorter text None lacks = tt
+rest_shorter text (Some parts) is = omega (arith, ap length is.0, length-append parts.0.now (0 ∷ parts.1.now))

@@ -28,9 +28,10 @@ use Rattle.po_compile.specs.CompiledList.{compiled_list, is_compiled}
 use Rattle.po_compile.specs.CompiledMessages.{AreMessagesOf, message_of, messages_of_entries, original_of, translation_of}
 use Rattle.po_compile.specs.Compiling.{IsCompilation}
 use Rattle.po_compile.specs.Headline.{MessagesAreOne}
-use Rattle.po_compile.specs.Parts.{HasParts, JoinedEntriesCanStand, MessagesDiffer, MessagesHaveParts, OneTextIsRead}
+use Rattle.po_compile.specs.MessageLaws.{HasParts, JoinedEntriesCanStand, MessagesDiffer, MessagesHaveParts, OneTextIsRead}
 use Rattle.po_compile.specs.declared.options.Compiled.{Compiled}
 use Rattle.po_compile.specs.declared.options.Options.{Options}
+use Rattle.po_unformat.specs.MessageParts.{TextsComeBack}
 use Rattle.po_unformat.specs.RoundTrip.{CompilesTo, UnformatThenCompile}
 use Rattle.po_unformat.specs.Unformatted.{context_of, entry_of_message, id_of, plural_of, taken_forms, unformatted}
 use Rattle.po_unformat.proofs.CutLemmas.{context_cut, context_none, id_all, id_cut}
@@ -46,6 +47,16 @@ context_back (Some context) id lacks lacks' = context_cut context id lacks
 id_back : (context : Option (List ℕ)) (id : List ℕ) → IfSome context (Lacks 4) → Lacks 4 id → id_of (query_key context id) ≡ id
 id_back None id lacks lacks' = id_all id lacks'
 id_back (Some context) id lacks lacks' = id_cut context id lacks
+
+pub texts_come_back : MessagesHaveParts → TextsComeBack
+texts_come_back have_parts entry valid =
+    let parts = have_parts entry valid in
+    record {
+      context = ap context_of parts.key ∙ context_back entry.context entry.id valid.context valid.id;
+      id = ap id_of parts.key ∙ id_back entry.context entry.id valid.context valid.id;
+      plural = parts.plural;
+      forms_are = parts.forms_are;
+    }
 
 forms_back : (plural : Option (List ℕ)) (all : List (List ℕ)) → (plural ≡ None → length all ≡ 1) → taken_forms plural all ≡ all
 forms_back None all one = take_all 1 all (omega (arith, one refl))
@@ -89,17 +100,17 @@ bare_valid entry valid =
     }
 
 -- the entry of a message can stand in a catalogue, is translated, and has this message
-record ComesBack (entry : TextEntry) (m : Message) : Type 0 where
+record IsAgain (entry : TextEntry) (m : Message) : Type 0 where
   valid : IsCatalogueEntry entry
   translated : has_translation entry ≡ true
   again : message_of entry ≡ m
 
 abbrev IsReturned : Message → Type 0
-IsReturned m = ComesBack (entry_of_message m) m
+IsReturned m = IsAgain (entry_of_message m) m
 
 returned : MessagesHaveParts → (entry : TextEntry) → IsCatalogueEntry entry → has_translation entry ≡ true → IsReturned (message_of entry)
 returned parts entry can_stand translated =
-    subst (λ e. ComesBack e (message_of entry)) (sym (entry_back entry can_stand.valid (parts entry can_stand.valid)))
+    subst (λ e. IsAgain e (message_of entry)) (sym (entry_back entry can_stand.valid (parts entry can_stand.valid)))
     (record { valid = record { valid = bare_valid entry can_stand.valid; charset = can_stand.charset }; translated = translated; again = refl })
 
 right : (a b : Bool) → (a && b) ≡ true → b ≡ true

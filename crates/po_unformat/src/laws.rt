@@ -1,7 +1,7 @@
 //! Laws of msgunfmt, each the contract of a function that does nothing: a call brings the law into
 //! a proof.
 
-ghost use Rattle.po_unformat.specs.MessageParts.{EntriesAreOfMessages};
+ghost use Rattle.po_unformat.specs.MessageParts.{EntriesAreOfMessages, TextsComeBack};
 ghost use Rattle.po_unformat.specs.RoundTrip.{EmptyText, NoFaultWhereUnformatted, OneText, OneUnformatFault, TextOrFault, UnformatThenCompile};
 
 use mo_file::{mo_file_or_fault, one_first_fault, one_message_list};
@@ -69,3 +69,10 @@ pub fn text_or_fault()
 pub fn entries_are_of_messages()
     ensures { EntriesAreOfMessages }
 {}
+
+/// From the message that an entry is compiled to its context, msgid, plural and forms are taken.
+pub fn texts_come_back()
+    ensures { TextsComeBack }
+{
+    messages_have_parts();
+}

@@ -1,6 +1,6 @@
 //! The parts of originals and translations (GNU gettext manual, "The Format of GNU MO Files").
 
-ghost use Rattle.std.specs.Prelude.{◌≡◌, ◌++◌, [], ◌∷◌, IfOk, MatchOption, take};
+ghost use Rattle.std.specs.Prelude.{◌≡◌, ◌<◌, ◌++◌, [], ◌∷◌, IfOk, IfSome, MatchOption, length, take};
 ghost use Rattle.std.specs.Option.{option_copied};
 ghost use Rattle.mo_file.specs.Key.{key_of};
 ghost use Rattle.mo_lookup.specs.CatalogView.{forms};
@@ -27,7 +27,7 @@ fn split_once_at(byte: u8, text: &[u8]) -> Option<(&[u8], &[u8])>
 }
 
 /// The context of a key, where it has one, and its msgid.
-pub(crate) fn key_parts(key: &[u8]) -> (Option<&[u8]>, &[u8])
+pub fn key_parts(key: &[u8]) -> (Option<&[u8]>, &[u8])
     ensures context { option_copied result.0 ≡ context_of key.now }
     ensures id { result.1.now ≡ id_of key.now }
 {
@@ -38,7 +38,7 @@ pub(crate) fn key_parts(key: &[u8]) -> (Option<&[u8]>, &[u8])
 }
 
 /// The key of an original and the plural, where it has one.
-pub(crate) fn original_parts(original: &[u8]) -> (&[u8], Option<&[u8]>)
+pub fn original_parts(original: &[u8]) -> (&[u8], Option<&[u8]>)
     ensures key { result.0.now ≡ key_of original.now }
     ensures plural { option_copied result.1 ≡ plural_of original.now }
 {
@@ -56,6 +56,15 @@ pub(crate) fn first_part(text: &[u8]) -> &[u8]
         Some((piece, _)) => piece,
         None => text,
     }
+}
+
+/// The first form of a translation and what is after its NUL, where it has further forms.
+pub fn split_form(translation: &[u8]) -> Option<(&[u8], &[u8])>
+    ensures forms { MatchOption result (forms translation.now ≡ translation.now ∷ [])
+        (λ parts. forms translation.now ≡ parts.0.now ∷ forms parts.1.now) }
+    ensures shorter { IfSome result (λ parts. length parts.1.now < length translation.now) }
+{
+    split_once_at(NUL, translation)
 }
 
 /// The parts of a translation between its NULs.

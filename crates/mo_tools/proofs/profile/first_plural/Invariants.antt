@@ -1,8 +1,7 @@
 use Rattle.std.proofs.Common.{◌≡◌, drop, find}
-use Rattle.po_catalog.specs.JoinedView.{input_entries}
-use Rattle.mo_tools.specs.Profile.{is_plural}
+use Rattle.mo_tools.specs.Profile.{checked_messages, is_plural}
 use Rattle.mo_tools.proofs.profile.first_plural.Given as goal
 
--- the entries that are left decide
-abbrev pub invariant-loop-joined : goal.invariant-loop-joined
-invariant-loop-joined l = find is_plural (input_entries (drop l.joined-index l.entries)) ≡ find is_plural (input_entries l.entries)
+-- the messages that are left decide
+abbrev pub invariant-loop-message : goal.invariant-loop-message
+invariant-loop-message l = find is_plural (checked_messages (drop l.message-index l.messages)) ≡ find is_plural (checked_messages l.messages)

@@ -1,8 +1,7 @@
 use Rattle.std.proofs.Common.{◌≡◌, drop, find}
-use Rattle.po_catalog.specs.JoinedView.{input_entries}
-use Rattle.mo_tools.specs.Profile.{is_header_entry}
+use Rattle.mo_tools.specs.Profile.{checked_messages, is_header_entry}
 use Rattle.mo_tools.proofs.profile.header_of.Given as goal
 
--- the entries that are left decide
-abbrev pub invariant-loop-joined : goal.invariant-loop-joined
-invariant-loop-joined l = find is_header_entry (input_entries (drop l.joined-index l.entries)) ≡ find is_header_entry (input_entries l.entries)
+-- the messages that are left decide
+abbrev pub invariant-loop-message : goal.invariant-loop-message
+invariant-loop-message l = find is_header_entry (checked_messages (drop l.message-index l.messages)) ≡ find is_header_entry (checked_messages l.messages)

@@ -23,11 +23,13 @@ loop-input-preserved c =
     let inputs = c.loop-input.inputs.items in
     subst (AllZip (ReadsLive c.args.use_fuzzy) (slice_texts (take (i + 1) texts))) (sym c.in_ok-push-in-Ok.ensures.items)
     (subst (λ ts. AllZip (ReadsLive c.args.use_fuzzy) ts (inputs ++ c.in-Ok.collected ∷ [])) (sym (more_texts texts i text c.loop-input-test.true here))
-    (zip_more c.args.use_fuzzy (slice_texts (take i texts)) inputs text.now c.in-Ok.collected c.loop-input.invariant c.in-Ok.ensures.found))
+    (zip_more (ReadsLive c.args.use_fuzzy) (slice_texts (take i texts)) inputs text.now c.in-Ok.collected c.loop-input.invariant c.in-Ok.ensures.found))
 
 pub returns-clause-found : goal.returns-clause-found
 returns-clause-found c =
-    subst (λ ts. AllZip (ReadsLive c.args.use_fuzzy) (slice_texts ts) c.loop-input.inputs.items) (take_all c.loop-input.input c.args.texts.now c.loop-input-test.false) c.loop-input.invariant
+    let inputs = c.loop-input.inputs.items in
+    collected_of c.entries_can_stand.ensures c.args.use_fuzzy (slice_texts c.args.texts.now) inputs
+    (subst (λ ts. AllZip (ReadsLive c.args.use_fuzzy) (slice_texts ts) inputs) (take_all c.loop-input.input c.args.texts.now c.loop-input-test.false) c.loop-input.invariant)
 
 pub check_each-requires : goal.check_each-requires
 check_each-requires c =

@@ -1,10 +1,8 @@
-use Rattle.std.proofs.Common.{◌≡◌, ◌++◌, drop, length}
-use Rattle.mo_file.specs.Pairs.{messages_of_pairs}
-use Rattle.po_compile.specs.CompiledList.{compiled_list}
-use Rattle.po_compile.specs.CompiledMessages.{messages_of_entries}
+use Rattle.std.proofs.Common.{◌≡◌, take, map, filter}
+use Rattle.po_compile.specs.CompiledInputs.{compiled_view, is_compiled_message, view_of_message}
+use Rattle.po_compile.specs.JoinedRows.{input_view}
 use Rattle.po_compile.proofs.messages.messages_of.Given as goal
 
--- the messages so far, and those of the entries that are left, are all
-abbrev pub invariant-loop-entry : goal.invariant-loop-entry
-invariant-loop-entry l =
-    messages_of_pairs l.pairs.items ++ messages_of_entries (compiled_list l.use_fuzzy (drop (length l.yielded) l.fn.entries.items)) ≡ messages_of_entries (compiled_list l.use_fuzzy l.fn.entries.items)
+abbrev pub invariant-loop-row : goal.invariant-loop-row
+invariant-loop-row l =
+    map compiled_view l.messages.items ≡ map view_of_message (filter is_compiled_message (map input_view (take l.row-index l.rows)))

@@ -1,4 +1,4 @@
--- Laws that take apart what texts are compiled to.
+-- Laws of the messages that entries are compiled to, and of the entries of texts.
 use Rattle.std.specs.Prelude.{◌≡◌, ℕ, List, [], ◌∷◌, All, slice_get}
 use Rattle.std.specs.List.{slice_split}
 use Rattle.mo_file.specs.Key.{is_nul, key_of, query_key}
