@@ -15,26 +15,26 @@ pub(crate) const MSGFMT: &str = "Examples:
   pokit msgfmt --statistics --profile-check de.po
   pokit msgfmt -o - a.po b.po > all.mo
 
-Exit status: 0, or 1 after any fault; then no file is written.";
+Exit status: 0, or 1 after any fault. The output file is there whole, or as it was.";
 
 pub(crate) const MSGUNFMT: &str = "Examples:
   pokit msgunfmt -o de.po de.mo
   pokit msgunfmt < de.mo
 
-Exit status: 0, or 1 after any fault; then no file is written.";
+Exit status: 0, or 1 after any fault. The output file is there whole, or as it was.";
 
 pub(crate) const MSGATTRIB: &str = "Examples:
   pokit msgattrib --untranslated de.po
   pokit msgattrib --no-obsolete --clear-previous -o clean.po de.po
 
-Exit status: 0, or 1 after any fault; then no file is written.";
+Exit status: 0, or 1 after any fault. The output file is there whole, or as it was.";
 
 pub(crate) const MSGCAT: &str = "Examples:
   pokit msgcat -o all.po a.po b.po
   pokit msgcat --use-first -o all.po new.po old.po
   pokit msgcat --more-than 1 a.po b.po
 
-Exit status: 0, or 1 after any fault; then no file is written.";
+Exit status: 0, or 1 after any fault. The output file is there whole, or as it was.";
 
 pub(crate) const GETTEXT: &str = "Arguments:
   [TEXTDOMAIN]  The text domain, where -d isn't given

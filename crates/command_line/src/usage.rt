@@ -10,6 +10,7 @@ const UNKNOWN_TOOL: &str = "error: unrecognized subcommand '";
 
 /// How clap's advice begins, and that to pass an option as a file.
 const TIP: &str = "  tip: ";
+
 const AS_A_VALUE: &str = "  tip: to pass '";
 
 /// Options of GNU's msgfmt that check a text, or show its version.
@@ -133,15 +134,16 @@ pub fn text_of(alloc: Global, tool: Option<&str>, error: &Error) -> Result<Strin
     }
 }
 
-/// A text of clap's without the lines that begin with `omitted`, and with a tip before its usage.
+/// A text of clap's without the lines that begin with `omitted`, and with the tip, where there is one, in place of its
+/// usage, which is that of clap's own advice.
 fn with_tip(alloc: Global, whole: &str, omitted: &str, tip: &str) -> Result<String, AllocError> {
     let mut text = String::with_capacity(alloc, whole.len())?;
     let mut is_blank = false;
     for line in whole.split_inclusive('\n') {
-        if line.starts_with("Usage: ") {
+        if !tip.is_empty() && line.starts_with("Usage: ") {
             text.push_str(tip)?;
-        }
-        if !line.starts_with(omitted) && !(is_blank && line == "\n") {
+            is_blank = true;
+        } else if !line.starts_with(omitted) && !(is_blank && line == "\n") {
             text.push_str(line)?;
             is_blank = line == "\n";
         }
@@ -170,7 +172,8 @@ fn own_tip(alloc: Global, tool: Option<&str>, text: &str) -> Result<Option<Strin
 /// The advice on what GNU's alone has.
 fn tip_on(alloc: Global, word: &str, kind: &str) -> Result<String, AllocError> {
     format!(in alloc;
-        "  tip: '{word}' is {kind} of GNU gettext alone; see DIFFERENCES in the manual pokit(1)\n\n")
+        "  tip: '{word}' is {kind} of GNU gettext alone; see DIFFERENCES in the manual pokit(1)\n\n"
+    )
 }
 
 /// What stands between a beginning of a text and the next quote.
