@@ -6,7 +6,6 @@ use Rattle.std.proofs.lemmas.List.Elements.{All-weaker, All-filter}
 use Rattle.std.proofs.lemmas.List.Kept.{AllPairs-filter}
 use Rattle.mo_file.specs.Message.{Message}
 use Rattle.mo_file.specs.Key.{key_of}
-
 use Rattle.po_entry.specs.TextEntry.{TextEntry}
 use Rattle.mo_file.specs.Message.{originals, translations}
 use Rattle.mo_file.specs.Layout.{layout, header, table, terminated, originals_offset, translations_offset}
