@@ -24,8 +24,9 @@
  * Threads. A look-up changes nothing but the answer, so any number of threads may ask one catalogue at a time, once
  * the call of pokit_open has returned. pokit_open writes the catalogue and is called by one thread.
  *
- * Stack. pokit_open takes less than 1 KB of the stack, whatever the file. A look-up takes less than 2 KB where the
- * plural expression has at most 128 nodes, which is more than any language needs, and up to 42 KB where it has more.
+ * Stack. pokit_open takes less than 1 KB of the stack, whatever the file. A look-up takes little more than 1 KB
+ * where the plural expression has at most 128 nodes, which is more than any language needs, and up to 22 KB where it has
+ * more.
  *
  * Charsets. A text is the bytes of the file: nothing is converted. pokit_charset answers the charset that the header
  * entry names.

@@ -44,7 +44,7 @@
 #include "views.h"
 
 enum {
-    SMALL_RULE = 128, /* nodes of a plural expression that libpokit evaluates on 2 KB of stack */
+    SMALL_RULE = 128, /* nodes of a plural expression that libpokit evaluates on 1 KB of stack */
     EOT = 4           /* stands between context and msgid */
 };
 

@@ -11,7 +11,7 @@
 enum { ROOM = 256 * 1024, FILLED = 0xa5 };
 
 /* What each call may take, in bytes. */
-enum { TO_OPEN = 1024, TO_LOOK = 1792, TO_LOOK_FAR = 42 * 1024, TO_MAKE_A_PATH = 6 * 1024 };
+enum { TO_OPEN = 1024, TO_LOOK = 1280, TO_LOOK_FAR = 22 * 1024, TO_MAKE_A_PATH = 6 * 1024 };
 
 static pokit_catalog catalog;
 static struct file file;

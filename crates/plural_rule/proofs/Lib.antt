@@ -5,7 +5,8 @@ pub mod ParserSteps
 pub mod Numerals
 pub mod Scanning
 pub mod ParserRun
-pub mod Frames
+pub mod FrameLemmas
+pub mod FrameMarks
 pub mod Subtrees
 pub mod Searches
 pub mod Rules

@@ -1,13 +1,12 @@
 -- Internal: an evaluation that is under way, with nodes that wait for an operand.
-use Rattle.std.specs.Prelude.{◌≡◌, ℕ, ◌+◌, ◌-◌, ◌<◌, List, [], ◌∷◌, Option, None, nat_lt, if◌then◌else◌, option_and_then}
+use Rattle.std.specs.Prelude.{◌≡◌, ℕ, ◌+◌, ◌-◌, ◌<◌, List, [], ◌∷◌, Option, None, Some, nat_lt, if◌then◌else◌, option_and_then}
 use Rattle.plural_rule.specs.declared.node.Shape.{Shape}
 use Rattle.plural_rule.specs.declared.node.Shape.TheVariants.{Count as CountShape, Number as NumberShape, Not as NotShape, Binary as BinaryShape, Conditional as ConditionalShape}
-use Rattle.plural_rule.specs.declared.evaluator.Frame.{Frame}
-use Rattle.plural_rule.specs.declared.evaluator.Frame.TheVariants.{Not as NotFrame, First, Second, Condition}
+use Rattle.plural_rule.specs.declared.frames.Frame.{Frame}
+use Rattle.plural_rule.specs.declared.frames.Frame.TheVariants.{Not as NotFrame, First, Second, Condition}
 use Rattle.plural_rule.specs.declared.evaluator.Next.{Next}
 use Rattle.plural_rule.specs.declared.evaluator.Next.TheVariants.{Visit, Stop}
-use Rattle.plural_rule.specs.declared.operator.Operator.{Operator}
-use Rattle.plural_rule.specs.Node.{numeral, numeral_node}
+use Rattle.plural_rule.specs.Node.{numeral}
 use Rattle.plural_rule.specs.Expression.{Tree, Count, Number, Not, Binary, Conditional, nodes, negated, binary_value, combined, chosen, value, visited, visited_right}
 
 -- the part of a tree whose node stands at an index of the tree's table
@@ -43,9 +42,11 @@ pub record Evaluated : Type 0 where
 abbrev pub evaluated : Tree → ℕ → ℕ → Evaluated
 evaluated tree n steps = record { value = value tree n; steps = steps + visited tree n }
 
--- an operator before its second operand, with the value of the first
-abbrev pub second_frame : Operator → ℕ → Frame
-second_frame op left = let node = numeral_node left in Second op node.first node.second node.third node.fourth
+-- a node without operands, and its value
+pub record IsLeaf (part : Tree) (n v : ℕ) : Type 0 where
+  pub value_is : value part n ≡ Some v
+  pub one_step : visited part n ≡ 1
+  pub one_node : nodes part ≡ 1
 
 -- the outcome of a node that waits, from that of the operand that it waits for
 abbrev pub resumed : Tree → ℕ → Frame → Evaluated → Evaluated
@@ -55,8 +56,7 @@ resumed whole n (First op j) o =
       value = binary_value op o.value (value (subtree whole j) n);
       steps = o.steps + visited_right op o.value (visited (subtree whole j) n);
     }
-resumed whole n (Second op a b c d) o =
-    record { value = option_and_then (combined op (numeral a b c d)) o.value; steps = o.steps }
+resumed whole n (Second op left) o = record { value = option_and_then (combined op left) o.value; steps = o.steps }
 resumed whole n (Condition j k) o =
     record {
       value = chosen o.value (value (subtree whole j) n) (value (subtree whole k) n) None;
@@ -77,7 +77,7 @@ finished_next whole n frames steps (Stop v) = record { value = v; steps = steps 
 abbrev pub remaining_frame : Tree → Frame → ℕ
 remaining_frame whole NotFrame = 0
 remaining_frame whole (First op j) = nodes (subtree whole j)
-remaining_frame whole (Second op a b c d) = 0
+remaining_frame whole (Second op left) = 0
 remaining_frame whole (Condition j k) = nodes (subtree whole j) + nodes (subtree whole k)
 
 abbrev pub remaining : Tree → List Frame → ℕ
@@ -89,11 +89,18 @@ abbrev pub remaining_next : Tree → Next → ℕ
 remaining_next whole (Visit i) = nodes (subtree whole i)
 remaining_next whole (Stop v) = 0
 
+-- how many nodes at least were visited before so much waits: each node that waits, and the first
+-- operand of one that waits for its second
+abbrev pub least_steps : List Frame → ℕ
+least_steps [] = 0
+least_steps (Second op left ∷ frames) = 2 + least_steps frames
+least_steps (_ ∷ frames) = 1 + least_steps frames
+
 -- a node that waits names indices of the whole tree's table
 abbrev pub IsFrameOf : Tree → Frame → Type 0
 IsFrameOf whole NotFrame = Unit {0}
 IsFrameOf whole (First op j) = j < nodes whole
-IsFrameOf whole (Second op a b c d) = Unit {0}
+IsFrameOf whole (Second op left) = Unit {0}
 IsFrameOf whole (Condition j k) = (j < nodes whole) × (k < nodes whole)
 
 abbrev pub AreFramesOf : Tree → List Frame → Type 0

@@ -9,4 +9,5 @@ pub mod ShiftReduce
 pub mod Parts
 pub mod ParserState
 pub mod Scanner
+pub mod Frames
 pub mod Evaluation

@@ -8,12 +8,13 @@
 //! [`Rule::parse`] reads a rule, [`Rule::parse_into`] into memory of the caller, and [`evaluate`]
 //! computes its value at a count.
 //!
-//! The modules in reading order: `operator`, `token`, `lexer`, `node`, `parts`, `parser`, `evaluator`,
-//! `header`, `rule`, `laws`.
+//! The modules in reading order: `operator`, `token`, `lexer`, `node`, `parts`, `parser`, `frames`,
+//! `evaluator`, `header`, `rule`, `laws`.
 
 #![tactic(auto)]
 
 mod evaluator;
+mod frames;
 mod header;
 pub mod laws;
 mod lexer;

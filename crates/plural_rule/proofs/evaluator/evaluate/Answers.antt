@@ -11,13 +11,13 @@ count table is = ap length is ∙ length-post_order (tree_of table) 0
 pub evaluate_within-requires-clause-limit : goal.evaluate_within-requires-clause-limit
 evaluate_within-requires-clause-limit c = omega (arith, count c.args.table.now c.requires.post_order, c.requires.limit)
 
-pub evaluate_within-requires-clause-depth : goal.evaluate_within-requires-clause-depth
-evaluate_within-requires-clause-depth c = omega (arith, count c.args.table.now c.requires.post_order)
+pub evaluate_within-requires-clause-room : goal.evaluate_within-requires-clause-room
+evaluate_within-requires-clause-room c = omega (arith, count c.args.table.now c.requires.post_order)
 
 pub evaluate_within-requires-else-table-le-SHORT-clause-limit : goal.evaluate_within-requires-else-table-le-SHORT-clause-limit
 evaluate_within-requires-else-table-le-SHORT-clause-limit c =
     omega (arith, count c.args.table.now c.requires.post_order, c.requires.limit)
 
-pub evaluate_within-requires-else-table-le-SHORT-clause-depth : goal.evaluate_within-requires-else-table-le-SHORT-clause-depth
-evaluate_within-requires-else-table-le-SHORT-clause-depth c =
+pub evaluate_within-requires-else-table-le-SHORT-clause-room : goal.evaluate_within-requires-else-table-le-SHORT-clause-room
+evaluate_within-requires-else-table-le-SHORT-clause-room c =
     omega (arith, count c.args.table.now c.requires.post_order, c.requires.limit)

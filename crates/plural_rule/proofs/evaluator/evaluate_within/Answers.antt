@@ -1,7 +1,7 @@
-use Rattle.std.proofs.Common.{◌≡◌, ◌-◌, length, refl, ap, ◌∙◌, arith, rules}
+use Rattle.std.proofs.Common.{◌≡◌, ◌-◌, length, refl, ap, ◌∙◌, arith}
 use Rattle.plural_rule.specs.Expression.{nodes}
 use Rattle.plural_rule.specs.PostOrder.{tree_of}
-use Rattle.plural_rule.specs.Evaluation.{subtree, remaining}
+use Rattle.plural_rule.specs.Evaluation.{subtree, remaining, least_steps}
 use Rattle.plural_rule.proofs.ParserSteps.{length-post_order}
 use Rattle.plural_rule.proofs.Subtrees.{nodes-positive, subtree-last}
 use Rattle.plural_rule.proofs.evaluator.evaluate_within.Goals as goal
@@ -20,14 +20,7 @@ visits-init g c =
     record {
       outcome = rw (last, c.new-frames.ensures) refl;
       remaining = omega (arith, ap nodes last, ap (remaining whole) c.new-frames.ensures);
+      least = omega (arith, ap least_steps c.new-frames.ensures);
       index = omega arith;
       frames = rw c.new-frames.ensures tt;
-      size = omega (arith, ap length c.new-frames.ensures);
     }
-
-pub visit-requires : goal.visit-requires
-visit-requires g c =
-    let positive = nodes-positive (subtree (tree_of c.args.table.now) c.visits.index) in (
-      search rules,
-      (c.requires.post_order, (c.requires.limit, (c.visits.invariant.index, (omega arith, (c.requires.size, c.visits.invariant.frames))))),
-    )

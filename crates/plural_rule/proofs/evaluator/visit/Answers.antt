@@ -1,14 +1,37 @@
+use Rattle.std.proofs.Common.{◌<◌, length, arith, rules}
 use Rattle.plural_rule.specs.PostOrder.{tree_of}
+use Rattle.plural_rule.specs.Evaluation.{subtree}
+use Rattle.plural_rule.specs.Frames.{with_number}
+use Rattle.plural_rule.proofs.Subtrees.{nodes-positive}
+use Rattle.plural_rule.proofs.FrameLemmas.{least-length, least-numbers}
 use Rattle.plural_rule.proofs.evaluator.visit.Goals as goal
 
-pub returns-in-Count-clause-next : goal.returns-in-Count-clause-next
-returns-in-Count-clause-next g c = c.resume.ensures.next (tree_of c.args.table.now) c.requires.frames
+pub push-requires : goal.push-requires
+push-requires g c =
+    let whole = tree_of c.args.table.now in
+    let positive = nodes-positive (subtree whole c.args.index) in
+    let marks : length c.args.frames.now < g.row.NODES =
+    omega (arith, positive, c.requires.remaining, c.requires.room, c.requires.least, least-length c.args.frames.now) in
+    let numbers : with_number c.args.frames.now < g.row.NUMBERS =
+    omega (arith, positive, c.requires.remaining, c.requires.room, c.requires.half, c.requires.least, least-numbers whole c.args.frames.now) in
+    (search rules, (marks, numbers))
 
-pub returns-in-Count-clause-frames : goal.returns-in-Count-clause-frames
-returns-in-Count-clause-frames g c = c.resume.ensures.frames (tree_of c.args.table.now) c.requires.frames
+pub push-requires-in-Binary : goal.push-requires-in-Binary
+push-requires-in-Binary g c =
+    let whole = tree_of c.args.table.now in
+    let positive = nodes-positive (subtree whole c.args.index) in
+    let marks : length c.args.frames.now < g.row.NODES =
+    omega (arith, positive, c.requires.remaining, c.requires.room, c.requires.least, least-length c.args.frames.now) in
+    let numbers : with_number c.args.frames.now < g.row.NUMBERS =
+    omega (arith, positive, c.requires.remaining, c.requires.room, c.requires.half, c.requires.least, least-numbers whole c.args.frames.now) in
+    (search rules, (marks, numbers))
 
-pub returns-in-Number-clause-next : goal.returns-in-Number-clause-next
-returns-in-Number-clause-next g c = c.resume-in-Number.ensures.next (tree_of c.args.table.now) c.requires.frames
-
-pub returns-in-Number-clause-frames : goal.returns-in-Number-clause-frames
-returns-in-Number-clause-frames g c = c.resume-in-Number.ensures.frames (tree_of c.args.table.now) c.requires.frames
+pub push-requires-in-Conditional : goal.push-requires-in-Conditional
+push-requires-in-Conditional g c =
+    let whole = tree_of c.args.table.now in
+    let positive = nodes-positive (subtree whole c.args.index) in
+    let marks : length c.args.frames.now < g.row.NODES =
+    omega (arith, positive, c.requires.remaining, c.requires.room, c.requires.least, least-length c.args.frames.now) in
+    let numbers : with_number c.args.frames.now < g.row.NUMBERS =
+    omega (arith, positive, c.requires.remaining, c.requires.room, c.requires.half, c.requires.least, least-numbers whole c.args.frames.now) in
+    (search rules, (marks, numbers))

@@ -1,11 +1,12 @@
 -- What waits in an evaluation, with one more node at the end.
-use Rattle.std.proofs.Common.{◌≡◌, ℕ, ◌+◌, List, [], ◌∷◌, ◌++◌, option_and_then, None, refl, sym, ap, subst, ◌∙◌, ◌≤◌, arith}
-use Rattle.plural_rule.specs.declared.evaluator.Frame.{Frame}
-use Rattle.plural_rule.specs.declared.evaluator.Frame.TheVariants.{Not as NotFrame, First, Second, Condition}
+use Rattle.std.proofs.Common.{◌≡◌, ℕ, ◌+◌, List, [], ◌∷◌, ◌++◌, length, length-append, None, refl, sym, ap, subst, ◌∙◌, ◌≤◌, ◌<◌, arith}
+use Rattle.plural_rule.specs.declared.frames.Frame.{Frame}
+use Rattle.plural_rule.specs.declared.frames.Frame.TheVariants.{Not as NotFrame, First, Second, Condition}
 use Rattle.plural_rule.specs.declared.operator.Operator.{Operator}
-use Rattle.plural_rule.specs.Expression.{Tree, Not, Binary, Conditional, negated, binary_value, combined, chosen, value, visited, visited_right}
-use Rattle.plural_rule.specs.PostOrder.{numeral-parts}
-use Rattle.plural_rule.specs.Evaluation.{second_frame, Evaluated, evaluated, subtree, resumed, finished, remaining, remaining_frame, AreFramesOf, IsFrameOf}
+use Rattle.plural_rule.specs.Expression.{Tree, Not, Binary, Conditional, negated, binary_value, chosen, value, visited, visited_right}
+use Rattle.plural_rule.specs.Frames.{with_number}
+use Rattle.plural_rule.proofs.Subtrees.{nodes-positive}
+use Rattle.plural_rule.specs.Evaluation.{Evaluated, evaluated, subtree, resumed, finished, remaining, remaining_frame, least_steps, AreFramesOf, IsFrameOf}
 
 pub finished_more : (whole : Tree) (n : ℕ) (xs : List Frame) (f : Frame) (o : Evaluated) → finished whole n (xs ++ f ∷ []) o ≡ finished whole n xs (resumed whole n f o)
 finished_more whole n [] f o = refl
@@ -15,6 +16,20 @@ pub remaining_more : (whole : Tree) (xs : List Frame) (f : Frame) → remaining 
 remaining_more whole [] f = omega arith
 remaining_more whole (x ∷ xs) f = omega (arith, remaining_more whole xs f)
 
+pub least_more : (xs : List Frame) (f : Frame) → least_steps (xs ++ f ∷ []) ≡ least_steps xs + least_steps (f ∷ [])
+least_more [] f = omega arith
+least_more (NotFrame ∷ xs) f = omega (arith, least_more xs f)
+least_more (First op j ∷ xs) f = omega (arith, least_more xs f)
+least_more (Second op left ∷ xs) f = omega (arith, least_more xs f)
+least_more (Condition j k ∷ xs) f = omega (arith, least_more xs f)
+
+pub numbers_more : (xs : List Frame) (f : Frame) → with_number (xs ++ f ∷ []) ≡ with_number xs + with_number (f ∷ [])
+numbers_more [] f = omega arith
+numbers_more (NotFrame ∷ xs) f = omega (arith, numbers_more xs f)
+numbers_more (First op j ∷ xs) f = omega (arith, numbers_more xs f)
+numbers_more (Second op left ∷ xs) f = omega (arith, numbers_more xs f)
+numbers_more (Condition j k ∷ xs) f = omega (arith, numbers_more xs f)
+
 pub frames_more : (whole : Tree) (xs : List Frame) (f : Frame) → AreFramesOf whole xs → IsFrameOf whole f → AreFramesOf whole (xs ++ f ∷ [])
 frames_more whole [] f h last = (last, tt)
 frames_more whole (x ∷ xs) f h last = (h.0, frames_more whole xs f h.1 last)
@@ -23,34 +38,53 @@ pub frames_split : (whole : Tree) (xs : List Frame) (f : Frame) → AreFramesOf 
 frames_split whole [] f h = (tt, h.0)
 frames_split whole (x ∷ xs) f h = let s = frames_split whole xs f h.1 in ((h.0, s.0), s.1)
 
--- an operator before its second operand
-pub resumed_second : (whole : Tree) (n : ℕ) (op : Operator) (left : ℕ) (o : Evaluated) →
-    resumed whole n (second_frame op left) o ≡ record { value = option_and_then (combined op left) o.value; steps = o.steps }
-resumed_second whole n op left o =
-    ap (λ x. record { value = option_and_then (combined op x) o.value; steps = o.steps }) (numeral-parts left)
-
 -- an undefined operand makes the whole undefined
 resumed_undefined : (whole : Tree) (n steps : ℕ) (f : Frame) → resumed whole n f (record { value = None; steps = steps }) ≡ record { value = None; steps = steps }
 resumed_undefined whole n steps NotFrame = refl
 resumed_undefined whole n steps (First op j) = let e : steps + 0 ≡ steps = omega arith in ap (λ (s : ℕ). record { value = None; steps = s }) e
-resumed_undefined whole n steps (Second op a b c d) = refl
+resumed_undefined whole n steps (Second op left) = refl
 resumed_undefined whole n steps (Condition j k) = let e : steps + 0 ≡ steps = omega arith in ap (λ (s : ℕ). record { value = None; steps = s }) e
 
 pub finished_undefined : (whole : Tree) (n steps : ℕ) (xs : List Frame) → finished whole n xs (record { value = None; steps = steps }) ≡ record { value = None; steps = steps }
 finished_undefined whole n steps [] = refl
 finished_undefined whole n steps (x ∷ xs) = ap (resumed whole n x) (finished_undefined whole n steps xs) ∙ resumed_undefined whole n steps x
 
+-- so many nodes wait at most
+pub least-length : (xs : List Frame) → length xs ≤ least_steps xs
+least-length [] = omega arith
+least-length (NotFrame ∷ xs) = omega (arith, least-length xs)
+least-length (First op j ∷ xs) = omega (arith, least-length xs)
+least-length (Second op left ∷ xs) = omega (arith, least-length xs)
+least-length (Condition j k ∷ xs) = omega (arith, least-length xs)
+
+-- and so many of them have a number
+pub least-numbers : (whole : Tree) (xs : List Frame) → with_number xs + with_number xs ≤ least_steps xs + remaining whole xs
+least-numbers whole [] = omega arith
+least-numbers whole (NotFrame ∷ xs) = omega (arith, least-numbers whole xs)
+least-numbers whole (First op j ∷ xs) = omega (arith, least-numbers whole xs, nodes-positive (subtree whole j))
+least-numbers whole (Second op left ∷ xs) = omega (arith, least-numbers whole xs)
+least-numbers whole (Condition j k ∷ xs) = omega (arith, least-numbers whole xs, nodes-positive (subtree whole j))
+
 -- one frame less
 pub finished_pop : (whole : Tree) (n : ℕ) (frames rest : List Frame) (f : Frame) (o next final : Evaluated) → frames ≡ rest ++ f ∷ [] → finished whole n frames o ≡ final → resumed whole n f o ≡ next → finished whole n rest next ≡ final
 finished_pop whole n frames rest f o next final split is step =
     sym (ap (finished whole n rest) step) ∙ sym (finished_more whole n rest f o) ∙ sym (ap (λ xs. finished whole n xs o) split) ∙ is
 
-pub frames_pop : (whole : Tree) (frames rest : List Frame) (f g : Frame) → frames ≡ rest ++ f ∷ [] → f ≡ g → AreFramesOf whole frames → AreFramesOf whole rest × IsFrameOf whole g
-frames_pop whole frames rest f g split is h =
-    let s = frames_split whole rest f (subst (AreFramesOf whole) split h) in (s.0, subst (IsFrameOf whole) is s.1)
+pub frames_pop : (whole : Tree) (frames rest : List Frame) (f : Frame) → frames ≡ rest ++ f ∷ [] → AreFramesOf whole frames → AreFramesOf whole rest × IsFrameOf whole f
+frames_pop whole frames rest f split h = frames_split whole rest f (subst (AreFramesOf whole) split h)
 
-pub remaining_pop : (whole : Tree) (frames rest : List Frame) (f : Frame) → frames ≡ rest ++ f ∷ [] → remaining whole rest ≤ remaining whole frames
-remaining_pop whole frames rest f split = omega (arith, ap (remaining whole) split, remaining_more whole rest f)
+pub remaining_pop : (whole : Tree) (frames rest : List Frame) (f : Frame) → frames ≡ rest ++ f ∷ [] → remaining whole frames ≡ remaining whole rest + remaining_frame whole f
+remaining_pop whole frames rest f split = ap (remaining whole) split ∙ remaining_more whole rest f
+
+pub least_pop : (frames rest : List Frame) (f : Frame) → frames ≡ rest ++ f ∷ [] → least_steps frames ≡ least_steps rest + least_steps (f ∷ [])
+least_pop frames rest f split = ap least_steps split ∙ least_more rest f
+
+-- there is room for another in its place
+pub room_pop : (frames rest : List Frame) (f : Frame) (most : ℕ) → frames ≡ rest ++ f ∷ [] → length frames ≤ most → length rest < most
+room_pop frames rest f most split fits = omega (arith, ap length split, length-append rest (f ∷ []), fits)
+
+pub numbers_pop : (frames rest : List Frame) (f : Frame) (most : ℕ) → frames ≡ rest ++ f ∷ [] → with_number (f ∷ []) ≡ 1 → with_number frames ≤ most → with_number rest < most
+numbers_pop frames rest f most split one fits = omega (arith, ap with_number split, numbers_more rest f, one, fits)
 
 -- a visit of a node: what it becomes, and its first operand
 visits : (whole : Tree) (n steps : ℕ) (xs ys : List Frame) (frame : Frame) (first part : Tree) → ys ≡ xs ++ frame ∷ [] → resumed whole n frame (evaluated first n (steps + 1)) ≡ evaluated part n steps → finished whole n ys (evaluated first n (steps + 1)) ≡ finished whole n xs (evaluated part n steps)
