@@ -1,19 +1,13 @@
 -- Live entries that repeat an earlier one, by the numbers of their messages.
-use Rattle.std.proofs.Common.{◌≡◌, ◌≢◌, refl, sym, ap, ap₂, ◌∙◌, subst, ℕ, ◌+◌, ◌<◌, ◌≤◌, Bool, true, false, cond, filter, List, [], ◌∷◌, ◌++◌, Option, Some, None, append_assoc, length, get_or, take, drop, map, arith, All, zero, suc}
-use Rattle.std.specs.Prelude.{AllPairs, Contains}
-use Rattle.std.specs.BTreeMap.{BTreeMap, get, is_at}
-use Rattle.std.specs.Map.{lookup}
-use Rattle.std.specs.Ordering.{nat_cmp, is_eq}
-use Rattle.std.specs.Cmp.{nat_cmp_is}
-use Rattle.std.specs.declared.cmp.Ordering.{Ordering}
-use Rattle.std.specs.declared.cmp.Ordering.TheVariants.{Less, Equal, Greater}
-use Rattle.std.proofs.lemmas.Map.Lookups.{exact_unsigned}
-use Rattle.std.proofs.lemmas.List.{map-append, take_all, take-append-drop, get_or-map, length-map}
-use Rattle.std.proofs.lemmas.List.Elements.{All-nil, All-cons, All-append, All-map, All-weaker, All-head, All-tail}
+use Rattle.std.proofs.Common.{◌≡◌, ◌≢◌, refl, sym, ap, ap₂, ◌∙◌, subst, ℕ, ◌+◌, ◌<◌, Bool, true, false, cond, filter, List, [], ◌∷◌, ◌++◌, Option, Some, None, append_assoc, length, get_or, take, drop, map, arith, All, suc, ◌⊎◌, inl, inr}
+use Rattle.std.specs.Prelude.{Contains}
+use Rattle.std.proofs.lemmas.Bool.{cases_eq}
+use Rattle.std.proofs.lemmas.List.{map-append, take-append-drop, get_or-map, length-map}
+use Rattle.std.proofs.lemmas.List.Elements.{All-nil, All-cons, All-append, All-head}
 use Rattle.std.proofs.lemmas.List.Quantifiers.{all_pairs_push}
 use Rattle.std.proofs.Math.Seq.{drop-cons}
 use Rattle.po_entry.specs.TextEntry.{TextEntry}
-use Rattle.po_catalog.specs.Duplicate.{AllDiffer, HasNoDuplicate, IsFirstDuplicate, IsSameMessage, live_entries}
+use Rattle.po_catalog.specs.Duplicate.{AllDiffer, IsFirstDuplicate, IsSameMessage, live_entries}
 use Rattle.po_catalog.specs.Joined.{InputEntry, entries_of, in_input, is_live}
 use Rattle.po_entry.specs.Halves.{All-left, All-right}
 use Rattle.po_catalog.specs.Message.{Message, entry_message}
@@ -29,68 +23,59 @@ pub record IsAt (done : List Numbered) (number line : ℕ) : Type 0 where
   pub number_is : first.number ≡ number
   pub line_is : line ≡ first.line
 
--- the map has the lines of these, no two of which have one number
-pub record IsSeen (seen : BTreeMap ℕ ℕ) (done : List Numbered) : Type 0 where
-  pub found : (number line : ℕ) → get nat_cmp seen number ≡ Some line → IsAt done number line
-  pub absent : (number : ℕ) → get nat_cmp seen number ≡ None → All (λ n. n.number ≢ number) done
+-- the table has the lines of these, no two of which have one number
+pub record IsSeen (seen : List (Option ℕ)) (done : List Numbered) : Type 0 where
+  pub found : (number line : ℕ) → get_or seen number None ≡ Some line → IsAt done number line
+  pub absent : (number : ℕ) → get_or seen number None ≡ None → All (λ n. n.number ≢ number) done
   pub differ : NumbersDiffer done
 
-pub seen_none : (seen : BTreeMap ℕ ℕ) → seen.entries ≡ [] → IsSeen seen []
+pub seen_none : (seen : List (Option ℕ)) → seen ≡ [] → IsSeen seen []
 seen_none seen empty =
-    let none : (number : ℕ) → get nat_cmp seen number ≡ None = λ number. ap (λ entries. lookup (is_at (nat_cmp number)) entries) empty in
+    let none : (number : ℕ) → get_or seen number None ≡ None = λ number. ap (λ l. get_or l number None) empty in
     record {
       found = λ number line is. absurd (let no = none number in cc (is, no));
       absent = λ number is. All-nil (λ n. n.number ≢ number);
-      differ = λ i j d below inside. absurd (omega arith);
+      differ = λ i j d below inside. absurd (omega (arith, inside));
     }
-
-equal_is : (o : Ordering) → is_eq o ≡ true → o ≡ Equal
-equal_is Less h = cc
-equal_is Equal h = refl
-equal_is Greater h = cc
-
-same_number : (a b : ℕ) → is_at (nat_cmp a) b ≡ true → a ≡ b
-same_number a b h = exact_unsigned a b (equal_is (nat_cmp a b) h)
-
-number_same : (a b : ℕ) → a ≡ b → is_at (nat_cmp a) b ≡ true
-number_same a b same = ap is_eq (sym (nat_cmp_is a b Equal same))
-
-found_more : (done : List Numbered) (x : Numbered) (number line : ℕ) (rest : Option ℕ) (b : Bool) → is_at (nat_cmp x.number) number ≡ b → cond b (Some x.line) rest ≡ Some line → (rest ≡ Some line → IsAt done number line)
-    → IsAt (done ++ x ∷ []) number line
-found_more done x number line rest true tie h later =
-    let is : x.line ≡ line = cc in
-    record { before = done; first = x; after = []; split = refl; number_is = same_number x.number number tie; line_is = sym is }
-found_more done x number line rest false tie h later =
-    let found = later h in
-    record {
-      before = found.before;
-      first = found.first;
-      after = found.after ++ x ∷ [];
-      split = ap (λ l. l ++ x ∷ []) found.split ∙ append_assoc found.before (found.first ∷ found.after) (x ∷ []);
-      number_is = found.number_is;
-      line_is = found.line_is;
-    }
-
-absent_more : (done : List Numbered) (x : Numbered) (number : ℕ) (rest : Option ℕ) (b : Bool) → is_at (nat_cmp x.number) number ≡ b → cond b (Some x.line) rest ≡ None → (rest ≡ None → All (λ n. n.number ≢ number) done)
-    → All (λ n. n.number ≢ number) (done ++ x ∷ [])
-absent_more done x number rest true tie h later = absurd (cc)
-absent_more done x number rest false tie h later =
-    All-append (λ n. n.number ≢ number) done (x ∷ []) (later h)
-    (All-cons (λ n. n.number ≢ number) x [] (λ same. let e : true ≡ false = sym (number_same x.number number same) ∙ tie in cc (e)) (All-nil (λ n. n.number ≢ number)))
 
 -- one more, whose number none before it has
-pub seen_more : (old new : BTreeMap ℕ ℕ) (xs : List Numbered) (i : ℕ) (x : Numbered) → take (i + 1) xs ≡ take i xs ++ x ∷ [] → IsSeen old (take i xs) → get nat_cmp old x.number ≡ None
-    → ((q : ℕ) → get nat_cmp new q ≡ cond (is_at (nat_cmp x.number) q) (Some x.line) (get nat_cmp old q)) → IsSeen new (take (i + 1) xs)
-seen_more old new xs i x one seen none updated =
-    let done = take i xs in
-    subst (IsSeen new) (sym one) (record {
-      found = λ q line is. found_more done x q line (get nat_cmp old q) (is_at (nat_cmp x.number) q) refl (sym (updated q) ∙ is) (seen.found q line);
-      absent = λ q is. absent_more done x q (get nat_cmp old q) (is_at (nat_cmp x.number) q) refl (sym (updated q) ∙ is) (seen.absent q);
-      differ = all_pairs_push (λ a b. a.number ≢ b.number) done x seen.differ (seen.absent x.number none);
-    })
+module _ (old new : List (Option ℕ)) (xs : List Numbered) (i : ℕ) (x : Numbered) (one : take (i + 1) xs ≡ take i xs ++ x ∷ []) (seen : IsSeen old (take i xs)) (none : get_or old x.number None ≡ None)
+    (kept : get_or new x.number None ≡ Some x.line) (others : (q : ℕ) → q ≢ x.number → get_or new q None ≡ get_or old q None) where
+  abbrev done : List Numbered
+  done = take i xs
+
+  found_more : (q line : ℕ) → get_or new q None ≡ Some line → (q ≡ x.number) ⊎ (q ≡ x.number → ⊥) → IsAt (done ++ x ∷ []) q line
+  found_more q line is (inl same) =
+      let at : Some x.line ≡ Some line = sym kept ∙ sym (ap (λ n. get_or new n None) same) ∙ is in
+      let line_is : x.line ≡ line = cc in
+      record { before = done; first = x; after = []; split = refl; number_is = sym same; line_is = sym line_is }
+  found_more q line is (inr other) =
+      let before = seen.found q line (sym (others q other) ∙ is) in
+      record {
+        before = before.before;
+        first = before.first;
+        after = before.after ++ x ∷ [];
+        split = ap (λ l. l ++ x ∷ []) before.split ∙ append_assoc before.before (before.first ∷ before.after) (x ∷ []);
+        number_is = before.number_is;
+        line_is = before.line_is;
+      }
+
+  absent_more : (q : ℕ) → get_or new q None ≡ None → (q ≡ x.number) ⊎ (q ≡ x.number → ⊥) → All (λ n. n.number ≢ q) (done ++ x ∷ [])
+  absent_more q is (inl same) = absurd (let at : Some x.line ≡ None = sym kept ∙ sym (ap (λ n. get_or new n None) same) ∙ is in cc)
+  absent_more q is (inr other) =
+      All-append (λ n. n.number ≢ q) done (x ∷ []) (seen.absent q (sym (others q other) ∙ is))
+      (All-cons (λ n. n.number ≢ q) x [] (λ same. other (sym same)) (All-nil (λ n. n.number ≢ q)))
+
+  pub seen_more : IsSeen new (take (i + 1) xs)
+  seen_more =
+      subst (IsSeen new) (sym one) (record {
+        found = λ q line is. found_more q line is (cases_eq q x.number);
+        absent = λ q is. absent_more q is (cases_eq q x.number);
+        differ = all_pairs_push (λ a b. a.number ≢ b.number) done x seen.differ (seen.absent x.number none);
+      })
 
 -- one whose number one before it has
-pub seen_repeats : (old : BTreeMap ℕ ℕ) (xs : List Numbered) (i : ℕ) (x : Numbered) (line : ℕ) → i < length xs → x ≡ get_or xs i x → IsSeen old (take i xs) → get nat_cmp old x.number ≡ Some line
+pub seen_repeats : (old : List (Option ℕ)) (xs : List Numbered) (i : ℕ) (x : Numbered) (line : ℕ) → i < length xs → x ≡ get_or xs i x → IsSeen old (take i xs) → get_or old x.number None ≡ Some line
     → IsFirstRepeat xs (line, x.line)
 seen_repeats old xs i x line inside here seen is =
     let found = seen.found x.number line is in

@@ -1,12 +1,12 @@
 //! Live entries that repeat an earlier one.
 
-ghost use Rattle.std.specs.Prelude.{◌≡◌, ℕ, Bool, IfOk, List, MatchOption, OnOk, filter, length, map};
+ghost use Rattle.std.specs.Prelude.{◌≡◌, ◌≢◌, ℕ, Bool, IfOk, List, MatchOption, None, OnOk, Some, filter, get_or, length, map};
 ghost use Rattle.po_entry.specs.TextEntry.{TextEntry};
 ghost use Rattle.po_catalog.specs.Message.{Message};
 ghost use Rattle.text_tools.specs.Repeats.{IsFirstRepeat, NumbersDiffer, are_numbered, are_placed, numbered};
 
 use std::alloc::{AllocError, Global};
-use std::collections::BTreeMap;
+use std::mem::replace;
 
 /// Where an entry stands, and whether it is looked at.
 #[derive(Clone, Copy)]
@@ -51,14 +51,31 @@ fn live_ones(
     Ok(live)
 }
 
+/// Keeps the line of a number, in a table by numbers. Returns the line that was kept before.
+fn keep_line(
+    seen: &mut Vec<Option<u32>>,
+    number: usize,
+    line: u32,
+) -> Result<Option<u32>, AllocError>
+    ensures before { IfOk result (λ before. before ≡ get_or seen.old.items number None) }
+    ensures kept { OnOk result (get_or seen.new.items number None ≡ Some line) }
+    ensures others { OnOk result ((other : ℕ) → other ≢ number
+        → get_or seen.new.items other None ≡ get_or seen.old.items other None) }
+{
+    while seen.len() <= number {
+        seen.push(None)?;
+    }
+    Ok(replace(&mut seen[number], Some(line)))
+}
+
 /// The lines of the earliest that has the number of an earlier one: that of the earlier one, and its
 /// own.
 fn first_repeat(alloc: Global, entries: &[Numbered]) -> Result<Option<(u32, u32)>, AllocError>
     ensures { IfOk result (λ found. MatchOption found (NumbersDiffer entries.now) (IsFirstRepeat entries.now)) }
 {
-    let mut seen = BTreeMap::new(alloc);
+    let mut seen = Vec::new(alloc);
     for entry in entries {
-        if let Some(line) = seen.insert(entry.number, entry.line)? {
+        if let Some(line) = keep_line(&mut seen, entry.number, entry.line)? {
             return Ok(Some((line, entry.line)));
         }
     }

@@ -1,4 +1,4 @@
-use Rattle.std.proofs.Common.{◌≡◌, sym, ◌∙◌, get_or}
+use Rattle.std.proofs.Common.{sym, ◌∙◌, get_or}
 use Rattle.std.proofs.lemmas.List.{get_or_default, take_more}
 use Rattle.text_tools.specs.declared.repeats.Numbered.{Numbered}
 use Rattle.text_tools.proofs.RepeatLemmas.{seen_more, seen_repeats}
@@ -10,7 +10,7 @@ returns-in-Some c =
     let xs = c.args.entries.now in
     let i = c.loop-entry.entry-index in
     let x = get_or xs i none in
-    seen_repeats c.loop-entry.seen xs i x c.in-Some.line c.loop-entry-test.true (get_or_default xs i none x c.loop-entry-test.true) c.loop-entry.invariant (sym c.in_ok-line.ensures.old ∙ c.in-Some.is)
+    seen_repeats c.loop-entry.seen.items xs i x c.in-Some.line c.loop-entry-test.true (get_or_default xs i none x c.loop-entry-test.true) c.loop-entry.invariant (sym c.in_ok-line.ensures.before ∙ c.in-Some.is)
 
 pub loop-entry-preserved : goal.loop-entry-preserved
 loop-entry-preserved c =
@@ -18,4 +18,5 @@ loop-entry-preserved c =
     let xs = c.args.entries.now in
     let i = c.loop-entry.entry-index in
     let x = get_or xs i none in
-    seen_more c.loop-entry.seen c.insert.new.self xs i x (take_more xs i none c.loop-entry-test.true) c.loop-entry.invariant (sym c.in_ok-line.ensures.old ∙ c.in_default.is) (λ q. c.in_ok-line.ensures.updates.0 q)
+    seen_more c.loop-entry.seen.items c.keep_line.new.seen.items xs i x (take_more xs i none c.loop-entry-test.true) c.loop-entry.invariant (sym c.in_ok-line.ensures.before ∙ c.in_default.is)
+    c.in_ok-line.ensures.kept c.in_ok-line.ensures.others
