@@ -91,17 +91,14 @@ impl Rule {
     pub fn parse(header: &[u8]) -> Rule
         ensures { IsRuleOf expression_limit header.now result }
     {
-        let mut rule = Rule {
-            source: Source::Header,
-            nplurals: 1,
-            node_count: 1,
-            nodes: [Node::COUNT; EXPRESSION_LIMIT],
-        };
-        let parsed = Rule::parse_into(header, &mut rule.nodes);
-        rule.source = parsed.source;
-        rule.nplurals = parsed.nplurals;
-        rule.node_count = parsed.node_count;
-        rule
+        let mut nodes = [Node::COUNT; EXPRESSION_LIMIT];
+        let parsed = Rule::parse_into(header, &mut nodes);
+        Rule {
+            source: parsed.source,
+            nplurals: parsed.nplurals,
+            node_count: parsed.node_count,
+            nodes,
+        }
     }
 
     /// The same with the nodes at the beginning of `room`, as [`evaluate`] takes them. What stands
