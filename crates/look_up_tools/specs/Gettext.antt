@@ -7,7 +7,7 @@ use Rattle.mo_file.specs.MoFile.{IsMoFile}
 use Rattle.mo_file.specs.Fault.{IsFirstFault}
 use Rattle.mo_lookup.specs.Chain.{chain_answered}
 use Rattle.mo_lookup.specs.CatalogView.{CatalogView, IsCatalogView}
-use Rattle.po_shell.specs.Counts.{count_in}
+use Rattle.po_shell.specs.CountArgument.{count_in}
 use Rattle.po_shell.specs.Escapes.{expansion, has_no_newline}
 use Rattle.tool_runs.specs.FaultText.{fault_line, mo_text}
 use Rattle.tool_runs.specs.NamedFile.{NamedFile}

@@ -4,7 +4,7 @@ ghost use Rattle.std.specs.List.{list_any};
 ghost use Rattle.std.specs.Option.{option_copied};
 ghost use Rattle.mo_lookup.specs.Chain.{chain_answered};
 ghost use Rattle.mo_lookup.specs.Query.{given};
-ghost use Rattle.po_shell.specs.Counts.{count_in};
+ghost use Rattle.po_shell.specs.CountArgument.{count_in};
 ghost use Rattle.po_shell.specs.Escapes.{expansion, has_no_newline};
 ghost use Rattle.tool_runs.specs.FaultText.{fault_line, mo_text};
 ghost use Rattle.tool_runs.specs.Run.{run_view};

@@ -1,5 +1,6 @@
 -- What msgfmt writes and reports (manual, "Invoking the msgfmt Program").
-use Rattle.std.specs.Prelude.{◌≡◌, ◌≢◌, ◌⊎◌, ◌^◌, ◌≤◌, length, nat_lt, ◌==◌, ℕ, Bool, true, List, [], ◌∷◌, map, slice_get, Option, None, Some, codes, decimal, ◌++◌, if◌then◌else◌}
+use Rattle.std.specs.Prelude.{◌≡◌, ◌≢◌, ◌⊎◌, ◌^◌, ◌≤◌, length, nat_lt, ◌==◌, ℕ, Bool, true, List, [], ◌∷◌, map}
+use Rattle.std.specs.Prelude.{slice_get, Option, None, Some, codes, decimal, ◌++◌, if◌then◌else◌}
 use Rattle.std.specs.Option.{option_map_or}
 use Rattle.po_syntax.specs.declared.fault.PoFault.{PoFault}
 use Rattle.po_syntax.specs.declared.fault.PoFault.TheVariants.{Duplicate, OutOfMemory as NoMemory}
@@ -14,7 +15,9 @@ use Rattle.po_compile.specs.declared.options.Compiled.{Compiled}
 use Rattle.po_compile.specs.declared.options.Options.{Options}
 use Rattle.mo_tools.specs.declared.msgfmt.MsgfmtOptions.{MsgfmtOptions}
 use Rattle.mo_tools.specs.declared.profile.CheckFault.{CheckFault}
-use Rattle.mo_tools.specs.declared.profile.CheckFault.TheVariants.{NoHeader, NoRule, FormCount, LeadingNewline, TrailingNewline, Undefined, IndexOutside, OutOfMemory}
+use Rattle.mo_tools.specs.declared.profile.CheckFault.TheVariants.{NoHeader, NoRule, FormCount, LeadingNewline}
+use Rattle.mo_tools.specs.declared.profile.CheckFault.TheVariants.{TrailingNewline, Undefined, IndexOutside}
+use Rattle.mo_tools.specs.declared.profile.CheckFault.TheVariants.{OutOfMemory}
 use Rattle.tool_runs.specs.FaultText.{po_text, duplicate_text, fault_line}
 use Rattle.tool_runs.specs.NamedFile.{NamedFile}
 use Rattle.mo_tools.specs.Profile.{IsChecked, Reported}
@@ -40,11 +43,13 @@ across_text file fault = po_text fault
 -- what is wrong with the inputs
 abbrev pub join_text : List NamedFile → JoinError → List ℕ
 join_text inputs error =
-    if error.first_input == error.input then po_text error.error.kind else across_text (input_name inputs error.first_input) error.error.kind
+    if error.first_input == error.input then po_text error.error.kind
+    else across_text (input_name inputs error.first_input) error.error.kind
 
 -- the line that says why the inputs aren't compiled
 abbrev pub join_line : List NamedFile → JoinError → List ℕ
-join_line inputs error = fault_line (codes "msgfmt") (input_name inputs error.input) error.error.line (join_text inputs error)
+join_line inputs error =
+    fault_line (codes "msgfmt") (input_name inputs error.input) error.error.line (join_text inputs error)
 
 -- the line at which a fault of the check is reported; 0 is none
 abbrev pub line_of_fault : CheckFault → ℕ
@@ -67,7 +72,8 @@ check_text OutOfMemory = codes "out of memory"
 
 -- the line that reports a fault of the check
 abbrev pub check_line : List NamedFile → Reported → List ℕ
-check_line inputs reported = fault_line (codes "msgfmt") (input_name inputs reported.0) (line_of_fault reported.1) (check_text reported.1)
+check_line inputs reported =
+    fault_line (codes "msgfmt") (input_name inputs reported.0) (line_of_fault reported.1) (check_text reported.1)
 
 -- the check of catalogues: its first fault, or none
 abbrev pub AreChecked : Bool → List (List TextEntry) → Option Reported → Type 0
@@ -115,7 +121,8 @@ IsMsgfmtRun inputs o run = IsRefused inputs o run ⊎ FailsCheck inputs o run �
 
 -- no input is refused: there is none, or they are compiled
 abbrev pub NoneRefused : List NamedFile → MsgfmtOptions → Type 0
-NoneRefused inputs o = (inputs ≡ []) ⊎ ((compiled : Compiled) × AreCompiled (compile_options o) (input_texts inputs) compiled)
+NoneRefused inputs o =
+    (inputs ≡ []) ⊎ ((compiled : Compiled) × AreCompiled (compile_options o) (input_texts inputs) compiled)
 
 -- the inputs are none, or 2^32 and more: no command line of msgfmt names so many
 abbrev pub AreNoneOrTooMany : List NamedFile → Type 0

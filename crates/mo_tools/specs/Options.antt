@@ -17,7 +17,8 @@ pub record IsOrder (text : List ℕ → Option (List ℕ) → Type 0) (order : O
   pub order_is : order ≡ order_of name
 
 -- each option of msgfmt by its name
-pub record AreMsgfmtOptions (flag : List ℕ → Bool → Type 0) (text : List ℕ → Option (List ℕ) → Type 0) (o : MsgfmtOptions) : Type 0 where
+pub record AreMsgfmtOptions (flag : List ℕ → Bool → Type 0)
+    (text : List ℕ → Option (List ℕ) → Type 0) (o : MsgfmtOptions) : Type 0 where
   pub use_fuzzy : flag (codes "use-fuzzy") o.use_fuzzy
   pub order : IsOrder text o.order
   pub statistics : flag (codes "statistics") o.statistics

@@ -1,6 +1,7 @@
 -- What `--profile-check` asks of the messages that are compiled: this project's own part of GNU msgfmt's
 -- checks (manual, "Invoking the msgfmt Program": `--check-header`, `--check-format`; "Plural forms").
-use Rattle.std.specs.Prelude.{◌≡◌, MatchOption, ℕ, ◌-◌, ◌==◌, slice_get, Bool, true, false, not, ◌&&◌, nat_lt, List, [], ◌∷◌, ◌++◌, length, find, map, Option, None, Some, if◌then◌else◌}
+use Rattle.std.specs.Prelude.{◌≡◌, MatchOption, ℕ, ◌-◌, ◌==◌, slice_get, Bool, true, false, not, ◌&&◌, nat_lt, List, []}
+use Rattle.std.specs.Prelude.{◌∷◌, ◌++◌, length, find, map, Option, None, Some, if◌then◌else◌}
 use Rattle.std.specs.List.{list_any, range_with_len}
 use Rattle.std.specs.Option.{is_some, option_or, option_to_list, option_map_or}
 use Rattle.mo_file.specs.Key.{key_of}
@@ -18,7 +19,8 @@ use Rattle.plural_rule.specs.declared.rule.Source.TheVariants.{Header, Default}
 use Rattle.mo_tools.specs.declared.profile.End.{End}
 use Rattle.mo_tools.specs.declared.profile.End.TheVariants.{Beginning, Ending}
 use Rattle.mo_tools.specs.declared.profile.CheckFault.{CheckFault}
-use Rattle.mo_tools.specs.declared.profile.CheckFault.TheVariants.{NoHeader, NoRule, FormCount, LeadingNewline, TrailingNewline, Undefined, IndexOutside}
+use Rattle.mo_tools.specs.declared.profile.CheckFault.TheVariants.{NoHeader, NoRule, FormCount, LeadingNewline}
+use Rattle.mo_tools.specs.declared.profile.CheckFault.TheVariants.{TrailingNewline, Undefined, IndexOutside}
 
 -- the texts that are taken from the message of an entry, with its input and line
 abbrev pub taken_entry : CompiledView → InputEntry
@@ -26,7 +28,8 @@ taken_entry m = record {
   input = m.input;
   entry =
       with_line m.line
-      (plain_entry (context_of (key_of m.message.original)) (id_of (key_of m.message.original)) (plural_of m.message.original) (forms m.message.translation));
+      (plain_entry (context_of (key_of m.message.original)) (id_of (key_of m.message.original))
+      (plural_of m.message.original) (forms m.message.translation));
 }
 
 abbrev pub checked_message : CompiledMessage → InputEntry
@@ -79,7 +82,8 @@ differ false b = b
 -- the plural or a form differs from the msgid in having a newline there
 abbrev pub differs_from_msgid : End → TextEntry → Bool
 differs_from_msgid end entry =
-    list_any (λ text. differ (has_newline end entry.id) (has_newline end text)) (option_to_list entry.plural ++ entry.forms)
+    list_any (λ text. differ (has_newline end entry.id) (has_newline end text))
+    (option_to_list entry.plural ++ entry.forms)
 
 -- the fault of an entry but the header: it has a plural, and not as many forms as the rule; or its
 -- plural or a form differs from its msgid in having a newline at the beginning, or else at the end
@@ -104,16 +108,19 @@ count_fault rule count = value_fault rule.nplurals count (value rule.tree count)
 unfoldable pub counts_below : ℕ → List ℕ
 counts_below end = range_with_len 0 end
 
--- the first fault of the messages that are compiled and have a header, with its rule, whose values are checked at the counts from 0 to 1,000
+-- the first fault of the messages that are compiled and have a header, with its rule, whose values
+-- are checked at the counts from 0 to 1,000
 abbrev pub first_fault : List InputEntry → RuleView → Option Reported
 first_fault entries rule =
     let plural = find is_plural entries in
     option_or (rule_fault rule.source plural)
-    (option_or (first_some (entry_fault rule.nplurals) entries) (if is_some plural then first_some (count_fault rule) (counts_below 1001) else None))
+    (option_or (first_some (entry_fault rule.nplurals) entries)
+    (if is_some plural then first_some (count_fault rule) (counts_below 1001) else None))
 
 -- The first fault of the messages that are compiled: that there is no header, or their first fault
 -- by the rule of the header.
 abbrev pub IsChecked : List InputEntry → Option Reported → Type 0
 IsChecked entries fault =
     MatchOption (find is_header_entry entries) (fault ≡ Some (0, NoHeader))
-    (λ header. (rule : RuleView) × IsRuleOf expression_limit (first_form header.entry.forms) rule × (fault ≡ first_fault entries rule))
+    (λ header. (rule : RuleView) × IsRuleOf expression_limit (first_form header.entry.forms) rule
+    × (fault ≡ first_fault entries rule))

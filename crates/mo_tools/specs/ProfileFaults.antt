@@ -1,4 +1,5 @@
--- What the check of a profile reports first, with a case for each fault (manual, "Invoking the msgfmt Program": the checks of msgfmt).
+-- What the check of a profile reports first, with a case for each fault (manual, "Invoking the
+-- msgfmt Program": the checks of msgfmt).
 use Rattle.std.specs.Prelude.{◌≡◌, ◌≢◌, ◌⊎◌, ℕ, ◌<◌, ◌≤◌, false, List, [], ◌∷◌, ◌++◌, length, All, Contains, None, Some}
 use Rattle.std.specs.Option.{option_to_list}
 use Rattle.po_entry.specs.TextEntry.{TextEntry}
@@ -11,7 +12,8 @@ use Rattle.plural_rule.specs.declared.rule.Source.TheVariants.{Header, Default}
 use Rattle.mo_tools.specs.declared.profile.End.{End}
 use Rattle.mo_tools.specs.declared.profile.End.TheVariants.{Beginning, Ending}
 use Rattle.mo_tools.specs.declared.profile.CheckFault.{CheckFault}
-use Rattle.mo_tools.specs.declared.profile.CheckFault.TheVariants.{NoRule, FormCount, LeadingNewline, TrailingNewline, Undefined, IndexOutside}
+use Rattle.mo_tools.specs.declared.profile.CheckFault.TheVariants.{NoRule, FormCount, LeadingNewline, TrailingNewline}
+use Rattle.mo_tools.specs.declared.profile.CheckFault.TheVariants.{Undefined, IndexOutside}
 use Rattle.mo_tools.specs.Profile.{Reported}
 
 -- the text begins, or ends, with a newline
@@ -25,7 +27,8 @@ Differ end a b = (HasNewline end a × (HasNewline end b → ⊥)) ⊎ ((HasNewli
 
 -- the plural or a form differs from the msgid in having a newline there
 abbrev pub DiffersAt : End → TextEntry → Type 0
-DiffersAt end entry = (text : List ℕ) × Contains (option_to_list entry.plural ++ entry.forms) text × Differ end entry.id text
+DiffersAt end entry =
+    (text : List ℕ) × Contains (option_to_list entry.plural ++ entry.forms) text × Differ end entry.id text
 
 -- the entry has a plural, and not so many forms
 abbrev pub HasOtherCount : ℕ → TextEntry → Type 0
@@ -34,8 +37,10 @@ HasOtherCount nplurals entry = (entry.plural ≢ None) × (length entry.forms �
 -- the fault of an entry, where the rule has so many forms: the first that holds
 pub data EntryFault (nplurals : ℕ) (entry : TextEntry) : CheckFault → Type 0 where
   count : HasOtherCount nplurals entry → EntryFault nplurals entry (FormCount entry.line)
-  leading : (HasOtherCount nplurals entry → ⊥) → DiffersAt Beginning entry → EntryFault nplurals entry (LeadingNewline entry.line)
-  trailing : (HasOtherCount nplurals entry → ⊥) → (DiffersAt Beginning entry → ⊥) → DiffersAt Ending entry → EntryFault nplurals entry (TrailingNewline entry.line)
+  leading : (HasOtherCount nplurals entry → ⊥) → DiffersAt Beginning entry
+      → EntryFault nplurals entry (LeadingNewline entry.line)
+  trailing : (HasOtherCount nplurals entry → ⊥) → (DiffersAt Beginning entry → ⊥) → DiffersAt Ending entry
+      → EntryFault nplurals entry (TrailingNewline entry.line)
 
 -- an entry other than the header has this fault, which is reported of its input
 pub record HasFault (nplurals : ℕ) (e : InputEntry) (reported : Reported) : Type 0 where
@@ -69,9 +74,16 @@ pub record IsFirst (P : InputEntry → Type 0) (entries : List InputEntry) (e : 
 abbrev pub NeedsNoOtherRule : List InputEntry → RuleView → Type 0
 NeedsNoOtherRule entries rule = (rule.source ≡ Header) ⊎ All (λ e. HasPlural e → ⊥) entries
 
--- The first fault of messages that have a header with this rule: no readable rule where an entry has a plural; then the first entry's; then, where an entry has a plural, that of the least count up to 1,000.
+-- The first fault of messages that have a header with this rule: no readable rule where an entry
+-- has a plural; then the first entry's; then, where an entry has a plural, that of the least count
+-- up to 1,000.
 pub data FirstFault (entries : List InputEntry) (rule : RuleView) : Reported → Type 0 where
-  no_rule : {e : InputEntry} {reason : Reason} → IsFirst HasPlural entries e → rule.source ≡ Default reason → FirstFault entries rule (e.input, NoRule e.entry.line reason)
-  in_entry : {e : InputEntry} {reported : Reported} → NeedsNoOtherRule entries rule → IsFirst (λ o. (other : Reported) × HasFault rule.nplurals o other) entries e → HasFault rule.nplurals e reported → FirstFault entries rule reported
-  at_count : {e : InputEntry} {fault : CheckFault} (least : ℕ) → IsFirst HasPlural entries e → rule.source ≡ Header → All (HasNoFault rule.nplurals) entries → least ≤ 1000
-      → ((n : ℕ) → n < least → HasNoCountFault rule n) → CountFault rule least fault → FirstFault entries rule (0, fault)
+  no_rule : {e : InputEntry} {reason : Reason} → IsFirst HasPlural entries e → rule.source ≡ Default reason
+      → FirstFault entries rule (e.input, NoRule e.entry.line reason)
+  in_entry : {e : InputEntry} {reported : Reported} → NeedsNoOtherRule entries rule
+      → IsFirst (λ o. (other : Reported) × HasFault rule.nplurals o other) entries e
+      → HasFault rule.nplurals e reported → FirstFault entries rule reported
+  at_count : {e : InputEntry} {fault : CheckFault} (least : ℕ) → IsFirst HasPlural entries e → rule.source ≡ Header
+      → All (HasNoFault rule.nplurals) entries → least ≤ 1000
+      → ((n : ℕ) → n < least → HasNoCountFault rule n) → CountFault rule least fault
+      → FirstFault entries rule (0, fault)

@@ -1,7 +1,7 @@
 //! What msgunfmt writes and reports: the PO text of an MO file.
 ghost use Rattle.std.specs.Prelude.{◌≡◌, ◌≢◌, ◌⊎◌, ◌+◌, ◌^◌, ◌<◌, ◌≤◌, ◌++◌, ℕ, List, IfOk, OnOk, OnErr, IsErrOf, Err};
 ghost use Rattle.std.specs.Io.KnownBytes.{Keeps};
-ghost use Rattle.po_unformat.specs.Unformatting.{IsUnformatted};
+ghost use Rattle.po_unformat.specs.UnformattedText.{IsUnformatted};
 ghost use Rattle.tool_runs.specs.Delivered.{IsCut, IsDelivered};
 ghost use Rattle.mo_tools.specs.Msgunfmt.{IsMsgunfmtRun, IsMsgunfmtRunOf, unformat_line, unformat_text, unformatted_run};
 ghost use Rattle.tool_runs.specs.Run.{refusal, run_view};

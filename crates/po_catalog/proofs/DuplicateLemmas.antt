@@ -11,7 +11,7 @@ use Rattle.po_catalog.specs.Duplicate.{IsSameMessage, AllDiffer, HasNoDuplicate,
 use Rattle.po_catalog.specs.JoinedView.{input_entry, input_entries}
 use Rattle.po_catalog.specs.MessageView.{message_of, messages}
 use Rattle.po_catalog.specs.declared.duplicate.JoinError.{JoinError}
-use Rattle.po_catalog.specs.declared.joining.JoinedEntry.{JoinedEntry}
+use Rattle.po_catalog.specs.declared.joining.InputEntry.{InputEntry as BorrowedEntry}
 use Rattle.po_catalog.specs.declared.message_index.MessageKey.{MessageKey}
 
 entry_of_kept : (b : Bool) (x : InputEntry) (xs : List InputEntry) → cond b (x.entry ∷ entries_of xs) (entries_of xs) ≡ entries_of (cond b (x ∷ xs) xs)
@@ -24,7 +24,7 @@ live_of_entries (x ∷ xs) =
     ap (λ l. cond (is_live x.entry) (x.entry ∷ l) l) (live_of_entries xs) ∙ entry_of_kept (is_live x.entry) x (live_entries xs)
 
 -- the live ones of one more entry
-module _ (entries : List JoinedEntry) (i : ℕ) (x : JoinedEntry) (inside : i < length entries) (here : x ≡ get_or entries i x) where
+module _ (entries : List BorrowedEntry) (i : ℕ) (x : BorrowedEntry) (inside : i < length entries) (here : x ≡ get_or entries i x) where
   one_more : (b : Bool) → is_live x.entry.now ≡ b → live_entries (take (i + 1) (input_entries entries)) ≡ live_entries (take i (input_entries entries)) ++ cond b (input_entry x ∷ []) []
   one_more b e =
       let long : i < length (input_entries entries) = omega (arith, inside, length-map entries input_entry) in
@@ -36,22 +36,22 @@ module _ (entries : List JoinedEntry) (i : ℕ) (x : JoinedEntry) (inside : i < 
   pub live_skipped : is_live x.entry.now ≡ false → live_entries (take (i + 1) (input_entries entries)) ≡ live_entries (take i (input_entries entries))
   live_skipped obsolete = one_more false obsolete ∙ append-nil (live_entries (take i (input_entries entries)))
 
-  pub live_more : (live new : List JoinedEntry) → is_live x.entry.now ≡ true → input_entries live ≡ live_entries (take i (input_entries entries)) → new ≡ live ++ x ∷ []
+  pub live_more : (live new : List BorrowedEntry) → is_live x.entry.now ≡ true → input_entries live ≡ live_entries (take i (input_entries entries)) → new ≡ live ++ x ∷ []
       → input_entries new ≡ live_entries (take (i + 1) (input_entries entries))
   live_more live new is are pushed = ap input_entries pushed ∙ map-append input_entry live (x ∷ []) ∙ ap (λ l. l ++ input_entry x ∷ []) are ∙ sym (one_more true is)
 
   pub messages_pushed : (keys new : List MessageKey) (key : MessageKey) → messages keys ≡ entry_messages (entries_of (input_entries (take i entries))) → new ≡ keys ++ key ∷ [] → message_of key ≡ entry_message x.entry.now
       → messages new ≡ entry_messages (entries_of (input_entries (take (i + 1) entries)))
   messages_pushed keys new key are pushed is =
-      let f : JoinedEntry → Message = λ e. entry_message e.entry.now in
-      let flat : (es : List JoinedEntry) → entry_messages (entries_of (input_entries es)) ≡ map f es = flat_of in
+      let f : BorrowedEntry → Message = λ e. entry_message e.entry.now in
+      let flat : (es : List BorrowedEntry) → entry_messages (entries_of (input_entries es)) ≡ map f es = flat_of in
       ap messages pushed ∙ map-append message_of keys (key ∷ []) ∙ ap₂ (λ l m. l ++ m ∷ []) (are ∙ flat (take i entries)) is
       ∙ sym (flat (take (i + 1) entries) ∙ ap (map f) (take_more entries i x inside) ∙ map-append f (take i entries) (get_or entries i x ∷ []) ∙ ap (λ e. map f (take i entries) ++ f e ∷ []) (sym here)) where
-        flat_of : (es : List JoinedEntry) → entry_messages (entries_of (input_entries es)) ≡ map (λ e. entry_message e.entry.now) es
+        flat_of : (es : List BorrowedEntry) → entry_messages (entries_of (input_entries es)) ≡ map (λ e. entry_message e.entry.now) es
         flat_of [] = refl
         flat_of (e ∷ es) = ap (λ l. entry_message e.entry.now ∷ l) (flat_of es)
 
-pub all_live : (entries : List JoinedEntry) (i : ℕ) → length entries ≤ i → live_entries (take i (input_entries entries)) ≡ live_entries (input_entries entries)
+pub all_live : (entries : List BorrowedEntry) (i : ℕ) → length entries ≤ i → live_entries (take i (input_entries entries)) ≡ live_entries (input_entries entries)
 all_live entries i past = ap live_entries (take_all i (input_entries entries) (omega (arith, past, length-map entries input_entry)))
 
 abbrev messages_of : List InputEntry → List Message
@@ -73,7 +73,7 @@ entries_differ entries apart = λ i j d below inside same.
 pub live_differ : (xs : List InputEntry) → AllPairs (λ a b. a ≢ b) (messages_of (live_entries xs)) → HasNoDuplicate (entries_of xs)
 live_differ xs apart = subst AllDiffer (sym (live_of_entries xs)) (entries_differ (entries_of (live_entries xs)) apart)
 
-pub repeat_within : (entries : List JoinedEntry) (first later : ℕ) → IsFirstRepeat (messages_of (input_entries entries)) first later → (first < length entries) × (later < length entries)
+pub repeat_within : (entries : List BorrowedEntry) (first later : ℕ) → IsFirstRepeat (messages_of (input_entries entries)) first later → (first < length entries) × (later < length entries)
 repeat_within entries first later repeat =
     let entry : InputEntry → TextEntry = λ e. e.entry in
     let inside : later < length entries = omega (arith, repeat.within, length-map entries input_entry, length-map (input_entries entries) entry, length-map (entries_of (input_entries entries)) entry_message) in
@@ -113,7 +113,7 @@ first_repeated xs first later a b d repeat is_first is_later =
     }
 
 -- the first repeated message of these entries, the live ones of others
-pub duplicate_found : (xs : List InputEntry) (entries : List JoinedEntry) (first later : ℕ) (a b : JoinedEntry) → input_entries entries ≡ live_entries xs → IsFirstRepeat (messages_of (input_entries entries)) first later
+pub duplicate_found : (xs : List InputEntry) (entries : List BorrowedEntry) (first later : ℕ) (a b : BorrowedEntry) → input_entries entries ≡ live_entries xs → IsFirstRepeat (messages_of (input_entries entries)) first later
     → a ≡ get_or entries first a → b ≡ get_or entries later b → IsFirstDuplicate xs (input_entry a) (input_entry b)
 duplicate_found xs entries first later a b live repeat is_first is_later =
     let within = repeat_within entries first later repeat in

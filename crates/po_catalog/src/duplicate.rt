@@ -6,7 +6,7 @@ ghost use Rattle.po_catalog.specs.Message.{entry_messages};
 ghost use Rattle.po_catalog.specs.MessageView.{messages};
 ghost use Rattle.po_entry.specs.Validity.{out_of_memory};
 
-use crate::joining::{JoinedEntry, add_entries, is_live, joined};
+use crate::joining::{InputEntry, add_entries, is_live, joined};
 use crate::message_index::{MessageKey, first_repeat, message_key};
 use po_entry::Catalogue;
 use po_syntax::{PoError, PoFault};
@@ -78,7 +78,7 @@ pub fn joined_duplicates(alloc: Global, catalogues: &[Catalogue]) -> Result<(), 
 }
 
 /// Looks for the earliest live entry that repeats an earlier live one.
-fn first_duplicate(alloc: Global, entries: &[JoinedEntry<'_>]) -> Result<(), JoinError>
+fn first_duplicate(alloc: Global, entries: &[InputEntry<'_>]) -> Result<(), JoinError>
     ensures exact { MatchResult result (λ _. HasNoDuplicate (entries_of (input_entries entries.now)))
         (IsDuplicateFault (input_entries entries.now)) }
 {
@@ -93,8 +93,8 @@ fn first_duplicate(alloc: Global, entries: &[JoinedEntry<'_>]) -> Result<(), Joi
 /// The live ones of the entries.
 fn live_entries<'a>(
     alloc: Global,
-    entries: &[JoinedEntry<'a>],
-) -> Result<Vec<JoinedEntry<'a>>, AllocError>
+    entries: &[InputEntry<'a>],
+) -> Result<Vec<InputEntry<'a>>, AllocError>
     ensures { IfOk result (λ live. input_entries live.items ≡ live_entries (input_entries entries.now)) }
 {
     let mut live = Vec::with_capacity(alloc, entries.len())?;
@@ -108,10 +108,7 @@ fn live_entries<'a>(
 }
 
 /// The keys of the entries' messages.
-fn keys_of<'a>(
-    alloc: Global,
-    entries: &[JoinedEntry<'a>],
-) -> Result<Vec<MessageKey<'a>>, AllocError>
+fn keys_of<'a>(alloc: Global, entries: &[InputEntry<'a>]) -> Result<Vec<MessageKey<'a>>, AllocError>
     ensures { IfOk result (λ keys. messages keys.items ≡ entry_messages (entries_of (input_entries entries.now))) }
 {
     let mut keys = Vec::with_capacity(alloc, entries.len())?;
@@ -122,7 +119,7 @@ fn keys_of<'a>(
 }
 
 /// What is reported of an entry that repeats an earlier one.
-fn duplicate(first: &JoinedEntry<'_>, later: &JoinedEntry<'_>) -> JoinError
+fn duplicate(first: &InputEntry<'_>, later: &InputEntry<'_>) -> JoinError
     ensures { result ≡ duplicate_fault (input_entry first.now) (input_entry later.now) }
 {
     JoinError {

@@ -9,7 +9,7 @@ use std::alloc::{AllocError, Global};
 
 /// An entry of one of several inputs.
 #[derive(Clone, Copy)]
-pub struct JoinedEntry<'a> {
+pub struct InputEntry<'a> {
     /// The input, counted from 0.
     pub input: u32,
     /// The entry, in the catalogue of that input.
@@ -18,7 +18,7 @@ pub struct JoinedEntry<'a> {
 
 /// The entries of several inputs in order, without the live headers of an input where an earlier
 /// input has a live header.
-pub fn joined(alloc: Global, catalogues: &[Catalogue]) -> Result<Vec<JoinedEntry<'_>>, AllocError>
+pub fn joined(alloc: Global, catalogues: &[Catalogue]) -> Result<Vec<InputEntry<'_>>, AllocError>
     requires { length catalogues.now < 2 ^ 32 }
     ensures list { IfOk result (λ entries. input_entries entries.items ≡ joined catalogues.now) }
     ensures valid { OnOk result (All IsCatalogueEntry (joined_entries catalogues.now)) }
@@ -77,7 +77,7 @@ fn move_entries(
 
 /// Adds the entries of an input, without its live headers where an earlier input has one.
 pub(crate) fn add_entries<'a>(
-    joined: &mut Vec<JoinedEntry<'a>>,
+    joined: &mut Vec<InputEntry<'a>>,
     entries: &'a [Entry],
     input: u32,
     headed: bool,
@@ -87,7 +87,7 @@ pub(crate) fn add_entries<'a>(
 {
     for entry in entries {
         if !(headed && is_live_header(entry)) {
-            joined.push(JoinedEntry { input, entry })?;
+            joined.push(InputEntry { input, entry })?;
         }
     }
     Ok(())

@@ -28,10 +28,10 @@ use Rattle.po_compile.proofs.RowLemmas.{key_of_entry, keys_of_rows, live_differ}
 use Rattle.po_compile.proofs.TextLemmas.{query_key_is_one}
 
 -- of rows that have their places from a number on, those before a place are the first
-first_rows : (rows : List Row) (from place : ℕ) → ((i : ℕ) (d : Row) → i < length rows → (get_or rows i d).place ≡ from + i) → filter (is_before place) rows ≡ take (place - from) rows
+first_rows : (rows : List Row) (from place : ℕ) → ((i : ℕ) (d : Row) → i < length rows → (get_or rows i d).index ≡ from + i) → filter (is_before place) rows ≡ take (place - from) rows
 first_rows [] from place placed = sym (take_all (place - from) [] (omega arith))
 first_rows (row ∷ rows) from place placed =
-    let here : row.place ≡ from = placed 0 row (omega arith) ∙ (let e : from + 0 ≡ from = omega arith in e) in
+    let here : row.index ≡ from = placed 0 row (omega arith) ∙ (let e : from + 0 ≡ from = omega arith in e) in
     let later = first_rows rows (suc from) place (λ i d inside. placed (suc i) d (omega (arith, inside)) ∙ (let e : from + suc i ≡ suc from + i = omega arith in e)) in
     elim (cases_lt from place) [
       | inl below ↦
@@ -58,11 +58,11 @@ first_row (row ∷ rows) some = row
 
 -- the place of a row, as a list of one number
 abbrev place_text : Row → List ℕ
-place_text row = row.place ∷ []
+place_text row = row.index ∷ []
 
 module _ (use_fuzzy : Bool) (live : List InputEntry) (rows sorted : List Row) (made : map input_view rows ≡ map (input_message use_fuzzy) live) (placed : ArePlaced rows) (permuted : IsPermutation rows sorted) where
   abbrev IsRowOf : Row → Type 0
-  IsRowOf row = (row.place < length live) × ((e : InputEntry) → input_view row ≡ input_message use_fuzzy (get_or live row.place e))
+  IsRowOf row = (row.index < length live) × ((e : InputEntry) → input_view row ≡ input_message use_fuzzy (get_or live row.index e))
 
   long : length rows ≡ length live
   long = sym (length-map rows input_view) ∙ ap length made ∙ length-map live (input_message use_fuzzy)
@@ -92,7 +92,7 @@ module _ (use_fuzzy : Bool) (live : List InputEntry) (rows sorted : List Row) (m
       let one = get_or-map place_text rows i x d (omega (arith, below, within)) in
       let other = get_or-map place_text rows j x d within in
       let texts : place_text (get_or rows i x) ≡ place_text (get_or rows j x) = sym one ∙ same ∙ other in
-      let both : (get_or rows i x).place ≡ (get_or rows j x).place = cc in
+      let both : (get_or rows i x).index ≡ (get_or rows j x).index = cc in
       let first = placed i x (omega (arith, below, within)) in
       let second = placed j x within in
       omega (arith, both, first, second, below))))
@@ -133,32 +133,32 @@ repeat_fault use_fuzzy entries rows sorted index a b valid are permuted in_order
     let e = first_entry live (omega (arith, later_inside)) in
     let at_most = places_of_pair sorted index d in_order found in
     let texts = length-map sorted place_text in
-    let apart : earlier.place ≢ later.place = λ same.
+    let apart : earlier.index ≢ later.index = λ same.
     places_differ use_fuzzy live rows sorted made placed permuted found.before index [] (omega (arith, next)) (omega (arith, texts, inside))
     (get_or-map place_text sorted found.before d [] (omega (arith, inside, next)) ∙ ap (λ (n : ℕ). n ∷ []) same ∙ sym (get_or-map place_text sorted index d [] inside)) in
-    let below : earlier.place < later.place = strictly earlier.place later.place at_most apart in
-    let first_split = split_at (take later.place live) earlier.place e (omega (arith, below, later_inside, length-take later.place live)) in
-    let first = get_or (take later.place live) earlier.place e in
-    let first_is : first ≡ get_or live earlier.place e = get_or-take later.place live earlier.place e below in
-    let last = get_or live later.place e in
+    let below : earlier.index < later.index = strictly earlier.index later.index at_most apart in
+    let first_split = split_at (take later.index live) earlier.index e (omega (arith, below, later_inside, length-take later.index live)) in
+    let first = get_or (take later.index live) earlier.index e in
+    let first_is : first ≡ get_or live earlier.index e = get_or-take later.index live earlier.index e below in
+    let last = get_or live later.index e in
     let clean : All LacksSeparators (entries_of live) = All-weaker IsCatalogueEntry LacksSeparators (λ x v. entry_lacks_separators x v.valid) (entries_of live) (subst (All IsCatalogueEntry) (sym (live_of entries)) (All-filter is_live IsCatalogueEntry (entries_of entries) valid)) in
     let clean_at : (k : ℕ) → k < length live → LacksSeparators (get_or live k e).entry = λ k within.
     subst LacksSeparators (get_or-map entry_of live k e e.entry within) (clean k e.entry (omega (arith, within, length-map live entry_of))) in
-    let clean_first : LacksSeparators first.entry = subst (λ (x : InputEntry). LacksSeparators x.entry) (sym first_is) (clean_at earlier.place (omega (arith, below, later_inside))) in
-    let clean_last : LacksSeparators last.entry = clean_at later.place later_inside in
+    let clean_first : LacksSeparators first.entry = subst (λ (x : InputEntry). LacksSeparators x.entry) (sym first_is) (clean_at earlier.index (omega (arith, below, later_inside))) in
+    let clean_last : LacksSeparators last.entry = clean_at later.index later_inside in
     let view_first : input_view earlier ≡ input_message use_fuzzy first = of_earlier.1 e ∙ ap (input_message use_fuzzy) (sym first_is) in
     let view_last = of_later.1 e in
     let keys : key_of_entry first.entry ≡ key_of_entry last.entry =
     sym (ap (λ (m : InputMessage). m.message.key) view_first) ∙ found.same d ∙ ap (λ (m : InputMessage). m.message.key) view_last in
-    let differ = entries_before use_fuzzy live rows sorted made placed permuted later.place (keys_before sorted index d found) in
+    let differ = entries_before use_fuzzy live rows sorted made placed permuted later.index (keys_before sorted index d found) in
     inr (
       first,
       last,
       record {
-        before = take earlier.place (take later.place live);
-        between = drop (suc earlier.place) (take later.place live);
-        after = drop (suc later.place) live;
-        order = split_at live later.place e later_inside ∙ ap (λ es. es ++ last ∷ drop (suc later.place) live) first_split;
+        before = take earlier.index (take later.index live);
+        between = drop (suc earlier.index) (take later.index live);
+        after = drop (suc later.index) live;
+        order = split_at live later.index e later_inside ∙ ap (λ es. es ++ last ∷ drop (suc later.index) live) first_split;
         same = query_key_is_one first.entry.context last.entry.context first.entry.id last.entry.id clean_first.context_eot clean_last.context_eot clean_first.id_eot clean_last.id_eot keys;
         differ = subst (λ (es : List InputEntry). AllDiffer (entries_of es)) first_split differ;
       },

@@ -29,8 +29,8 @@ not_below Greater c h other = cc
 -- a sorted row that doesn't have the key before it has one above
 row_rises : (a b : Row) → is_lt (row_cmp b a) ≡ false → key_cmp (key a) (key b) ≢ Equal → key_cmp (key a) (key b) ≡ Less
 row_rises a b sorted other =
-    not_below (key_cmp (key a) (key b)) (nat_cmp b.place a.place)
-    (subst (λ (o : Ordering). is_lt (ordering_then o (nat_cmp b.place a.place)) ≡ false) (nat_list_cmp_total.antisymm (key b) (key a)) sorted) other
+    not_below (key_cmp (key a) (key b)) (nat_cmp b.index a.index)
+    (subst (λ (o : Ordering). is_lt (ordering_then o (nat_cmp b.index a.index)) ≡ false) (nat_list_cmp_total.antisymm (key b) (key a)) sorted) other
 
 itself : (o : Ordering) → o ≡ ordering_reverse o → o ≡ Equal
 itself Less e = cc
@@ -46,10 +46,10 @@ at_most m n Equal e h = let same : m ≡ n = ranked m n Equal e in omega (arith,
 at_most m n Greater e h = let above : n < m = ranked m n Greater e in omega (arith, above)
 
 -- of two rows with one key, the first stands first in the text
-row_places : (a b : Row) → is_lt (row_cmp b a) ≡ false → key a ≡ key b → a.place ≤ b.place
+row_places : (a b : Row) → is_lt (row_cmp b a) ≡ false → key a ≡ key b → a.index ≤ b.index
 row_places a b sorted same =
     let equal : key_cmp (key b) (key a) ≡ Equal = ap (key_cmp (key b)) same ∙ key_itself (key b) in
-    at_most b.place a.place (nat_cmp b.place a.place) refl (subst (λ (o : Ordering). is_lt (ordering_then o (nat_cmp b.place a.place)) ≡ false) equal sorted)
+    at_most b.index a.index (nat_cmp b.index a.index) refl (subst (λ (o : Ordering). is_lt (ordering_then o (nat_cmp b.index a.index)) ≡ false) equal sorted)
 
 sorted_at : (rows : List Row) (k : ℕ) (d : Row) → AreSorted rows → suc k < length rows → is_lt (row_cmp (get_or rows (suc k) d) (get_or rows k d)) ≡ false
 sorted_at rows k d sorted inside =
@@ -87,12 +87,12 @@ module _ (rows : List Row) (i p : ℕ) (a b : Row) (next : i ≡ suc p) (inside 
     same = so_far.same;
     earliest = λ k d within. elim (cases_lt (suc k) i) [
       | inl below ↦ so_far.earliest k d below
-      | inr past ↦ this_pair (IsStep (get_or rows index d).place) k d (omega arith) (inl (row_rises a b (in_order sorted) other))
+      | inr past ↦ this_pair (IsStep (get_or rows index d).index) k d (omega arith) (inl (row_rises a b (in_order sorted) other))
     ];
   }
 
   -- this pair is the earliest so far
-  this_one : key a ≡ key b → ((k : ℕ) (d : Row) → suc k < i → IsStep (get_or rows i d).place (get_or rows k d) (get_or rows (suc k) d)) → IsEarliestRepeat rows (i + 1) i
+  this_one : key a ≡ key b → ((k : ℕ) (d : Row) → suc k < i → IsStep (get_or rows i d).index (get_or rows k d) (get_or rows (suc k) d)) → IsEarliestRepeat rows (i + 1) i
   this_one same so_far = record {
     before = p;
     next = next;
@@ -100,7 +100,7 @@ module _ (rows : List Row) (i p : ℕ) (a b : Row) (next : i ≡ suc p) (inside 
     same = λ d. ap key (here d) ∙ same ∙ sym (ap key (there d));
     earliest = λ k d within. elim (cases_lt (suc k) i) [
       | inl below ↦ so_far k d below
-      | inr past ↦ this_pair (IsStep (get_or rows i d).place) k d (omega arith) (inr (same, let place : (get_or rows i d).place ≡ b.place = ap (λ (row : Row). row.place) (there d) in omega (arith, place)))
+      | inr past ↦ this_pair (IsStep (get_or rows i d).index) k d (omega arith) (inr (same, let place : (get_or rows i d).index ≡ b.index = ap (λ (row : Row). row.index) (there d) in omega (arith, place)))
     ];
   }
 
@@ -113,7 +113,7 @@ module _ (rows : List Row) (i p : ℕ) (a b : Row) (next : i ≡ suc p) (inside 
   found_repeats None earlier same is so_far = subst (IsEarliestRepeat rows (i + 1)) (sym is) (this_one same (λ k d below. inl (so_far k d below)))
   found_repeats (Some index) earlier same (inl is) so_far =
       subst (IsEarliestRepeat rows (i + 1)) (sym is.0)
-      (this_one same (λ k d below. earlier_step (get_or rows i d).place (get_or rows index d).place (get_or rows k d) (get_or rows (suc k) d) (is.1 d) (so_far.earliest k d below)))
+      (this_one same (λ k d below. earlier_step (get_or rows i d).index (get_or rows index d).index (get_or rows k d) (get_or rows (suc k) d) (is.1 d) (so_far.earliest k d below)))
   found_repeats (Some index) earlier same (inr is) so_far =
       subst (IsEarliestRepeat rows (i + 1)) (sym is.0)
       (record {
@@ -123,7 +123,7 @@ module _ (rows : List Row) (i p : ℕ) (a b : Row) (next : i ≡ suc p) (inside 
         same = so_far.same;
         earliest = λ k d within. elim (cases_lt (suc k) i) [
           | inl below ↦ so_far.earliest k d below
-          | inr past ↦ this_pair (IsStep (get_or rows index d).place) k d (omega arith) (inr (same, let place : (get_or rows i d).place ≡ b.place = ap (λ (row : Row). row.place) (there d) in let least = is.1 d in omega (arith, place, least)))
+          | inr past ↦ this_pair (IsStep (get_or rows index d).index) k d (omega arith) (inr (same, let place : (get_or rows i d).index ≡ b.index = ap (λ (row : Row). row.index) (there d) in let least = is.1 d in omega (arith, place, least)))
         ];
       })
 
@@ -157,7 +157,7 @@ found_earliest rows i (Some index) past h = record {
 }
 
 -- the places of the sorted rows
-pub places_of_pair : (rows : List Row) (index : ℕ) (d : Row) → AreSorted rows → (found : IsEarliestRepeat rows (length rows) index) → (get_or rows found.before d).place ≤ (get_or rows index d).place
+pub places_of_pair : (rows : List Row) (index : ℕ) (d : Row) → AreSorted rows → (found : IsEarliestRepeat rows (length rows) index) → (get_or rows found.before d).index ≤ (get_or rows index d).index
 places_of_pair rows index d sorted found =
     let next = found.next in
     let inside : suc found.before < length rows = subst (λ (n : ℕ). n < length rows) next found.inside in
@@ -167,7 +167,7 @@ places_of_pair rows index d sorted found =
 
 -- the row stands before this place of the text
 abbrev pub is_before : ℕ → Row → Bool
-is_before place row = nat_lt row.place place
+is_before place row = nat_lt row.index place
 
 abbrev Steps : ℕ → List Row → Type 0
 Steps place [] = Unit {0}
@@ -206,7 +206,7 @@ kept_above place a (b ∷ rows) h =
       | inl less ↦
           one_more (Below a) (is_before place b) b kept less (All-weaker (Below b) (Below a) (λ c below. nat_list_cmp_total.trans (key a) (key b) (key c) less below) kept later)
       | inr same ↦
-          subst (λ (t : Bool). All (Below a) (cond t (b ∷ kept) kept)) (sym (not_before b.place place same.1))
+          subst (λ (t : Bool). All (Below a) (cond t (b ∷ kept) kept)) (sym (not_before b.index place same.1))
           (All-weaker (Below b) (Below a) (λ c below. subst (λ (k : List ℕ). key_cmp k (key c) ≡ Less) (sym same.0) below) kept later)
     ]
 
@@ -229,17 +229,17 @@ kept_keys place (a ∷ rows) h = one (is_before place a) (kept_keys place rows (
       (All-weaker (Below a) (λ (b : Row). key a ≢ key b) (λ b less. less_differs (key a) (key b) less) (filter (is_before place) rows) (kept_above place a rows h))) more
   one false more = more
 
-pub keys_before : (rows : List Row) (index : ℕ) (d : Row) → IsEarliestRepeat rows (length rows) index → AllPairs (λ k l. k ≢ l) (map key (filter (is_before (get_or rows index d).place) rows))
+pub keys_before : (rows : List Row) (index : ℕ) (d : Row) → IsEarliestRepeat rows (length rows) index → AllPairs (λ k l. k ≢ l) (map key (filter (is_before (get_or rows index d).index) rows))
 keys_before rows index d found =
-    let place = (get_or rows index d).place in
+    let place = (get_or rows index d).index in
     kept_keys place rows (steps place rows (λ k e inside.
-    subst (λ (n : ℕ). IsStep n (get_or rows k e) (get_or rows (suc k) e)) (ap (λ (row : Row). row.place) (get_or_default rows index e d found.inside)) (found.earliest k e inside)))
+    subst (λ (n : ℕ). IsStep n (get_or rows k e) (get_or rows (suc k) e)) (ap (λ (row : Row). row.index) (get_or_default rows index e d found.inside)) (found.earliest k e inside)))
 
 -- one more row, at the place of its index
-pub placed_more : (rows : List Row) (row : Row) {more : List Row} → row.place ≡ length rows → more ≡ rows ++ row ∷ [] → ArePlaced rows → ArePlaced more
+pub placed_more : (rows : List Row) (row : Row) {more : List Row} → row.index ≡ length rows → more ≡ rows ++ row ∷ [] → ArePlaced rows → ArePlaced more
 placed_more rows row place is placed = subst ArePlaced (sym is) (λ i d inside. elim (cases_lt i (length rows)) [
-  | inl below ↦ ap (λ (x : Row). x.place) (get_or_append_left rows (row ∷ []) d i below) ∙ placed i d below
+  | inl below ↦ ap (λ (x : Row). x.index) (get_or_append_left rows (row ∷ []) d i below) ∙ placed i d below
   | inr past ↦
       let at : i ≡ length rows = omega (arith, inside, past, length-append rows (row ∷ [])) in
-      ap (λ (n : ℕ). (get_or (rows ++ row ∷ []) n d).place) at ∙ ap (λ (x : Row). x.place) (get_or-append_seam rows row [] d) ∙ place ∙ sym at
+      ap (λ (n : ℕ). (get_or (rows ++ row ∷ []) n d).index) at ∙ ap (λ (x : Row). x.index) (get_or-append_seam rows row [] d) ∙ place ∙ sym at
 ])

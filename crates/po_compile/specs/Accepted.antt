@@ -66,7 +66,8 @@ fault_input input OutOfMemory = 0
 fault_input input _ = input
 
 abbrev pub fault_of_input : ℕ → PoError → JoinError
-fault_of_input input error = record { input = fault_input input error.kind; first_input = fault_input input error.kind; error = error }
+fault_of_input input error =
+    record { input = fault_input input error.kind; first_input = fault_input input error.kind; error = error }
 
 -- the fault of a text, where it is the only input
 abbrev pub fault_of_only_input : PoError → JoinError

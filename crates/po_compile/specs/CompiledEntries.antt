@@ -25,10 +25,13 @@ pub record IsToBeCompiled (use_fuzzy : Bool) (entry : TextEntry) : Type 0 where
 -- of a list the entries that are to be compiled, in order, and no others
 pub data KeepsCompiled (use_fuzzy : Bool) : List TextEntry → List TextEntry → Type 0 where
   none : KeepsCompiled use_fuzzy [] []
-  compiled : {entry : TextEntry} {entries list : List TextEntry} → IsToBeCompiled use_fuzzy entry → KeepsCompiled use_fuzzy entries list
+  compiled : {entry : TextEntry} {entries list : List TextEntry} → IsToBeCompiled use_fuzzy entry
+      → KeepsCompiled use_fuzzy entries list
       → KeepsCompiled use_fuzzy (entry ∷ entries) (entry ∷ list)
-  omitted : {entry : TextEntry} {entries list : List TextEntry} → (IsToBeCompiled use_fuzzy entry → ⊥) → KeepsCompiled use_fuzzy entries list
+  omitted : {entry : TextEntry} {entries list : List TextEntry} → (IsToBeCompiled use_fuzzy entry → ⊥)
+      → KeepsCompiled use_fuzzy entries list
       → KeepsCompiled use_fuzzy (entry ∷ entries) list
 
 abbrev pub CompiledListIsKept : Type 0
-CompiledListIsKept = (use_fuzzy : Bool) (entries : List TextEntry) → KeepsCompiled use_fuzzy entries (compiled_list use_fuzzy entries)
+CompiledListIsKept = (use_fuzzy : Bool) (entries : List TextEntry)
+    → KeepsCompiled use_fuzzy entries (compiled_list use_fuzzy entries)

@@ -30,7 +30,13 @@ pub record CompiledView : Type 0 where
   pub message : Message
 
 abbrev pub compiled_view : CompiledMessage → CompiledView
-compiled_view m = record { input = m.input; line = m.line; message = record { original = m.original.now; translation = m.translation.now } }
+compiled_view m =
+    record {
+      input = m.input;
+      line = m.line;
+      message =
+          record { original = m.original.now; translation = m.translation.now };
+    }
 
 -- the message that an entry is compiled to
 abbrev pub compiled_message : InputEntry → CompiledView

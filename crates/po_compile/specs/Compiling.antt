@@ -5,7 +5,8 @@ use Rattle.mo_file.specs.Message.{Message}
 use Rattle.mo_file.specs.Layout.{layout}
 use Rattle.mo_file.specs.MoFile.{IsMoFile}
 use Rattle.mo_file.specs.declared.building.BuildError.{BuildError}
-use Rattle.mo_file.specs.declared.building.BuildError.TheVariants.{TooLarge as Large, NotSorted, OutOfMemory as NoMemory}
+use Rattle.mo_file.specs.declared.building.BuildError.TheVariants.{TooLarge as Large, NotSorted}
+use Rattle.mo_file.specs.declared.building.BuildError.TheVariants.{OutOfMemory as NoMemory}
 use Rattle.po_entry.specs.TextEntry.{TextEntry}
 use Rattle.po_syntax.specs.declared.fault.PoFault.TheVariants.{TooLarge}
 use Rattle.po_catalog.specs.Duplicate.{join_out_of_memory}

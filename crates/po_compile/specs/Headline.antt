@@ -18,7 +18,8 @@ use Rattle.po_compile.specs.declared.options.Options.{Options}
 -- entries have one list of messages in rising order of keys
 abbrev pub MessagesAreOne : Type 0
 MessagesAreOne =
-    (entries : List TextEntry) (messages others : List Message) → AreMessagesOf entries messages → AreMessagesOf entries others → messages ≡ others
+    (entries : List TextEntry) (messages others : List Message) → AreMessagesOf entries messages
+    → AreMessagesOf entries others → messages ≡ others
 
 -- the messages of entries mean these entries
 abbrev pub MessagesMeanEntries : Type 0
@@ -31,7 +32,8 @@ MessagesMeanEntries =
 abbrev pub LookUpMeansEntries : Type 0
 LookUpMeansEntries =
     (options : Options) (texts : List (List ℕ)) (catalogues : List (List TextEntry)) (messages : List Message)
-    → AreAccepted options texts catalogues → AreMessagesOf (compiled_list options.use_fuzzy (joined_entries catalogues)) messages
+    → AreAccepted options texts catalogues
+    → AreMessagesOf (compiled_list options.use_fuzzy (joined_entries catalogues)) messages
     → IsMoFile options.order (layout options.order messages) messages
     × MeansEntries (compiled_list options.use_fuzzy (joined_entries catalogues)) messages
 
@@ -59,7 +61,8 @@ OneCompileFault =
 -- Texts are read as one list of catalogues.
 abbrev pub CataloguesAreOne : Type 0
 CataloguesAreOne =
-    (texts : List (List ℕ)) (catalogues others : List (List TextEntry)) → AreRead texts catalogues → AreRead texts others → catalogues ≡ others
+    (texts : List (List ℕ)) (catalogues others : List (List TextEntry)) → AreRead texts catalogues
+    → AreRead texts others → catalogues ≡ others
 
 -- a text has at most one fault
 abbrev pub OneTextFault : Type 0
@@ -67,4 +70,5 @@ OneTextFault = (text : List ℕ) (error other : PoError) → IsTextFault text er
 
 -- a text that reads as entries without a duplicate has no fault
 abbrev pub NoFaultWhereDistinct : Type 0
-NoFaultWhereDistinct = (text : List ℕ) (entries : List TextEntry) (error : PoError) → ReadsDistinct text entries → IsTextFault text error → ⊥
+NoFaultWhereDistinct = (text : List ℕ) (entries : List TextEntry) (error : PoError) → ReadsDistinct text entries
+    → IsTextFault text error → ⊥

@@ -1,17 +1,20 @@
 -- The rows of several inputs that are compiled, in the order of their joined list and sorted (manual,
 -- "Invoking the msgfmt Program": several input files).
-use Rattle.std.specs.Prelude.{◌≡◌, ◌⊎◌, ◌≤◌, ℕ, Bool, not, ◌&&◌, ◌==◌, List, ◌∷◌, ◌++◌, map, filter, length, count_by, All}
+use Rattle.std.specs.Prelude.{◌≡◌, ◌⊎◌, ◌≤◌, ℕ, Bool, not, ◌&&◌, ◌==◌, List, ◌∷◌, ◌++◌, map, filter, length, count_by}
+use Rattle.std.specs.Prelude.{All}
 use Rattle.std.specs.List.{AllZip, flat_map}
 use Rattle.po_entry.specs.TextEntry.{TextEntry}
 use Rattle.po_catalog.specs.Joined.{InputEntry, in_input, joined, joined_entries}
-use Rattle.po_catalog.specs.Duplicate.{HasNoDuplicate, IsDuplicateFault, IsFirstDuplicate, duplicate_fault, join_out_of_memory, live_entries}
+use Rattle.po_catalog.specs.Duplicate.{HasNoDuplicate, IsDuplicateFault, IsFirstDuplicate, duplicate_fault}
+use Rattle.po_catalog.specs.Duplicate.{join_out_of_memory, live_entries}
 use Rattle.po_catalog.specs.Statistics.{stats_of}
 use Rattle.po_catalog.specs.declared.stats.Stats.{Stats}
 use Rattle.po_syntax.specs.declared.fault.PoFault.TheVariants.{Duplicate}
 use Rattle.po_catalog.specs.declared.duplicate.JoinError.{JoinError}
 use Rattle.po_compile.specs.Compiling.{HasLargeLayout, layout_fault}
 use Rattle.po_compile.specs.declared.options.Options.{Options}
-use Rattle.po_compile.specs.Collected.{HoldsEntries, IsSortedOf, LiveMessage, compiled_of, lengths_of, live_message, message_bytes, row_view}
+use Rattle.po_compile.specs.Collected.{HoldsEntries, IsSortedOf, LiveMessage, compiled_of, lengths_of, live_message}
+use Rattle.po_compile.specs.Collected.{message_bytes, row_view}
 use Rattle.po_compile.specs.Repeats.{ArePlaced}
 use Rattle.po_compile.specs.declared.collecting.Collected.{Collected}
 use Rattle.po_compile.specs.declared.collecting.Lengths.{Lengths}
@@ -39,8 +42,10 @@ is_joined headed m = not (headed && length m.key == 0)
 pub record AddsRows (input : ℕ) (headed : Bool) (collected : Collected) (old new : List Row) : Type 0 where
   pub more : List Row
   pub is : new ≡ old ++ more
-  pub messages : (use_fuzzy : Bool) (live : List TextEntry) → collected.bytes.items ≡ flat_map message_bytes live → collected.lengths.items ≡ map (lengths_of use_fuzzy) live
-      → map input_view more ≡ map (in_input_message input) (filter (is_joined headed) (map (live_message use_fuzzy) live))
+  pub messages : (use_fuzzy : Bool) (live : List TextEntry) → collected.bytes.items ≡ flat_map message_bytes live
+      → collected.lengths.items ≡ map (lengths_of use_fuzzy) live
+      → map input_view more
+      ≡ map (in_input_message input) (filter (is_joined headed) (map (live_message use_fuzzy) live))
   pub placed : ArePlaced old → ArePlaced new
 
 -- these are the rows of the live entries, in their order
@@ -51,7 +56,8 @@ pub record AreJoinedRows (use_fuzzy : Bool) (entries : List InputEntry) (rows : 
 -- this holds of all catalogues whose live entries may have been collected so
 abbrev pub OfAllInputs : List Collected → (Bool → List (List TextEntry) → Type 0) → Type 0
 OfAllInputs inputs Holds =
-    (use_fuzzy : Bool) (catalogues : List (List TextEntry)) → AllZip (HoldsEntries use_fuzzy) catalogues inputs → Holds use_fuzzy catalogues
+    (use_fuzzy : Bool) (catalogues : List (List TextEntry)) → AllZip (HoldsEntries use_fuzzy) catalogues inputs
+    → Holds use_fuzzy catalogues
 
 -- how many of the messages count as translated, fuzzy and untranslated
 abbrev pub counts_of : List Row → Stats
@@ -63,7 +69,13 @@ counts_of rows = record {
 
 -- what is reported of a row that repeats an earlier one
 abbrev pub row_fault : Row → Row → JoinError
-row_fault first later = record { input = later.input; first_input = first.input; error = record { kind = Duplicate first.line; line = later.line } }
+row_fault first later =
+    record {
+      input = later.input;
+      first_input = first.input;
+      error =
+          record { kind = Duplicate first.line; line = later.line };
+    }
 
 -- no live entry repeats another, and these rows have the messages of those that are compiled
 pub record AreSortedRows (use_fuzzy : Bool) (entries : List TextEntry) (rows : List Row) : Type 0 where
@@ -87,7 +99,8 @@ pub record IsRepeatInInput (catalogues : List (List TextEntry)) (error : JoinErr
 -- a repeat in an input, which is reported first, or one across the inputs; or out of memory
 abbrev pub IsRepeatFault : List (List TextEntry) → JoinError → Type 0
 IsRepeatFault catalogues error =
-    (error ≡ join_out_of_memory) ⊎ IsRepeatInInput catalogues error ⊎ (All HasNoDuplicate catalogues × IsDuplicateFault (joined catalogues) error)
+    (error ≡ join_out_of_memory) ⊎ IsRepeatInInput catalogues error
+    ⊎ (All HasNoDuplicate catalogues × IsDuplicateFault (joined catalogues) error)
 
 -- an input has one header at most
 abbrev pub HasOneHeader : Collected → Type 0

@@ -26,9 +26,11 @@ IsRuleOfEntries entries rule = IsRuleOf expression_limit (header_of entries) rul
 
 -- what the entries answer to a query under their rule
 abbrev pub meant : List TextEntry → RuleView → Query → AnswerView
-meant entries rule query = answer (option_map (λ entry. entry.forms) (definition entries query.context query.id)) rule query
+meant entries rule query =
+    answer (option_map (λ entry. entry.forms) (definition entries query.context query.id)) rule query
 
 -- the answers of a file's messages are those of the entries
 pub record MeansEntries (entries : List TextEntry) (messages : List Message) : Type 0 where
   pub rule : (rule : RuleView) → IsCatalogView messages rule → IsRuleOfEntries entries rule
-  pub answers : (rule : RuleView) (query : Query) → answered (record { messages = messages; rule = rule }) query ≡ meant entries rule query
+  pub answers : (rule : RuleView) (query : Query)
+      → answered (record { messages = messages; rule = rule }) query ≡ meant entries rule query

@@ -23,12 +23,14 @@ MessagesHaveParts = (entry : TextEntry) → IsEntry entry → HasParts entry
 -- entries whose messages stand in rising order of keys have different contexts and msgids
 abbrev pub MessagesDiffer : Type 0
 MessagesDiffer =
-    (entries : List TextEntry) (messages : List Message) → All IsEntry entries → AreMessagesOf entries messages → AllDiffer entries
+    (entries : List TextEntry) (messages : List Message) → All IsEntry entries → AreMessagesOf entries messages
+    → AllDiffer entries
 
 -- the entries of texts that are read can stand in a catalogue
 abbrev pub JoinedEntriesCanStand : Type 0
 JoinedEntriesCanStand =
-    (texts : List (List ℕ)) (catalogues : List (List TextEntry)) → AreRead texts catalogues → All IsCatalogueEntry (joined_entries catalogues)
+    (texts : List (List ℕ)) (catalogues : List (List TextEntry)) → AreRead texts catalogues
+    → All IsCatalogueEntry (joined_entries catalogues)
 
 -- a text alone is read as its entries, where no two live ones are of one message
 abbrev pub OneTextIsRead : Type 0

@@ -4,10 +4,10 @@ ghost use Rattle.po_compile.specs.Prefix.{prefix_of, second_prefix_of};
 const PREFIX_LEN: usize = 16;
 
 /// The byte at an index, and 0 after the last.
-fn byte_at(text: &[u8], place: usize) -> u8
-    ensures { result ≡ slice_index_or text.now place 0 }
+fn byte_at(text: &[u8], index: usize) -> u8
+    ensures { result ≡ slice_index_or text.now index 0 }
 {
-    match text.get(place) {
+    match text.get(index) {
         Some(byte) => *byte,
         None => 0,
     }
@@ -18,8 +18,8 @@ pub(crate) fn prefix_of(key: &[u8]) -> u128
     ensures { result ≡ prefix_of key.now }
 {
     let mut prefix = 0;
-    for place in 0..PREFIX_LEN {
-        prefix = prefix * 256 + byte_at(key, place) as u128;
+    for index in 0..PREFIX_LEN {
+        prefix = prefix * 256 + byte_at(key, index) as u128;
     }
     prefix
 }

@@ -23,16 +23,16 @@ fn split_at_most(bytes: &[u8], len: usize) -> (&[u8], &[u8])
     bytes.split_at(len.min(bytes.len()))
 }
 
-/// The row of the message at this place, with the prefix of its key.
+/// The row of the message of this index, with the prefix of its key.
 fn row_of<'b>(
-    place: usize,
+    index: usize,
     input: u32,
     key: &'b [u8],
     original: &'b [u8],
     translation: &'b [u8],
     lengths: &Lengths,
 ) -> Row<'b>
-    ensures place { result.place ≡ place }
+    ensures index { result.index ≡ index }
     ensures input { result.input ≡ input }
     ensures key { result.key.now ≡ key.now }
     ensures original { result.original.now ≡ original.now }
@@ -46,7 +46,7 @@ fn row_of<'b>(
         key,
         original,
         translation,
-        place,
+        index,
         input,
         line: lengths.line,
         status: lengths.status,
@@ -120,17 +120,17 @@ pub(crate) fn joined_rows<'b>(
     Ok(rows)
 }
 
-/// How two rows are sorted: by their keys, and those with the same key by their places in the text.
+/// How two rows are sorted: by their keys, and those with the same key by their indexes.
 fn compare_rows(a: &Row<'_>, b: &Row<'_>) -> Ordering
     ensures { result ≡ row_cmp a.now b.now }
 {
     match compare(a, b) {
-        Ordering::Equal => a.place.cmp(&b.place),
+        Ordering::Equal => a.index.cmp(&b.index),
         other => other,
     }
 }
 
-/// Sorts rows by their keys, and those with the same key by their places in the text.
+/// Sorts rows by their keys, and those with the same key by their indexes.
 pub(crate) fn sort_rows(rows: &mut Vec<Row<'_>>)
     ensures permutation { IsPermutation rows.old.items rows.new.items }
     ensures sorted { AreSorted rows.new.items }
@@ -166,7 +166,7 @@ fn earlier(rows: &[Row<'_>], found: Option<usize>, i: usize) -> usize
     match found {
         None => i,
         Some(index) => {
-            if rows[i].place < rows[index].place {
+            if rows[i].index < rows[index].index {
                 i
             } else {
                 index

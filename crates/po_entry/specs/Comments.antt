@@ -1,6 +1,7 @@
 -- The fields of an entry that come from its comments and previous texts (manual, "The Format of PO
 -- Files").
-use Rattle.std.specs.Prelude.{ℕ, Bool, true, false, ◌||◌, ◌==◌, not, List, [], ◌∷◌, ◌++◌, Some, map, filter, flat_map, fold, bytes_eq, codes, length, if◌then◌else◌}
+use Rattle.std.specs.Prelude.{ℕ, Bool, true, false, ◌||◌, ◌==◌, not, List, [], ◌∷◌, ◌++◌, Some, map, filter, flat_map}
+use Rattle.std.specs.Prelude.{fold, bytes_eq, codes, length, if◌then◌else◌}
 use Rattle.std.specs.List.{slice_split, list_any}
 use Rattle.po_syntax.specs.declared.item.CommentKind.{CommentKind}
 use Rattle.po_syntax.specs.declared.item.CommentKind.TheVariants.{Translator, Extracted, Reference, Flags}

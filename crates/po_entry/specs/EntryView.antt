@@ -22,24 +22,6 @@ entry_view fields = record {
   line = fields.line;
 }
 
--- the entry of these fields, in the order in which the code has them
-abbrev pub entry_of_fields : (comments extracted references : List (Vec ℕ)) → Bool → List (Vec ℕ) → TextPrevious
-    → Option (Vec ℕ) → List ℕ → Option (Vec ℕ) → List (Vec ℕ) → Bool → ℕ → TextEntry
-entry_of_fields comments extracted references fuzzy flags previous context id plural forms obsolete line = record {
-  comments = texts comments;
-  extracted = texts extracted;
-  references = texts references;
-  fuzzy = fuzzy;
-  flags = texts flags;
-  previous = previous;
-  context = optional_text context;
-  id = id;
-  plural = optional_text plural;
-  forms = texts forms;
-  obsolete = obsolete;
-  line = line;
-}
-
 -- the plain entry of borrowed texts
 abbrev pub borrowed_entry : Option (Bor (List ℕ)) → List ℕ → Option (Bor (List ℕ)) → List (Bor (List ℕ)) → TextEntry
 borrowed_entry context id plural forms =

@@ -1,5 +1,6 @@
 -- The header of a catalogue, and the charset that it names (manual, "Filling in the Header Entry").
-use Rattle.std.specs.Prelude.{◌≡◌, ℕ, Bool, true, ◌||◌, ◌==◌, nat_eq, List, [], ◌∷◌, Contains, map, drop, length, codes, is_none, ◌&&◌, if◌then◌else◌}
+use Rattle.std.specs.Prelude.{◌≡◌, ℕ, Bool, true, ◌||◌, ◌==◌, nat_eq, List, [], ◌∷◌, Contains, map, drop, length, codes}
+use Rattle.std.specs.Prelude.{is_none, ◌&&◌, if◌then◌else◌}
 use Rattle.std.specs.List.{starts_with, before_first}
 use Rattle.std.specs.Char.{to_ascii_lowercase}
 use Rattle.po_entry.specs.TextEntry.{TextEntry}

@@ -1,6 +1,6 @@
 ghost use Rattle.std.specs.Prelude.{◌≡◌, ◌<◌, IfOk, IfErr, IsOkUnless, Some, None, IsTrue, ◌↔◌, map, [], true, false, length, option_copied};
 ghost use Rattle.po_entry.specs.TextEntry.{texts, no_previous};
-ghost use Rattle.po_entry.specs.EntryView.{entry_view, entry_of_fields, borrowed_entry};
+ghost use Rattle.po_entry.specs.EntryView.{entry_view, borrowed_entry};
 ghost use Rattle.po_entry.specs.Header.{is_header};
 ghost use Rattle.po_entry.specs.Validity.{IsEntry, RefusesMessage, out_of_memory};
 
@@ -89,10 +89,34 @@ impl Entry {
         obsolete: bool,
         line: u32,
     ) -> Entry
-        requires { IsEntry (entry_of_fields comments.items extracted.items references.items fuzzy flags.items previous
-            context id.items plural forms.items obsolete line) }
-        ensures { result ≡ entry_of_fields comments.items extracted.items references.items fuzzy flags.items previous
-            context id.items plural forms.items obsolete line }
+        requires { IsEntry (entry_view (record {
+          comments = comments;
+          extracted = extracted;
+          references = references;
+          fuzzy = fuzzy;
+          flags = flags;
+          previous = previous;
+          context = context;
+          id = id;
+          plural = plural;
+          forms = forms;
+          obsolete = obsolete;
+          line = line;
+        })) }
+        ensures { result ≡ entry_view (record {
+          comments = comments;
+          extracted = extracted;
+          references = references;
+          fuzzy = fuzzy;
+          flags = flags;
+          previous = previous;
+          context = context;
+          id = id;
+          plural = plural;
+          forms = forms;
+          obsolete = obsolete;
+          line = line;
+        }) }
     {
         Entry::of(Fields {
             comments,

@@ -8,7 +8,7 @@ use Rattle.po_catalog.specs.FirstOnes.{first_ones as firsts_of}
 use Rattle.po_catalog.specs.Message.{Message, entry_message, same_message as one_message}
 use Rattle.po_catalog.specs.MessageView.{message_of, messages}
 use Rattle.po_catalog.specs.declared.message_index.MessageKey.{MessageKey}
-use Rattle.po_merge.specs.declared.definition.Definition.{Definition}
+use Rattle.po_merge.specs.declared.definition.NamedEntry.{NamedEntry as BorrowedEntry}
 use Rattle.po_merge.specs.Inputs.{NamedEntry}
 use Rattle.po_merge.specs.InputsView.{named_entry, named_entries}
 use Rattle.po_merge.specs.Groups.{same_message, first_ones, groups}
@@ -34,10 +34,10 @@ number_is law es i e inside here =
     ∙ ap (λ (fs : List Message). position_or_len (one_message (message e)) fs) (first_ones-map message one_message (take i es))
     ∙ place-map message one_message (message e) (first_ones same_message (take i es))
 
-grouped_length : (gs : List (Vec Definition)) (es : List NamedEntry) → group_entries gs ≡ groups es → length gs ≡ length (first_ones same_message es)
-grouped_length gs es are = sym (length-map gs (λ (g : Vec Definition). named_entries g.items)) ∙ ap length are ∙ length-map (first_ones same_message es) (group_of same_message es)
+grouped_length : (gs : List (Vec BorrowedEntry)) (es : List NamedEntry) → group_entries gs ≡ groups es → length gs ≡ length (first_ones same_message es)
+grouped_length gs es are = sym (length-map gs (λ (g : Vec BorrowedEntry). named_entries g.items)) ∙ ap length are ∙ length-map (first_ones same_message es) (group_of same_message es)
 
-module _ (gs : List (Vec Definition)) (es : List NamedEntry) (d : Definition) (number : ℕ) (are : group_entries gs ≡ groups es) (is : number ≡ position_or_len (same_message (named_entry d)) (first_ones same_message es)) where
+module _ (gs : List (Vec BorrowedEntry)) (es : List NamedEntry) (d : BorrowedEntry) (number : ℕ) (are : group_entries gs ≡ groups es) (is : number ≡ position_or_len (same_message (named_entry d)) (first_ones same_message es)) where
   abbrev pub e : NamedEntry
   e = named_entry d
 
@@ -55,13 +55,13 @@ module _ (gs : List (Vec Definition)) (es : List NamedEntry) (d : Definition) (n
     pub within : number < length gs
     within = let less = place_within (same_message e) F met in omega (arith, less, is, grouped_length gs es are)
 
-    pub grown_groups : (new : List (Vec Definition)) (v old : Vec Definition) → new ≡ set gs number v → v.items ≡ old.items ++ d ∷ [] → get_or gs number old ≡ old → group_entries new ≡ groups (es ++ e ∷ [])
+    pub grown_groups : (new : List (Vec BorrowedEntry)) (v old : Vec BorrowedEntry) → new ≡ set gs number v → v.items ≡ old.items ++ d ∷ [] → get_or gs number old ≡ old → group_entries new ≡ groups (es ++ e ∷ [])
     grown_groups new v old items pushed at =
         let less : number < length F = omega (arith, within, grouped_length gs es are) in
         let group : named_entries v.items ≡ get_or (groups es) number (named_entries old.items) ++ e ∷ [] =
         ap named_entries pushed ∙ map-append named_entry old.items (d ∷ [])
-        ∙ ap (λ (l : List NamedEntry). l ++ e ∷ []) (ap (λ (g : Vec Definition). named_entries g.items) (sym at) ∙ sym (get_or-mapped (λ (g : Vec Definition). named_entries g.items) gs number old) ∙ ap (λ (l : List (List NamedEntry)). get_or l number (named_entries old.items)) are) in
-        ap group_entries items ∙ map-set (λ (g : Vec Definition). named_entries g.items) gs number v
+        ∙ ap (λ (l : List NamedEntry). l ++ e ∷ []) (ap (λ (g : Vec BorrowedEntry). named_entries g.items) (sym at) ∙ sym (get_or-mapped (λ (g : Vec BorrowedEntry). named_entries g.items) gs number old) ∙ ap (λ (l : List (List NamedEntry)). get_or l number (named_entries old.items)) are) in
+        ap group_entries items ∙ map-set (λ (g : Vec BorrowedEntry). named_entries g.items) gs number v
         ∙ ap₂ (λ (l : List (List NamedEntry)) (g : List NamedEntry). set l number g) are group
         ∙ sym (grown same_message same_message_laws es e F number (named_entries old.items) (apart_first_ones same_message same_message_laws es) (sym is) less)
         ∙ ap (λ (fs : List NamedEntry). map (group_of same_message (es ++ e ∷ [])) fs) (sym (firsts_same same_message same_message_laws es e met))
@@ -74,27 +74,27 @@ module _ (gs : List (Vec Definition)) (es : List NamedEntry) (d : Definition) (n
       found true h = let less = place_within (same_message e) F h in absurd (omega (arith, less, is, last, grouped_length gs es are))
       found false h = refl
 
-    pub new_group : (new : List (Vec Definition)) (v : Vec Definition) → new ≡ gs ++ v ∷ [] → v.items ≡ d ∷ [] → group_entries new ≡ groups (es ++ e ∷ [])
+    pub new_group : (new : List (Vec BorrowedEntry)) (v : Vec BorrowedEntry) → new ≡ gs ++ v ∷ [] → v.items ≡ d ∷ [] → group_entries new ≡ groups (es ++ e ∷ [])
     new_group new v items alone =
-        ap group_entries items ∙ map-append (λ (g : Vec Definition). named_entries g.items) gs (v ∷ [])
+        ap group_entries items ∙ map-append (λ (g : Vec BorrowedEntry). named_entries g.items) gs (v ∷ [])
         ∙ ap₂ (λ (l : List (List NamedEntry)) (g : List NamedEntry). l ++ g ∷ []) are (ap named_entries alone)
         ∙ sym (grouped_new same_message same_message_laws es e unmet)
         ∙ ap (λ (fs : List NamedEntry). map (group_of same_message (es ++ e ∷ [])) fs) (sym (firsts_more same_message same_message_laws es e unmet))
 
 -- the entries, with one more
-pub entries_taken : (ds : List Definition) (i : ℕ) (d : Definition) → i < length ds → d ≡ get_or ds i d → take (i + 1) (named_entries ds) ≡ take i (named_entries ds) ++ named_entry d ∷ []
+pub entries_taken : (ds : List BorrowedEntry) (i : ℕ) (d : BorrowedEntry) → i < length ds → d ≡ get_or ds i d → take (i + 1) (named_entries ds) ≡ take i (named_entries ds) ++ named_entry d ∷ []
 entries_taken ds i d inside here =
     take_more (named_entries ds) i (named_entry d) (omega (arith, inside, length-map ds named_entry))
     ∙ ap (λ (x : NamedEntry). take i (named_entries ds) ++ x ∷ []) (get_or-map named_entry ds i d (named_entry d) inside ∙ ap named_entry (sym here))
 
-pub named_at : (ds : List Definition) (i : ℕ) (d : Definition) → i < length ds → d ≡ get_or ds i d → named_entry d ≡ get_or (named_entries ds) i (named_entry d)
+pub named_at : (ds : List BorrowedEntry) (i : ℕ) (d : BorrowedEntry) → i < length ds → d ≡ get_or ds i d → named_entry d ≡ get_or (named_entries ds) i (named_entry d)
 named_at ds i d inside here = ap named_entry here ∙ sym (get_or-map named_entry ds i d (named_entry d) inside)
 
-pub all_taken : (ds : List Definition) (i : ℕ) → length ds ≤ i → take i (named_entries ds) ≡ named_entries ds
+pub all_taken : (ds : List BorrowedEntry) (i : ℕ) → length ds ≤ i → take i (named_entries ds) ≡ named_entries ds
 all_taken ds i past = take_all i (named_entries ds) (omega (arith, past, length-map ds named_entry))
 
 -- the keys of the entries, with that of one more
-pub key_more : (ds : List Definition) (i : ℕ) (d : Definition) (keys new : List MessageKey) (key : MessageKey) → i < length ds → d ≡ get_or ds i d → messages keys ≡ named_messages (take i (named_entries ds))
+pub key_more : (ds : List BorrowedEntry) (i : ℕ) (d : BorrowedEntry) (keys new : List MessageKey) (key : MessageKey) → i < length ds → d ≡ get_or ds i d → messages keys ≡ named_messages (take i (named_entries ds))
     → new ≡ keys ++ key ∷ [] → message_of key ≡ entry_message d.entry.now → messages new ≡ named_messages (take (i + 1) (named_entries ds))
 key_more ds i d keys new key inside here are pushed is =
     ap messages pushed ∙ map-append message_of keys (key ∷ []) ∙ ap₂ (λ (l : List Message) (m : Message). l ++ m ∷ []) are is

@@ -14,7 +14,7 @@ use Rattle.po_entry.specs.Header.{HasAdmittedCharset}
 use Rattle.po_entry.specs.TextEntry.{TextEntry}
 use Rattle.po_entry.specs.Validity.{IsRefusedEntry}
 use Rattle.po_catalog.specs.Joined.{is_live}
-use Rattle.po_merge.specs.declared.definition.Definition.{Definition}
+use Rattle.po_merge.specs.declared.definition.NamedEntry.{NamedEntry as BorrowedEntry}
 use Rattle.po_merge.specs.declared.input.MergeOptions.{MergeOptions}
 use Rattle.po_merge.specs.Inputs.{NamedEntry}
 use Rattle.po_merge.specs.InputsView.{named_entries}
@@ -48,9 +48,9 @@ groups_valid es h = All-map IsGroup (group_of same_message es) F (λ k d below. 
   }
 
 -- the group at an index
-pub group_at : (gs : List (Vec Definition)) (i : ℕ) (g : Vec Definition) → i < length gs → g ≡ get_or gs i g → All IsGroup (group_entries gs) → IsGroup (named_entries g.items)
+pub group_at : (gs : List (Vec BorrowedEntry)) (i : ℕ) (g : Vec BorrowedEntry) → i < length gs → g ≡ get_or gs i g → All IsGroup (group_entries gs) → IsGroup (named_entries g.items)
 group_at gs i g below at all =
-    let f : Vec Definition → List NamedEntry = λ v. named_entries v.items in
+    let f : Vec BorrowedEntry → List NamedEntry = λ v. named_entries v.items in
     let inside : i < length (map f gs) = omega (arith, below, length-map gs f) in
     subst IsGroup (get_or-map f gs i g ∙ ap f (sym at)) (all i (f g) inside)
 
@@ -73,29 +73,29 @@ kept_message o ds b e = ap (λ (t : Bool). map (merged_entry o) (cond t (ds ∷ 
 messages_append : (o : MergeOptions) (xs ys : List (List NamedEntry)) → merged_messages o (xs ++ ys) ≡ merged_messages o xs ++ merged_messages o ys
 messages_append o xs ys = ap (map (merged_entry o)) (filter-append (is_kept o) xs ys) ∙ map-append (merged_entry o) (filter (is_kept o) xs) (filter (is_kept o) ys)
 
-abbrev pub of_groups : MergeOptions → List (Vec Definition) → List TextEntry
+abbrev pub of_groups : MergeOptions → List (Vec BorrowedEntry) → List TextEntry
 of_groups o gs = merged_messages o (map definitions (group_entries gs))
 
-pub of_groups_more : (o : MergeOptions) (gs : List (Vec Definition)) (i : ℕ) (g : Vec Definition) → i < length gs → g ≡ get_or gs i g
+pub of_groups_more : (o : MergeOptions) (gs : List (Vec BorrowedEntry)) (i : ℕ) (g : Vec BorrowedEntry) → i < length gs → g ≡ get_or gs i g
     → of_groups o (take (i + 1) gs) ≡ of_groups o (take i gs) ++ merged_messages o (definitions (named_entries g.items) ∷ [])
 of_groups_more o gs i g below at =
-    let f : Vec Definition → List NamedEntry = λ v. named_entries v.items in
-    ap (of_groups o) (take_more gs i g below ∙ ap (λ (x : Vec Definition). take i gs ++ x ∷ []) (sym at))
+    let f : Vec BorrowedEntry → List NamedEntry = λ v. named_entries v.items in
+    ap (of_groups o) (take_more gs i g below ∙ ap (λ (x : Vec BorrowedEntry). take i gs ++ x ∷ []) (sym at))
     ∙ ap (λ (l : List (List NamedEntry)). merged_messages o (map definitions l)) (map-append f (take i gs) (g ∷ []))
     ∙ ap (merged_messages o) (map-append definitions (map f (take i gs)) (f g ∷ [])) ∙ messages_append o (map definitions (map f (take i gs))) (definitions (f g) ∷ [])
 
 -- entries among others that can't stand in a catalogue
-within : (o : MergeOptions) (gs : List (Vec Definition)) (i : ℕ) (g : Vec Definition) → i < length gs → g ≡ get_or gs i g → All HasAdmittedCharset (of_groups o gs) → All HasAdmittedCharset (merged_messages o (definitions (named_entries g.items) ∷ []))
+within : (o : MergeOptions) (gs : List (Vec BorrowedEntry)) (i : ℕ) (g : Vec BorrowedEntry) → i < length gs → g ≡ get_or gs i g → All HasAdmittedCharset (of_groups o gs) → All HasAdmittedCharset (merged_messages o (definitions (named_entries g.items) ∷ []))
 within o [] i g below at all = absurd (omega (arith, below))
 within o (x ∷ gs) zero g below at all =
     let split = subst (All HasAdmittedCharset) (messages_append o (definitions (named_entries x.items) ∷ []) (map definitions (group_entries gs))) all in
-    subst (λ (v : Vec Definition). All HasAdmittedCharset (merged_messages o (definitions (named_entries v.items) ∷ []))) (sym at) (All-left HasAdmittedCharset (merged_messages o (definitions (named_entries x.items) ∷ [])) (of_groups o gs) split)
+    subst (λ (v : Vec BorrowedEntry). All HasAdmittedCharset (merged_messages o (definitions (named_entries v.items) ∷ []))) (sym at) (All-left HasAdmittedCharset (merged_messages o (definitions (named_entries x.items) ∷ [])) (of_groups o gs) split)
 within o (x ∷ gs) (suc i) g below at all =
     let split = subst (All HasAdmittedCharset) (messages_append o (definitions (named_entries x.items) ∷ []) (map definitions (group_entries gs))) all in
     let less : i < length gs = omega (arith, below) in
     within o gs i g less at (All-right HasAdmittedCharset (merged_messages o (definitions (named_entries x.items) ∷ [])) (of_groups o gs) split)
 
-pub fault_within : (o : MergeOptions) (gs : List (Vec Definition)) (i : ℕ) (g : Vec Definition) (error : PoError) → i < length gs → g ≡ get_or gs i g
+pub fault_within : (o : MergeOptions) (gs : List (Vec BorrowedEntry)) (i : ℕ) (g : Vec BorrowedEntry) (error : PoError) → i < length gs → g ≡ get_or gs i g
     → IsMergeFault (merged_messages o (definitions (named_entries g.items) ∷ [])) error → IsMergeFault (of_groups o gs) error
 fault_within o gs i g error below at (inl memory) = inl memory
 fault_within o gs i g error below at (inr foreign) = inr (λ all. foreign.0 (within o gs i g below at all), foreign.1)

@@ -6,19 +6,19 @@ use Rattle.std.proofs.lemmas.List.Elements.{All-map, All-append, All-weaker}
 use Rattle.po_entry.specs.Bytes.{Lacks}
 use Rattle.po_entry.specs.TextEntry.{TextEntry}
 use Rattle.po_entry.specs.Validity.{IsCatalogueEntry}
-use Rattle.po_merge.specs.declared.input.Named.{Named}
-use Rattle.po_merge.specs.Inputs.{Input, NamedEntry, named, all_entries}
+use Rattle.po_merge.specs.declared.input.Named.{Named as BorrowedInput}
+use Rattle.po_merge.specs.Inputs.{Named, NamedEntry, named, all_entries}
 use Rattle.po_merge.specs.InputsView.{input_view, inputs_view}
 use Rattle.po_merge.specs.Grouping.{IsDefinition}
 
-entries_append : (xs : List Input) (y : Input) → all_entries (xs ++ y ∷ []) ≡ all_entries xs ++ map (named y.name) y.entries
+entries_append : (xs : List Named) (y : Named) → all_entries (xs ++ y ∷ []) ≡ all_entries xs ++ map (named y.name) y.entries
 entries_append [] y = append-nil (map (named y.name) y.entries)
 entries_append (x ∷ xs) y = ap (λ (l : List NamedEntry). map (named x.name) x.entries ++ l) (entries_append xs y) ∙ sym (append_assoc (map (named x.name) x.entries) (all_entries xs) (map (named y.name) y.entries))
 
-pub entries_more : (inputs : List Named) (i : ℕ) (input : Named) (entries : List TextEntry) → i < length inputs → input ≡ get_or inputs i input → entries ≡ input.catalogue
+pub entries_more : (inputs : List BorrowedInput) (i : ℕ) (input : BorrowedInput) (entries : List TextEntry) → i < length inputs → input ≡ get_or inputs i input → entries ≡ input.catalogue
     → all_entries (inputs_view (take (i + 1) inputs)) ≡ all_entries (inputs_view (take i inputs)) ++ map (named input.name.now) entries
 entries_more inputs i input entries below at is =
-    ap (λ (l : List Named). all_entries (inputs_view l)) (take_more inputs i input below ∙ ap (λ (x : Named). take i inputs ++ x ∷ []) (sym at))
+    ap (λ (l : List BorrowedInput). all_entries (inputs_view l)) (take_more inputs i input below ∙ ap (λ (x : BorrowedInput). take i inputs ++ x ∷ []) (sym at))
     ∙ ap all_entries (map-append input_view (take i inputs) (input ∷ [])) ∙ entries_append (inputs_view (take i inputs)) (input_view input)
     ∙ ap (λ (es : List TextEntry). all_entries (inputs_view (take i inputs)) ++ map (named input.name.now) es) (sym is)
 

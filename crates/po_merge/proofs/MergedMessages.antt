@@ -7,7 +7,7 @@ use Rattle.po_entry.specs.Validity.{IsEntry, IsCatalogueEntry}
 use Rattle.po_catalog.specs.Joined.{is_live}
 use Rattle.po_catalog.specs.Statistics.{has_translation}
 use Rattle.po_merge.specs.declared.input.MergeOptions.{MergeOptions}
-use Rattle.po_merge.specs.Inputs.{Input, NamedEntry, named, all_entries}
+use Rattle.po_merge.specs.Inputs.{Named, NamedEntry, named, all_entries}
 use Rattle.po_merge.specs.Groups.{groups, definitions}
 use Rattle.po_merge.specs.Grouping.{IsDefinition, IsGroup}
 use Rattle.po_merge.specs.MergedEntry.{merged_entry, joined_forms, translations, first_translated}
@@ -17,7 +17,7 @@ use Rattle.po_merge.proofs.Valid.{merged_is_entry, first_with_keeps}
 use Rattle.po_merge.proofs.GroupsMerged.{groups_valid, live_valid}
 use Rattle.po_merge.proofs.OneDefinition.{one_definition}
 
-inputs_valid : (inputs : List Input) → All IsInput inputs → All IsDefinition (all_entries inputs)
+inputs_valid : (inputs : List Named) → All IsInput inputs → All IsDefinition (all_entries inputs)
 inputs_valid [] h = All-nil IsDefinition
 inputs_valid (input ∷ inputs) h =
     let here = All-head IsInput input inputs h in
@@ -31,14 +31,14 @@ definitions_valid group h = found (list_any (λ d. is_live d.entry) group) refl 
   found true e = live_valid group h e
   found false e = h
 
-pub merged_entries : (o : MergeOptions) (inputs : List Input) → MergedAreEntries o inputs
+pub merged_entries : (o : MergeOptions) (inputs : List Named) → MergedAreEntries o inputs
 merged_entries o inputs h =
     let all = groups_valid (all_entries inputs) (inputs_valid inputs h) in
     let valid : All IsGroup (messages inputs) = All-map IsGroup definitions (groups (all_entries inputs)) (All-weaker IsGroup (λ g. IsGroup (definitions g)) definitions_valid (groups (all_entries inputs)) all) in
     let kept = filter (is_kept o) (messages inputs) in
     All-map IsEntry (merged_entry o) kept (All-weaker IsGroup (λ ds. IsEntry (merged_entry o ds)) (λ ds g. merged_is_entry o ds g.some g.valid) kept (All-filter (is_kept o) IsGroup (messages inputs) valid))
 
-pub merged_can_stand : (o : MergeOptions) (inputs : List Input) → MergedCanStand o inputs
+pub merged_can_stand : (o : MergeOptions) (inputs : List Named) → MergedCanStand o inputs
 merged_can_stand o inputs h charsets = λ k d below. record { valid = merged_entries o inputs h k d below; charset = charsets k d below }
 
 pub one_stays : (o : MergeOptions) (definition : NamedEntry) → OneDefinitionStays o definition

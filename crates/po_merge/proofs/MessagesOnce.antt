@@ -12,7 +12,7 @@ use Rattle.po_entry.specs.TextEntry.{TextEntry, plain_entry}
 use Rattle.po_catalog.specs.Joined.{is_live}
 use Rattle.po_catalog.specs.Duplicate.{IsSameMessage, AllDiffer, is_of_message}
 use Rattle.po_merge.specs.declared.input.MergeOptions.{MergeOptions}
-use Rattle.po_merge.specs.Inputs.{Input, NamedEntry, named, all_entries}
+use Rattle.po_merge.specs.Inputs.{Named, NamedEntry, named, all_entries}
 use Rattle.po_merge.specs.Groups.{same_message, first_ones, definitions}
 use Rattle.po_merge.specs.MergedEntry.{merged_entry}
 use Rattle.po_merge.specs.Merged.{is_kept, merged_messages}
@@ -137,16 +137,16 @@ any_named : (p : TextEntry → Bool) (name : List ℕ) (entries : List TextEntry
 any_named p name [] = refl
 any_named p name (e ∷ entries) = ap (λ (b : Bool). p e || b) (any_named p name entries)
 
-any_input : (p : TextEntry → Bool) (inputs : List Input) → list_any (λ e. p e.entry) (all_entries inputs) ≡ list_any (λ input. list_any p input.entries) inputs
+any_input : (p : TextEntry → Bool) (inputs : List Named) → list_any (λ e. p e.entry) (all_entries inputs) ≡ list_any (λ input. list_any p input.entries) inputs
 any_input p [] = refl
 any_input p (input ∷ inputs) =
     list_any-append (λ e. p e.entry) (map (named input.name) input.entries) (all_entries inputs)
     ∙ ap₂ (λ (a b : Bool). a || b) (any_named p input.name input.entries) (any_input p inputs)
 
-pub stand_once : (o : MergeOptions) (inputs : List Input) → MessagesStandOnce o inputs
+pub stand_once : (o : MergeOptions) (inputs : List Named) → MessagesStandOnce o inputs
 stand_once o inputs = let es = all_entries inputs in all_differ o es (first_ones same_message es) (apart_first_ones same_message same_message_laws es) (all_stay o es)
 
-pub kept_stand : (o : MergeOptions) (inputs : List Input) (context : Option (List ℕ)) (id : List ℕ) → KeptMessagesStand o inputs context id
+pub kept_stand : (o : MergeOptions) (inputs : List Named) (context : Option (List ℕ)) (id : List ℕ) → KeptMessagesStand o inputs context id
 kept_stand o inputs context id =
     let es = all_entries inputs in
     any_kept o es context id (first_ones same_message es) (all_stay o es)

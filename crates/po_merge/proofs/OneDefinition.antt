@@ -7,7 +7,7 @@ use Rattle.po_syntax.specs.declared.item.CommentKind.{CommentKind}
 use Rattle.po_syntax.specs.declared.item.CommentKind.TheVariants.{Translator, Extracted, Reference, Flags}
 use Rattle.po_entry.specs.TextEntry.{TextEntry, TextPrevious}
 use Rattle.po_catalog.specs.Statistics.{has_translation}
-use Rattle.po_merge.specs.declared.definition.Definition.{Definition}
+use Rattle.po_merge.specs.declared.definition.NamedEntry.{NamedEntry as BorrowedEntry}
 use Rattle.po_merge.specs.declared.input.MergeOptions.{MergeOptions}
 use Rattle.po_merge.specs.Inputs.{NamedEntry}
 use Rattle.po_merge.specs.InputsView.{named_entry, named_entries}
@@ -62,11 +62,11 @@ one_definition o d =
     ap₂ (λ (b : Bool) (fs : List (List ℕ)). if b then joined_forms (translations (d ∷ [])) else fs) (not_joined o d) (ap (λ (x : TextEntry). x.forms) (only_one has_translation d)) in
     λ i. rebuilt (comment_one o Translator d i) (comment_one o Extracted d i) (comment_one o Reference d i) (fuzzy i) (comment_one o Flags d i) (only_one has_previous d i).previous (only_one has_plural d i).plural (forms i) e
 
-pub one_of : (o : MergeOptions) (ds : List Definition) (d : Definition) → length ds ≡ 1 → d ≡ get_or ds 0 d → d.entry.now ≡ merged_entry o (named_entries ds)
+pub one_of : (o : MergeOptions) (ds : List BorrowedEntry) (d : BorrowedEntry) → length ds ≡ 1 → d ≡ get_or ds 0 d → d.entry.now ≡ merged_entry o (named_entries ds)
 one_of o [] d one at = absurd (omega (arith, one))
-one_of o (x ∷ []) d one at = ap (λ (y : Definition). y.entry.now) at ∙ sym (one_definition o (named_entry x))
+one_of o (x ∷ []) d one at = ap (λ (y : BorrowedEntry). y.entry.now) at ∙ sym (one_definition o (named_entry x))
 one_of o (x ∷ y ∷ ds) d one at = absurd (omega (arith, one))
 
-pub first_is : (ds : List Definition) (d : Definition) → 0 < length ds → d ≡ get_or ds 0 d → d.entry.now ≡ first_of (named_entries ds)
+pub first_is : (ds : List BorrowedEntry) (d : BorrowedEntry) → 0 < length ds → d ≡ get_or ds 0 d → d.entry.now ≡ first_of (named_entries ds)
 first_is [] d some at = absurd (omega (arith, some))
-first_is (x ∷ ds) d some at = ap (λ (y : Definition). y.entry.now) at
+first_is (x ∷ ds) d some at = ap (λ (y : BorrowedEntry). y.entry.now) at

@@ -15,7 +15,7 @@ use Rattle.po_catalog.specs.Joined.{is_live}
 use Rattle.po_catalog.specs.Duplicate.{IsSameMessage, AllDiffer}
 use Rattle.po_catalog.specs.Statistics.{has_translation}
 use Rattle.po_merge.specs.declared.input.MergeOptions.{MergeOptions}
-use Rattle.po_merge.specs.Inputs.{Input, NamedEntry, named}
+use Rattle.po_merge.specs.Inputs.{Named, NamedEntry, named}
 use Rattle.po_merge.specs.Groups.{with_new, first_ones, same_message, definitions}
 use Rattle.po_merge.specs.MergedEntry.{first_with, has_previous, has_plural, first_translated, texts_of, with_others, collected, comment_of, same_forms, translations, is_joined, joined_forms, merged_entry}
 use Rattle.po_merge.specs.Merged.{is_kept, merged_messages}
@@ -118,7 +118,7 @@ one_alone use_first d group e =
       same = ap (merged_entry (keep_all use_first)) one ∙ one_definition (keep_all use_first) d;
     }
 
-pub one_input : (use_first : Bool) (input : Input) → OneInputStays use_first input
+pub one_input : (use_first : Bool) (input : Named) → OneInputStays use_first input
 one_input use_first input h =
     let o = keep_all use_first in
     let all = map (named input.name) input.entries in
@@ -180,7 +180,7 @@ two_alone use_first n m e group same =
       same = ap (merged_entry (keep_all use_first)) two ∙ same_twice (keep_all use_first) n m e;
     }
 
-pub twice : (use_first : Bool) (input : Input) (name : List ℕ) → WithItself use_first input name
+pub twice : (use_first : Bool) (input : Named) (name : List ℕ) → WithItself use_first input name
 twice use_first input name h =
     let o = keep_all use_first in
     let n = input.name in

@@ -10,7 +10,7 @@ use Rattle.std.proofs.lemmas.List.Elements.{filter-append}
 use Rattle.std.proofs.lemmas.Bool.{ltb-false}
 use Rattle.po_entry.specs.TextEntry.{TextEntry, texts}
 use Rattle.po_catalog.specs.Statistics.{has_translation}
-use Rattle.po_merge.specs.declared.definition.Definition.{Definition}
+use Rattle.po_merge.specs.declared.definition.NamedEntry.{NamedEntry as BorrowedEntry}
 use Rattle.po_merge.specs.Inputs.{NamedEntry}
 use Rattle.po_merge.specs.InputsView.{named_entry, named_entries}
 use Rattle.po_merge.specs.Groups.{with_new, first_ones}
@@ -38,15 +38,15 @@ others_more done now others i x b below at met is =
 pub texts_more : (others : List (Vec ℕ)) (i : ℕ) (x : Vec ℕ) → i < length others → x ≡ get_or others i x → texts (take (i + 1) others) ≡ texts (take i others) ++ x.items ∷ []
 texts_more others i x below at = ap texts (take_more others i x below ∙ ap (λ (v : Vec ℕ). take i others ++ v ∷ []) (sym at)) ∙ map-append (λ (v : Vec ℕ). v.items) (take i others) (x ∷ [])
 
-pub named_more : (ds : List Definition) (i : ℕ) (d : Definition) → i < length ds → d ≡ get_or ds i d → named_entries (take (i + 1) ds) ≡ named_entries (take i ds) ++ named_entry d ∷ []
-named_more ds i d below at = ap named_entries (take_more ds i d below ∙ ap (λ (x : Definition). take i ds ++ x ∷ []) (sym at)) ∙ map-append named_entry (take i ds) (d ∷ [])
+pub named_more : (ds : List BorrowedEntry) (i : ℕ) (d : BorrowedEntry) → i < length ds → d ≡ get_or ds i d → named_entries (take (i + 1) ds) ≡ named_entries (take i ds) ++ named_entry d ∷ []
+named_more ds i d below at = ap named_entries (take_more ds i d below ∙ ap (λ (x : BorrowedEntry). take i ds ++ x ∷ []) (sym at)) ∙ map-append named_entry (take i ds) (d ∷ [])
 
-pub collected_more : (texts_of : TextEntry → List (List ℕ)) (ds : List Definition) (i : ℕ) (d : Definition) → i < length ds → d ≡ get_or ds i d
+pub collected_more : (texts_of : TextEntry → List (List ℕ)) (ds : List BorrowedEntry) (i : ℕ) (d : BorrowedEntry) → i < length ds → d ≡ get_or ds i d
     → collected texts_of (named_entries (take (i + 1) ds)) ≡ with_others (collected texts_of (named_entries (take i ds))) (texts_of d.entry.now)
 collected_more texts_of ds i d below at =
     ap (collected texts_of) (named_more ds i d below at) ∙ fold_push (λ (done : List (List ℕ)) (x : NamedEntry). with_others done (texts_of x.entry)) [] (named_entries (take i ds)) (named_entry d)
 
-pub translations_more : (ds : List Definition) (i : ℕ) (d : Definition) (b c : Bool) → i < length ds → d ≡ get_or ds i d → has_translation d.entry.now ≡ b
+pub translations_more : (ds : List BorrowedEntry) (i : ℕ) (d : BorrowedEntry) (b c : Bool) → i < length ds → d ≡ get_or ds i d → has_translation d.entry.now ≡ b
     → list_any (same_forms (named_entry d)) (translations (named_entries (take i ds))) ≡ c
     → translations (named_entries (take (i + 1) ds)) ≡ cond b (cond c (translations (named_entries (take i ds))) (translations (named_entries (take i ds)) ++ named_entry d ∷ [])) (translations (named_entries (take i ds)))
 translations_more ds i d b c below at translated met =
@@ -62,21 +62,21 @@ translations_more ds i d b c below at translated met =
           ap (λ (t : Bool). first_ones same_forms (filter (λ x. has_translation x.entry) (named_entries (take i ds)) ++ cond t (named_entry d ∷ []) [])) e
           ∙ ap (first_ones same_forms) (append-nil (filter (λ x. has_translation x.entry) (named_entries (take i ds))))
 
-pub form_count_more : (ds : List Definition) (i : ℕ) (d : Definition) → i < length ds → d ≡ get_or ds i d → form_count (named_entries (take (i + 1) ds)) ≡ max (form_count (named_entries (take i ds))) (length d.entry.now.forms)
+pub form_count_more : (ds : List BorrowedEntry) (i : ℕ) (d : BorrowedEntry) → i < length ds → d ≡ get_or ds i d → form_count (named_entries (take (i + 1) ds)) ≡ max (form_count (named_entries (take i ds))) (length d.entry.now.forms)
 form_count_more ds i d below at = ap form_count (named_more ds i d below at) ∙ fold_push (λ (count : ℕ) (t : NamedEntry). max count (length t.entry.forms)) 0 (named_entries (take i ds)) (named_entry d)
 
 flat_map_push : {X A : Type 0} (f : X → List A) (xs : List X) (x : X) → flat_map f (xs ++ x ∷ []) ≡ flat_map f xs ++ f x
 flat_map_push f [] x = append-nil (f x)
 flat_map_push f (y ∷ xs) x = ap (λ (l : List _). f y ++ l) (flat_map_push f xs x) ∙ sym (append_assoc (f y) (flat_map f xs) (f x))
 
-pub joined_form_more : (ds : List Definition) (i index : ℕ) (d : Definition) (form : Option (List ℕ)) → i < length ds → d ≡ get_or ds i d → slice_get d.entry.now.forms index ≡ form
+pub joined_form_more : (ds : List BorrowedEntry) (i index : ℕ) (d : BorrowedEntry) (form : Option (List ℕ)) → i < length ds → d ≡ get_or ds i d → slice_get d.entry.now.forms index ≡ form
     → joined_form (named_entries (take (i + 1) ds)) index ≡ joined_form (named_entries (take i ds)) index ++ option_map_or (marked d.name.now) form []
 joined_form_more ds i index d form below at is =
     ap (λ (l : List NamedEntry). joined_form l index) (named_more ds i d below at)
     ∙ flat_map_push (λ (t : NamedEntry). option_map_or (marked t.name) (slice_get t.entry.forms index) []) (named_entries (take i ds)) (named_entry d)
     ∙ ap (λ (o : Option (List ℕ)). joined_form (named_entries (take i ds)) index ++ option_map_or (marked d.name.now) o []) is
 
-pub with_form_more : (ds : List Definition) (i index : ℕ) (d : Definition) (b : Bool) → i < length ds → d ≡ get_or ds i d → nat_lt index (length d.entry.now.forms) ≡ b
+pub with_form_more : (ds : List BorrowedEntry) (i index : ℕ) (d : BorrowedEntry) (b : Bool) → i < length ds → d ≡ get_or ds i d → nat_lt index (length d.entry.now.forms) ≡ b
     → with_form index (named_entries (take (i + 1) ds)) ≡ cond b (with_form index (named_entries (take i ds)) ++ named_entry d ∷ []) (with_form index (named_entries (take i ds)))
 with_form_more ds i index d b below at is =
     ap (with_form index) (named_more ds i d below at) ∙ filter-append (λ (t : NamedEntry). nat_lt index (length t.entry.forms)) (named_entries (take i ds)) (named_entry d ∷ [])

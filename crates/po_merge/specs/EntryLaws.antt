@@ -1,6 +1,7 @@
 -- What is promised of the entry that the definitions of one message are merged to, and of which
 -- messages are kept (manual, "Invoking the msgcat Program").
-use Rattle.std.specs.Prelude.{◌≡◌, ◌↔◌, ℕ, ◌<◌, Bool, true, false, not, List, [], ◌∷◌, ◌++◌, filter, length, get_or, slice_get, codes, Some, bytes_eq}
+use Rattle.std.specs.Prelude.{◌≡◌, ◌↔◌, ℕ, ◌<◌, Bool, true, false, not, List, [], ◌∷◌, ◌++◌, filter, length, get_or}
+use Rattle.std.specs.Prelude.{slice_get, codes, Some, bytes_eq}
 use Rattle.std.specs.List.{list_any}
 use Rattle.po_syntax.specs.declared.item.CommentKind.{CommentKind}
 use Rattle.po_entry.specs.TextEntry.{TextEntry}
@@ -9,7 +10,8 @@ use Rattle.po_catalog.specs.Joined.{is_live}
 use Rattle.po_merge.specs.declared.input.MergeOptions.{MergeOptions}
 use Rattle.po_merge.specs.Inputs.{NamedEntry}
 use Rattle.po_merge.specs.Groups.{definitions}
-use Rattle.po_merge.specs.MergedEntry.{ended, has_plural, has_previous, is_joined, joined_form, merged_entry, texts_of, translations}
+use Rattle.po_merge.specs.MergedEntry.{ended, has_plural, has_previous, is_joined, joined_form, merged_entry, texts_of}
+use Rattle.po_merge.specs.MergedEntry.{translations}
 use Rattle.po_merge.specs.Merged.{is_kept}
 
 -- the entry has this comment, reference or flag

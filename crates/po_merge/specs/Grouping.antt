@@ -5,7 +5,7 @@ use Rattle.po_catalog.specs.FirstOnes.{group_numbers}
 use Rattle.po_catalog.specs.Message.{Message, entry_message, same_message}
 use Rattle.po_entry.specs.Bytes.{Lacks}
 use Rattle.po_entry.specs.Validity.{IsEntry}
-use Rattle.po_merge.specs.declared.definition.Definition.{Definition}
+use Rattle.po_merge.specs.declared.definition.NamedEntry.{NamedEntry as BorrowedEntry}
 use Rattle.po_merge.specs.Inputs.{NamedEntry}
 use Rattle.po_merge.specs.InputsView.{named_entries}
 
@@ -28,5 +28,5 @@ named_messages entries = map (λ e. entry_message e.entry) entries
 abbrev pub message_numbers : List NamedEntry → List ℕ
 message_numbers entries = group_numbers same_message (named_messages entries)
 
-abbrev pub group_entries : List (Vec Definition) → List (List NamedEntry)
+abbrev pub group_entries : List (Vec BorrowedEntry) → List (List NamedEntry)
 group_entries all = map (λ group. named_entries group.items) all

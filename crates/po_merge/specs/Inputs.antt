@@ -4,7 +4,7 @@ use Rattle.std.specs.List.{flat_map}
 use Rattle.po_entry.specs.TextEntry.{TextEntry}
 
 -- an input: its name, and the entries of its catalogue
-pub record Input : Type 0 where
+pub record Named : Type 0 where
   pub name : List ℕ
   pub entries : List TextEntry
 
@@ -17,5 +17,5 @@ abbrev pub named : List ℕ → TextEntry → NamedEntry
 named name entry = record { name = name; entry = entry }
 
 -- the entries of all inputs, in order
-abbrev pub all_entries : List Input → List NamedEntry
+abbrev pub all_entries : List Named → List NamedEntry
 all_entries inputs = flat_map (λ input. map (named input.name) input.entries) inputs

@@ -1,5 +1,6 @@
 -- What is promised of merging beyond its definition (manual, "Invoking the msgcat Program").
-use Rattle.std.specs.Prelude.{◌≡◌, ℕ, ◌<◌, ◌≤◌, nat_lt, ◌==◌, Bool, false, ◌&&◌, List, [], ◌∷◌, map, filter, length, All, Contains, Option, None}
+use Rattle.std.specs.Prelude.{◌≡◌, ℕ, ◌<◌, ◌≤◌, nat_lt, ◌==◌, Bool, false, ◌&&◌, List, [], ◌∷◌, map, filter, length}
+use Rattle.std.specs.Prelude.{All, Contains, Option, None}
 use Rattle.std.specs.List.{list_any, position_or_len, range_with_len}
 use Rattle.po_entry.specs.TextEntry.{TextEntry}
 use Rattle.po_entry.specs.Header.{HasAdmittedCharset}
@@ -7,7 +8,7 @@ use Rattle.po_syntax.specs.ItemContents.{IsText}
 use Rattle.po_entry.specs.Validity.{IsEntry, IsCatalogueEntry}
 use Rattle.po_catalog.specs.Duplicate.{AllDiffer, is_of_message}
 use Rattle.po_merge.specs.declared.input.MergeOptions.{MergeOptions}
-use Rattle.po_merge.specs.Inputs.{Input, NamedEntry, all_entries}
+use Rattle.po_merge.specs.Inputs.{Named, NamedEntry, all_entries}
 use Rattle.po_merge.specs.Groups.{definitions, first_ones, groups, same_message}
 use Rattle.po_merge.specs.MergedEntry.{merged_entry, is_joined}
 use Rattle.po_merge.specs.Merged.{is_kept, merged}
@@ -17,16 +18,16 @@ abbrev pub OneDefinitionStays : MergeOptions → NamedEntry → Type 0
 OneDefinitionStays o definition = merged_entry o (definition ∷ []) ≡ definition.entry
 
 -- an input whose name can stand in a text, and whose entries can stand in a catalogue
-pub record IsInput (input : Input) : Type 0 where
+pub record IsInput (input : Named) : Type 0 where
   pub name : IsText input.name
   pub entries : All IsCatalogueEntry input.entries
 
 -- valid inputs are merged to valid entries
-abbrev pub MergedAreEntries : MergeOptions → List Input → Type 0
+abbrev pub MergedAreEntries : MergeOptions → List Named → Type 0
 MergedAreEntries o inputs = All IsInput inputs → All IsEntry (merged o inputs)
 
 -- they can stand in a catalogue, if the charset of each header among them is admitted
-abbrev pub MergedCanStand : MergeOptions → List Input → Type 0
+abbrev pub MergedCanStand : MergeOptions → List Named → Type 0
 MergedCanStand o inputs =
     All IsInput inputs → All HasAdmittedCharset (merged o inputs) → All IsCatalogueEntry (merged o inputs)
 
@@ -35,15 +36,15 @@ abbrev pub has_message : Option (List ℕ) → List ℕ → List TextEntry → B
 has_message context id entries = list_any (is_of_message context id) entries
 
 -- what defines this message in all inputs
-abbrev pub definitions_of : Option (List ℕ) → List ℕ → List Input → List NamedEntry
+abbrev pub definitions_of : Option (List ℕ) → List ℕ → List Named → List NamedEntry
 definitions_of context id inputs = definitions (filter (λ e. is_of_message context id e.entry) (all_entries inputs))
 
 -- no two merged entries are of one message
-abbrev pub MessagesStandOnce : MergeOptions → List Input → Type 0
+abbrev pub MessagesStandOnce : MergeOptions → List Named → Type 0
 MessagesStandOnce o inputs = AllDiffer (merged o inputs)
 
 -- a message is among the merged entries exactly if an input has it and its definitions are kept
-abbrev pub KeptMessagesStand : MergeOptions → List Input → Option (List ℕ) → List ℕ → Type 0
+abbrev pub KeptMessagesStand : MergeOptions → List Named → Option (List ℕ) → List ℕ → Type 0
 KeptMessagesStand o inputs context id =
     has_message context id (merged o inputs)
     ≡ (list_any (λ input. has_message context id input.entries) inputs && is_kept o (definitions_of context id inputs))
@@ -53,15 +54,15 @@ abbrev pub keep_all : Bool → MergeOptions
 keep_all use_first = record { more_than = 0; less_than = None; unique = false; use_first = use_first }
 
 -- an input in which no message stands twice is merged to its entries
-abbrev pub OneInputStays : Bool → Input → Type 0
+abbrev pub OneInputStays : Bool → Named → Type 0
 OneInputStays use_first input = AllDiffer input.entries → merged (keep_all use_first) (input ∷ []) ≡ input.entries
 
 -- the same entries under another name
-abbrev pub renamed : List ℕ → Input → Input
+abbrev pub renamed : List ℕ → Named → Named
 renamed name input = record { name = name; entries = input.entries }
 
 -- and so it is together with a second input of the same entries, under whatever name
-abbrev pub WithItself : Bool → Input → List ℕ → Type 0
+abbrev pub WithItself : Bool → Named → List ℕ → Type 0
 WithItself use_first input name =
     AllDiffer input.entries → merged (keep_all use_first) (input ∷ renamed name input ∷ []) ≡ input.entries
 

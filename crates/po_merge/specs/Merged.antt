@@ -1,5 +1,6 @@
 -- The entries that several inputs are merged to (manual, "Invoking the msgcat Program").
-use Rattle.std.specs.Prelude.{◌≡◌, ◌⊎◌, ℕ, Bool, not, ◌&&◌, ◌||◌, true, nat_lt, List, map, filter, length, All, Option, Some, None}
+use Rattle.std.specs.Prelude.{◌≡◌, ◌⊎◌, ℕ, Bool, not, ◌&&◌, ◌||◌, true, nat_lt, List, map, filter, length, All, Option}
+use Rattle.std.specs.Prelude.{Some, None}
 use Rattle.std.specs.List.{list_any}
 use Rattle.po_syntax.specs.declared.fault.PoError.{PoError}
 use Rattle.po_syntax.specs.declared.fault.PoFault.TheVariants.{ForeignCharset}
@@ -7,7 +8,7 @@ use Rattle.po_entry.specs.TextEntry.{TextEntry}
 use Rattle.po_entry.specs.Header.{is_header, HasAdmittedCharset}
 use Rattle.po_entry.specs.Validity.{out_of_memory}
 use Rattle.po_merge.specs.declared.input.MergeOptions.{MergeOptions}
-use Rattle.po_merge.specs.Inputs.{Input, NamedEntry, all_entries}
+use Rattle.po_merge.specs.Inputs.{Named, NamedEntry, all_entries}
 use Rattle.po_merge.specs.Groups.{groups, definitions}
 use Rattle.po_merge.specs.MergedEntry.{merged_entry}
 
@@ -25,7 +26,7 @@ abbrev pub is_kept : MergeOptions → List NamedEntry → Bool
 is_kept o ds = list_any (λ d. is_header d.entry) ds || is_wanted o (length ds)
 
 -- the definitions of each message, in the order in which the messages first appear
-abbrev pub messages : List Input → List (List NamedEntry)
+abbrev pub messages : List Named → List (List NamedEntry)
 messages inputs = map definitions (groups (all_entries inputs))
 
 -- one entry for each message that is kept, by its definitions
@@ -33,7 +34,7 @@ abbrev pub merged_messages : MergeOptions → List (List NamedEntry) → List Te
 merged_messages o messages = map (merged_entry o) (filter (is_kept o) messages)
 
 -- what the inputs are merged to
-abbrev pub merged : MergeOptions → List Input → List TextEntry
+abbrev pub merged : MergeOptions → List Named → List TextEntry
 merged o inputs = merged_messages o (messages inputs)
 
 -- why entries can't stand in a catalogue: a header's charset isn't admitted, or an allocation

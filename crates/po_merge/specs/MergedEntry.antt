@@ -1,6 +1,7 @@
 -- The entry that the definitions of one message are merged to (manual, "Invoking the msgcat
 -- Program").
-use Rattle.std.specs.Prelude.{ℕ, max, Bool, not, ◌&&◌, ◌||◌, nat_lt, nat_eq, List, [], ◌∷◌, ◌++◌, map, filter, fold, find, length, slice_get, codes, None, is_some, bytes_eq, if◌then◌else◌}
+use Rattle.std.specs.Prelude.{ℕ, max, Bool, not, ◌&&◌, ◌||◌, nat_lt, nat_eq, List, [], ◌∷◌, ◌++◌, map, filter, fold}
+use Rattle.std.specs.Prelude.{find, length, slice_get, codes, None, is_some, bytes_eq, if◌then◌else◌}
 use Rattle.std.specs.List.{list_any, flat_map, range_with_len, ends_with}
 use Rattle.std.specs.Option.{option_map_or}
 use Rattle.po_syntax.specs.declared.item.CommentKind.{CommentKind}

@@ -4,7 +4,7 @@ ghost use Rattle.po_merge.specs.Sets.{HoldsTexts};
 ghost use Rattle.po_merge.specs.InputsView.{named_entries};
 ghost use Rattle.po_merge.specs.MergedEntry.{collected, comment_of, texts_of, with_others};
 
-use crate::definition::{Definition, Part, first_with};
+use crate::definition::{NamedEntry, Part, first_with};
 use crate::input::MergeOptions;
 use po_catalog::Entry;
 use po_entry::copy_texts;
@@ -56,7 +56,7 @@ fn add_seen<'a>(seen: &mut BTreeSet<&'a [u8]>, others: &'a [Vec<u8>]) -> Result<
 /// The texts of one kind of the definitions: of each those that no earlier definition has.
 fn collected(
     alloc: Global,
-    definitions: &[Definition<'_>],
+    definitions: &[NamedEntry<'_>],
     kind: CommentKind,
 ) -> Result<Vec<Vec<u8>>, AllocError>
     ensures { IfOk result (λ all. texts all.items ≡ collected (texts_of kind) (named_entries definitions.now)) }
@@ -76,7 +76,7 @@ pub(crate) fn comment_of(
     alloc: Global,
     options: &MergeOptions,
     kind: CommentKind,
-    definitions: &[Definition<'_>],
+    definitions: &[NamedEntry<'_>],
 ) -> Result<Vec<Vec<u8>>, AllocError>
     requires { 0 < length definitions.now }
     ensures { IfOk result (λ all. texts all.items ≡ comment_of options.now kind (named_entries definitions.now)) }

@@ -13,7 +13,7 @@ use std::alloc::{AllocError, Global};
 
 /// An entry of one of several inputs, with that input's name.
 #[derive(Clone, Copy)]
-pub struct Definition<'a> {
+pub struct NamedEntry<'a> {
     /// The name of the input.
     pub name: &'a str,
     /// The entry, in the catalogue of that input.
@@ -21,7 +21,7 @@ pub struct Definition<'a> {
 }
 
 /// Whether one of the entries is live.
-pub(crate) fn has_live(group: &[Definition<'_>]) -> bool
+pub(crate) fn has_live(group: &[NamedEntry<'_>]) -> bool
     ensures { result ≡ list_any (λ d. is_live d.entry.now) group.now }
 {
     group.iter().any(|definition| is_live(definition.entry))
@@ -30,8 +30,8 @@ pub(crate) fn has_live(group: &[Definition<'_>]) -> bool
 /// The live entries of a group.
 pub(crate) fn live<'a>(
     alloc: Global,
-    group: &[Definition<'a>],
-) -> Result<Vec<Definition<'a>>, AllocError>
+    group: &[NamedEntry<'a>],
+) -> Result<Vec<NamedEntry<'a>>, AllocError>
     ensures { IfOk result (λ found. named_entries found.items
         ≡ filter (λ d. is_live d.entry) (named_entries group.now)) }
 {
@@ -45,7 +45,7 @@ pub(crate) fn live<'a>(
 }
 
 /// Whether one of the definitions is a header.
-fn has_header(definitions: &[Definition<'_>]) -> bool
+fn has_header(definitions: &[NamedEntry<'_>]) -> bool
     ensures { result ≡ list_any (λ d. is_header d.entry.now) definitions.now }
 {
     definitions
@@ -65,7 +65,7 @@ pub fn is_wanted(options: &MergeOptions, count: usize) -> bool
 }
 
 /// Whether the message of these definitions is kept.
-pub(crate) fn is_kept(definitions: &[Definition<'_>], options: &MergeOptions) -> bool
+pub(crate) fn is_kept(definitions: &[NamedEntry<'_>], options: &MergeOptions) -> bool
     ensures { result ≡ is_kept options.now (named_entries definitions.now) }
 {
     has_header(definitions) || is_wanted(options, definitions.len())
@@ -101,7 +101,7 @@ fn has_previous(previous: &Previous) -> bool
 }
 
 /// The first definition that has the part, or else the first.
-pub(crate) fn first_with<'a>(definitions: &[Definition<'a>], part: Part) -> &'a Entry
+pub(crate) fn first_with<'a>(definitions: &[NamedEntry<'a>], part: Part) -> &'a Entry
     requires { 0 < length definitions.now }
     ensures { result.now ≡ first_with (has_part part) (named_entries definitions.now) }
 {

@@ -6,7 +6,7 @@ ghost use Rattle.po_merge.specs.Groups.{groups};
 ghost use Rattle.po_merge.specs.Inputs.{named, all_entries};
 ghost use Rattle.po_merge.specs.InputsView.{inputs_view, named_entries};
 
-use crate::definition::Definition;
+use crate::definition::NamedEntry;
 use crate::input::Named;
 use po_catalog::laws::messages_are_numbered_in_order;
 use po_catalog::{Entry, MessageKey, message_key};
@@ -14,7 +14,7 @@ use std::alloc::{AllocError, Global};
 
 /// Appends the entries of an input of this name.
 fn push_all<'a>(
-    all: &mut Vec<Definition<'a>>,
+    all: &mut Vec<NamedEntry<'a>>,
     name: &'a str,
     entries: &'a [Entry],
 ) -> Result<(), AllocError>
@@ -23,7 +23,7 @@ fn push_all<'a>(
         ≡ named_entries all.old.items ++ map (named name.now) entries.now) }
 {
     for entry in entries {
-        all.push(Definition { name, entry })?;
+        all.push(NamedEntry { name, entry })?;
     }
     Ok(())
 }
@@ -32,7 +32,7 @@ fn push_all<'a>(
 fn all_entries<'a>(
     alloc: Global,
     inputs: &'a [Named<'a>],
-) -> Result<Vec<Definition<'a>>, AllocError>
+) -> Result<Vec<NamedEntry<'a>>, AllocError>
     requires { All (λ input. Lacks 0 input.name.now) inputs.now }
     ensures all { IfOk result (λ all. named_entries all.items ≡ all_entries (inputs_view inputs.now)) }
     ensures valid { OnOk result (All IsDefinition (all_entries (inputs_view inputs.now))) }
@@ -45,7 +45,7 @@ fn all_entries<'a>(
 }
 
 /// The keys of the entries' messages.
-fn keys_of<'a>(alloc: Global, entries: &[Definition<'a>]) -> Result<Vec<MessageKey<'a>>, AllocError>
+fn keys_of<'a>(alloc: Global, entries: &[NamedEntry<'a>]) -> Result<Vec<MessageKey<'a>>, AllocError>
     ensures { IfOk result (λ keys. messages keys.items ≡ named_messages (named_entries entries.now)) }
 {
     let mut keys = Vec::with_capacity(alloc, entries.len())?;
@@ -56,7 +56,7 @@ fn keys_of<'a>(alloc: Global, entries: &[Definition<'a>]) -> Result<Vec<MessageK
 }
 
 /// A group of one entry.
-fn alone<'a>(alloc: Global, definition: Definition<'a>) -> Result<Vec<Definition<'a>>, AllocError>
+fn alone<'a>(alloc: Global, definition: NamedEntry<'a>) -> Result<Vec<NamedEntry<'a>>, AllocError>
     ensures { IfOk result (λ group. group.items ≡ definition.entry ∷ []) }
 {
     let mut group = Vec::new(alloc);
@@ -67,9 +67,9 @@ fn alone<'a>(alloc: Global, definition: Definition<'a>) -> Result<Vec<Definition
 /// The entries of each message, by the numbers of their messages.
 fn groups_of<'a>(
     alloc: Global,
-    entries: &[Definition<'a>],
+    entries: &[NamedEntry<'a>],
     numbers: &[usize],
-) -> Result<Vec<Vec<Definition<'a>>>, AllocError>
+) -> Result<Vec<Vec<NamedEntry<'a>>>, AllocError>
     requires { numbers.now ≡ message_numbers (named_entries entries.now) }
     ensures { IfOk result (λ all. group_entries all.items ≡ groups (named_entries entries.now)) }
 {
@@ -90,7 +90,7 @@ fn groups_of<'a>(
 pub(crate) fn grouped<'a>(
     alloc: Global,
     inputs: &'a [Named<'a>],
-) -> Result<Vec<Vec<Definition<'a>>>, AllocError>
+) -> Result<Vec<Vec<NamedEntry<'a>>>, AllocError>
     requires { All (λ input. Lacks 0 input.name.now) inputs.now }
     ensures groups { IfOk result (λ all. group_entries all.items ≡ groups (all_entries (inputs_view inputs.now))) }
     ensures valid { OnOk result (All IsDefinition (all_entries (inputs_view inputs.now))) }

@@ -4,7 +4,7 @@ ghost use Rattle.po_merge.specs.InputsView.{named_entries};
 ghost use Rattle.po_merge.specs.Sets.{with_form};
 ghost use Rattle.po_merge.specs.MergedEntry.{ended, form_count, joined_form, joined_forms, marked, translations};
 
-use crate::definition::Definition;
+use crate::definition::NamedEntry;
 use po_catalog::has_translation;
 use std::alloc::{AllocError, Global};
 use std::collections::BTreeSet;
@@ -12,8 +12,8 @@ use std::collections::BTreeSet;
 /// The distinct translations, each in the definition that has it first.
 pub(crate) fn translations<'a>(
     alloc: Global,
-    definitions: &[Definition<'a>],
-) -> Result<Vec<Definition<'a>>, AllocError>
+    definitions: &[NamedEntry<'a>],
+) -> Result<Vec<NamedEntry<'a>>, AllocError>
     ensures { IfOk result (λ found. named_entries found.items ≡ translations (named_entries definitions.now)) }
 {
     let mut seen = BTreeSet::new(alloc);
@@ -31,7 +31,7 @@ pub(crate) fn translations<'a>(
 }
 
 /// The largest count of forms of a translation.
-fn form_count(translations: &[Definition<'_>]) -> usize
+fn form_count(translations: &[NamedEntry<'_>]) -> usize
     ensures { result ≡ form_count (named_entries translations.now) }
 {
     let mut count = 0_usize;
@@ -67,7 +67,7 @@ fn push_marked(joined: &mut Vec<u8>, name: &str, form: &[u8]) -> Result<(), Allo
 /// The forms of this index, joined, of the translations that have such a form.
 fn joined_form(
     alloc: Global,
-    translations: &[Definition<'_>],
+    translations: &[NamedEntry<'_>],
     index: usize,
 ) -> Result<Vec<u8>, AllocError>
     ensures { IfOk result (λ form. form.items ≡ joined_form (named_entries translations.now) index) }
@@ -86,9 +86,9 @@ fn joined_form(
 /// The translations that have a form of this index.
 fn with_form<'a>(
     alloc: Global,
-    translations: &[Definition<'a>],
+    translations: &[NamedEntry<'a>],
     index: usize,
-) -> Result<Vec<Definition<'a>>, AllocError>
+) -> Result<Vec<NamedEntry<'a>>, AllocError>
     ensures { IfOk result (λ found. named_entries found.items ≡ with_form index (named_entries translations.now)) }
 {
     let mut found = Vec::new(alloc);
@@ -104,7 +104,7 @@ fn with_form<'a>(
 /// on the way.
 pub(crate) fn joined_forms(
     alloc: Global,
-    translations: Vec<Definition<'_>>,
+    translations: Vec<NamedEntry<'_>>,
 ) -> Result<Vec<Vec<u8>>, AllocError>
     ensures { IfOk result (λ forms. texts forms.items ≡ joined_forms (named_entries translations.entry.items)) }
 {

@@ -2,7 +2,7 @@
 //! proof.
 ghost use Rattle.std.specs.Prelude.{ℕ, Bool, List, Option};
 ghost use Rattle.po_merge.specs.declared.input.MergeOptions.{MergeOptions};
-ghost use Rattle.po_merge.specs.Inputs.{Input, NamedEntry};
+ghost use Rattle.po_merge.specs.Inputs.{Named, NamedEntry};
 ghost use Rattle.po_entry.specs.TextEntry.{TextEntry};
 ghost use Rattle.po_merge.specs.MergeLaws.{FormsAreOfOne, GroupsByNumber, KeptMessagesStand, MergedAreEntries, MergedCanStand, MessagesStandOnce, OneDefinitionStays, OneInputStays, WithItself};
 ghost use Rattle.po_merge.specs.EntryLaws.{FormsAreJoined, JoinedIsFuzzy, KeptByCount, ObsoleteWhereNoneIsLive, PluralOfFirst, PreviousOfFirst, TextsInOrder, TextsOfAll};
@@ -17,27 +17,27 @@ pub fn one_definition_stays()
 /// Valid inputs are merged to valid entries, which can stand in a catalogue if the charset of each
 /// header among them is admitted.
 pub fn merged_entries_can_stand()
-    ensures entries { (options : MergeOptions) (inputs : List Input) → MergedAreEntries options inputs }
-    ensures can_stand { (options : MergeOptions) (inputs : List Input) → MergedCanStand options inputs }
+    ensures entries { (options : MergeOptions) (inputs : List Named) → MergedAreEntries options inputs }
+    ensures can_stand { (options : MergeOptions) (inputs : List Named) → MergedCanStand options inputs }
 {}
 
 /// No two merged entries have the same context and msgid. A message is among the merged entries
 /// exactly if an input has it and its definitions are kept.
 pub fn messages_stand_once()
-    ensures once { (options : MergeOptions) (inputs : List Input) → MessagesStandOnce options inputs }
-    ensures kept { (options : MergeOptions) (inputs : List Input) (context : Option (List ℕ)) (id : List ℕ)
+    ensures once { (options : MergeOptions) (inputs : List Named) → MessagesStandOnce options inputs }
+    ensures kept { (options : MergeOptions) (inputs : List Named) (context : Option (List ℕ)) (id : List ℕ)
         → KeptMessagesStand options inputs context id }
 {}
 
 /// An input in which no message stands twice, not even among obsolete entries, is merged to its
 /// entries, where all messages are kept.
 pub fn one_input_stays()
-    ensures { (use_first : Bool) (input : Input) → OneInputStays use_first input }
+    ensures { (use_first : Bool) (input : Named) → OneInputStays use_first input }
 {}
 
 /// So is that input together with a second one that has the same entries, under whatever name.
 pub fn with_itself()
-    ensures { (use_first : Bool) (input : Input) (name : List ℕ) → WithItself use_first input name }
+    ensures { (use_first : Bool) (input : Named) (name : List ℕ) → WithItself use_first input name }
 {}
 
 /// Where different translations of a message aren't joined, its forms are those of one of its

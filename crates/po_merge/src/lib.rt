@@ -17,6 +17,6 @@ mod joined_translations;
 pub mod laws;
 mod merging;
 
-pub use crate::definition::{Definition, is_wanted};
+pub use crate::definition::{NamedEntry, is_wanted};
 pub use crate::input::{MergeOptions, Named};
 pub use crate::merging::{merge, merge_definitions};

@@ -8,7 +8,7 @@ ghost use Rattle.po_merge.specs.Groups.{definitions};
 ghost use Rattle.po_merge.specs.Merged.{IsMergeFault, merged, merged_messages};
 
 use crate::comments::comment_of;
-use crate::definition::{Definition, Part, first_with, has_live, is_kept, live};
+use crate::definition::{NamedEntry, Part, first_with, has_live, is_kept, live};
 use crate::grouping::grouped;
 use crate::input::{MergeOptions, Named};
 use crate::joined_translations::{joined_forms, translations};
@@ -21,7 +21,7 @@ use std::alloc::{AllocError, Global};
 /// is fuzzy.
 fn taken_forms(
     alloc: Global,
-    definitions: &[Definition<'_>],
+    definitions: &[NamedEntry<'_>],
 ) -> Result<(Vec<Vec<u8>>, bool), AllocError>
     requires { 0 < length definitions.now }
     ensures forms { IfOk result (λ r. texts r.0.items ≡ (first_translated (named_entries definitions.now)).forms) }
@@ -35,7 +35,7 @@ fn taken_forms(
 fn merged_forms(
     alloc: Global,
     options: &MergeOptions,
-    definitions: &[Definition<'_>],
+    definitions: &[NamedEntry<'_>],
 ) -> Result<(Vec<Vec<u8>>, bool), AllocError>
     requires { 0 < length definitions.now }
     ensures forms { IfOk result (λ r. texts r.0.items
@@ -56,7 +56,7 @@ fn merged_forms(
 fn joined_entry(
     alloc: Global,
     options: &MergeOptions,
-    definitions: &[Definition<'_>],
+    definitions: &[NamedEntry<'_>],
 ) -> Result<Entry, AllocError>
     requires some { 0 < length definitions.now }
     requires valid { All IsDefinition (named_entries definitions.now) }
@@ -86,7 +86,7 @@ fn joined_entry(
 fn merged_entry(
     alloc: Global,
     options: &MergeOptions,
-    definitions: &[Definition<'_>],
+    definitions: &[NamedEntry<'_>],
 ) -> Result<Entry, AllocError>
     requires some { 0 < length definitions.now }
     requires valid { All IsDefinition (named_entries definitions.now) }
@@ -121,7 +121,7 @@ fn push_entry(catalogue: &mut Catalogue, entry: Entry) -> Result<(), PoError>
 pub fn merge_definitions(
     alloc: Global,
     options: &MergeOptions,
-    definitions: &[Definition<'_>],
+    definitions: &[NamedEntry<'_>],
 ) -> Result<Catalogue, PoError>
     requires some { 0 < length definitions.now }
     requires valid { All IsDefinition (named_entries definitions.now) }
@@ -140,7 +140,7 @@ fn push_message(
     alloc: Global,
     merged: &mut Catalogue,
     options: &MergeOptions,
-    definitions: &[Definition<'_>],
+    definitions: &[NamedEntry<'_>],
 ) -> Result<(), PoError>
     requires some { 0 < length definitions.now }
     requires valid { All IsDefinition (named_entries definitions.now) }
@@ -160,7 +160,7 @@ fn push_group(
     alloc: Global,
     merged: &mut Catalogue,
     options: &MergeOptions,
-    group: &[Definition<'_>],
+    group: &[NamedEntry<'_>],
 ) -> Result<(), PoError>
     requires some { 0 < length group.now }
     requires valid { All IsDefinition (named_entries group.now) }
@@ -179,7 +179,7 @@ fn push_group(
 /// What the entries of all messages are merged to.
 fn merge_groups(
     alloc: Global,
-    groups: &[Vec<Definition<'_>>],
+    groups: &[Vec<NamedEntry<'_>>],
     options: &MergeOptions,
 ) -> Result<Catalogue, PoError>
     requires { All IsGroup (group_entries groups.now) }

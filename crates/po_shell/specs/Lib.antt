@@ -9,7 +9,7 @@ pub mod Stream
 pub mod Holding
 pub mod SubstituterView
 pub mod Envsubst
-pub mod Counts
+pub mod CountArgument
 pub mod Escapes
 pub mod Expanding
 pub mod Locales

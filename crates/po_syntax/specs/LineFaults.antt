@@ -4,7 +4,8 @@ use Rattle.std.specs.Prelude.{◌≡◌, ◌≢◌, ◌⊎◌, ℕ, ◌^◌, ◌
 use Rattle.std.specs.Char.{digit_value}
 use Rattle.std.specs.Str.Parse.{IsNumeral, digits_value}
 use Rattle.po_syntax.specs.declared.fault.PoFault.{PoFault}
-use Rattle.po_syntax.specs.declared.fault.PoFault.TheVariants.{UnterminatedString, BadEscape, ForbiddenByte, BadToken, BadPluralIndex}
+use Rattle.po_syntax.specs.declared.fault.PoFault.TheVariants.{UnterminatedString, BadEscape, ForbiddenByte, BadToken}
+use Rattle.po_syntax.specs.declared.fault.PoFault.TheVariants.{BadPluralIndex}
 use Rattle.po_syntax.specs.declared.item.Keyword.{Keyword}
 use Rattle.po_syntax.specs.Escapes.{NoDigitFirst, SpellsEscape, SpellsString}
 use Rattle.po_syntax.specs.Spelling.{IsBlank, IsWordByte, EndsWord, SpellsKeyword}

@@ -1,9 +1,11 @@
 -- The runs at the start and at the end of a list, of the elements that pass a test. Lemmas over any
 -- test, which no clause can say.
-use Rattle.std.proofs.Common.{◌≡◌, ◌∙◌, refl, sym, ap, subst, ℕ, suc, ◌+◌, ◌-◌, ◌≤◌, Bool, true, false, cond, List, [], ◌∷◌, ◌++◌, append_assoc, append-nil, take, drop, length, reverse, All, arith}
+use Rattle.std.proofs.Common.{◌≡◌, ◌∙◌, refl, sym, ap, subst, ℕ, suc, ◌+◌, ◌-◌, ◌≤◌, Bool, true, false, cond, List, []}
+use Rattle.std.proofs.Common.{◌∷◌, ◌++◌, append_assoc, append-nil, take, drop, length, reverse, All, arith}
 use Rattle.std.specs.List.{prefix_len, suffix_len, list_all}
 use Rattle.std.proofs.lemmas.Bool.{and_parts, cond-true, cond-false}
-use Rattle.std.proofs.lemmas.List.{take-append-drop, take-append-le, take_all, length-append, reverse-append, reverse-reverse, same_from_push}
+use Rattle.std.proofs.lemmas.List.{take-append-drop, take-append-le, take_all, length-append, reverse-append}
+use Rattle.std.proofs.lemmas.List.{reverse-reverse, same_from_push}
 use Rattle.std.proofs.lemmas.List.Sums.{suffix_len-le-length}
 use Rattle.std.proofs.lemmas.List.Elements.{All-nil, All-cons, All-head, All-tail, All-append}
 

@@ -12,7 +12,7 @@ use Rattle.po_catalog.specs.Joined.{InputEntry, in_input, entries_of}
 use Rattle.po_catalog.specs.Duplicate.{HasNoDuplicate, IsFirstDuplicate}
 use Rattle.po_compile.specs.Accepted.{IsTextFault}
 use Rattle.po_compile.specs.Headline.{OneTextFault, NoFaultWhereDistinct}
-use Rattle.po_merge.specs.Inputs.{Input}
+use Rattle.po_merge.specs.Inputs.{Named}
 use Rattle.po_merge.specs.Merged.{merged}
 use Rattle.po_select.specs.Selected.{selected}
 use Rattle.po_unformat.specs.declared.fault.UnformatError.{UnformatError}
@@ -23,7 +23,7 @@ use Rattle.mo_tools.specs.Msgunfmt.{unformat_line, unformatted_run}
 use Rattle.tool_runs.specs.NamedFile.{NamedFile}
 use Rattle.po_tools.specs.RunLaws.{OneMsgattribRun, OneMsgcatRun, OneMsgunfmtRun}
 use Rattle.tool_runs.specs.Run.{refusal}
-use Rattle.text_tools.specs.Written.{written_run}
+use Rattle.text_tools.specs.TextRuns.{written_run}
 
 abbrev OneReading : Type 0
 OneReading = (text : List ℕ) (entries others : List TextEntry) → ReadsText text entries → ReadsText text others → entries ≡ others
@@ -73,7 +73,7 @@ msgattrib_once one one_fault no_fault no_first one_first name text s run other (
     is.run_is ∙ ap (λ (l : List TextEntry). written_run (selected s l)) (one text is.entries also.entries is.read.reads also.read.reads) ∙ sym also.run_is
 
 module _ (one : OneReading) (one_fault : OneTextFault) (no_fault : NoFaultWhereDistinct) where
-  same_inputs : (files : List NamedFile) (some others : List Input) → AreReadAs files some → AreReadAs files others → some ≡ others
+  same_inputs : (files : List NamedFile) (some others : List Named) → AreReadAs files some → AreReadAs files others → some ≡ others
   same_inputs [] [] [] a b = refl
   same_inputs [] [] (d ∷ ds) a b = absurd b
   same_inputs [] (c ∷ cs) ds a b = absurd a
@@ -86,18 +86,18 @@ module _ (one : OneReading) (one_fault : OneTextFault) (no_fault : NoFaultWhereD
       let tail = same_inputs files cs ds a.1 b.1 in cc
 
   -- a file that is read before others has no fault
-  read_faultless : (before : List NamedFile) (file : NamedFile) (after : List NamedFile) (inputs : List Input) (error : PoError) → AreReadAs (before ++ file ∷ after) inputs → IsTextFault file.bytes error → ⊥
+  read_faultless : (before : List NamedFile) (file : NamedFile) (after : List NamedFile) (inputs : List Named) (error : PoError) → AreReadAs (before ++ file ∷ after) inputs → IsTextFault file.bytes error → ⊥
   read_faultless [] file after [] error read fault = read
   read_faultless [] file after (i ∷ inputs) error read fault = no_fault file.bytes i.entries error read.0.reads fault
   read_faultless (f ∷ before) file after [] error read fault = read
   read_faultless (f ∷ before) file after (i ∷ inputs) error read fault = read_faultless before file after inputs error read.1 fault
 
-  unread_only : (files : List NamedFile) (name : List ℕ) (error : PoError) (inputs : List Input) → IsFileFault files name error → AreReadAs files inputs → ⊥
+  unread_only : (files : List NamedFile) (name : List ℕ) (error : PoError) (inputs : List Named) → IsFileFault files name error → AreReadAs files inputs → ⊥
   unread_only files name error inputs f read =
       read_faultless f.before f.file f.after inputs error (subst (λ list. AreReadAs list inputs) f.order read) f.fault
 
   -- the first files with a fault are one
-  first_once : (before others : List NamedFile) (file other : NamedFile) (after rest : List NamedFile) (cs ds : List Input) (a b : PoError)
+  first_once : (before others : List NamedFile) (file other : NamedFile) (after rest : List NamedFile) (cs ds : List Named) (a b : PoError)
       → before ++ file ∷ after ≡ others ++ other ∷ rest → AreReadAs before cs → AreReadAs others ds → IsTextFault file.bytes a → IsTextFault other.bytes b
       → (file ≡ other) × (a ≡ b)
   first_once [] [] file other after rest cs ds a b e reads also f g =
@@ -136,4 +136,4 @@ module _ (one : OneReading) (one_fault : OneTextFault) (no_fault : NoFaultWhereD
   msgcat_once files o run other (inr (inr is)) (inr (inl also)) =
       absurd (also.foreign (subst (λ list. All HasAdmittedCharset (merged o list)) (same_inputs files is.inputs also.inputs is.read also.read) is.admitted))
   msgcat_once files o run other (inr (inr is)) (inr (inr also)) =
-      is.run_is ∙ ap (λ (l : List Input). written_run (merged o l)) (same_inputs files is.inputs also.inputs is.read also.read) ∙ sym also.run_is
+      is.run_is ∙ ap (λ (l : List Named). written_run (merged o l)) (same_inputs files is.inputs also.inputs is.read also.read) ∙ sym also.run_is

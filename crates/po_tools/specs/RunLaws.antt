@@ -14,25 +14,31 @@ use Rattle.tool_runs.specs.Run.{RunView}
 -- msgfmt has one run of its inputs under its options
 abbrev pub OneMsgfmtRun : Type 0
 OneMsgfmtRun =
-    (inputs : List NamedFile) (options : MsgfmtOptions) (run other : RunView) → IsMsgfmtRun inputs options run → IsMsgfmtRun inputs options other → run ≡ other
+    (inputs : List NamedFile) (options : MsgfmtOptions) (run other : RunView) → IsMsgfmtRun inputs options run
+    → IsMsgfmtRun inputs options other → run ≡ other
 
 -- gettext has one run over its catalogues
 abbrev pub OneGettextRun : Type 0
-OneGettextRun = (files : List NamedFile) (o : GettextRequest) (run other : RunView) → IsGettextRun files o run → IsGettextRun files o other → run ≡ other
+OneGettextRun = (files : List NamedFile) (o : GettextRequest) (run other : RunView) → IsGettextRun files o run
+    → IsGettextRun files o other → run ≡ other
 
 -- ngettext has one run over its catalogues
 abbrev pub OneNgettextRun : Type 0
-OneNgettextRun = (files : List NamedFile) (o : NgettextRequest) (run other : RunView) → IsNgettextRun files o run → IsNgettextRun files o other → run ≡ other
+OneNgettextRun = (files : List NamedFile) (o : NgettextRequest) (run other : RunView) → IsNgettextRun files o run
+    → IsNgettextRun files o other → run ≡ other
 
 -- msgunfmt has one run of its file
 abbrev pub OneMsgunfmtRun : Type 0
-OneMsgunfmtRun = (file : NamedFile) (run other : RunView) → IsMsgunfmtRun file run → IsMsgunfmtRun file other → run ≡ other
+OneMsgunfmtRun = (file : NamedFile) (run other : RunView) → IsMsgunfmtRun file run → IsMsgunfmtRun file other
+    → run ≡ other
 
 -- msgattrib has one run of its text under its selection
 abbrev pub OneMsgattribRun : Type 0
 OneMsgattribRun =
-    (name text : List ℕ) (s : Selection) (run other : RunView) → IsMsgattribRun name s text run → IsMsgattribRun name s text other → run ≡ other
+    (name text : List ℕ) (s : Selection) (run other : RunView) → IsMsgattribRun name s text run
+    → IsMsgattribRun name s text other → run ≡ other
 
 -- msgcat has one run of its inputs under its options
 abbrev pub OneMsgcatRun : Type 0
-OneMsgcatRun = (files : List NamedFile) (o : MergeOptions) (run other : RunView) → IsMsgcatRun files o run → IsMsgcatRun files o other → run ≡ other
+OneMsgcatRun = (files : List NamedFile) (o : MergeOptions) (run other : RunView) → IsMsgcatRun files o run
+    → IsMsgcatRun files o other → run ≡ other

@@ -14,7 +14,7 @@ use Rattle.po_writer.specs.WrittenText.{written_text}
 use Rattle.po_unformat.specs.declared.fault.UnformatError.TheVariants.{Mo, NotUtf8, ForbiddenByte, ForeignCharset, OutOfMemory}
 use Rattle.po_unformat.specs.RoundTrip.{EmptyText, NoFaultWhereUnformatted, OneText}
 use Rattle.po_unformat.specs.Unformatted.{unformatted}
-use Rattle.po_unformat.specs.Unformatting.{AreWrittenAs, HasFirstTextsFault, HasForeignCharset, IsFileOf}
+use Rattle.po_unformat.specs.UnformattedText.{AreWrittenAs, HasFirstTextsFault, HasForeignCharset, IsFileOf}
 use Rattle.po_unformat.proofs.MessageLemmas.{texts_of}
 
 -- messages that are written have no fault in their texts

@@ -18,7 +18,7 @@ use Rattle.po_unformat.specs.declared.fault.UnformatError.TheVariants.{Mo, NotUt
 use Rattle.po_unformat.specs.Refused.{RefusesEntry, RefusesMessages, error_at}
 use Rattle.po_writer.specs.WrittenText.{written_text}
 use Rattle.po_unformat.specs.Unformatted.{entry_of_message, unformatted}
-use Rattle.po_unformat.specs.Unformatting.{AreWrittenAs, HasForeignCharset}
+use Rattle.po_unformat.specs.UnformattedText.{AreWrittenAs, HasForeignCharset}
 
 -- the texts of an entry can stand in it
 pub texts_of : (entry : TextEntry) → IsEntry entry → HasTexts entry

@@ -13,7 +13,7 @@ use Rattle.po_entry.proofs.TextsFaults.{no_texts_fault, one_texts_fault}
 use Rattle.po_unformat.specs.declared.fault.UnformatError.TheVariants.{Mo, NotUtf8, ForbiddenByte, ForeignCharset, OutOfMemory}
 use Rattle.po_unformat.specs.RoundTrip.{OneUnformatFault}
 use Rattle.po_unformat.specs.Unformatted.{unformatted}
-use Rattle.po_unformat.specs.Unformatting.{HasFirstTextsFault, HasForeignCharset, IsFileOf, IsUnformatFault}
+use Rattle.po_unformat.specs.UnformattedText.{HasFirstTextsFault, HasForeignCharset, IsFileOf, IsUnformatFault}
 use Rattle.po_unformat.proofs.FaultLemmas.{moved}
 
 -- a message before the first one with such a fault has none

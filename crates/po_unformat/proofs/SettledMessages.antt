@@ -20,7 +20,7 @@ use Rattle.po_unformat.specs.declared.fault.UnformatError.TheVariants.{Mo, NotUt
 use Rattle.po_unformat.specs.RoundTrip.{TextOrFault}
 use Rattle.po_unformat.specs.Refused.{RefusesMessages}
 use Rattle.po_unformat.specs.Unformatted.{entry_of_message, plural_of, taken_forms, unformatted}
-use Rattle.po_unformat.specs.Unformatting.{AreWrittenAs, IsUnformatFault}
+use Rattle.po_unformat.specs.UnformattedText.{AreWrittenAs, IsUnformatFault}
 use Rattle.po_entry.proofs.Settled.{all_settled, texts_or_fault, charset_settled}
 use Rattle.po_unformat.proofs.MessageLemmas.{catalogue_entries}
 

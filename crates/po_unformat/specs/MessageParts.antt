@@ -24,12 +24,15 @@ pub data IsAfterPart : List ℕ → Type 0 where
 -- an original: a key, which is its first part, and the plural, if it has a second one
 pub data ContainsKey : List ℕ → List ℕ → Option (List ℕ) → Type 0 where
   key_alone : {key : List ℕ} → Lacks 0 key → ContainsKey key key None
-  before_plural : {key plural : List ℕ} (after : List ℕ) → Lacks 0 key → Lacks 0 plural → IsAfterPart after → ContainsKey (key ++ 0 ∷ (plural ++ after)) key (Some plural)
+  before_plural : {key plural : List ℕ} (after : List ℕ) → Lacks 0 key → Lacks 0 plural → IsAfterPart after
+      → ContainsKey (key ++ 0 ∷ (plural ++ after)) key (Some plural)
 
 -- a translation: without a plural its first part is the form, with one each of its parts is one
 pub data ContainsForms : List ℕ → Option (List ℕ) → List (List ℕ) → Type 0 where
-  first_part : {form : List ℕ} (after : List ℕ) → Lacks 0 form → IsAfterPart after → ContainsForms (form ++ after) None (form ∷ [])
-  each_part : {plural form : List ℕ} {forms : List (List ℕ)} → All (Lacks 0) (form ∷ forms) → ContainsForms (join_with_byte 0 (form ∷ forms)) (Some plural) (form ∷ forms)
+  first_part : {form : List ℕ} (after : List ℕ) → Lacks 0 form → IsAfterPart after
+      → ContainsForms (form ++ after) None (form ∷ [])
+  each_part : {plural form : List ℕ} {forms : List (List ℕ)} → All (Lacks 0) (form ∷ forms)
+      → ContainsForms (join_with_byte 0 (form ∷ forms)) (Some plural) (form ∷ forms)
 
 -- a live entry without comments has the texts of the message, and no others
 pub record IsEntryOf (m : Message) (entry : TextEntry) : Type 0 where

@@ -6,8 +6,9 @@ use Rattle.po_syntax.specs.declared.fault.PoFault.TheVariants.{NotUtf8 as BadTex
 use Rattle.po_entry.specs.TextEntry.{TextEntry}
 use Rattle.po_entry.specs.Validity.{TextsFault}
 use Rattle.po_unformat.specs.declared.fault.UnformatError.{UnformatError}
-use Rattle.po_unformat.specs.declared.fault.UnformatError.TheVariants.{Mo, NotUtf8, ForbiddenByte, ForeignCharset, OutOfMemory}
-use Rattle.po_unformat.specs.Unformatting.{HasFirstTextsFault, HasForeignCharset}
+use Rattle.po_unformat.specs.declared.fault.UnformatError.TheVariants.{Mo, NotUtf8, ForbiddenByte, ForeignCharset}
+use Rattle.po_unformat.specs.declared.fault.UnformatError.TheVariants.{OutOfMemory}
+use Rattle.po_unformat.specs.UnformattedText.{HasFirstTextsFault, HasForeignCharset}
 
 -- the error for the entry of message i, by what is wrong with its texts
 abbrev pub error_at : ℕ → PoFault → UnformatError

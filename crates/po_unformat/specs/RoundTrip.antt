@@ -5,7 +5,7 @@ use Rattle.po_entry.specs.TextEntry.{TextEntry}
 use Rattle.po_compile.specs.Accepted.{AreAccepted, AreCompiled}
 use Rattle.po_compile.specs.declared.options.Compiled.{Compiled}
 use Rattle.po_compile.specs.declared.options.Options.{Options}
-use Rattle.po_unformat.specs.Unformatting.{IsUnformatted, IsUnformatFault}
+use Rattle.po_unformat.specs.UnformattedText.{IsUnformatted, IsUnformatFault}
 use Rattle.po_unformat.specs.declared.fault.UnformatError.{UnformatError}
 use Rattle.po_unformat.specs.declared.fault.UnformatError.TheVariants.{OutOfMemory}
 
@@ -21,13 +21,15 @@ abbrev pub UnformatThenCompile : Type 0
 UnformatThenCompile =
     (options : Options) (texts : List (List ℕ)) (compiled : Compiled) → AreCompiled options texts compiled
     → (text : List ℕ) × IsUnformatted compiled.bytes.items text
-    × (IsSmall text → (use_fuzzy : Bool) → CompilesTo (record { use_fuzzy = use_fuzzy; order = options.order }) text compiled.bytes.items)
+    × (IsSmall text → (use_fuzzy : Bool)
+    → CompilesTo (record { use_fuzzy = use_fuzzy; order = options.order }) text compiled.bytes.items)
 
 -- bytes that have a PO text have no fault; what may be reported in place of the text is out of
 -- memory alone
 abbrev pub NoFaultWhereUnformatted : Type 0
 NoFaultWhereUnformatted =
-    (bytes text : List ℕ) (error : UnformatError) → IsUnformatted bytes text → IsUnformatFault bytes error → error ≡ OutOfMemory
+    (bytes text : List ℕ) (error : UnformatError) → IsUnformatted bytes text → IsUnformatFault bytes error
+    → error ≡ OutOfMemory
 
 -- bytes have one PO text at most
 abbrev pub OneText : Type 0
@@ -40,7 +42,9 @@ EmptyText = (bytes text : List ℕ) (file : IsUnformatted bytes text) → (text 
 -- all bytes have a PO text or a fault other than out of memory
 abbrev pub TextOrFault : Type 0
 TextOrFault =
-    (bytes : List ℕ) → ((text : List ℕ) × IsUnformatted bytes text) ⊎ ((error : UnformatError) × IsUnformatFault bytes error × (error ≢ OutOfMemory))
+    (bytes : List ℕ)
+    → ((text : List ℕ) × IsUnformatted bytes text)
+    ⊎ ((error : UnformatError) × IsUnformatFault bytes error × (error ≢ OutOfMemory))
 
 -- bytes have at most one fault, beside out of memory
 abbrev pub OneUnformatFault : Type 0

@@ -1,6 +1,6 @@
 ghost use Rattle.std.specs.Prelude.{MatchResult};
 ghost use Rattle.po_unformat.specs.Refused.{RefusesMessages};
-ghost use Rattle.po_unformat.specs.Unformatting.{AreWrittenAs, IsUnformatted, IsUnformatFault};
+ghost use Rattle.po_unformat.specs.UnformattedText.{AreWrittenAs, IsUnformatted, IsUnformatFault};
 
 use crate::entries::entry_at;
 use crate::fault::UnformatError;

@@ -1,5 +1,6 @@
 -- The text that a catalogue is written as (manual, "The Format of PO Files"). No line is wrapped.
-use Rattle.std.specs.Prelude.{ℕ, ◌+◌, ◌==◌, Bool, not, nat_lt, List, [], ◌∷◌, ◌++◌, length, filter, Option, None, Some, codes, decimal, if◌then◌else◌}
+use Rattle.std.specs.Prelude.{ℕ, ◌+◌, ◌==◌, Bool, not, nat_lt, List, [], ◌∷◌, ◌++◌, length, filter, Option, None, Some}
+use Rattle.std.specs.Prelude.{codes, decimal, if◌then◌else◌}
 use Rattle.std.specs.List.{flat_map, join_by, onto_first}
 use Rattle.po_syntax.specs.QuotedForm.{quoted}
 use Rattle.po_entry.specs.TextEntry.{TextEntry, TextPrevious}

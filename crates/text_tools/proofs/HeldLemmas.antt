@@ -8,9 +8,9 @@ use Rattle.std.proofs.lemmas.List.{map-append, length-map, take_more}
 use Rattle.std.proofs.lemmas.List.Elements.{All-push}
 use Rattle.po_entry.specs.Header.{HasAdmittedCharset}
 use Rattle.po_entry.specs.TextEntry.{TextEntry}
-use Rattle.po_merge.specs.Inputs.{Input, NamedEntry, all_entries, named}
+use Rattle.po_merge.specs.Inputs.{Named, NamedEntry, all_entries, named}
 use Rattle.po_merge.specs.InputsView.{input_view, inputs_view}
-use Rattle.po_merge.specs.declared.input.Named.{Named}
+use Rattle.po_merge.specs.declared.input.Named.{Named as BorrowedInput}
 use Rattle.po_merge.specs.Interleaved.{Segment, single_entries, segment_entries}
 use Rattle.po_catalog.specs.Digest.{digest}
 use Rattle.po_entry.specs.ReadsText.{ReadsText}
@@ -78,7 +78,7 @@ held_ended old texts number name e entries kept is ended h =
       admitted = subst (All Admitted) (sym same) h.admitted;
     }
 
-entries_push : (inputs : List Input) (i : Input) → all_entries (inputs ++ i ∷ []) ≡ all_entries inputs ++ map (named i.name) i.entries
+entries_push : (inputs : List Named) (i : Named) → all_entries (inputs ++ i ∷ []) ≡ all_entries inputs ++ map (named i.name) i.entries
 entries_push [] i = append-nil (map (named i.name) i.entries)
 entries_push (x ∷ inputs) i =
     ap (λ (l : List NamedEntry). map (named x.name) x.entries ++ l) (entries_push inputs i) ∙ sym (append_assoc (map (named x.name) x.entries) (all_entries inputs) (map (named i.name) i.entries))
@@ -87,14 +87,14 @@ abbrev Files : Type 0
 Files = List (Bor (List ℕ) × Bor (List ℕ))
 
 -- one more file
-pub held_more : (files : Files) (i : ℕ) (e : Bor (List ℕ) × Bor (List ℕ)) (old new : Held) (kept now : List Named) (n : Named) (read : List TextEntry) → i < length files
+pub held_more : (files : Files) (i : ℕ) (e : Bor (List ℕ) × Bor (List ℕ)) (old new : Held) (kept now : List BorrowedInput) (n : BorrowedInput) (read : List TextEntry) → i < length files
     → AreHeld (take i (named_files files)) old (inputs_view kept) → now ≡ kept ++ n ∷ [] → n.name.now ≡ (get_or files i e).0.now → ReadsText (get_or files i e).1.now read → AllDiffer read
     → ((name : List ℕ) (es ks : List NamedEntry) → IsHeld old es (ks ++ map (named name) []) → IsHeld new (es ++ map (named name) read) (ks ++ map (named name) n.catalogue))
     → AreHeld (take (i + 1) (named_files files)) new (inputs_view now)
 held_more files i e old new kept now n read l h pushed name reads differ more =
     let inside : i < length (named_files files) = omega (arith, l, length-map files named_file) in
     let file = named_file (get_or files i e) in
-    let input : Input = record { name = file.name; entries = read } in
+    let input : Named = record { name = file.name; entries = read } in
     let whole : take (i + 1) (named_files files) ≡ take i (named_files files) ++ file ∷ [] =
     take_more (named_files files) i file inside ∙ ap (λ (f : NamedFile). take i (named_files files) ++ f ∷ []) (sym (file_at files i e l)) in
     let same : inputs_view now ≡ inputs_view kept ++ record { name = file.name; entries = n.catalogue } ∷ [] =

@@ -7,7 +7,7 @@ use Rattle.po_entry.specs.Header.{HasAdmittedCharset}
 use Rattle.po_entry.specs.TextEntry.{TextEntry}
 use Rattle.po_entry.specs.Validity.{IsCatalogueEntry}
 use Rattle.po_catalog.specs.Digest.{digest}
-use Rattle.po_merge.specs.Inputs.{Input, NamedEntry}
+use Rattle.po_merge.specs.Inputs.{Named, NamedEntry}
 use Rattle.po_merge.specs.Groups.{definitions, groups}
 use Rattle.po_merge.specs.Merged.{merged, merged_messages}
 use Rattle.po_merge.specs.MergeLaws.{keep_all}
@@ -116,7 +116,7 @@ rest_interleaved texts merged segments after all live obsolete live_end obsolete
     subst (λ (l : List TextEntry). AreParts l now) (ap (λ (rs : List Segment). w.done ++ interleaved digest rs left after) (sym over) ∙ w.interleaved_are) (adds w.done (unnamed after) w.are own)
 
 -- what is interleaved of entries whose digests show which of them are the only ones of their messages
-pub written_merged : (files : List NamedFile) (o : MergeOptions) (held : Held) (kept : List Input) (catalogue : List TextEntry) (digests written : List ℕ) (held_is : AreHeld files held kept)
+pub written_merged : (files : List NamedFile) (o : MergeOptions) (held : Held) (kept : List Named) (catalogue : List TextEntry) (digests written : List ℕ) (held_is : AreHeld files held kept)
     → ((use_first : Bool) (number : TextEntry → ℕ) (segments : List Segment) (rest : List NamedEntry) → InterleavedAreMerged use_first number segments rest)
     → ((number : TextEntry → ℕ) (segments : List Segment) (merged : List TextEntry) (rest : List NamedEntry) → InterleavedAreAdmitted number segments merged rest) → keeps_all o ≡ true
     → catalogue ≡ merged o kept → All IsCatalogueEntry catalogue → digests ≡ held.digests.items ++ map digest catalogue → AreDistinct digests

@@ -10,7 +10,7 @@ use Rattle.po_entry.specs.Header.{HasAdmittedCharset}
 use Rattle.po_entry.specs.ReadsText.{ReadsText}
 use Rattle.po_entry.specs.Validity.{IsCatalogueEntry}
 use Rattle.po_merge.specs.declared.input.MergeOptions.{MergeOptions}
-use Rattle.po_merge.specs.Inputs.{Input}
+use Rattle.po_merge.specs.Inputs.{Named}
 use Rattle.po_merge.specs.Merged.{merged}
 use Rattle.po_merge.specs.MergeLaws.{OneInputStays, keep_all}
 use Rattle.po_select.specs.Selected.{every_entry, selected}
@@ -19,7 +19,7 @@ use Rattle.text_tools.specs.Msgcat.{IsMergedText, IsMsgcatRun, keeps_all}
 use Rattle.tool_runs.specs.NamedFile.{NamedFile, named_file, named_files}
 use Rattle.tool_runs.specs.Run.{RunView}
 use Rattle.text_tools.specs.SelectedText.{IsSelectedText}
-use Rattle.text_tools.specs.Written.{written_run}
+use Rattle.text_tools.specs.TextRuns.{written_run}
 use Rattle.text_tools.proofs.SelectedLemmas.{live_differ}
 
 abbrev options_of : ℕ → Option ℕ → Bool → Bool → MergeOptions

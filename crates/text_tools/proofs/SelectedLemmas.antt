@@ -19,7 +19,7 @@ use Rattle.po_catalog.specs.Message.{Message, entry_message, same_message}
 use Rattle.text_tools.specs.Msgattrib.{IsMsgattribRun, error_line}
 use Rattle.text_tools.specs.Repeats.{IsFirstRepeat, NumbersDiffer, are_numbered, numbered}
 use Rattle.text_tools.specs.SelectedText.{AreDistinct, HoldRows, IsSelectedText, IsSelectionFault, Repeats, RepeatsSelected, stays_live}
-use Rattle.text_tools.specs.Written.{written_run}
+use Rattle.text_tools.specs.TextRuns.{written_run}
 use Rattle.text_tools.specs.declared.selected_text.Rows.{Rows}
 use Rattle.std.proofs.lemmas.List.Folds.{list_any_at}
 use Rattle.std.proofs.lemmas.List.Sums.{passes_at_first}

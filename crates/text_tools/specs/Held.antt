@@ -1,8 +1,9 @@
--- Entries of several texts, most of which are written as they are read, while the others are kept. Internal to this crate.
+-- Entries of several texts, most of which are written as they are read, while the others are kept.
+-- Internal to this crate.
 use Rattle.std.specs.Prelude.{◌≡◌, ◌==◌, ℕ, List, [], ◌∷◌, map, All, if◌then◌else◌}
 use Rattle.po_entry.specs.Header.{HasAdmittedCharset}
 use Rattle.po_entry.specs.TextEntry.{TextEntry}
-use Rattle.po_merge.specs.Inputs.{Input, NamedEntry, all_entries}
+use Rattle.po_merge.specs.Inputs.{Named, NamedEntry, all_entries}
 use Rattle.po_merge.specs.Interleaved.{Segment, single_entries, last_entries, segment_entries}
 use Rattle.po_catalog.specs.Digest.{digest}
 use Rattle.text_tools.specs.Msgcat.{AreReadAs}
@@ -21,8 +22,8 @@ pub record IsHeld (held : Held) (entries kept : List NamedEntry) : Type 0 where
   pub admitted : All (λ d. HasAdmittedCharset d.entry) (single_entries segments after)
 
 -- the entries of the files are held, and these are those that are kept
-pub record AreHeld (files : List NamedFile) (held : Held) (kept : List Input) : Type 0 where
-  pub inputs : List Input
+pub record AreHeld (files : List NamedFile) (held : Held) (kept : List Named) : Type 0 where
+  pub inputs : List Named
   pub read : AreReadAs files inputs
   pub holds : IsHeld held (all_entries inputs) (all_entries kept)
 

@@ -1,6 +1,6 @@
 pub mod Msgattrib
 pub mod Msgcat
-pub mod Written
+pub mod TextRuns
 pub mod Digests
 pub mod SelectedText
 pub mod Held

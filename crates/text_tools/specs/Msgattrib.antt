@@ -10,7 +10,7 @@ use Rattle.po_select.specs.declared.selection.Selection.{Selection}
 use Rattle.po_select.specs.Selected.{selected}
 use Rattle.tool_runs.specs.FaultText.{text_line}
 use Rattle.tool_runs.specs.Run.{RunView, refusal}
-use Rattle.text_tools.specs.Written.{written_run}
+use Rattle.text_tools.specs.TextRuns.{written_run}
 
 -- the line that reports a fault of a file
 abbrev pub error_line : List ℕ → PoError → List ℕ

@@ -1,12 +1,13 @@
 -- What msgcat writes and reports (manual, "Invoking the msgcat Program").
-use Rattle.std.specs.Prelude.{◌≡◌, ◌≢◌, ◌⊎◌, ◌==◌, ◌&&◌, ℕ, All, Bool, Contains, not, List, [], ◌∷◌, ◌++◌, codes, is_some}
+use Rattle.std.specs.Prelude.{◌≡◌, ◌≢◌, ◌⊎◌, ◌==◌, ◌&&◌, ℕ, All, Bool, Contains, not, List, [], ◌∷◌, ◌++◌, codes}
+use Rattle.std.specs.Prelude.{is_some}
 use Rattle.std.specs.List.{AllZip}
 use Rattle.po_syntax.specs.declared.fault.PoError.{PoError}
 use Rattle.po_syntax.specs.declared.fault.PoFault.TheVariants.{ForeignCharset, OutOfMemory as NoMemory}
 use Rattle.po_entry.specs.Bytes.{Lacks}
 use Rattle.po_entry.specs.Header.{HasAdmittedCharset}
 use Rattle.po_compile.specs.Accepted.{ReadsDistinct, IsTextFault}
-use Rattle.po_merge.specs.Inputs.{Input}
+use Rattle.po_merge.specs.Inputs.{Named}
 use Rattle.po_merge.specs.Merged.{merged}
 use Rattle.po_merge.specs.declared.input.MergeOptions.{MergeOptions}
 use Rattle.po_writer.specs.WrittenText.{written_text}
@@ -15,14 +16,14 @@ use Rattle.tool_runs.specs.FaultText.{text_line}
 use Rattle.tool_runs.specs.Inputs.{input_fault_text}
 use Rattle.tool_runs.specs.NamedFile.{NamedFile}
 use Rattle.tool_runs.specs.Run.{RunView, refusal}
-use Rattle.text_tools.specs.Written.{written_run}
+use Rattle.text_tools.specs.TextRuns.{written_run}
 
 -- a file is read as the catalogue of an input, in which no live entry repeats an earlier one
-pub record IsReadAs (file : NamedFile) (input : Input) : Type 0 where
+pub record IsReadAs (file : NamedFile) (input : Named) : Type 0 where
   pub name : input.name ≡ file.name
   pub reads : ReadsDistinct file.bytes input.entries
 
-abbrev pub AreReadAs : List NamedFile → List Input → Type 0
+abbrev pub AreReadAs : List NamedFile → List Named → Type 0
 AreReadAs files inputs = AllZip IsReadAs files inputs
 
 -- the first file that isn't read, and why
@@ -31,7 +32,7 @@ pub record IsFileFault (files : List NamedFile) (name : List ℕ) (error : PoErr
   pub file : NamedFile
   pub after : List NamedFile
   pub order : files ≡ before ++ file ∷ after
-  pub inputs : List Input
+  pub inputs : List Named
   pub read : AreReadAs before inputs
   pub name_is : name ≡ file.name
   pub fault : IsTextFault file.bytes error
@@ -52,16 +53,17 @@ abbrev pub first_name : List NamedFile → List ℕ
 first_name [] = []
 first_name (file ∷ files) = file.name
 
--- the files are read, and a merged header names a charset that isn't admitted, which is reported with the first file's name
+-- the files are read, and a merged header names a charset that isn't admitted, which is reported
+-- with the first file's name
 pub record IsForeign (files : List NamedFile) (o : MergeOptions) (run : RunView) : Type 0 where
-  pub inputs : List Input
+  pub inputs : List Named
   pub read : AreReadAs files inputs
   pub foreign : All HasAdmittedCharset (merged o inputs) → ⊥
   pub run_is : run ≡ refusal (msgcat_line (first_name files) (record { kind = ForeignCharset; line = 0 }))
 
 -- the files are read, each merged header's charset is admitted, and what they are merged to is written
 pub record IsMerged (files : List NamedFile) (o : MergeOptions) (run : RunView) : Type 0 where
-  pub inputs : List Input
+  pub inputs : List Named
   pub read : AreReadAs files inputs
   pub admitted : All HasAdmittedCharset (merged o inputs)
   pub run_is : run ≡ written_run (merged o inputs)
@@ -76,7 +78,7 @@ keeps_all o = (not o.unique && not (is_some o.less_than)) && (o.more_than == 0)
 
 -- the files are read, and this is the text of what they are merged to
 pub record IsMergedText (files : List NamedFile) (o : MergeOptions) (written : List ℕ) : Type 0 where
-  pub inputs : List Input
+  pub inputs : List Named
   pub read : AreReadAs files inputs
   pub admitted : All HasAdmittedCharset (merged o inputs)
   pub text_is : written ≡ written_text (merged o inputs)

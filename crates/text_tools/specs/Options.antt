@@ -38,7 +38,8 @@ pub record IsMoreThan (number : List ℕ → Option ℕ → Type 0) (value : ℕ
   pub value_is : value ≡ or_zero given
 
 -- each option of msgcat by its name
-pub record AreMergeOptions (flag : List ℕ → Bool → Type 0) (number : List ℕ → Option ℕ → Type 0) (o : MergeOptions) : Type 0 where
+pub record AreMergeOptions (flag : List ℕ → Bool → Type 0)
+    (number : List ℕ → Option ℕ → Type 0) (o : MergeOptions) : Type 0 where
   pub more_than : IsMoreThan number o.more_than
   pub less_than : number (codes "less-than") o.less_than
   pub unique : flag (codes "unique") o.unique

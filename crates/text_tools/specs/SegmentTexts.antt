@@ -20,7 +20,8 @@ AreSegmentEnds before [] [] = Unit {0}
 AreSegmentEnds before [] (end ∷ ends) = ⊥
 AreSegmentEnds before (segment ∷ segments) [] = ⊥
 AreSegmentEnds before (segment ∷ segments) (end ∷ ends) =
-    IsSegmentEnd (before ++ unnamed segment.0) segment.1.entry end × AreSegmentEnds (before ++ unnamed segment.0) segments ends
+    IsSegmentEnd (before ++ unnamed segment.0) segment.1.entry end
+    × AreSegmentEnds (before ++ unnamed segment.0) segments ends
 
 -- the texts of the entries of these segments, and of those after them
 pub record AreSegmentTexts (segments : List Segment) (after : List NamedEntry) (texts : SegmentTexts) : Type 0 where

@@ -44,7 +44,9 @@ pub record AreDistinct (s : Selection) (entries : List TextEntry) : Type 0 where
 
 -- the first duplicate of the entries
 abbrev pub Repeats : List TextEntry → PoError → Type 0
-Repeats entries error = (first later : InputEntry) × IsFirstDuplicate (map (in_input 0) entries) first later × (error ≡ (duplicate_fault first later).error)
+Repeats entries error =
+    (first later : InputEntry) × IsFirstDuplicate (map (in_input 0) entries) first later
+    × (error ≡ (duplicate_fault first later).error)
 
 -- the first duplicate of the selected ones of entries that have none, without its line
 pub record RepeatsSelected (s : Selection) (entries : List TextEntry) (error : PoError) : Type 0 where

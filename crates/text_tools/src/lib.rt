@@ -1,9 +1,9 @@
 //! msgattrib and msgcat as functions of their inputs: what each writes and reports, and its exit
 //! status.
 //!
-//! The modules in reading order: `written`, `keys`, `repeats`, `selected_text`, `msgattrib`; then,
-//! for msgcat, `digests`, `repeated`, `segment_texts`, `held`, `merged_text`, `msgcat`, `unread`; and
-//! `options`.
+//! The modules in reading order: `text_runs`, `keys`, `repeats`, `selected_text`, `msgattrib`; then,
+//! for msgcat, `digests`, `repeated`, `segment_texts`, `held`, `merged_text`, `msgcat`,
+//! `unreadable_inputs`; and `options`.
 
 #![tactic(auto)]
 
@@ -18,10 +18,10 @@ mod repeated;
 mod repeats;
 mod segment_texts;
 mod selected_text;
-mod unread;
-mod written;
+mod text_runs;
+mod unreadable_inputs;
 
 pub use msgattrib::{plan_msgattrib, run_msgattrib};
 pub use msgcat::{plan_msgcat, plan_msgcat_before};
 pub use options::{merge_options_of, selection_of};
-pub use unread::plan_msgcat_of;
+pub use unreadable_inputs::plan_msgcat_of;

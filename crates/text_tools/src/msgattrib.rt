@@ -6,7 +6,7 @@ ghost use Rattle.text_tools.specs.Msgattrib.{IsMsgattribRun};
 ghost use Rattle.tool_runs.specs.Run.{run_view};
 
 use crate::selected_text::selected_text;
-use crate::written::{refused_text, text_run};
+use crate::text_runs::{refused_text, text_run};
 use po_select::Selection;
 use po_shell::{ByteIn, ByteOut, ToolFault, read_input};
 use std::alloc::Global;

@@ -1,6 +1,6 @@
 ghost use Rattle.std.specs.Prelude.{◌≡◌, ◌≢◌, ◌⊎◌, All, Err, IfErr, IfOk, IfSome, List, MatchResult, OnErr};
 ghost use Rattle.po_entry.specs.Bytes.{Lacks};
-ghost use Rattle.po_merge.specs.Inputs.{Input};
+ghost use Rattle.po_merge.specs.Inputs.{Named as NamedInput};
 ghost use Rattle.po_merge.specs.InputsView.{inputs_view};
 ghost use Rattle.po_merge.specs.Merged.{merged};
 ghost use Rattle.po_entry.specs.Validity.{out_of_memory};
@@ -9,7 +9,7 @@ ghost use Rattle.tool_runs.specs.NamedFile.{named_files};
 ghost use Rattle.tool_runs.specs.Run.{refusal, run_view};
 
 use crate::merged_text::merged_text;
-use crate::written::{refused_text, text_run, written_run};
+use crate::text_runs::{refused_text, text_run, written_run};
 use po_compile::read_distinct;
 use po_merge::{MergeOptions, Named, merge};
 use po_shell::ToolFault;
@@ -140,7 +140,7 @@ pub fn plan_msgcat_before<'a>(
     requires { All (λ file. Lacks 0 file.name) (named_files inputs.now) }
     ensures refused { IfOk result (λ run. IsUnread (named_files inputs.now) (run_view run)) }
     ensures fault { IfErr result (λ reported. (reported ≡ ProgramFault.OutOfMemory)
-        ⊎ ((reported ≡ fault.entry) × ((read : List Input) × AreReadAs (named_files inputs.now) read))) }
+        ⊎ ((reported ≡ fault.entry) × ((read : List NamedInput) × AreReadAs (named_files inputs.now) read))) }
 {
     match read_files(alloc, inputs) {
         Ok(_) => Err(fault),

@@ -69,4 +69,12 @@ pub data IsBody : List TextItem → Body → List TextItem → Type 0 where
       → IsStrings (own_marks obsolete) text context middle → IsKeywordText Id obsolete middle keyword line id after
       → IsTranslation obsolete after plural forms rest
       → IsBody items
-      (record { context = Some context; id = id; plural = plural; forms = forms; obsolete = obsolete; line = line }) rest
+      (record {
+        context = Some context;
+        id = id;
+        plural = plural;
+        forms = forms;
+        obsolete = obsolete;
+        line =
+            line;
+      }) rest

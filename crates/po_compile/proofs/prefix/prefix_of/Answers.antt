@@ -3,11 +3,11 @@ use Rattle.po_compile.proofs.PrefixLemmas.{digit_read, fits}
 use Rattle.po_compile.proofs.prefix.prefix_of.Goals as goal
 
 pub overflow_mul-prefix : goal.overflow_mul-prefix
-overflow_mul-prefix c = omega (arith, fits c.loop-place.place c.loop-place.prefix c.loop-place-test.true c.loop-place.invariant.0)
+overflow_mul-prefix c = omega (arith, fits c.loop-index.index c.loop-index.prefix c.loop-index-test.true c.loop-index.invariant.0)
 
 pub overflow_add-prefix : goal.overflow_add-prefix
-overflow_add-prefix c = omega (arith, fits c.loop-place.place c.loop-place.prefix c.loop-place-test.true c.loop-place.invariant.0, c.byte_at.type_inv)
+overflow_add-prefix c = omega (arith, fits c.loop-index.index c.loop-index.prefix c.loop-index-test.true c.loop-index.invariant.0, c.byte_at.type_inv)
 
-pub loop-place-preserved : goal.loop-place-preserved
-loop-place-preserved c =
-    digit_read 16 c.loop-place.place c.args.key.now c.loop-place.prefix c.byte_at.result c.loop-place-test.true c.byte_at.ensures c.byte_at.type_inv c.loop-place.invariant
+pub loop-index-preserved : goal.loop-index-preserved
+loop-index-preserved c =
+    digit_read 16 c.loop-index.index c.args.key.now c.loop-index.prefix c.byte_at.result c.loop-index-test.true c.byte_at.ensures c.byte_at.type_inv c.loop-index.invariant

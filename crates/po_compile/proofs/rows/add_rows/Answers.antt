@@ -11,7 +11,7 @@ use Rattle.po_compile.proofs.RowsMean.{row_added, row_at, row_view_is}
 use Rattle.po_compile.proofs.rows.add_rows.Goals as goal
 
 -- a row, or none, at the place of its index
-placed_still : (rows : List Row) (row : Row) (t : Bool) {more : List Row} → row.place ≡ length rows → more ≡ rows ++ cond t (row ∷ []) [] → ArePlaced rows → ArePlaced more
+placed_still : (rows : List Row) (row : Row) (t : Bool) {more : List Row} → row.index ≡ length rows → more ≡ rows ++ cond t (row ∷ []) [] → ArePlaced rows → ArePlaced more
 placed_still rows row true place is placed = placed_more rows row place is placed
 placed_still rows row false place is placed = subst ArePlaced (sym (is ∙ append-nil rows)) placed
 
@@ -21,7 +21,7 @@ loop-parts-preserved c =
     let row = c.row_of-row.result in
     let kept : List Row = cond (is_joined c.args.headed (row_view row)) (row ∷ []) [] in
     record {
-      placed = λ old. placed_still c.loop-parts.rows.items row (is_joined c.args.headed (row_view row)) (omega (arith, c.row_of-row.ensures.place, c.len.ensures, c.loop-parts.rows.ok.0)) c.in_ok-add_row.ensures (c.loop-parts.invariant.placed old);
+      placed = λ old. placed_still c.loop-parts.rows.items row (is_joined c.args.headed (row_view row)) (omega (arith, c.row_of-row.ensures.index, c.len.ensures, c.loop-parts.rows.ok.0)) c.in_ok-add_row.ensures (c.loop-parts.invariant.placed old);
       added = (
         so_far.0 ++ kept,
         c.in_ok-add_row.ensures ∙ ap (λ (rows : List Row). rows ++ kept) so_far.1 ∙ append_assoc c.args.rows.now.items so_far.0 kept,

@@ -8,5 +8,5 @@ use Rattle.po_compile.proofs.rows.sort_rows.Goals as goal
 
 pub returns-clause-sorted : goal.returns-clause-sorted
 returns-clause-sorted c =
-    let total = then_total (on_total (λ (row : Row). row.key.now) nat_list_cmp_total) (on_total (λ (row : Row). row.place) nat_cmp_total) in
+    let total = then_total (on_total (λ (row : Row). row.key.now) nat_list_cmp_total) (on_total (λ (row : Row). row.index) nat_cmp_total) in
     c.sort_unstable_by.ensures.sorted (λ a b. is_lt (row_cmp a b)) (ranks_by total (λ (row : Row). row)) (answers_always _ _ _ (λ f a r g h. search rules))

@@ -1,7 +1,7 @@
 use Rattle.std.proofs.Common.{◌≡◌, ◌<◌, ap, sym, ◌∙◌, rules, arith, length}
 use Rattle.std.proofs.lemmas.List.{length-map}
 use Rattle.po_entry.specs.TextEntry.{TextEntry}
-use Rattle.po_merge.specs.declared.definition.Definition.{Definition}
+use Rattle.po_merge.specs.declared.definition.NamedEntry.{NamedEntry as BorrowedEntry}
 use Rattle.po_merge.proofs.OneDefinition.{first_is}
 use Rattle.po_merge.proofs.Valid.{merged_is_entry}
 use Rattle.po_merge.specs.InputsView.{named_entry, named_entries}
@@ -10,7 +10,7 @@ use Rattle.po_merge.proofs.merging.joined_entry.Goals as goal
 pub of_fields-requires : goal.of_fields-requires
 of_fields-requires c =
     let ds = c.args.definitions.now in
-    let first = ap (λ (d : Definition). d.entry.now) (sym c.index-definitions-0.is) ∙ first_is ds c.index-definitions-0.result c.requires.some c.index-definitions-0.is in
+    let first = ap (λ (d : BorrowedEntry). d.entry.now) (sym c.index-definitions-0.is) ∙ first_is ds c.index-definitions-0.result c.requires.some c.index-definitions-0.is in
     let previous = c.in_ok-copy.ensures ∙ c.previous.ensures ∙ ap (λ (e : TextEntry). e.previous) c.first_with.ensures in
     let context = c.in_ok-copy_optional.ensures ∙ c.context.ensures ∙ ap (λ (e : TextEntry). e.context) first in
     let text : c.in_ok-to_vec.field-0.items ≡ c.id.result.now = search rules in

@@ -2,7 +2,7 @@ use Rattle.std.proofs.Common.{◌≡◌, false, take, ap, ◌∙◌, arith}
 use Rattle.std.specs.Str.Parse.{digits_value}
 use Rattle.std.proofs.lemmas.Int.Digits.{digits_value_more}
 use Rattle.std.proofs.lemmas.List.{take_all}
-use Rattle.po_shell.specs.Counts.{are_digits}
+use Rattle.po_shell.specs.CountArgument.{are_digits}
 use Rattle.po_shell.proofs.CountLemmas.{other_byte, more_digits, grows}
 use Rattle.po_shell.proofs.arguments.count.decimal.Goals as goal
 

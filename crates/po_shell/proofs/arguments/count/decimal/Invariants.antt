@@ -1,6 +1,6 @@
 use Rattle.std.proofs.Common.{◌≡◌, ◌<◌, ◌^◌, true, take}
 use Rattle.std.specs.Str.Parse.{digits_value}
-use Rattle.po_shell.specs.Counts.{are_digits}
+use Rattle.po_shell.specs.CountArgument.{are_digits}
 use Rattle.po_shell.proofs.arguments.count.decimal.Given as goal
 
 abbrev pub invariant-loop-digit : goal.invariant-loop-digit

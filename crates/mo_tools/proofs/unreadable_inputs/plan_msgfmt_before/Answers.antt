@@ -2,7 +2,7 @@ use Rattle.std.proofs.Common.{inr, refl}
 use Rattle.tool_runs.specs.NamedFile.{named_files}
 use Rattle.tool_runs.specs.Run.{run_view}
 use Rattle.mo_tools.proofs.MsgfmtLemmas.{taken, refused}
-use Rattle.mo_tools.proofs.unread.plan_msgfmt_before.Goals as goal
+use Rattle.mo_tools.proofs.unreadable_inputs.plan_msgfmt_before.Goals as goal
 
 pub returns-then-run-eq0-clause-fault : goal.returns-then-run-eq0-clause-fault
 returns-then-run-eq0-clause-fault c =

@@ -4,7 +4,7 @@ ghost use Rattle.po_entry.specs.TextEntry.{TextEntry};
 ghost use Rattle.po_entry.specs.Validity.{IsCatalogueEntry};
 ghost use Rattle.tool_runs.specs.FaultText.{text_line};
 ghost use Rattle.tool_runs.specs.Run.{refusal, run_view};
-ghost use Rattle.text_tools.specs.Written.{written_run};
+ghost use Rattle.text_tools.specs.TextRuns.{written_run};
 ghost use Rattle.po_writer.specs.WrittenText.{written_text};
 
 use po_catalog::{Catalogue, write};

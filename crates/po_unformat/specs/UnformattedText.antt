@@ -11,7 +11,8 @@ use Rattle.po_entry.specs.Header.{HasAdmittedCharset}
 use Rattle.po_entry.specs.Validity.{HasTexts, IsCatalogueEntry, TextsFault}
 use Rattle.po_writer.specs.WrittenText.{written_text}
 use Rattle.po_unformat.specs.declared.fault.UnformatError.{UnformatError}
-use Rattle.po_unformat.specs.declared.fault.UnformatError.TheVariants.{Mo, NotUtf8, ForbiddenByte, ForeignCharset, OutOfMemory}
+use Rattle.po_unformat.specs.declared.fault.UnformatError.TheVariants.{Mo, NotUtf8, ForbiddenByte, ForeignCharset}
+use Rattle.po_unformat.specs.declared.fault.UnformatError.TheVariants.{OutOfMemory}
 use Rattle.po_unformat.specs.Unformatted.{unformatted}
 
 -- the bytes are a valid MO file, in whatever byte order, and this holds of its messages

@@ -29,7 +29,7 @@ pub fn plan_msgcat_of<'a>(
     ensures fault { IfErr result (λ reported. (reported ≡ ProgramFault.OutOfMemory)
         ⊎ (HasNulName (named_inputs inputs.now.texts.items) (program_text reported))
         ⊎ ((inputs.now.fault ≡ Some reported)
-        × ((read : List merge.Input) × AreReadAs (named_inputs inputs.now.texts.items) read))) }
+        × ((read : List merge.Named) × AreReadAs (named_inputs inputs.now.texts.items) read))) }
 {
     if let Some(name) = name_with_nul(&inputs.texts) {
         return Err(ProgramFault::CannotOpen(name));

@@ -1,7 +1,7 @@
 use Rattle.std.proofs.Common.{◌≡◌, Some, ap, ◌∙◌}
 use Rattle.tool_runs.specs.NamedFile.{named_files}
 use Rattle.mo_tools.proofs.MsgfmtLemmas.{before-reported}
-use Rattle.mo_tools.proofs.unread.plan_msgfmt_of.Goals as goal
+use Rattle.mo_tools.proofs.unreadable_inputs.plan_msgfmt_of.Goals as goal
 
 pub returns-in-Some-clause-fault : goal.returns-in-Some-clause-fault
 returns-in-Some-clause-fault c =

@@ -2,7 +2,7 @@ use Rattle.std.proofs.Common.{◌≡◌, ap, ◌∙◌, length, rules, [], sym}
 use Rattle.std.specs.Prelude.{nat_lt}
 use Rattle.po_writer.specs.WrittenText.{written_text}
 use Rattle.tool_runs.specs.SomeText.{create_is}
-use Rattle.text_tools.proofs.written.text_run.Goals as goal
+use Rattle.text_tools.proofs.text_runs.text_run.Goals as goal
 
 pub returns : goal.returns
 returns c entries is =

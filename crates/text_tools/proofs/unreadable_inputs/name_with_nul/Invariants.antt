@@ -2,7 +2,7 @@ use Rattle.std.proofs.Common.{take}
 use Rattle.std.specs.Prelude.{All}
 use Rattle.po_entry.specs.Bytes.{Lacks}
 use Rattle.tool_runs.specs.Inputs.{named_inputs}
-use Rattle.text_tools.proofs.unread.name_with_nul.Given as goal
+use Rattle.text_tools.proofs.unreadable_inputs.name_with_nul.Given as goal
 
 -- no name so far holds NUL
 abbrev pub invariant-loop-input : goal.invariant-loop-input

@@ -2,7 +2,7 @@ use Rattle.std.proofs.Common.{refl, sym, ◌∙◌}
 use Rattle.std.proofs.lemmas.List.{take_all}
 use Rattle.tool_runs.specs.Inputs.{named_input}
 use Rattle.text_tools.proofs.NulNames.{among, holds}
-use Rattle.text_tools.proofs.unread.name_with_nul.Goals as goal
+use Rattle.text_tools.proofs.unreadable_inputs.name_with_nul.Goals as goal
 
 pub returns-then-has_nul : goal.returns-then-has_nul
 returns-then-has_nul c = record {
