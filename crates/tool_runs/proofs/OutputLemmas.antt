@@ -1,5 +1,5 @@
 -- How the calls of a function join to those of its caller.
-use Rattle.std.proofs.Common.{◌≡◌, ◌+◌, ◌<◌, ℕ, Bool, true, false, List, [], ◌∷◌, ◌++◌, Option, Some, None, Result, Ok, Err, OnOk, OnErr, is_ok, refl, sym, ap, ◌∙◌, subst, append_assoc, append-nil, arith, rules}
+use Rattle.std.proofs.Common.{◌≡◌, ◌+◌, ◌<◌, ℕ, true, false, List, [], ◌∷◌, ◌++◌, Option, Some, None, Result, Ok, Err, OnOk, OnErr, is_ok, refl, sym, ap, ◌∙◌, subst, append_assoc, append-nil, arith, rules}
 use Rattle.std.specs.Io.KnownBytes.{Appends}
 use Rattle.po_shell.specs.Device.{AppendsPrefix}
 use Rattle.po_shell.specs.declared.fault.ToolFault.{ToolFault}
@@ -9,7 +9,7 @@ use Rattle.tool_runs.specs.declared.output_files.NotMade.TheVariants.{Exists, Fo
 use Rattle.tool_runs.specs.declared.output_files.OutputFault.{OutputFault}
 use Rattle.tool_runs.specs.declared.output_files.OutputFault.TheVariants.{CannotCreate}
 use Rattle.tool_runs.specs.FileCalls.{FileCall, FileLog, Calls, logged, sets_mode, makes, fails_to_make, asks, reads_link}
-use Rattle.tool_runs.specs.OutputFiles.{IsWritten, GivesMode, mode_calls, whole, cut, late, beside, new_mode, Fills, WritesInPlace, Replaces, GivesUp, made, taken, forbidden, unmade, WritesFile, follows, link_target}
+use Rattle.tool_runs.specs.OutputFiles.{IsWritten, GivesMode, mode_calls, whole, cut, late, beside, new_mode, Fills, WritesInPlace, Replaces, GivesUp, made, taken, forbidden, unmade, WritesFile, follows, link_target, names_stream}
 
 pub logged-twice : (first rest : List FileCall) (log : FileLog) → logged rest (logged first log) ≡ logged (first ++ rest) log
 logged-twice first rest None = refl
@@ -99,12 +99,14 @@ after-unmade {path} {mode} {number} why tried-is bits-is gives-up log =
 
 -- what a link leads to is written next
 pub after-link : (mode : Option ℕ) {output path text copy target : List ℕ} {links less : ℕ} {old there new : FileLog} {outcome : Option OutputFault}
-    → less + 1 ≡ links → copy ≡ text → target ≡ link_target path copy
+    → names_stream path ≡ false → less + 1 ≡ links → copy ≡ text → target ≡ link_target path copy
     → there ≡ logged (asks path (Regular mode) ∷ reads_link path (Some text) ∷ []) old
     → Calls there new (λ calls. WritesFile output less target calls outcome)
     → Calls old new (λ calls. WritesFile output links path calls outcome)
-after-link mode {path} {text} is copy-is target-is log rest =
-    goes-on (asks path (Regular mode) ∷ reads_link path (Some text) ∷ []) log (λ calls are. rw (← is) (follows (rw (target-is, copy-is) at are))) rest
+after-link mode {output} {path} {text} {less} {outcome} no-stream is copy-is target-is log rest =
+    goes-on (asks path (Regular mode) ∷ reads_link path (Some text) ∷ []) log
+    (λ calls are. subst (λ n. WritesFile output n path (asks path (Regular mode) ∷ reads_link path (Some text) ∷ calls) outcome) is
+    (follows no-stream (subst (λ p. WritesFile output less p calls outcome) (target-is ∙ ap (link_target path) copy-is) are))) rest
 
 -- where nothing is to be replaced, no file is written in place
 pub gives-up-alone : (mode : Option ℕ) (number : ℕ) → mode ≡ None → GivesUp Forbidden mode number

@@ -5,6 +5,7 @@ pub mod Inputs
 pub mod NamedFile
 pub mod FileCalls
 pub mod OutputFiles
+pub mod OutputLaw
 pub mod Outputs
 pub mod Positional
 pub mod PositionalView

@@ -1,11 +1,12 @@
 -- How an output file is made, as the calls of the system in their order: whole in a new file beside it, which is then renamed
 -- over it.
-use Rattle.std.specs.Prelude.{◌≡◌, ◌+◌, ◌<◌, ◌≤◌, ◌++◌, ◌∷◌, [], ℕ, Bool, true, false, List, length, if◌then◌else◌, nat_lt, Option, Some, None, Result, Ok, Err, codes, decimal, ⊤}
+use Rattle.std.specs.Prelude.{◌≡◌, ◌+◌, ◌<◌, ◌≤◌, ◌++◌, ◌∷◌, [], ℕ, Bool, true, false, List, length, if◌then◌else◌, nat_eq, nat_lt, ◌||◌, Option, Some, None, Result, Ok, Err, codes, decimal, ⊤}
 use Rattle.std.specs.Io.KnownBytes.{Appends}
+use Rattle.std.specs.List.{starts_with}
 use Rattle.std.specs.Option.{unwrap_or}
 use Rattle.std.specs.Path.{path_file_name, path_with_file_name}
+use Rattle.std.specs.Str.{bytes_eq}
 use Rattle.po_shell.specs.Device.{AppendsPrefix}
-use Rattle.tool_runs.specs.declared.output_files.FileKind.{FileKind}
 use Rattle.tool_runs.specs.declared.output_files.FileKind.TheVariants.{Regular, Special, Unknown}
 use Rattle.tool_runs.specs.declared.output_files.NotMade.{NotMade}
 use Rattle.tool_runs.specs.declared.output_files.NotMade.TheVariants.{Exists, Forbidden, Failed}
@@ -34,6 +35,12 @@ beside path number = path_with_file_name path (new_name (path_file_name path) nu
 -- where a link at this path leads, by its text: from its folder, or from the root
 abbrev pub link_target : List ℕ → List ℕ → List ℕ
 link_target path text = path_with_file_name path text
+
+-- the path names an open stream of the process that looks it up
+abbrev pub names_stream : List ℕ → Bool
+names_stream path =
+    bytes_eq path (codes "/dev/stdout") || bytes_eq path (codes "/dev/stderr")
+    || starts_with nat_eq path (codes "/dev/fd/") || starts_with nat_eq path (codes "/proc/self/fd/")
 
 -- what a file took of the output, from its bytes when it was opened to those when it was closed, by how many of its calls failed
 -- and whether it took all
@@ -113,22 +120,28 @@ pub data Replaces (output path : List ℕ) (mode : Option ℕ) : ℕ → List Fi
   unmade : {number : ℕ} {why : NotMade} → GivesUp why mode number
       → Replaces output path mode number (fails_to_make (beside path number) (new_mode mode) why ∷ []) (Some CannotCreate)
 
--- The output goes to the file that the path leads to, through so many links at most: what is no
--- regular file is written in place, and any other is replaced.
+-- The output goes to the file that the path leads to, through so many links at most: an open stream and what is no regular file
+-- are written in place, and any other is replaced.
 pub data WritesFile (output : List ℕ) : ℕ → List ℕ → List FileCall → Option OutputFault → Type 0 where
+  stream : {links : ℕ} {path : List ℕ} {calls : List FileCall} {outcome : Option OutputFault}
+      → names_stream path ≡ true → WritesInPlace output path calls outcome → WritesFile output links path calls outcome
   special : {links : ℕ} {path : List ℕ} {calls : List FileCall} {outcome : Option OutputFault}
-      → WritesInPlace output path calls outcome
+      → names_stream path ≡ false → WritesInPlace output path calls outcome
       → WritesFile output links path (asks path Special ∷ calls) outcome
-  unknown : {links : ℕ} {path : List ℕ} → WritesFile output links path (asks path Unknown ∷ []) (Some CannotCreate)
+  unknown : {links : ℕ} {path : List ℕ}
+      → names_stream path ≡ false → WritesFile output links path (asks path Unknown ∷ []) (Some CannotCreate)
   replaces : {links : ℕ} {path : List ℕ} {mode : Option ℕ} {calls : List FileCall} {outcome : Option OutputFault}
-      → Replaces output path mode 0 calls outcome
+      → names_stream path ≡ false → Replaces output path mode 0 calls outcome
       → WritesFile output links path (asks path (Regular mode) ∷ reads_link path None ∷ calls) outcome
   unread : {links : ℕ} {path : List ℕ} {mode : Option ℕ} {why : OutputFault}
+      → names_stream path ≡ false
       → WritesFile output links path (asks path (Regular mode) ∷ fails_to_read_link path why ∷ []) (Some why)
   unnamed : {links : ℕ} {path text : List ℕ} {mode : Option ℕ}
+      → names_stream path ≡ false
       → WritesFile output links path (asks path (Regular mode) ∷ reads_link path (Some text) ∷ []) (Some OutOfMemory)
   follows : {links : ℕ} {path text : List ℕ} {mode : Option ℕ} {calls : List FileCall} {outcome : Option OutputFault}
-      → WritesFile output links (link_target path text) calls outcome
+      → names_stream path ≡ false → WritesFile output links (link_target path text) calls outcome
       → WritesFile output (links + 1) path (asks path (Regular mode) ∷ reads_link path (Some text) ∷ calls) outcome
   too_long : {path text : List ℕ} {mode : Option ℕ}
+      → names_stream path ≡ false
       → WritesFile output 0 path (asks path (Regular mode) ∷ reads_link path (Some text) ∷ []) (Some CannotCreate)

@@ -2,13 +2,14 @@
 //! options and arguments, and the lines of faults.
 //!
 //! The modules in reading order: `run`, `program_fault`, `fault_text`, `inputs`, `output_files`,
-//! `output_paths`, `output_writing`, `outputs`, `arguments`, `positional`.
+//! `output_paths`, `output_writing`, `outputs`, `laws`, `arguments`, `positional`.
 
 #![tactic(auto)]
 
 mod arguments;
 mod fault_text;
 mod inputs;
+pub mod laws;
 mod output_files;
 mod output_paths;
 mod output_writing;

@@ -2,7 +2,7 @@
 ghost use Rattle.std.specs.Prelude.{◌≡◌, IfOk};
 ghost use Rattle.std.specs.Option.{option_copied};
 ghost use Rattle.std.specs.String.{string_bytes};
-ghost use Rattle.tool_runs.specs.OutputFiles.{beside, link_target, own_name};
+ghost use Rattle.tool_runs.specs.OutputFiles.{beside, link_target, names_stream, own_name};
 
 use itoa::Buffer;
 use std::alloc::{AllocError, Global};
@@ -32,6 +32,17 @@ pub(crate) fn link_target(alloc: Global, path: &str, text: &str) -> Result<Strin
     ensures { IfOk result (λ target. string_bytes target ≡ link_target path.now text.now) }
 {
     Ok(Path::new(path).with_file_name(alloc, text)?.into_string())
+}
+
+/// Whether the path names an open stream of the process that looks it up, and not a file of its own.
+pub(crate) fn names_stream(path: &str) -> bool
+    ensures { result ≡ names_stream path.now }
+{
+    let bytes = path.as_bytes();
+    path == "/dev/stdout"
+        || path == "/dev/stderr"
+        || bytes.starts_with(b"/dev/fd/")
+        || bytes.starts_with(b"/proc/self/fd/")
 }
 
 /// The name that a new file's begins with.

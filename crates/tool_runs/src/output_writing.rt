@@ -4,7 +4,7 @@ ghost use Rattle.tool_runs.specs.FileCalls.{Calls};
 ghost use Rattle.tool_runs.specs.OutputFiles.{Closes, Fills, GivesMode, Replaces, WritesFile, WritesInPlace, fault_of};
 
 use crate::output_files::{FileKind, NotMade, OutputFault, OutputFiles};
-use crate::output_paths::{beside, link_target};
+use crate::output_paths::{beside, link_target, names_stream};
 use po_shell::{Counted, put_all};
 use std::alloc::Global;
 
@@ -15,7 +15,8 @@ const NEW_MODE: u32 = 0o666;
 const LAST_NUMBER: u32 = 999;
 
 /// Writes an output to the file that the path leads to, through at most so many links. Where that is a
-/// regular file or isn't there, it is replaced; else it is written in place.
+/// regular file or isn't there, it is replaced; else, and where the path names an open stream, it is
+/// written in place.
 pub(crate) fn write_file<T: OutputFiles>(
     alloc: Global,
     files: &mut T,
@@ -26,6 +27,9 @@ pub(crate) fn write_file<T: OutputFiles>(
     ensures { Calls (T.log files.old) (T.log files.new) (λ calls.
         WritesFile output.now links path.now calls (fault_of result)) }
 {
+    if names_stream(path) {
+        return write_in_place(files, path, output);
+    }
     let mode = match files.kind(path) {
         FileKind::Regular(mode) => mode,
         FileKind::Special => return write_in_place(files, path, output),

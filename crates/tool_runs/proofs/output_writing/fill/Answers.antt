@@ -1,6 +1,4 @@
-use Rattle.std.proofs.Common.{◌≡◌, [], ◌∷◌, ◌++◌}
-use Rattle.tool_runs.specs.FileCalls.{closes, removes, renames, sets_mode}
-use Rattle.tool_runs.specs.OutputFiles.{IsWritten, mode_calls, modeless, replaced, unmoved, unwritten}
+use Rattle.tool_runs.specs.OutputFiles.{modeless, replaced, unmoved, unwritten}
 use Rattle.tool_runs.proofs.OutputLemmas.{ends, logged-after, mode-given, mode-lost}
 use Rattle.tool_runs.proofs.output_writing.fill.Goals as goal
 

@@ -1,5 +1,3 @@
-use Rattle.std.proofs.Common.{[], ◌∷◌}
-use Rattle.tool_runs.specs.FileCalls.{closes, fails_to_open, opens}
 use Rattle.tool_runs.specs.OutputFiles.{unopened, unwritten, written}
 use Rattle.tool_runs.proofs.OutputLemmas.{ends, logged-after}
 use Rattle.tool_runs.proofs.output_writing.write_in_place.Goals as goal
