@@ -1,6 +1,7 @@
 -- The names of the locales whose catalogues are looked for ("Locale Environment Variables" and
 -- "Specifying a Priority List of Languages" of the GNU gettext manual).
-use Rattle.std.specs.Prelude.{ℕ, Bool, not, ◌&&◌, ◌||◌, ◌==◌, if◌then◌else◌, List, [], ◌∷◌, ◌++◌, length, take, drop, filter, take_while, codes}
+use Rattle.std.specs.Prelude.{ℕ, Bool, not, ◌&&◌, ◌||◌, ◌==◌, if◌then◌else◌, List, [], ◌∷◌, ◌++◌, length, take, drop}
+use Rattle.std.specs.Prelude.{filter, take_while, codes}
 use Rattle.std.specs.List.{list_any, flat_map, slice_split, position_or_len}
 use Rattle.std.specs.Str.{bytes_eq}
 use Rattle.memchr.specs.Find.{is_byte}
@@ -32,7 +33,8 @@ candidates_of_name name =
 
 -- the parts of LANGUAGE that count, up to the first `C` or `POSIX`
 unfoldable pub language_parts : List ℕ → List (List ℕ)
-language_parts text = filter is_path_part (take_while (λ part. not (is_untranslated part)) (slice_split (is_byte 58) text))
+language_parts text =
+    filter is_path_part (take_while (λ part. not (is_untranslated part)) (slice_split (is_byte 58) text))
 
 -- the languages that are asked for: those of LANGUAGE, where it isn't empty, else the locale
 abbrev pub languages : List ℕ → List ℕ → List (List ℕ)

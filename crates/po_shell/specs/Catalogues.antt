@@ -21,7 +21,8 @@ path_of folder locale domain = ((((folder ++ codes "/") ++ locale) ++ codes "/LC
 -- the paths of the catalogues of a domain; a domain that can't stand in a path has none
 abbrev pub paths_in : Environment → Option (List ℕ) → List (List ℕ)
 paths_in env None = []
-paths_in env (Some domain) = if is_path_part domain then map (λ locale. path_of (folder_of env) locale domain) (candidates_of env) else []
+paths_in env (Some domain) =
+    if is_path_part domain then map (λ locale. path_of (folder_of env) locale domain) (candidates_of env) else []
 
 -- the paths of the catalogues to try, the first to be asked first
 abbrev pub paths_of : Option (List ℕ) → Option (List ℕ) → Environment → List (List ℕ)

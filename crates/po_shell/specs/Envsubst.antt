@@ -23,8 +23,10 @@ pub record StopsWithin (values : Values) (input left old new : Option (List ℕ)
   pub stops : Stops values read old new
 
 -- what the writer took, by what is reported
-abbrev pub EndsAs : Values → Option (List ℕ) → Option (List ℕ) → Option (List ℕ) → Option (List ℕ) → Result (Unit {0}) ToolFault → Type 0
+abbrev pub EndsAs : Values → Option (List ℕ) → Option (List ℕ) → Option (List ℕ) → Option (List ℕ)
+    → Result (Unit {0}) ToolFault → Type 0
 EndsAs values input left old new (Ok _) = Substitutes values input old new
 EndsAs values input left old new (Err ReadFault) = StopsWithin values input left old new
-EndsAs values input left old new (Err WriteFault) = StopsWithin values input left old new ⊎ StopsAtEnd values input old new
+EndsAs values input left old new (Err WriteFault) =
+    StopsWithin values input left old new ⊎ StopsAtEnd values input old new
 EndsAs values input left old new (Err OutOfMemory) = StopsWithin values input left old new

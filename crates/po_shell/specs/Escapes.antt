@@ -1,5 +1,6 @@
 -- The escapes that `gettext -e` expands ("Invoking the gettext program" of the GNU gettext manual).
-use Rattle.std.specs.Prelude.{ℕ, zero, suc, ◌+◌, ◌-◌, ◌*◌, ◌%◌, Bool, ◌&&◌, ◌==◌, nat_le, if◌then◌else◌, List, [], ◌∷◌, length, fold, take, take_while, Option, Some, None, is_none}
+use Rattle.std.specs.Prelude.{ℕ, zero, suc, ◌+◌, ◌-◌, ◌*◌, ◌%◌, Bool, ◌&&◌, ◌==◌, nat_le, if◌then◌else◌, List, [], ◌∷◌}
+use Rattle.std.specs.Prelude.{length, fold, take, take_while, Option, Some, None, is_none}
 use Rattle.std.specs.List.{filter_map, list_any}
 use Rattle.po_shell.specs.declared.arguments.escape.Escape.{Escape}
 
@@ -41,7 +42,10 @@ letter_escape b =
 unfoldable pub escape_after : List ℕ → Option Escape
 escape_after [] = None
 escape_after (b ∷ bs) =
-    if is_octal b then Some (record { byte = Some (octal_value (octal_prefix (b ∷ bs))); size = length (octal_prefix (b ∷ bs)) })
+    if is_octal b then Some (record {
+      byte = Some (octal_value (octal_prefix (b ∷ bs)));
+      size = length (octal_prefix (b ∷ bs));
+    })
     else letter_escape b
 
 -- what a byte gives: itself, or what the escape that it begins gives, a byte or none for `\c`; and
@@ -55,7 +59,8 @@ given_bytes b (Some e) later = e.byte ∷ later e.size
 unfoldable pub given_bytes_after : ℕ → List ℕ → List (Option ℕ)
 given_bytes_after skip [] = []
 given_bytes_after (suc skip) (b ∷ bs) = given_bytes_after skip bs
-given_bytes_after zero (b ∷ bs) = given_bytes b (if b == 92 then escape_after bs else None) (λ skip. given_bytes_after skip bs)
+given_bytes_after zero (b ∷ bs) =
+    given_bytes b (if b == 92 then escape_after bs else None) (λ skip. given_bytes_after skip bs)
 
 -- the text with its escapes expanded
 abbrev pub expansion : List ℕ → List ℕ

@@ -19,8 +19,10 @@ pub data SpellsByte : List ℕ → ℕ → List ℕ → Type 0 where
   vertical_tab : {rest : List ℕ} → SpellsByte (118 ∷ rest) 11 rest
   backslash : {rest : List ℕ} → SpellsByte (92 ∷ rest) 92 rest
   one_digit : (a : ℕ) {rest : List ℕ} → a < 8 → NoOctalFirst rest → SpellsByte ((48 + a) ∷ rest) a rest
-  two_digits : (a b : ℕ) {rest : List ℕ} → a < 8 → b < 8 → NoOctalFirst rest → SpellsByte ((48 + a) ∷ (48 + b) ∷ rest) (8 * a + b) rest
-  three_digits : (a b c : ℕ) {rest : List ℕ} → a < 8 → b < 8 → c < 8 → SpellsByte ((48 + a) ∷ (48 + b) ∷ (48 + c) ∷ rest) ((64 * a + 8 * b + c) % 256) rest
+  two_digits : (a b : ℕ) {rest : List ℕ} → a < 8 → b < 8 → NoOctalFirst rest
+      → SpellsByte ((48 + a) ∷ (48 + b) ∷ rest) (8 * a + b) rest
+  three_digits : (a b c : ℕ) {rest : List ℕ} → a < 8 → b < 8 → c < 8
+      → SpellsByte ((48 + a) ∷ (48 + b) ∷ (48 + c) ∷ rest) ((64 * a + 8 * b + c) % 256) rest
 
 -- no escape stands after a backslash
 pub record IsNoEscape (text : List ℕ) : Type 0 where
@@ -31,7 +33,11 @@ pub record IsNoEscape (text : List ℕ) : Type 0 where
 -- backslash stays.
 pub data Expands : List ℕ → List ℕ → Bool → Type 0 where
   nothing : Expands [] [] false
-  plain : {b : ℕ} {text bytes : List ℕ} {without_newline : Bool} → b ≢ 92 → Expands text bytes without_newline → Expands (b ∷ text) (b ∷ bytes) without_newline
-  escape : {b : ℕ} {text rest bytes : List ℕ} {without_newline : Bool} → SpellsByte text b rest → Expands rest bytes without_newline → Expands (92 ∷ text) (b ∷ bytes) without_newline
-  no_newline : {text bytes : List ℕ} {without_newline : Bool} → Expands text bytes without_newline → Expands (92 ∷ 99 ∷ text) bytes true
-  stays : {text bytes : List ℕ} {without_newline : Bool} → IsNoEscape text → Expands text bytes without_newline → Expands (92 ∷ text) (92 ∷ bytes) without_newline
+  plain : {b : ℕ} {text bytes : List ℕ} {without_newline : Bool} → b ≢ 92 → Expands text bytes without_newline
+      → Expands (b ∷ text) (b ∷ bytes) without_newline
+  escape : {b : ℕ} {text rest bytes : List ℕ} {without_newline : Bool} → SpellsByte text b rest
+      → Expands rest bytes without_newline → Expands (92 ∷ text) (b ∷ bytes) without_newline
+  no_newline : {text bytes : List ℕ} {without_newline : Bool} → Expands text bytes without_newline
+      → Expands (92 ∷ 99 ∷ text) bytes true
+  stays : {text bytes : List ℕ} {without_newline : Bool} → IsNoEscape text → Expands text bytes without_newline
+      → Expands (92 ∷ text) (92 ∷ bytes) without_newline

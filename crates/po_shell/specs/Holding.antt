@@ -1,5 +1,6 @@
 -- Internal: which bytes are held back, and what the next byte makes of them.
-use Rattle.std.specs.Prelude.{◌≡◌, ℕ, ◌+◌, ◌<◌, ◌≤◌, Bool, true, false, ◌&&◌, ◌==◌, if◌then◌else◌, List, [], ◌∷◌, ◌++◌, length, take, drop, Option, Some, None}
+use Rattle.std.specs.Prelude.{◌≡◌, ℕ, ◌+◌, ◌<◌, ◌≤◌, Bool, true, false, ◌&&◌, ◌==◌, if◌then◌else◌, List, [], ◌∷◌, ◌++◌}
+use Rattle.std.specs.Prelude.{length, take, drop, Option, Some, None}
 use Rattle.std.specs.Borrow.{Bor}
 use Rattle.std.specs.List.{list_all}
 use Rattle.po_shell.specs.References.{is_name_byte, is_name, reference_after}
@@ -34,16 +35,24 @@ is_undecided (b ∷ bs) = b == 36 && is_undecided_after bs
 -- what the byte after a begun reference makes of it, whatever comes next
 abbrev pub Decides : Bool → List ℕ → ℕ → Decision → Type 0
 Decides is_braced name next Grows = is_undecided (36 ∷ after_dollar is_braced (name ++ next ∷ [])) ≡ true
-Decides is_braced name next Ends = (is_braced ≡ false) × ((rest : List ℕ) → reference_after (name ++ next ∷ rest) ≡ Some (record { name = name; size = length name }))
-Decides is_braced name next Closes = (is_braced ≡ true) × ((rest : List ℕ) → reference_after (123 ∷ (name ++ next ∷ rest)) ≡ Some (record { name = name; size = length name + 2 }))
-Decides is_braced name next Copies = (rest : List ℕ) → reference_after (after_dollar is_braced (name ++ next ∷ rest)) ≡ None
+Decides is_braced name next Ends =
+    (is_braced ≡ false)
+    × ((rest : List ℕ) → reference_after (name ++ next ∷ rest) ≡ Some (record { name = name; size = length name }))
+Decides is_braced name next Closes =
+    (is_braced ≡ true)
+    × ((rest : List ℕ)
+    → reference_after (123 ∷ (name ++ next ∷ rest)) ≡ Some (record { name = name; size = length name + 2 }))
+Decides is_braced name next Copies = (rest : List ℕ)
+    → reference_after (after_dollar is_braced (name ++ next ∷ rest)) ≡ None
 
 -- what becomes of the bytes held and the next one, whatever comes after them
 abbrev pub ComesOut : Values → List ℕ → ℕ → Effect → Type 0
 ComesOut values held next Held = is_undecided (held ++ next ∷ []) ≡ true
-ComesOut values held next Copied = (rest : List ℕ) → substitution values (held ++ (next ∷ rest)) ≡ held ++ substitution values (next ∷ rest)
+ComesOut values held next Copied = (rest : List ℕ)
+    → substitution values (held ++ (next ∷ rest)) ≡ held ++ substitution values (next ∷ rest)
 ComesOut values held next (Replaced value taken) = (taken ≤ 1)
-    × ((rest : List ℕ) → substitution values (held ++ (next ∷ rest)) ≡ value.now ++ substitution values (drop taken (next ∷ rest)))
+    × ((rest : List ℕ)
+    → substitution values (held ++ (next ∷ rest)) ≡ value.now ++ substitution values (drop taken (next ∷ rest)))
 
 -- what becomes of a reference to this name, which takes so many further bytes
 abbrev pub ReplacesName : Values → List ℕ → ℕ → Effect → Type 0
@@ -56,7 +65,8 @@ ReplacesName values name taken (Replaced value n) = (values name ≡ Some value.
 abbrev pub IsStep : Values → List ℕ → List ℕ → Step → Type 0
 IsStep values held piece Hold = is_undecided (held ++ take 1 piece) ≡ true
 IsStep values held piece (Write text taken) = (taken ≤ length piece) × (0 < length held + taken)
-    × ((rest : List ℕ) → substitution values ((held ++ piece) ++ rest) ≡ text.now ++ substitution values (drop taken piece ++ rest))
+    × ((rest : List ℕ)
+    → substitution values ((held ++ piece) ++ rest) ≡ text.now ++ substitution values (drop taken piece ++ rest))
 
 -- what becomes of the bytes held where nothing follows: this value, or the bytes themselves
 abbrev pub Ending : Values → List ℕ → Option (Bor (List ℕ)) → Type 0

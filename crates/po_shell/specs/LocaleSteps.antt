@@ -14,4 +14,5 @@ candidates_of_part part = if is_path_part part then candidates_of_name part else
 -- the tree has exactly these names
 abbrev pub HasNames : BTreeSet (Bor (List ℕ)) → List (List ℕ) → Type 0
 HasNames seen names =
-    (q : Bor (List ℕ)) → contains (λ x y. slice_cmp nat_cmp x.now y.now) seen q ≡ list_any (λ known. bytes_eq known q.now) names
+    (q : Bor (List ℕ))
+    → contains (λ x y. slice_cmp nat_cmp x.now y.now) seen q ≡ list_any (λ known. bytes_eq known q.now) names

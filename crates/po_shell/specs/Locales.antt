@@ -1,6 +1,7 @@
 -- The locales whose catalogues are looked for ("Locale Environment Variables" and "Specifying a
 -- Priority List of Languages" of the GNU gettext manual).
-use Rattle.std.specs.Prelude.{ℕ, Bool, not, ◌&&◌, ◌||◌, ◌==◌, if◌then◌else◌, List, [], ◌∷◌, ◌++◌, length, take, drop, fold, filter, take_while, Option, Some, None, codes}
+use Rattle.std.specs.Prelude.{ℕ, Bool, not, ◌&&◌, ◌||◌, ◌==◌, if◌then◌else◌, List, [], ◌∷◌, ◌++◌, length, take, drop}
+use Rattle.std.specs.Prelude.{fold, filter, take_while, Option, Some, None, codes}
 use Rattle.std.specs.Borrow.{Bor}
 use Rattle.std.specs.List.{list_any, flat_map, slice_split, position_or_len}
 use Rattle.std.specs.Option.{option_or}
@@ -47,7 +48,8 @@ is_path_part name = not (length name == 0) && not (has_slash name)
 
 -- the parts of LANGUAGE that count, up to the first `C` or `POSIX`
 unfoldable pub language_parts : List ℕ → List (List ℕ)
-language_parts text = filter is_path_part (take_while (λ part. not (is_untranslated part)) (slice_split (is_byte 58) text))
+language_parts text =
+    filter is_path_part (take_while (λ part. not (is_untranslated part)) (slice_split (is_byte 58) text))
 
 -- one more name, if it isn't among those before
 unfoldable pub with_name : List (List ℕ) → List ℕ → List (List ℕ)
@@ -66,7 +68,8 @@ languages (Some text) locale = language_parts text
 abbrev pub candidates_in : Option (List ℕ) → Option (List ℕ) → List (List ℕ)
 candidates_in language None = []
 candidates_in language (Some locale) =
-    if is_untranslated locale || has_slash locale then [] else distinct (flat_map candidates_of_name (languages language locale))
+    if is_untranslated locale || has_slash locale then []
+    else distinct (flat_map candidates_of_name (languages language locale))
 
 -- the candidates of an environment, the first to be asked first
 unfoldable pub candidates_of : Environment → List (List ℕ)

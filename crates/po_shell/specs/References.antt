@@ -1,5 +1,6 @@
 -- Names and references in a text ("Invoking the envsubst program" of the GNU gettext manual).
-use Rattle.std.specs.Prelude.{ℕ, ◌+◌, Bool, false, ◌&&◌, ◌||◌, ◌==◌, nat_lt, if◌then◌else◌, List, [], ◌∷◌, ◌++◌, length, drop, take_while, Option, Some, None}
+use Rattle.std.specs.Prelude.{ℕ, ◌+◌, Bool, false, ◌&&◌, ◌||◌, ◌==◌, nat_lt, if◌then◌else◌, List, [], ◌∷◌, ◌++◌, length}
+use Rattle.std.specs.Prelude.{drop, take_while, Option, Some, None}
 use Rattle.std.specs.List.{cons_option, flat_map}
 use Rattle.std.specs.Char.{is_ascii_alphabetic, is_ascii_alphanumeric}
 use Rattle.std.specs.Option.{option_map}
@@ -33,7 +34,8 @@ begins_with a (b ∷ bs) = b == a
 
 -- `$NAME`, by the bytes after the `$`
 unfoldable pub bare_reference : List ℕ → Option Reference
-bare_reference bs = if is_name (name_prefix bs) then Some (record { name = name_prefix bs; size = length (name_prefix bs) }) else None
+bare_reference bs =
+    if is_name (name_prefix bs) then Some (record { name = name_prefix bs; size = length (name_prefix bs) }) else None
 
 -- `${NAME}`, by the bytes after the `${`
 unfoldable pub braced_reference : List ℕ → Option Reference

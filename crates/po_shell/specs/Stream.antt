@@ -30,7 +30,8 @@ abbrev pub AreFeedCalls : Values → List ℕ → List FeedCall → Type 0
 AreFeedCalls values held [] = Unit {0}
 AreFeedCalls values held (c ∷ calls) =
     (c.before ≡ held)
-    × ((rest : List ℕ) → substitution values ((c.before ++ c.piece) ++ rest) ≡ c.written ++ substitution values (c.after ++ rest))
+    × ((rest : List ℕ)
+    → substitution values ((c.before ++ c.piece) ++ rest) ≡ c.written ++ substitution values (c.after ++ rest))
     × AreFeedCalls values c.after calls
 
 -- the pieces of the calls, joined
@@ -50,4 +51,5 @@ held_after held (c ∷ calls) = held_after c.after calls
 -- becomes
 abbrev pub FeedCallsAgree : Type 0
 FeedCallsAgree = (values : Values) (calls : List FeedCall) → AreFeedCalls values [] calls → (rest : List ℕ)
-    → written_in calls ++ substitution values (held_after [] calls ++ rest) ≡ substitution values (pieces_of calls ++ rest)
+    → written_in calls ++ substitution values (held_after [] calls ++ rest)
+    ≡ substitution values (pieces_of calls ++ rest)

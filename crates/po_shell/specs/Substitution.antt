@@ -1,5 +1,6 @@
 -- A text with its references replaced ("Invoking the envsubst program" of the GNU gettext manual).
-use Rattle.std.specs.Prelude.{ℕ, zero, suc, Bool, true, ◌==◌, if◌then◌else◌, List, [], ◌∷◌, ◌++◌, map, Option, Some, None}
+use Rattle.std.specs.Prelude.{ℕ, zero, suc, Bool, true, ◌==◌, if◌then◌else◌, List, [], ◌∷◌, ◌++◌, map, Option, Some}
+use Rattle.std.specs.Prelude.{None}
 use Rattle.std.specs.Borrow.{Bor}
 use Rattle.std.specs.List.{list_any}
 use Rattle.std.specs.Option.{option_map}
@@ -46,7 +47,8 @@ unfoldable pub substitution_after : Values → ℕ → List ℕ → List ℕ
 substitution_after values skip [] = []
 substitution_after values (suc skip) (b ∷ bs) = substitution_after values skip bs
 substitution_after values zero (b ∷ bs) =
-    substituted b (if b == 36 then replacement_of values (reference_after bs) else None) (λ skip. substitution_after values skip bs)
+    substituted b (if b == 36 then replacement_of values (reference_after bs) else None)
+    (λ skip. substitution_after values skip bs)
 
 -- the text with its references replaced
 abbrev pub substitution : Values → List ℕ → List ℕ
