@@ -39,8 +39,8 @@
 #define POKIT_H
 
 #define POKIT_VERSION_MAJOR 0
-#define POKIT_VERSION_MINOR 1
-#define POKIT_VERSION "0.1"
+#define POKIT_VERSION_MINOR 2
+#define POKIT_VERSION "0.2"
 
 #include <stddef.h>
 #include <stdint.h>
@@ -116,6 +116,22 @@ typedef struct pokit_query {
     uint8_t has_plural;  /* whether a plural and a count are */
 } pokit_query;
 
+/* Which text an answer is. */
+enum pokit_place {
+    POKIT_MSGID = 0,      /* the msgid of the query */
+    POKIT_PLURAL = 1,     /* its plural */
+    POKIT_TRANSLATION = 2 /* a form of the translation, which is in the file */
+};
+
+/* Where the text of an answer is, as pokit_catalog_look says it. */
+typedef struct pokit_located {
+    size_t offset;        /* where the text begins in the file; 0 where it is the msgid or the plural */
+    size_t len;           /* how many bytes it has there, and after them a NUL; 0 where it is the msgid or the plural */
+    uint32_t comparisons; /* how many keys were compared with the query's */
+    uint32_t steps;       /* how many nodes of the plural expression were evaluated */
+    uint32_t place;       /* which text it is, an enum pokit_place */
+} pokit_located;
+
 /* What is answered. */
 typedef struct pokit_answer {
     pokit_bytes text;     /* a NUL follows it where it is a translation */
@@ -138,13 +154,13 @@ typedef char pokit_bytes_has_16_bytes[sizeof(pokit_bytes) == 16 ? 1 : -1];
 typedef char pokit_node_has_10_bytes[sizeof(pokit_node) == 10 ? 1 : -1];
 typedef char pokit_catalog_has_40992_bytes[sizeof(pokit_catalog) == 40992 ? 1 : -1];
 typedef char pokit_query_has_64_bytes[sizeof(pokit_query) == 64 ? 1 : -1];
-typedef char pokit_answer_has_32_bytes[sizeof(pokit_answer) == 32 ? 1 : -1];
+typedef char pokit_located_has_32_bytes[sizeof(pokit_located) == 32 ? 1 : -1];
 
 /* The exports of libpokit.a, which are proved. No pointer is NULL, not even that of no bytes: call the functions after
  * them, which see to that. */
 uint32_t pokit_catalog_open(pokit_catalog *catalog, const uint8_t *bytes, size_t len, uint32_t *message);
 uint32_t pokit_catalog_len(const pokit_catalog *catalog);
-void pokit_catalog_look(const pokit_catalog *catalog, const pokit_query *query, pokit_answer *answer);
+void pokit_catalog_look(const pokit_catalog *catalog, const pokit_query *query, pokit_located *located);
 
 /* Candidate `index`, counted from 0, of a locale ("de_DE.UTF-8") and the value of LANGUAGE, of which no bytes are an
  * unset one: the names of locales whose catalogues are looked for, the first to be asked first. They are five for each
@@ -230,15 +246,33 @@ static inline pokit_answer pokit_untranslated(pokit_query query)
     return answer;
 }
 
+/* The text that a look-up has located: a part of the file, or a text of the query. */
+static inline pokit_bytes pokit_located_text(const pokit_catalog *catalog, const pokit_query *query,
+                                             const pokit_located *located)
+{
+    pokit_bytes text;
+    if (located->place != POKIT_TRANSLATION)
+        return located->place == POKIT_PLURAL ? query->plural : query->id;
+    text.ptr = catalog->bytes.ptr + located->offset;
+    text.len = located->len;
+    return text;
+}
+
 /* Answers a query. Pointers of the query may be NULL, and are then those of no bytes. A context or a msgid that holds a
  * byte 0 or 4 has no translation. A message without a translation is answered by the msgid, or by the plural for a
  * count that isn't 1; and so is every message where the catalogue isn't open. */
 POKIT_FUNCTION pokit_answer pokit_look(const pokit_catalog *catalog, pokit_query query)
 {
     pokit_query whole = pokit_whole(query);
-    pokit_answer answer = pokit_untranslated(whole);
-    if (catalog->node_count != 0)
-        pokit_catalog_look(catalog, &whole, &answer);
+    pokit_located located;
+    pokit_answer answer;
+    if (catalog->node_count == 0)
+        return pokit_untranslated(whole);
+    pokit_catalog_look(catalog, &whole, &located);
+    answer.text = pokit_located_text(catalog, &whole, &located);
+    answer.comparisons = located.comparisons;
+    answer.steps = located.steps;
+    answer.found = located.place == POKIT_TRANSLATION;
     return answer;
 }
 

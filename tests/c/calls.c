@@ -55,6 +55,35 @@ static void queries(void)
     check_text((const char *)pokit_look(&one, query).text.ptr, "Books", "another yes");
 }
 
+/* Where a text is: in the file, whose translations begin at byte 73, or in the query. */
+static void place(const pokit_catalog *catalog, pokit_query query, uint32_t wanted, size_t offset, size_t len,
+                  const uint8_t *text, const char *name)
+{
+    pokit_located located;
+    pokit_bytes found;
+    memset(&located, 0xff, sizeof located);
+    pokit_catalog_look(catalog, &query, &located);
+    check(located.place == wanted && located.offset == offset && located.len == len, name);
+    found = pokit_located_text(catalog, &query, &located);
+    check(found.ptr == text && found.len == (wanted == POKIT_TRANSLATION ? len : strlen((const char *)text)), name);
+    check(text[found.len] == 0, name);
+}
+
+static void places(void)
+{
+    static const struct message messages[] = {{TEXT("a"), TEXT("")}, {TEXT("book\0books"), TEXT("Book\0Books")}};
+    struct file file = file_of(messages, 2, 0);
+    pokit_query absent = pokit_query_of(NULL, "no", "", 2);
+    check(pokit_open(&closed, file.bytes, file.len, NULL) == POKIT_OK, "open places");
+    place(&closed, pokit_query_of(NULL, "a", NULL, 0), POKIT_TRANSLATION, 73, 0, file.bytes + 73, "an empty text");
+    place(&closed, pokit_query_of(NULL, "book", "books", 1), POKIT_TRANSLATION, 74, 4, file.bytes + 74, "the first form");
+    place(&closed, pokit_query_of(NULL, "book", "books", 2), POKIT_TRANSLATION, 79, 5, file.bytes + 79, "the second form");
+    place(&closed, absent, POKIT_PLURAL, 0, 0, absent.plural.ptr, "an empty plural");
+    absent.count = 1;
+    place(&closed, absent, POKIT_MSGID, 0, 0, absent.id.ptr, "a msgid");
+    check(pokit_open(&closed, "", 0, NULL) == POKIT_TOO_SHORT, "close places");
+}
+
 static void chains(void)
 {
     const pokit_catalog *all[] = {NULL, &two, &closed, &one};
@@ -101,6 +130,7 @@ int main(void)
     open_all();
     plain();
     queries();
+    places();
     chains();
     names();
     return counts();

@@ -37,7 +37,7 @@ key_of-before (suc n) (a ∷ xs) nul =
           key_of-cons a xs live ∙ ap (λ k. a ∷ k) (key_of-before n xs nul) ∙ sym (key_of-cons a (take n xs) live)
     ]
 
-some_nul : (x : ℕ) → ¬ (Some x ≢ Some 0) → x ≡ 0
+pub some_nul : (x : ℕ) → ¬ (Some x ≢ Some 0) → x ≡ 0
 some_nul x terminated =
     elim (cases_eq x 0) [ inl nul ↦ nul | inr other ↦ absurd (terminated (λ is. other (cc))) ]
 

@@ -1,6 +1,6 @@
 -- The messages of a file: how many they are, what stands at an index, and that their keys rise.
-use Rattle.std.proofs.Common.{◌≡◌, ◌≢◌, ℕ, ◌+◌, ◌<◌, List, [], length, map, Some, refl, ◌∙◌, ap, arith}
-use Rattle.std.specs.List.{slice_get}
+use Rattle.std.proofs.Common.{◌≡◌, ◌≢◌, ℕ, ◌+◌, ◌<◌, ◌≤◌, List, [], length, map, Option, None, Some, refl, ◌∙◌, ap, arith}
+use Rattle.std.specs.List.{slice_get, slice_range}
 use Rattle.std.specs.Option.{option_map}
 use Rattle.std.specs.declared.cmp.Ordering.{Ordering}
 use Rattle.std.specs.declared.cmp.Ordering.TheVariants.{Less, Equal, Greater}
@@ -13,6 +13,8 @@ use Rattle.mo_file.specs.Key.{key_of, keys, key_at, AreRising}
 use Rattle.mo_file.specs.FileHeader.{message_count}
 use Rattle.mo_file.specs.StringTable.{message_at, messages_of, original_at}
 use Rattle.mo_file.specs.Checking.{AreRisingBelow}
+use Rattle.mo_file.specs.FileView.{IsStringAt}
+use Rattle.mo_file.proofs.KeyComparison.{some_nul}
 
 not_unequal : (order : Ordering) → ¬ (order ≢ Less) → order ≡ Less
 not_unequal Less less = refl
@@ -52,3 +54,12 @@ module _ (order : Order) (bytes : List ℕ) where
         let inside : i + 1 < message_count order bytes = omega (arith, length-keys-messages_of) in
         rw (keys-at i (omega arith), keys-at (i + 1) inside) (not_unequal _ (sorted i inside));
   }
+
+some_zero : (found : Option ℕ) → ¬ (found ≢ Some 0) → found ≡ Some 0
+some_zero None terminated = absurd (terminated (λ is. cc))
+some_zero (Some x) terminated = ap Some (some_nul x terminated)
+
+-- a string inside the file that a NUL follows
+pub string_at_end : (bytes : List ℕ) (start end : ℕ) → start ≤ end → ¬ (slice_get bytes end ≢ Some 0) →
+    IsStringAt bytes start end (slice_range bytes start end)
+string_at_end bytes start end ordered terminated = record { order = ordered; text = refl; terminated = some_zero _ terminated }

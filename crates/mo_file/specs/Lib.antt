@@ -6,6 +6,7 @@ pub mod FileHeader
 pub mod StringTable
 pub mod Fault
 pub mod MoFile
+pub mod FileView
 pub mod Checking
 pub mod Layout
 pub mod Pairs

@@ -1,6 +1,7 @@
 ghost use Rattle.std.specs.Prelude.{◌≡◌, ◌+◌, ◌*◌, ◌<◌, ◌≤◌, length};
 ghost use Rattle.mo_file.specs.Key.{key_of};
 ghost use Rattle.mo_file.specs.StringTable.{end_at, offset_at, original_at, string_at, translation_at};
+ghost use Rattle.mo_file.specs.FileView.{IsStringAt};
 ghost use Rattle.mo_file.specs.Checking.{HasStrings, IsHeader};
 
 use crate::byte_order::{FileOrder, Order, word};
@@ -44,14 +45,18 @@ pub(crate) fn original_at(header: FileHeader, bytes: &[u8], i: u32) -> &[u8]
     string_at(header.order, bytes, header.originals, i)
 }
 
-/// The translation of message `i`.
-pub(crate) fn translation_at(header: FileHeader, bytes: &[u8], i: u32) -> &[u8]
+/// Where the translation of message `i` stands, in bytes from the start of the file.
+#[tactic(auto, using(crate::proofs::ViewLemmas::string_at_end), unfolding(crate::specs::StringTable::string_at))]
+pub(crate) fn translation_range(header: FileHeader, bytes: &[u8], i: u32) -> Range<usize>
     requires read { IsHeader header bytes.now }
     requires strings { HasStrings header.order bytes.now }
     requires counted { i < header.count }
-    ensures { result.now ≡ translation_at header.order bytes.now i }
+    ensures { IsStringAt bytes.now result.start result.end (translation_at header.order bytes.now i) }
 {
-    string_at(header.order, bytes, header.translations, i)
+    match header.order {
+        Order::Little => range_at::<LittleEndian>(bytes, header.translations, i),
+        Order::Big => range_at::<BigEndian>(bytes, header.translations, i),
+    }
 }
 
 /// The rest of the file from the original of message `i` on, in a byte order that is known here. It

@@ -1,8 +1,9 @@
-ghost use Rattle.std.specs.Prelude.{◌≡◌, ◌+◌, ◌-◌, ◌^◌, ◌<◌, ◌≤◌, ℕ, List, Some, length, IsOk, MatchResult, slice_get};
+ghost use Rattle.std.specs.Prelude.{◌≡◌, ◌+◌, ◌-◌, ◌^◌, ◌<◌, ◌≤◌, ℕ, List, Some, length, IfOk, IsOk, MatchResult, slice_get};
 ghost use Rattle.std.specs.Option.{option_copied};
 ghost use Rattle.mo_file.specs.declared.byte_order.Order.{Order};
 ghost use Rattle.mo_file.specs.FileHeader.{HasMagicOf};
 ghost use Rattle.mo_file.specs.MoFile.{IsMoFile};
+ghost use Rattle.mo_file.specs.FileView.{IsTranslationAt};
 ghost use Rattle.mo_file.specs.Fault.{IsFirstFault, comparisons_before};
 ghost use Rattle.mo_file.specs.Key.{AreRising, key_at, key_cmp, keys, query_key};
 ghost use Rattle.mo_file.specs.Message.{Message, originals, translations};
@@ -13,10 +14,11 @@ use crate::counting::Meter;
 use crate::fault::MoError;
 use crate::file_header::{FileHeader, order_of};
 use crate::key::compare_key;
-use crate::strings::{original_at, rest_at, translation_at};
+use crate::strings::{original_at, rest_at, translation_range};
 use byteorder::{BigEndian, LittleEndian};
 use std::cmp::Ordering;
 use std::marker::Model;
+use std::ops::Range;
 
 /// The messages of an MO file, read in place from its bytes ("The Format of GNU MO Files"). They
 /// stand in rising order of their keys.
@@ -27,14 +29,13 @@ pub struct MoView<'a> {
 }
 
 impl<'a> Model for MoView<'a> {
-    ghost use Rattle.std.specs.Prelude.{List};
-    ghost use Rattle.mo_file.specs.Message.{Message};
+    ghost use Rattle.mo_file.specs.FileView.{FileView};
     ghost use Rattle.mo_file.specs.StringTable.{messages_of};
     ghost use Rattle.mo_file.specs.Checking.{IsChecked};
 
-    ghost Value = { List Message };
+    ghost Value = { FileView };
 
-    ghost view = { λ v. messages_of v.header.order v.bytes.now };
+    ghost view = { λ v. record { bytes = v.bytes.now; messages = messages_of v.header.order v.bytes.now } };
 
     ghost invariant = { λ v. IsChecked v.header v.bytes.now };
 }
@@ -48,14 +49,15 @@ impl<'a> MoView<'a> {
     pub fn open(bytes: &'a [u8], meter: &mut Meter) -> Result<MoView<'a>, MoError>
         requires { meter.old < 2 ^ 63 }
         ensures exact { MatchResult result
-            (λ messages. (order : Order) × IsMoFile order bytes.now messages)
+            (λ view. (order : Order) × IsMoFile order bytes.now view.messages)
             (IsFirstFault bytes.now) }
+        ensures bytes { IfOk result (λ view. view.bytes ≡ bytes.now) }
 
         // So a file that is refused is valid in no order and with no list of messages.
         ensures only { (order : Order) (messages : List Message)
             → IsMoFile order bytes.now messages → IsOk result }
         ensures cost { MatchResult result
-            (λ messages. meter.new ≡ meter.old + (length messages - 1))
+            (λ view. meter.new ≡ meter.old + (length view.messages - 1))
             (λ e. meter.new ≡ meter.old + comparisons_before e) }
     {
         match order_of(bytes)? {
@@ -70,10 +72,11 @@ impl<'a> MoView<'a> {
         requires shows { HasMagicOf T.order bytes.now }
         requires room { meter.old < 2 ^ 63 }
         ensures exact { MatchResult result
-            (λ messages. (order : Order) × IsMoFile order bytes.now messages)
+            (λ view. (order : Order) × IsMoFile order bytes.now view.messages)
             (IsFirstFault bytes.now) }
+        ensures bytes { IfOk result (λ view. view.bytes ≡ bytes.now) }
         ensures cost { MatchResult result
-            (λ messages. meter.new ≡ meter.old + (length messages - 1))
+            (λ view. meter.new ≡ meter.old + (length view.messages - 1))
             (λ e. meter.new ≡ meter.old + comparisons_before e) }
     {
         let header = FileHeader::read::<T>(bytes)?;
@@ -86,8 +89,9 @@ impl<'a> MoView<'a> {
     /// reads the file header and checks nothing.
     pub fn reopen(bytes: &'a [u8]) -> MoView<'a>
         requires { (order : Order) × (messages : List Message) × IsMoFile order bytes.now messages }
-        ensures { (order : Order) (messages : List Message)
-            → IsMoFile order bytes.now messages → result ≡ messages }
+        ensures messages { (order : Order) (messages : List Message)
+            → IsMoFile order bytes.now messages → result.messages ≡ messages }
+        ensures bytes { result.bytes ≡ bytes.now }
     {
         MoView {
             bytes,
@@ -97,8 +101,8 @@ impl<'a> MoView<'a> {
 
     /// How many messages the file has.
     pub fn len(&self) -> u32
-        ensures count { result ≡ length self.now }
-        ensures rising { AreRising (keys self.now) }
+        ensures count { result ≡ length self.now.messages }
+        ensures rising { AreRising (keys self.now.messages) }
     {
         self.header.count
     }
@@ -107,10 +111,10 @@ impl<'a> MoView<'a> {
     /// The meter counts one.
     #[inline(always)]
     pub fn compare(&self, i: u32, context: Option<&[u8]>, id: &[u8], meter: &mut Meter) -> Ordering
-        requires inside { i < length self.now }
+        requires inside { i < length self.now.messages }
         requires room { meter.old < 2 ^ 64 - 1 }
         ensures order { result
-            ≡ key_cmp (key_at (keys self.now) i) (query_key (option_copied context.entry) id.now) }
+            ≡ key_cmp (key_at (keys self.now.messages) i) (query_key (option_copied context.entry) id.now) }
         ensures cost { meter.new ≡ meter.old + 1 }
     {
         meter.add_one();
@@ -120,9 +124,9 @@ impl<'a> MoView<'a> {
     /// The original of message `i`: its key, and where there is a plural a NUL and the plural. The
     /// meter counts one.
     pub fn original(&self, i: u32, meter: &mut Meter) -> &'a [u8]
-        requires inside { i < length self.now }
+        requires inside { i < length self.now.messages }
         requires room { meter.old < 2 ^ 64 - 1 }
-        ensures value { slice_get (originals self.now) i ≡ Some result.now }
+        ensures value { slice_get (originals self.now.messages) i ≡ Some result.now }
         ensures cost { meter.new ≡ meter.old + 1 }
     {
         meter.add_one();
@@ -131,9 +135,25 @@ impl<'a> MoView<'a> {
 
     /// The translation of message `i`: its forms with a NUL between them.
     pub fn translation(&self, i: u32) -> &'a [u8]
-        requires { i < length self.now }
-        ensures { slice_get (translations self.now) i ≡ Some result.now }
+        requires { i < length self.now.messages }
+        ensures { slice_get (translations self.now.messages) i ≡ Some result.now }
     {
-        translation_at(self.header, self.bytes, i)
+        &self.bytes[translation_range(self.header, self.bytes, i)]
+    }
+
+    /// Where the translation of message `i` stands, in bytes from the start of the file. A NUL
+    /// follows it.
+    pub fn translation_range(&self, i: u32) -> Range<usize>
+        requires { i < length self.now.messages }
+        ensures { IsTranslationAt self.now i result.start result.end }
+    {
+        translation_range(self.header, self.bytes, i)
+    }
+
+    /// The bytes of the file.
+    pub fn bytes(&self) -> &'a [u8]
+        ensures { result.now ≡ self.now.bytes }
+    {
+        self.bytes
     }
 }

@@ -1,7 +1,8 @@
--- The forms of a translation, by its first NUL.
-use Rattle.std.proofs.Common.{◌≡◌, ℕ, ◌+◌, ◌-◌, Bool, true, false, List, [], ◌∷◌, Some, length, take, drop, slice_get, refl, sym, ◌∙◌, ap, arith, length-drop}
-use Rattle.std.proofs.lemmas.List.{take_all}
-use Rattle.std.specs.List.{position_or_len}
+-- The forms of a translation, by its NULs.
+use Rattle.std.proofs.Common.{◌≡◌, ℕ, ◌+◌, ◌-◌, ◌<◌, ◌≤◌, ◌==◌, Bool, true, false, List, [], ◌∷◌, Some, length, take, drop, slice_get, refl, sym, ◌∙◌, ap, inl, inr, arith, length-drop}
+use Rattle.std.proofs.lemmas.List.{drop-drop, get_or-drop, take_rest}
+use Rattle.std.proofs.lemmas.Bool.{cases_eq, ne_eqb}
+use Rattle.std.specs.List.{position_or_len, slice_range}
 use Rattle.std.proofs.lemmas.List.Sums.{position_or_len_is}
 use Rattle.std.proofs.lemmas.List.Splits.{slice_split_first, slice_split_none, length-slice_split}
 use Rattle.std.proofs.lemmas.List.Elements.{All-from_get_or}
@@ -10,6 +11,7 @@ use Rattle.memchr.specs.Find.{NoneBefore, Nowhere, Passes, is_byte}
 use Rattle.mo_file.specs.Key.{is_nul}
 use Rattle.mo_lookup.specs.Answer.{form_at}
 use Rattle.mo_lookup.specs.CatalogView.{forms}
+use Rattle.mo_lookup.specs.Place.{IsFormAt}
 
 pub not_true : (b : Bool) → (b ≡ true → ⊥) → b ≡ false
 not_true true fails = absurd (fails refl)
@@ -30,14 +32,65 @@ pub forms-one : (text : List ℕ) → Nowhere (Passes (is_byte 0) text) 0 (lengt
 forms-one text none =
     slice_split_none is_nul text (All-from_get_or (λ byte. is_nul byte ≡ false) text 0 (λ i inside. not_true _ (none i (omega arith) inside)))
 
--- the first form of a translation with a NUL stands before it, the others after it
-pub forms-cut : (text : List ℕ) (end : ℕ) → NoneBefore (Passes (is_byte 0) text) 0 (length text) end → Passes (is_byte 0) text end →
-    forms text ≡ form_at (forms text) 0 ∷ forms (take (length text - (end + 1)) (drop (end + 1) text))
-forms-cut text end none here =
-    let cut : forms text ≡ take end text ∷ forms (drop (end + 1) text) = forms-first text end none here in
-    let after : take (length text - (end + 1)) (drop (end + 1) text) ≡ drop (end + 1) text =
-    take_all (length text - (end + 1)) (drop (end + 1) text) (omega (arith, length-drop (end + 1) text)) in
-    rw after (cut ∙ ap (λ f. f ∷ forms (drop (end + 1) text)) (sym (ap (λ fs. form_at fs 0) cut)))
+-- the byte at a place that passes as NUL
+nul_there : (x : ℕ) → (x == 0) ≡ true → x ≡ 0
+nul_there x passes = elim (cases_eq x 0) [ inl nul ↦ nul | inr other ↦ absurd (cc (passes, ne_eqb x 0 other)) ]
+
+module _ (text : List ℕ) (start : ℕ) (inside : start ≤ length text) where
+  abbrev pub rest : List ℕ
+  rest = slice_range text start (length text)
+
+  rest_is : rest ≡ drop start text
+  rest_is = take_rest text start
+
+  -- the first of the forms from a byte on ends at the first NUL after it
+  pub first-at : (len : ℕ) → NoneBefore (Passes (is_byte 0) rest) 0 (length rest) len → Passes (is_byte 0) rest len →
+      IsFormAt text start (start + len) (form_at (forms (drop start text)) 0)
+  first-at len none here =
+      let none' = rw rest_is at none in
+      let here' = rw rest_is at here in
+      let short : len < length text - start = omega (arith, none'.high, length-drop start text) in
+      let same : len ≡ start + len - start = omega arith in
+      record {
+        order = omega arith;
+        inside = omega arith;
+        text = ap (λ fs. form_at fs 0) (forms-first (drop start text) len none' here') ∙ ap (λ n. take n (drop start text)) same;
+        ends = inr
+            (
+            slice_get-get_or text (start + len) 0 (omega arith)
+            ∙ ap Some (sym (get_or-drop start text len 0) ∙ nul_there _ here')
+            );
+      }
+
+  -- or with the translation
+  pub first-last : Nowhere (Passes (is_byte 0) rest) 0 (length rest) →
+      IsFormAt text start (length text) (form_at (forms (drop start text)) 0)
+  first-last none =
+      let none' = rw rest_is at none in
+      record {
+        order = inside;
+        inside = omega arith;
+        text = ap (λ fs. form_at fs 0) (forms-one (drop start text) none') ∙ sym rest_is;
+        ends = inl refl;
+      }
+
+  -- the second one begins after that NUL
+  pub second-at : (len : ℕ) → NoneBefore (Passes (is_byte 0) rest) 0 (length rest) len → Passes (is_byte 0) rest len →
+      (start + len + 1 ≤ length text) × (forms (drop start text) ≡ form_at (forms (drop start text)) 0 ∷ forms (drop (start + len + 1) text))
+  second-at len none here =
+      let none' = rw rest_is at none in
+      let here' = rw rest_is at here in
+      let cut : forms (drop start text) ≡ take len (drop start text) ∷ forms (drop (len + 1) (drop start text)) =
+      forms-first (drop start text) len none' here' in
+      let there : drop (len + 1) (drop start text) ≡ drop (start + len + 1) text =
+      drop-drop (len + 1) start text ∙ ap (λ n. drop n text) {x = start + (len + 1)} {y = start + len + 1} (omega arith) in (
+        omega (arith, none'.high, length-drop start text),
+        rw there at (cut ∙ ap (λ f. f ∷ forms (drop (len + 1) (drop start text))) (sym (ap (λ fs. form_at fs 0) cut))),
+      )
+
+  -- if there is one
+  pub second-none : Nowhere (Passes (is_byte 0) rest) 0 (length rest) → forms (drop start text) ≡ drop start text ∷ []
+  second-none none = forms-one (drop start text) (rw rest_is at none)
 
 -- there is always a first form
 pub form-zero : (text : List ℕ) (index : ℕ) → index ≡ 0 → slice_get (forms text) index ≡ Some (form_at (forms text) 0)

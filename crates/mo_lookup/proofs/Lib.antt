@@ -3,6 +3,7 @@ pub mod ComparisonLemmas
 pub mod RisingLemmas
 pub mod SearchLemmas
 pub mod FormLemmas
+pub mod PlaceLemmas
 pub mod QueryLemmas
 pub mod TranslationLemmas
 pub mod ChainLemmas

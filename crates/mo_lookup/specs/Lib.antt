@@ -3,6 +3,7 @@ pub mod Index
 pub mod Query
 pub mod Comparisons
 pub mod Answer
+pub mod Place
 pub mod CatalogView
 pub mod Chain
 pub mod Laws

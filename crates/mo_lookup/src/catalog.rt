@@ -40,9 +40,9 @@ impl<'a> Model for Catalog<'a> {
 
     ghost coded = { Prim.hlevel (codes, rule_row.coded) };
 
-    ghost view = { λ c. record { messages = c.view; rule = c.rule } };
+    ghost view = { λ c. record { messages = c.view.messages; rule = c.rule } };
 
-    ghost invariant = { λ c. IsCatalogView c.view c.rule };
+    ghost invariant = { λ c. IsCatalogView c.view.messages c.rule };
 }
 
 impl<'a> Catalog<'a> {
@@ -151,6 +151,8 @@ impl<'a> Catalog<'a> {
         ensures steps { result.1 ≡ (translated (forms translation.now) self.now.rule (given plural.entry)).steps }
         ensures nodes { result.1 ≤ nodes self.now.rule.tree }
     {
-        answered_form(self.rule.nplurals(), self.rule.table(), translation, plural)
+        let (nplurals, table) = (self.rule.nplurals(), self.rule.table());
+        let (form, steps) = answered_form(nplurals, table, translation, plural);
+        (&translation[form], steps)
     }
 }

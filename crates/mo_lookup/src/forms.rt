@@ -1,58 +1,67 @@
 //! The forms of a translation ("Plural forms"): the parts between its NULs.
 
-ghost use Rattle.std.specs.Prelude.{◌≡◌, ◌≤◌, [], ◌∷◌, length, slice_get, MatchOption};
-ghost use Rattle.std.specs.Option.{option_copied};
+ghost use Rattle.std.specs.Prelude.{◌≡◌, ◌≤◌, ℕ, [], ◌∷◌, List, None, Some, drop, length, slice_get, MatchOption};
 ghost use Rattle.plural_rule.specs.Expression.{nodes, value, visited};
 ghost use Rattle.plural_rule.specs.PluralRule.{expression_limit};
 ghost use Rattle.plural_rule.specs.PostOrder.{post_order, tree_of};
 ghost use Rattle.mo_lookup.specs.Answer.{form_at, selected_form};
 ghost use Rattle.mo_lookup.specs.CatalogView.{forms};
+ghost use Rattle.mo_lookup.specs.Place.{IsFormAt};
 
 use mo_file::find_byte;
 use plural_rule::{Node, evaluate};
+use std::ops::Range;
 
-/// Form 0 of a translation, which each translation has.
-pub(crate) fn before_nul(translation: &[u8]) -> &[u8]
-    ensures { result.now ≡ form_at (forms translation.now) 0 }
+/// Where the first of the forms from byte `start` of a translation on stands in the translation.
+pub(crate) fn first_form(translation: &[u8], start: usize) -> Range<usize>
+    requires { start ≤ length translation.now }
+    ensures { IsFormAt translation.now result.start result.end (form_at (forms (drop start translation.now)) 0) }
 {
-    match find_byte(0, translation) {
-        Some(end) => &translation[..end],
-        None => translation,
+    match find_byte(0, &translation[start..]) {
+        Some(len) => start..start + len,
+        None => start..translation.len(),
     }
 }
 
-/// The forms of a translation after its first, or None where it has one form alone.
-fn other_forms(translation: &[u8]) -> Option<&[u8]>
-    ensures { MatchOption result (forms translation.now ≡ translation.now ∷ [])
-        (λ others. forms translation.now ≡ form_at (forms translation.now) 0 ∷ forms others.now) }
+/// Where the second of the forms from byte `start` of a translation on begins, or None where there
+/// is one form alone.
+fn second_start(translation: &[u8], start: usize) -> Option<usize>
+    requires { start ≤ length translation.now }
+    ensures { MatchOption result (forms (drop start translation.now) ≡ drop start translation.now ∷ [])
+        (λ second. (second ≤ length translation.now) × (forms (drop start translation.now)
+        ≡ form_at (forms (drop start translation.now)) 0 ∷ forms (drop second translation.now))) }
 {
-    let end = find_byte(0, translation)?;
-    Some(&translation[end + 1..])
+    let len = find_byte(0, &translation[start..])?;
+    Some(start + len + 1)
 }
 
-/// The form of a translation with this index, counted from 0, or None where it has fewer forms.
-fn form(translation: &[u8], index: u64) -> Option<&[u8]>
-    ensures { option_copied result ≡ slice_get (forms translation.now) index }
+/// Where the form of a translation with this index, counted from 0, stands in the translation, or
+/// None where it has fewer forms.
+fn form(translation: &[u8], index: u64) -> Option<Range<usize>>
+    ensures { MatchOption result (slice_get (forms translation.now) index ≡ None)
+        (λ range. (text : List ℕ) × (slice_get (forms translation.now) index ≡ Some text)
+        × IsFormAt translation.now range.start range.end text) }
 {
-    let mut rest = translation;
+    let mut start = 0;
     for _ in 0..index {
-        rest = other_forms(rest)?;
+        start = second_start(translation, start)?;
     }
-    Some(before_nul(rest))
+    Some(first_form(translation, start))
 }
 
-/// The form that a rule with `nplurals` forms selects for a count, and how many nodes of its
-/// expression were evaluated. Form 0 is selected where the value is undefined, isn't below
-/// `nplurals`, or has no form in this translation.
-pub(crate) fn selected_form<'t>(
-    translation: &'t [u8],
+/// Where the form that a rule with `nplurals` forms selects for a count stands in a translation,
+/// and how many nodes of its expression were evaluated. Form 0 is selected where the value is
+/// undefined, isn't below `nplurals`, or has no form in this translation.
+pub(crate) fn selected_form(
+    translation: &[u8],
     nplurals: u64,
     table: &[Node],
     count: u64,
-) -> (&'t [u8], u32)
+) -> (Range<usize>, u32)
     requires post_order { table.now ≡ post_order 0 (tree_of table.now) }
     requires limit { length table.now ≤ expression_limit }
-    ensures text { result.0.now ≡ selected_form (forms translation.now) nplurals (value (tree_of table.now) count) }
+    ensures text { IsFormAt translation.now result.0.start result.0.end
+        (selected_form (forms translation.now) nplurals (value (tree_of table.now) count)) }
     ensures steps { result.1 ≡ visited (tree_of table.now) count }
     ensures nodes { result.1 ≤ nodes (tree_of table.now) }
 {
@@ -62,7 +71,7 @@ pub(crate) fn selected_form<'t>(
         _ => None,
     };
     match selected {
-        Some(text) => (text, steps),
-        None => (before_nul(translation), steps),
+        Some(range) => (range, steps),
+        None => (first_form(translation, 0), steps),
     }
 }

@@ -2,13 +2,14 @@
 //! count select.
 //!
 //! [`Catalog::open`] checks bytes of any origin once and reads the plural rule of their header
-//! entry; [`open_into`] does so in memory of the caller. [`Catalog::look`] then answers a query by at most floor(log2 N) + 1 comparisons among N
-//! keys, and evaluates each node of the plural expression at most once. A [`Chain`] asks one
-//! catalogue after the other. None of them allocates: texts are slices of the file or of the query.
-//! [`find`] is the binary search over any list of [`Keys`], which it only compares.
+//! entry; [`open_into`] does so in memory of the caller. [`Catalog::look`] then answers a query by
+//! at most floor(log2 N) + 1 comparisons among N keys, and evaluates each node of the plural
+//! expression at most once; [`locate`] answers where the text is. A [`Chain`] asks one catalogue
+//! after the other. None of them allocates: texts are slices of the file or of the query. [`find`]
+//! is the binary search over any list of [`Keys`], which it only compares.
 //!
-//! The modules in reading order: `query`, `search`, `messages`, `forms`, `answer`, `looking`,
-//! `opening`, `catalog`, `chain`, `laws`.
+//! The modules in reading order: `query`, `search`, `messages`, `forms`, `answer`, `place`,
+//! `looking`, `opening`, `catalog`, `chain`, `laws`.
 
 #![tactic(auto)]
 
@@ -20,6 +21,7 @@ mod laws;
 mod looking;
 mod messages;
 mod opening;
+mod place;
 mod query;
 mod search;
 
@@ -30,9 +32,10 @@ pub use laws::{
     bound_halves, bound_is_logarithm, each_key_finds_its_translation, other_keys_find_none,
     search_halves, search_is_bounded,
 };
-pub use looking::look;
+pub use looking::{locate, look};
 pub use messages::{Messages, ViewMessages};
 pub use opening::open_into;
+pub use place::{Located, Place};
 pub use plural_rule::laws::{longer_limit, one_rule, one_tree, visited_at_most_nodes};
 pub use plural_rule::{EXPRESSION_LIMIT, Node, ParsedRule, Reason, Rule, Source};
 pub use search::{Keys, find};

@@ -1,24 +1,28 @@
 //! Looking up a message, by the number of plural forms and the table of the plural rule.
 
-ghost use Rattle.std.specs.Prelude.{◌≡◌, ◌+◌, ◌^◌, ◌<◌, ◌≤◌, length, false};
+ghost use Rattle.std.specs.Prelude.{◌≡◌, ◌+◌, ◌^◌, ◌<◌, ◌≤◌, ℕ, List, None, Some, length, false, true, MatchOption};
 ghost use Rattle.std.specs.Option.{option_copied};
 ghost use Rattle.plural_rule.specs.declared.rule.Source.{Source};
 ghost use Rattle.plural_rule.specs.Expression.{nodes};
 ghost use Rattle.plural_rule.specs.PluralRule.{expression_limit};
 ghost use Rattle.plural_rule.specs.PostOrder.{post_order, tree_of};
+ghost use Rattle.mo_file.specs.FileView.{IsStringAt};
 ghost use Rattle.mo_file.specs.Key.{keys, query_key};
 ghost use Rattle.mo_lookup.specs.Bound.{search_bound};
 ghost use Rattle.mo_lookup.specs.Comparisons.{comparisons, query_comparisons};
 ghost use Rattle.mo_lookup.specs.Query.{query, given, can_be_key};
 ghost use Rattle.mo_lookup.specs.CatalogView.{forms, answered, translation_under};
 ghost use Rattle.mo_lookup.specs.Answer.{answer_view, translated};
+ghost use Rattle.mo_lookup.specs.Place.{IsFormAt, IsPlace, is_translation, located_view, text_at};
 
 use crate::answer::Answer;
-use crate::forms::{before_nul, selected_form};
+use crate::forms::{first_form, selected_form};
 use crate::messages::Messages;
-use crate::query::{can_be_key, untranslated_text};
+use crate::place::{Located, Place};
+use crate::query::{can_be_key, untranslated_place};
 use crate::search::find;
 use plural_rule::Node;
+use std::ops::Range;
 
 /// Looks up a message as [`Catalog::look`](crate::Catalog::look) does, with a rule of `nplurals`
 /// forms whose expression stands in `table`, as `Rule::table` gives it: at most 4,096 nodes.
@@ -32,41 +36,107 @@ pub fn look<'a, 'q, M: Messages<'a>>(
 ) -> Answer<'q>
 where
     'a: 'q,
-    requires keys { M.listed messages.old ≡ keys (M.messages messages.old) }
+    requires keys { M.listed messages.old ≡ keys (M.file messages.old).messages }
     requires room { M.counted messages.old < 2 ^ 63 }
     requires post_order { table.now ≡ post_order 0 (tree_of table.now) }
     requires limit { length table.now ≤ expression_limit }
     ensures answered { (source : Source) → answer_view result
         ≡ answered (record {
-          messages = M.messages messages.old;
+          messages = (M.file messages.old).messages;
           rule = record { source = source; nplurals = nplurals; tree = tree_of table.now };
         })
         (query context.entry id.now plural.entry) }
     ensures counted { M.counted messages.new ≡ M.counted messages.old + result.comparisons }
     ensures comparisons { result.comparisons
-        ≡ query_comparisons (M.messages messages.old) (query context.entry id.now plural.entry) }
-    ensures bound { result.comparisons ≤ search_bound (length (M.messages messages.old)) }
+        ≡ query_comparisons (M.file messages.old).messages (query context.entry id.now plural.entry) }
+    ensures bound { result.comparisons ≤ search_bound (length (M.file messages.old).messages) }
     ensures no_key { can_be_key (option_copied context.entry) id.now ≡ false → result.comparisons ≡ 0 }
     ensures nodes { result.steps ≤ nodes (tree_of table.now) }
     ensures same_counter { M.counter messages.new ≡ M.counter messages.old }
 {
+    let bytes = messages.bytes();
+    let located = locate(messages, nplurals, table, context, id, plural);
+    Answer {
+        text: text_at(bytes, id, plural, located.place),
+        found: is_translation(located.place),
+        comparisons: located.comparisons,
+        steps: located.steps,
+    }
+}
+
+/// Looks up a message as [`look`] does, and answers where the text is.
+pub fn locate<'a, M: Messages<'a>>(
+    messages: &mut M,
+    nplurals: u64,
+    table: &[Node],
+    context: Option<&[u8]>,
+    id: &[u8],
+    plural: Option<(&[u8], u64)>,
+) -> Located
+    requires keys { M.listed messages.old ≡ keys (M.file messages.old).messages }
+    requires room { M.counted messages.old < 2 ^ 63 }
+    requires post_order { table.now ≡ post_order 0 (tree_of table.now) }
+    requires limit { length table.now ≤ expression_limit }
+    ensures answered { (source : Source)
+        → located_view (M.file messages.old).bytes (query context.entry id.now plural.entry) result
+        ≡ answered (record {
+          messages = (M.file messages.old).messages;
+          rule = record { source = source; nplurals = nplurals; tree = tree_of table.now };
+        })
+        (query context.entry id.now plural.entry) }
+    ensures place { IsPlace (M.file messages.old).bytes (given plural.entry) result.place }
+    ensures counted { M.counted messages.new ≡ M.counted messages.old + result.comparisons }
+    ensures comparisons { result.comparisons
+        ≡ query_comparisons (M.file messages.old).messages (query context.entry id.now plural.entry) }
+    ensures bound { result.comparisons ≤ search_bound (length (M.file messages.old).messages) }
+    ensures no_key { can_be_key (option_copied context.entry) id.now ≡ false → result.comparisons ≡ 0 }
+    ensures nodes { result.steps ≤ nodes (tree_of table.now) }
+    ensures same_counter { M.counter messages.new ≡ M.counter messages.old }
+{
+    let bytes = messages.bytes();
     let before = messages.count();
     let translation = if can_be_key(context, id) {
-        translation(messages, context, id)
+        translation_range(messages, context, id)
     } else {
         None
     };
     let comparisons = (messages.count() - before) as u32;
-    let (text, steps) = match translation {
-        Some(translation) => answered_form(nplurals, table, translation, plural),
-        None => (untranslated_text(id, plural), 0),
+    let (place, steps) = match translation {
+        Some(range) => translated_place(nplurals, table, bytes, range, plural),
+        None => (untranslated_place(plural), 0),
     };
-    Answer {
-        text,
-        found: translation.is_some(),
+    Located {
+        place,
         comparisons,
         steps,
     }
+}
+
+/// The text at a place.
+fn text_at<'q>(
+    bytes: &'q [u8],
+    id: &'q [u8],
+    plural: Option<(&'q [u8], u64)>,
+    place: Place,
+) -> &'q [u8]
+    requires { IsPlace bytes.now (given plural) place }
+    ensures { result.now ≡ text_at bytes.now id.now (given plural.entry) place }
+{
+    match place {
+        Place::Translation { start, end } => &bytes[start..end],
+        Place::Id => id,
+        Place::Plural => match plural {
+            Some((plural, _)) => plural,
+            None => id,
+        },
+    }
+}
+
+/// Whether a place is in the file.
+fn is_translation(place: Place) -> bool
+    ensures { result ≡ is_translation place }
+{
+    matches!(place, Place::Translation { .. })
 }
 
 /// The translation under the key of a context and a msgid, or None where no message has that key.
@@ -75,38 +145,105 @@ pub(crate) fn translation<'a, M: Messages<'a>>(
     context: Option<&[u8]>,
     id: &[u8],
 ) -> Option<&'a [u8]>
-    requires keys { M.listed messages.old ≡ keys (M.messages messages.old) }
+    requires keys { M.listed messages.old ≡ keys (M.file messages.old).messages }
     requires room { M.counted messages.old < 2 ^ 63 }
     ensures found { option_copied result
-        ≡ translation_under (query_key (option_copied context.entry) id.now) (M.messages messages.old) }
+        ≡ translation_under (query_key (option_copied context.entry) id.now) (M.file messages.old).messages }
     ensures comparisons { M.counted messages.new
         ≡ M.counted messages.old
-        + comparisons (keys (M.messages messages.old)) (query_key (option_copied context.entry) id.now) }
+        + comparisons (keys (M.file messages.old).messages) (query_key (option_copied context.entry) id.now) }
     ensures never_falls { M.counted messages.old ≤ M.counted messages.new }
-    ensures bound { M.counted messages.new ≤ M.counted messages.old + search_bound (length (M.messages messages.old)) }
+    ensures bound { M.counted messages.new
+        ≤ M.counted messages.old + search_bound (length (M.file messages.old).messages) }
+    ensures at_most_32 { M.counted messages.new ≤ M.counted messages.old + 32 }
+    ensures same_counter { M.counter messages.new ≡ M.counter messages.old }
+{
+    let bytes = messages.bytes();
+    let range = translation_range(messages, context, id)?;
+    Some(&bytes[range.start..range.end])
+}
+
+/// Where the translation under the key of a context and a msgid stands in the file, or None where
+/// no message has that key.
+fn translation_range<'a, M: Messages<'a>>(
+    messages: &mut M,
+    context: Option<&[u8]>,
+    id: &[u8],
+) -> Option<Range<usize>>
+    requires keys { M.listed messages.old ≡ keys (M.file messages.old).messages }
+    requires room { M.counted messages.old < 2 ^ 63 }
+    ensures found { let key = query_key (option_copied context.entry) id.now in
+        MatchOption result (translation_under key (M.file messages.old).messages ≡ None)
+        (λ range. (translation : List ℕ)
+        × (translation_under key (M.file messages.old).messages ≡ Some translation)
+        × IsStringAt (M.file messages.old).bytes range.start range.end translation) }
+    ensures comparisons { M.counted messages.new
+        ≡ M.counted messages.old
+        + comparisons (keys (M.file messages.old).messages) (query_key (option_copied context.entry) id.now) }
+    ensures never_falls { M.counted messages.old ≤ M.counted messages.new }
+    ensures bound { M.counted messages.new
+        ≤ M.counted messages.old + search_bound (length (M.file messages.old).messages) }
     ensures at_most_32 { M.counted messages.new ≤ M.counted messages.old + 32 }
     ensures same_counter { M.counter messages.new ≡ M.counter messages.old }
 {
     // Called for its clause that the keys rise.
     let _rising = messages.len();
     let index = find(messages, context, id)?;
-    Some(messages.translation(index))
+    Some(messages.translation_range(index))
 }
 
-/// The form of a translation that is the answer: form 0 where no plural is given, else the one that
-/// the rule selects. And how many nodes were evaluated for it.
-pub(crate) fn answered_form<'a>(
+/// The place of the form that is the answer, for a translation that stands at `range` in the file.
+/// And how many nodes were evaluated for it.
+fn translated_place(
     nplurals: u64,
     table: &[Node],
-    translation: &'a [u8],
+    bytes: &[u8],
+    range: Range<usize>,
     plural: Option<(&[u8], u64)>,
-) -> (&'a [u8], u32)
+) -> (Place, u32)
     requires post_order { table.now ≡ post_order 0 (tree_of table.now) }
     requires limit { length table.now ≤ expression_limit }
-    ensures text { (source : Source) → result.0.now
-        ≡ (translated (forms translation.now)
+    requires there { (translation : List ℕ) × IsStringAt bytes.now range.start range.end translation }
+    ensures translation { is_translation result.0 ≡ true }
+    ensures place { IsPlace bytes.now (given plural.entry) result.0 }
+    ensures text { (source : Source) (translation id : List ℕ)
+        → IsStringAt bytes.now range.start range.end translation
+        → text_at bytes.now id (given plural.entry) result.0
+        ≡ (translated (forms translation)
         (record { source = source; nplurals = nplurals; tree = tree_of table.now })
         (given plural.entry)).text }
+    ensures steps { (source : Source) (translation : List ℕ)
+        → IsStringAt bytes.now range.start range.end translation
+        → result.1
+        ≡ (translated (forms translation)
+        (record { source = source; nplurals = nplurals; tree = tree_of table.now })
+        (given plural.entry)).steps }
+    ensures nodes { result.1 ≤ nodes (tree_of table.now) }
+{
+    let translation = &bytes[range.start..range.end];
+    let (form, steps) = answered_form(nplurals, table, translation, plural);
+    let place = Place::Translation {
+        start: range.start + form.start,
+        end: range.start + form.end,
+    };
+    (place, steps)
+}
+
+/// Where the form that is the answer stands in a translation: form 0 where no plural is given, else
+/// the one that the rule selects. And how many nodes were evaluated for it.
+pub(crate) fn answered_form(
+    nplurals: u64,
+    table: &[Node],
+    translation: &[u8],
+    plural: Option<(&[u8], u64)>,
+) -> (Range<usize>, u32)
+    requires post_order { table.now ≡ post_order 0 (tree_of table.now) }
+    requires limit { length table.now ≤ expression_limit }
+    ensures text { (source : Source) → IsFormAt translation.now result.0.start result.0.end
+        (translated (forms translation.now)
+        (record { source = source; nplurals = nplurals; tree = tree_of table.now })
+        (given plural.entry)).text }
+    ensures inside { (result.0.start ≤ result.0.end) × (result.0.end ≤ length translation.now) }
     ensures steps { (source : Source) → result.1
         ≡ (translated (forms translation.now)
         (record { source = source; nplurals = nplurals; tree = tree_of table.now })
@@ -115,6 +252,6 @@ pub(crate) fn answered_form<'a>(
 {
     match plural {
         Some((_, count)) => selected_form(translation, nplurals, table, count),
-        None => (before_nul(translation), 0),
+        None => (first_form(translation, 0), 0),
     }
 }

@@ -1,19 +1,25 @@
 //! Messages as a look-up sees them.
 
-ghost use Rattle.std.specs.Prelude.{◌≡◌, ◌<◌, Some, length, slice_get};
+ghost use Rattle.std.specs.Prelude.{◌≡◌, ◌<◌, length};
+ghost use Rattle.mo_file.specs.FileView.{IsTranslationAt};
 ghost use Rattle.mo_file.specs.Key.{keys};
-ghost use Rattle.mo_file.specs.Message.{translations};
 
 use crate::search::Keys;
 use mo_file::{Meter, MoView};
 use std::cmp::Ordering;
+use std::ops::Range;
 
 /// Messages whose keys are only compared, each comparison counted, and the translation of each.
 pub trait Messages<'a>: Keys {
-    /// The translation of message `i`: its forms with a NUL between them.
-    fn translation(&self, i: u32) -> &'a [u8]
-        requires { i < length (Self.messages self.now) }
-        ensures { slice_get (translations (Self.messages self.now)) i ≡ Some result.now };
+    /// Where the translation of message `i` stands, in bytes from the start of the file: its forms
+    /// with a NUL between them, and a NUL after it.
+    fn translation_range(&self, i: u32) -> Range<usize>
+        requires { i < length (Self.file self.now).messages }
+        ensures { IsTranslationAt (Self.file self.now) i result.start result.end };
+
+    /// The bytes of the file.
+    fn bytes(&self) -> &'a [u8]
+        ensures { result.now ≡ (Self.file self.now).bytes };
 }
 
 /// The messages of a file, and the meter that counts each comparison.
@@ -26,9 +32,9 @@ pub struct ViewMessages<'v, 'a, 'm> {
 }
 
 impl Keys for ViewMessages<'_, '_, '_> {
-    ghost listed = { λ s. keys s.view.now };
+    ghost listed = { λ s. keys s.view.now.messages };
 
-    ghost messages = { λ s. s.view.now };
+    ghost file = { λ s. s.view.now };
 
     ghost counted = { λ s. s.meter.now };
 
@@ -49,7 +55,11 @@ impl Keys for ViewMessages<'_, '_, '_> {
 }
 
 impl<'a> Messages<'a> for ViewMessages<'_, 'a, '_> {
-    fn translation(&self, i: u32) -> &'a [u8] {
-        self.view.translation(i)
+    fn translation_range(&self, i: u32) -> Range<usize> {
+        self.view.translation_range(i)
+    }
+
+    fn bytes(&self) -> &'a [u8] {
+        self.view.bytes()
     }
 }

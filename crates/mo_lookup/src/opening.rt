@@ -10,7 +10,7 @@ ghost use Rattle.mo_file.specs.MoFile.{IsMoFile};
 ghost use Rattle.mo_file.specs.Fault.{IsFirstFault, comparisons_before};
 ghost use Rattle.mo_lookup.specs.CatalogView.{IsCatalogView, header_text};
 
-use crate::forms::before_nul;
+use crate::forms::first_form;
 use crate::messages::{Messages, ViewMessages};
 use mo_file::{Meter, MoError, MoView};
 use plural_rule::{EXPRESSION_LIMIT, Node, ParsedRule, Rule};
@@ -20,18 +20,22 @@ use std::cmp::Ordering;
 /// is none. Where there are messages this is one comparison.
 #[inline(never)]
 fn header_text<'a, M: Messages<'a>>(messages: &mut M) -> &'a [u8]
-    requires keys { M.listed messages.old ≡ keys (M.messages messages.old) }
-    requires room { M.counted messages.old < 2 ^ 63 + length (M.messages messages.old) }
-    ensures text { result.now ≡ header_text (M.messages messages.old) }
-    ensures rising { AreRising (keys (M.messages messages.old)) }
-    ensures cost { M.counted messages.new ≡ M.counted messages.old + min 1 (length (M.messages messages.old)) }
+    requires keys { M.listed messages.old ≡ keys (M.file messages.old).messages }
+    requires room { M.counted messages.old < 2 ^ 63 + length (M.file messages.old).messages }
+    ensures text { result.now ≡ header_text (M.file messages.old).messages }
+    ensures rising { AreRising (keys (M.file messages.old).messages) }
+    ensures cost { M.counted messages.new ≡ M.counted messages.old + min 1 (length (M.file messages.old).messages) }
     ensures same_counter { M.counter messages.new ≡ M.counter messages.old }
 {
     if messages.len() == 0 {
         return b"";
     }
     match messages.compare(0, None, b"") {
-        Ordering::Equal => before_nul(messages.translation(0)),
+        Ordering::Equal => {
+            let range = messages.translation_range(0);
+            let translation = &messages.bytes()[range.start..range.end];
+            &translation[first_form(translation, 0)]
+        }
         _ => b"",
     }
 }
@@ -43,12 +47,12 @@ pub(crate) fn checked<'a>(
     meter: &mut Meter,
 ) -> Result<(MoView<'a>, &'a [u8]), MoError>
     requires { meter.old < 2 ^ 63 }
-    ensures exact { MatchResult result (λ read. (order : Order) × IsMoFile order bytes.now read.0)
+    ensures exact { MatchResult result (λ read. (order : Order) × IsMoFile order bytes.now read.0.messages)
         (IsFirstFault bytes.now) }
     ensures only { (order : Order) (messages : List Message) → IsMoFile order bytes.now messages → IsOk result }
-    ensures rising { IfOk result (λ read. AreRising (keys read.0)) }
-    ensures header { IfOk result (λ read. read.1.now ≡ header_text read.0) }
-    ensures cost { MatchResult result (λ read. meter.new ≡ meter.old + length read.0)
+    ensures rising { IfOk result (λ read. AreRising (keys read.0.messages)) }
+    ensures header { IfOk result (λ read. read.1.now ≡ header_text read.0.messages) }
+    ensures cost { MatchResult result (λ read. meter.new ≡ meter.old + length read.0.messages)
         (λ fault. meter.new ≡ meter.old + comparisons_before fault) }
 {
     let view = MoView::open(bytes, meter)?;
@@ -66,15 +70,15 @@ pub fn open_into<'a>(
     room: &mut [Node; EXPRESSION_LIMIT],
 ) -> Result<(MoView<'a>, ParsedRule), MoError>
     requires { meter.old < 2 ^ 63 }
-    ensures exact { MatchResult result (λ opened. (order : Order) × IsMoFile order bytes.now opened.0)
+    ensures exact { MatchResult result (λ opened. (order : Order) × IsMoFile order bytes.now opened.0.messages)
         (IsFirstFault bytes.now) }
     ensures only { (order : Order) (messages : List Message) → IsMoFile order bytes.now messages → IsOk result }
-    ensures view { IfOk result (λ opened. IsCatalogView opened.0 (rule_in opened.1 room.new)) }
+    ensures view { IfOk result (λ opened. IsCatalogView opened.0.messages (rule_in opened.1 room.new)) }
     ensures post_order { IfOk result (λ opened. nodes_in opened.1 room.new
         ≡ post_order 0 (rule_in opened.1 room.new).tree) }
     ensures limit { IfOk result (λ opened. opened.1.node_count ≤ expression_limit) }
     ensures unchanged { OnErr result (room.new ≡ room.old) }
-    ensures cost { MatchResult result (λ opened. meter.new ≡ meter.old + length opened.0)
+    ensures cost { MatchResult result (λ opened. meter.new ≡ meter.old + length opened.0.messages)
         (λ fault. meter.new ≡ meter.old + comparisons_before fault) }
 {
     let (view, header) = checked(bytes, meter)?;

@@ -3,7 +3,7 @@
 ghost use Rattle.std.specs.Prelude.{ℕ, ◌≡◌, ◌+◌, ◌-◌, ◌^◌, ◌<◌, ◌≤◌, List, length};
 ghost use Rattle.std.specs.Option.{option_copied};
 ghost use Rattle.mo_file.specs.Key.{AreRising, key_at, key_cmp, query_key};
-ghost use Rattle.mo_file.specs.Message.{Message};
+ghost use Rattle.mo_file.specs.FileView.{FileView};
 ghost use Rattle.mo_lookup.specs.Bound.{search_bound};
 ghost use Rattle.mo_lookup.specs.Comparisons.{comparisons};
 ghost use Rattle.mo_lookup.specs.Index.{IsIndexOf};
@@ -16,8 +16,8 @@ pub trait Keys {
     /// The keys.
     ghost listed: { Self → List (List ℕ) };
 
-    /// The messages that have these keys, for keys that are those of messages.
-    ghost messages: { Self → List Message };
+    /// The file that has these keys, for keys that are those of a file's messages.
+    ghost file: { Self → FileView };
 
     /// How many comparisons were made.
     ghost counted: { Self → ℕ };
@@ -37,7 +37,7 @@ pub trait Keys {
         requires room { counted self.old < 2 ^ 64 - 1 }
         ensures order { result ≡ key_cmp (key_at (listed self.old) i) (query_key (option_copied context.entry) id.now) }
         ensures unchanged { listed self.new ≡ listed self.old }
-        ensures same_messages { messages self.new ≡ messages self.old }
+        ensures same_file { file self.new ≡ file self.old }
         ensures cost { counted self.new ≡ counted self.old + 1 }
         ensures same_counter { counter self.new ≡ counter self.old };
 
@@ -53,7 +53,7 @@ pub fn find<K: Keys>(keys: &mut K, context: Option<&[u8]>, id: &[u8]) -> Option<
     requires { K.counted keys.old < 2 ^ 63 }
     ensures index { IsIndexOf (K.listed keys.old) (query_key (option_copied context.entry) id.now) result }
     ensures unchanged { K.listed keys.new ≡ K.listed keys.old }
-    ensures same_messages { K.messages keys.new ≡ K.messages keys.old }
+    ensures same_file { K.file keys.new ≡ K.file keys.old }
     ensures comparisons { K.counted keys.new
         ≡ K.counted keys.old + comparisons (K.listed keys.old) (query_key (option_copied context.entry) id.now) }
     ensures never_falls { K.counted keys.old ≤ K.counted keys.new }

@@ -44,11 +44,11 @@ fn error_at(i: u32, fault: PoFault) -> UnformatError
 
 /// The entry of message i.
 pub(crate) fn entry_at(alloc: Global, view: &MoView<'_>, i: u32) -> Result<Entry, UnformatError>
-    requires { i < length view.now }
-    ensures entry { IfOk result (λ entry. slice_get (unformatted view.now) i ≡ Some entry) }
+    requires { i < length view.now.messages }
+    ensures entry { IfOk result (λ entry. slice_get (unformatted view.now.messages) i ≡ Some entry) }
     ensures valid { IfOk result IsEntry }
-    ensures fault { IfErr result (λ error. (entry : TextEntry) × (slice_get (unformatted view.now) i ≡ Some entry)
-        × RefusesEntry entry i error) }
+    ensures fault { IfErr result (λ error. (entry : TextEntry)
+        × (slice_get (unformatted view.now.messages) i ≡ Some entry) × RefusesEntry entry i error) }
 {
     let mut meter = Meter::new();
     let original = view.original(i, &mut meter);

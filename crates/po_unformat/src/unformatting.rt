@@ -12,7 +12,8 @@ use std::alloc::Global;
 /// The text of the entries of a file, in a buffer that has room for so many bytes at first. One
 /// entry is held at a time.
 fn text_of(alloc: Global, view: &MoView<'_>, room: usize) -> Result<Vec<u8>, UnformatError>
-    ensures { MatchResult result (λ text. AreWrittenAs text.items view.now) (RefusesMessages view.now) }
+    ensures { MatchResult result (λ text. AreWrittenAs text.items view.now.messages)
+        (RefusesMessages view.now.messages) }
 {
     let mut text = Vec::with_capacity(alloc, room)?;
     let mut is_admitted = true;

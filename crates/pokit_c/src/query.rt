@@ -1,9 +1,13 @@
 //! What C asks of a catalogue, and what it is answered.
 
-ghost use Rattle.std.specs.Prelude.{◌≡◌};
-ghost use Rattle.pokit_c.specs.QueryView.{query_view};
-ghost use Rattle.mo_lookup.specs.Query.{given};
+ghost use Rattle.std.specs.Prelude.{◌≡◌, ℕ, List, Option};
 ghost use Rattle.std.specs.Option.{option_copied};
+ghost use Rattle.mo_lookup.specs.Query.{given};
+ghost use Rattle.mo_lookup.specs.Place.{IsPlace, located_view};
+ghost use Rattle.pokit_c.specs.declared.query.PokitQuery.{PokitQuery};
+ghost use Rattle.pokit_c.specs.QueryView.{query_view, answer_view, IsTerminated, IsOfQuery};
+
+use mo_lookup::{Located, Place};
 
 /// A query: a msgid, and where they are given, a context, and a plural with a count. No text
 /// includes the NUL that may follow it.
@@ -24,19 +28,51 @@ pub struct PokitQuery<'q> {
     pub has_plural: u8,
 }
 
-/// An answer, and what it cost.
+/// Where the text of an answer is, and what it cost.
 #[repr(C)]
 #[derive(Clone, Copy, Drop)]
-pub struct PokitAnswer<'q> {
-    /// The form of the translation, in the bytes of the file; or where there is no translation, the
-    /// query's msgid or plural.
-    pub text: &'q [u8],
+pub struct PokitLocated {
+    /// The offset of the text's first byte in the file; 0 where the text isn't of the file.
+    pub offset: usize,
+    /// How many bytes the text has in the file, where a NUL follows them; 0 where it isn't of the
+    /// file.
+    pub len: usize,
     /// How many keys were compared with the query's.
     pub comparisons: u32,
     /// How many nodes of the plural expression were evaluated.
     pub steps: u32,
-    /// Whether the catalogue has a translation.
-    pub found: bool,
+    /// Which text it is, as `enum pokit_place` of include/pokit.h has it: 0 the query's msgid, 1
+    /// its plural, 2 a form of the translation, in the file.
+    pub place: u32,
+}
+
+impl PokitLocated {
+    /// What a look-up has located, as C sees it.
+    pub(crate) fn of(found: Located) -> PokitLocated
+        requires { (bytes : List ℕ) × (plural : Option (List ℕ × ℕ)) × IsPlace bytes plural found.place }
+        ensures answered { (bytes : List ℕ) (query : PokitQuery)
+            → IsPlace bytes (query_view query).plural found.place
+            → answer_view bytes query result ≡ located_view bytes (query_view query) found }
+        ensures terminated { (bytes : List ℕ) (query : PokitQuery)
+            → IsPlace bytes (query_view query).plural found.place → IsTerminated bytes result }
+        ensures of_query { (bytes : List ℕ) (query : PokitQuery)
+            → IsPlace bytes (query_view query).plural found.place → IsOfQuery query result }
+        ensures comparisons { result.comparisons ≡ found.comparisons }
+        ensures steps { result.steps ≡ found.steps }
+    {
+        let (place, offset, len) = match found.place {
+            Place::Id => (0, 0, 0),
+            Place::Plural => (1, 0, 0),
+            Place::Translation { start, end } => (2, start, end - start),
+        };
+        PokitLocated {
+            offset,
+            len,
+            comparisons: found.comparisons,
+            steps: found.steps,
+            place,
+        }
+    }
 }
 
 impl<'q> PokitQuery<'q> {

@@ -28,7 +28,7 @@ impl Letters {
 impl Keys for Letters {
     ghost listed = { λ keys. map (λ i. (98 + 2 * i) ∷ []) (range_with_len 0 keys.many) };
 
-    ghost messages = { λ _. [] };
+    ghost file = { λ _. record { bytes = []; messages = [] } };
 
     ghost counted = { λ keys. keys.compared };
 

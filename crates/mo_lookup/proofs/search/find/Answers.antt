@@ -29,7 +29,7 @@ returns-in-Equal-clause-at_most_32 g c =
 pub halving-preserved-in-Less : goal.halving-preserved-in-Less
 halving-preserved-in-Less g c = (
   c.compare.ensures.same_counter ∙ c.halving.invariant.0,
-  c.compare.ensures.same_messages ∙ c.halving.invariant.1,
+  c.compare.ensures.same_file ∙ c.halving.invariant.1,
   rw c.compare.ensures.cost
       (
       IsSearch-less _ _ _ _ _ _ _ _ _ c.halving.invariant.2 c.halving-test.true (omega arith) c.in-Less.ensures.order
@@ -40,7 +40,7 @@ halving-preserved-in-Less g c = (
 pub halving-preserved : goal.halving-preserved
 halving-preserved g c = (
   c.compare.ensures.same_counter ∙ c.halving.invariant.0,
-  c.compare.ensures.same_messages ∙ c.halving.invariant.1,
+  c.compare.ensures.same_file ∙ c.halving.invariant.1,
   rw c.compare.ensures.cost
       (
       IsSearch-greater _ _ _ _ _ _ _ _ _ c.halving.invariant.2 c.halving-test.true (omega arith)

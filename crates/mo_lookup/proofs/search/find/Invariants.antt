@@ -7,7 +7,7 @@ use Rattle.mo_lookup.proofs.search.find.Given as goal
 abbrev pub invariant-halving : goal.invariant-halving
 invariant-halving g l =
     (g.K.Keys.counter l.keys ≡ g.K.Keys.counter l.initial.keys)
-    × (g.K.Keys.messages l.keys ≡ g.K.Keys.messages l.initial.keys)
+    × (g.K.Keys.file l.keys ≡ g.K.Keys.file l.initial.keys)
     × IsSearch (g.K.Keys.listed l.initial.keys) (query_key (option_copied l.context) l.id) (g.K.Keys.listed l.keys)
     (g.K.Keys.counted l.initial.keys) (g.K.Keys.counted l.keys) l.low l.high
 

@@ -10,14 +10,14 @@ pub returns-in_err-entry : goal.returns-in_err-entry
 returns-in_err-entry c =
     let p = err_from_is_err_and c.from_residual-in_err-entry.result c.from_residual-in_err-entry.ensures.1 in
     let why = c.in_err-entry.ensures.fault in
-    rw (p.1, p.2) (refused_messages c.args.view.now why.0 c.loop-i.i why.1 c.loop-i.invariant.valid _ why.2)
+    rw (p.1, p.2) (refused_messages c.args.view.now.messages why.0 c.loop-i.i why.1 c.loop-i.invariant.valid _ why.2)
 
 pub append-requires : goal.append-requires
-append-requires c = live_at c.args.view.now c.loop-i.i c.in_ok-entry.entry c.in_ok-entry.ensures.entry
+append-requires c = live_at c.args.view.now.messages c.loop-i.i c.in_ok-entry.entry c.in_ok-entry.ensures.entry
 
 pub loop-i-preserved : goal.loop-i-preserved
 loop-i-preserved c =
-    let messages = c.args.view.now in
+    let messages = c.args.view.now.messages in
     let i = c.loop-i.i in
     let entry = c.in_ok-entry.entry in
     let at = c.in_ok-entry.ensures.entry in
@@ -31,12 +31,12 @@ loop-i-preserved c =
 
 pub returns-then-is_admitted : goal.returns-then-is_admitted
 returns-then-is_admitted c =
-    let end : c.loop-i.i ≡ length c.args.view.now = omega (arith, c.loop-i.auto, c.loop-i-test.false, c.len-i-end.ensures.count) in
+    let end : c.loop-i.i ≡ length c.args.view.now.messages = omega (arith, c.loop-i.auto, c.loop-i-test.false, c.len-i-end.ensures.count) in
     let done = c.loop-i.invariant in
-    all_written c.args.view.now c.loop-i.i end done.valid c.loop-i.text.items done.written (done.admitted c.if-is_admitted.true)
+    all_written c.args.view.now.messages c.loop-i.i end done.valid c.loop-i.text.items done.written (done.admitted c.if-is_admitted.true)
 
 pub returns-else-is_admitted : goal.returns-else-is_admitted
 returns-else-is_admitted c =
-    let end : c.loop-i.i ≡ length c.args.view.now = omega (arith, c.loop-i.auto, c.loop-i-test.false, c.len-i-end.ensures.count) in
+    let end : c.loop-i.i ≡ length c.args.view.now.messages = omega (arith, c.loop-i.auto, c.loop-i-test.false, c.len-i-end.ensures.count) in
     let done = c.loop-i.invariant in
-    some_foreign c.args.view.now c.loop-i.i end done.valid (done.foreign c.if-is_admitted.false)
+    some_foreign c.args.view.now.messages c.loop-i.i end done.valid (done.foreign c.if-is_admitted.false)

@@ -8,8 +8,8 @@ use Rattle.po_unformat.proofs.unformatting.text_of.Given as goal
 -- the entries so far are written, and it is known whether each charset is admitted
 abbrev pub invariant-loop-i : goal.invariant-loop-i
 invariant-loop-i l = record {
-  written : l.text.items ≡ written_text (take l.i (unformatted l.view));
-  valid : All IsEntry (take l.i (unformatted l.view));
-  admitted : l.is_admitted ≡ true → All HasAdmittedCharset (take l.i (unformatted l.view));
-  foreign : l.is_admitted ≡ false → All HasAdmittedCharset (unformatted l.view) → ⊥;
+  written : l.text.items ≡ written_text (take l.i (unformatted l.view.messages));
+  valid : All IsEntry (take l.i (unformatted l.view.messages));
+  admitted : l.is_admitted ≡ true → All HasAdmittedCharset (take l.i (unformatted l.view.messages));
+  foreign : l.is_admitted ≡ false → All HasAdmittedCharset (unformatted l.view.messages) → ⊥;
 }

@@ -4,7 +4,7 @@ use Rattle.pokit_c.proofs.opening.pokit_catalog_open.Goals as goal
 
 pub returns-in-Ok-clause-opened : goal.returns-in-Ok-clause-opened
 returns-in-Ok-clause-opened c zero = (
-  record { messages = c.in-Ok.field-0-0; rule = rule_in c.in-Ok.rule c.open_into.new.room },
+  record { messages = c.in-Ok.field-0-0.messages; rule = rule_in c.in-Ok.rule c.open_into.new.room },
   record {
     file = c.in-Ok.ensures.exact;
     rule = rw c.in-Ok.rule-is c.in-Ok.ensures.view;

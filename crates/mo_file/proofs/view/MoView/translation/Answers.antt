@@ -1,13 +1,14 @@
-use Rattle.std.proofs.Common.{arith, sym, ◌∙◌, ap, Some}
+use Rattle.std.proofs.Common.{arith, ◌∙◌, ap, Some}
 use Rattle.mo_file.proofs.ViewLemmas.{length-messages_of, map-messages_of-at}
 use Rattle.mo_file.proofs.view.MoView.translation.Goals as goal
 
-pub translation_at-requires-clause-counted : goal.translation_at-requires-clause-counted
-translation_at-requires-clause-counted c =
+pub translation_range-requires-clause-counted : goal.translation_range-requires-clause-counted
+translation_range-requires-clause-counted c =
     let inside = rw (← c.self.view_is, length-messages_of) at c.requires in
     omega (arith, c.self.invariant.read.count)
 
 pub returns : goal.returns
 returns c =
     let inside = rw (← c.self.view_is, length-messages_of) at c.requires in
-    rw (← c.self.view_is) (map-messages_of-at _ _ (λ m. m.translation) _ inside ∙ ap Some (sym c.translation_at.ensures))
+    rw (← c.self.view_is)
+    (map-messages_of-at _ _ (λ m. m.translation) _ inside ∙ ap Some c.translation_range.ensures.text)

@@ -1,0 +1,21 @@
+-- What clauses see of a view ("The Format of GNU MO Files").
+use Rattle.std.specs.Prelude.{◌≡◌, ℕ, ◌≤◌, List, Some, slice_get}
+use Rattle.std.specs.List.{slice_range}
+use Rattle.mo_file.specs.Message.{Message, translations}
+
+-- the bytes of a file, and its messages
+pub record FileView : Type 0 where
+  pub bytes : List ℕ
+  pub messages : List Message
+
+-- the string is what a file has from one offset up to another, where a NUL follows it
+pub record IsStringAt (bytes : List ℕ) (start end : ℕ) (string : List ℕ) : Type 0 where
+  pub order : start ≤ end
+  pub text : string ≡ slice_range bytes start end
+  pub terminated : slice_get bytes end ≡ Some 0
+
+-- the translation of message i is what the file has there
+abbrev pub IsTranslationAt : FileView → ℕ → ℕ → ℕ → Type 0
+IsTranslationAt file i start end =
+    (translation : List ℕ) × (slice_get (translations file.messages) i ≡ Some translation)
+    × IsStringAt file.bytes start end translation

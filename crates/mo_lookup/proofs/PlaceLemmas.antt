@@ -1,0 +1,62 @@
+-- Where a form of a translation stands in the file.
+use Rattle.std.proofs.Common.{◌≡◌, ℕ, ◌+◌, ◌-◌, ◌<◌, ◌≤◌, List, Some, length, take, drop, slice_get, slice_range, sym, ap, ◌∙◌, inl, inr, arith, length-drop}
+use Rattle.std.proofs.lemmas.List.{drop-drop, get_or-drop, get_or-take, length-take, take-take}
+use Rattle.std.proofs.lemmas.Slice.{between_is}
+use Rattle.std.proofs.lemmas.Option.{get_or_from_slice_get, slice_get-get_or, slice_get_within}
+use Rattle.mo_file.specs.FileView.{IsStringAt}
+use Rattle.mo_lookup.specs.Place.{IsFormAt}
+
+-- a part loses its front
+drop-slice_range : (xs : List ℕ) (s e a : ℕ) → drop a (slice_range xs s e) ≡ slice_range xs (s + a) e
+drop-slice_range xs s e a =
+    ap (drop a) (between_is xs s e) ∙ drop-drop a s (take e xs) ∙ sym (between_is xs (s + a) e)
+
+-- a part of a part
+part-of-part : (xs : List ℕ) (s e a b : ℕ) → a ≤ b → s + b ≤ e → slice_range (slice_range xs s e) a b ≡ slice_range xs (s + a) (s + b)
+part-of-part xs s e a b ordered inside =
+    let same : b - a ≡ s + b - (s + a) = omega arith in
+    ap (take (b - a)) (drop-slice_range xs s e a)
+    ∙ take-take (b - a) (e - (s + a)) (drop (s + a) xs) (omega arith)
+    ∙ ap (λ n. take n (drop (s + a) xs)) same
+
+-- what stands in a part
+get-part : (xs : List ℕ) (s e b : ℕ) → s + b < e → e ≤ length xs → slice_get (slice_range xs s e) b ≡ Some 0 → slice_get xs (s + b) ≡ Some 0
+get-part xs s e b inside within found =
+    slice_get-get_or xs (s + b) 0 (omega arith)
+    ∙ ap Some
+    (
+    sym (get_or-drop s xs b 0) ∙ sym (get_or-take (e - s) (drop s xs) b 0 (omega arith))
+    ∙ get_or_from_slice_get (slice_range xs s e) b 0 0 found
+    )
+
+-- how long a part is
+length-part : (xs : List ℕ) (s e : ℕ) → e ≤ length xs → length (slice_range xs s e) ≡ e - s
+length-part xs s e inside = length-take (e - s) (drop s xs) ∙ (omega (arith, length-drop s xs))
+
+module _ (bytes translation form : List ℕ) (start end a b : ℕ) (there : IsStringAt bytes start end translation) where
+  within : end < length bytes
+  within = slice_get_within bytes end 0 there.terminated
+
+  pub length-there : length translation ≡ end - start
+  length-there = ap length there.text ∙ length-part bytes start end (omega (arith, within))
+
+  -- a form is in the file where it is in the translation, and a NUL follows it there
+  pub form-in-file : IsFormAt translation a b form → IsStringAt bytes (start + a) (start + b) form
+  form-in-file at =
+      let ordered = at.order in
+      let short = at.inside in
+      let begins = there.order in
+      record {
+        order = omega arith;
+        text = at.text ∙ ap (λ t. slice_range t a b) there.text
+            ∙ part-of-part bytes start end a b ordered (omega (arith, length-there));
+        terminated = elim at.ends [
+          | inl last ↦
+              let same : start + b ≡ end = omega (arith, length-there) in
+              ap (slice_get bytes) same ∙ there.terminated
+          | inr nul ↦
+              let low = slice_get_within translation b 0 nul in
+              get-part bytes start end b (omega (arith, length-there)) (omega (arith, within))
+              (ap (λ t. slice_get t b) (sym there.text) ∙ nul)
+        ];
+      }
