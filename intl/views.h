@@ -39,6 +39,7 @@ EXPORT int _nl_msg_cat_cntr;
 #endif
 
 static _Atomic(struct view *) views[BUCKETS];
+static _Thread_local struct view *asked_last __attribute__((tls_model("initial-exec")));
 static struct link end;
 static struct binding *bindings; /* under the lock */
 static _Atomic uint32_t changes; /* of the bindings */
@@ -183,18 +184,35 @@ static struct chain *current_chain(struct view *view)
     return it;
 }
 
-static struct view *find_view(uint32_t hash, const char *domain, const char *locale, const char *codeset, int category)
+static _Atomic(struct view *) *bucket_of(const char *domain, const char *locale, int category)
 {
-    struct view *it = atomic_load_explicit(&views[hash % BUCKETS], memory_order_acquire);
-    while (it != NULL && (it->category != category || strcmp(it->domain, domain) != 0 ||
-                          strcmp(it->locale, locale) != 0 || strcmp(it->codeset, codeset) != 0))
+    return &views[hash_of(hash_of((uint32_t)category, domain), locale) % BUCKETS];
+}
+
+static bool is_view_of(const struct view *it, const char *domain, const char *locale, const char *codeset, int category)
+{
+    return it->category == category && strcmp(it->domain, domain) == 0 && strcmp(it->locale, locale) == 0 &&
+           strcmp(it->codeset, codeset) == 0;
+}
+
+/* The view of these names, which is mostly the one that this thread asked last. */
+static struct view *find_view(const char *domain, const char *locale, const char *codeset, int category)
+{
+    struct view *it = asked_last;
+    if (it != NULL && is_view_of(it, domain, locale, codeset, category))
+        return it;
+    it = atomic_load_explicit(bucket_of(domain, locale, category), memory_order_acquire);
+    while (it != NULL && !is_view_of(it, domain, locale, codeset, category))
         it = it->next;
+    if (it != NULL)
+        asked_last = it;
     return it;
 }
 
-static struct view *add_view(uint32_t hash, const char *domain, const char *locale, const char *codeset, int category)
+static struct view *add_view(const char *domain, const char *locale, const char *codeset, int category)
 {
     struct view *it = take(sizeof *it);
+    _Atomic(struct view *) *bucket = bucket_of(domain, locale, category);
     if (it == NULL)
         return NULL;
     it->domain = interned(domain);
@@ -202,10 +220,10 @@ static struct view *add_view(uint32_t hash, const char *domain, const char *loca
     it->codeset = interned(codeset);
     it->category = category;
     it->stamp = ~stamp_now();
-    it->next = atomic_load_explicit(&views[hash % BUCKETS], memory_order_relaxed);
+    it->next = atomic_load_explicit(bucket, memory_order_relaxed);
     if (it->domain == NULL || it->locale == NULL || it->codeset == NULL)
         return NULL;
-    atomic_store_explicit(&views[hash % BUCKETS], it, memory_order_release);
+    atomic_store_explicit(bucket, it, memory_order_release);
     return it;
 }
 
@@ -216,14 +234,13 @@ static struct chain *chain_of(const char *domain, int category)
     struct chain *chain = NULL;
     if (locale[0] == 0 || strcmp(locale, "C") == 0 || strcmp(locale, "POSIX") == 0)
         return NULL;
-    uint32_t hash = hash_of(hash_of((uint32_t)category, domain), locale);
-    struct view *view = find_view(hash, domain, locale, codeset, category);
+    struct view *view = find_view(domain, locale, codeset, category);
     if (view != NULL && atomic_load_explicit(&view->stamp, memory_order_acquire) == stamp_now())
         return atomic_load_explicit(&view->chain, memory_order_acquire);
     if (!enter())
         return NULL;
-    view = find_view(hash, domain, locale, codeset, category);
-    view = view != NULL ? view : add_view(hash, domain, locale, codeset, category);
+    view = find_view(domain, locale, codeset, category);
+    view = view != NULL ? view : add_view(domain, locale, codeset, category);
     uint64_t stamp = stamp_now();
     chain = view != NULL ? current_chain(view) : NULL;
     if (chain != NULL) {

@@ -5,7 +5,7 @@ use Rattle.plural_rule.specs.declared.node.Shape.TheVariants.{Count as CountShap
 use Rattle.plural_rule.specs.declared.frames.Frame.{Frame}
 use Rattle.plural_rule.specs.declared.frames.Frame.TheVariants.{Not as NotFrame, First, Second, Condition}
 use Rattle.plural_rule.specs.declared.evaluator.Next.{Next}
-use Rattle.plural_rule.specs.declared.evaluator.Next.TheVariants.{Visit, Stop}
+use Rattle.plural_rule.specs.declared.evaluator.Next.TheVariants.{Visit, Value, Undefined}
 use Rattle.plural_rule.specs.Node.{numeral}
 use Rattle.plural_rule.specs.Expression.{Tree, Count, Number, Not, Binary, Conditional, nodes, negated, binary_value, combined, chosen, value, visited, visited_right}
 
@@ -71,7 +71,8 @@ finished whole n (frame ∷ frames) o = resumed whole n frame (finished whole n 
 -- the same from what is done next
 abbrev pub finished_next : Tree → ℕ → List Frame → ℕ → Next → Evaluated
 finished_next whole n frames steps (Visit i) = finished whole n frames (evaluated (subtree whole i) n steps)
-finished_next whole n frames steps (Stop v) = record { value = v; steps = steps }
+finished_next whole n frames steps (Value v) = finished whole n frames (record { value = Some v; steps = steps })
+finished_next whole n frames steps Undefined = record { value = None; steps = steps }
 
 -- how many nodes may still be visited for a node that waits
 abbrev pub remaining_frame : Tree → Frame → ℕ
@@ -87,7 +88,7 @@ remaining whole (frame ∷ frames) = remaining_frame whole frame + remaining who
 -- the same for what is done next
 abbrev pub remaining_next : Tree → Next → ℕ
 remaining_next whole (Visit i) = nodes (subtree whole i)
-remaining_next whole (Stop v) = 0
+remaining_next whole _ = 0
 
 -- how many nodes at least were visited before so much waits: each node that waits, and the first
 -- operand of one that waits for its second
@@ -95,6 +96,11 @@ abbrev pub least_steps : List Frame → ℕ
 least_steps [] = 0
 least_steps (Second op left ∷ frames) = 2 + least_steps frames
 least_steps (_ ∷ frames) = 1 + least_steps frames
+
+-- and how many for a value that is handed to them: the node that has it
+abbrev pub least_next : Next → ℕ
+least_next (Value v) = 1
+least_next _ = 0
 
 -- a node that waits names indices of the whole tree's table
 abbrev pub IsFrameOf : Tree → Frame → Type 0
@@ -109,4 +115,9 @@ AreFramesOf whole (frame ∷ frames) = IsFrameOf whole frame × AreFramesOf whol
 
 abbrev pub IsNextOf : Tree → Next → Type 0
 IsNextOf whole (Visit i) = i < nodes whole
-IsNextOf whole (Stop v) = Unit {0}
+IsNextOf whole _ = Unit {0}
+
+-- a value is handed to the last of the nodes that wait
+abbrev pub IsHandedTo : List Frame → List Frame → Next → Type 0
+IsHandedTo waiting frames (Value v) = frames ≡ waiting
+IsHandedTo waiting frames _ = Unit {0}

@@ -54,9 +54,9 @@ operator_of-code Multiply = refl
 operator_of-code Divide = refl
 operator_of-code Remainder = refl
 
--- the numeral of four parts of 16 bits, the highest first
+-- the numeral of four parts of 16 bits, the lowest first
 abbrev pub numeral : ℕ → ℕ → ℕ → ℕ → ℕ
-numeral a b c d = ((a * 2 ^ 16 + b) * 2 ^ 16 + c) * 2 ^ 16 + d
+numeral a b c d = ((d * 2 ^ 16 + c) * 2 ^ 16 + b) * 2 ^ 16 + a
 
 -- the node of n
 abbrev pub count_node : Node
@@ -67,10 +67,10 @@ abbrev pub numeral_node : ℕ → Node
 numeral_node v = record {
   kind = 1;
   operator = 0;
-  first = ((v / 2 ^ 16) / 2 ^ 16) / 2 ^ 16;
-  second = ((v / 2 ^ 16) / 2 ^ 16) % 2 ^ 16;
-  third = (v / 2 ^ 16) % 2 ^ 16;
-  fourth = v % 2 ^ 16;
+  first = v % 2 ^ 16;
+  second = (v / 2 ^ 16) % 2 ^ 16;
+  third = ((v / 2 ^ 16) / 2 ^ 16) % 2 ^ 16;
+  fourth = ((v / 2 ^ 16) / 2 ^ 16) / 2 ^ 16;
 }
 
 -- the node of `!` with the index of its operand

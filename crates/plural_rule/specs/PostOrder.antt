@@ -51,7 +51,7 @@ newest (t ∷ trees) = t
 unfoldable pub tree_of : List Node → Tree
 tree_of table = newest (with_nodes [] table)
 
-pub numeral-parts : (v : ℕ) → numeral (((v / 2 ^ 16) / 2 ^ 16) / 2 ^ 16) (((v / 2 ^ 16) / 2 ^ 16) % 2 ^ 16) ((v / 2 ^ 16) % 2 ^ 16) (v % 2 ^ 16) ≡ v
+pub numeral-parts : (v : ℕ) → numeral (v % 2 ^ 16) ((v / 2 ^ 16) % 2 ^ 16) (((v / 2 ^ 16) / 2 ^ 16) % 2 ^ 16) (((v / 2 ^ 16) / 2 ^ 16) / 2 ^ 16) ≡ v
 numeral-parts v =
     ap (λ x. (x * 2 ^ 16 + (v / 2 ^ 16) % 2 ^ 16) * 2 ^ 16 + v % 2 ^ 16) (div-add-mod' ((v / 2 ^ 16) / 2 ^ 16) (2 ^ 16))
     ∙ ap (λ x. x * 2 ^ 16 + v % 2 ^ 16) (div-add-mod' (v / 2 ^ 16) (2 ^ 16))

@@ -17,13 +17,13 @@ pub struct Node {
     /// Of an operator of two operands: 0 to 12 for `||`, `&&`, `==`, `!=`, `<`, `>`, `<=`, `>=`,
     /// `+`, `-`, `*`, `/`, `%`.
     pub operator: u8,
-    /// The index of the first operand, or the highest 16 bits of a numeral.
+    /// The index of the first operand, or the lowest 16 bits of a numeral.
     pub first: u16,
     /// The index of the second operand, or the next 16 bits of a numeral.
     pub second: u16,
     /// The index of the third operand, or the next 16 bits of a numeral.
     pub third: u16,
-    /// The lowest 16 bits of a numeral.
+    /// The highest 16 bits of a numeral.
     pub fourth: u16,
 }
 
@@ -32,7 +32,7 @@ pub struct Node {
 pub(crate) enum Shape {
     /// `n`
     Count,
-    /// A numeral in four parts of 16 bits, the highest first.
+    /// A numeral in four parts of 16 bits, the lowest first.
     Number(u16, u16, u16, u16),
     /// `!` with the index of its operand.
     Not(u16),
@@ -57,15 +57,15 @@ impl Node {
     pub(crate) fn numeral(value: u64) -> Node
         ensures { result ≡ numeral_node value }
     {
-        let third = value / 65536;
-        let second = third / 65536;
+        let second = value / 65536;
+        let third = second / 65536;
         Node {
             kind: 1,
             operator: 0,
-            first: (second / 65536) as u16,
+            first: (value % 65536) as u16,
             second: (second % 65536) as u16,
             third: (third % 65536) as u16,
-            fourth: (value % 65536) as u16,
+            fourth: (third / 65536) as u16,
         }
     }
 
@@ -120,9 +120,9 @@ impl Node {
     }
 }
 
-/// The numeral of four parts of 16 bits, the highest first.
+/// The numeral of four parts of 16 bits, the lowest first.
 pub(crate) fn numeral(first: u16, second: u16, third: u16, fourth: u16) -> u64
     ensures { result ≡ numeral first second third fourth }
 {
-    ((first as u64 * 65536 + second as u64) * 65536 + third as u64) * 65536 + fourth as u64
+    ((fourth as u64 * 65536 + third as u64) * 65536 + second as u64) * 65536 + first as u64
 }

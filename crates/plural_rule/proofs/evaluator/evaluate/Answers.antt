@@ -12,12 +12,16 @@ pub evaluate_within-requires-clause-limit : goal.evaluate_within-requires-clause
 evaluate_within-requires-clause-limit c = omega (arith, count c.args.table.now c.requires.post_order, c.requires.limit)
 
 pub evaluate_within-requires-clause-room : goal.evaluate_within-requires-clause-room
-evaluate_within-requires-clause-room c = omega (arith, count c.args.table.now c.requires.post_order)
+evaluate_within-requires-clause-room c = omega (arith, count c.args.table.now c.requires.post_order, c.requires.limit)
 
-pub evaluate_within-requires-else-table-le-SHORT-clause-limit : goal.evaluate_within-requires-else-table-le-SHORT-clause-limit
-evaluate_within-requires-else-table-le-SHORT-clause-limit c =
-    omega (arith, count c.args.table.now c.requires.post_order, c.requires.limit)
+pub evaluate_within-requires-then-table-le-MEDIUM-clause-limit : goal.evaluate_within-requires-then-table-le-MEDIUM-clause-limit
+evaluate_within-requires-then-table-le-MEDIUM-clause-limit c = omega (arith, count c.args.table.now c.requires.post_order, c.requires.limit)
 
-pub evaluate_within-requires-else-table-le-SHORT-clause-room : goal.evaluate_within-requires-else-table-le-SHORT-clause-room
-evaluate_within-requires-else-table-le-SHORT-clause-room c =
-    omega (arith, count c.args.table.now c.requires.post_order, c.requires.limit)
+pub evaluate_within-requires-then-table-le-MEDIUM-clause-room : goal.evaluate_within-requires-then-table-le-MEDIUM-clause-room
+evaluate_within-requires-then-table-le-MEDIUM-clause-room c = omega (arith, count c.args.table.now c.requires.post_order, c.requires.limit)
+
+pub evaluate_within-requires-else-table-le-MEDIUM-clause-limit : goal.evaluate_within-requires-else-table-le-MEDIUM-clause-limit
+evaluate_within-requires-else-table-le-MEDIUM-clause-limit c = omega (arith, count c.args.table.now c.requires.post_order, c.requires.limit)
+
+pub evaluate_within-requires-else-table-le-MEDIUM-clause-room : goal.evaluate_within-requires-else-table-le-MEDIUM-clause-room
+evaluate_within-requires-else-table-le-MEDIUM-clause-room c = omega (arith, count c.args.table.now c.requires.post_order, c.requires.limit)

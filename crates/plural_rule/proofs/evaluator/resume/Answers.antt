@@ -1,11 +1,10 @@
-use Rattle.std.proofs.Common.{◌≡◌, ◌+◌, ◌++◌, ◌∷◌, [], true, false, refl, sym, ap, ◌∙◌, arith, rules}
+use Rattle.std.proofs.Common.{◌≡◌, ◌++◌, ◌∷◌, [], length, length-append, true, false, refl, sym, ap, subst, ◌∙◌, arith, rules}
 use Rattle.std.proofs.lemmas.Bool.Decides.{nat_tests}
 use Rattle.plural_rule.specs.PostOrder.{tree_of}
-use Rattle.plural_rule.specs.Expression.{needs_right, combined, is_zero}
-use Rattle.plural_rule.specs.Evaluation.{remaining, least_steps}
-use Rattle.plural_rule.specs.declared.frames.Frame.{Frame}
+use Rattle.plural_rule.specs.Expression.{is_zero}
+use Rattle.plural_rule.specs.Evaluation.{finished_next, remaining_next, least_next, IsHandedTo}
 use Rattle.plural_rule.specs.declared.frames.Frame.TheVariants.{Not as NotFrame, First, Second, Condition}
-use Rattle.plural_rule.proofs.FrameLemmas.{finished_more, finished_pop, finished_undefined, frames_more, frames_pop, remaining_more, remaining_pop, least_more, least_pop, room_pop, numbers_pop}
+use Rattle.plural_rule.proofs.FrameLemmas.{finished_pop, finished_undefined, frames_pop, remaining_pop, least_pop}
 use Rattle.plural_rule.proofs.evaluator.resume.Goals as goal
 
 pub loop-frame-preserved-in-Not : goal.loop-frame-preserved-in-Not
@@ -21,128 +20,97 @@ loop-frame-preserved-in-Not g c =
       frames = (frames_pop whole _ rest _ split c.loop-frame.invariant.frames).0;
     }
 
-pub loop-frame-preserved-then-not-needs_right : goal.loop-frame-preserved-then-not-needs_right
-loop-frame-preserved-then-not-needs_right g c =
+pub visit_right-requires : goal.visit_right-requires
+visit_right-requires g c =
     let whole = tree_of c.args.table.now in
     let rest = c.pop.new.self in
     let split : c.loop-frame.frames ≡ rest ++ First c.in-First.operator c.in-First.right ∷ [] = c.in-Some.ensures.items ∙ ap (λ f. rest ++ f ∷ []) c.in-First.is in
-    let no_right = sym c.needs_right.ensures ∙ c.if-not-needs_right.true in
-    let none : c.loop-frame.steps + 0 ≡ c.loop-frame.steps = omega arith in
+    let popped = frames_pop whole _ rest _ split c.loop-frame.invariant.frames in (
+      search rules,
+      (
+        c.requires.post_order,
+        (
+          c.requires.limit,
+          (
+            c.requires.room,
+            (
+              c.requires.half,
+              (
+                c.requires.size,
+                (
+                  popped.1,
+                  (
+                    omega (arith, c.requires.remaining, c.loop-frame.invariant.remaining, remaining_pop whole _ rest _ split),
+                    (omega (arith, c.loop-frame.invariant.least, least_pop _ rest _ split), popped.0),
+                  ),
+                ),
+              ),
+            ),
+          ),
+        ),
+      ),
+    )
+
+pub loop-frame-preserved-in-Value : goal.loop-frame-preserved-in-Value
+loop-frame-preserved-in-Value g c =
+    let whole = tree_of c.args.table.now in
+    let rest = c.pop.new.self in
+    let split : c.loop-frame.frames ≡ rest ++ First c.in-First.operator c.in-First.right ∷ [] = c.in-Some.ensures.items ∙ ap (λ f. rest ++ f ∷ []) c.in-First.is in
+    let told = c.visit_right.ensures in
+    let is = c.in-Value.is in
     record {
-      outcome = finished_pop whole c.args.count _ rest _ _ _ _ split c.loop-frame.invariant.outcome (rw (no_right, c.short_circuit_value-value.ensures, none) refl);
-      remaining = omega (arith, c.loop-frame.invariant.remaining, remaining_pop whole _ rest _ split);
-      more = c.loop-frame.invariant.more;
-      least = omega (arith, c.loop-frame.invariant.least, least_pop _ rest _ split);
-      frames = (frames_pop whole _ rest _ split c.loop-frame.invariant.frames).0;
+      outcome = sym (ap (finished_next whole c.args.count c.visit_right.new.frames c.visit_right.new.steps) is) ∙ told.outcome
+          ∙ finished_pop whole c.args.count _ rest _ _ _ _ split c.loop-frame.invariant.outcome refl;
+      remaining = omega (arith, c.loop-frame.invariant.remaining, remaining_pop whole _ rest _ split, told.remaining, ap (remaining_next whole) is);
+      more = omega (arith, c.loop-frame.invariant.more, told.more);
+      least = omega (arith, told.least, ap least_next is);
+      frames = told.frames;
     }
 
-pub leaf_value-requires-clause-index : goal.leaf_value-requires-clause-index
-leaf_value-requires-clause-index g c =
+pub loop-frame-smaller-in-Value : goal.loop-frame-smaller-in-Value
+loop-frame-smaller-in-Value g c =
     let whole = tree_of c.args.table.now in
     let rest = c.pop.new.self in
     let split : c.loop-frame.frames ≡ rest ++ First c.in-First.operator c.in-First.right ∷ [] = c.in-Some.ensures.items ∙ ap (λ f. rest ++ f ∷ []) c.in-First.is in
-    (frames_pop whole _ rest _ split c.loop-frame.invariant.frames).1
+    let same : c.visit_right.new.frames ≡ rest = subst (IsHandedTo rest c.visit_right.new.frames) c.in-Value.is c.visit_right.ensures.same in
+    omega (arith, ap length same, ap length split, length-append rest (First c.in-First.operator c.in-First.right ∷ []))
 
-pub push-requires : goal.push-requires
-push-requires g c =
+pub returns-in-Visit-clause-outcome : goal.returns-in-Visit-clause-outcome
+returns-in-Visit-clause-outcome g c =
     let whole = tree_of c.args.table.now in
     let rest = c.pop.new.self in
     let split : c.loop-frame.frames ≡ rest ++ First c.in-First.operator c.in-First.right ∷ [] = c.in-Some.ensures.items ∙ ap (λ f. rest ++ f ∷ []) c.in-First.is in
-    (search rules, (room_pop _ rest _ _ split c.in-Some.ensures.marks, numbers_pop _ rest _ _ split refl c.in-Some.ensures.numbers))
+    sym (ap (finished_next whole c.args.count c.visit_right.new.frames c.visit_right.new.steps) c.in-Visit.is)
+    ∙ c.visit_right.ensures.outcome ∙ finished_pop whole c.args.count _ rest _ _ _ _ split c.loop-frame.invariant.outcome refl
 
-pub returns-in_default-leaf_value-clause-outcome : goal.returns-in_default-leaf_value-clause-outcome
-returns-in_default-leaf_value-clause-outcome g c =
+pub returns-in-Visit-clause-remaining : goal.returns-in-Visit-clause-remaining
+returns-in-Visit-clause-remaining g c =
     let whole = tree_of c.args.table.now in
     let rest = c.pop.new.self in
     let split : c.loop-frame.frames ≡ rest ++ First c.in-First.operator c.in-First.right ∷ [] = c.in-Some.ensures.items ∙ ap (λ f. rest ++ f ∷ []) c.in-First.is in
-    let needs = sym c.needs_right.ensures ∙ c.if-not-needs_right.false in
-    rw c.push.ensures
-    (finished_more whole c.args.count rest (Second c.in-First.operator c.loop-frame.value) _
-    ∙ finished_pop whole c.args.count _ rest _ _ _ _ split c.loop-frame.invariant.outcome (rw needs refl))
+    omega (arith, c.loop-frame.invariant.remaining, remaining_pop whole _ rest _ split, c.visit_right.ensures.remaining, ap (remaining_next whole) c.in-Visit.is)
 
-pub returns-in_default-leaf_value-clause-remaining : goal.returns-in_default-leaf_value-clause-remaining
-returns-in_default-leaf_value-clause-remaining g c =
+pub returns-in-Undefined-clause-outcome : goal.returns-in-Undefined-clause-outcome
+returns-in-Undefined-clause-outcome g c =
     let whole = tree_of c.args.table.now in
     let rest = c.pop.new.self in
     let split : c.loop-frame.frames ≡ rest ++ First c.in-First.operator c.in-First.right ∷ [] = c.in-Some.ensures.items ∙ ap (λ f. rest ++ f ∷ []) c.in-First.is in
-    omega (arith, c.loop-frame.invariant.remaining, remaining_pop whole _ rest _ split, ap (remaining whole) c.push.ensures, remaining_more whole rest (Second c.in-First.operator c.loop-frame.value))
+    sym (ap (finished_next whole c.args.count c.visit_right.new.frames c.visit_right.new.steps) c.in-Undefined.is)
+    ∙ c.visit_right.ensures.outcome ∙ finished_pop whole c.args.count _ rest _ _ _ _ split c.loop-frame.invariant.outcome refl
 
-pub returns-in_default-leaf_value-clause-least : goal.returns-in_default-leaf_value-clause-least
-returns-in_default-leaf_value-clause-least g c =
+pub returns-in-Undefined-clause-remaining : goal.returns-in-Undefined-clause-remaining
+returns-in-Undefined-clause-remaining g c =
     let whole = tree_of c.args.table.now in
     let rest = c.pop.new.self in
     let split : c.loop-frame.frames ≡ rest ++ First c.in-First.operator c.in-First.right ∷ [] = c.in-Some.ensures.items ∙ ap (λ f. rest ++ f ∷ []) c.in-First.is in
-    omega (arith, c.loop-frame.invariant.least, least_pop _ rest _ split, ap least_steps c.push.ensures, least_more rest (Second c.in-First.operator c.loop-frame.value))
-
-pub returns-in_default-leaf_value-clause-next : goal.returns-in_default-leaf_value-clause-next
-returns-in_default-leaf_value-clause-next g c =
-    let whole = tree_of c.args.table.now in
-    let rest = c.pop.new.self in
-    let split : c.loop-frame.frames ≡ rest ++ First c.in-First.operator c.in-First.right ∷ [] = c.in-Some.ensures.items ∙ ap (λ f. rest ++ f ∷ []) c.in-First.is in
-    (frames_pop whole _ rest _ split c.loop-frame.invariant.frames).1
-
-pub returns-in_default-leaf_value-clause-frames : goal.returns-in_default-leaf_value-clause-frames
-returns-in_default-leaf_value-clause-frames g c =
-    let whole = tree_of c.args.table.now in
-    let rest = c.pop.new.self in
-    let split : c.loop-frame.frames ≡ rest ++ First c.in-First.operator c.in-First.right ∷ [] = c.in-Some.ensures.items ∙ ap (λ f. rest ++ f ∷ []) c.in-First.is in
-    rw c.push.ensures (frames_more whole rest (Second c.in-First.operator c.loop-frame.value) (frames_pop whole _ rest _ split c.loop-frame.invariant.frames).0 tt)
-
-pub loop-frame-preserved-in-Some-combined : goal.loop-frame-preserved-in-Some-combined
-loop-frame-preserved-in-Some-combined g c =
-    let whole = tree_of c.args.table.now in
-    let rest = c.pop.new.self in
-    let split : c.loop-frame.frames ≡ rest ++ First c.in-First.operator c.in-First.right ∷ [] = c.in-Some.ensures.items ∙ ap (λ f. rest ++ f ∷ []) c.in-First.is in
-    let needs = sym c.needs_right.ensures ∙ c.if-not-needs_right.false in
-    let leaf = c.in-Some-leaf_value.ensures in
-    let value = sym c.combined.ensures ∙ c.in-Some-combined.is in
-    record {
-      outcome = finished_pop whole c.args.count _ rest _ _ _ _ split c.loop-frame.invariant.outcome (rw (needs, leaf.value_is, leaf.one_step, value) refl);
-      remaining = omega (arith, c.loop-frame.invariant.remaining, remaining_pop whole _ rest _ split, leaf.one_node);
-      more = omega (arith, c.loop-frame.invariant.more);
-      least = omega (arith, c.loop-frame.invariant.least, least_pop _ rest _ split);
-      frames = (frames_pop whole _ rest _ split c.loop-frame.invariant.frames).0;
-    }
-
-pub returns-in-None-clause-outcome : goal.returns-in-None-clause-outcome
-returns-in-None-clause-outcome g c =
-    let whole = tree_of c.args.table.now in
-    let rest = c.pop.new.self in
-    let split : c.loop-frame.frames ≡ rest ++ First c.in-First.operator c.in-First.right ∷ [] = c.in-Some.ensures.items ∙ ap (λ f. rest ++ f ∷ []) c.in-First.is in
-    let needs = sym c.needs_right.ensures ∙ c.if-not-needs_right.false in
-    let leaf = c.in-Some-leaf_value.ensures in
-    let value = sym c.combined.ensures ∙ c.in-None.is in
-    sym (finished_undefined whole c.args.count _ rest)
-    ∙ finished_pop whole c.args.count _ rest _ _ _ _ split c.loop-frame.invariant.outcome (rw (needs, leaf.value_is, leaf.one_step, value) refl)
-
-pub returns-in-None-clause-remaining : goal.returns-in-None-clause-remaining
-returns-in-None-clause-remaining g c =
-    let whole = tree_of c.args.table.now in
-    let rest = c.pop.new.self in
-    let split : c.loop-frame.frames ≡ rest ++ First c.in-First.operator c.in-First.right ∷ [] = c.in-Some.ensures.items ∙ ap (λ f. rest ++ f ∷ []) c.in-First.is in
-    let leaf = c.in-Some-leaf_value.ensures in
-    omega (arith, c.loop-frame.invariant.remaining, remaining_pop whole _ rest _ split, leaf.one_node)
-
-pub returns-in-None-clause-least : goal.returns-in-None-clause-least
-returns-in-None-clause-least g c =
-    let whole = tree_of c.args.table.now in
-    let rest = c.pop.new.self in
-    let split : c.loop-frame.frames ≡ rest ++ First c.in-First.operator c.in-First.right ∷ [] = c.in-Some.ensures.items ∙ ap (λ f. rest ++ f ∷ []) c.in-First.is in
-    omega (arith, c.loop-frame.invariant.least, least_pop _ rest _ split)
-
-pub returns-in-None-clause-frames : goal.returns-in-None-clause-frames
-returns-in-None-clause-frames g c =
-    let whole = tree_of c.args.table.now in
-    let rest = c.pop.new.self in
-    let split : c.loop-frame.frames ≡ rest ++ First c.in-First.operator c.in-First.right ∷ [] = c.in-Some.ensures.items ∙ ap (λ f. rest ++ f ∷ []) c.in-First.is in
-    (frames_pop whole _ rest _ split c.loop-frame.invariant.frames).0
+    omega (arith, c.loop-frame.invariant.remaining, remaining_pop whole _ rest _ split, c.visit_right.ensures.remaining, ap (remaining_next whole) c.in-Undefined.is)
 
 pub loop-frame-preserved : goal.loop-frame-preserved
 loop-frame-preserved g c =
     let whole = tree_of c.args.table.now in
     let rest = c.pop.new.self in
     let split : c.loop-frame.frames ≡ rest ++ Second c.in-Second.operator c.in-Second.left ∷ [] = c.in-Some.ensures.items ∙ ap (λ f. rest ++ f ∷ []) c.in-Second.is in
-    let value = sym c.combined-in-Second.ensures ∙ c.in-Some-combined-2.is in
+    let value = sym c.combined.ensures ∙ c.in-Some-combined.is in
     record {
       outcome = finished_pop whole c.args.count _ rest _ _ _ _ split c.loop-frame.invariant.outcome (rw value refl);
       remaining = omega (arith, c.loop-frame.invariant.remaining, remaining_pop whole _ rest _ split);
@@ -151,31 +119,31 @@ loop-frame-preserved g c =
       frames = (frames_pop whole _ rest _ split c.loop-frame.invariant.frames).0;
     }
 
-pub returns-in-None-combined-clause-outcome : goal.returns-in-None-combined-clause-outcome
-returns-in-None-combined-clause-outcome g c =
+pub returns-in-None-clause-outcome : goal.returns-in-None-clause-outcome
+returns-in-None-clause-outcome g c =
     let whole = tree_of c.args.table.now in
     let rest = c.pop.new.self in
     let split : c.loop-frame.frames ≡ rest ++ Second c.in-Second.operator c.in-Second.left ∷ [] = c.in-Some.ensures.items ∙ ap (λ f. rest ++ f ∷ []) c.in-Second.is in
-    let value = sym c.combined-in-Second.ensures ∙ c.in-None-combined.is in
+    let value = sym c.combined.ensures ∙ c.in-None.is in
     sym (finished_undefined whole c.args.count _ rest)
     ∙ finished_pop whole c.args.count _ rest _ _ _ _ split c.loop-frame.invariant.outcome (rw value refl)
 
-pub returns-in-None-combined-clause-remaining : goal.returns-in-None-combined-clause-remaining
-returns-in-None-combined-clause-remaining g c =
+pub returns-in-None-clause-remaining : goal.returns-in-None-clause-remaining
+returns-in-None-clause-remaining g c =
     let whole = tree_of c.args.table.now in
     let rest = c.pop.new.self in
     let split : c.loop-frame.frames ≡ rest ++ Second c.in-Second.operator c.in-Second.left ∷ [] = c.in-Some.ensures.items ∙ ap (λ f. rest ++ f ∷ []) c.in-Second.is in
     omega (arith, c.loop-frame.invariant.remaining, remaining_pop whole _ rest _ split)
 
-pub returns-in-None-combined-clause-least : goal.returns-in-None-combined-clause-least
-returns-in-None-combined-clause-least g c =
+pub returns-in-None-clause-least : goal.returns-in-None-clause-least
+returns-in-None-clause-least g c =
     let whole = tree_of c.args.table.now in
     let rest = c.pop.new.self in
     let split : c.loop-frame.frames ≡ rest ++ Second c.in-Second.operator c.in-Second.left ∷ [] = c.in-Some.ensures.items ∙ ap (λ f. rest ++ f ∷ []) c.in-Second.is in
     omega (arith, c.loop-frame.invariant.least, least_pop _ rest _ split)
 
-pub returns-in-None-combined-clause-frames : goal.returns-in-None-combined-clause-frames
-returns-in-None-combined-clause-frames g c =
+pub returns-in-None-clause-frames : goal.returns-in-None-clause-frames
+returns-in-None-clause-frames g c =
     let whole = tree_of c.args.table.now in
     let rest = c.pop.new.self in
     let split : c.loop-frame.frames ≡ rest ++ Second c.in-Second.operator c.in-Second.left ∷ [] = c.in-Some.ensures.items ∙ ap (λ f. rest ++ f ∷ []) c.in-Second.is in

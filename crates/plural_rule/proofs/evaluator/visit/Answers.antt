@@ -16,8 +16,8 @@ push-requires g c =
     omega (arith, positive, c.requires.remaining, c.requires.room, c.requires.half, c.requires.least, least-numbers whole c.args.frames.now) in
     (search rules, (marks, numbers))
 
-pub push-requires-in-Binary : goal.push-requires-in-Binary
-push-requires-in-Binary g c =
+pub push-requires-in_default : goal.push-requires-in_default
+push-requires-in_default g c =
     let whole = tree_of c.args.table.now in
     let positive = nodes-positive (subtree whole c.args.index) in
     let marks : length c.args.frames.now < g.row.NODES =
