@@ -23,7 +23,9 @@ OneMessageList =
 -- every byte string is a valid file, or has a first fault
 abbrev pub MoFileOrFault : Type 0
 MoFileOrFault =
-    (bytes : List ℕ) → ((order : Order) × (messages : List Message) × IsMoFile order bytes messages) ⊎ ((fault : MoError) × IsFirstFault bytes fault)
+    (bytes : List ℕ)
+    → ((order : Order) × (messages : List Message) × IsMoFile order bytes messages)
+    ⊎ ((fault : MoError) × IsFirstFault bytes fault)
 
 -- a byte string has one first fault at most
 abbrev pub OneFirstFault : Type 0

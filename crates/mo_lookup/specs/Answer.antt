@@ -1,5 +1,6 @@
 -- What a query is answered (GNU gettext manual, "Plural forms").
-use Rattle.std.specs.Prelude.{ℕ, ◌==◌, Bool, true, false, nat_lt, min, List, [], length, slice_index_or, Option, None, Some, if◌then◌else◌}
+use Rattle.std.specs.Prelude.{ℕ, ◌==◌, Bool, true, false, nat_lt, min, List, [], length, slice_index_or, Option, None}
+use Rattle.std.specs.Prelude.{Some, if◌then◌else◌}
 use Rattle.plural_rule.specs.Expression.{value, visited}
 use Rattle.plural_rule.specs.PluralRule.{RuleView}
 use Rattle.mo_lookup.specs.declared.answer.Answer.{Answer}
@@ -24,7 +25,8 @@ form_at forms index = slice_index_or forms index []
 -- rule's number of forms, or isn't below the number of forms that are there
 abbrev pub selected_form : List (List ℕ) → ℕ → Option ℕ → List ℕ
 selected_form forms nplurals None = form_at forms 0
-selected_form forms nplurals (Some index) = if nat_lt index (min nplurals (length forms)) then form_at forms index else form_at forms 0
+selected_form forms nplurals (Some index) =
+    if nat_lt index (min nplurals (length forms)) then form_at forms index else form_at forms 0
 
 -- the msgid, or for a count that isn't 1 the plural
 abbrev pub untranslated_text : List ℕ → Option (List ℕ × ℕ) → List ℕ
@@ -39,7 +41,11 @@ untranslated query = record { text = untranslated_text query.id query.plural; fo
 abbrev pub translated : List (List ℕ) → RuleView → Option (List ℕ × ℕ) → AnswerView
 translated forms rule None = record { text = form_at forms 0; found = true; steps = 0 }
 translated forms rule (Some plural) =
-    record { text = selected_form forms rule.nplurals (value rule.tree plural.1); found = true; steps = visited rule.tree plural.1 }
+    record {
+      text = selected_form forms rule.nplurals (value rule.tree plural.1);
+      found = true;
+      steps = visited rule.tree plural.1;
+    }
 
 -- the answer to a query, from the forms of its translation, where it has one, and the plural rule
 abbrev pub answer : Option (List (List ℕ)) → RuleView → Query → AnswerView

@@ -36,7 +36,8 @@ pub record IsCatalogView (messages : List Message) (rule : RuleView) : Type 0 wh
 -- the query can't be a key
 abbrev pub forms_found : List Message → Query → Option (List (List ℕ))
 forms_found messages query =
-    if can_be_key query.context query.id then option_map forms (translation_under (query_key query.context query.id) messages)
+    if can_be_key query.context query.id
+    then option_map forms (translation_under (query_key query.context query.id) messages)
     else None
 
 -- what a catalogue answers

@@ -22,7 +22,8 @@ translates query catalog = is_some (forms_found catalog.messages query)
 
 -- what a chain answers
 abbrev pub chain_answered : List CatalogView → Query → AnswerView
-chain_answered chain query = option_map_or (λ catalog. answered catalog query) (find (translates query) chain) (untranslated query)
+chain_answered chain query =
+    option_map_or (λ catalog. answered catalog query) (find (translates query) chain) (untranslated query)
 
 -- how many catalogues of a chain are asked: those up to the first that translates the query, else
 -- all of them; none where the query can't be a key
@@ -52,7 +53,8 @@ key_comparisons key catalogues = sum_by (λ catalog. comparisons (keys catalog.m
 
 -- internal: the first catalogue of a chain that has a key, its index, and its translation under the
 -- key
-pub record IsFirstWith (key : List ℕ) (chain : List CatalogView) (index : ℕ) (catalog : CatalogView) (translation : List ℕ) : Type 0 where
+pub record IsFirstWith (key : List ℕ) (chain : List CatalogView) (index : ℕ) (catalog : CatalogView)
+    (translation : List ℕ) : Type 0 where
   pub first : index ≡ position_or_len (has_key key) chain
   pub there : slice_get chain index ≡ Some catalog
   pub under : translation_under key catalog.messages ≡ Some translation

@@ -33,7 +33,8 @@ comparisons ks key = comparisons_within (length ks) ks key
 abbrev pub SearchHalves : Type 0
 SearchHalves =
     ((key : List ℕ) → comparisons [] key ≡ 0)
-    × ((ks : List (List ℕ)) (key : List ℕ) → 0 < length ks → comparisons ks key ≡ 1 + comparisons (keys_left ks key) key)
+    × ((ks : List (List ℕ)) (key : List ℕ) → 0 < length ks
+    → comparisons ks key ≡ 1 + comparisons (keys_left ks key) key)
 
 -- never more than the bound
 abbrev pub SearchIsBounded : Type 0

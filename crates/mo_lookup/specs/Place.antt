@@ -1,5 +1,6 @@
 -- Where the text of an answer is ("The Format of GNU MO Files" and "Plural forms").
-use Rattle.std.specs.Prelude.{◌≡◌, ℕ, ◌≤◌, ◌⊎◌, ◌==◌, Bool, true, false, List, [], length, slice_get, Option, None, Some, if◌then◌else◌}
+use Rattle.std.specs.Prelude.{◌≡◌, ℕ, ◌≤◌, ◌⊎◌, ◌==◌, Bool, true, false, List, [], length, slice_get, Option, None}
+use Rattle.std.specs.Prelude.{Some, if◌then◌else◌}
 use Rattle.std.specs.List.{slice_range}
 use Rattle.std.specs.Option.{option_map_or}
 use Rattle.mo_lookup.specs.declared.place.Place.{Place}

@@ -1,13 +1,17 @@
 -- Internal: an evaluation that is under way, with nodes that wait for an operand.
-use Rattle.std.specs.Prelude.{◌≡◌, ℕ, ◌+◌, ◌-◌, ◌<◌, List, [], ◌∷◌, Option, None, Some, nat_lt, if◌then◌else◌, option_and_then}
+use Rattle.std.specs.Prelude.{◌≡◌, ℕ, ◌+◌, ◌-◌, ◌<◌, List, [], ◌∷◌, Option, None, Some, nat_lt, if◌then◌else◌}
+use Rattle.std.specs.Prelude.{option_and_then}
 use Rattle.plural_rule.specs.declared.node.Shape.{Shape}
-use Rattle.plural_rule.specs.declared.node.Shape.TheVariants.{Count as CountShape, Number as NumberShape, Not as NotShape, Binary as BinaryShape, Conditional as ConditionalShape}
+use Rattle.plural_rule.specs.declared.node.Shape.TheVariants.{Count as CountShape, Number as NumberShape}
+use Rattle.plural_rule.specs.declared.node.Shape.TheVariants.{Not as NotShape, Binary as BinaryShape}
+use Rattle.plural_rule.specs.declared.node.Shape.TheVariants.{Conditional as ConditionalShape}
 use Rattle.plural_rule.specs.declared.frames.Frame.{Frame}
 use Rattle.plural_rule.specs.declared.frames.Frame.TheVariants.{Not as NotFrame, First, Second, Condition}
 use Rattle.plural_rule.specs.declared.evaluator.Next.{Next}
 use Rattle.plural_rule.specs.declared.evaluator.Next.TheVariants.{Visit, Value, Undefined}
 use Rattle.plural_rule.specs.Node.{numeral}
-use Rattle.plural_rule.specs.Expression.{Tree, Count, Number, Not, Binary, Conditional, nodes, negated, binary_value, combined, chosen, value, visited, visited_right}
+use Rattle.plural_rule.specs.Expression.{Tree, Count, Number, Not, Binary, Conditional, nodes, negated, binary_value}
+use Rattle.plural_rule.specs.Expression.{combined, chosen, value, visited, visited_right}
 
 -- the part of a tree whose node stands at an index of the tree's table
 abbrev pub subtree : Tree → ℕ → Tree

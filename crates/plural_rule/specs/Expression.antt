@@ -1,8 +1,11 @@
 -- A plural expression as a tree, its value, and how many of its nodes an evaluation visits.
 -- GNU gettext manual, "Plural forms"; C standard, "Expressions", over unsigned numbers of 64 bits.
-use Rattle.std.specs.Prelude.{ℕ, ◌+◌, ◌-◌, ◌*◌, ◌/◌, ◌%◌, ◌^◌, Bool, true, false, not, nat_lt, nat_le, ◌==◌, Option, Some, None, option_and_then, if◌then◌else◌}
+use Rattle.std.specs.Prelude.{ℕ, ◌+◌, ◌-◌, ◌*◌, ◌/◌, ◌%◌, ◌^◌, Bool, true, false, not, nat_lt, nat_le, ◌==◌, Option}
+use Rattle.std.specs.Prelude.{Some, None, option_and_then, if◌then◌else◌}
 use Rattle.plural_rule.specs.declared.operator.Operator.{Operator}
-use Rattle.plural_rule.specs.declared.operator.Operator.TheVariants.{Or, And, Equal, NotEqual, Less, Greater, AtMost, AtLeast, Add, Subtract, Multiply, Divide, Remainder}
+use Rattle.plural_rule.specs.declared.operator.Operator.TheVariants.{Or, And, Equal, NotEqual, Less, Greater, AtMost}
+use Rattle.plural_rule.specs.declared.operator.Operator.TheVariants.{AtLeast, Add, Subtract, Multiply, Divide}
+use Rattle.plural_rule.specs.declared.operator.Operator.TheVariants.{Remainder}
 
 -- an expression: n, a numeral, `!a`, an operator with two operands, or `a ? b : c`
 pub data Tree : Type 0 where
@@ -63,7 +66,8 @@ combined Remainder x y = divided y (x % y)
 -- the value of an operator with two operands, from the values of the first and of the second
 abbrev pub binary_value : Operator → Option ℕ → Option ℕ → Option ℕ
 binary_value op None right = None
-binary_value op (Some x) right = if needs_right op x then option_and_then (combined op x) right else Some (short_circuit_value op)
+binary_value op (Some x) right =
+    if needs_right op x then option_and_then (combined op x) right else Some (short_circuit_value op)
 
 -- `then_case` where the condition isn't 0, `else_case` where it is, and `undefined` where it has no
 -- value

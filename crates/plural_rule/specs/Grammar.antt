@@ -3,9 +3,13 @@
 -- 0) to "Unary operators" (level 7).
 use Rattle.std.specs.Prelude.{ℕ, suc, ◌^◌, ◌<◌, List, [], ◌∷◌, ◌++◌}
 use Rattle.plural_rule.specs.declared.operator.Operator.{Operator}
-use Rattle.plural_rule.specs.declared.operator.Operator.TheVariants.{Or, And, Equal, NotEqual, Less, Greater, AtMost, AtLeast, Add, Subtract, Multiply, Divide, Remainder}
+use Rattle.plural_rule.specs.declared.operator.Operator.TheVariants.{Or, And, Equal, NotEqual, Less, Greater, AtMost}
+use Rattle.plural_rule.specs.declared.operator.Operator.TheVariants.{AtLeast, Add, Subtract, Multiply, Divide}
+use Rattle.plural_rule.specs.declared.operator.Operator.TheVariants.{Remainder}
 use Rattle.plural_rule.specs.declared.token.Token.{Token}
-use Rattle.plural_rule.specs.declared.token.Token.TheVariants.{Count as CountToken, Number as NumberToken, Not as NotToken, Binary as BinaryToken, Question, Colon, Open, Close}
+use Rattle.plural_rule.specs.declared.token.Token.TheVariants.{Count as CountToken, Number as NumberToken}
+use Rattle.plural_rule.specs.declared.token.Token.TheVariants.{Not as NotToken, Binary as BinaryToken, Question, Colon}
+use Rattle.plural_rule.specs.declared.token.Token.TheVariants.{Open, Close}
 use Rattle.plural_rule.specs.Expression.{Tree, Count, Number, Not, Binary, Conditional}
 use Rattle.plural_rule.specs.Tokens.{Lexes}
 

@@ -1,10 +1,14 @@
 -- The nodes of a table as plain numbers, which Rust and C read alike.
 use Rattle.std.specs.Prelude.{◌≡◌, ℕ, ◌+◌, ◌*◌, ◌/◌, ◌%◌, ◌^◌, ◌==◌, refl, if◌then◌else◌}
 use Rattle.plural_rule.specs.declared.operator.Operator.{Operator}
-use Rattle.plural_rule.specs.declared.operator.Operator.TheVariants.{Or, And, Equal, NotEqual, Less, Greater, AtMost, AtLeast, Add, Subtract, Multiply, Divide, Remainder}
+use Rattle.plural_rule.specs.declared.operator.Operator.TheVariants.{Or, And, Equal, NotEqual, Less, Greater, AtMost}
+use Rattle.plural_rule.specs.declared.operator.Operator.TheVariants.{AtLeast, Add, Subtract, Multiply, Divide}
+use Rattle.plural_rule.specs.declared.operator.Operator.TheVariants.{Remainder}
 use Rattle.plural_rule.specs.declared.node.Node.{Node}
 use Rattle.plural_rule.specs.declared.node.Shape.{Shape}
-use Rattle.plural_rule.specs.declared.node.Shape.TheVariants.{Count as CountShape, Number as NumberShape, Not as NotShape, Binary as BinaryShape, Conditional as ConditionalShape}
+use Rattle.plural_rule.specs.declared.node.Shape.TheVariants.{Count as CountShape, Number as NumberShape}
+use Rattle.plural_rule.specs.declared.node.Shape.TheVariants.{Not as NotShape, Binary as BinaryShape}
+use Rattle.plural_rule.specs.declared.node.Shape.TheVariants.{Conditional as ConditionalShape}
 
 -- the number of an operator
 abbrev pub operator_code : Operator → ℕ

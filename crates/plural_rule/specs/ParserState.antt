@@ -1,14 +1,18 @@
 -- Internal: how the parser's table and stack stand for what waits and for a complete operand.
-use Rattle.std.specs.Prelude.{◌≡◌, ℕ, ◌+◌, ◌-◌, nat_le, ◌==◌, Bool, true, false, List, [], ◌∷◌, ◌++◌, Option, Some, None, if◌then◌else◌}
+use Rattle.std.specs.Prelude.{◌≡◌, ℕ, ◌+◌, ◌-◌, nat_le, ◌==◌, Bool, true, false, List, [], ◌∷◌, ◌++◌, Option, Some}
+use Rattle.std.specs.Prelude.{None, if◌then◌else◌}
 use Rattle.plural_rule.specs.declared.node.Node.{Node}
 use Rattle.plural_rule.specs.declared.parts.Pending.{Pending}
-use Rattle.plural_rule.specs.declared.parts.Pending.TheVariants.{Not as NotPending, Open as OpenPending, Binary as BinaryPending, Question as QuestionPending, Colon as ColonPending}
+use Rattle.plural_rule.specs.declared.parts.Pending.TheVariants.{Not as NotPending, Open as OpenPending}
+use Rattle.plural_rule.specs.declared.parts.Pending.TheVariants.{Binary as BinaryPending, Question as QuestionPending}
+use Rattle.plural_rule.specs.declared.parts.Pending.TheVariants.{Colon as ColonPending}
 use Rattle.plural_rule.specs.Expression.{Tree, nodes}
 use Rattle.plural_rule.specs.Grammar.{level, Spelt}
 use Rattle.plural_rule.specs.PluralRule.{IsReadable}
 use Rattle.plural_rule.specs.Node.{not_node, binary_node, conditional_node}
 use Rattle.plural_rule.specs.PostOrder.{post_order}
-use Rattle.plural_rule.specs.ShiftReduce.{Waiting, WaitNot, WaitOpen, WaitBinary, WaitQuestion, WaitColon, State, Want, Have}
+use Rattle.plural_rule.specs.ShiftReduce.{Waiting, WaitNot, WaitOpen, WaitBinary, WaitQuestion, WaitColon, State, Want}
+use Rattle.plural_rule.specs.ShiftReduce.{Have}
 
 -- how many nodes stand in the table for what waits
 abbrev pub size : List Waiting → ℕ
@@ -26,7 +30,8 @@ waiting_nodes (WaitNot ∷ stack) = waiting_nodes stack
 waiting_nodes (WaitOpen ∷ stack) = waiting_nodes stack
 waiting_nodes (WaitBinary op a ∷ stack) = waiting_nodes stack ++ post_order (size stack) a
 waiting_nodes (WaitQuestion a ∷ stack) = waiting_nodes stack ++ post_order (size stack) a
-waiting_nodes (WaitColon a b ∷ stack) = (waiting_nodes stack ++ post_order (size stack) a) ++ post_order (size stack + nodes a) b
+waiting_nodes (WaitColon a b ∷ stack) =
+    (waiting_nodes stack ++ post_order (size stack) a) ++ post_order (size stack + nodes a) b
 
 -- what waits, as the parser's stack has it; its operands stand in the table from index base on
 abbrev pub pending : ℕ → Waiting → Pending

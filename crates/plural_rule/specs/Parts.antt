@@ -1,11 +1,14 @@
 -- Internal: nodes of complete operands at the beginning of an array of nodes, and what waits for an
 -- operand at its end, each as a node.
-use Rattle.std.specs.Prelude.{◌≡◌, ℕ, zero, suc, ◌-◌, ◌==◌, List, [], ◌∷◌, ◌++◌, length, take, slice_index_or, refl, if◌then◌else◌}
+use Rattle.std.specs.Prelude.{◌≡◌, ℕ, zero, suc, ◌-◌, ◌==◌, List, [], ◌∷◌, ◌++◌, length, take, slice_index_or, refl}
+use Rattle.std.specs.Prelude.{if◌then◌else◌}
 use Rattle.std.proofs.Common.{ap}
 use Rattle.plural_rule.specs.declared.node.Node.{Node}
 use Rattle.plural_rule.specs.declared.parts.Parts.{Parts}
 use Rattle.plural_rule.specs.declared.parts.Pending.{Pending}
-use Rattle.plural_rule.specs.declared.parts.Pending.TheVariants.{Not as NotPending, Open as OpenPending, Binary as BinaryPending, Question as QuestionPending, Colon as ColonPending}
+use Rattle.plural_rule.specs.declared.parts.Pending.TheVariants.{Not as NotPending, Open as OpenPending}
+use Rattle.plural_rule.specs.declared.parts.Pending.TheVariants.{Binary as BinaryPending, Question as QuestionPending}
+use Rattle.plural_rule.specs.declared.parts.Pending.TheVariants.{Colon as ColonPending}
 use Rattle.plural_rule.specs.Node.{count_node, not_node, binary_node, conditional_node, operator_of, operator_of-code}
 
 -- what waits, as a node

@@ -24,7 +24,8 @@ abbrev pub nodes_in : ParsedRule → List Node → List Node
 nodes_in parsed room = take parsed.node_count room
 
 abbrev pub rule_in : ParsedRule → List Node → RuleView
-rule_in parsed room = record { source = parsed.source; nplurals = parsed.nplurals; tree = tree_of (nodes_in parsed room) }
+rule_in parsed room =
+    record { source = parsed.source; nplurals = parsed.nplurals; tree = tree_of (nodes_in parsed room) }
 
 -- the most bytes of an expression that is read, and so the most nodes that a rule has
 abbrev pub expression_limit : ℕ
@@ -91,4 +92,5 @@ IsRuleOf limit header rule = Gives limit header rule rule.source
 -- the limit changes nothing: the header names no number, and so has the default rule, or it names
 -- no expression past the limit
 abbrev pub IsWithin : ℕ → List ℕ → Type 0
-IsWithin limit header = (nplurals_of header ≡ None) ⊎ ((text : List ℕ) → expression_of header ≡ Some text → length text ≤ limit)
+IsWithin limit header =
+    (nplurals_of header ≡ None) ⊎ ((text : List ℕ) → expression_of header ≡ Some text → length text ≤ limit)

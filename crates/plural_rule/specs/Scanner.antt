@@ -19,7 +19,8 @@ IsTooLarge _ = ⊥
 
 -- no token begins the text, or only a numeral that doesn't fit 64 bits
 abbrev pub HasNoToken : List ℕ → Type 0
-HasNoToken text = (t : Token) (own rest : List ℕ) → text ≡ own ++ rest → IsSpelling t own → IsLongest own rest → IsTooLarge t
+HasNoToken text =
+    (t : Token) (own rest : List ℕ) → text ≡ own ++ rest → IsSpelling t own → IsLongest own rest → IsTooLarge t
 
 -- the first two bytes of the text spell the operator
 pub record BeginsWithDouble (text : List ℕ) (op : Operator) : Type 0 where

@@ -3,7 +3,9 @@
 use Rattle.std.specs.Prelude.{◌≡◌, ◌≢◌, ℕ, Bool, ◌||◌, ◌==◌, List, [], ◌∷◌, ◌++◌, IsTrue, codes}
 use Rattle.std.specs.Str.Parse.{AllDigits, digits_value}
 use Rattle.plural_rule.specs.declared.operator.Operator.{Operator}
-use Rattle.plural_rule.specs.declared.operator.Operator.TheVariants.{Or, And, Equal, NotEqual, Less, Greater, AtMost, AtLeast, Add, Subtract, Multiply, Divide, Remainder}
+use Rattle.plural_rule.specs.declared.operator.Operator.TheVariants.{Or, And, Equal, NotEqual, Less, Greater, AtMost}
+use Rattle.plural_rule.specs.declared.operator.Operator.TheVariants.{AtLeast, Add, Subtract, Multiply, Divide}
+use Rattle.plural_rule.specs.declared.operator.Operator.TheVariants.{Remainder}
 use Rattle.plural_rule.specs.declared.token.Token.{Token}
 use Rattle.plural_rule.specs.declared.token.Token.TheVariants.{Count, Number, Not, Binary, Question, Colon, Open, Close}
 
@@ -40,10 +42,12 @@ IsSpelling Close bytes = bytes ≡ codes ")"
 
 -- no longer spelling begins with these bytes: no token is spelt by them and some of what follows
 abbrev pub IsLongest : List ℕ → List ℕ → Type 0
-IsLongest own rest = (t : Token) (more after : List ℕ) → rest ≡ more ++ after → more ≢ [] → IsSpelling t (own ++ more) → ⊥
+IsLongest own rest =
+    (t : Token) (more after : List ℕ) → rest ≡ more ++ after → more ≢ [] → IsSpelling t (own ++ more) → ⊥
 
 -- the text spells the tokens
 pub data Lexes : List ℕ → List Token → Type 0 where
   end : Lexes [] []
   blank : {c : ℕ} {text : List ℕ} {ts : List Token} → IsTrue (is_blank c) → Lexes text ts → Lexes (c ∷ text) ts
-  token : {rest : List ℕ} {ts : List Token} (t : Token) (own : List ℕ) → IsSpelling t own → IsLongest own rest → Lexes rest ts → Lexes (own ++ rest) (t ∷ ts)
+  token : {rest : List ℕ} {ts : List Token} (t : Token) (own : List ℕ) → IsSpelling t own → IsLongest own rest
+      → Lexes rest ts → Lexes (own ++ rest) (t ∷ ts)
