@@ -16,3 +16,4 @@ pub mod SpeltEscapes
 pub mod ExpandedEscapes
 pub mod VariableValues
 pub mod SeenNames
+mod EnvsubstEnds

@@ -10,6 +10,7 @@ pub mod Holding
 pub mod SubstituterView
 pub mod Envsubst
 pub mod CountArgument
+pub mod EnvsubstLaw
 pub mod Escapes
 pub mod Expanding
 pub mod Locales

@@ -1,12 +1,15 @@
 //! Laws of substitution and escapes, each the contract of a function that does nothing: a call
 //! brings the law into a proof.
-ghost use Rattle.std.specs.Prelude.{◌≡◌, ◌↔◌, ℕ, Bool, List, Option, Some};
+ghost use Rattle.std.specs.Prelude.{◌≡◌, ◌↔◌, ℕ, Bool, List, Option, Some, Ok, Err};
+ghost use Rattle.po_shell.specs.Envsubst.{EndsAs};
+ghost use Rattle.po_shell.specs.EnvsubstLaw.{TookAll, TookBeginning, TookBeginningOfRead};
 ghost use Rattle.po_shell.specs.Escapes.{expansion, has_no_newline};
 ghost use Rattle.po_shell.specs.Expanding.{Expands};
 ghost use Rattle.po_shell.specs.References.{names_in};
 ghost use Rattle.po_shell.specs.Replacing.{HasValue, HoldsNames, IsReplaced, Replaces};
 ghost use Rattle.po_shell.specs.Stream.{FeedCallsAgree};
 ghost use Rattle.po_shell.specs.Substitution.{Values, substitution, values_of};
+ghost use Rattle.po_shell.specs.declared.fault.ToolFault.{ToolFault};
 
 /// However a text is cut into pieces, the calls that take them write, together with what is still
 /// held back, what the whole text becomes.
@@ -40,4 +43,20 @@ pub fn escapes_are_expanded()
     ensures { (text bytes : List ℕ) (without_newline : Bool)
         → ((bytes ≡ expansion text) × (without_newline ≡ has_no_newline text))
         ↔ Expands text bytes without_newline }
+{}
+
+/// What a run has written where it ends: the text with its references replaced; after a fault a
+/// beginning of that; and where the fault isn't of the writer, a beginning whatever follows what was
+/// read.
+pub fn output_is_replaced()
+    ensures whole { (values : Values) (text : List ℕ) (left old new : Option (List ℕ))
+        → EndsAs values (Some text) left old new (Ok tt) → TookAll values text old new }
+    ensures cut { (values : Values) (text : List ℕ) (left old new : Option (List ℕ)) (fault : ToolFault)
+        → EndsAs values (Some text) left old new (Err fault) → TookBeginning values text old new }
+    ensures read_fault { (values : Values) (text : List ℕ) (left old new : Option (List ℕ))
+        → EndsAs values (Some text) left old new (Err ToolFault.ReadFault)
+        → TookBeginningOfRead values text left old new }
+    ensures out_of_memory { (values : Values) (text : List ℕ) (left old new : Option (List ℕ))
+        → EndsAs values (Some text) left old new (Err ToolFault.OutOfMemory)
+        → TookBeginningOfRead values text left old new }
 {}

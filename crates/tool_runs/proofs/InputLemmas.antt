@@ -1,9 +1,9 @@
 -- The arguments that are left to read, and what they add to the inputs before.
-use Rattle.std.proofs.Common.{◌∙◌, sym, ◌≡◌, ◌≤◌, ◌<◌, ◌+◌, ◌||◌, ℕ, Bool, false, List, [], ◌∷◌, ◌++◌, Option, None, Some, refl, drop, get_or, map, length, ap, subst, append_assoc, append-nil, drop-cons, drop_of_length-le, add-one}
+use Rattle.std.proofs.Common.{◌∙◌, sym, ◌≡◌, ◌≤◌, ◌<◌, ◌+◌, ◌||◌, ℕ, zero, suc, Bool, false, List, [], ◌∷◌, ◌++◌, Option, None, Some, refl, take, drop, take-append-drop, get_or, map, length, ap, subst, append_assoc, append-nil, drop-cons, drop_of_length-le, add-one, arith}
 use Rattle.std.specs.Borrow.{Bor}
 use Rattle.tool_runs.specs.declared.inputs.Input.{Input}
 use Rattle.tool_runs.specs.declared.inputs.InputFault.{InputFault}
-use Rattle.tool_runs.specs.Inputs.{AreInputs, Asked, Asks, AsksFirst, ReadsAs, Reading, asked_by, asked_for, gives, refuses, done, read, unread, input_fault_text, named_input, named_inputs}
+use Rattle.tool_runs.specs.Inputs.{AreInputs, Asked, Asks, AsksFirst, ReadsAs, Reading, asked_arguments, asked_by, asked_for, gives, refuses, done, read, unread, input_fault_text, named_input, named_inputs}
 use Rattle.tool_runs.specs.NamedFile.{NamedFile}
 use Rattle.tool_runs.specs.Run.{is_standard, shown_name}
 
@@ -31,30 +31,59 @@ Asks-trans (Some xs) None c first next p q = absurd p
 Asks-trans (Some xs) (Some ys) None first next p q = absurd q
 Asks-trans (Some xs) (Some ys) (Some zs) first next p q = q ∙ ap (λ l. l ++ next) p ∙ append_assoc xs first next
 
--- what the arguments before i ask for was asked for
+-- the first i arguments, and the next
+pub take-next : (arguments : List (Bor (List ℕ))) (i : ℕ) (d : Bor (List ℕ)) → i < length arguments
+    → take (suc i) (arguments_now arguments) ≡ take i (arguments_now arguments) ++ (get_or arguments i d).now ∷ []
+take-next [] i d below = absurd (omega (arith, below))
+take-next (argument ∷ arguments) zero d below = refl
+take-next (argument ∷ arguments) (suc i) d below = ap (λ l. argument.now ∷ l) (take-next arguments i d (omega (arith, below)))
+
+-- what the arguments before i ask for was asked for, and those that follow ask for the rest
 pub record AsksBefore (before after : Option (List Asked)) (arguments : List (Bor (List ℕ))) (i : ℕ) (seen : Bool) : Type 0 where
-  pub asked : List Asked
-  pub asks : Asks before after asked
-  pub whole : asked ++ asked_by seen (arguments_now (drop i arguments)) ≡ asked_by false (arguments_now arguments)
+  pub asks : Asks before after (asked_by false (take i (arguments_now arguments)))
+  pub goes_on : (more : List (List ℕ))
+      → asked_by false (take i (arguments_now arguments) ++ more) ≡ asked_by false (take i (arguments_now arguments)) ++ asked_by seen more
 
 pub AsksBefore-none : (before : Option (List Asked)) (arguments : List (Bor (List ℕ))) → AsksBefore before before arguments 0 false
-AsksBefore-none before arguments = record { asked = []; asks = Asks-none before; whole = refl }
+AsksBefore-none before arguments = record { asks = Asks-none before; goes_on = λ more. refl }
 
 pub AsksBefore-more : (a b c : Option (List Asked)) (arguments : List (Bor (List ℕ))) (i : ℕ) (d : Bor (List ℕ)) (seen : Bool) → i < length arguments → AsksBefore a b arguments i seen
     → Asks b c (asked_for (get_or arguments i d).now (is_standard (get_or arguments i d).now) seen) → AsksBefore a c arguments (i + 1) (seen || is_standard (get_or arguments i d).now)
-AsksBefore-more a b c arguments i d seen below p q = record {
-  asked = p.asked ++ asked_for (get_or arguments i d).now (is_standard (get_or arguments i d).now) seen;
-  asks = Asks-trans a b c p.asked _ p.asks q;
-  whole = append_assoc p.asked _ _ ∙ ap (λ l. p.asked ++ asked_by seen l) (sym (next-argument arguments i d below)) ∙ p.whole;
-}
+AsksBefore-more a b c arguments i d seen below p q =
+    let argument = (get_or arguments i d).now in
+    let asked = asked_for argument (is_standard argument) seen in
+    let so_far = take i (arguments_now arguments) in
+    let next : take (i + 1) (arguments_now arguments) ≡ so_far ++ argument ∷ [] = ap (λ n. take n (arguments_now arguments)) (add-one i) ∙ take-next arguments i d below in
+    let more_asked : asked_by false (take (i + 1) (arguments_now arguments)) ≡ asked_by false so_far ++ asked =
+    ap (asked_by false) next ∙ p.goes_on (argument ∷ []) ∙ ap (λ l. asked_by false so_far ++ l) (append-nil asked) in
+    record {
+      asks = subst (Asks a c) (sym more_asked) (Asks-trans a b c _ _ p.asks q);
+      goes_on = λ more.
+          ap (λ l. asked_by false (l ++ more)) next ∙ ap (asked_by false) (append_assoc so_far (argument ∷ []) more) ∙ p.goes_on (argument ∷ more)
+          ∙ sym (append_assoc (asked_by false so_far) asked _) ∙ ap (λ l. l ++ asked_by (seen || is_standard argument) more) (sym more_asked);
+    }
 
 pub AsksBefore-first : (a b : Option (List Asked)) (arguments : List (Bor (List ℕ))) (i : ℕ) (seen : Bool) → AsksBefore a b arguments i seen → AsksFirst a b (asked_by false (arguments_now arguments))
-AsksBefore-first a b arguments i seen p = record { asked = p.asked; rest = asked_by seen (arguments_now (drop i arguments)); asks = p.asks; first = p.whole }
+AsksBefore-first a b arguments i seen p = record {
+  asked = asked_by false (take i (arguments_now arguments));
+  rest = asked_by seen (drop i (arguments_now arguments));
+  asks = p.asks;
+  first = sym (p.goes_on (drop i (arguments_now arguments))) ∙ ap (asked_by false) (take-append-drop i (arguments_now arguments));
+}
 
-pub AsksBefore-all : (a b : Option (List Asked)) (arguments : List (Bor (List ℕ))) (i : ℕ) (seen : Bool) → length arguments ≤ i → AsksBefore a b arguments i seen → Asks a b (asked_by false (arguments_now arguments))
-AsksBefore-all a b arguments i seen past p =
-    let none : asked_by seen (arguments_now (drop i arguments)) ≡ [] = ap (λ l. asked_by seen (arguments_now l)) (drop_of_length-le arguments past) in
-    subst (Asks a b) (sym (append-nil p.asked) ∙ ap (λ l. p.asked ++ l) (sym none) ∙ p.whole) p.asks
+-- where as many inputs were read, all before i were
+pub AsksBefore-read : (a b : Option (List Asked)) (arguments : List (Bor (List ℕ))) (i : ℕ) (seen : Bool) (inputs : List NamedFile) (fault : Option (List ℕ)) → fault ≡ None
+    → length inputs ≡ i → AsksBefore a b arguments i seen → Asks a b (asked_by false (asked_arguments (arguments_now arguments) inputs fault))
+AsksBefore-read a b arguments i seen inputs None none count p = subst (λ n. Asks a b (asked_by false (take n (arguments_now arguments)))) (sym count) p.asks
+AsksBefore-read a b arguments i seen inputs (Some fault) none count p = absurd (grind (arith, none))
+
+-- and where the next can't be read, it was asked for too
+pub AsksBefore-unread : (a b : Option (List Asked)) (arguments : List (Bor (List ℕ))) (i : ℕ) (seen : Bool) (inputs : List NamedFile) (fault : Option (List ℕ)) (text : List ℕ)
+    → fault ≡ Some text → length inputs ≡ i → AsksBefore a b arguments (i + 1) seen
+    → Asks a b (asked_by false (asked_arguments (arguments_now arguments) inputs fault))
+AsksBefore-unread a b arguments i seen inputs None text some count p = absurd (grind (arith, some))
+AsksBefore-unread a b arguments i seen inputs (Some fault) text some count p =
+    subst (λ n. Asks a b (asked_by false (take (n + 1) (arguments_now arguments)))) (sym count) p.asks
 
 module _ (file : List ℕ → Reading → Type 0) (standard : Reading → Type 0) where
   -- whatever the arguments from i on add completes what the arguments before made

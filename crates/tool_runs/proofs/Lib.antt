@@ -1,3 +1,4 @@
 pub mod InputLemmas
 pub mod OutputLemmas
 mod WholeOutputs
+mod AskedInTurn

@@ -1,6 +1,6 @@
 -- What the tools read: the inputs that the command line names, in order, up to the first that can't be read (manual, "Invoking the msgfmt
 -- Program": "If input file is `-`, standard input is read").
-use Rattle.std.specs.Prelude.{◌≡◌, ◌++◌, ◌∷◌, ◌||◌, ℕ, Bool, true, false, List, [], map, Option, Some, None, codes}
+use Rattle.std.specs.Prelude.{◌≡◌, ◌+◌, ◌++◌, ◌∷◌, ◌||◌, ℕ, Bool, true, false, List, [], length, map, take, Option, Some, None, codes}
 use Rattle.tool_runs.specs.declared.inputs.Input.{Input}
 use Rattle.tool_runs.specs.declared.inputs.InputFault.{InputFault}
 use Rattle.tool_runs.specs.declared.inputs.InputFault.TheVariants.{CannotOpen, ReadFault, OutOfMemory}
@@ -69,6 +69,11 @@ pub record AsksFirst (before after : Option (List Asked)) (all : List Asked) : T
   pub rest : List Asked
   pub asks : Asks before after asked
   pub first : asked ++ rest ≡ all
+
+-- the arguments that are asked for where these inputs are read: theirs, and that of the one that can't be read
+abbrev pub asked_arguments : List (List ℕ) → List NamedFile → Option (List ℕ) → List (List ℕ)
+asked_arguments arguments inputs None = take (length inputs) arguments
+asked_arguments arguments inputs (Some fault) = take (length inputs + 1) arguments
 
 -- what contracts see of an input
 abbrev pub named_input : Input → NamedFile

@@ -2,6 +2,7 @@ pub mod Run
 pub mod ProgramFaults
 pub mod FaultText
 pub mod Inputs
+pub mod AskedLaw
 pub mod NamedFile
 pub mod FileCalls
 pub mod OutputFiles

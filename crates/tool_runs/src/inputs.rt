@@ -1,7 +1,7 @@
 //! The inputs of a tool, read in the order of the command line.
 ghost use Rattle.std.specs.Prelude.{◌≡◌, ◌≢◌, ◌⊎◌, ◌^◌, ◌+◌, ◌<◌, ◌≤◌, ◌∷◌, [], take, Err, IfErr, IfSome, IsErrOf, OnOk, map, option_map, false, None, Some, MatchOption, MatchResult, IfOk};
 ghost use Rattle.std.specs.Io.KnownBytes.{Consumes};
-ghost use Rattle.tool_runs.specs.Inputs.{AreInputs, Asks, AsksFirst, IsInputFault, ReadsAs, asked_by, asked_for, gives, refuses, named_inputs, input_fault_text};
+ghost use Rattle.tool_runs.specs.Inputs.{AreInputs, Asks, AsksFirst, IsInputFault, ReadsAs, asked_arguments, asked_by, asked_for, gives, refuses, named_inputs, input_fault_text};
 ghost use Rattle.tool_runs.specs.NamedFile.{named_files};
 ghost use Rattle.tool_runs.specs.ProgramFaults.{program_text};
 ghost use Rattle.tool_runs.specs.Run.{is_standard, shown_name};
@@ -82,9 +82,11 @@ impl<'a> Inputs<'a> {
         // Each is asked for in its turn, and standard input once at most.
         ensures asked { AsksFirst (S.asked source.old) (S.asked source.new)
             (asked_by false (map (λ argument. argument.now) arguments.now)) }
-        ensures asked_all { IfOk result (λ inputs. option_map program_text inputs.fault ≡ None
-            → Asks (S.asked source.old) (S.asked source.new)
-            (asked_by false (map (λ argument. argument.now) arguments.now))) }
+
+        // One is asked for only after all before it were read.
+        ensures asked_read { IfOk result (λ inputs. Asks (S.asked source.old) (S.asked source.new)
+            (asked_by false (asked_arguments (map (λ argument. argument.now) arguments.now)
+            (named_inputs inputs.texts.items) (option_map program_text inputs.fault)))) }
     {
         let mut texts = Vec::new(alloc);
         let mut is_stdin_read = false;

@@ -1,7 +1,9 @@
-//! Laws of outputs, each the contract of a function that does nothing: a call brings the law into a
+//! Laws of inputs and outputs, each the contract of a function that does nothing: a call brings the law into a
 //! proof.
-ghost use Rattle.std.specs.Prelude.{◌≡◌, ◌++◌, ℕ, List, Option, codes, true};
+ghost use Rattle.std.specs.Prelude.{◌≡◌, ◌++◌, ◌↔◌, ℕ, List, Option, codes, false, true};
+ghost use Rattle.tool_runs.specs.AskedLaw.{AsksInTurn};
 ghost use Rattle.tool_runs.specs.FileCalls.{FileCall};
+ghost use Rattle.tool_runs.specs.Inputs.{Asked, asked_by};
 ghost use Rattle.tool_runs.specs.OutputFiles.{WritesFile, names_stream};
 ghost use Rattle.tool_runs.specs.OutputLaw.{IsWholeOrAsItWasThroughout};
 ghost use Rattle.tool_runs.specs.declared.output_files.OutputFault.{OutputFault};
@@ -21,4 +23,11 @@ pub fn streams_have_names()
     ensures stderr { names_stream (codes "/dev/stderr") ≡ true }
     ensures descriptors { (number : List ℕ) → names_stream (codes "/dev/fd/" ++ number) ≡ true }
     ensures of_process { (number : List ℕ) → names_stream (codes "/proc/self/fd/" ++ number) ≡ true }
+{}
+
+/// Arguments ask for the file of each name but `-`, in their order, and for standard input once, in
+/// the place of the first `-`.
+pub fn inputs_are_asked_in_turn()
+    ensures { (arguments : List (List ℕ)) (asked : List Asked)
+        → (asked ≡ asked_by false arguments) ↔ AsksInTurn arguments asked }
 {}

@@ -1,13 +1,17 @@
-use Rattle.std.proofs.Common.{◌≡◌, ◌||◌, ◌+◌, Bool, List, refl, sym, subst, ◌∙◌, ap, ⊎_elim}
+use Rattle.std.proofs.Common.{◌≡◌, ◌||◌, ◌+◌, Bool, List, length, length-append, refl, sym, subst, ◌∙◌, ap, ⊎_elim}
 use Rattle.std.proofs.lemmas.Result.{IfOk-weaker}
 use Rattle.tool_runs.specs.Inputs.{named_inputs}
 use Rattle.tool_runs.specs.NamedFile.{NamedFile}
-use Rattle.tool_runs.proofs.InputLemmas.{AsksBefore, AsksBefore-all, AsksBefore-first, AsksBefore-more, AsksBefore-none, Completes, Completes-none, Completes-read, Completes-unread, Completes-all, named-more}
+use Rattle.tool_runs.proofs.InputLemmas.{AsksBefore, AsksBefore-read, AsksBefore-unread, AsksBefore-first, AsksBefore-more, AsksBefore-none, Completes, Completes-none, Completes-read, Completes-unread, Completes-all, named-more}
 use Rattle.tool_runs.proofs.inputs.Inputs.read.Goals as goal
 use Rattle.tool_runs.proofs.inputs.Inputs.read.Goals.{then-is_stdin_read, else-is_stdin_read}
 
 pub loop-argument-init : goal.loop-argument-init
-loop-argument-init g c = record { inputs = rw c.new-texts.ensures.items (Completes-none _ _ _); asked = AsksBefore-none _ _ }
+loop-argument-init g c = record {
+  inputs = rw c.new-texts.ensures.items (Completes-none _ _ _);
+  asked = AsksBefore-none _ _;
+  count = rw c.new-texts.ensures.items refl;
+}
 
 pub returns-clause-inputs : goal.returns-clause-inputs
 returns-clause-inputs g c = Completes-all _ _ _ _ _ _ c.loop-argument-test.false c.loop-argument.invariant.inputs
@@ -15,8 +19,8 @@ returns-clause-inputs g c = Completes-all _ _ _ _ _ _ c.loop-argument-test.false
 pub returns-clause-asked : goal.returns-clause-asked
 returns-clause-asked g c = AsksBefore-first _ _ _ _ _ c.loop-argument.invariant.asked
 
-pub returns-clause-asked_all : goal.returns-clause-asked_all
-returns-clause-asked_all g c = λ none. AsksBefore-all _ _ _ _ _ c.loop-argument-test.false c.loop-argument.invariant.asked
+pub returns-clause-asked_read : goal.returns-clause-asked_read
+returns-clause-asked_read g c = AsksBefore-read _ _ _ _ _ _ _ refl c.loop-argument.invariant.count c.loop-argument.invariant.asked
 
 pub loop-argument-preserved : goal.loop-argument-preserved
 loop-argument-preserved g c =
@@ -37,6 +41,7 @@ loop-argument-preserved g c =
       asked = subst AskedOnce seen
           (AsksBefore-more _ _ _ c.args.arguments.now c.loop-argument.argument-index _ c.loop-argument.is_stdin_read c.loop-argument-test.true c.loop-argument.invariant.asked
           (rw c.is_standard-standard.ensures at c.read_argument.ensures.asked));
+      count = ap length texts ∙ length-append (named_inputs c.loop-argument.texts.items) _ ∙ ap (λ n. n + 1) c.loop-argument.invariant.count;
     }
 
 pub returns-in-Err-clause-inputs : goal.returns-in-Err-clause-inputs
@@ -60,6 +65,12 @@ returns-in_err-push-in-Ok-clause-asked g c =
     (AsksBefore-more _ _ _ c.args.arguments.now c.loop-argument.argument-index _ c.loop-argument.is_stdin_read c.loop-argument-test.true c.loop-argument.invariant.asked
     (rw c.is_standard-standard.ensures at c.read_argument.ensures.asked))
 
-pub returns-in-Err-clause-asked_all : goal.returns-in-Err-clause-asked_all
-returns-in-Err-clause-asked_all g c =
-    IfOk-weaker c.ended.result _ _ (λ inputs reported. λ none. let fault = reported.1 in cc) c.ended.ensures
+pub returns-in-Err-clause-asked_read : goal.returns-in-Err-clause-asked_read
+returns-in-Err-clause-asked_read g c =
+    IfOk-weaker c.ended.result _ _
+    (λ inputs reported.
+    AsksBefore-unread _ _ c.args.arguments.now c.loop-argument.argument-index _ _ _ _ reported.1
+    (ap (λ texts. length (named_inputs texts)) reported.0 ∙ c.loop-argument.invariant.count)
+    (AsksBefore-more _ _ _ c.args.arguments.now c.loop-argument.argument-index _ c.loop-argument.is_stdin_read c.loop-argument-test.true c.loop-argument.invariant.asked
+    (rw c.is_standard-standard.ensures at c.read_argument.ensures.asked)))
+    c.ended.ensures
