@@ -1,22 +1,25 @@
 //! The arguments that each tool takes, as `clap` commands.
+ghost use Rattle.std.specs.Prelude.{◌≡◌, ◌∷◌, [], IfOk, codes, map};
+ghost use Rattle.clap.specs.Built.{names_in, subcommand_names};
+ghost use Rattle.clap.specs.Facts.{subcommands_of};
+ghost use Rattle.command_line.specs.Tools.{IsNamed, every_tool, offered, tool_name};
+
 use crate::help;
+use crate::tool::Tool;
 use Kind::{ByteOrder, File, Files, Flag, Forms, Letter, Number, Output, ShortFlag, Text};
 use clap::{Arg, ArgAction, Command, value_parser};
 use std::alloc::{AllocError, Global};
 
-/// The MO file that msgfmt writes where the arguments name none.
-pub const DEFAULT_OUTPUT: &str = "messages.mo";
-
 static BYTE_ORDERS: [&str; 2] = ["little", "big"];
 
-static TOOLS: [&str; 7] = [
-    "msgfmt",
-    "msgunfmt",
-    "msgattrib",
-    "msgcat",
-    "gettext",
-    "ngettext",
-    "envsubst",
+static TOOLS: [Tool; 7] = [
+    Tool::Msgfmt,
+    Tool::Msgunfmt,
+    Tool::Msgattrib,
+    Tool::Msgcat,
+    Tool::Gettext,
+    Tool::Ngettext,
+    Tool::Envsubst,
 ];
 
 /// An argument or an option: the name by which it is read, what it is, and its help.
@@ -37,8 +40,8 @@ enum Kind {
     ShortFlag(char),
     /// An option of a letter alone.
     Letter(char),
-    /// The option that names the output, with its default.
-    Output(Option<&'static str>),
+    /// The option that names the output.
+    Output,
     /// An option `--name TEXT`, or its letter, with what the help has for the text.
     Text(char, &'static str),
     /// An option `--name N`.
@@ -49,7 +52,7 @@ enum Kind {
 
 const OUTPUT: Argument = (
     "output-file",
-    Output(None),
+    Output,
     "PO text to write; - or none is standard output",
 );
 
@@ -87,12 +90,16 @@ static MSGFMT: [Argument; 7] = [
     ),
     (
         "output-file",
-        Output(Some(DEFAULT_OUTPUT)),
-        "MO file to write; - is standard output",
+        Output,
+        "MO file to write; - is standard output [default: messages.mo]",
     ),
     ("use-fuzzy", ShortFlag('f'), "Compile fuzzy entries too"),
     ("statistics", Flag, "Count the messages on standard error"),
-    ("endianness", ByteOrder, "Byte order of the MO file"),
+    (
+        "endianness",
+        ByteOrder,
+        "Byte order of the MO file [default: little]",
+    ),
     (
         "no-hash",
         Flag,
@@ -186,25 +193,32 @@ static ENVSUBST: [Argument; 2] = [
     ),
 ];
 
-/// The tool that an argument names, where it names one.
-pub fn tool_of(argument: &str) -> Option<&'static str> {
-    TOOLS.iter().copied().find(|tool| *tool == argument)
-}
-
 /// The command of the whole program. Where the first argument names a tool, it has the command of
 /// that tool alone.
-pub fn program<'a>(alloc: Global, first: Option<&str>) -> Result<Command<'a>, AllocError> {
+pub fn program<'a>(alloc: Global, first: Option<Tool>) -> Result<Command<'a>, AllocError>
+    ensures { IfOk result (λ program. subcommand_names program ≡ offered first) }
+{
+    match first {
+        Some(tool) => without_tools(alloc).subcommand(command_of(alloc, tool)?),
+        None => with_every_tool(alloc),
+    }
+}
+
+/// The command of the whole program with the commands of all tools.
+fn with_every_tool<'a>(alloc: Global) -> Result<Command<'a>, AllocError>
+    ensures { IfOk result (λ program. subcommand_names program ≡ map tool_name every_tool) }
+{
     let mut program = without_tools(alloc);
     for tool in &TOOLS {
-        if first.is_none() || first == Some(*tool) {
-            program = program.subcommand(command_of(alloc, *tool)?)?;
-        }
+        program = program.subcommand(command_of(alloc, *tool)?)?;
     }
     Ok(program)
 }
 
 /// The command of the whole program, without its tools.
-fn without_tools<'a>(alloc: Global) -> Command<'a> {
+fn without_tools<'a>(alloc: Global) -> Command<'a>
+    ensures { subcommand_names result ≡ [] }
+{
     let about = "Compiles message catalogues and looks messages up in them";
     described(alloc, "pokit", about, help::PROGRAM)
         .disable_version_flag(true)
@@ -213,48 +227,60 @@ fn without_tools<'a>(alloc: Global) -> Command<'a> {
 }
 
 /// The command of a tool.
-fn command_of<'a>(alloc: Global, tool: &str) -> Result<Command<'a>, AllocError> {
+fn command_of<'a>(alloc: Global, tool: Tool) -> Result<Command<'a>, AllocError>
+    ensures { IfOk result (λ command. IsNamed command (tool_name tool)) }
+{
     match tool {
-        "msgfmt" => msgfmt(alloc),
-        "msgunfmt" => msgunfmt(alloc),
-        "msgattrib" => msgattrib(alloc),
-        "msgcat" => msgcat(alloc),
-        "gettext" => gettext(alloc),
-        "ngettext" => ngettext(alloc),
-        _ => envsubst(alloc),
+        Tool::Msgfmt => msgfmt(alloc),
+        Tool::Msgunfmt => msgunfmt(alloc),
+        Tool::Msgattrib => msgattrib(alloc),
+        Tool::Msgcat => msgcat(alloc),
+        Tool::Gettext => gettext(alloc),
+        Tool::Ngettext => ngettext(alloc),
+        Tool::Envsubst => envsubst(alloc),
     }
 }
 
 /// The command `msgfmt` with its options and arguments.
-fn msgfmt<'a>(alloc: Global) -> Result<Command<'a>, AllocError> {
+fn msgfmt<'a>(alloc: Global) -> Result<Command<'a>, AllocError>
+    ensures { IfOk result (λ command. IsNamed command (codes "msgfmt")) }
+{
     let about = "Compiles PO texts to one MO file";
     let command = described(alloc, "msgfmt", about, help::MSGFMT);
     with_arguments(alloc, command, &MSGFMT)
 }
 
 /// The command `msgunfmt` with its options and arguments.
-fn msgunfmt<'a>(alloc: Global) -> Result<Command<'a>, AllocError> {
+fn msgunfmt<'a>(alloc: Global) -> Result<Command<'a>, AllocError>
+    ensures { IfOk result (λ command. IsNamed command (codes "msgunfmt")) }
+{
     let about = "Writes the PO text of an MO file";
     let command = described(alloc, "msgunfmt", about, help::MSGUNFMT);
     with_arguments(alloc, command, &MSGUNFMT)
 }
 
 /// The command `msgattrib` with its options and arguments.
-fn msgattrib<'a>(alloc: Global) -> Result<Command<'a>, AllocError> {
+fn msgattrib<'a>(alloc: Global) -> Result<Command<'a>, AllocError>
+    ensures { IfOk result (λ command. IsNamed command (codes "msgattrib")) }
+{
     let about = "Selects entries of a PO text and changes them";
     let command = described(alloc, "msgattrib", about, help::MSGATTRIB);
     with_arguments(alloc, command, &MSGATTRIB)
 }
 
 /// The command `msgcat` with its options and arguments.
-fn msgcat<'a>(alloc: Global) -> Result<Command<'a>, AllocError> {
+fn msgcat<'a>(alloc: Global) -> Result<Command<'a>, AllocError>
+    ensures { IfOk result (λ command. IsNamed command (codes "msgcat")) }
+{
     let about = "Merges PO texts, message by message";
     let command = described(alloc, "msgcat", about, help::MSGCAT);
     with_arguments(alloc, command, &MSGCAT)
 }
 
 /// The command `gettext` with its options and arguments.
-fn gettext<'a>(alloc: Global) -> Result<Command<'a>, AllocError> {
+fn gettext<'a>(alloc: Global) -> Result<Command<'a>, AllocError>
+    ensures { IfOk result (λ command. IsNamed command (codes "gettext")) }
+{
     let about = "Prints the translation of a message";
     let command = described(alloc, "gettext", about, help::GETTEXT).override_usage(
         "pokit gettext [OPTIONS] [TEXTDOMAIN] MSGID\n       pokit gettext [OPTIONS] -s [MSGID]...",
@@ -263,7 +289,9 @@ fn gettext<'a>(alloc: Global) -> Result<Command<'a>, AllocError> {
 }
 
 /// The command `ngettext` with its options and arguments.
-fn ngettext<'a>(alloc: Global) -> Result<Command<'a>, AllocError> {
+fn ngettext<'a>(alloc: Global) -> Result<Command<'a>, AllocError>
+    ensures { IfOk result (λ command. IsNamed command (codes "ngettext")) }
+{
     let about = "Prints the translation of a message with a count";
     let command = described(alloc, "ngettext", about, help::NGETTEXT).override_usage(
         "pokit ngettext [OPTIONS] [TEXTDOMAIN] MSGID MSGID-PLURAL COUNT",
@@ -272,7 +300,9 @@ fn ngettext<'a>(alloc: Global) -> Result<Command<'a>, AllocError> {
 }
 
 /// The command `envsubst` with its options and arguments.
-fn envsubst<'a>(alloc: Global) -> Result<Command<'a>, AllocError> {
+fn envsubst<'a>(alloc: Global) -> Result<Command<'a>, AllocError>
+    ensures { IfOk result (λ command. IsNamed command (codes "envsubst")) }
+{
     let about = "Puts the values of variables into standard input";
     let command = described(alloc, "envsubst", about, help::ENVSUBST).override_usage(
         "pokit envsubst [OPTIONS] [SHELL-FORMAT]",
@@ -281,7 +311,10 @@ fn envsubst<'a>(alloc: Global) -> Result<Command<'a>, AllocError> {
 }
 
 /// A command with what its help says before and after its arguments.
-fn described<'a>(alloc: Global, name: &'a str, about: &'a str, after: &'a str) -> Command<'a> {
+fn described<'a>(alloc: Global, name: &'a str, about: &'a str, after: &'a str) -> Command<'a>
+    ensures name { IsNamed result name.entry.now }
+    ensures alone { subcommands_of result ≡ [] }
+{
     Command::new(alloc, name).about(about).after_help(after)
 }
 
@@ -290,7 +323,9 @@ fn with_arguments<'a>(
     alloc: Global,
     command: Command<'a>,
     arguments: &[Argument],
-) -> Result<Command<'a>, AllocError> {
+) -> Result<Command<'a>, AllocError>
+    ensures { IfOk result (λ made. names_in (made ∷ []) ≡ names_in (command.entry ∷ [])) }
+{
     let mut command = command;
     for argument in arguments {
         command = command.arg(arg_of(alloc, *argument))?;
@@ -308,7 +343,7 @@ fn arg_of<'a>(alloc: Global, (name, kind, help): Argument) -> Arg<'a> {
         Flag => arg.long(name).action(ArgAction::SetTrue),
         ShortFlag(letter) => arg.long(name).short(letter).action(ArgAction::SetTrue),
         Letter(letter) => arg.short(letter).action(ArgAction::SetTrue),
-        Output(default) => output(arg.long(name), default),
+        Output => arg.long(name).short('o').value_name("FILE"),
         Text(letter, text) => arg.long(name).short(letter).value_name(text),
         Number => arg
             .long(name)
@@ -318,18 +353,7 @@ fn arg_of<'a>(alloc: Global, (name, kind, help): Argument) -> Arg<'a> {
     }
 }
 
-/// The option that names the output.
-fn output<'a>(arg: Arg<'a>, default: Option<&'a str>) -> Arg<'a> {
-    let arg = arg.short('o').value_name("FILE");
-    match default {
-        Some(default) => arg.default_value(default),
-        None => arg,
-    }
-}
-
 /// The option that names a byte order.
 fn byte_order<'a>(arg: Arg<'a>) -> Arg<'a> {
-    arg.value_name("ORDER")
-        .value_parser(BYTE_ORDERS.as_slice())
-        .default_value("little")
+    arg.value_name("ORDER").value_parser(BYTE_ORDERS.as_slice())
 }

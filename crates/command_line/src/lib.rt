@@ -1,13 +1,15 @@
 //! The command line of pokit, as `clap` takes it: the tools and their options, the texts of help,
 //! and the texts of usage faults.
 //!
-//! The modules in reading order: `commands`, `help`, `usage`.
+//! The modules in reading order: `tool`, `commands`, `help`, `usage`.
 
 #![tactic(auto)]
 
 mod commands;
 mod help;
+mod tool;
 mod usage;
 
-pub use commands::{DEFAULT_OUTPUT, program, tool_of};
+pub use commands::program;
+pub use tool::Tool;
 pub use usage::{spelled_out, text_of};

@@ -1,6 +1,13 @@
 //! Faults of the command line, as clap words them, with the advice that fits the tool.
+ghost use Rattle.std.specs.Prelude.{◌≡◌, IfOk, map, string_bytes};
+ghost use Rattle.command_line.specs.SpelledOut.{spelled_out};
+
+use crate::tool::Tool;
 use clap::Error;
 use std::alloc::{AllocError, Global};
+
+/// The option that asks for help.
+const HELP_OPTION: &str = "--help";
 
 /// How clap's text of an unknown option begins.
 const UNKNOWN_OPTION: &str = "error: unexpected argument '";
@@ -101,27 +108,36 @@ static GNU_OPTIONS: [&str; 46] = [
 ];
 
 /// The command line, where `help TOOL` is spelled out as `TOOL --help`, and `help` as `--help`.
-pub fn spelled_out(alloc: Global, arguments: &[String]) -> Result<Vec<&str>, AllocError> {
-    let mut spelled = Vec::with_capacity(alloc, arguments.len())?;
-    let is_help = arguments.len() <= 3
-        && arguments
-            .get(1)
-            .is_some_and(|argument| argument.as_str() == "help");
-    for (index, argument) in arguments.iter().enumerate() {
-        if !is_help || index != 1 {
-            spelled.push(argument.as_str())?;
+pub fn spelled_out(alloc: Global, arguments: &[String]) -> Result<Vec<&str>, AllocError>
+    ensures { IfOk result (λ spelled. map (λ word. word.now) spelled.items
+        ≡ spelled_out (map string_bytes arguments.now)) }
+{
+    match arguments {
+        [program, word] if word.as_str() == "help" => {
+            Ok(vec![in alloc; program.as_str(), HELP_OPTION]?)
         }
+        [program, word, tool] if word.as_str() == "help" => {
+            Ok(vec![in alloc; program.as_str(), tool.as_str(), HELP_OPTION]?)
+        }
+        _ => as_they_are(alloc, arguments),
     }
-    if is_help {
-        spelled.push("--help")?;
+}
+
+/// The words of a command line, borrowed.
+fn as_they_are(alloc: Global, arguments: &[String]) -> Result<Vec<&str>, AllocError>
+    ensures { IfOk result (λ words. map (λ word. word.now) words.items ≡ map string_bytes arguments.now) }
+{
+    let mut words = Vec::with_capacity(alloc, arguments.len())?;
+    for argument in arguments {
+        words.push(argument.as_str())?;
     }
-    Ok(spelled)
+    Ok(words)
 }
 
 /// The text of a fault of the command line. An option or a tool that GNU's alone has gets one
 /// advice, in place of clap's. For a tool that takes files clap's advice to pass an unknown option
 /// as a file is omitted.
-pub fn text_of(alloc: Global, tool: Option<&str>, error: &Error) -> Result<String, AllocError> {
+pub fn text_of(alloc: Global, tool: Option<Tool>, error: &Error) -> Result<String, AllocError> {
     let whole = format!(in alloc; "{error}")?;
     let omitted = if tool.is_some_and(takes_files) {
         AS_A_VALUE
@@ -152,9 +168,9 @@ fn with_tip(alloc: Global, whole: &str, omitted: &str, tip: &str) -> Result<Stri
 }
 
 /// The advice for an option or a tool of GNU's that pokit doesn't have.
-fn own_tip(alloc: Global, tool: Option<&str>, text: &str) -> Result<Option<String>, AllocError> {
+fn own_tip(alloc: Global, tool: Option<Tool>, text: &str) -> Result<Option<String>, AllocError> {
     if let Some(option) = word_of(text, UNKNOWN_OPTION) {
-        if tool == Some("msgfmt") && CHECKS.iter().any(|check| *check == option) {
+        if tool == Some(Tool::Msgfmt) && CHECKS.iter().any(|check| *check == option) {
             return Ok(Some(String::from_str(alloc, CHECK_TIP)?));
         }
         if is_gnus(tool, option) {
@@ -183,12 +199,12 @@ fn word_of<'t>(text: &'t str, beginning: &str) -> Option<&'t str> {
 }
 
 /// Whether GNU's tool of that name has the option, and pokit's doesn't.
-fn is_gnus(tool: Option<&str>, option: &str) -> bool {
+fn is_gnus(tool: Option<Tool>, option: &str) -> bool {
     let letters = match tool {
-        Some("msgfmt") => "-C -D -L -P -V -a -c -d -j -k -l -r -v",
-        Some("msgunfmt") => "-E -V -d -e -i -j -l -p -r -s -v -w",
-        Some("msgattrib") => "-D -E -F -P -V -e -i -n -p -s -w",
-        Some("msgcat") => "-D -E -F -P -V -e -f -i -n -p -s -t -w",
+        Some(Tool::Msgfmt) => "-C -D -L -P -V -a -c -d -j -k -l -r -v",
+        Some(Tool::Msgunfmt) => "-E -V -d -e -i -j -l -p -r -s -v -w",
+        Some(Tool::Msgattrib) => "-D -E -F -P -V -e -i -n -p -s -w",
+        Some(Tool::Msgcat) => "-D -E -F -P -V -e -f -i -n -p -s -t -w",
         _ => "-V",
     };
     let is_letter = letters.split(' ').any(|letter| letter == option);
@@ -197,6 +213,9 @@ fn is_gnus(tool: Option<&str>, option: &str) -> bool {
 }
 
 /// Whether the arguments of the tool are files.
-fn takes_files(tool: &str) -> bool {
-    matches!(tool, "msgfmt" | "msgunfmt" | "msgattrib" | "msgcat")
+fn takes_files(tool: Tool) -> bool {
+    matches!(
+        tool,
+        Tool::Msgfmt | Tool::Msgunfmt | Tool::Msgattrib | Tool::Msgcat
+    )
 }

@@ -11,4 +11,4 @@ mod options;
 
 pub use catalogues::{CatalogueFile, borrowed_catalogues, find_catalogues, read_catalogues};
 pub use gettext::{GettextOptions, NgettextOptions, plan_gettext, plan_ngettext};
-pub use options::ngettext_options_of;
+pub use options::{find_domain, gettext_options_of, ngettext_options_of};

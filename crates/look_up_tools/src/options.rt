@@ -1,10 +1,46 @@
-//! What the options of a command line mean for ngettext.
-ghost use Rattle.look_up_tools.specs.GettextView.{ngettext_view};
-ghost use Rattle.look_up_tools.specs.Options.{IsNgettextRequest};
-ghost use Rattle.tool_runs.specs.PositionalView.{ngettext_arguments};
+//! What the options of a command line mean for gettext and ngettext.
+ghost use Rattle.std.specs.Prelude.{IfOk};
+ghost use Rattle.std.specs.Option.{option_copied};
+ghost use Rattle.look_up_tools.specs.Catalogues.{catalogue_files};
+ghost use Rattle.look_up_tools.specs.GettextView.{gettext_view, ngettext_view};
+ghost use Rattle.look_up_tools.specs.Options.{AreFoundBy, IsGettextRequest, IsNgettextRequest};
+ghost use Rattle.tool_runs.specs.PositionalView.{gettext_arguments, ngettext_arguments};
 
-use crate::gettext::NgettextOptions;
-use tool_runs::{Arguments, NgettextArguments};
+use crate::catalogues::{CatalogueFile, find_catalogues};
+use crate::gettext::{GettextOptions, NgettextOptions};
+use po_shell::VariableSource;
+use std::alloc::{AllocError, Global};
+use tool_runs::{Arguments, GettextArguments, InputSource, NgettextArguments};
+
+/// Reads the catalogues of the text domain that an argument or the option `-d` gives.
+pub fn find_domain<S: InputSource + VariableSource, A: Arguments>(
+    alloc: Global,
+    source: &mut S,
+    arguments: &A,
+    argument: Option<&str>,
+) -> Result<Vec<CatalogueFile>, AllocError>
+    ensures { IfOk result (λ found. AreFoundBy (A.text arguments.now) (S.variable source.old) S.file
+        (S.asked source.old) (S.asked source.new) (option_copied argument.entry) (catalogue_files found.items)) }
+{
+    find_catalogues(alloc, source, argument, arguments.text_of("domain"))
+}
+
+/// What `gettext` is asked for, with its arguments.
+pub fn gettext_options_of<'a, A: Arguments>(
+    arguments: &'a A,
+    given: GettextArguments<'a, 'a>,
+) -> GettextOptions<'a>
+    ensures { IsGettextRequest (A.flag arguments.now) (A.text arguments.now)
+        (gettext_arguments given.entry) (gettext_view result) }
+{
+    GettextOptions {
+        messages: given.messages,
+        context: arguments.text_of("context"),
+        expand: arguments.is_given("expand"),
+        no_newline: arguments.is_given("no-newline"),
+        shell: arguments.is_given("shell"),
+    }
+}
 
 /// What `ngettext` is asked for, with its arguments.
 pub fn ngettext_options_of<'a, A: Arguments>(

@@ -15,7 +15,7 @@ mod unreadable_inputs;
 
 pub use msgfmt::{MsgfmtOptions, plan_msgfmt, profile_check, run_msgfmt};
 pub use msgunfmt::{plan_msgunfmt, run_msgunfmt};
-pub use options::msgfmt_options_of;
+pub use options::{msgfmt_options_of, msgfmt_output_of};
 pub use profile::CheckFault;
 pub use profile_laws::first_profile_fault;
 pub use unreadable_inputs::{plan_msgfmt_before, plan_msgfmt_of};

@@ -1,11 +1,15 @@
 //! What the options of a command line mean for msgfmt.
-ghost use Rattle.std.specs.Prelude.{◌≡◌};
+ghost use Rattle.std.specs.Prelude.{◌≡◌, codes};
 ghost use Rattle.std.specs.Option.{option_copied};
 ghost use Rattle.mo_tools.specs.Options.{AreMsgfmtOptions, order_of};
+ghost use Rattle.tool_runs.specs.Given.{IsTextOr};
 
 use crate::msgfmt::MsgfmtOptions;
 use mo_file::Order;
-use tool_runs::Arguments;
+use tool_runs::{Arguments, text_or};
+
+/// The MO file that msgfmt writes where the arguments name none.
+const DEFAULT_OUTPUT: &str = "messages.mo";
 
 /// What `msgfmt` is asked for.
 pub fn msgfmt_options_of<A: Arguments>(arguments: &A) -> MsgfmtOptions
@@ -17,6 +21,13 @@ pub fn msgfmt_options_of<A: Arguments>(arguments: &A) -> MsgfmtOptions
         statistics: arguments.is_given("statistics"),
         profile_check: arguments.is_given("profile-check"),
     }
+}
+
+/// The argument for the output of `msgfmt`: that of `-o`, or `messages.mo`.
+pub fn msgfmt_output_of<A: Arguments>(arguments: &A) -> &str
+    ensures { IsTextOr (A.text arguments.now) (codes "output-file") (codes "messages.mo") result.now }
+{
+    text_or(arguments, "output-file", DEFAULT_OUTPUT)
 }
 
 /// The byte order by its name, little-endian where none is given.

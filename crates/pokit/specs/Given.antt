@@ -1,6 +1,7 @@
 -- Which options are given, by what clap reads of the arguments.
-use Rattle.std.specs.Prelude.{◌≡◌, ℕ, Bool, true, false, List, Option, None, Some, Result, codes}
-use Rattle.clap.specs.Matches.{ReadsOne}
+use Rattle.std.specs.Prelude.{◌≡◌, ℕ, Bool, true, false, List, [], Option, None, Some, Result, codes}
+use Rattle.clap.specs.Matches.{ReadsOne, raw_values}
+use Rattle.clap.specs.declared.parser.matches.MatchedArg.{MatchedArg}
 
 -- an option without a value is given where its text is `true`, and isn't where that is `false` or
 -- there is none
@@ -13,3 +14,8 @@ pub record IsFlag (text : Option (List ℕ)) (value : Bool) : Type 0 where
 pub record IsNumber {E : Type 0} (gives : List ℕ → Result ℕ E → Type 0) (text : Option (List ℕ)) (value : Option ℕ) : Type 0 where
   pub none : text ≡ None → value ≡ None
   pub given : (digits : List ℕ) → text ≡ Some digits → ReadsOne gives digits value
+
+-- the texts of an argument, and none where it isn't given
+abbrev pub given_texts : Option MatchedArg → List (List ℕ)
+given_texts None = []
+given_texts (Some argument) = raw_values argument

@@ -5,7 +5,7 @@ use po_shell::VariableSource;
 use std::alloc::{AllocError, Global};
 use std::env::{Env, FillError};
 use std::rt::Files;
-use tool_runs::{InputFault, ProgramFault};
+use tool_runs::{EntrySource, InputFault, ProgramFault};
 
 /// What is asked of the system: a variable by its name, or an entry of the environment or an
 /// argument by its index.
@@ -36,9 +36,17 @@ impl<'r, R: Env> VariableSource for System<'r, R> {
     }
 }
 
+impl<'r, R: Env + Files> EntrySource for System<'r, R> {
+    ghost entries = { λ _ _. Unit {0} };
+
+    fn read_entries(&self, alloc: Global) -> Result<Vec<Vec<u8>>, AllocError> {
+        entries(alloc, self.0)
+    }
+}
+
 /// All entries of the environment in order, each `NAME=value`. Where there are many, they are read
 /// from the file that has them all, since the system walks to each entry from the first.
-pub(crate) fn entries<R: Env + Files>(alloc: Global, rt: &R) -> Result<Vec<Vec<u8>>, AllocError> {
+fn entries<R: Env + Files>(alloc: Global, rt: &R) -> Result<Vec<Vec<u8>>, AllocError> {
     let mut entries = Vec::new(alloc);
     for index in 0..FEW_ENTRIES {
         match ask(alloc, rt, Query::Entry(index))? {

@@ -14,28 +14,39 @@ mod tools;
 
 use clap::ArgMatches;
 use clap::error::ErrorKind;
+use command_line::Tool;
+use options::Options;
 use po_shell::Counted;
 use std::process::ExitCode;
-use tool_runs::ProgramFault;
+use tool_runs::{Ending, ProgramFault};
 
 fn main(rt: HostRuntime) -> ExitCode {
-    if streams::replace_closed(&rt).is_err() {
-        return report_fault(&rt, None, ProgramFault::CannotOpen(streams::PLACEHOLDER));
+    if started(&rt).exit_status() == 0 {
+        ExitCode::SUCCESS
+    } else {
+        ExitCode::FAILURE
     }
-    match environment::arguments(rt.alloc(), &rt) {
+}
+
+/// Takes the arguments.
+fn started(rt: &HostRuntime) -> Ending {
+    if streams::replace_closed(rt).is_err() {
+        return report_fault(rt, None, ProgramFault::CannotOpen(streams::PLACEHOLDER));
+    }
+    match environment::arguments(rt.alloc(), rt) {
         Ok(arguments) => match command_line::spelled_out(rt.alloc(), arguments.as_slice()) {
-            Ok(arguments) => run(&rt, arguments.as_slice()),
-            Err(_) => report_fault(&rt, None, ProgramFault::OutOfMemory),
+            Ok(arguments) => run(rt, arguments.as_slice()),
+            Err(_) => report_fault(rt, None, ProgramFault::OutOfMemory),
         },
-        Err(fault) => report_fault(&rt, None, fault),
+        Err(fault) => report_fault(rt, None, fault),
     }
 }
 
 /// Parses the arguments and runs the tool. Help and usage faults are written here.
-fn run(rt: &HostRuntime, arguments: &[&str]) -> ExitCode {
+fn run(rt: &HostRuntime, arguments: &[&str]) -> Ending {
     let first = arguments
         .get(1)
-        .and_then(|argument| command_line::tool_of(*argument));
+        .and_then(|argument| Tool::of_name(*argument));
     let parsed = match command_line::program(rt.alloc(), first) {
         Ok(command) => command.try_get_matches_from(arguments),
         Err(_) => return report_fault(rt, first, ProgramFault::OutOfMemory),
@@ -50,45 +61,40 @@ fn run(rt: &HostRuntime, arguments: &[&str]) -> ExitCode {
                 return report_fault(rt, first, ProgramFault::OutOfMemory);
             };
             let _ = rt.eprint(&text);
-            ExitCode::FAILURE
+            Ending::Refused
         }
-        Err(error) => exit_code(error.print(rt).is_ok()),
+        Err(error) => Ending::Helped(error.print(rt).is_ok()),
     }
 }
 
 /// Runs the tool that the first argument names.
-fn run_tool(rt: &HostRuntime, matches: &ArgMatches<'_>) -> ExitCode {
-    let Some((tool, matches)) = matches.subcommand() else {
-        return ExitCode::FAILURE;
+fn run_tool(rt: &HostRuntime, matches: &ArgMatches<'_>) -> Ending {
+    let Some((name, matches)) = matches.subcommand() else {
+        return Ending::Refused;
     };
+    let Some(tool) = Tool::of_name(name) else {
+        return Ending::Refused;
+    };
+    let given = Options(matches);
     let outcome = match tool {
-        "msgcat" => tools::msgcat::run(rt.alloc(), rt, rt.stderr(), matches),
-        "msgfmt" => tools::msgfmt::run(rt.alloc(), rt, rt.stderr(), matches),
-        "msgattrib" => tools::msgattrib::run(rt.alloc(), rt, rt.stderr(), matches),
-        "msgunfmt" => tools::msgunfmt::run(rt.alloc(), rt, rt.stderr(), matches),
-        "gettext" => tools::gettext::run(rt.alloc(), rt, rt.stderr(), matches),
-        "ngettext" => tools::ngettext::run(rt.alloc(), rt, rt.stderr(), matches),
-        "envsubst" => tools::envsubst::run(rt.alloc(), rt, matches),
-        _ => return ExitCode::FAILURE,
+        Tool::Msgfmt => tools::msgfmt::run(rt.alloc(), rt, rt.stderr(), &given),
+        Tool::Msgunfmt => tools::msgunfmt::run(rt.alloc(), rt, rt.stderr(), &given),
+        Tool::Msgattrib => tools::msgattrib::run(rt.alloc(), rt, rt.stderr(), &given),
+        Tool::Msgcat => tools::msgcat::run(rt.alloc(), rt, rt.stderr(), &given),
+        Tool::Gettext => tools::gettext::run(rt.alloc(), rt, rt.stderr(), &given),
+        Tool::Ngettext => tools::ngettext::run(rt.alloc(), rt, rt.stderr(), &given),
+        Tool::Envsubst => tools::envsubst::run(rt.alloc(), rt, &given),
     };
     match outcome {
-        Ok(status) => exit_code(status == 0),
+        Ok(status) => Ending::Ran(status),
         Err(fault) => report_fault(rt, Some(tool), fault),
     }
 }
 
 /// Reports a fault. Where that fails too, the status alone reports it.
-fn report_fault(rt: &HostRuntime, tool: Option<&str>, fault: ProgramFault<'_>) -> ExitCode {
+fn report_fault(rt: &HostRuntime, tool: Option<Tool>, fault: ProgramFault<'_>) -> Ending {
     let mut errors = Counted::new(rt.stderr());
-    let _ = tool_runs::report_fault(rt.alloc(), &mut errors, tool, fault);
-    ExitCode::FAILURE
-}
-
-/// Status 0 where `succeeded`, else 1.
-fn exit_code(succeeded: bool) -> ExitCode {
-    if succeeded {
-        ExitCode::SUCCESS
-    } else {
-        ExitCode::FAILURE
-    }
+    let name = tool.map(|tool| tool.name());
+    let _ = tool_runs::report_fault(rt.alloc(), &mut errors, name, fault);
+    Ending::Refused
 }

@@ -9,12 +9,14 @@ pub(crate) struct Options<'r, 'a>(pub(crate) &'r ArgMatches<'a>);
 
 impl<'r, 'a> Arguments for Options<'r, 'a> {
     ghost use Rattle.std.specs.Prelude.{◌≡◌};
-    ghost use Rattle.clap.specs.Matches.{found_of, first_value, one_text};
-    ghost use Rattle.pokit.specs.Given.{IsFlag, IsNumber};
+    ghost use Rattle.clap.specs.Matches.{found_of, first_value, matched_of, one_text};
+    ghost use Rattle.pokit.specs.Given.{IsFlag, IsNumber, given_texts};
 
     ghost flag = { λ options name value. IsFlag (one_text (found_of options.0.now) name) value };
 
     ghost text = { λ options name value. value ≡ first_value (found_of options.0.now) name };
+
+    ghost texts = { λ options name value. value ≡ given_texts (matched_of (found_of options.0.now) name) };
 
     ghost number = { λ options name value.
         IsNumber ⟦<u32 as FromStr>⟧.from_str_gives (one_text (found_of options.0.now) name) value };
@@ -25,6 +27,10 @@ impl<'r, 'a> Arguments for Options<'r, 'a> {
 
     fn text_of(&self, name: &str) -> Option<&str> {
         self.0.get_str(name)
+    }
+
+    fn texts_of<'w>(&'w self, name: &str) -> &'w [&'w str] {
+        self.0.get_strs(name).unwrap_or(&[])
     }
 
     fn number_of(&self, name: &str) -> Option<u32> {

@@ -2,3 +2,4 @@ pub mod InputLemmas
 pub mod OutputLemmas
 mod WholeOutputs
 mod AskedInTurn
+mod GivenLemmas

@@ -10,5 +10,8 @@ pub mod OutputLaw
 pub mod Outputs
 pub mod Positional
 pub mod PositionalView
+pub mod Given
+pub mod Envsubst
+pub mod Ending
 pub mod Delivered
 pub mod SomeText

@@ -2,11 +2,12 @@
 //! options and arguments, and the lines of faults.
 //!
 //! The modules in reading order: `run`, `program_fault`, `fault_text`, `inputs`, `output_files`,
-//! `output_paths`, `output_writing`, `outputs`, `laws`, `arguments`, `positional`.
+//! `output_paths`, `output_writing`, `outputs`, `laws`, `arguments`, `positional`, `substitution`, `ending`.
 
 #![tactic(auto)]
 
 mod arguments;
+mod ending;
 mod fault_text;
 mod inputs;
 pub mod laws;
@@ -17,8 +18,10 @@ mod outputs;
 mod positional;
 mod program_fault;
 mod run;
+mod substitution;
 
-pub use arguments::Arguments;
+pub use arguments::{Arguments, input_of, inputs_of, output_of, text_or};
+pub use ending::Ending;
 pub use fault_text::{push_location, push_mo_text, push_numbered, push_po_text};
 pub use inputs::{Input, InputFault, InputSource, Inputs, read_one, read_whole};
 pub use output_files::{FileKind, NotMade, OutputFault, OutputFiles};
@@ -26,3 +29,4 @@ pub use outputs::write_run;
 pub use positional::{EnvsubstArguments, GettextArguments, NgettextArguments};
 pub use program_fault::{ProgramFault, report_fault};
 pub use run::{Run, STANDARD, STDIN_NAME, deliver, refused, shown_name};
+pub use substitution::{EntrySource, envsubst};

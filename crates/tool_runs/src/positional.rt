@@ -1,7 +1,11 @@
 //! The arguments of the tools after their options.
 ghost use Rattle.std.specs.Prelude.{◌≡◌, map, option_map};
+ghost use Rattle.tool_runs.specs.Given.{AreEnvsubstArguments, AreGettextArguments, AreNgettextArguments};
 ghost use Rattle.tool_runs.specs.Positional.{envsubst_usage, gettext_usage, ngettext_usage};
 ghost use Rattle.tool_runs.specs.PositionalView.{envsubst_arguments, gettext_arguments, ngettext_arguments};
+
+use crate::arguments::Arguments;
+use crate::program_fault::ProgramFault;
 
 /// The arguments of `gettext`.
 #[derive(Clone, Copy)]
@@ -10,6 +14,18 @@ pub struct GettextArguments<'w, 'a> {
     pub domain: Option<&'a str>,
     /// The MSGIDs.
     pub messages: &'w [&'a str],
+}
+
+impl<'a> GettextArguments<'a, 'a> {
+    /// Takes the arguments of a command line, where they fit.
+    pub fn given<A: Arguments>(
+        arguments: &'a A,
+    ) -> Result<GettextArguments<'a, 'a>, ProgramFault<'a>>
+        ensures { AreGettextArguments (A.flag arguments.now) (A.texts arguments.now) result }
+    {
+        let shell = arguments.is_given("shell");
+        GettextArguments::of(shell, arguments.texts_of("MSGID")).ok_or(ProgramFault::WrongArguments)
+    }
 }
 
 impl<'w, 'a> GettextArguments<'w, 'a> {
@@ -43,6 +59,13 @@ pub struct NgettextArguments<'a> {
 }
 
 impl<'a> NgettextArguments<'a> {
+    /// Takes the arguments of a command line, where they fit.
+    pub fn given<A: Arguments>(arguments: &'a A) -> Result<NgettextArguments<'a>, ProgramFault<'a>>
+        ensures { AreNgettextArguments (A.texts arguments.now) result }
+    {
+        NgettextArguments::of(arguments.texts_of("MSGID")).ok_or(ProgramFault::WrongArguments)
+    }
+
     /// Takes `[TEXTDOMAIN] MSGID MSGID-PLURAL COUNT`. Other arguments fit no usage of the tool.
     pub fn of(arguments: &[&'a str]) -> Option<NgettextArguments<'a>>
         ensures { option_map ngettext_arguments result ≡ ngettext_usage (map (λ argument. argument.now) arguments.now) }
@@ -71,6 +94,16 @@ pub enum EnvsubstArguments<'a> {
 }
 
 impl<'a> EnvsubstArguments<'a> {
+    /// Takes the arguments of a command line, where they fit.
+    pub fn given<A: Arguments>(arguments: &'a A) -> Result<EnvsubstArguments<'a>, ProgramFault<'a>>
+        ensures { AreEnvsubstArguments (A.flag arguments.now) (A.texts arguments.now) result }
+    {
+        let variables = arguments.is_given("variables");
+        EnvsubstArguments::of(variables, arguments.texts_of("SHELL-FORMAT")).ok_or(
+            ProgramFault::WrongArguments,
+        )
+    }
+
     /// Takes `[SHELL-FORMAT]`, or with `variables` `SHELL-FORMAT`. Other arguments fit no usage of
     /// the tool.
     pub fn of(variables: bool, arguments: &[&'a str]) -> Option<EnvsubstArguments<'a>>

@@ -1,8 +1,7 @@
 //! Looks up a message with a count.
 use crate::files::{System, write_run};
 use crate::options::Options;
-use clap::ArgMatches;
-use look_up_tools::{borrowed_catalogues, find_catalogues, ngettext_options_of, plan_ngettext};
+use look_up_tools::{borrowed_catalogues, find_domain, ngettext_options_of, plan_ngettext};
 use std::alloc::Global;
 use std::env::Env;
 use std::fs::File;
@@ -15,19 +14,12 @@ pub(crate) fn run<'a, R: Files<File = File> + Env + Input + Print, E: Write + Dr
     alloc: Global,
     rt: &R,
     errors: E,
-    matches: &ArgMatches<'a>,
+    given: &'a Options<'_, '_>,
 ) -> Result<u8, ProgramFault<'a>> {
-    let arguments = matches.get_strs("MSGID").unwrap_or(&[]);
-    let arguments = NgettextArguments::of(arguments).ok_or(ProgramFault::WrongArguments)?;
-    let found = find_catalogues(
-        alloc,
-        &mut System(rt),
-        arguments.domain,
-        matches.get_str("domain"),
-    )?;
-    let given = Options(matches);
-    let options = ngettext_options_of(&given, arguments);
+    let arguments = NgettextArguments::given(given)?;
+    let found = find_domain(alloc, &mut System(rt), given, arguments.domain)?;
     let borrowed = borrowed_catalogues(alloc, found.as_slice())?;
+    let options = ngettext_options_of(given, arguments);
     let run = plan_ngettext(alloc, borrowed.as_slice(), &options)?;
     write_run(alloc, rt, errors, &run, STANDARD)
 }

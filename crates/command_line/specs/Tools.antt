@@ -1,0 +1,27 @@
+-- The tools that the program has, by their names.
+use Rattle.std.specs.Prelude.{◌≡◌, ℕ, List, [], ◌∷◌, map, Option, Some, None, codes}
+use Rattle.clap.specs.Built.{names_in}
+use Rattle.clap.specs.declared.builder.command.Command.{Command}
+use Rattle.command_line.specs.declared.tool.Tool.{Tool}
+use Rattle.command_line.specs.declared.tool.Tool.TheVariants.{Msgfmt, Msgunfmt, Msgattrib, Msgcat, Gettext, Ngettext, Envsubst}
+
+abbrev pub tool_name : Tool → List ℕ
+tool_name Msgfmt = codes "msgfmt"
+tool_name Msgunfmt = codes "msgunfmt"
+tool_name Msgattrib = codes "msgattrib"
+tool_name Msgcat = codes "msgcat"
+tool_name Gettext = codes "gettext"
+tool_name Ngettext = codes "ngettext"
+tool_name Envsubst = codes "envsubst"
+
+abbrev pub every_tool : List Tool
+every_tool = Msgfmt ∷ Msgunfmt ∷ Msgattrib ∷ Msgcat ∷ Gettext ∷ Ngettext ∷ Envsubst ∷ []
+
+-- the names of the tools that are offered: all, or the one that is named
+abbrev pub offered : Option Tool → List (List ℕ)
+offered None = map tool_name every_tool
+offered (Some tool) = tool_name tool ∷ []
+
+-- the command has this name
+abbrev pub IsNamed : Command → List ℕ → Type 0
+IsNamed command name = names_in (command ∷ []) ≡ name ∷ []

@@ -1,0 +1,56 @@
+//! The tools, by their names.
+ghost use Rattle.std.specs.Prelude.{◌≡◌, ◌≢◌, MatchOption};
+ghost use Rattle.command_line.specs.Tools.{tool_name};
+ghost use Rattle.command_line.specs.declared.tool.Tool.{Tool as ATool};
+
+/// A tool of the program.
+#[derive(Clone, Copy, Debug, PartialEq, Eq)]
+pub enum Tool {
+    /// Compiles PO texts.
+    Msgfmt,
+    /// Writes the PO text of an MO file.
+    Msgunfmt,
+    /// Selects entries of a PO text and changes them.
+    Msgattrib,
+    /// Merges PO texts.
+    Msgcat,
+    /// Looks messages up.
+    Gettext,
+    /// Looks up a message with a count.
+    Ngettext,
+    /// Replaces the references to variables in a text.
+    Envsubst,
+}
+
+impl Tool {
+    /// Its name, by which the first argument names it.
+    pub fn name(self) -> &'static str
+        ensures { result.now ≡ tool_name self }
+    {
+        match self {
+            Tool::Msgfmt => "msgfmt",
+            Tool::Msgunfmt => "msgunfmt",
+            Tool::Msgattrib => "msgattrib",
+            Tool::Msgcat => "msgcat",
+            Tool::Gettext => "gettext",
+            Tool::Ngettext => "ngettext",
+            Tool::Envsubst => "envsubst",
+        }
+    }
+
+    /// The tool of this name, where there is one.
+    pub fn of_name(name: &str) -> Option<Tool>
+        ensures { MatchOption result ((tool : ATool) → name.now ≢ tool_name tool) (λ tool. name.now ≡ tool_name tool) }
+    {
+        match name {
+            "msgfmt" => Some(Tool::Msgfmt),
+            "msgunfmt" => Some(Tool::Msgunfmt),
+            "msgattrib" => Some(Tool::Msgattrib),
+            "msgcat" => Some(Tool::Msgcat),
+            "gettext" => Some(Tool::Gettext),
+            "ngettext" => Some(Tool::Ngettext),
+            "envsubst" => Some(Tool::Envsubst),
+            _ => None,
+        }
+    }
+}
