@@ -2,6 +2,7 @@ pub mod FirstOnes
 pub mod Messages
 pub mod Sets
 pub mod Grouped
+pub mod Numbered
 pub mod Inputs
 pub mod Views
 pub mod Steps
@@ -13,4 +14,5 @@ pub mod MessagesOnce
 pub mod SameInput
 pub mod Interleaving
 pub mod NumberedGroups
+pub mod Lines
 pub mod EntryLaws

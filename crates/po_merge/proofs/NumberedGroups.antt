@@ -1,18 +1,24 @@
 -- The groups of entries, by the numbers of their messages.
-use Rattle.std.proofs.Common.{◌≡◌, ℕ, ◌+◌, ◌<◌, ◌≤◌, Bool, true, false, cond, not, ◌==◌, nat_lt, List, [], ◌∷◌, ◌++◌, refl, sym, ap, ◌∙◌, length, map, filter, All, get_or, zero, suc, arith, append_assoc, length-append, inl, inr}
+use Rattle.std.proofs.Common.{◌≡◌, ℕ, ◌+◌, ◌<◌, Bool, true, false, cond, not, ◌==◌, List, [], ◌∷◌, ◌++◌, refl, sym, ap, ap₂, ◌∙◌, length, map, filter, get_or, zero, suc, arith, append_assoc, length-append, inl, inr}
+use Rattle.std.specs.Global.{Vec}
 use Rattle.std.specs.List.{list_any, position_or_len, range_with_len}
-use Rattle.std.proofs.lemmas.Bool.{lt-ltb, ne_eqb, eq-eqb, false≢true}
+use Rattle.std.proofs.lemmas.Bool.{ne_eqb, eq-eqb, false≢true}
 use Rattle.std.proofs.lemmas.Bool.Decides.{eqb_tells}
-use Rattle.std.proofs.lemmas.List.{get_or_at}
+use Rattle.std.proofs.lemmas.List.{get_or_at, length-map}
+use Rattle.std.proofs.lemmas.Simd.{map-map}
 use Rattle.std.proofs.lemmas.List.Folds.{list_any_at}
-use Rattle.std.proofs.lemmas.List.Elements.{All-head, All-tail, filter_agree}
+use Rattle.std.proofs.lemmas.List.Elements.{filter_agree}
 use Rattle.std.specs.Cmp.{IsEquivalence}
 use Rattle.po_merge.specs.Inputs.{NamedEntry}
-use Rattle.po_merge.specs.Groups.{same_message, first_ones}
-use Rattle.po_merge.specs.MergeLaws.{GroupsByNumber, numbered_group}
-use Rattle.po_merge.proofs.FirstOnes.{Apart, group_of, any_first_ones, apart_first_ones, place_within}
+use Rattle.po_catalog.specs.FirstOnes.{first_ones as firsts_of}
+use Rattle.po_catalog.specs.Message.{Message, entry_message, same_message as one_message}
+use Rattle.po_merge.specs.declared.definition.NamedEntry.{NamedEntry as BorrowedEntry}
+use Rattle.po_merge.specs.InputsView.{named_entries, named_entry}
+use Rattle.po_merge.specs.Grouping.{group_entries, message_numbers, named_messages}
+use Rattle.po_merge.specs.Groups.{by_number, first_ones, groups, same_message, with_number}
+use Rattle.po_merge.specs.MergeLaws.{GroupsByNumber}
+use Rattle.po_merge.proofs.FirstOnes.{Apart, group_of, apart_first_ones, first_ones-map, place-map}
 use Rattle.po_merge.proofs.Messages.{same_message_laws}
-use Rattle.po_merge.proofs.GroupsMerged.{any_same, some_passes}
 
 same_next : (p j : ℕ) → (1 + p == suc j) ≡ (p == j)
 same_next p j = elim (eqb_tells p j) [
@@ -42,56 +48,69 @@ module _ {X : Type 0} (alike : X → X → Bool) (laws : IsEquivalence alike) wh
     found true e more = ne_eqb 0 (suc k) (λ z. omega (arith, z)) ∙ sym (laws.congr x f (get_or fs k d) e ∙ none_at f fs k d below apart.0)
     found false e more = same_next (position_or_len (alike x) fs) k ∙ more
 
-none_numbered : (es : List NamedEntry) (n : ℕ) → length (first_ones same_message es) ≤ n → (xs : List NamedEntry) → All (λ e. list_any (same_message e) (first_ones same_message es) ≡ true) xs
-    → filter (λ e. position_or_len (same_message e) (first_ones same_message es) == n) xs ≡ []
-none_numbered es n past [] h = refl
-none_numbered es n past (x ∷ xs) h =
-    let less = place_within (same_message x) (first_ones same_message es) (All-head (λ e. list_any (same_message e) (first_ones same_message es) ≡ true) x xs h) in
-    let other : (position_or_len (same_message x) (first_ones same_message es) == n) ≡ false = ne_eqb (position_or_len (same_message x) (first_ones same_message es)) n (λ e. omega (arith, e, less, past)) in
-    ap (λ (b : Bool). cond b (x ∷ filter (λ e. position_or_len (same_message e) (first_ones same_message es) == n) xs) (filter (λ e. position_or_len (same_message e) (first_ones same_message es) == n) xs)) other
-    ∙ none_numbered es n past xs (All-tail (λ e. list_any (same_message e) (first_ones same_message es) ≡ true) x xs h)
+-- of things that are numbered by a function, those with this number
+pub with_number-map : {X : Type 0} (number_of : X → ℕ) (n : ℕ) (xs : List X) → with_number n (map number_of xs) xs ≡ filter (λ x. number_of x == n) xs
+with_number-map number_of n [] = refl
+with_number-map number_of n (x ∷ xs) = ap (λ l. cond (number_of x == n) (x ∷ l) l) (with_number-map number_of n xs)
+
+-- what things are mapped to is grouped as they are
+with_number-mapped : {X Y : Type 0} (f : X → Y) (n : ℕ) (ns : List ℕ) (xs : List X) → map f (with_number n ns xs) ≡ with_number n ns (map f xs)
+with_number-mapped f n [] xs = refl
+with_number-mapped f n (k ∷ ns) [] = refl
+with_number-mapped f n (k ∷ ns) (x ∷ xs) = found (k == n) ∙ ap (λ l. cond (k == n) (f x ∷ l) l) (with_number-mapped f n ns xs) where
+  found : (b : Bool) → map f (cond b (x ∷ with_number n ns xs) (with_number n ns xs)) ≡ cond b (f x ∷ map f (with_number n ns xs)) (map f (with_number n ns xs))
+  found true = refl
+  found false = refl
+
+by_number-mapped : {X Y : Type 0} (f : X → Y) (count : ℕ) (ns : List ℕ) (xs : List X) → map (map f) (by_number count ns xs) ≡ by_number count ns (map f xs)
+by_number-mapped f count ns xs = map-map (map f) (λ n. with_number n ns xs) (range_with_len 0 count) ∙ (λ i. map (λ n. with_number-mapped f n ns xs i) (range_with_len 0 count))
 
 module _ (es : List NamedEntry) where
   abbrev F : List NamedEntry
   F = first_ones same_message es
 
-  abbrev some_entry : List NamedEntry → Bool
-  some_entry g = nat_lt 0 (length g)
+  abbrev number_of : NamedEntry → ℕ
+  number_of e = position_or_len (same_message e) F
 
-  all_are_found : All (λ e. list_any (same_message e) F ≡ true) es
-  all_are_found = λ k d inside. any_first_ones same_message same_message_laws (get_or es k d) es ∙ list_any_at (same_message (get_or es k d)) es k d inside (same_message_laws.refl (get_or es k d))
-
-  none_left : (n m : ℕ) → length F ≤ n → filter some_entry (map (numbered_group es) (range_with_len n m)) ≡ []
-  none_left n zero past = refl
-  none_left n (suc m) past =
-      ap (λ (g : List NamedEntry). cond (some_entry g) (g ∷ filter some_entry (map (numbered_group es) (range_with_len (n + 1) m))) (filter some_entry (map (numbered_group es) (range_with_len (n + 1) m)))) (none_numbered es n past es all_are_found)
-      ∙ none_left (n + 1) m (omega (arith, past))
-
-  group_is : (before : List NamedEntry) (f : NamedEntry) (after : List NamedEntry) → F ≡ before ++ f ∷ after → numbered_group es (length before) ≡ group_of same_message es f
+  group_is : (before : List NamedEntry) (f : NamedEntry) (after : List NamedEntry) → F ≡ before ++ f ∷ after → filter (λ e. number_of e == length before) es ≡ group_of same_message es f
   group_is before f after split =
       let inside : length before < length F = omega (arith, ap length split, length-append before (f ∷ after)) in
       let at : get_or F (length before) f ≡ f = ap (λ (l : List NamedEntry). get_or l (length before) f) split ∙ get_or_at before f after f (length before) refl in
-      filter_agree (λ e. position_or_len (same_message e) F == length before) (λ e. same_message e f)
+      filter_agree (λ e. number_of e == length before) (λ e. same_message e f)
       (λ e. place_tells same_message same_message_laws e F (length before) f (apart_first_ones same_message same_message_laws es) inside ∙ ap (same_message e) at) es
 
-  group_some : (before : List NamedEntry) (f : NamedEntry) (after : List NamedEntry) → F ≡ before ++ f ∷ after → some_entry (group_of same_message es f) ≡ true
-  group_some before f after split =
-      let inside : length before < length F = omega (arith, ap length split, length-append before (f ∷ after)) in
-      let at : get_or F (length before) f ≡ f = ap (λ (l : List NamedEntry). get_or l (length before) f) split ∙ get_or_at before f after f (length before) refl in
-      let met : list_any (same_message f) F ≡ true = list_any_at (same_message f) F (length before) f inside (ap (same_message f) at ∙ same_message_laws.refl f) in
-      lt-ltb 0 (length (group_of same_message es f))
-      (some_passes (λ (e : NamedEntry). same_message e f) es (any_same (λ (e : NamedEntry). same_message e f) (same_message f) (λ e. same_message_laws.symm e f) es ∙ sym (any_first_ones same_message same_message_laws f es) ∙ met))
-
-  groups_from : (before after : List NamedEntry) (m : ℕ) → F ≡ before ++ after → length after ≤ m → filter some_entry (map (numbered_group es) (range_with_len (length before) m)) ≡ map (group_of same_message es) after
-  groups_from before [] m split enough = none_left (length before) m (omega (arith, ap length split, length-append before []))
-  groups_from before (f ∷ after) zero split enough = absurd (omega (arith, enough))
-  groups_from before (f ∷ after) (suc m) split enough =
-      let rest = filter some_entry (map (numbered_group es) (range_with_len (length before + 1) m)) in
+  groups_from : (ns : List ℕ) → ns ≡ map number_of es → (before after : List NamedEntry) (m : ℕ) → F ≡ before ++ after → length after ≡ m
+      → map (λ n. with_number n ns es) (range_with_len (length before) m) ≡ map (group_of same_message es) after
+  groups_from ns are before [] zero split long = refl
+  groups_from ns are before [] (suc m) split long = absurd (omega (arith, long))
+  groups_from ns are before (f ∷ after) zero split long = absurd (omega (arith, long))
+  groups_from ns are before (f ∷ after) (suc m) split long =
       let next : length (before ++ f ∷ []) ≡ length before + 1 = omega (arith, length-append before (f ∷ [])) in
-      ap (λ (g : List NamedEntry). cond (some_entry g) (g ∷ rest) rest) (group_is before f after split)
-      ∙ ap (λ (b : Bool). cond b (group_of same_message es f ∷ rest) rest) (group_some before f after split)
-      ∙ ap (λ (l : List (List NamedEntry)). group_of same_message es f ∷ l)
-      (ap (λ (n : ℕ). filter some_entry (map (numbered_group es) (range_with_len n m))) (sym next) ∙ groups_from (before ++ f ∷ []) after m (split ∙ sym (append_assoc before (f ∷ []) after)) (omega (arith, enough)))
+      let less : length after ≡ m = omega (arith, long) in
+      ap₂ (λ (g : List NamedEntry) (gs : List (List NamedEntry)). g ∷ gs)
+      (ap (λ l. with_number (length before) l es) are ∙ with_number-map number_of (length before) es ∙ group_is before f after split)
+      (ap (λ (n : ℕ). map (λ k. with_number k ns es) (range_with_len n m)) (sym next) ∙ groups_from ns are (before ++ f ∷ []) after m (split ∙ sym (append_assoc before (f ∷ []) after)) less)
 
-  pub groups_by_number : (count : ℕ) → GroupsByNumber es count
-  groups_by_number count enough = groups_from [] F count refl enough
+  abbrev message : NamedEntry → Message
+  message e = entry_message e.entry
+
+  numbers_are : message_numbers es ≡ map number_of es
+  numbers_are =
+      let firsts : firsts_of one_message (named_messages es) ≡ map message F = first_ones-map message one_message es in
+      map-map (λ m. position_or_len (one_message m) (firsts_of one_message (named_messages es))) message es
+      ∙ ap (λ (fs : List Message). map (λ e. position_or_len (one_message (message e)) fs) es) firsts
+      ∙ (λ i. map (λ e. place-map message one_message (message e) F i) es)
+
+  pub groups_by_number : GroupsByNumber es
+  groups_by_number =
+      let count : length (firsts_of one_message (named_messages es)) ≡ length F = ap length (first_ones-map message one_message es) ∙ length-map F message in
+      ap (λ n. by_number n (message_numbers es) es) count ∙ groups_from (message_numbers es) numbers_are [] F (length F) refl refl
+
+-- the groups of definitions are those of their entries
+pub groups_are : (ds : List BorrowedEntry) (ns : List ℕ) (all : List (Vec BorrowedEntry)) → ns ≡ message_numbers (named_entries ds)
+    → map (λ g. g.items) all ≡ by_number (length (firsts_of one_message (named_messages (named_entries ds)))) ns ds → group_entries all ≡ groups (named_entries ds)
+groups_are ds ns all numbers are =
+    let es = named_entries ds in
+    let count = length (firsts_of one_message (named_messages es)) in
+    sym (map-map named_entries (λ (g : Vec BorrowedEntry). g.items) all) ∙ ap (map named_entries) are ∙ by_number-mapped named_entry count ns ds
+    ∙ ap (λ (l : List ℕ). by_number count l es) numbers ∙ groups_by_number es

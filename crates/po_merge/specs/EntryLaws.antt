@@ -2,9 +2,9 @@
 -- messages are kept (manual, "Invoking the msgcat Program").
 use Rattle.std.specs.Prelude.{◌≡◌, ◌↔◌, ℕ, ◌<◌, Bool, true, false, not, List, [], ◌∷◌, ◌++◌, filter, length, get_or}
 use Rattle.std.specs.Prelude.{slice_get, codes, Some, bytes_eq}
-use Rattle.std.specs.List.{list_any}
+use Rattle.std.specs.List.{AllZip, list_any}
 use Rattle.po_syntax.specs.declared.item.CommentKind.{CommentKind}
-use Rattle.po_entry.specs.TextEntry.{TextEntry}
+use Rattle.po_entry.specs.TextEntry.{TextEntry, SameButLine}
 use Rattle.po_entry.specs.Header.{is_header}
 use Rattle.po_catalog.specs.Joined.{is_live}
 use Rattle.po_merge.specs.declared.input.MergeOptions.{MergeOptions}
@@ -75,3 +75,12 @@ pub record AskFor (o : MergeOptions) (count : ℕ) : Type 0 where
 -- A message that isn't the header's is kept exactly if its definitions are as many as is asked for.
 abbrev pub KeptByCount : MergeOptions → List NamedEntry → Type 0
 KeptByCount o ds = list_any (λ d. is_header d.entry) ds ≡ false → (is_kept o ds ≡ true) ↔ AskFor o (length ds)
+
+-- definitions that differ at most in the lines of their entries
+pub record IsSameButLine (a b : NamedEntry) : Type 0 where
+  pub name : a.name ≡ b.name
+  pub entry : SameButLine a.entry b.entry
+
+-- Merged entries of such definitions differ at most in their lines.
+abbrev pub LinesAreNotMerged : MergeOptions → List NamedEntry → List NamedEntry → Type 0
+LinesAreNotMerged o ds es = AllZip IsSameButLine ds es → SameButLine (merged_entry o ds) (merged_entry o es)

@@ -1,15 +1,17 @@
 -- What is promised of merging beyond its definition (manual, "Invoking the msgcat Program").
-use Rattle.std.specs.Prelude.{◌≡◌, ℕ, ◌<◌, ◌≤◌, nat_lt, ◌==◌, Bool, false, ◌&&◌, List, [], ◌∷◌, map, filter, length}
+use Rattle.std.specs.Prelude.{◌≡◌, ℕ, ◌<◌, Bool, false, ◌&&◌, List, [], ◌∷◌, map, filter, length}
 use Rattle.std.specs.Prelude.{All, Contains, Option, None}
-use Rattle.std.specs.List.{list_any, position_or_len, range_with_len}
+use Rattle.std.specs.List.{list_any}
 use Rattle.po_entry.specs.TextEntry.{TextEntry}
 use Rattle.po_entry.specs.Header.{HasAdmittedCharset}
 use Rattle.po_syntax.specs.ItemContents.{IsText}
 use Rattle.po_entry.specs.Validity.{IsEntry, IsCatalogueEntry}
 use Rattle.po_catalog.specs.Duplicate.{AllDiffer, is_of_message}
+use Rattle.po_catalog.specs.Message.{same_message as one_message}
 use Rattle.po_merge.specs.declared.input.MergeOptions.{MergeOptions}
 use Rattle.po_merge.specs.Inputs.{Named, NamedEntry, all_entries}
-use Rattle.po_merge.specs.Groups.{definitions, first_ones, groups, same_message}
+use Rattle.po_merge.specs.Grouping.{message_numbers, named_messages}
+use Rattle.po_merge.specs.Groups.{by_number, definitions, first_ones, groups}
 use Rattle.po_merge.specs.MergedEntry.{merged_entry, is_joined}
 use Rattle.po_merge.specs.Merged.{is_kept, merged}
 
@@ -72,13 +74,8 @@ FormsAreOfOne o definitions =
     0 < length definitions → is_joined o definitions ≡ false
     → Contains (map (λ d. d.entry.forms) definitions) (merged_entry o definitions).forms
 
--- the entries whose message has this number, where messages are numbered in the order in which they
--- first appear
-abbrev pub numbered_group : List NamedEntry → ℕ → List NamedEntry
-numbered_group entries n = filter (λ e. position_or_len (same_message e) (first_ones same_message entries) == n) entries
-
--- The groups are those of the numbers from 0 on, as far as they have entries.
-abbrev pub GroupsByNumber : List NamedEntry → ℕ → Type 0
-GroupsByNumber entries count =
-    length (first_ones same_message entries) ≤ count
-    → filter (λ group. nat_lt 0 (length group)) (map (numbered_group entries) (range_with_len 0 count)) ≡ groups entries
+-- The groups are those of the numbers of the messages, as many as there are messages.
+abbrev pub GroupsByNumber : List NamedEntry → Type 0
+GroupsByNumber entries =
+    by_number (length (first_ones one_message (named_messages entries))) (message_numbers entries) entries
+    ≡ groups entries

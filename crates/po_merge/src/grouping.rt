@@ -1,8 +1,10 @@
-ghost use Rattle.std.specs.Prelude.{◌≡◌, ◌++◌, ◌∷◌, [], All, IfOk, IsUtf8, OnOk, map};
+ghost use Rattle.std.specs.Prelude.{◌≡◌, ◌++◌, ◌∷◌, [], All, IfOk, IsUtf8, List, OnOk, length, map};
+ghost use Rattle.po_catalog.specs.FirstOnes.{first_ones, group_numbers};
+ghost use Rattle.po_catalog.specs.Message.{Message, same_message};
 ghost use Rattle.po_catalog.specs.MessageView.{messages};
 ghost use Rattle.po_entry.specs.Bytes.{Lacks};
-ghost use Rattle.po_merge.specs.Grouping.{IsDefinition, group_entries, message_numbers, named_messages};
-ghost use Rattle.po_merge.specs.Groups.{groups};
+ghost use Rattle.po_merge.specs.Grouping.{IsDefinition, group_entries, named_messages};
+ghost use Rattle.po_merge.specs.Groups.{by_number, groups};
 ghost use Rattle.po_merge.specs.Inputs.{named, all_entries};
 ghost use Rattle.po_merge.specs.InputsView.{inputs_view, named_entries};
 
@@ -55,33 +57,37 @@ fn keys_of<'a>(alloc: Global, entries: &[NamedEntry<'a>]) -> Result<Vec<MessageK
     Ok(keys)
 }
 
-/// A group of one entry.
-fn alone<'a>(alloc: Global, definition: NamedEntry<'a>) -> Result<Vec<NamedEntry<'a>>, AllocError>
-    ensures { IfOk result (λ group. group.items ≡ definition.entry ∷ []) }
+/// A group of one.
+fn alone<T: Copy>(alloc: Global, thing: T) -> Result<Vec<T>, AllocError>
+    ensures { IfOk result (λ group. group.items ≡ thing ∷ []) }
 {
-    let mut group = Vec::new(alloc);
-    group.push(definition)?;
+    let mut group = Vec::with_capacity(alloc, 1)?;
+    group.push(thing)?;
     Ok(group)
 }
 
-/// The entries of each message, by the numbers of their messages.
-fn groups_of<'a>(
+/// What belongs to each message, by the numbers of the messages, from 0 on. Refused only where an
+/// allocation failed.
+pub fn groups_of<T: Copy>(
     alloc: Global,
-    entries: &[NamedEntry<'a>],
+    things: &[T],
     numbers: &[usize],
-) -> Result<Vec<Vec<NamedEntry<'a>>>, AllocError>
-    requires { numbers.now ≡ message_numbers (named_entries entries.now) }
-    ensures { IfOk result (λ all. group_entries all.items ≡ groups (named_entries entries.now)) }
+) -> Result<Vec<Vec<T>>, AllocError>
+    requires { (messages : List Message) × (numbers.now ≡ group_numbers same_message messages)
+        × (length messages ≡ length things.now) }
+    ensures { IfOk result (λ all. (messages : List Message) → numbers.now ≡ group_numbers same_message messages
+        → map (λ group. group.items) all.items
+        ≡ by_number (length (first_ones same_message messages)) numbers.now things.now) }
 {
     messages_are_numbered_in_order();
     let mut groups = Vec::new(alloc);
-    for (index, definition) in entries.iter().enumerate() {
+    for (index, thing) in things.iter().enumerate() {
         let number = numbers[index];
         if number == groups.len() {
-            groups.push(alone(alloc, *definition)?)?;
+            groups.push(alone(alloc, *thing)?)?;
             continue;
         }
-        groups[number].push(*definition)?;
+        groups[number].push(*thing)?;
     }
     Ok(groups)
 }

@@ -5,7 +5,7 @@ ghost use Rattle.po_merge.specs.declared.input.MergeOptions.{MergeOptions};
 ghost use Rattle.po_merge.specs.Inputs.{Named, NamedEntry};
 ghost use Rattle.po_entry.specs.TextEntry.{TextEntry};
 ghost use Rattle.po_merge.specs.MergeLaws.{FormsAreOfOne, GroupsByNumber, KeptMessagesStand, MergedAreEntries, MergedCanStand, MessagesStandOnce, OneDefinitionStays, OneInputStays, WithItself};
-ghost use Rattle.po_merge.specs.EntryLaws.{FormsAreJoined, JoinedIsFuzzy, KeptByCount, ObsoleteWhereNoneIsLive, PluralOfFirst, PreviousOfFirst, TextsInOrder, TextsOfAll};
+ghost use Rattle.po_merge.specs.EntryLaws.{FormsAreJoined, JoinedIsFuzzy, KeptByCount, LinesAreNotMerged, ObsoleteWhereNoneIsLive, PluralOfFirst, PreviousOfFirst, TextsInOrder, TextsOfAll};
 ghost use Rattle.po_syntax.specs.declared.item.CommentKind.{CommentKind};
 ghost use Rattle.po_merge.specs.Interleaved.{Segment, InterleavedAreAdmitted, InterleavedAreMerged};
 
@@ -90,7 +90,13 @@ pub fn interleaved_entries_are_merged()
         (rest : List NamedEntry) → InterleavedAreAdmitted digest segments merged rest }
 {}
 
-/// The groups of entries are those of the numbers of their messages, from 0 on.
+/// The groups of entries are those of the numbers of their messages.
 pub fn groups_are_numbered()
-    ensures { (entries : List NamedEntry) (count : ℕ) → GroupsByNumber entries count }
+    ensures { (entries : List NamedEntry) → GroupsByNumber entries }
+{}
+
+/// Definitions that differ only in their lines are merged to entries that differ only in theirs.
+pub fn lines_are_not_merged()
+    ensures { (options : MergeOptions) (definitions others : List NamedEntry)
+        → LinesAreNotMerged options definitions others }
 {}

@@ -18,5 +18,6 @@ pub mod laws;
 mod merging;
 
 pub use crate::definition::{NamedEntry, is_wanted};
+pub use crate::grouping::groups_of;
 pub use crate::input::{MergeOptions, Named};
 pub use crate::merging::{merge, merge_definitions};
