@@ -3,7 +3,6 @@ pub mod Omitted
 pub mod JoinedView
 pub mod Duplicate
 pub mod Statistics
-pub mod Digest
 pub mod FirstOnes
 pub mod Message
 pub mod MessageView

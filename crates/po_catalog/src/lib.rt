@@ -2,21 +2,19 @@
 //! join to (GNU gettext manual, "The Format of PO Files" and "Invoking the msgfmt Program").
 //!
 //! [`joined`] lists the entries of several inputs, [`duplicates`] finds the first message that
-//! stands twice, [`digest`] tells most messages apart, and [`statistics`] counts what is
+//! stands twice, [`grouped`] numbers the messages of keys, and [`statistics`] counts what is
 //! translated. The types, the reader and the writer are re-exported from the crates below.
 //!
-//! The modules in reading order: `joining`, `digests`, `duplicate`, `stats`, `laws`.
+//! The modules in reading order: `joining`, `message_index`, `duplicate`, `stats`, `laws`.
 
 #![tactic(auto)]
 
-mod digests;
 mod duplicate;
 mod joining;
 pub mod laws;
 mod message_index;
 mod stats;
 
-pub use crate::digests::digest;
 pub use crate::duplicate::{JoinError, duplicates, joined_duplicates};
 pub use crate::joining::{InputEntry, into_joined, is_live, is_live_header, joined};
 pub use crate::message_index::{MessageKey, Repeat, first_repeat, grouped, message_key};

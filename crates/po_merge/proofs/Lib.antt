@@ -12,7 +12,6 @@ pub mod GroupsMerged
 pub mod MergedMessages
 pub mod MessagesOnce
 pub mod SameInput
-pub mod Interleaving
 pub mod NumberedGroups
 pub mod Lines
 pub mod EntryLaws

@@ -7,5 +7,4 @@ pub mod Grouping
 pub mod Sets
 pub mod FirstParts
 pub mod MergeLaws
-pub mod Interleaved
 pub mod EntryLaws

@@ -7,7 +7,6 @@ ghost use Rattle.po_entry.specs.TextEntry.{TextEntry};
 ghost use Rattle.po_merge.specs.MergeLaws.{FormsAreOfOne, GroupsByNumber, KeptMessagesStand, MergedAreEntries, MergedCanStand, MessagesStandOnce, OneDefinitionStays, OneInputStays, WithItself};
 ghost use Rattle.po_merge.specs.EntryLaws.{FormsAreJoined, JoinedIsFuzzy, KeptByCount, LinesAreNotMerged, ObsoleteWhereNoneIsLive, PluralOfFirst, PreviousOfFirst, TextsInOrder, TextsOfAll};
 ghost use Rattle.po_syntax.specs.declared.item.CommentKind.{CommentKind};
-ghost use Rattle.po_merge.specs.Interleaved.{Segment, InterleavedAreAdmitted, InterleavedAreMerged};
 
 /// A message with one definition is merged to the entry of that definition.
 pub fn one_definition_stays()
@@ -79,15 +78,6 @@ pub fn obsolete_where_none_is_live()
 /// fewer than `less_than`, and one alone with `unique`.
 pub fn kept_by_count()
     ensures { (options : MergeOptions) (definitions : List NamedEntry) → KeptByCount options definitions }
-{}
-
-/// Entries of several inputs that are each the only one of their message needn't be merged: if a
-/// digest of each message shows that, they stay as they are, and only the others are merged.
-pub fn interleaved_entries_are_merged()
-    ensures merged { (use_first : Bool) (digest : TextEntry → ℕ) (segments : List Segment) (rest : List NamedEntry)
-        → InterleavedAreMerged use_first digest segments rest }
-    ensures admitted { (digest : TextEntry → ℕ) (segments : List Segment) (merged : List TextEntry)
-        (rest : List NamedEntry) → InterleavedAreAdmitted digest segments merged rest }
 {}
 
 /// The groups of entries are those of the numbers of their messages.

@@ -1,5 +1,5 @@
 -- Lists made of the same elements, element by element.
-use Rattle.std.proofs.Common.{◌≡◌, refl, ap, ℕ, zero, suc, ◌+◌, ◌<◌, List, [], ◌∷◌, ◌++◌, sym, ◌∙◌, ap₂, Bool, cond, true, false, append-nil, not, filter, length, get_or, take, drop, map, arith, add-one}
+use Rattle.std.proofs.Common.{◌≡◌, refl, ap, ℕ, zero, suc, ◌+◌, ◌<◌, List, [], ◌∷◌, ◌++◌, ◌∙◌, Bool, cond, true, false, not, filter, length, get_or, take, drop, map, arith, add-one}
 use Rattle.std.proofs.lemmas.List.{map-append}
 use Rattle.std.proofs.lemmas.List.Elements.{filter-append}
 

@@ -1,10 +1,8 @@
 pub mod MsgcatLemmas
-pub mod DigestLemmas
 pub mod SelectedLemmas
-pub mod OneText
-pub mod SegmentLemmas
-pub mod HeldLemmas
-pub mod InterleavedText
 pub mod NulNames
 pub mod KeyLemmas
+pub mod EntryLemmas
+pub mod InputLemmas
+pub mod MergedLemmas
 pub mod RepeatLemmas

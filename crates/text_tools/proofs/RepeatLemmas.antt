@@ -1,7 +1,7 @@
 -- Live entries that repeat an earlier one, by the numbers of their messages.
 use Rattle.std.proofs.Common.{◌≡◌, ◌≢◌, refl, sym, ap, ap₂, ◌∙◌, subst, ℕ, ◌+◌, ◌<◌, Bool, true, false, cond, filter, List, [], ◌∷◌, ◌++◌, Option, Some, None, append_assoc, length, get_or, take, drop, map, arith, All, suc, ◌⊎◌, inl, inr}
 use Rattle.std.specs.Prelude.{Contains}
-use Rattle.std.proofs.lemmas.Bool.{cases_eq}
+use Rattle.std.proofs.lemmas.Bool.{cases_eq, ne_eqb}
 use Rattle.std.proofs.lemmas.List.{map-append, take-append-drop, get_or-map, length-map}
 use Rattle.std.proofs.lemmas.List.Elements.{All-nil, All-cons, All-append, All-head}
 use Rattle.std.proofs.lemmas.List.Quantifiers.{all_pairs_push}
@@ -11,8 +11,9 @@ use Rattle.po_catalog.specs.Duplicate.{AllDiffer, IsFirstDuplicate, IsSameMessag
 use Rattle.po_catalog.specs.Joined.{InputEntry, entries_of, in_input, is_live}
 use Rattle.po_entry.specs.Halves.{All-left, All-right}
 use Rattle.po_catalog.specs.Message.{Message, entry_message}
-use Rattle.text_tools.specs.Repeats.{IsFirstRepeat, NumbersDiffer, numbered}
+use Rattle.text_tools.specs.Repeats.{IsFirstRepeat, IsUnseen, NumbersDiffer, line_seen, numbered}
 use Rattle.text_tools.specs.declared.repeats.Numbered.{Numbered}
+use Rattle.text_tools.specs.declared.repeats.Seen.{Seen}
 
 -- the first of those that have this number has this line
 pub record IsAt (done : List Numbered) (number line : ℕ) : Type 0 where
@@ -23,30 +24,28 @@ pub record IsAt (done : List Numbered) (number line : ℕ) : Type 0 where
   pub number_is : first.number ≡ number
   pub line_is : line ≡ first.line
 
--- the table has the lines of these, no two of which have one number
-pub record IsSeen (seen : List (Option ℕ)) (done : List Numbered) : Type 0 where
-  pub found : (number line : ℕ) → get_or seen number None ≡ Some line → IsAt done number line
-  pub absent : (number : ℕ) → get_or seen number None ≡ None → All (λ n. n.number ≢ number) done
+-- these are the lines that are seen, no two of which have one number
+pub record IsSeen (at : ℕ → Option ℕ) (done : List Numbered) : Type 0 where
+  pub found : (number line : ℕ) → at number ≡ Some line → IsAt done number line
+  pub absent : (number : ℕ) → at number ≡ None → All (λ n. n.number ≢ number) done
   pub differ : NumbersDiffer done
 
-pub seen_none : (seen : List (Option ℕ)) → seen ≡ [] → IsSeen seen []
-seen_none seen empty =
-    let none : (number : ℕ) → get_or seen number None ≡ None = λ number. ap (λ l. get_or l number None) empty in
-    record {
-      found = λ number line is. absurd (let no = none number in cc (is, no));
-      absent = λ number is. All-nil (λ n. n.number ≢ number);
-      differ = λ i j d below inside. absurd (omega (arith, inside));
-    }
+pub seen_none : (at : ℕ → Option ℕ) → ((number : ℕ) → at number ≡ None) → IsSeen at []
+seen_none at none = record {
+  found = λ number line is. absurd (let no = none number in cc (is, no));
+  absent = λ number is. All-nil (λ n. n.number ≢ number);
+  differ = λ i j d below inside. absurd (omega (arith, inside));
+}
 
 -- one more, whose number none before it has
-module _ (old new : List (Option ℕ)) (xs : List Numbered) (i : ℕ) (x : Numbered) (one : take (i + 1) xs ≡ take i xs ++ x ∷ []) (seen : IsSeen old (take i xs)) (none : get_or old x.number None ≡ None)
-    (kept : get_or new x.number None ≡ Some x.line) (others : (q : ℕ) → q ≢ x.number → get_or new q None ≡ get_or old q None) where
+module _ (old new : ℕ → Option ℕ) (xs : List Numbered) (i : ℕ) (x : Numbered) (one : take (i + 1) xs ≡ take i xs ++ x ∷ []) (seen : IsSeen old (take i xs)) (none : old x.number ≡ None) (kept : new x.number ≡ Some x.line)
+    (others : (q : ℕ) → q ≢ x.number → new q ≡ old q) where
   abbrev done : List Numbered
   done = take i xs
 
-  found_more : (q line : ℕ) → get_or new q None ≡ Some line → (q ≡ x.number) ⊎ (q ≡ x.number → ⊥) → IsAt (done ++ x ∷ []) q line
+  found_more : (q line : ℕ) → new q ≡ Some line → (q ≡ x.number) ⊎ (q ≡ x.number → ⊥) → IsAt (done ++ x ∷ []) q line
   found_more q line is (inl same) =
-      let at : Some x.line ≡ Some line = sym kept ∙ sym (ap (λ n. get_or new n None) same) ∙ is in
+      let at : Some x.line ≡ Some line = sym kept ∙ sym (ap new same) ∙ is in
       let line_is : x.line ≡ line = cc in
       record { before = done; first = x; after = []; split = refl; number_is = sym same; line_is = sym line_is }
   found_more q line is (inr other) =
@@ -60,8 +59,8 @@ module _ (old new : List (Option ℕ)) (xs : List Numbered) (i : ℕ) (x : Numbe
         line_is = before.line_is;
       }
 
-  absent_more : (q : ℕ) → get_or new q None ≡ None → (q ≡ x.number) ⊎ (q ≡ x.number → ⊥) → All (λ n. n.number ≢ q) (done ++ x ∷ [])
-  absent_more q is (inl same) = absurd (let at : Some x.line ≡ None = sym kept ∙ sym (ap (λ n. get_or new n None) same) ∙ is in cc)
+  absent_more : (q : ℕ) → new q ≡ None → (q ≡ x.number) ⊎ (q ≡ x.number → ⊥) → All (λ n. n.number ≢ q) (done ++ x ∷ [])
+  absent_more q is (inl same) = absurd (let at : Some x.line ≡ None = sym kept ∙ sym (ap new same) ∙ is in cc)
   absent_more q is (inr other) =
       All-append (λ n. n.number ≢ q) done (x ∷ []) (seen.absent q (sym (others q other) ∙ is))
       (All-cons (λ n. n.number ≢ q) x [] (λ same. other (sym same)) (All-nil (λ n. n.number ≢ q)))
@@ -75,8 +74,7 @@ module _ (old new : List (Option ℕ)) (xs : List Numbered) (i : ℕ) (x : Numbe
       })
 
 -- one whose number one before it has
-pub seen_repeats : (old : List (Option ℕ)) (xs : List Numbered) (i : ℕ) (x : Numbered) (line : ℕ) → i < length xs → x ≡ get_or xs i x → IsSeen old (take i xs) → get_or old x.number None ≡ Some line
-    → IsFirstRepeat xs (line, x.line)
+pub seen_repeats : (old : ℕ → Option ℕ) (xs : List Numbered) (i : ℕ) (x : Numbered) (line : ℕ) → i < length xs → x ≡ get_or xs i x → IsSeen old (take i xs) → old x.number ≡ Some line → IsFirstRepeat xs (line, x.line)
 seen_repeats old xs i x line inside here seen is =
     let found = seen.found x.number line is in
     let rest : drop i xs ≡ x ∷ drop (suc i) xs = drop-cons xs i x inside ∙ ap (λ y. y ∷ drop (suc i) xs) (sym here) in
@@ -91,6 +89,11 @@ seen_repeats old xs i x line inside here seen is =
       differ = subst NumbersDiffer found.split seen.differ;
       lines_are = ap (λ (l : ℕ). (l, x.line)) found.line_is;
     }
+
+-- no line was kept in an empty table
+pub none_kept : (seen : List Seen) → seen ≡ [] → (round : ℕ) → 0 < round → IsUnseen round seen
+none_kept seen empty round after number =
+    ap (λ l. line_seen round l number) empty ∙ ap (λ b. cond b (Some 0) None) (ne_eqb 0 round (λ same. omega (arith, same, after)))
 
 -- entries among these messages
 abbrev pub AreAmong : List Message → List TextEntry → Type 0

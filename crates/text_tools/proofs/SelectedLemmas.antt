@@ -1,8 +1,8 @@
 -- What is selected of the entries of a text.
-use Rattle.std.proofs.Common.{◌≡◌, ◌≢◌, refl, sym, ap, ap₂, subst, ◌∙◌, ℕ, ◌<◌, Bool, true, false, cond, not, ◌&&◌, List, [], ◌∷◌, ◌++◌, map, filter, length, arith, inl, inr, get_or}
-use Rattle.std.specs.Prelude.{All, Contains}
+use Rattle.std.proofs.Common.{◌≡◌, ◌≢◌, refl, sym, ap, subst, ◌∙◌, ℕ, Bool, true, false, cond, not, ◌&&◌, List, [], ◌∷◌, ◌++◌, map, filter, inl, inr, get_or}
+use Rattle.std.specs.Prelude.{Contains}
 use Rattle.std.specs.List.{position_or_len}
-use Rattle.std.proofs.lemmas.List.{get_or-map, length-map, map-append}
+use Rattle.std.proofs.lemmas.List.{map-append}
 use Rattle.std.proofs.lemmas.Simd.{map-map}
 use Rattle.std.proofs.lemmas.List.Elements.{All-filter, All-map, filter-append}
 use Rattle.std.proofs.lemmas.List.Kept.{AllPairs-filter}
@@ -18,9 +18,8 @@ use Rattle.po_catalog.specs.FirstOnes.{first_ones, group_numbers}
 use Rattle.po_catalog.specs.Message.{Message, entry_message, same_message}
 use Rattle.text_tools.specs.Msgattrib.{IsMsgattribRun, error_line}
 use Rattle.text_tools.specs.Repeats.{IsFirstRepeat, NumbersDiffer, are_numbered, numbered}
-use Rattle.text_tools.specs.SelectedText.{AreDistinct, HoldRows, IsSelectedText, IsSelectionFault, Repeats, RepeatsSelected, stays_live}
+use Rattle.text_tools.specs.SelectedText.{IsSelectedText, IsSelectionFault, Repeats, RepeatsSelected, stays_live}
 use Rattle.text_tools.specs.TextRuns.{written_run}
-use Rattle.text_tools.specs.declared.selected_text.Rows.{Rows}
 use Rattle.std.proofs.lemmas.List.Folds.{list_any_at}
 use Rattle.std.proofs.lemmas.List.Sums.{passes_at_first}
 use Rattle.po_catalog.proofs.FirstOnes.{any_first_ones, found_within}
@@ -42,8 +41,8 @@ live_differ entries differ = AllPairs-filter (λ a b. ¬ IsSameMessage a b) is_l
 abbrev pub number_in : List TextEntry → Message → ℕ
 number_in entries message = position_or_len (same_message message) (first_ones same_message (map entry_message entries))
 
-pub numbers_are : (keys : List Message) (entries : List TextEntry) (numbers : List ℕ) → numbers ≡ group_numbers same_message keys → keys ≡ map entry_message entries → numbers ≡ are_numbered (number_in entries) entries
-numbers_are keys entries numbers is keys_are = is ∙ ap (group_numbers same_message) keys_are ∙ map-map (number_in entries) entry_message entries
+pub numbers_are : (entries : List TextEntry) (numbers : List ℕ) → numbers ≡ group_numbers same_message (map entry_message entries) → numbers ≡ are_numbered (number_in entries) entries
+numbers_are entries numbers is = is ∙ map-map (number_in entries) entry_message entries
 
 -- no two of the messages have one number
 pub own_of : (entries : List TextEntry) → AreOwn (map entry_message entries) (number_in entries)
@@ -74,13 +73,19 @@ among_selected s entries =
     let Known : TextEntry → Type 0 = λ e. Contains (map entry_message entries) (entry_message e) in
     All-filter is_live Known (selected s entries) (All-map Known (changed s) (filter (is_kept s) entries) (All-filter (is_kept s) Known entries (all_among entries)))
 
--- a number that stands twice among the live entries
+-- a number that stands twice among the live entries, which are numbered with others
+pub repeats_in : (known : List Message) (number_of : Message → ℕ) (entries : List TextEntry) (lines : ℕ × ℕ) (error : PoError) → AreOwn known number_of → AreAmong known (filter is_live entries)
+    → IsFirstRepeat (map (numbered number_of) (filter is_live entries)) lines → error ≡ record { kind = Duplicate lines.0; line = lines.1 } → Repeats entries error
+repeats_in known number_of entries lines error own among repeat error_is =
+    let found = duplicate_of known number_of 0 entries (filter is_live entries) lines own refl among repeat in
+    (in_input 0 found.0, in_input 0 found.1, found.2, error_is ∙ ap (λ (l : ℕ × ℕ). record { kind = Duplicate l.0; line = l.1 }) found.3)
+
+-- and by themselves
 pub repeats_read : (entries : List TextEntry) (lines : ℕ × ℕ) (error : PoError) → IsFirstRepeat (map (numbered (number_in entries)) (filter is_live entries)) lines
     → error ≡ record { kind = Duplicate lines.0; line = lines.1 } → Repeats entries error
 repeats_read entries lines error repeat error_is =
     let known = map entry_message entries in
-    let found = duplicate_of known (number_in entries) 0 entries (filter is_live entries) lines (own_of entries) refl (All-filter is_live (λ e. Contains known (entry_message e)) entries (all_among entries)) repeat in
-    (in_input 0 found.0, in_input 0 found.1, found.2, error_is ∙ ap (λ (l : ℕ × ℕ). record { kind = Duplicate l.0; line = l.1 }) found.3)
+    repeats_in known (number_in entries) entries lines error (own_of entries) (All-filter is_live (λ e. Contains known (entry_message e)) entries (all_among entries)) repeat error_is
 
 -- one that stands twice among those that are selected
 pub repeats_selected : (s : Selection) (entries : List TextEntry) (lines : ℕ × ℕ) (error : PoError) → HasNoDuplicate entries

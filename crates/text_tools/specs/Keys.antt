@@ -1,5 +1,5 @@
 -- The messages of entries, kept apart from the entries. Internal to this crate.
-use Rattle.std.specs.Prelude.{◌≡◌, ℕ, List, [], ◌++◌, Option, length, map, option_map, unwrap_or}
+use Rattle.std.specs.Prelude.{◌≡◌, ℕ, List, [], ◌++◌, length, map, option_map, unwrap_or}
 use Rattle.std.specs.List.{flat_map}
 use Rattle.po_entry.specs.TextEntry.{TextEntry}
 use Rattle.text_tools.specs.declared.keys.KeyLengths.{KeyLengths}

@@ -1,10 +1,10 @@
 pub mod Msgattrib
 pub mod Msgcat
 pub mod TextRuns
-pub mod Digests
 pub mod SelectedText
-pub mod Held
-pub mod SegmentTexts
 pub mod Options
 pub mod Keys
 pub mod Repeats
+pub mod Entries
+pub mod Inputs
+pub mod MergedText

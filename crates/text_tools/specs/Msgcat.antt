@@ -1,6 +1,5 @@
 -- What msgcat writes and reports (manual, "Invoking the msgcat Program").
-use Rattle.std.specs.Prelude.{◌≡◌, ◌≢◌, ◌⊎◌, ◌==◌, ◌&&◌, ℕ, All, Bool, Contains, not, List, [], ◌∷◌, ◌++◌, codes}
-use Rattle.std.specs.Prelude.{is_some}
+use Rattle.std.specs.Prelude.{◌≡◌, ◌≢◌, ◌⊎◌, ℕ, All, Contains, List, [], ◌∷◌, ◌++◌, codes}
 use Rattle.std.specs.List.{AllZip}
 use Rattle.po_syntax.specs.declared.fault.PoError.{PoError}
 use Rattle.po_syntax.specs.declared.fault.PoFault.TheVariants.{ForeignCharset, OutOfMemory as NoMemory}
@@ -10,7 +9,6 @@ use Rattle.po_compile.specs.Accepted.{ReadsDistinct, IsTextFault}
 use Rattle.po_merge.specs.Inputs.{Named}
 use Rattle.po_merge.specs.Merged.{merged}
 use Rattle.po_merge.specs.declared.input.MergeOptions.{MergeOptions}
-use Rattle.po_writer.specs.WrittenText.{written_text}
 use Rattle.tool_runs.specs.declared.inputs.InputFault.TheVariants.{CannotOpen}
 use Rattle.tool_runs.specs.FaultText.{text_line}
 use Rattle.tool_runs.specs.Inputs.{input_fault_text}
@@ -71,17 +69,6 @@ pub record IsMerged (files : List NamedFile) (o : MergeOptions) (run : RunView) 
 -- what a run of msgcat comes to
 abbrev pub IsMsgcatRun : List NamedFile → MergeOptions → RunView → Type 0
 IsMsgcatRun files o run = IsUnread files run ⊎ (IsForeign files o run ⊎ IsMerged files o run)
-
--- every message is kept
-abbrev pub keeps_all : MergeOptions → Bool
-keeps_all o = (not o.unique && not (is_some o.less_than)) && (o.more_than == 0)
-
--- the files are read, and this is the text of what they are merged to
-pub record IsMergedText (files : List NamedFile) (o : MergeOptions) (written : List ℕ) : Type 0 where
-  pub inputs : List Named
-  pub read : AreReadAs files inputs
-  pub admitted : All HasAdmittedCharset (merged o inputs)
-  pub text_is : written ≡ written_text (merged o inputs)
 
 -- one of the files has a name with a NUL, so that it can't be opened
 pub record HasNulName (files : List NamedFile) (text : List ℕ) : Type 0 where

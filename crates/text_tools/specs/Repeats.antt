@@ -1,9 +1,10 @@
 -- Live entries that repeat an earlier one, by the numbers of their messages. Internal to this crate.
-use Rattle.std.specs.Prelude.{◌≡◌, ◌≢◌, ℕ, Bool, List, ◌∷◌, ◌++◌, AllPairs, map}
+use Rattle.std.specs.Prelude.{◌≡◌, ◌≢◌, ◌==◌, ℕ, Bool, List, ◌∷◌, ◌++◌, AllPairs, Option, None, Some, get_or, map, if◌then◌else◌}
 use Rattle.po_entry.specs.TextEntry.{TextEntry}
 use Rattle.po_catalog.specs.Message.{Message, entry_message}
 use Rattle.text_tools.specs.declared.repeats.Numbered.{Numbered}
 use Rattle.text_tools.specs.declared.repeats.Place.{Place}
+use Rattle.text_tools.specs.declared.repeats.Seen.{Seen}
 
 -- the numbers of the entries' messages
 abbrev pub are_numbered : (Message → ℕ) → List TextEntry → List ℕ
@@ -34,3 +35,14 @@ pub record IsFirstRepeat (entries : List Numbered) (lines : ℕ × ℕ) : Type 0
   pub same : first.number ≡ later.number
   pub differ : NumbersDiffer (before ++ first ∷ between)
   pub lines_are : lines ≡ (first.line, later.line)
+
+-- the line that was kept of a number in this round
+abbrev pub line_of_round : ℕ → Seen → Option ℕ
+line_of_round round seen = if seen.round == round then Some seen.line else None
+
+abbrev pub line_seen : ℕ → List Seen → ℕ → Option ℕ
+line_seen round seen number = line_of_round round (get_or seen number (record { round = 0; line = 0 }))
+
+-- no line was kept in this round
+abbrev pub IsUnseen : ℕ → List Seen → Type 0
+IsUnseen round seen = (number : ℕ) → line_seen round seen number ≡ None

@@ -6,9 +6,9 @@ use Rattle.po_entry.specs.ReadsText.{ReadsText}
 use Rattle.po_entry.specs.TextEntry.{TextEntry}
 use Rattle.po_catalog.specs.Duplicate.{HasNoDuplicate, IsFirstDuplicate, duplicate_fault}
 use Rattle.po_catalog.specs.Joined.{InputEntry, in_input, is_live}
-use Rattle.po_compile.specs.Accepted.{IsTextFault, ReadsDistinct}
+use Rattle.po_compile.specs.Accepted.{IsTextFault}
 use Rattle.po_select.specs.declared.selection.Selection.{Selection}
-use Rattle.po_select.specs.Selected.{changed, is_kept, obsolete_after, selected}
+use Rattle.po_select.specs.Selected.{is_kept, obsolete_after, selected}
 use Rattle.po_writer.specs.TextParts.{AreParts}
 use Rattle.po_writer.specs.WrittenText.{written_text}
 use Rattle.text_tools.specs.Keys.{HoldKeys}

@@ -5,10 +5,11 @@ ghost use Rattle.std.specs.Prelude.{◌≡◌, ◌++◌, ◌∷◌, ℕ, [], IfO
 ghost use Rattle.std.specs.Option.{option_copied};
 ghost use Rattle.po_entry.specs.TextEntry.{TextEntry};
 ghost use Rattle.text_tools.specs.Keys.{HoldKeys, key_bytes, key_lengths};
-ghost use Rattle.po_catalog.specs.Message.{entry_message};
+ghost use Rattle.po_catalog.specs.FirstOnes.{group_numbers};
+ghost use Rattle.po_catalog.specs.Message.{entry_message, same_message};
 ghost use Rattle.po_catalog.specs.MessageView.{message_of, messages};
 
-use po_catalog::{Entry, MessageKey};
+use po_catalog::{Entry, MessageKey, grouped};
 use std::alloc::{AllocError, Global};
 
 /// How long the context of a message is, where it has one, and its msgid.
@@ -26,12 +27,12 @@ pub(crate) struct Keys {
     pub(crate) lengths: Vec<KeyLengths>,
 }
 
-/// Cuts off so many bytes, or all where there are fewer.
-pub(crate) fn split_at_most(bytes: &[u8], len: usize) -> (&[u8], &[u8])
-    ensures first { result.0.now ≡ take len bytes.now }
-    ensures rest { result.1.now ≡ drop len bytes.now }
+/// Cuts off so many, or all where there are fewer.
+pub(crate) fn split_at_most<T>(items: &[T], len: usize) -> (&[T], &[T])
+    ensures first { result.0.now ≡ take len items.now }
+    ensures rest { result.1.now ≡ drop len items.now }
 {
-    bytes.split_at(len.min(bytes.len()))
+    items.split_at(len.min(items.len()))
 }
 
 /// Cuts off a context of this length, where there is one.
@@ -104,7 +105,7 @@ impl Keys {
     }
 
     /// The messages, in their order.
-    pub(crate) fn list(&self, alloc: Global) -> Result<Vec<MessageKey<'_>>, AllocError>
+    fn list(&self, alloc: Global) -> Result<Vec<MessageKey<'_>>, AllocError>
         ensures { IfOk result (λ keys. (entries : List TextEntry) → HoldKeys entries self.now
             → messages keys.items ≡ map entry_message entries) }
     {
@@ -116,5 +117,14 @@ impl Keys {
             rest = after;
         }
         Ok(keys)
+    }
+
+    /// For each message its number among them, in the order in which they first appear.
+    pub(crate) fn numbers(&self, alloc: Global) -> Result<Vec<usize>, AllocError>
+        ensures { IfOk result (λ numbers. (entries : List TextEntry) → HoldKeys entries self.now
+            → numbers.items ≡ group_numbers same_message (map entry_message entries)) }
+    {
+        let keys = self.list(alloc)?;
+        grouped(alloc, &keys)
     }
 }

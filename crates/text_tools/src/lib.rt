@@ -2,21 +2,18 @@
 //! status.
 //!
 //! The modules in reading order: `text_runs`, `keys`, `repeats`, `selected_text`, `msgattrib`; then,
-//! for msgcat, `digests`, `repeated`, `segment_texts`, `held`, `merged_text`, `msgcat`,
-//! `unreadable_inputs`; and `options`.
+//! for msgcat, `entries`, `inputs`, `merged_text`, `msgcat`, `unreadable_inputs`; and `options`.
 
 #![tactic(auto)]
 
-mod digests;
-mod held;
+mod entries;
+mod inputs;
 mod keys;
 mod merged_text;
 mod msgattrib;
 mod msgcat;
 mod options;
-mod repeated;
 mod repeats;
-mod segment_texts;
 mod selected_text;
 mod text_runs;
 mod unreadable_inputs;

@@ -1,10 +1,12 @@
 //! Live entries that repeat an earlier one.
 
-ghost use Rattle.std.specs.Prelude.{◌≡◌, ◌≢◌, ℕ, Bool, IfOk, List, MatchOption, None, OnOk, Some, filter, get_or, length, map};
+ghost use Rattle.std.specs.Prelude.{◌≡◌, ◌≢◌, ◌<◌, ℕ, Bool, IfOk, List, MatchOption, OnOk, Some, filter, length, map};
 ghost use Rattle.po_entry.specs.TextEntry.{TextEntry};
 ghost use Rattle.po_catalog.specs.Message.{Message};
-ghost use Rattle.text_tools.specs.Repeats.{IsFirstRepeat, NumbersDiffer, are_numbered, are_placed, numbered};
+ghost use Rattle.po_syntax.specs.declared.fault.PoFault.{PoFault};
+ghost use Rattle.text_tools.specs.Repeats.{IsFirstRepeat, IsUnseen, NumbersDiffer, are_numbered, are_placed, line_seen, numbered};
 
+use po_syntax::{PoError, PoFault};
 use std::alloc::{AllocError, Global};
 use std::mem::replace;
 
@@ -51,31 +53,54 @@ fn live_ones(
     Ok(live)
 }
 
-/// Keeps the line of a number, in a table by numbers. Returns the line that was kept before.
+/// The line that a number has in a table by numbers, and the round in which it was kept there.
+/// Rounds are counted from 1.
+#[derive(Clone, Copy)]
+pub(crate) struct Seen {
+    /// The round; 0 where the number has no line.
+    pub(crate) round: usize,
+    /// The line.
+    pub(crate) line: u32,
+}
+
+/// Keeps the line of a number in this round. Returns the line that was kept before in it.
 fn keep_line(
-    seen: &mut Vec<Option<u32>>,
+    seen: &mut Vec<Seen>,
+    round: usize,
     number: usize,
     line: u32,
 ) -> Result<Option<u32>, AllocError>
-    ensures before { IfOk result (λ before. before ≡ get_or seen.old.items number None) }
-    ensures kept { OnOk result (get_or seen.new.items number None ≡ Some line) }
+    requires { 0 < round }
+    ensures before { IfOk result (λ before. before ≡ line_seen round seen.old.items number) }
+    ensures kept { OnOk result (line_seen round seen.new.items number ≡ Some line) }
     ensures others { OnOk result ((other : ℕ) → other ≢ number
-        → get_or seen.new.items other None ≡ get_or seen.old.items other None) }
+        → line_seen round seen.new.items other ≡ line_seen round seen.old.items other) }
+    ensures later { OnOk result ((later : ℕ) → round < later → IsUnseen later seen.old.items
+        → IsUnseen later seen.new.items) }
 {
     while seen.len() <= number {
-        seen.push(None)?;
+        seen.push(Seen { round: 0, line: 0 })?;
     }
-    Ok(replace(&mut seen[number], Some(line)))
+    let before = replace(&mut seen[number], Seen { round, line });
+    Ok((before.round == round).then_some(before.line))
 }
 
 /// The lines of the earliest that has the number of an earlier one: that of the earlier one, and its
-/// own.
-fn first_repeat(alloc: Global, entries: &[Numbered]) -> Result<Option<(u32, u32)>, AllocError>
-    ensures { IfOk result (λ found. MatchOption found (NumbersDiffer entries.now) (IsFirstRepeat entries.now)) }
+/// own. The table has none of this round.
+fn first_repeat(
+    seen: &mut Vec<Seen>,
+    round: usize,
+    entries: &[Numbered],
+) -> Result<Option<(u32, u32)>, AllocError>
+    requires round { 0 < round }
+    requires unseen { IsUnseen round seen.old.items }
+    ensures found { IfOk result (λ found.
+        MatchOption found (NumbersDiffer entries.now) (IsFirstRepeat entries.now)) }
+    ensures later { OnOk result ((later : ℕ) → round < later → IsUnseen later seen.old.items
+        → IsUnseen later seen.new.items) }
 {
-    let mut seen = Vec::new(alloc);
     for entry in entries {
-        if let Some(line) = keep_line(&mut seen, entry.number, entry.line)? {
+        if let Some(line) = keep_line(seen, round, entry.number, entry.line)? {
             return Ok(Some((line, entry.line)));
         }
     }
@@ -83,18 +108,35 @@ fn first_repeat(alloc: Global, entries: &[Numbered]) -> Result<Option<(u32, u32)
 }
 
 /// Of the entries of these numbers and places, the earliest live one that repeats an earlier live
-/// one: the lines of both.
+/// one: the lines of both. The table has none of this round, and is left so for later ones.
 pub(crate) fn repeated_lines(
     alloc: Global,
+    seen: &mut Vec<Seen>,
+    round: usize,
     numbers: &[usize],
     places: &[Place],
 ) -> Result<Option<(u32, u32)>, AllocError>
-    requires { length numbers.now ≡ length places.now }
-    ensures { IfOk result (λ found. (number_of : Message → ℕ) (is_there : TextEntry → Bool) (entries : List TextEntry)
+    requires lengths { length numbers.now ≡ length places.now }
+    requires round { 0 < round }
+    requires unseen { IsUnseen round seen.old.items }
+    ensures found { IfOk result (λ found. (number_of : Message → ℕ) (is_there : TextEntry → Bool)
+        (entries : List TextEntry)
         → numbers.now ≡ are_numbered number_of entries → places.now ≡ are_placed is_there entries
         → MatchOption found (NumbersDiffer (map (numbered number_of) (filter is_there entries)))
         (IsFirstRepeat (map (numbered number_of) (filter is_there entries)))) }
+    ensures later { OnOk result ((later : ℕ) → round < later → IsUnseen later seen.old.items
+        → IsUnseen later seen.new.items) }
 {
     let live = live_ones(alloc, numbers, places)?;
-    first_repeat(alloc, &live)
+    first_repeat(seen, round, &live)
+}
+
+/// The fault of a message that stands on this line and, again, on a later one.
+pub(crate) fn duplicate(first: u32, line: u32) -> PoError
+    ensures { result ≡ record { kind = PoFault.Duplicate first; line = line } }
+{
+    PoError {
+        kind: PoFault::Duplicate(first),
+        line,
+    }
 }

@@ -10,11 +10,11 @@ ghost use Rattle.po_syntax.specs.declared.fault.PoFault.{PoFault};
 ghost use Rattle.text_tools.specs.SelectedText.{AreDistinct, AreSelected, HoldRows, IsRowsFault, IsSelectedText, IsSelectedWhole, IsSelectionFault, stays_live};
 
 use crate::keys::Keys;
-use crate::repeats::{Place, repeated_lines};
-use po_catalog::{Catalogue, Entry, grouped, is_live};
+use crate::repeats::{Place, duplicate, repeated_lines};
+use po_catalog::{Catalogue, Entry, is_live};
 use po_reader::{PIECE, next_catalogue};
 use po_select::{Selection, select};
-use po_syntax::{Pieces, PoError, PoFault};
+use po_syntax::{Pieces, PoError};
 use po_writer::TextParts;
 use std::alloc::{AllocError, Global};
 
@@ -81,25 +81,15 @@ impl Rows {
             → MatchResult result (λ _. AreDistinct selection entries)
             (λ error. (error.kind ≡ PoFault.OutOfMemory) ⊎ IsRowsFault selection entries error) }
     {
-        let keys = self.keys.list(alloc)?;
-        let numbers = grouped(alloc, &keys)?;
-        if let Some((first, later)) = repeated_lines(alloc, &numbers, &self.read)? {
+        let numbers = self.keys.numbers(alloc)?;
+        let mut seen = Vec::new(alloc);
+        if let Some((first, later)) = repeated_lines(alloc, &mut seen, 1, &numbers, &self.read)? {
             return Err(duplicate(first, later));
         }
-        match repeated_lines(alloc, &numbers, &self.kept)? {
+        match repeated_lines(alloc, &mut seen, 2, &numbers, &self.kept)? {
             Some((first, _)) => Err(duplicate(first, 0)),
             None => Ok(()),
         }
-    }
-}
-
-/// The fault of a message that stands on this line and, again, on a later one.
-fn duplicate(first: u32, line: u32) -> PoError
-    ensures { result ≡ record { kind = PoFault.Duplicate first; line = line } }
-{
-    PoError {
-        kind: PoFault::Duplicate(first),
-        line,
     }
 }
 

@@ -1,13 +1,11 @@
 //! The runs of tools that read PO texts and write one.
-ghost use Rattle.std.specs.Prelude.{◌≡◌, ◌≢◌, All, IfOk, List, OnOk};
+ghost use Rattle.std.specs.Prelude.{◌≡◌, ◌≢◌, IfOk, List};
 ghost use Rattle.po_entry.specs.TextEntry.{TextEntry};
-ghost use Rattle.po_entry.specs.Validity.{IsCatalogueEntry};
 ghost use Rattle.tool_runs.specs.FaultText.{text_line};
 ghost use Rattle.tool_runs.specs.Run.{refusal, run_view};
 ghost use Rattle.text_tools.specs.TextRuns.{written_run};
 ghost use Rattle.po_writer.specs.WrittenText.{written_text};
 
-use po_catalog::{Catalogue, write};
 use po_syntax::{PoError, PoFault};
 use po_writer::laws::some_entry_is_written;
 use std::alloc::{AllocError, Global};
@@ -31,20 +29,6 @@ pub(crate) fn refused_text(
     push_po_text(&mut messages, error.kind)?;
     messages.extend_from_slice(b"\n")?;
     Ok(refused(alloc, messages))
-}
-
-/// The run of a tool that writes this catalogue: its text, and a file where it has an entry.
-pub(crate) fn written_run(alloc: Global, catalogue: &Catalogue) -> Result<Run, AllocError>
-    ensures run { IfOk result (λ run. run_view run ≡ written_run catalogue.now) }
-    ensures valid { OnOk result (All IsCatalogueEntry catalogue.now) }
-{
-    let output = write(alloc, catalogue).map_err(|_| AllocError)?;
-    Ok(Run {
-        output,
-        create: catalogue.entries().len() > 0,
-        messages: Vec::new(alloc),
-        status: 0,
-    })
 }
 
 /// The run of a tool that writes this text of a catalogue.

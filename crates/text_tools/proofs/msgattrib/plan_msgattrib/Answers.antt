@@ -1,5 +1,3 @@
-use Rattle.std.proofs.Common.{◌≡◌}
-use Rattle.tool_runs.specs.Run.{run_view}
 use Rattle.text_tools.proofs.SelectedLemmas.{run_refused}
 use Rattle.text_tools.proofs.msgattrib.plan_msgattrib.Goals as goal
 

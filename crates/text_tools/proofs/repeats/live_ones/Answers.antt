@@ -2,7 +2,6 @@ use Rattle.std.proofs.Common.{◌≡◌, ◌≤◌, ℕ, true, false, ap, ap₂,
 use Rattle.std.proofs.lemmas.List.{length-map, take_all}
 use Rattle.po_catalog.specs.Message.{entry_message}
 use Rattle.text_tools.specs.Repeats.{numbered, place_of}
-use Rattle.text_tools.specs.declared.repeats.Numbered.{Numbered}
 use Rattle.text_tools.specs.declared.repeats.Place.{Place}
 use Rattle.text_tools.proofs.KeyLemmas.{element_at, filtered_more, not_false, not_true}
 use Rattle.text_tools.proofs.repeats.live_ones.Goals as goal
