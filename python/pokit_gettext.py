@@ -6,13 +6,13 @@
 A Translations has the methods of gettext.GNUTranslations. A file is checked when it is opened, and nothing of it is
 decoded before it is asked for; one that is damaged raises OSError with its fault. As in C, ngettext also finds a
 message without plural forms, takes the first form where that of the count is missing, and takes a count modulo 2**64.
-POKIT_LIBRARY names the library where it isn't found as libpokit.so.1.
+POKIT_LIBRARY names the library where it isn't found as libpokit.so.0.
 """
 import ctypes
 import gettext
 import os
 
-_library = ctypes.CDLL(os.environ.get("POKIT_LIBRARY") or "libpokit.so.1")
+_library = ctypes.CDLL(os.environ.get("POKIT_LIBRARY") or "libpokit.so.0")
 _size = ctypes.c_size_t
 _open = _library.pokit_open
 _open.argtypes = [ctypes.c_void_p, ctypes.c_char_p, _size, ctypes.POINTER(ctypes.c_uint32)]
