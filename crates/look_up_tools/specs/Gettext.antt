@@ -1,5 +1,6 @@
 -- What gettext and ngettext write (manual, "Invoking the gettext program" and "Invoking the ngettext program").
-use Rattle.std.specs.Prelude.{◌≡◌, ℕ, Bool, false, not, ◌&&◌, List, [], ◌∷◌, ◌++◌, map, Option, None, Some, codes, if◌then◌else◌}
+use Rattle.std.specs.Prelude.{◌≡◌, ℕ, Bool, false, not, ◌&&◌, List, [], ◌∷◌, ◌++◌, map, Option, None, Some, codes}
+use Rattle.std.specs.Prelude.{if◌then◌else◌}
 use Rattle.std.specs.List.{join_with_byte, list_any}
 use Rattle.mo_file.specs.declared.byte_order.Order.{Order}
 use Rattle.mo_file.specs.declared.fault.MoError.{MoError}
@@ -16,8 +17,10 @@ use Rattle.tool_runs.specs.Run.{RunView}
 -- The files that are catalogues make the chain, in order; each other one is reported by a line, in order.
 pub data Opens (tool : List ℕ) : List NamedFile → List CatalogView → List ℕ → Type 0 where
   none : Opens tool [] [] []
-  opened : {file : NamedFile} {files : List NamedFile} {catalog : CatalogView} {chain : List CatalogView} {reported : List ℕ} (order : Order)
-      → IsMoFile order file.bytes catalog.messages → IsCatalogView catalog.messages catalog.rule → Opens tool files chain reported
+  opened : {file : NamedFile} {files : List NamedFile} {catalog : CatalogView} {chain : List CatalogView}
+      {reported : List ℕ} (order : Order)
+      → IsMoFile order file.bytes catalog.messages → IsCatalogView catalog.messages catalog.rule
+      → Opens tool files chain reported
       → Opens tool (file ∷ files) (catalog ∷ chain) reported
   refused : {file : NamedFile} {files : List NamedFile} {fault : MoError} {chain : List CatalogView} {reported : List ℕ}
       → IsFirstFault file.bytes fault → Opens tool files chain reported
@@ -37,7 +40,8 @@ argument_text expand argument = if expand then expansion argument else argument
 
 -- the answer to one MSGID
 abbrev pub argument_answer : List CatalogView → GettextRequest → List ℕ → List ℕ
-argument_answer chain o argument = (chain_answered chain (record { context = o.context; id = argument_text o.expand argument; plural = None })).text
+argument_answer chain o argument =
+    (chain_answered chain (record { context = o.context; id = argument_text o.expand argument; plural = None })).text
 
 -- the answers, with a space between two
 abbrev pub answers : List CatalogView → GettextRequest → List ℕ
@@ -77,7 +81,11 @@ pub record NgettextRequest : Type 0 where
 -- the answer to MSGID and MSGID-PLURAL at COUNT
 abbrev pub ngettext_output : List CatalogView → NgettextRequest → List ℕ
 ngettext_output chain o =
-    (chain_answered chain (record { context = o.context; id = argument_text o.expand o.id; plural = Some (argument_text o.expand o.plural, count_in o.count) })).text
+    (chain_answered chain (record {
+      context = o.context;
+      id = argument_text o.expand o.id;
+      plural = Some (argument_text o.expand o.plural, count_in o.count);
+    })).text
 
 -- what a run of ngettext comes to
 pub record IsNgettextRun (files : List NamedFile) (o : NgettextRequest) (run : RunView) : Type 0 where

@@ -11,4 +11,5 @@ pub record OpensFile (tool : List ℕ) (file : NamedFile) (old new : Opened) : T
   pub reported : List ℕ
   pub catalogs : new.catalogs.items ≡ old.catalogs.items ++ chain
   pub messages : new.messages.items ≡ old.messages.items ++ reported
-  pub opens : (files : List NamedFile) (others : List CatalogView) (rest : List ℕ) → Opens tool files others rest → Opens tool (file ∷ files) (chain ++ others) (reported ++ rest)
+  pub opens : (files : List NamedFile) (others : List CatalogView) (rest : List ℕ) → Opens tool files others rest
+      → Opens tool (file ∷ files) (chain ++ others) (reported ++ rest)

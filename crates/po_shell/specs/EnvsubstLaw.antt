@@ -20,8 +20,8 @@ pub record TookBeginning (values : Values) (text : List ℕ) (old new : Option (
   pub replaced : Replaces values text (written ++ rest)
   pub took : Took written old new
 
--- of an input that is this text, a beginning was read; and the writer took a beginning of what it becomes, whatever follows
--- what was read
+-- of an input that is this text, a beginning was read; and the writer took a beginning of what it
+-- becomes, whatever follows what was read
 pub record TookBeginningOfRead (values : Values) (text : List ℕ) (left old new : Option (List ℕ)) : Type 0 where
   pub read : List ℕ
   pub reads : (rest : List ℕ) → left ≡ Some rest → text ≡ read ++ rest

@@ -11,7 +11,8 @@ pub record IsFlag (text : Option (List ℕ)) (value : Bool) : Type 0 where
   pub other : text ≡ Some (codes "false") → value ≡ false
 
 -- the number that the first text of an option is read as, and none where it has no text
-pub record IsNumber {E : Type 0} (gives : List ℕ → Result ℕ E → Type 0) (text : Option (List ℕ)) (value : Option ℕ) : Type 0 where
+pub record IsNumber {E : Type 0} (gives : List ℕ → Result ℕ E → Type 0) (text : Option (List ℕ))
+    (value : Option ℕ) : Type 0 where
   pub none : text ≡ None → value ≡ None
   pub given : (digits : List ℕ) → text ≡ Some digits → ReadsOne gives digits value
 

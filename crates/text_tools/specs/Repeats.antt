@@ -1,5 +1,6 @@
 -- Live entries that repeat an earlier one, by the numbers of their messages. Internal to this crate.
-use Rattle.std.specs.Prelude.{◌≡◌, ◌≢◌, ◌==◌, ℕ, Bool, List, ◌∷◌, ◌++◌, AllPairs, Option, None, Some, get_or, map, if◌then◌else◌}
+use Rattle.std.specs.Prelude.{◌≡◌, ◌≢◌, ◌==◌, ℕ, Bool, List, ◌∷◌, ◌++◌, AllPairs, Option, None, Some, get_or, map}
+use Rattle.std.specs.Prelude.{if◌then◌else◌}
 use Rattle.po_entry.specs.TextEntry.{TextEntry}
 use Rattle.po_catalog.specs.Message.{Message, entry_message}
 use Rattle.text_tools.specs.declared.repeats.Numbered.{Numbered}

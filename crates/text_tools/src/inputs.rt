@@ -136,10 +136,7 @@ fn total_len(inputs: &[(&str, &[u8])]) -> usize {
 }
 
 /// Reads inputs, up to the first that has a fault.
-fn read_each<'a>(
-    alloc: Global,
-    inputs: &[(&'a str, &[u8])],
-) -> Result<ReadInputs<'a>, AllocError>
+fn read_each<'a>(alloc: Global, inputs: &[(&'a str, &[u8])]) -> Result<ReadInputs<'a>, AllocError>
     requires { All (λ file. Lacks 0 file.name) (named_files inputs.now) }
     ensures { IfOk result (AreReadUpTo (named_files inputs.now)) }
 {

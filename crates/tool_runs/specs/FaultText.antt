@@ -2,10 +2,13 @@
 -- words, since the manual leaves them open.
 use Rattle.std.specs.Prelude.{ℕ, List, [], ◌∷◌, ◌++◌, codes, decimal, ◌==◌, if◌then◌else◌}
 use Rattle.mo_file.specs.declared.fault.MoError.{MoError}
-use Rattle.mo_file.specs.declared.fault.MoError.TheVariants.{TooShort, BadMagic, BadRevision, TableOutside, StringOutside, NoTerminator, NotSorted}
+use Rattle.mo_file.specs.declared.fault.MoError.TheVariants.{TooShort, BadMagic, BadRevision, TableOutside}
+use Rattle.mo_file.specs.declared.fault.MoError.TheVariants.{StringOutside, NoTerminator, NotSorted}
 use Rattle.po_syntax.specs.declared.fault.PoError.{PoError}
 use Rattle.po_syntax.specs.declared.fault.PoFault.{PoFault}
-use Rattle.po_syntax.specs.declared.fault.PoFault.TheVariants.{NotUtf8, BadToken, UnterminatedString, BadEscape, ForbiddenByte, BadOrder, BadPluralIndex, MixedObsolete, Duplicate, ForeignCharset, TooLarge, OutOfMemory}
+use Rattle.po_syntax.specs.declared.fault.PoFault.TheVariants.{NotUtf8, BadToken, UnterminatedString, BadEscape}
+use Rattle.po_syntax.specs.declared.fault.PoFault.TheVariants.{ForbiddenByte, BadOrder, BadPluralIndex, MixedObsolete}
+use Rattle.po_syntax.specs.declared.fault.PoFault.TheVariants.{Duplicate, ForeignCharset, TooLarge, OutOfMemory}
 
 -- what is wrong with a PO text
 abbrev pub po_text : PoFault → List ℕ

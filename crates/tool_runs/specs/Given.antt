@@ -30,7 +30,8 @@ pub record AreGettextArguments (flag : List ℕ → Bool → Type 0) (texts : Li
   pub taken : IsTaken gettext_arguments (gettext_usage shell arguments) result
 
 -- ngettext's arguments
-pub record AreNgettextArguments (texts : List ℕ → List (List ℕ) → Type 0) (result : Result NgettextArguments ProgramFault) : Type 0 where
+pub record AreNgettextArguments (texts : List ℕ → List (List ℕ) → Type 0)
+    (result : Result NgettextArguments ProgramFault) : Type 0 where
   pub arguments : List (List ℕ)
   pub arguments_are : texts (codes "MSGID") arguments
   pub taken : IsTaken ngettext_arguments (ngettext_usage arguments) result

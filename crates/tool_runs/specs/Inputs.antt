@@ -1,6 +1,7 @@
--- What the tools read: the inputs that the command line names, in order, up to the first that can't be read (manual, "Invoking the msgfmt
--- Program": "If input file is `-`, standard input is read").
-use Rattle.std.specs.Prelude.{◌≡◌, ◌+◌, ◌++◌, ◌∷◌, ◌||◌, ℕ, Bool, true, false, List, [], length, map, take, Option, Some, None, codes}
+-- What the tools read: the inputs that the command line names, in order, up to the first that can't
+-- be read (manual, "Invoking the msgfmt Program": "If input file is `-`, standard input is read").
+use Rattle.std.specs.Prelude.{◌≡◌, ◌+◌, ◌++◌, ◌∷◌, ◌||◌, ℕ, Bool, true, false, List, [], length, map, take, Option}
+use Rattle.std.specs.Prelude.{Some, None, codes}
 use Rattle.tool_runs.specs.declared.inputs.Input.{Input}
 use Rattle.tool_runs.specs.declared.inputs.InputFault.{InputFault}
 use Rattle.tool_runs.specs.declared.inputs.InputFault.TheVariants.{CannotOpen, ReadFault, OutOfMemory}
@@ -25,18 +26,23 @@ input_fault_text name ReadFault = name ++ codes ": read fault"
 input_fault_text name OutOfMemory = codes "out of memory"
 
 -- the only input can't be read, and this is what is wrong with it
-pub record IsInputFault (file : List ℕ → Reading → Type 0) (standard : Reading → Type 0) (argument : List ℕ) (text : List ℕ) : Type 0 where
+pub record IsInputFault (file : List ℕ → Reading → Type 0) (standard : Reading → Type 0) (argument : List ℕ)
+    (text : List ℕ) : Type 0 where
   pub why : InputFault
   pub reads : ReadsAs file standard argument (is_standard argument) false (refuses why)
   pub text_is : text ≡ input_fault_text (shown_name argument) why
 
 -- The inputs that arguments name, before which `-` was seen or not: each with its bytes, up to the
 -- first that can't be read and what is wrong with it.
-pub data AreInputs (file : List ℕ → Reading → Type 0) (standard : Reading → Type 0) : Bool → List (List ℕ) → List NamedFile → Option (List ℕ) → Type 0 where
+pub data AreInputs (file : List ℕ → Reading → Type 0) (standard : Reading → Type 0)
+    : Bool → List (List ℕ) → List NamedFile → Option (List ℕ) → Type 0 where
   done : {seen : Bool} → AreInputs file standard seen [] [] None
-  read : {seen : Bool} {argument : List ℕ} {arguments : List (List ℕ)} {bytes : List ℕ} {inputs : List NamedFile} {fault : Option (List ℕ)}
-      → ReadsAs file standard argument (is_standard argument) seen (gives bytes) → AreInputs file standard (seen || is_standard argument) arguments inputs fault
-      → AreInputs file standard seen (argument ∷ arguments) (record { name = shown_name argument; bytes = bytes } ∷ inputs) fault
+  read : {seen : Bool} {argument : List ℕ} {arguments : List (List ℕ)} {bytes : List ℕ}
+      {inputs : List NamedFile} {fault : Option (List ℕ)}
+      → ReadsAs file standard argument (is_standard argument) seen (gives bytes)
+      → AreInputs file standard (seen || is_standard argument) arguments inputs fault
+      → AreInputs file standard seen (argument ∷ arguments)
+      (record { name = shown_name argument; bytes = bytes } ∷ inputs) fault
   unread : {seen : Bool} {argument : List ℕ} {arguments : List (List ℕ)} (why : InputFault)
       → ReadsAs file standard argument (is_standard argument) seen (refuses why)
       → AreInputs file standard seen (argument ∷ arguments) [] (Some (input_fault_text (shown_name argument) why))
@@ -61,7 +67,8 @@ asked_for argument true true = []
 -- what arguments ask for, in their order, before which `-` was seen or not
 abbrev pub asked_by : Bool → List (List ℕ) → List Asked
 asked_by seen [] = []
-asked_by seen (argument ∷ arguments) = asked_for argument (is_standard argument) seen ++ asked_by (seen || is_standard argument) arguments
+asked_by seen (argument ∷ arguments) =
+    asked_for argument (is_standard argument) seen ++ asked_by (seen || is_standard argument) arguments
 
 -- of these the first are asked for, in their order
 pub record AsksFirst (before after : Option (List Asked)) (all : List Asked) : Type 0 where

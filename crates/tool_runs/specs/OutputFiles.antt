@@ -1,6 +1,7 @@
--- How an output file is made, as the calls of the system in their order: whole in a new file beside it, which is then renamed
--- over it.
-use Rattle.std.specs.Prelude.{◌≡◌, ◌+◌, ◌<◌, ◌≤◌, ◌++◌, ◌∷◌, [], ℕ, Bool, true, false, List, length, if◌then◌else◌, nat_eq, nat_lt, ◌||◌, Option, Some, None, Result, Ok, Err, codes, decimal, ⊤}
+-- How an output file is made, as the calls of the system in their order: whole in a new file beside
+-- it, which is then renamed over it.
+use Rattle.std.specs.Prelude.{◌≡◌, ◌+◌, ◌<◌, ◌≤◌, ◌++◌, ◌∷◌, [], ℕ, Bool, true, false, List, length, if◌then◌else◌}
+use Rattle.std.specs.Prelude.{nat_eq, nat_lt, ◌||◌, Option, Some, None, Result, Ok, Err, codes, decimal, ⊤}
 use Rattle.std.specs.Io.KnownBytes.{Appends}
 use Rattle.std.specs.List.{starts_with}
 use Rattle.std.specs.Option.{unwrap_or}
@@ -12,7 +13,8 @@ use Rattle.tool_runs.specs.declared.output_files.NotMade.{NotMade}
 use Rattle.tool_runs.specs.declared.output_files.NotMade.TheVariants.{Exists, Forbidden, Failed}
 use Rattle.tool_runs.specs.declared.output_files.OutputFault.{OutputFault}
 use Rattle.tool_runs.specs.declared.output_files.OutputFault.TheVariants.{CannotCreate, WriteFault, OutOfMemory}
-use Rattle.tool_runs.specs.FileCalls.{FileCall, FileLog, logged, asks, reads_link, fails_to_read_link, makes, fails_to_make, sets_mode, opens, fails_to_open, closes, renames, removes}
+use Rattle.tool_runs.specs.FileCalls.{FileCall, FileLog, logged, asks, reads_link, fails_to_read_link, makes}
+use Rattle.tool_runs.specs.FileCalls.{fails_to_make, sets_mode, opens, fails_to_open, closes, renames, removes}
 
 -- why an output isn't written, where it isn't
 abbrev pub fault_of : {T : Type 0} → Result T OutputFault → Option OutputFault
@@ -42,8 +44,8 @@ names_stream path =
     bytes_eq path (codes "/dev/stdout") || bytes_eq path (codes "/dev/stderr")
     || starts_with nat_eq path (codes "/dev/fd/") || starts_with nat_eq path (codes "/proc/self/fd/")
 
--- what a file took of the output, from its bytes when it was opened to those when it was closed, by how many of its calls failed
--- and whether it took all
+-- what a file took of the output, from its bytes when it was opened to those when it was closed, by
+-- how many of its calls failed and whether it took all
 pub data IsWritten (output : List ℕ) (before after : Option (List ℕ)) : ℕ → Bool → Bool → Type 0 where
   whole : Appends before after output → IsWritten output before after 0 true true
   cut : {closed : Bool} → AppendsPrefix before after output → IsWritten output before after 1 closed false
@@ -79,18 +81,23 @@ GivesMode (Some mode) old new given = new ≡ logged (sets_mode mode given ∷ [
 
 -- a new file gets the mode of the one that it replaces, then all of the output, and then its path;
 -- where a call fails it is removed
-pub data Fills (output path new : List ℕ) (mode : Option ℕ) (before : Option (List ℕ)) : List FileCall → Option OutputFault → Type 0 where
-  modeless : {bits : ℕ} → mode ≡ Some bits → Fills output path new mode before (sets_mode bits false ∷ removes new ∷ []) (Some CannotCreate)
+pub data Fills (output path new : List ℕ) (mode : Option ℕ) (before : Option (List ℕ))
+    : List FileCall → Option OutputFault → Type 0 where
+  modeless : {bits : ℕ} → mode ≡ Some bits
+      → Fills output path new mode before (sets_mode bits false ∷ removes new ∷ []) (Some CannotCreate)
   replaced : {after : Option (List ℕ)} {failures : ℕ} {closed : Bool}
       → IsWritten output before after failures closed true
-      → Fills output path new mode before (mode_calls mode ++ closes after failures closed ∷ renames new path true ∷ []) None
+      → Fills output path new mode before (mode_calls mode
+      ++ closes after failures closed ∷ renames new path true ∷ []) None
   unmoved : {after : Option (List ℕ)} {failures : ℕ} {closed : Bool}
       → IsWritten output before after failures closed true
-      → Fills output path new mode before (mode_calls mode ++ closes after failures closed ∷ renames new path false ∷ removes new ∷ [])
+      → Fills output path new mode before (mode_calls mode
+      ++ closes after failures closed ∷ renames new path false ∷ removes new ∷ [])
       (Some CannotCreate)
   unwritten : {after : Option (List ℕ)} {failures : ℕ} {closed : Bool}
       → IsWritten output before after failures closed false
-      → Fills output path new mode before (mode_calls mode ++ closes after failures closed ∷ removes new ∷ []) (Some WriteFault)
+      → Fills output path new mode before (mode_calls mode
+      ++ closes after failures closed ∷ removes new ∷ []) (Some WriteFault)
 
 -- the mode with which a new file is made: that of the one replaced, or the system's, less the umask
 abbrev pub new_mode : Option ℕ → ℕ
@@ -116,12 +123,13 @@ pub data Replaces (output path : List ℕ) (mode : Option ℕ) : ℕ → List Fi
       → Replaces output path mode number (fails_to_make (beside path number) (new_mode mode) Exists ∷ calls) outcome
   forbidden : {number bits : ℕ} {calls : List FileCall} {outcome : Option OutputFault}
       → mode ≡ Some bits → WritesInPlace output path calls outcome
-      → Replaces output path mode number (fails_to_make (beside path number) (new_mode mode) Forbidden ∷ calls) outcome
+      → Replaces output path mode number
+      (fails_to_make (beside path number) (new_mode mode) Forbidden ∷ calls) outcome
   unmade : {number : ℕ} {why : NotMade} → GivesUp why mode number
       → Replaces output path mode number (fails_to_make (beside path number) (new_mode mode) why ∷ []) (Some CannotCreate)
 
--- The output goes to the file that the path leads to, through so many links at most: an open stream and what is no regular file
--- are written in place, and any other is replaced.
+-- The output goes to the file that the path leads to, through so many links at most: an open stream
+-- and what is no regular file are written in place, and any other is replaced.
 pub data WritesFile (output : List ℕ) : ℕ → List ℕ → List FileCall → Option OutputFault → Type 0 where
   stream : {links : ℕ} {path : List ℕ} {calls : List FileCall} {outcome : Option OutputFault}
       → names_stream path ≡ true → WritesInPlace output path calls outcome → WritesFile output links path calls outcome

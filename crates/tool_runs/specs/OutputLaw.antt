@@ -1,6 +1,8 @@
--- What the calls by which an output is made do to the files of a system. The model is small: what each path holds, and which
--- file is open. Two paths are two files, and no other program changes one meanwhile.
-use Rattle.std.specs.Prelude.{◌≡◌, ◌≢◌, ◌⊎◌, ◌≤◌, ℕ, zero, Bool, true, false, List, [], ◌∷◌, if◌then◌else◌, Option, Some, None, ⊤}
+-- What the calls by which an output is made do to the files of a system. The model is small: what
+-- each path holds, and which file is open. Two paths are two files, and no other program changes
+-- one meanwhile.
+use Rattle.std.specs.Prelude.{◌≡◌, ◌≢◌, ◌⊎◌, ◌≤◌, ℕ, zero, Bool, true, false, List, [], ◌∷◌, if◌then◌else◌, Option}
+use Rattle.std.specs.Prelude.{Some, None, ⊤}
 use Rattle.std.specs.Path.{path_with_file_name}
 use Rattle.std.specs.Str.{bytes_eq}
 use Rattle.tool_runs.specs.declared.output_files.FileKind.TheVariants.{Regular, Special}
@@ -97,8 +99,8 @@ pub record IsRegular (target : List ℕ) (calls : List FileCall) : Type 0 where
 abbrev pub IsBeside : List ℕ → List ℕ → Type 0
 IsBeside path target = (name : List ℕ) × (path ≡ path_with_file_name target name)
 
--- the target may be written in place: it is an open stream or no regular file, or it is one that is there and the system
--- forbids to make a file beside it
+-- the target may be written in place: it is an open stream or no regular file, or it is one that is
+-- there and the system forbids to make a file beside it
 pub data IsWrittenInPlace (target : List ℕ) (calls : List FileCall) : Type 0 where
   stream : names_stream target ≡ true → IsWrittenInPlace target calls
   special : Among calls (asks target Special) → IsWrittenInPlace target calls
@@ -119,7 +121,8 @@ abbrev pub IsNotOpening : FileCall → Type 0
 IsNotOpening (opens path bytes) = ⊥
 IsNotOpening call = ⊤
 
--- each path holds what it held before; or it is the target, and holds all of the output; or it is another, of a new file
+-- each path holds what it held before; or it is the target, and holds all of the output; or it is
+-- another, of a new file
 abbrev pub IsWholeOrAsItWas : List ℕ → List ℕ → Files → Files → Type 0
 IsWholeOrAsItWas output target before now = (path : List ℕ)
     → (now.at path ≡ before.at path)
@@ -130,9 +133,10 @@ IsWholeOrAsItWas output target before now = (path : List ℕ)
 abbrev pub IsAnother : List ℕ → Type 0
 IsAnother target = (number : ℕ) → number ≤ 999 → beside target number ≢ target
 
--- what an output comes to, with these calls and this outcome: at every moment, thus also where the run is killed, the file
--- that the path leads to holds all of the output, or what it held before
-pub record IsWholeOrAsItWasThroughout (output path : List ℕ) (calls : List FileCall) (outcome : Option OutputFault) : Type 0 where
+-- what an output comes to, with these calls and this outcome: at every moment, thus also where the
+-- run is killed, the file that the path leads to holds all of the output, or what it held before
+pub record IsWholeOrAsItWasThroughout (output path : List ℕ) (calls : List FileCall)
+    (outcome : Option OutputFault) : Type 0 where
   pub target : List ℕ
   pub leads : Leads path calls target
   pub allowed : Each (IsAllowed target calls) calls

@@ -25,22 +25,28 @@ abbrev pub Fails : WriterView → WriterView → List ℕ → Type 0
 Fails old new bytes = AppendsPrefix old.0 new.0 bytes × (new.1 ≡ old.1 + 1)
 
 -- what writing a run to the file of this name comes to, and why it isn't written, where it isn't
-pub data MakesFile (run : RunView) (files files' : FileLog) (err err' : WriterView) (name : List ℕ) : Option OutputFault → Type 0 where
+pub data MakesFile (run : RunView) (files files' : FileLog) (err err' : WriterView) (name : List ℕ)
+    : Option OutputFault → Type 0 where
   made : Calls files files' (λ calls. WritesFile run.output link_limit name calls None) → Takes err err' run.messages
       → MakesFile run files files' err err' name None
-  unreported : Calls files files' (λ calls. WritesFile run.output link_limit name calls None) → Fails err err' run.messages
+  unreported : Calls files files' (λ calls. WritesFile run.output link_limit name calls None)
+      → Fails err err' run.messages
       → MakesFile run files files' err err' name (Some WriteFault)
-  unmade : {why : OutputFault} → Calls files files' (λ calls. WritesFile run.output link_limit name calls (Some why)) → err' ≡ err
+  unmade : {why : OutputFault} → Calls files files' (λ calls. WritesFile run.output link_limit name calls (Some why))
+      → err' ≡ err
       → MakesFile run files files' err err' name (Some why)
 
 -- what writing a run comes to, by the name of its output file, where it has one, and why it isn't
 -- written, where it isn't
-pub data WritesRun (run : RunView) (files files' : FileLog) (out out' err err' : WriterView) : Option (List ℕ) → Option OutputFault → Type 0 where
-  delivered : files' ≡ files → Appends out.0 out'.0 run.output → Appends err.0 err'.0 run.messages → out'.1 ≡ out.1 → err'.1 ≡ err.1
+pub data WritesRun (run : RunView) (files files' : FileLog) (out out' err err' : WriterView)
+    : Option (List ℕ) → Option OutputFault → Type 0 where
+  delivered : files' ≡ files → Appends out.0 out'.0 run.output → Appends err.0 err'.0 run.messages → out'.1 ≡ out.1
+      → err'.1 ≡ err.1
       → WritesRun run files files' out out' err err' None None
   cut : files' ≡ files → DeliversPrefix out.0 out'.0 err.0 err'.0 run → out'.1 + err'.1 ≡ out.1 + err.1 + 1
       → WritesRun run files files' out out' err err' None (Some WriteFault)
-  to_file : {name : List ℕ} {outcome : Option OutputFault} → out' ≡ out → MakesFile run files files' err err' name outcome
+  to_file : {name : List ℕ} {outcome : Option OutputFault} → out' ≡ out
+      → MakesFile run files files' err err' name outcome
       → WritesRun run files files' out out' err err' (Some name) outcome
 
 -- what is wrong where a run isn't written

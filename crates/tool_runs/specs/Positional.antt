@@ -1,5 +1,6 @@
--- The arguments of gettext, ngettext and envsubst after their options ("Invoking the gettext program", "Invoking the ngettext program" and
--- "Invoking the envsubst program" of the GNU gettext manual).
+-- The arguments of gettext, ngettext and envsubst after their options ("Invoking the gettext
+-- program", "Invoking the ngettext program" and "Invoking the envsubst program" of the GNU gettext
+-- manual).
 use Rattle.std.specs.Prelude.{ℕ, Bool, true, false, List, [], ◌∷◌, Option, Some, None}
 
 -- what gettext is given: a text domain or none, and messages
@@ -24,10 +25,12 @@ pub record NgettextUsage : Type 0 where
 -- [TEXTDOMAIN] MSGID MSGID-PLURAL COUNT
 abbrev pub ngettext_usage : List (List ℕ) → Option NgettextUsage
 ngettext_usage (id ∷ plural ∷ count ∷ []) = Some (record { domain = None; id = id; plural = plural; count = count })
-ngettext_usage (domain ∷ id ∷ plural ∷ count ∷ []) = Some (record { domain = Some domain; id = id; plural = plural; count = count })
+ngettext_usage (domain ∷ id ∷ plural ∷ count ∷ []) =
+    Some (record { domain = Some domain; id = id; plural = plural; count = count })
 ngettext_usage arguments = None
 
--- what envsubst is asked for: the names in a SHELL-FORMAT, or the input with the variables replaced, all or those that a SHELL-FORMAT refers to
+-- what envsubst is asked for: the names in a SHELL-FORMAT, or the input with the variables
+-- replaced, all or those that a SHELL-FORMAT refers to
 pub data EnvsubstUsage : Type 0 where
   names : List ℕ → EnvsubstUsage
   replaced : Option (List ℕ) → EnvsubstUsage

@@ -8,10 +8,17 @@ use Rattle.tool_runs.specs.declared.positional.NgettextArguments.{NgettextArgume
 use Rattle.tool_runs.specs.Positional.{GettextUsage, NgettextUsage, EnvsubstUsage, names, replaced}
 
 abbrev pub gettext_arguments : GettextArguments → GettextUsage
-gettext_arguments given = record { domain = option_copied given.domain; messages = map (λ argument. argument.now) given.messages.now }
+gettext_arguments given =
+    record { domain = option_copied given.domain; messages = map (λ argument. argument.now) given.messages.now }
 
 abbrev pub ngettext_arguments : NgettextArguments → NgettextUsage
-ngettext_arguments given = record { domain = option_copied given.domain; id = given.id.now; plural = given.plural.now; count = given.count.now }
+ngettext_arguments given =
+    record {
+      domain = option_copied given.domain;
+      id = given.id.now;
+      plural = given.plural.now;
+      count = given.count.now;
+    }
 
 abbrev pub envsubst_arguments : EnvsubstArguments → EnvsubstUsage
 envsubst_arguments (Names format) = names format.now

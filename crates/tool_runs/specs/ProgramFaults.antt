@@ -1,10 +1,14 @@
--- The lines on standard error that report the faults of the program itself: this project's own words, since the manual leaves them open.
+-- The lines on standard error that report the faults of the program itself: this project's own
+-- words, since the manual leaves them open.
 use Rattle.std.specs.Prelude.{ℕ, List, [], ◌∷◌, ◌++◌, Option, Some, None, codes}
 use Rattle.std.specs.Borrow.{Bor}
 use Rattle.po_shell.specs.declared.fault.ToolFault.{ToolFault}
-use Rattle.po_shell.specs.declared.fault.ToolFault.TheVariants.{ReadFault as NotRead, WriteFault as NotWritten, OutOfMemory as NoMemory}
+use Rattle.po_shell.specs.declared.fault.ToolFault.TheVariants.{ReadFault as NotRead, WriteFault as NotWritten}
+use Rattle.po_shell.specs.declared.fault.ToolFault.TheVariants.{OutOfMemory as NoMemory}
 use Rattle.tool_runs.specs.declared.program_fault.ProgramFault.{ProgramFault}
-use Rattle.tool_runs.specs.declared.program_fault.ProgramFault.TheVariants.{NotText, WrongArguments, CannotOpen, CannotCreate, ReadFault, WriteFault, OutOfMemory}
+use Rattle.tool_runs.specs.declared.program_fault.ProgramFault.TheVariants.{NotText, WrongArguments, CannotOpen}
+use Rattle.tool_runs.specs.declared.program_fault.ProgramFault.TheVariants.{CannotCreate, ReadFault, WriteFault}
+use Rattle.tool_runs.specs.declared.program_fault.ProgramFault.TheVariants.{OutOfMemory}
 
 -- what is wrong, after the name of the file if it is the fault of one
 abbrev pub program_text : ProgramFault → List ℕ

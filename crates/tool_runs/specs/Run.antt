@@ -13,16 +13,19 @@ pub record RunView : Type 0 where
   pub status : ℕ
 
 abbrev pub run_view : Run → RunView
-run_view run = record { output = run.output.items; create = run.create; messages = run.messages.items; status = run.status }
+run_view run =
+    record { output = run.output.items; create = run.create; messages = run.messages.items; status = run.status }
 
 -- nothing is written, and these messages say why
 abbrev pub refusal : List ℕ → RunView
 refusal messages = record { output = []; create = false; messages = messages; status = 1 }
 
--- From old to new, what went out is a prefix of the output and no message, or all of the output and a prefix of the messages.
+-- From old to new, what went out is a prefix of the output and no message, or all of the output and
+-- a prefix of the messages.
 abbrev pub DeliversPrefix : Option (List ℕ) → Option (List ℕ) → Option (List ℕ) → Option (List ℕ) → RunView → Type 0
 DeliversPrefix out out' err err' run =
-    (AppendsPrefix out out' run.output × Keeps err err') ⊎ (Appends out out' run.output × AppendsPrefix err err' run.messages)
+    (AppendsPrefix out out' run.output × Keeps err err')
+    ⊎ (Appends out out' run.output × AppendsPrefix err err' run.messages)
 
 -- `-` stands for standard input and for standard output
 abbrev pub is_standard : List ℕ → Bool

@@ -21,9 +21,11 @@ groups_of-requires c =
 pub merge_groups-requires : goal.merge_groups-requires
 merge_groups-requires c =
     let es = c.requires.0 in
-    let h = c.requires.1 in
-    (groups es, groups_hold c.args.inputs.now.text.items c.deref-3.result.now es c.args.inputs.now.rows.items c.deref.result.now c.in_ok-groups.groups.items c.deref-4.result.now c.deref-2.result.now h.rows c.deref-3.ensures.value c.deref.ensures.value
-    c.deref-4.ensures.value (c.deref-2.ensures.value ∙ h.numbers) (c.in_ok-groups.ensures (named_messages es) (c.deref-2.ensures.value ∙ h.numbers)) (c.groups_are_numbered.ensures es))
+    let h = c.requires.1 in (
+      groups es,
+      groups_hold c.args.inputs.now.text.items c.deref-3.result.now es c.args.inputs.now.rows.items c.deref.result.now c.in_ok-groups.groups.items c.deref-4.result.now c.deref-2.result.now h.rows c.deref-3.ensures.value c.deref.ensures.value
+          c.deref-4.ensures.value (c.deref-2.ensures.value ∙ h.numbers) (c.in_ok-groups.ensures (named_messages es) (c.deref-2.ensures.value ∙ h.numbers)) (c.groups_are_numbered.ensures es),
+    )
 
 pub returns-in-Ok : goal.returns-in-Ok
 returns-in-Ok c = λ es h.
