@@ -1,1 +1,3 @@
 mod ToolNames
+mod Words
+mod LineSteps

@@ -1,2 +1,4 @@
 pub mod Tools
 pub mod SpelledOut
+pub mod OwnTip
+pub mod Reworded

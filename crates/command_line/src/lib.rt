@@ -1,15 +1,16 @@
 //! The command line of pokit, as `clap` takes it: the tools and their options, the texts of help,
 //! and the texts of usage faults.
 //!
-//! The modules in reading order: `tool`, `commands`, `help`, `usage`.
+//! The modules in reading order: `tool`, `commands`, `help`, `tips`, `usage`.
 
 #![tactic(auto)]
 
 mod commands;
 mod help;
+mod tips;
 mod tool;
 mod usage;
 
 pub use commands::program;
 pub use tool::Tool;
-pub use usage::{spelled_out, text_of};
+pub use usage::{reworded, spelled_out};

@@ -17,6 +17,7 @@ use clap::error::ErrorKind;
 use command_line::Tool;
 use options::Options;
 use po_shell::Counted;
+use std::alloc::{AllocError, Global};
 use std::process::ExitCode;
 use tool_runs::{Ending, ProgramFault};
 
@@ -57,7 +58,7 @@ fn run(rt: &HostRuntime, arguments: &[&str]) -> Ending {
             report_fault(rt, first, ProgramFault::OutOfMemory)
         }
         Err(error) if error.use_stderr() => {
-            let Ok(text) = command_line::text_of(rt.alloc(), first, &error) else {
+            let Ok(text) = usage_text(rt.alloc(), first, &error) else {
                 return report_fault(rt, first, ProgramFault::OutOfMemory);
             };
             let _ = rt.eprint(&text);
@@ -65,6 +66,16 @@ fn run(rt: &HostRuntime, arguments: &[&str]) -> Ending {
         }
         Err(error) => Ending::Helped(error.print(rt).is_ok()),
     }
+}
+
+/// The text of a usage fault.
+fn usage_text(
+    alloc: Global,
+    tool: Option<Tool>,
+    error: &clap::Error,
+) -> Result<String, AllocError> {
+    let text = format!(in alloc; "{error}")?;
+    command_line::reworded(alloc, tool, text.as_str())
 }
 
 /// Runs the tool that the first argument names.

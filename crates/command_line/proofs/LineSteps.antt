@@ -1,0 +1,71 @@
+-- A text is taken line by line, as `split_inclusive` does at LF.
+use Rattle.std.proofs.Common.{◌≡◌, ◌≢◌, ◌∙◌, refl, sym, ap, subst, ℕ, ◌+◌, ◌<◌, ◌==◌, zero, suc, Bool, cond, List, [], ◌∷◌, ◌++◌, length, get_or, take, drop, Option, Some, None, MatchOption, append_assoc, length-append, take-append-drop, ne_eqb, length-take, lit<, arith}
+use Rattle.std.specs.Borrow.{Bor}
+use Rattle.std.specs.List.{onto_first}
+use Rattle.std.specs.Str.Iter.{split_inclusive_pattern, split_inclusive_steps, split_inclusive_text}
+use Rattle.std.specs.Str.Pattern.{EndsAtFirstMatch, FindsChar}
+use Rattle.std.proofs.lemmas.Str.Pattern.{NoCharPasses-char, drop_at_char}
+use Rattle.std.proofs.Math.Seq.{take-append-add}
+use Rattle.std.proofs.lemmas.List.{append_cancel_left, nil_from_length}
+use Rattle.command_line.specs.Reworded.{lines_with_ends}
+
+abbrev NoFeed : List ℕ → Type 0
+NoFeed line = (i : ℕ) → i < length line → get_or line i 0 ≢ 10
+
+onto : (b : ℕ) (text : List ℕ) → b ≢ 10 → lines_with_ends (b ∷ text) ≡ onto_first b (lines_with_ends text)
+onto b text other = ap (λ t. cond t ((10 ∷ []) ∷ lines_with_ends text) (onto_first b (lines_with_ends text))) (ne_eqb b 10 other)
+
+later : (b : ℕ) (line : List ℕ) → NoFeed (b ∷ line) → NoFeed line
+later b line lacks = λ i below. lacks (suc i) (omega (arith, below))
+
+last_line : (b : ℕ) (line : List ℕ) → NoFeed (b ∷ line) → lines_with_ends (b ∷ line) ≡ (b ∷ line) ∷ []
+last_line b [] lacks = onto b [] (lacks 0 (omega arith))
+last_line b (c ∷ line) lacks =
+    onto b (c ∷ line) (lacks 0 (omega arith)) ∙ ap (onto_first b) (last_line c line (later b (c ∷ line) lacks))
+
+first_line : (line rest : List ℕ) → NoFeed line → lines_with_ends (line ++ 10 ∷ rest) ≡ (line ++ 10 ∷ []) ∷ lines_with_ends rest
+first_line [] rest lacks = refl
+first_line (b ∷ line) rest lacks =
+    onto b (line ++ 10 ∷ rest) (lacks 0 (omega arith)) ∙ ap (onto_first b) (first_line line rest (later b line lacks))
+
+-- the line is the first one of the text, and the rest has the others
+abbrev pub Takes : List ℕ → List ℕ → List ℕ → Type 0
+Takes text line rest = lines_with_ends text ≡ line ∷ lines_with_ends rest
+
+nothing_left : (line rest : List ℕ) → line ≡ line ++ rest → rest ≡ []
+nothing_left line rest is = nil_from_length rest (omega (arith, ap length is, length-append line rest))
+
+takes_last : (text line rest : List ℕ) → FindsChar 10 text None → text ≡ line ++ rest → line ≡ text → 0 < length text
+    → Takes text line rest
+takes_last [] line rest none is all some = absurd (omega (arith, some))
+takes_last (b ∷ text) line rest none is all some =
+    last_line b text (λ i below. NoCharPasses-char 10 (b ∷ text) i none (omega arith) below)
+    ∙ ap (λ l. l ∷ []) (sym all) ∙ ap (λ r. line ∷ lines_with_ends r) (sym (nothing_left line rest (all ∙ is)))
+
+takes_first : (text line rest : List ℕ) (i j : ℕ) → FindsChar 10 text (Some (i, j)) → text ≡ line ++ rest
+    → line ≡ take j text → Takes text line rest
+takes_first text line rest i j found is front =
+    let before = take i text in
+    let after = drop j text in
+    let cut : text ≡ before ++ 10 ∷ after =
+        sym (take-append-drop i text) ∙ ap (λ l. before ++ l) (drop_at_char 10 text i j found.1 (lit< tt)) in
+    let ends : j ≡ length before + 1 = omega (arith, found.1.ends, ap length cut, length-take i text, length-append before (10 ∷ after)) in
+    let taken : line ≡ before ++ 10 ∷ [] =
+        front ∙ ap (λ n. take n text) ends ∙ ap (take (length before + 1)) cut ∙ take-append-add before (10 ∷ after) 1 in
+    let left : rest ≡ after =
+        append_cancel_left line rest after (sym is ∙ cut ∙ sym (append_assoc before (10 ∷ []) after) ∙ ap (λ l. l ++ after) (sym taken)) in
+    ap lines_with_ends cut ∙ first_line before after (λ k below. NoCharPasses-char 10 before k found.0 (lit< tt) below)
+    ∙ ap (λ l. l ∷ lines_with_ends after) (sym taken) ∙ ap (λ r. line ∷ lines_with_ends r) (sym left)
+
+-- a step of `split_inclusive`, as its clause says it
+pub step : (feed next : ℕ) (text line rest : List ℕ) → feed ≡ 10
+    → (next ≡ feed) × ((text ≡ line ++ rest) × EndsAtFirstMatch (FindsChar feed) text line) → (next ≡ 10) × Takes text line rest
+step feed next text line rest ten (same, (cut, (None, none, all))) =
+    (same ∙ ten, takes_last text line rest (subst (λ b. FindsChar b text None) ten none) cut all.0 all.1)
+step feed next text line rest ten (same, (cut, (Some (i, j), found, front))) =
+    let at : FindsChar 10 text (Some (i, j)) = subst (λ b. FindsChar b text (Some (i, j))) ten found in
+    (same ∙ ten, takes_first text line rest i j at cut (front (omega (arith, at.1.ends))))
+
+-- one more part was appended
+pub appended : (old part rest new all : List ℕ) → old ++ (part ++ rest) ≡ all → new ≡ old ++ part → new ++ rest ≡ all
+appended old part rest new all so_far more = ap (λ l. l ++ rest) more ∙ append_assoc old part rest ∙ so_far

@@ -1,0 +1,40 @@
+-- The text of a usage fault, from clap's text of it.
+use Rattle.std.specs.Prelude.{ℕ, Bool, ◌==◌, ◌&&◌, if◌then◌else◌, List, [], ◌∷◌, Option, Some, None, nat_eq, codes}
+use Rattle.std.specs.List.{flat_map, onto_first, starts_with, zip}
+use Rattle.std.specs.Str.{bytes_eq}
+use Rattle.command_line.specs.declared.tool.Tool.{Tool}
+use Rattle.command_line.specs.OwnTip.{own_tip, takes_files}
+
+-- the lines of a text, each with the LF that ends it, if one does
+abbrev pub lines_with_ends : List ℕ → List (List ℕ)
+lines_with_ends [] = []
+lines_with_ends (b ∷ text) = if b == 10 then (10 ∷ []) ∷ lines_with_ends text else onto_first b (lines_with_ends text)
+
+-- clap's tip to pass an unknown option as a file, at a tool whose arguments are files
+abbrev pub is_file_tip : Option Tool → List ℕ → Bool
+is_file_tip tool line = takes_files tool && starts_with nat_eq line (codes "  tip: to pass '")
+
+-- What becomes of a line of clap's: if there is an own tip, it takes the place of the usage, and
+-- clap's tips are left out; else only its tip to pass an option as a file is.
+abbrev pub reworded_line : Option Tool → Option (List ℕ) → List ℕ → List ℕ
+reworded_line tool (Some tip) line =
+    if starts_with nat_eq line (codes "  tip: ") then []
+    else if starts_with nat_eq line (codes "Usage: ") then tip
+    else line
+reworded_line tool None line = if is_file_tip tool line then [] else line
+
+-- an empty line, with its end
+abbrev pub is_blank : List ℕ → Bool
+is_blank line = bytes_eq line (10 ∷ [])
+
+-- what becomes of a line after another: nothing, if both are blank
+abbrev pub spaced_line : List ℕ × List ℕ → List ℕ
+spaced_line (before, line) = if is_blank before && is_blank line then [] else line
+
+-- the text, with one of the blank lines that follow each other
+abbrev pub single_spaced : List ℕ → List ℕ
+single_spaced text = flat_map spaced_line (zip ([] ∷ lines_with_ends text) (lines_with_ends text))
+
+-- the text of a usage fault, from clap's text of it
+abbrev pub reworded : Option Tool → List ℕ → List ℕ
+reworded tool text = single_spaced (flat_map (reworded_line tool (own_tip tool text)) (lines_with_ends text))
