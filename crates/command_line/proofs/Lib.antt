@@ -1,3 +1,4 @@
 mod ToolNames
 mod Words
 mod LineSteps
+mod CutLines

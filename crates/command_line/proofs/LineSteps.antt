@@ -1,8 +1,6 @@
 -- A text is taken line by line, as `split_inclusive` does at LF.
-use Rattle.std.proofs.Common.{◌≡◌, ◌≢◌, ◌∙◌, refl, sym, ap, subst, ℕ, ◌+◌, ◌<◌, ◌==◌, zero, suc, Bool, cond, List, [], ◌∷◌, ◌++◌, length, get_or, take, drop, Option, Some, None, MatchOption, append_assoc, length-append, take-append-drop, ne_eqb, length-take, lit<, arith}
-use Rattle.std.specs.Borrow.{Bor}
+use Rattle.std.proofs.Common.{◌≡◌, ◌≢◌, ◌∙◌, refl, sym, ap, subst, ℕ, ◌+◌, ◌<◌, suc, cond, List, [], ◌∷◌, ◌++◌, length, get_or, take, drop, Some, None, append_assoc, length-append, take-append-drop, ne_eqb, length-take, lit<, arith}
 use Rattle.std.specs.List.{onto_first}
-use Rattle.std.specs.Str.Iter.{split_inclusive_pattern, split_inclusive_steps, split_inclusive_text}
 use Rattle.std.specs.Str.Pattern.{EndsAtFirstMatch, FindsChar}
 use Rattle.std.proofs.lemmas.Str.Pattern.{NoCharPasses-char, drop_at_char}
 use Rattle.std.proofs.Math.Seq.{take-append-add}
@@ -48,12 +46,12 @@ takes_first text line rest i j found is front =
     let before = take i text in
     let after = drop j text in
     let cut : text ≡ before ++ 10 ∷ after =
-        sym (take-append-drop i text) ∙ ap (λ l. before ++ l) (drop_at_char 10 text i j found.1 (lit< tt)) in
+    sym (take-append-drop i text) ∙ ap (λ l. before ++ l) (drop_at_char 10 text i j found.1 (lit< tt)) in
     let ends : j ≡ length before + 1 = omega (arith, found.1.ends, ap length cut, length-take i text, length-append before (10 ∷ after)) in
     let taken : line ≡ before ++ 10 ∷ [] =
-        front ∙ ap (λ n. take n text) ends ∙ ap (take (length before + 1)) cut ∙ take-append-add before (10 ∷ after) 1 in
+    front ∙ ap (λ n. take n text) ends ∙ ap (take (length before + 1)) cut ∙ take-append-add before (10 ∷ after) 1 in
     let left : rest ≡ after =
-        append_cancel_left line rest after (sym is ∙ cut ∙ sym (append_assoc before (10 ∷ []) after) ∙ ap (λ l. l ++ after) (sym taken)) in
+    append_cancel_left line rest after (sym is ∙ cut ∙ sym (append_assoc before (10 ∷ []) after) ∙ ap (λ l. l ++ after) (sym taken)) in
     ap lines_with_ends cut ∙ first_line before after (λ k below. NoCharPasses-char 10 before k found.0 (lit< tt) below)
     ∙ ap (λ l. l ∷ lines_with_ends after) (sym taken) ∙ ap (λ r. line ∷ lines_with_ends r) (sym left)
 

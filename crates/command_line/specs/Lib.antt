@@ -2,3 +2,4 @@ pub mod Tools
 pub mod SpelledOut
 pub mod OwnTip
 pub mod Reworded
+pub mod TextLines

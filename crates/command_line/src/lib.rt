@@ -1,12 +1,13 @@
 //! The command line of pokit, as `clap` takes it: the tools and their options, the texts of help,
 //! and the texts of usage faults.
 //!
-//! The modules in reading order: `tool`, `commands`, `help`, `tips`, `usage`.
+//! The modules in reading order: `tool`, `commands`, `help`, `tips`, `usage`, `laws`.
 
 #![tactic(auto)]
 
 mod commands;
 mod help;
+pub mod laws;
 mod tips;
 mod tool;
 mod usage;

@@ -3,9 +3,10 @@ ghost use Rattle.std.specs.Prelude.{◌≡◌, IfOk, option_and_then, option_map
 ghost use Rattle.std.specs.List.{list_any};
 ghost use Rattle.std.specs.Option.{option_copied};
 ghost use Rattle.std.specs.Str.{bytes_eq};
-ghost use Rattle.command_line.specs.OwnTip.{before_quote, gnu_checks, gnu_letters, gnu_options, is_among};
-ghost use Rattle.command_line.specs.OwnTip.{long_options, option_tip, own_tip, short_option, takes_files, tip_on};
-ghost use Rattle.command_line.specs.OwnTip.{tool_tip, unknown_option, unknown_tool, word_after};
+ghost use Rattle.command_line.specs.OwnTip.{before_quote, gnu_checks, gnu_letters, gnu_options};
+ghost use Rattle.command_line.specs.OwnTip.{is_among, long_options, option_tip, own_tip, short_option};
+ghost use Rattle.command_line.specs.OwnTip.{takes_files, tip_on, tool_tip, unknown_option};
+ghost use Rattle.command_line.specs.OwnTip.{unknown_tool, word_after};
 
 use crate::tool::Tool;
 use std::alloc::{AllocError, Global};
@@ -115,7 +116,11 @@ pub fn own_tip(alloc: Global, tool: Option<Tool>, text: &str) -> Result<Option<S
 }
 
 /// The tip on the option that clap's text names.
-fn tip_on_option(alloc: Global, tool: Option<Tool>, text: &str) -> Result<Option<String>, AllocError>
+fn tip_on_option(
+    alloc: Global,
+    tool: Option<Tool>,
+    text: &str,
+) -> Result<Option<String>, AllocError>
     ensures { IfOk result (λ tip. option_map string_bytes tip
         ≡ option_and_then (option_tip tool) (unknown_option text.now)) }
 {

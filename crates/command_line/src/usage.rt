@@ -1,7 +1,8 @@
 //! The command line with `help` spelled out, and the texts of its faults.
 ghost use Rattle.std.specs.Prelude.{◌≡◌, IfOk, map, string_bytes};
 ghost use Rattle.std.specs.Option.{option_copied};
-ghost use Rattle.command_line.specs.Reworded.{is_file_tip, reworded, reworded_line, single_spaced, spaced_line};
+ghost use Rattle.command_line.specs.Reworded.{is_file_tip, reworded, reworded_line, single_spaced};
+ghost use Rattle.command_line.specs.Reworded.{spaced_line};
 ghost use Rattle.command_line.specs.SpelledOut.{spelled_out};
 
 use crate::tips;
