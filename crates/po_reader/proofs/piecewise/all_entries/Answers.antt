@@ -1,4 +1,4 @@
-use Rattle.std.proofs.Common.{◌^◌, ◌<◌, arith}
+use Rattle.std.proofs.Common.{arith}
 use Rattle.std.proofs.lemmas.Result.{err_from_is_err_and}
 use Rattle.po_reader.specs.PieceRead.IsLeftFault.{in_items, in_lines}
 use Rattle.po_reader.proofs.PieceReading.{faults_over, items_kept}
@@ -27,3 +27,6 @@ pub returns-clause-fault : goal.returns-clause-fault
 returns-clause-fault c =
     let spelt = c.pieces_are_cut_off.ensures.all _ _ _ _ c.in_ok-items.ensures.piece (c.in_ok-items.ensures.whole (omega arith)) in
     err_both c.read_items.result (λ e h m. record { fault = λ other. in_items spelt (h other); memory = m }) c.read_items.ensures.fault c.read_items.ensures.memory
+
+pub returns-clause-all : goal.returns-clause-all
+returns-clause-all c = ok_always c.read_items.result (λ kept. c.in_ok-items.ensures.whole (omega arith))

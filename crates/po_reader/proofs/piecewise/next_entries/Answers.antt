@@ -1,6 +1,8 @@
 use Rattle.std.proofs.lemmas.Result.{err_from_is_err_and}
 use Rattle.po_reader.specs.PieceRead.IsLeftFault.{in_lines}
-use Rattle.po_reader.proofs.PieceReading.{items_kept, piece_faults}
+use Rattle.po_reader.proofs.PieceReading.{items_kept, piece_faults, piece_large}
+use Rattle.std.proofs.Common.{inl}
+use Rattle.po_reader.proofs.Results.{ok_step}
 use Rattle.po_reader.proofs.piecewise.next_entries.Goals as goal
 
 pub returns-in_err-items-clause-fault : goal.returns-in_err-items-clause-fault
@@ -35,3 +37,9 @@ returns-in_default-clause-fewer c = rw c.copy-start.ensures at c.all_entries.ens
 
 pub returns-in_default-clause-fault : goal.returns-in_default-clause-fault
 returns-in_default-clause-fault c = rw c.copy-start.ensures at c.all_entries.ensures.fault
+
+pub returns-in-Ok-clause-size : goal.returns-in-Ok-clause-size
+returns-in-Ok-clause-size c = piece_large _ _ _ _ c.in_ok-items.ensures.piece
+
+pub returns-in_default-clause-size : goal.returns-in_default-clause-size
+returns-in_default-clause-size c = ok_step c.all_entries.result (λ kept none. inl none) c.all_entries.ensures.all
