@@ -1,5 +1,5 @@
 -- The text of a usage fault, from clap's text of it.
-use Rattle.std.specs.Prelude.{ℕ, Bool, ◌==◌, ◌&&◌, if◌then◌else◌, List, [], ◌∷◌, Option, Some, None, nat_eq, codes}
+use Rattle.std.specs.Prelude.{ℕ, Bool, ◌==◌, ◌&&◌, ◌||◌, if◌then◌else◌, List, [], ◌∷◌, Option, Some, None, nat_eq, codes}
 use Rattle.std.specs.List.{flat_map, onto_first, starts_with, zip}
 use Rattle.std.specs.Str.{bytes_eq}
 use Rattle.command_line.specs.declared.tool.Tool.{Tool}
@@ -14,13 +14,15 @@ lines_with_ends (b ∷ text) = if b == 10 then (10 ∷ []) ∷ lines_with_ends t
 abbrev pub is_file_tip : Option Tool → List ℕ → Bool
 is_file_tip tool line = takes_files tool && starts_with nat_eq line (codes "  tip: to pass '")
 
+-- a tip of clap's, or a further line of its usage
+abbrev pub is_left_out : List ℕ → Bool
+is_left_out line = starts_with nat_eq line (codes "  tip: ") || starts_with nat_eq line (codes "       pokit ")
+
 -- What becomes of a line of clap's: if there is an own tip, it takes the place of the usage, and
 -- clap's tips are left out; else only its tip to pass an option as a file is.
 abbrev pub reworded_line : Option Tool → Option (List ℕ) → List ℕ → List ℕ
 reworded_line tool (Some tip) line =
-    if starts_with nat_eq line (codes "  tip: ") then []
-    else if starts_with nat_eq line (codes "Usage: ") then tip
-    else line
+    if starts_with nat_eq line (codes "Usage: ") then tip else if is_left_out line then [] else line
 reworded_line tool None line = if is_file_tip tool line then [] else line
 
 -- an empty line, with its end

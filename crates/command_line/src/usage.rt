@@ -1,7 +1,7 @@
 //! The command line with `help` spelled out, and the texts of its faults.
 ghost use Rattle.std.specs.Prelude.{◌≡◌, IfOk, map, string_bytes};
 ghost use Rattle.std.specs.Option.{option_copied};
-ghost use Rattle.command_line.specs.Reworded.{is_file_tip, reworded, reworded_line, single_spaced};
+ghost use Rattle.command_line.specs.Reworded.{is_file_tip, is_left_out, reworded, reworded_line, single_spaced};
 ghost use Rattle.command_line.specs.Reworded.{spaced_line};
 ghost use Rattle.command_line.specs.SpelledOut.{spelled_out};
 
@@ -14,6 +14,9 @@ const HELP_OPTION: &str = "--help";
 
 /// How clap's usage begins.
 const USAGE: &str = "Usage: ";
+
+/// How a further line of it begins.
+const FURTHER_USAGE: &str = "       pokit ";
 
 /// How clap's tips begin.
 const TIP: &str = "  tip: ";
@@ -70,12 +73,19 @@ fn reworded_line<'l>(tool: Option<Tool>, tip: Option<&'l str>, line: &'l str) ->
     ensures { result.now ≡ reworded_line tool (option_copied tip.entry) line.entry.now }
 {
     match tip {
-        Some(_) if line.starts_with(TIP) => "",
         Some(tip) if line.starts_with(USAGE) => tip,
+        Some(_) if is_left_out(line) => "",
         Some(_) => line,
         None if is_file_tip(tool, line) => "",
         None => line,
     }
+}
+
+/// Whether the line is a tip of clap's, or a further line of its usage.
+fn is_left_out(line: &str) -> bool
+    ensures { result ≡ is_left_out line.now }
+{
+    line.starts_with(TIP) || line.starts_with(FURTHER_USAGE)
 }
 
 /// Whether the line is clap's tip to pass an unknown option as a file.
