@@ -86,7 +86,7 @@ static uint64_t plain_value(const pokit_node *nodes, uint32_t at, uint64_t n)
     uint64_t a, b;
     switch (node->kind) {
     case 0: return n;
-    case 1: return (uint64_t)node->parts[0] << 48 | (uint64_t)node->parts[1] << 32 | (uint64_t)node->parts[2] << 16 | node->parts[3];
+    case 1: return (uint64_t)node->parts[3] << 48 | (uint64_t)node->parts[2] << 32 | (uint64_t)node->parts[1] << 16 | node->parts[0];
     case 2: return !plain_value(nodes, node->parts[0], n);
     case 4: return plain_value(nodes, node->parts[plain_value(nodes, node->parts[0], n) ? 1 : 2], n);
     }
@@ -278,8 +278,10 @@ int main(int argc, char **argv)
     bindtextdomain("bench", argv[1]);
     bind_textdomain_codeset("bench", "UTF-8");
     for (uint32_t k = 0; k < MESSAGES; k++)
-        if (strcmp(pokit_ngettext(&catalog, ids[k], plurals[k], k), plain_look(&plain, ids[k], plurals[k], k)) != 0)
+        if (strcmp(pokit_ngettext(&catalog, ids[k], plurals[k], k), plain_look(&plain, ids[k], plurals[k], k)) != 0) {
+            fprintf(stderr, "lookup: pokit and the plain search differ on '%s'\n", ids[k]);
             return 1;
+        }
     printf("%-24s %8s %8s %8s %8s\n", "nanoseconds", "pokit", "plain C", "glibc*", "glibc");
     row("present", ids, 0);
     row("absent", absent, 0);
