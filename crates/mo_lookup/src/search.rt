@@ -64,11 +64,18 @@ pub fn find<K: Keys>(keys: &mut K, context: Option<&[u8]>, id: &[u8]) -> Option<
     let mut low = 0;
     let mut high = keys.len();
     'halving: while low < high {
-        let middle = low + (high - low) / 2;
-        match keys.compare(middle, context, id) {
-            Ordering::Equal => return Some(middle),
-            Ordering::Less => low = middle + 1,
-            Ordering::Greater => high = middle,
+        // With a loop of its own for keys below the query's, the processor guesses which half comes
+        // next, and fetches the key in its middle ahead.
+        'rising: while low < high {
+            let middle = low + (high - low) / 2;
+            match keys.compare(middle, context, id) {
+                Ordering::Equal => return Some(middle),
+                Ordering::Less => low = middle + 1,
+                Ordering::Greater => {
+                    high = middle;
+                    break;
+                }
+            }
         }
     }
     None

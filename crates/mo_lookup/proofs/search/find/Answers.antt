@@ -4,46 +4,51 @@ use Rattle.mo_lookup.proofs.search.find.Goals as goal
 
 pub compare-requires-clause-room : goal.compare-requires-clause-room
 compare-requires-clause-room g c =
-    let counted = IsSearch-counted _ _ _ _ _ _ _ c.halving.invariant.2 in
+    let counted = IsSearch-counted _ _ _ _ _ _ _ c.rising.invariant.2 in
     let began = c.requires in
     omega (arith, counted.at_most_32)
 
 pub returns-in-Equal-clause-index : goal.returns-in-Equal-clause-index
-returns-in-Equal-clause-index g c = IsSearch-found _ _ _ _ _ _ _ _ c.halving.invariant.2 (omega arith) c.in-Equal.ensures.order
+returns-in-Equal-clause-index g c = IsSearch-found _ _ _ _ _ _ _ _ c.rising.invariant.2 (omega arith) c.in-Equal.ensures.order
 
 pub returns-in-Equal-clause-comparisons : goal.returns-in-Equal-clause-comparisons
 returns-in-Equal-clause-comparisons g c =
     c.compare.ensures.cost
-    ∙ IsSearch-last _ _ _ _ _ _ _ _ c.halving.invariant.2 c.halving-test.true (omega arith) c.in-Equal.ensures.order
+    ∙ IsSearch-last _ _ _ _ _ _ _ _ c.rising.invariant.2 c.rising-test.true (omega arith) c.in-Equal.ensures.order
 
 pub returns-in-Equal-clause-bound : goal.returns-in-Equal-clause-bound
 returns-in-Equal-clause-bound g c =
-    let counted = IsSearch-compared _ _ _ _ _ _ _ _ c.halving.invariant.2 c.halving-test.true (omega arith) c.in-Equal.ensures.order in
+    let counted = IsSearch-compared _ _ _ _ _ _ _ _ c.rising.invariant.2 c.rising-test.true (omega arith) c.in-Equal.ensures.order in
     rw c.compare.ensures.cost counted.bound
 
 pub returns-in-Equal-clause-at_most_32 : goal.returns-in-Equal-clause-at_most_32
 returns-in-Equal-clause-at_most_32 g c =
-    let counted = IsSearch-compared _ _ _ _ _ _ _ _ c.halving.invariant.2 c.halving-test.true (omega arith) c.in-Equal.ensures.order in
+    let counted = IsSearch-compared _ _ _ _ _ _ _ _ c.rising.invariant.2 c.rising-test.true (omega arith) c.in-Equal.ensures.order in
     rw c.compare.ensures.cost counted.at_most_32
 
-pub halving-preserved-in-Less : goal.halving-preserved-in-Less
-halving-preserved-in-Less g c = (
-  c.compare.ensures.same_counter ∙ c.halving.invariant.0,
-  c.compare.ensures.same_file ∙ c.halving.invariant.1,
+pub rising-preserved : goal.rising-preserved
+rising-preserved g c = (
+  c.compare.ensures.same_counter ∙ c.rising.invariant.0,
+  c.compare.ensures.same_file ∙ c.rising.invariant.1,
   rw c.compare.ensures.cost
       (
-      IsSearch-less _ _ _ _ _ _ _ _ _ c.halving.invariant.2 c.halving-test.true (omega arith) c.in-Less.ensures.order
+      IsSearch-less _ _ _ _ _ _ _ _ _ c.rising.invariant.2 c.rising-test.true (omega arith) c.in-Less.ensures.order
       c.compare.ensures.unchanged
       ),
+  omega (arith, c.rising.invariant),
+  c.rising.invariant.4,
 )
+
+pub halving-smaller : goal.halving-smaller
+halving-smaller g c = omega (arith, c.rising.invariant)
 
 pub halving-preserved : goal.halving-preserved
 halving-preserved g c = (
-  c.compare.ensures.same_counter ∙ c.halving.invariant.0,
-  c.compare.ensures.same_file ∙ c.halving.invariant.1,
+  c.compare.ensures.same_counter ∙ c.rising.invariant.0,
+  c.compare.ensures.same_file ∙ c.rising.invariant.1,
   rw c.compare.ensures.cost
       (
-      IsSearch-greater _ _ _ _ _ _ _ _ _ c.halving.invariant.2 c.halving-test.true (omega arith)
+      IsSearch-greater _ _ _ _ _ _ _ _ _ c.rising.invariant.2 c.rising-test.true (omega arith)
       c.in-Greater.ensures.order c.compare.ensures.unchanged
       ),
 )

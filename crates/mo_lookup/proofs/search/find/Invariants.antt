@@ -1,4 +1,4 @@
-use Rattle.std.proofs.Common.{◌≡◌, ◌-◌}
+use Rattle.std.proofs.Common.{◌≡◌, ◌-◌, ◌≤◌}
 use Rattle.std.specs.Option.{option_copied}
 use Rattle.mo_file.specs.Key.{query_key}
 use Rattle.mo_lookup.proofs.SearchLemmas.{IsSearch}
@@ -13,3 +13,15 @@ invariant-halving g l =
 
 abbrev pub decreases-halving : goal.decreases-halving
 decreases-halving g l = l.high - l.low
+
+abbrev pub invariant-rising : goal.invariant-rising
+invariant-rising g l =
+    (g.K.Keys.counter l.keys ≡ g.K.Keys.counter l.fn.keys)
+    × (g.K.Keys.file l.keys ≡ g.K.Keys.file l.fn.keys)
+    × IsSearch (g.K.Keys.listed l.fn.keys) (query_key (option_copied l.context) l.id) (g.K.Keys.listed l.keys)
+    (g.K.Keys.counted l.fn.keys) (g.K.Keys.counted l.keys) l.low l.high
+    × (l.initial.low ≤ l.low)
+    × (l.high ≡ l.initial.high)
+
+abbrev pub decreases-rising : goal.decreases-rising
+decreases-rising g l = l.high - l.low
