@@ -5,6 +5,7 @@ use Rattle.std.proofs.Common.{◌≡◌, ◌≢◌, ℕ, ◌+◌, ◌-◌, ◌<�
 use Rattle.plural_rule.specs.declared.frames.Frame.{Frame}
 use Rattle.plural_rule.specs.declared.frames.Frame.TheVariants.{Not as NotFrame}
 use Rattle.plural_rule.specs.Frames.{frame_by, frame_of, numbers_by, numbers_in, frames_in, with_number}
+use Rattle.plural_rule.specs.PluralRule.{expression_limit}
 
 pub length-frames : (marks numbers : List ℕ) → length (frames_in marks numbers) ≡ length marks
 length-frames [] numbers = refl
@@ -73,10 +74,12 @@ pub record Stands (marks numbers : List ℕ) (k n : ℕ) (frames : List Frame) :
   pub counts : numbers_in (take k marks) ≡ n
   pub frames_are : frames_in (take k marks) (take n numbers) ≡ frames
 
-pub stands : (marks numbers : List ℕ) (k n most_marks most_numbers : ℕ) (frames : List Frame) → length marks ≡ most_marks → length numbers ≡ most_numbers →
-    (k ≤ most_marks) × (n ≤ most_numbers) × (numbers_in (take k marks) ≡ n) → frames_in (take k marks) (take n numbers) ≡ frames → Stands marks numbers k n frames
-stands marks numbers k n most_marks most_numbers frames a b h is =
-    record { marks_fit = omega (arith, a, h.0); numbers_fit = omega (arith, b, h.1); counts = h.2; frames_are = is }
+pub stands : (marks numbers : List ℕ) (k n most_marks most_numbers : ℕ) (frames : List Frame) →
+    (k ≤ most_marks) × (n ≤ most_numbers) × (numbers_in (take k marks) ≡ n) × (length marks ≡ most_marks) × (length numbers ≡ most_numbers)
+    × (most_marks ≤ expression_limit) × (most_numbers ≤ expression_limit) →
+    frames_in (take k marks) (take n numbers) ≡ frames → Stands marks numbers k n frames
+stands marks numbers k n most_marks most_numbers frames h is =
+    record { marks_fit = omega (arith, h); numbers_fit = omega (arith, h); counts = h.2; frames_are = is }
 
 pub mark-count : {marks numbers : List ℕ} {k n : ℕ} {frames : List Frame} → Stands marks numbers k n frames → length frames ≡ k
 mark-count {marks} {numbers} {k} {n} s = sym (ap length s.frames_are) ∙ length-counted marks numbers k n s.marks_fit

@@ -68,7 +68,9 @@ fn evaluate_within<const NODES: usize, const NUMBERS: usize>(
     ensures steps { result.1 ≡ visited (tree_of table.now) count }
     ensures bound { result.1 ≤ nodes (tree_of table.now) }
 {
-    let mut frames = Frames::<NODES, NUMBERS>::new();
+    let mut marks = [0; NODES];
+    let mut numbers = [0; NUMBERS];
+    let mut frames = Frames::new(&mut marks, &mut numbers);
     let mut index = table.len() - 1;
     let mut steps = 0;
     'visits: loop {
@@ -122,7 +124,7 @@ fn visit<const NODES: usize, const NUMBERS: usize>(
     table: &[Node],
     index: usize,
     count: u64,
-    frames: &mut Frames<NODES, NUMBERS>,
+    frames: &mut Frames<'_, NODES, NUMBERS>,
     steps: &mut u32,
 ) -> Next
     requires post_order { table.now ≡ post_order 0 (tree_of table.now) }
@@ -180,7 +182,7 @@ fn visit_right<const NODES: usize, const NUMBERS: usize>(
     left: u64,
     right: u16,
     count: u64,
-    frames: &mut Frames<NODES, NUMBERS>,
+    frames: &mut Frames<'_, NODES, NUMBERS>,
     steps: &mut u32,
 ) -> Next
     requires post_order { table.now ≡ post_order 0 (tree_of table.now) }
@@ -225,7 +227,7 @@ fn resume<const NODES: usize, const NUMBERS: usize>(
     table: &[Node],
     operand: u64,
     count: u64,
-    frames: &mut Frames<NODES, NUMBERS>,
+    frames: &mut Frames<'_, NODES, NUMBERS>,
     steps: &mut u32,
 ) -> Next
     requires post_order { table.now ≡ post_order 0 (tree_of table.now) }

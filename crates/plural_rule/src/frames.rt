@@ -2,6 +2,7 @@
 ghost use Rattle.std.specs.Prelude.{◌≡◌, ◌≢◌, ◌<◌, ◌≤◌, ◌++◌, [], ◌∷◌, length, option_to_list, IfNone};
 ghost use Rattle.plural_rule.specs.declared.frames.Frame.TheVariants.{Not as NotFrame};
 ghost use Rattle.plural_rule.specs.Frames.{frame_of, with_number};
+ghost use Rattle.plural_rule.specs.PluralRule.{expression_limit};
 
 use crate::operator::Operator;
 use std::marker::Model;
@@ -22,38 +23,44 @@ pub(crate) enum Frame {
 /// The nodes that wait, `NODES` at most; the last one waits for the operand that is evaluated next.
 ///
 /// Each has a mark of one byte, and each but `!` has a number too. Those with a number have a
-/// further operand, so no more than half of the nodes of an expression are such at a time.
+/// further operand, so no more than half of the nodes of an expression are such at a time. The
+/// arrays are borrowed, so that the counts stay in registers.
 #[derive(Drop)]
-pub(crate) struct Frames<const NODES: usize, const NUMBERS: usize> {
-    marks: [u8; NODES],
+pub(crate) struct Frames<'f, const NODES: usize, const NUMBERS: usize> {
+    marks: &'f mut [u8; NODES],
     mark_count: usize,
-    numbers: [u64; NUMBERS],
+    numbers: &'f mut [u64; NUMBERS],
     number_count: usize,
 }
 
-impl<const NODES: usize, const NUMBERS: usize> Model for Frames<NODES, NUMBERS> {
-    ghost use Rattle.std.specs.Prelude.{◌≡◌, ◌≤◌, List, take};
+impl<'f, const NODES: usize, const NUMBERS: usize> Model for Frames<'f, NODES, NUMBERS> {
+    ghost use Rattle.std.specs.Prelude.{◌≡◌, ◌≤◌, List, length, take};
     ghost use Rattle.plural_rule.specs.declared.frames.Frame.{Frame};
     ghost use Rattle.plural_rule.specs.Frames.{frames_in, numbers_in};
+    ghost use Rattle.plural_rule.specs.PluralRule.{expression_limit};
 
     ghost Value = { List Frame };
 
-    ghost view = { λ f. frames_in (take f.mark_count f.marks) (take f.number_count f.numbers) };
+    ghost view = { λ f. frames_in (take f.mark_count f.marks.now) (take f.number_count f.numbers.now) };
 
     ghost invariant = { λ f. (f.mark_count ≤ NODES) × (f.number_count ≤ NUMBERS)
-        × (numbers_in (take f.mark_count f.marks) ≡ f.number_count) };
+        × (numbers_in (take f.mark_count f.marks.now) ≡ f.number_count)
+        × (length f.marks.now ≡ NODES) × (length f.numbers.now ≡ NUMBERS)
+        × (NODES ≤ expression_limit) × (NUMBERS ≤ expression_limit) };
 }
 
-impl<const NODES: usize, const NUMBERS: usize> Frames<NODES, NUMBERS> {
-    /// No nodes.
+impl<'f, const NODES: usize, const NUMBERS: usize> Frames<'f, NODES, NUMBERS> {
+    /// No nodes, with room for their marks and numbers.
     #[inline(always)]
-    pub(crate) fn new() -> Self
+    pub(crate) fn new(marks: &'f mut [u8; NODES], numbers: &'f mut [u64; NUMBERS]) -> Self
+        requires nodes { NODES ≤ expression_limit }
+        requires numbers { NUMBERS ≤ expression_limit }
         ensures { result ≡ [] }
     {
         Frames {
-            marks: [0; NODES],
+            marks,
             mark_count: 0,
-            numbers: [0; NUMBERS],
+            numbers,
             number_count: 0,
         }
     }
