@@ -1,5 +1,5 @@
 -- Lemmas on a whole run of envsubst.
-use Rattle.std.proofs.Common.{◌≡◌, ℕ, ◌+◌, ◌<◌, List, [], ◌++◌, length, take, Option, Some, None, sym, ap, subst, ◌∙◌, append-nil, append_assoc, drop, take-append-drop, ◌≤◌, ◌-◌, arith, refl, inl, inr, Result, Ok, Err, OnOk, OnErr}
+use Rattle.std.proofs.Common.{◌≡◌, ℕ, ◌+◌, ◌<◌, List, [], ◌++◌, length, take, Option, Some, None, sym, ap, subst, ◌∙◌, append-nil, append_assoc, drop, take-append-drop, ◌≤◌, ◌-◌, arith, inl, inr, Result, Ok, Err, OnOk, OnErr}
 use Rattle.std.proofs.KnownBytes.{Appends-nil, Appends-trans, Consumes-nil, Consumes-trans, Consumes-kept}
 use Rattle.std.proofs.Math.Seq.{take-add, take-append-add}
 use Rattle.std.proofs.lemmas.List.{take_all}
@@ -88,13 +88,6 @@ pub record Gathers (values : Values) (text held : List ℕ) (old new : Option (L
   pub appends : Appends old new out
   pub passes : (rest : List ℕ) → substitution values (text ++ rest) ≡ (out ++ block) ++ substitution values (held ++ rest)
 
-pub Gathers-none : (values : Values) (text held : List ℕ) (old : Option (List ℕ)) (block : List ℕ) → text ≡ held → block ≡ [] → Gathers values text held old old block
-Gathers-none values text held old block same none = record {
-  out = [];
-  appends = Appends-nil old;
-  passes = λ rest. ap (λ t. substitution values (t ++ rest)) same ∙ ap (λ b. b ++ substitution values (held ++ rest)) (sym none);
-}
-
 -- a further part
 pub Gathers-more : (values used : Values) (text held part after : List ℕ) (old new : Option (List ℕ)) (block more : List ℕ) → used ≡ values → Gathers values text held old new block → Advances used (held ++ part) after (Some block) (Some more)
     → Gathers values (text ++ part) after old new more
@@ -166,14 +159,6 @@ pub Gathers-piece : (values : Values) (before held piece : List ℕ) (at : ℕ) 
     → Advances values (before ++ piece) held first third
 Gathers-piece values before held piece at first second third block past p q =
     subst (λ t. Advances values (before ++ t) held first third) (take_all at piece past) (Gathers-all values (before ++ take at piece) held first second third block p q)
-
--- nothing was read, and nothing written
-pub stops-unread : (values : Values) (input old : Option (List ℕ)) → StopsWithin values input input old old
-stops-unread values input old = record {
-  read = [];
-  reads = Consumes-nil input;
-  stops = record { written = []; appends = Appends-nil old; prefix = λ rest. (substitution values rest, refl) };
-}
 
 -- what the writer took where a fault is reported before the end of the input
 pub ends-within : (values : Values) (input left old new : Option (List ℕ)) (fault : ToolFault) → StopsWithin values input left old new → EndsAs values input left old new (Err fault)

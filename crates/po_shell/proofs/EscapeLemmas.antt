@@ -4,9 +4,10 @@ use Rattle.std.specs.List.{position_or_len, prefix_len, filter_map, list_any}
 use Rattle.std.proofs.lemmas.Bool.{cond-false, cases_Bool}
 use Rattle.std.proofs.lemmas.List.{drop_all, take_min}
 use Rattle.memchr.specs.Find.{is_byte}
+use Rattle.locale_names.proofs.SearchLemmas.{byte-here, byte-later}
 use Rattle.po_shell.specs.declared.arguments.escape.Escape.{Escape}
 use Rattle.po_shell.specs.Escapes.{is_octal, octal_prefix, octal_value, letter_escape, escape_after, given_bytes, given_bytes_after, expansion, has_no_newline}
-use Rattle.po_shell.proofs.SearchLemmas.{byte-here, byte-later, byte-at}
+use Rattle.po_shell.proofs.SearchLemmas.{byte-at}
 
 -- skipped bytes leave the text after them
 given_bytes-skipped : (n : ℕ) (bs : List ℕ) → given_bytes_after n bs ≡ given_bytes_after 0 (drop n bs)

@@ -2,7 +2,6 @@ pub mod CountLemmas
 pub mod DeviceLemmas
 pub mod EscapeLemmas
 pub mod EnvsubstLemmas
-pub mod LocaleLemmas
 pub mod NameLemmas
 pub mod ReferenceLemmas
 pub mod SearchLemmas

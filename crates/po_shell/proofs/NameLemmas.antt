@@ -5,8 +5,9 @@ use Rattle.std.specs.Option.{option_map}
 use Rattle.std.proofs.lemmas.Bool.{cond-false, cases_Bool}
 use Rattle.std.proofs.lemmas.List.{drop_all}
 use Rattle.memchr.specs.Find.{is_byte}
+use Rattle.locale_names.proofs.SearchLemmas.{byte-here, byte-later}
 use Rattle.po_shell.specs.References.{reference_after, names_in}
-use Rattle.po_shell.proofs.SearchLemmas.{byte-here, byte-later, byte-next}
+use Rattle.po_shell.proofs.SearchLemmas.{byte-next}
 
 -- no name begins before the first `$`
 names-prefix : (bs : List ℕ) → names_in bs ≡ names_in (drop (position_or_len (is_byte 36) bs) bs)

@@ -12,7 +12,12 @@ use Rattle.std.proofs.lemmas.Grind.{fold-append}
 use Rattle.std.proofs.lemmas.List.{take_more, map-append}
 use Rattle.std.proofs.lemmas.List.Folds.{list_any-append}
 use Rattle.po_shell.specs.Locales.{distinct, with_name}
-use Rattle.po_shell.specs.LocaleSteps.{HasNames}
+
+-- the tree has exactly these names
+abbrev pub HasNames : BTreeSet (Bor (List ℕ)) → List (List ℕ) → Type 0
+HasNames seen names =
+    (q : Bor (List ℕ))
+    → contains (λ x y. slice_cmp nat_cmp x.now y.now) seen q ≡ list_any (λ known. bytes_eq known q.now) names
 
 or_false : (b : Bool) → (b || false) ≡ b
 or_false true = refl

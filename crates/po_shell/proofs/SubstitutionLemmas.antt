@@ -5,14 +5,14 @@ use Rattle.std.specs.Option.{option_map}
 use Rattle.std.proofs.lemmas.Bool.{and_parts, cond-false, cases_Bool, true≢false, false≢true}
 use Rattle.std.proofs.lemmas.List.{drop_at}
 use Rattle.memchr.specs.Find.{is_byte}
+use Rattle.locale_names.proofs.SearchLemmas.{byte-here, byte-later}
 use Rattle.po_shell.specs.References.{is_name_byte, reference_after}
 use Rattle.po_shell.specs.Substitution.{Values, Replacement, replacement_of, substituted, substitution_after, substitution}
 use Rattle.std.specs.Borrow.{Bor}
-use Rattle.po_shell.specs.declared.envsubst.holding.Decision.TheVariants.{Grows, Ends, Closes, Copies}
+use Rattle.po_shell.specs.declared.envsubst.holding.Decision.TheVariants.{Ends, Closes, Copies}
 use Rattle.po_shell.specs.declared.envsubst.holding.Effect.{Effect}
 use Rattle.po_shell.specs.declared.envsubst.holding.Effect.TheVariants.{Held, Copied, Replaced}
-use Rattle.po_shell.specs.Holding.{is_begun_name, after_dollar, is_undecided, Decides, ComesOut, ReplacesName, Ending}
-use Rattle.po_shell.proofs.SearchLemmas.{byte-here, byte-later}
+use Rattle.po_shell.specs.Holding.{is_begun_name, after_dollar, Decides, ComesOut, ReplacesName, Ending}
 use Rattle.po_shell.proofs.ReferenceLemmas.{name_byte-not, begun-bytes, dollar-no_name, ending-none, ending-some, after-closed}
 
 -- skipped bytes leave the text after them
@@ -99,10 +99,6 @@ held-replaced : (values : Values) (is_braced : Bool) (held name xs value : List 
     → substitution values (held ++ xs) ≡ value ++ substitution values (drop size (after_dollar is_braced (name ++ xs)))
 held-replaced values is_braced held name xs value size e some is =
     ap (substitution values) (held-append is_braced held name xs e) ∙ replaced values (after_dollar is_braced (name ++ xs)) (record { value = value; size = size }) (replacement-some values name value size _ some is)
-
--- what becomes of the bytes held, by what the next byte decides
-pub out-held : (values : Values) (is_braced : Bool) (held name : List ℕ) (next : ℕ) → held ≡ 36 ∷ after_dollar is_braced name → Decides is_braced name next Grows → ComesOut values held next Held
-out-held values is_braced held name next e grows = ap is_undecided (held-append is_braced held name (next ∷ []) e) ∙ grows
 
 pub out-copied : (values : Values) (is_braced : Bool) (held name : List ℕ) (next : ℕ) → held ≡ 36 ∷ after_dollar is_braced name → is_begun_name name ≡ true → Decides is_braced name next Copies → ComesOut values held next Copied
 out-copied values is_braced held name next e h none = λ rest. held-copied values is_braced held name (next ∷ rest) e h (no-replacement values _ (none rest))

@@ -2,7 +2,8 @@
 -- Catalog Files" of the GNU gettext manual).
 use Rattle.std.specs.Prelude.{ℕ, if◌then◌else◌, List, [], ◌++◌, map, Option, Some, None, unwrap_or, codes}
 use Rattle.std.specs.Option.{option_or, option_copied}
-use Rattle.po_shell.specs.Locales.{non_empty, is_path_part, candidates_of}
+use Rattle.locale_names.specs.Names.{is_path_part}
+use Rattle.po_shell.specs.Locales.{non_empty, candidates_of}
 use Rattle.po_shell.specs.declared.locale.candidates.Environment.{Environment}
 
 -- the text domain: the one among the arguments, else that of `-d`, else that of TEXTDOMAIN, each

@@ -14,7 +14,6 @@ pub mod EnvsubstLaw
 pub mod Escapes
 pub mod Expanding
 pub mod Locales
-pub mod LocaleSteps
 pub mod Catalogues
 pub mod Environments
 pub mod Variables

@@ -1,13 +1,12 @@
 //! The locales whose catalogues are looked for ("Locale Environment Variables" and "Specifying a
 //! Priority List of Languages" of the GNU gettext manual).
-ghost use Rattle.std.specs.Prelude.{◌≡◌, ◌++◌, ◌∷◌, [], map, fold, IfOk, OnOk, OnErr, Err};
-ghost use Rattle.std.specs.List.{flat_map};
+ghost use Rattle.std.specs.Prelude.{◌≡◌, ◌++◌, ◌∷◌, [], map, IfOk, OnOk, OnErr, Err};
 ghost use Rattle.std.specs.Option.{option_map};
+ghost use Rattle.locale_names.specs.Candidate.{text_of};
 ghost use Rattle.po_shell.specs.Locales as spec;
-ghost use Rattle.po_shell.specs.LocaleSteps.{candidates_of_part};
 
 use crate::fault::ToolFault;
-use crate::search::len_before;
+use locale_names::{Candidate, Candidates};
 use std::alloc::{AllocError, Global};
 use std::collections::BTreeSet;
 
@@ -49,35 +48,13 @@ pub(crate) fn candidate_names(
 ) -> Result<Vec<Vec<u8>>, AllocError>
     ensures { IfOk result (λ v. map (λ name. name.items) v.items ≡ spec.candidates_of environment.now) }
 {
-    let Some(locale) = locale_of(environment) else {
-        return Ok(Vec::new(alloc));
-    };
-    if is_untranslated(locale) {
-        return Ok(Vec::new(alloc));
-    }
-    if has_slash(locale) {
-        return Ok(Vec::new(alloc));
-    }
-    let names = candidates_of_languages(alloc, locale, environment.language)?;
-    distinct(alloc, &names)
-}
-
-/// The candidates of the languages that are asked for, with repeats: those of LANGUAGE, or else of
-/// the locale.
-fn candidates_of_languages(
-    alloc: Global,
-    locale: &[u8],
-    language: Option<&[u8]>,
-) -> Result<Vec<Vec<u8>>, AllocError>
-    ensures { IfOk result (λ v. map (λ name. name.items) v.items
-        ≡ flat_map spec.candidates_of_name (spec.languages (spec.non_empty language.entry) locale.now)) }
-{
+    let language = non_empty(environment.language).unwrap_or(b"");
+    let mut candidates = Candidates::new(locale_of(environment), language);
     let mut names = Vec::new(alloc);
-    match non_empty(language) {
-        None => add_candidates_of_name(alloc, &mut names, locale)?,
-        Some(languages) => add_languages(alloc, &mut names, languages)?,
+    while let Some(candidate) = candidates.next() {
+        add_name(alloc, &mut names, candidate)?;
     }
-    Ok(names)
+    distinct(alloc, &names)
 }
 
 /// The names without repeats, each where it stands first. The names seen are kept in a tree, so
@@ -107,128 +84,30 @@ pub(crate) fn non_empty(variable: Option<&[u8]>) -> Option<&[u8]>
     }
 }
 
-/// The first of LC_ALL, LC_MESSAGES and LANG that is set and not empty.
-fn locale_of<'a>(environment: &Environment<'a>) -> Option<&'a [u8]>
-    ensures { option_map (λ value. value.now) result ≡ spec.locale_of environment.now }
+/// The first of LC_ALL, LC_MESSAGES and LANG that is set and not empty, or nothing.
+fn locale_of<'a>(environment: &Environment<'a>) -> &'a [u8]
+    ensures { result.now ≡ spec.locale_of environment.now }
 {
     if let Some(locale) = non_empty(environment.lc_all) {
-        return Some(locale);
+        return locale;
     }
     if let Some(locale) = non_empty(environment.lc_messages) {
-        return Some(locale);
+        return locale;
     }
-    non_empty(environment.lang)
+    non_empty(environment.lang).unwrap_or(b"")
 }
 
-/// Whether the name is `C` or `POSIX`, in which the messages are the msgids.
-#[tactic(auto, unfolding(crate::specs::Locales::is_untranslated))]
-fn is_untranslated(name: &[u8]) -> bool
-    ensures { result ≡ spec.is_untranslated name.now }
-{
-    name == b"C".as_slice() || name == b"POSIX".as_slice()
-}
-
-/// Whether the name has a slash.
-fn has_slash(name: &[u8]) -> bool
-    ensures { result ≡ spec.has_slash name.now }
-{
-    name.contains(&b'/')
-}
-
-/// Whether a name can stand in a path: it isn't empty and has no slash.
-pub(crate) fn is_path_part(name: &[u8]) -> bool
-    ensures { result ≡ spec.is_path_part name.now }
-{
-    !name.is_empty() && !has_slash(name)
-}
-
-/// Adds the candidates of the parts of LANGUAGE, up to the first `C` or `POSIX`.
-fn add_languages(
-    alloc: Global,
-    names: &mut Vec<Vec<u8>>,
-    languages: &[u8],
-) -> Result<(), AllocError>
-    ensures { OnOk result (map (λ name. name.items) names.new.items
-        ≡ map (λ name. name.items) names.old.items
-        ++ flat_map spec.candidates_of_name (spec.language_parts languages.now)) }
-{
-    let mut rest = languages;
-    loop {
-        let (part, after) = rest.split_at(len_before(b':', rest));
-        if is_untranslated(part) {
-            return Ok(());
-        }
-        add_language(alloc, names, part)?;
-        if after.is_empty() {
-            return Ok(());
-        }
-        rest = &after[1..];
-    }
-}
-
-/// Adds the candidates of one part of LANGUAGE, if it can stand in a path.
-fn add_language(alloc: Global, names: &mut Vec<Vec<u8>>, part: &[u8]) -> Result<(), AllocError>
-    ensures { OnOk result (map (λ name. name.items) names.new.items
-        ≡ map (λ name. name.items) names.old.items ++ candidates_of_part part.now) }
-{
-    if is_path_part(part) {
-        add_candidates_of_name(alloc, names, part)
-    } else {
-        Ok(())
-    }
-}
-
-/// Adds the candidates of a name `L[_T][.C][@M]`, the most specific first: the name itself,
-/// `L[_T][@M]`, `L[@M]`, `L[_T]` and `L`. For `sr_RS.UTF-8@latin` they are `sr_RS.UTF-8@latin`,
-/// `sr_RS@latin`, `sr@latin`, `sr_RS` and `sr`. Those that are equal are dropped later, by
-/// `distinct`.
-fn add_candidates_of_name(
-    alloc: Global,
-    names: &mut Vec<Vec<u8>>,
-    name: &[u8],
-) -> Result<(), AllocError>
-    ensures { OnOk result (map (λ name. name.items) names.new.items
-        ≡ map (λ name. name.items) names.old.items ++ spec.candidates_of_name name.now) }
-{
-    let modifier = from_first(b'@', name);
-    let base = before(b'.', before(b'@', name));
-    let language = before(b'_', base);
-    add_name(alloc, names, name, &[])?;
-    add_name(alloc, names, base, modifier)?;
-    add_name(alloc, names, language, modifier)?;
-    add_name(alloc, names, base, &[])?;
-    add_name(alloc, names, language, &[])?;
-    Ok(())
-}
-
-/// What stands before the first `byte`, or all where there is none.
-#[tactic(auto, unfolding(crate::specs::Locales::before))]
-fn before(byte: u8, name: &[u8]) -> &[u8]
-    ensures { result.now ≡ spec.before byte name.now }
-{
-    &name[..len_before(byte, name)]
-}
-
-/// What stands from the first `byte` on, or nothing where there is none.
-#[tactic(auto, unfolding(crate::specs::Locales::from_first))]
-fn from_first(byte: u8, name: &[u8]) -> &[u8]
-    ensures { result.now ≡ spec.from_first byte name.now }
-{
-    &name[len_before(byte, name)..]
-}
-
-/// Adds the name that two parts make.
+/// Adds the name of a candidate.
 fn add_name(
     alloc: Global,
     names: &mut Vec<Vec<u8>>,
-    prefix: &[u8],
-    rest: &[u8],
+    candidate: Candidate<'_>,
 ) -> Result<(), AllocError>
     ensures { OnOk result (map (λ name. name.items) names.new.items
-        ≡ map (λ name. name.items) names.old.items ++ (prefix.now ++ rest.now) ∷ []) }
+        ≡ map (λ name. name.items) names.old.items ++ text_of candidate.entry ∷ []) }
 {
-    let mut name = Vec::from_slice(alloc, prefix)?;
-    name.extend_from_slice(rest)?;
+    let mut name = Vec::from_slice(alloc, candidate.prefix)?;
+    name.extend_from_slice(candidate.rest)?;
     names.push(name)?;
     Ok(())
 }

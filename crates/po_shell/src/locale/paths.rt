@@ -6,7 +6,8 @@ ghost use Rattle.po_shell.specs.Locales.{candidates_of};
 ghost use Rattle.po_shell.specs.Catalogues.{folder_of, path_of, paths_of};
 
 use crate::fault::ToolFault;
-use crate::locale::candidates::{Environment, candidate_names, is_path_part, non_empty};
+use crate::locale::candidates::{Environment, candidate_names, non_empty};
+use locale_names::is_path_part;
 use std::alloc::{AllocError, Global};
 
 /// The folder that the catalogues lie below where TEXTDOMAINDIR is unset or empty.

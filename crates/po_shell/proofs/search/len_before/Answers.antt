@@ -1,6 +1,6 @@
 use Rattle.std.proofs.Common.{not, eqb, ◌∙◌, arith}
 use Rattle.std.proofs.lemmas.List.Sums.{prefix_len-le-length}
-use Rattle.po_shell.proofs.SearchLemmas.{first-or_len}
+use Rattle.locale_names.proofs.SearchLemmas.{first-or_len}
 use Rattle.po_shell.proofs.search.len_before.Goals as goal
 
 pub returns-clause-index : goal.returns-clause-index

@@ -6,8 +6,7 @@ use Rattle.std.specs.Str.{bytes_eq}
 use Rattle.std.specs.BTreeMap.{is_at}
 use Rattle.std.proofs.lemmas.Bool.{not-true, not-false}
 use Rattle.std.proofs.lemmas.List.{map-append}
-use Rattle.po_shell.specs.LocaleSteps.{HasNames}
-use Rattle.po_shell.proofs.SeenNames.{one_name_more, distinct_more}
+use Rattle.po_shell.proofs.SeenNames.{HasNames, one_name_more, distinct_more}
 use Rattle.po_shell.proofs.locale.candidates.distinct.Goals as goal
 
 pub loop-name-init : goal.loop-name-init

@@ -1,6 +1,6 @@
 use Rattle.std.proofs.Common.{◌≡◌, map, take}
 use Rattle.po_shell.specs.Locales.{distinct}
-use Rattle.po_shell.specs.LocaleSteps.{HasNames}
+use Rattle.po_shell.proofs.SeenNames.{HasNames}
 use Rattle.po_shell.proofs.locale.candidates.distinct.Given as goal
 
 -- the names so far are kept, each once, and the tree has them
