@@ -33,48 +33,6 @@ pub fn joined(alloc: Global, catalogues: &[Catalogue]) -> Result<Vec<InputEntry<
     Ok(joined)
 }
 
-/// The joined list of catalogues, which it takes: the entries of several inputs in order, without
-/// the live headers of an input where an earlier input has a live header. The entries are moved,
-/// and none is copied.
-pub fn into_joined(alloc: Global, catalogues: Vec<Catalogue>) -> Result<Vec<Entry>, AllocError>
-    ensures list { IfOk result (λ entries. entries.items ≡ joined_entries catalogues.items) }
-    ensures valid { OnOk result (All IsCatalogueEntry (joined_entries catalogues.items)) }
-{
-    let mut joined = Vec::new(alloc);
-    let mut headed = false;
-    for catalogue in catalogues {
-        let entries = catalogue.into_entries();
-        let has_header = has_live_header(&entries);
-        move_entries(&mut joined, entries, headed)?;
-        headed = headed || has_header;
-    }
-    Ok(joined)
-}
-
-/// Moves the entries of an input after others, without its live headers where an earlier input has
-/// one.
-fn move_entries(
-    joined: &mut Vec<Entry>,
-    entries: Vec<Entry>,
-    headed: bool,
-) -> Result<(), AllocError>
-    ensures { OnOk result (joined.new.items ≡ joined.old.items ++ kept_entries headed entries.items) }
-{
-    if joined.is_empty() && !headed {
-        *joined = entries;
-        return Ok(());
-    }
-    joined.reserve(entries.len())?;
-    for entry in entries {
-        if headed && is_live_header(&entry) {
-            drop(entry);
-        } else {
-            joined.push(entry)?;
-        }
-    }
-    Ok(())
-}
-
 /// Adds the entries of an input, without its live headers where an earlier input has one.
 pub(crate) fn add_entries<'a>(
     joined: &mut Vec<InputEntry<'a>>,

@@ -16,7 +16,7 @@ mod message_index;
 mod stats;
 
 pub use crate::duplicate::{JoinError, duplicates, joined_duplicates};
-pub use crate::joining::{InputEntry, into_joined, is_live, is_live_header, joined};
+pub use crate::joining::{InputEntry, is_live, is_live_header, joined};
 pub use crate::message_index::{MessageKey, Repeat, first_repeat, grouped, message_key};
 pub use crate::stats::{Stats, entry_statistics, has_translation, statistics};
 pub use po_entry::{Catalogue, Entry, Fields, Previous};

@@ -11,6 +11,7 @@ use Rattle.po_entry.specs.TextEntry.{TextEntry, slice_texts}
 use Rattle.po_catalog.specs.Joined.{joined_entries, entries_of, in_input}
 use Rattle.po_catalog.specs.Duplicate.{HasNoDuplicate}
 use Rattle.po_entry.specs.Validity.{out_of_memory}
+use Rattle.po_catalog.proofs.DuplicateLemmas.{entries_of_input}
 use Rattle.po_compile.specs.Accepted.{ReadsDistinct, AreRead, IsTextFault, IsReadingFault, fault_input, fault_of_input}
 
 input_of_fault : (input : ℕ) (kind : PoFault) → kind ≢ OutOfMemory → fault_input input kind ≡ input
@@ -58,10 +59,6 @@ module _ (texts : List (Bor (List ℕ))) (i : ℕ) (text : Bor (List ℕ)) (insi
         first_input = input ∙ long;
         fault = fault.1;
       }))) why
-
-pub entries_of_input : (input : ℕ) (entries : List TextEntry) → entries_of (map (in_input input) entries) ≡ entries
-entries_of_input input [] = refl
-entries_of_input input (x ∷ xs) = ap (λ l. x ∷ l) (entries_of_input input xs)
 
 -- the joined list of one catalogue is that catalogue
 pub joined_one : (entries : List TextEntry) → joined_entries (entries ∷ []) ≡ entries

@@ -5,7 +5,7 @@
 //! [`compiled_messages`] are those that are compiled, before they are sorted.
 //!
 //! The modules in reading order: `options`, `compiling`, `inputs`, `collecting`, `prefix`, `row`,
-//! `rows`, `sorting`, `messages`, `reading`; then `laws`.
+//! `rows`, `sorting`, `messages`; then `laws`.
 
 #![tactic(auto)]
 
@@ -16,7 +16,6 @@ pub mod laws;
 mod messages;
 mod options;
 mod prefix;
-mod reading;
 mod row;
 mod rows;
 mod sorting;
@@ -26,4 +25,3 @@ pub use crate::compiling::{compile, compile_all, compile_collected};
 pub use crate::inputs::{collect_all, collect_catalogues};
 pub use crate::messages::{CompiledMessage, compiled_messages};
 pub use crate::options::{Compiled, Options};
-pub use crate::reading::read_distinct;
