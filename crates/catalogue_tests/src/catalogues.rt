@@ -1,9 +1,9 @@
 //! The statistics of catalogues, their duplicates, and how they are joined.
 
 use crate::assertions::{assert_at, assert_fault, assert_text};
-use crate::summary::summaries;
+use crate::summary::push_summary;
 use po_catalog::{
-    Catalogue, JoinError, Stats, duplicates, into_joined, joined_duplicates, read, statistics,
+    Catalogue, JoinError, Stats, duplicates, joined, joined_duplicates, read, statistics,
 };
 use po_syntax::{PoError, PoFault};
 use std::alloc::Global;
@@ -141,17 +141,15 @@ fn duplicates_across_texts(rt: HostRuntime) -> Result<(), Fail> {
     Ok(())
 }
 
-/// The summaries of the joined entries of catalogues.
-fn joined_summaries(alloc: Global, catalogues: Vec<Catalogue>) -> Result<Vec<u8>, Fail> {
-    let entries = into_joined(alloc, catalogues)?;
-    summaries(alloc, &entries)
-}
-
 #[test]
 fn entries_of_two_inputs(rt: HostRuntime) -> Result<(), Fail> {
     let both = twice(&rt, rt.alloc(), HEADED)?;
-    let joined = joined_summaries(rt.alloc(), both)?;
+    assert_eq!(rt; both.len(), 2);
+    let mut lines = Vec::new(rt.alloc());
+    for joined in &joined(rt.alloc(), &both)? {
+        push_summary(&mut lines, joined.entry)?;
+    }
     let wanted = b"||||-;-;-;|-||-|X;.\n||||-;-;-;|-|a|-|A;.\n||||-;-;-;|-|a|-|A;.\n";
-    assert_text(&rt, &joined, wanted);
+    assert_text(&rt, &lines, wanted);
     Ok(())
 }

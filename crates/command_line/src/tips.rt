@@ -106,7 +106,11 @@ static FILE_OPTIONS: [&str; 47] = [
 ];
 
 /// The tip on the option or the tool that clap's text names, if GNU's alone has it.
-pub fn own_tip(alloc: Global, tool: Option<Tool>, text: &str) -> Result<Option<String>, AllocError>
+pub(crate) fn own_tip(
+    alloc: Global,
+    tool: Option<Tool>,
+    text: &str,
+) -> Result<Option<String>, AllocError>
     ensures { IfOk result (λ tip. option_map string_bytes tip ≡ own_tip tool text.now) }
 {
     match tip_on_option(alloc, tool, text)? {
@@ -225,7 +229,7 @@ fn is_long(tool: Option<Tool>, option: &str) -> bool
 }
 
 /// Whether the tool's arguments are files.
-pub fn takes_files(tool: Option<Tool>) -> bool
+pub(crate) fn takes_files(tool: Option<Tool>) -> bool
     ensures { result ≡ takes_files tool }
 {
     matches!(

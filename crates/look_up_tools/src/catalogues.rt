@@ -43,7 +43,7 @@ pub fn find_catalogues<S: InputSource + VariableSource>(
 }
 
 /// The bytes of a text, where there is one.
-fn bytes_of(text: Option<&str>) -> Option<&[u8]>
+pub(crate) fn bytes_of(text: Option<&str>) -> Option<&[u8]>
     ensures { option_copied result ≡ option_copied text.entry }
 {
     text.map(|text| text.as_bytes())
@@ -84,14 +84,13 @@ fn read_catalogue<S: InputSource>(
     let Ok(name) = str::from_utf8(path) else {
         return Ok(None);
     };
-    match source.read_file(alloc, name) {
-        Ok(bytes) => Ok(Some(CatalogueFile {
-            path: String::from_str(alloc, name)?,
-            bytes,
-        })),
-        Err(InputFault::OutOfMemory) => Err(AllocError),
-        Err(InputFault::CannotOpen | InputFault::ReadFault) => Ok(None),
-    }
+    let bytes = match source.read_file(alloc, name) {
+        Ok(bytes) => bytes,
+        Err(InputFault::OutOfMemory) => return Err(AllocError),
+        Err(InputFault::CannotOpen | InputFault::ReadFault) => return Ok(None),
+    };
+    let path = String::from_str(alloc, name)?;
+    Ok(Some(CatalogueFile { path, bytes }))
 }
 
 /// The catalogues, borrowed, with their paths for names: at most 4,294,967,295, as many as a chain

@@ -13,6 +13,7 @@ ghost use Rattle.look_up_tools.specs.GettextView.{gettext_view, ngettext_view};
 ghost use Rattle.tool_runs.specs.NamedFile.{named_files};
 ghost use Rattle.look_up_tools.specs.OpensFile.{OpensFile};
 
+use crate::catalogues::bytes_of;
 use mo_file::{Meter, MoError};
 use mo_lookup::{Catalog, Chain};
 use po_shell::{Expanded, ToolFault, count_of, expand};
@@ -132,10 +133,7 @@ where
           plural = given plural.entry;
         })).text) }
 {
-    let answer = match context {
-        Some(context) => chain.look(Some(context.as_bytes()), id, plural, &mut Meter::new()),
-        None => chain.look(None, id, plural, &mut Meter::new()),
-    };
+    let answer = chain.look(bytes_of(context), id, plural, &mut Meter::new());
     output.extend_from_slice(answer.text)
 }
 

@@ -1,6 +1,7 @@
 ghost use Rattle.std.specs.Prelude.{◌≡◌, ◌+◌, ◌*◌, ◌^◌, ◌<◌, ◌++◌, length, IfOk, OnOk};
 ghost use Rattle.mo_file.specs.Layout.{header, table, terminated};
 ghost use Rattle.mo_file.specs.Pairs.{strings_of};
+ghost use Rattle.mo_file.specs.Word.{word_bytes};
 
 use crate::byte_order::{BIG_MAGIC, FileOrder, LITTLE_MAGIC, Order, push_word};
 use crate::file_header::{DESCRIPTOR_LEN, HEADER_LEN};
@@ -33,6 +34,15 @@ pub(crate) fn push_header<T: FileOrder>(out: &mut Vec<u8>, count: u32) -> Result
     push_word::<T>(out, originals_offset(count))
 }
 
+/// Appends the length of a string and its offset.
+fn push_descriptor<T: FileOrder>(out: &mut Vec<u8>, len: u32, offset: u32) -> Result<(), AllocError>
+    ensures { OnOk result (out.new.items
+        ≡ out.old.items ++ word_bytes T.order len ++ word_bytes T.order offset) }
+{
+    push_word::<T>(out, len)?;
+    push_word::<T>(out, offset)
+}
+
 /// Appends the table of strings of which the first is to stand at `offset`, and returns the offset
 /// after the NUL of the last.
 pub(crate) fn push_table<T: FileOrder>(
@@ -50,8 +60,7 @@ pub(crate) fn push_table<T: FileOrder>(
     let mut at = offset;
     for pair in pairs {
         let len = pair.string(part).len() as u32;
-        push_word::<T>(out, len)?;
-        push_word::<T>(out, at)?;
+        push_descriptor::<T>(out, len, at)?;
         at += len + 1;
     }
     Ok(at)
