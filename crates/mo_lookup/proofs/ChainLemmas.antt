@@ -41,10 +41,6 @@ HaveNot-first key chain index began counted catalog translation none inside is f
   under = sym found;
 }
 
-same-find : (p q : CatalogView → Bool) → ((catalog : CatalogView) → p catalog ≡ q catalog) → (chain : List CatalogView) → find p chain ≡ find q chain
-same-find p q same [] = refl
-same-find p q same (catalog ∷ rest) = rw (same catalog, same-find p q same rest) refl
-
 same-position : (p q : CatalogView → Bool) → ((catalog : CatalogView) → p catalog ≡ q catalog) → (chain : List CatalogView) →
     position_or_len p chain ≡ position_or_len q chain
 same-position p q same [] = refl

@@ -2,7 +2,7 @@
 use Rattle.std.proofs.Common.{ℕ, zero, suc, ◌≡◌, ◌+◌, ◌-◌, ◌/◌, ◌<◌, ◌≤◌, List, [], ◌∷◌, length, take, drop, refl, sym, ap, ◌∙◌, arith}
 use Rattle.std.specs.declared.cmp.Ordering.{Ordering}
 use Rattle.std.specs.declared.cmp.Ordering.TheVariants.{Less, Equal, Greater}
-use Rattle.std.proofs.lemmas.List.{length-take, length-drop, get_or-take, get_or-drop, take-take, drop-take, drop-drop, take_all}
+use Rattle.std.proofs.lemmas.List.{length-take, length-drop, get_or-take, get_or-drop, take-take, drop-take, drop-drop}
 use Rattle.mo_file.specs.Key.{key_at, key_cmp}
 use Rattle.mo_lookup.specs.Bound.{search_bound}
 use Rattle.mo_lookup.specs.Comparisons.{half, keys_left, comparisons_within, comparisons}
@@ -101,9 +101,6 @@ between-before ks low high middle some inside in_middle =
 -- what is counted up to a range, and the comparisons that the range takes, are those of all keys
 pub record AreCompared (ks : List (List ℕ)) (key : List ℕ) (began counted low high : ℕ) : Type 0 where
   pub left : counted + comparisons (between ks low high) key ≡ began + comparisons ks key
-
-pub AreCompared-start : (ks : List (List ℕ)) (key : List ℕ) (began : ℕ) → AreCompared ks key began began 0 (length ks)
-AreCompared-start ks key began = record { left = ap (λ l. began + comparisons l key) (take_all (length ks - 0) ks (omega arith)) }
 
 pub AreCompared-less : (ks : List (List ℕ)) (key : List ℕ) (began counted low high middle : ℕ) → AreCompared ks key began counted low high →
     low < high → high ≤ length ks → middle ≡ low + (high - low) / 2 → key_cmp (key_at ks middle) key ≡ Less →

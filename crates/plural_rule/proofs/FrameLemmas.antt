@@ -1,5 +1,5 @@
 -- What waits in an evaluation, with one more node at the end.
-use Rattle.std.proofs.Common.{◌≡◌, ℕ, ◌+◌, List, [], ◌∷◌, ◌++◌, length, length-append, None, refl, sym, ap, subst, ◌∙◌, ◌≤◌, ◌<◌, arith}
+use Rattle.std.proofs.Common.{◌≡◌, ℕ, ◌+◌, List, [], ◌∷◌, ◌++◌, length, None, refl, sym, ap, subst, ◌∙◌, ◌≤◌, arith}
 use Rattle.plural_rule.specs.declared.frames.Frame.{Frame}
 use Rattle.plural_rule.specs.declared.frames.Frame.TheVariants.{Not as NotFrame, First, Second, Condition}
 use Rattle.plural_rule.specs.declared.operator.Operator.{Operator}
@@ -78,13 +78,6 @@ remaining_pop whole frames rest f split = ap (remaining whole) split ∙ remaini
 
 pub least_pop : (frames rest : List Frame) (f : Frame) → frames ≡ rest ++ f ∷ [] → least_steps frames ≡ least_steps rest + least_steps (f ∷ [])
 least_pop frames rest f split = ap least_steps split ∙ least_more rest f
-
--- there is room for another in its place
-pub room_pop : (frames rest : List Frame) (f : Frame) (most : ℕ) → frames ≡ rest ++ f ∷ [] → length frames ≤ most → length rest < most
-room_pop frames rest f most split fits = omega (arith, ap length split, length-append rest (f ∷ []), fits)
-
-pub numbers_pop : (frames rest : List Frame) (f : Frame) (most : ℕ) → frames ≡ rest ++ f ∷ [] → with_number (f ∷ []) ≡ 1 → with_number frames ≤ most → with_number rest < most
-numbers_pop frames rest f most split one fits = omega (arith, ap with_number split, numbers_more rest f, one, fits)
 
 -- a visit of a node: what it becomes, and its first operand
 visits : (whole : Tree) (n steps : ℕ) (xs ys : List Frame) (frame : Frame) (first part : Tree) → ys ≡ xs ++ frame ∷ [] → resumed whole n frame (evaluated first n (steps + 1)) ≡ evaluated part n steps → finished whole n ys (evaluated first n (steps + 1)) ≡ finished whole n xs (evaluated part n steps)

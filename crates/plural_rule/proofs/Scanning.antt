@@ -12,9 +12,9 @@ use Rattle.plural_rule.specs.declared.token.Token.TheVariants.{Count, Number, No
 use Rattle.std.specs.Str.Parse.{AllDigits, digits_value}
 use Rattle.std.specs.Char.{is_ascii_digit}
 use Rattle.plural_rule.specs.Tokens.{operator_bytes, IsSpelling, IsLongest}
-use Rattle.plural_rule.specs.Scanner.{IsTokenAt, IsTooLarge, HasNoToken, BeginsWithDouble, HasNoDouble}
+use Rattle.plural_rule.specs.Scanner.{IsTokenAt, IsTooLarge, HasNoToken}
 use Rattle.plural_rule.proofs.Numerals.{digit_below_ten, below_ten_digit}
-use Rattle.plural_rule.proofs.Lexing.{one_prefix, first_byte, operator-facts, spelling-not_blank}
+use Rattle.plural_rule.proofs.Lexing.{one_prefix, first_byte, operator-facts}
 
 -- two bytes or more that spell a token and begin with no digit are those of an operator
 pub record IsDouble (u : Token) (c d : ℕ) (more : List ℕ) : Type 0 where
@@ -134,42 +134,3 @@ numeral-none text d large t own rest e spelt longest =
     let same = one_prefix (Number (digits_value 10 (take_while is_ascii_digit text))) t (take_while is_ascii_digit text) (drop k text) own rest
     (n.some, AllDigits-take_while text, refl) n.longest spelt longest (take-append-drop k text ∙ e) in
     subst IsTooLarge same.same_token large
-
-pub double-token : (text : List ℕ) (op : Operator) → is_ascii_digit (get_or text 0 0) ≡ false → BeginsWithDouble text op → IsTokenAt text (Binary op) 2
-double-token [] op n h = absurd (omega arith)
-double-token (c ∷ []) op n h = absurd (omega arith)
-double-token (c ∷ d ∷ rest) op n h =
-    record {
-      some = omega arith;
-      within = omega arith;
-      spelling = sym h.bytes;
-      longest = λ u more after e s spelt. s (double u c d more n spelt).ends;
-    }
-
-pub single-token : (text : List ℕ) (t : Token) → 0 < length text → is_ascii_digit (get_or text 0 0) ≡ false → IsSpelling t (get_or text 0 0 ∷ []) → HasNoDouble text → IsTokenAt text t 1
-single-token [] t l n h no_double = absurd (omega arith)
-single-token (c ∷ rest) t l n h no_double =
-    record { some = omega arith; within = omega arith; spelling = h; longest = λ u more after e s spelt. longest rest more after u no_double e s spelt }
-  where
-    longest : (rest more after : List ℕ) (u : Token) → HasNoDouble (c ∷ rest) → rest ≡ more ++ after → more ≢ [] → IsSpelling u (c ∷ more) → ⊥
-    longest rest [] after u no_double e s spelt = s refl
-    longest [] (m ∷ more) after u no_double e s spelt = cc
-    longest (d ∷ rest) (m ∷ more) after u no_double e s spelt =
-        let same : m ≡ d = cc in
-        let two = double u c m more n spelt in
-        no_double two.operator (record { two = omega arith; bytes = two.bytes ∙ ap (λ x. c ∷ x ∷ []) same })
-
-pub single-none : (text : List ℕ) → 0 < length text → is_ascii_digit (get_or text 0 0) ≡ false → ((t : Token) → IsSpelling t (get_or text 0 0 ∷ []) → ⊥) → HasNoDouble text → HasNoToken text
-single-none [] l n none no_double t own rest e spelt longest = absurd (omega arith)
-single-none (c ∷ text) l n none no_double t own rest e spelt longest = absurd (no-prefix text own t no_double e spelt)
-  where
-    no-prefix : (text own : List ℕ) (t : Token) → HasNoDouble (c ∷ text) → c ∷ text ≡ own ++ rest → IsSpelling t own → ⊥
-    no-prefix text [] t no_double e spelt = false≢true (sym (spelling-not_blank t [] spelt))
-    no-prefix text (x ∷ []) t no_double e spelt =
-        let same : x ≡ c = cc in none t (subst (λ y. IsSpelling t (y ∷ [])) same spelt)
-    no-prefix [] (x ∷ y ∷ own) t no_double e spelt = cc
-    no-prefix (d ∷ text) (x ∷ y ∷ own) t no_double e spelt =
-        let same : x ≡ c = cc in
-        let same' : y ≡ d = cc in
-        let two = double t x y own (ap is_ascii_digit same ∙ n) spelt in
-        no_double two.operator (record { two = omega arith; bytes = two.bytes ∙ ap (λ z. z ∷ y ∷ []) same ∙ ap (λ z. c ∷ z ∷ []) same' })

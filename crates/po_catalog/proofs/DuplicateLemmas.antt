@@ -57,7 +57,7 @@ all_live entries i past = ap live_entries (take_all i (input_entries entries) (o
 abbrev messages_of : List InputEntry → List Message
 messages_of entries = entry_messages (entries_of entries)
 
-message_is : (a b : TextEntry) → IsSameMessage a b → entry_message a ≡ entry_message b
+pub message_is : (a b : TextEntry) → IsSameMessage a b → entry_message a ≡ entry_message b
 message_is a b same = ap₂ make same.0 same.1 where
   make : Option (List ℕ) → List ℕ → Message
   make c i = record { context = c; id = i }
@@ -80,7 +80,7 @@ repeat_within entries first later repeat =
     (omega (arith, inside, repeat.earlier), inside)
 
 -- a list of entries, around two of them
-split_at : (entries : List InputEntry) (i : ℕ) (d : InputEntry) → i < length entries → entries ≡ take i entries ++ get_or entries i d ∷ drop (suc i) entries
+pub split_at : (entries : List InputEntry) (i : ℕ) (d : InputEntry) → i < length entries → entries ≡ take i entries ++ get_or entries i d ∷ drop (suc i) entries
 split_at entries i d inside = sym (take-append-drop i entries) ∙ ap (λ l. take i entries ++ l) (drop-cons entries i d inside)
 
 message_at : (entries : List InputEntry) (i : ℕ) (d : InputEntry) → i < length entries → get_or (messages_of entries) i (entry_message d.entry) ≡ entry_message (get_or entries i d).entry

@@ -10,19 +10,19 @@ use Rattle.std.proofs.lemmas.List.Sums.{passes_at_first}
 use Rattle.std.proofs.lemmas.List.Elements.{All-nil, All-cons, All-head, All-tail}
 use Rattle.po_catalog.specs.FirstOnes.{with_new, first_ones, group_numbers}
 
-or_false : (b : Bool) → (b || false) ≡ b
+pub or_false : (b : Bool) → (b || false) ≡ b
 or_false true = refl
 or_false false = refl
 
-or_true : (b : Bool) → (b || true) ≡ true
+pub or_true : (b : Bool) → (b || true) ≡ true
 or_true true = refl
 or_true false = refl
 
-or_assoc : (a b c : Bool) → ((a || b) || c) ≡ (a || (b || c))
+pub or_assoc : (a b c : Bool) → ((a || b) || c) ≡ (a || (b || c))
 or_assoc true b c = refl
 or_assoc false b c = refl
 
-fold_push : {A B : Type 0} (f : B → A → B) (b : B) (xs : List A) (x : A) → fold f b (xs ++ x ∷ []) ≡ f (fold f b xs) x
+pub fold_push : {A B : Type 0} (f : B → A → B) (b : B) (xs : List A) (x : A) → fold f b (xs ++ x ∷ []) ≡ f (fold f b xs) x
 fold_push f b [] x = refl
 fold_push f b (y ∷ xs) x = fold_push f (f b y) xs x
 
@@ -48,7 +48,7 @@ module _ {X : Type 0} (p : X → Bool) where
   first_at_end xs x none passes = let more = position_or_len_push p xs x in grind (arith, more)
 
 module _ {X : Type 0} (alike : X → X → Bool) (laws : IsEquivalence alike) where
-  any_alike : (a b : X) → alike a b ≡ true → (xs : List X) → list_any (alike a) xs ≡ list_any (alike b) xs
+  pub any_alike : (a b : X) → alike a b ≡ true → (xs : List X) → list_any (alike a) xs ≡ list_any (alike b) xs
   any_alike a b e [] = refl
   any_alike a b e (x ∷ xs) = ap₂ (λ (s t : Bool). s || t) (laws.congr a b x e) (any_alike a b e xs)
 

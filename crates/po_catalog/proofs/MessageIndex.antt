@@ -71,7 +71,7 @@ module _ (keys index new : List MessageKey) (i : ℕ) (key d : MessageKey) (insi
       ap₂ (λ (ns : List ℕ) (n : ℕ). ns ++ n ∷ []) are (is ∙ sym (place_of_key key index) ∙ ap (λ (l : List Message). position_or_len (same_message (message_of key)) l) so_far)
       ∙ sym (ap (group_numbers same_message) (messages_more keys i key d inside here) ∙ numbers_push same_message same_message_laws (messages (take i keys)) (message_of key))
 
-contexts_are : (a b : Option (List ℕ)) → option_eq bytes_eq a b ≡ true → a ≡ b
+pub contexts_are : (a b : Option (List ℕ)) → option_eq bytes_eq a b ≡ true → a ≡ b
 contexts_are None None h = refl
 contexts_are None (Some y) h = cc
 contexts_are (Some x) None h = cc

@@ -10,12 +10,12 @@ use Rattle.po_reader.specs.Faults.{IsReadFault}
 use Rattle.po_catalog.specs.Joined.{InputEntry, in_input, joined, joined_entries, entries_of}
 use Rattle.po_catalog.specs.Duplicate.{HasNoDuplicate, IsFirstDuplicate, join_out_of_memory}
 use Rattle.po_catalog.specs.declared.duplicate.JoinError.{JoinError}
+use Rattle.po_catalog.proofs.DuplicateLemmas.{entries_of_input}
 use Rattle.po_compile.specs.Accepted.{ReadsDistinct, AreRead, AreAccepted, IsTextFault, IsFaultOfInput, HasJoinedDuplicate, IsTooLarge, IsCompileFault}
 use Rattle.po_compile.specs.CompiledList.{compiled_list}
 use Rattle.po_compile.specs.CompiledMessages.{AreMessagesOf}
 use Rattle.po_compile.specs.Headline.{MessagesAreOne}
 use Rattle.po_compile.specs.declared.options.Options.{Options}
-use Rattle.po_compile.proofs.ReadingLemmas.{entries_of_input}
 
 abbrev pub OneReading : Type 0
 OneReading = (text : List ℕ) (entries others : List TextEntry) → ReadsText text entries → ReadsText text others → entries ≡ others

@@ -14,6 +14,7 @@ use Rattle.po_reader.specs.Faults.{IsReadFault}
 use Rattle.po_catalog.specs.Joined.{InputEntry, in_input, joined, joined_entries, entries_of}
 use Rattle.po_catalog.specs.Duplicate.{HasNoDuplicate, IsFirstDuplicate, duplicate_fault, join_out_of_memory}
 use Rattle.po_catalog.specs.declared.duplicate.JoinError.{JoinError}
+use Rattle.po_catalog.proofs.DuplicateLemmas.{entries_of_input}
 use Rattle.po_compile.specs.Accepted.{ReadsDistinct, AreRead, AreAccepted, IsTextFault, IsFaultOfInput, IsCompileFault}
 use Rattle.po_compile.specs.Compiling.{layout_fault}
 use Rattle.po_compile.specs.CompiledList.{compiled_list}
@@ -21,7 +22,6 @@ use Rattle.po_compile.specs.Headline.{AcceptedOrFault}
 use Rattle.po_compile.specs.declared.options.Options.{Options}
 use Rattle.po_compile.proofs.HeadlineLemmas.{EntriesCanStand, joined_valid}
 use Rattle.po_compile.proofs.MeaningLemmas.{LacksSeparators, entry_lacks_separators}
-use Rattle.po_compile.proofs.ReadingLemmas.{entries_of_input}
 use Rattle.po_compile.proofs.SortLemmas.{compiled_differ, compiled_valid}
 use Rattle.po_compile.proofs.SortedMessages.{messages_exist}
 

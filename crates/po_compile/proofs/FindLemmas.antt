@@ -1,5 +1,5 @@
 -- Looking for the one message under a key, in whatever order the messages stand.
-use Rattle.std.proofs.Common.{◌≡◌, ◌≢◌, ℕ, ◌+◌, ◌-◌, ◌<◌, zero, suc, Bool, true, false, cond, List, [], ◌∷◌, Option, None, Some, refl, sym, ap, ◌∙◌, subst, length, get_or, arith, All, Contains, find, IsPermutation, ⊎_elim}
+use Rattle.std.proofs.Common.{◌≡◌, ◌≢◌, ℕ, ◌-◌, ◌<◌, zero, suc, Bool, true, false, cond, List, [], ◌∷◌, Option, None, Some, refl, sym, ap, ◌∙◌, subst, length, get_or, arith, All, Contains, find, IsPermutation, ⊎_elim}
 use Rattle.std.specs.Str.{bytes_eq}
 use Rattle.std.specs.declared.cmp.Ordering.TheVariants.{Less, Equal}
 use Rattle.std.proofs.Math.ListN.{get_or-map}
@@ -11,6 +11,7 @@ use Rattle.std.proofs.lemmas.List.Sorted.{All-permutation, Contains-permutation}
 use Rattle.std.proofs.lemmas.Slice.Eq.{bytes_eq-Decides}
 use Rattle.mo_file.specs.Message.{Message}
 use Rattle.mo_file.specs.Key.{AreRising, key_at, key_cmp, key_of, keys}
+use Rattle.mo_lookup.proofs.RisingLemmas.{rising_between}
 
 -- what a search finds is in the list and passes the test
 pub record IsFound {X : Type 0} (test : X → Bool) (xs : List X) (x : X) : Type 0 where
@@ -36,21 +37,9 @@ pub find_missed : {X : Type 0} (test : X → Bool) (xs : List X) → find test x
 find_missed test [] e = All-nil (λ y. test y ≡ false)
 find_missed test (x ∷ xs) e = missed_step test x xs (test x) refl e (find_missed test xs)
 
--- a key that rises is below each later one
-rising_apart : (ks : List (List ℕ)) → AreRising ks → (i gap : ℕ) → i + 1 + gap < length ks → key_cmp (key_at ks i) (key_at ks (i + 1 + gap)) ≡ Less
-rising_apart ks rising i zero inside = let e : i + 1 + 0 ≡ i + 1 = omega arith in rw e (rising.next i (omega arith))
-rising_apart ks rising i (suc gap) inside =
-    let e : i + 1 + suc gap ≡ i + 1 + gap + 1 = omega arith in
-    rw e (nat_list_cmp_total.trans (key_at ks i) (key_at ks (i + 1 + gap)) (key_at ks (i + 1 + gap + 1)) (rising_apart ks rising i gap (omega arith)) (rising.next (i + 1 + gap) (omega arith)))
-
-pub rising_below : (ks : List (List ℕ)) → AreRising ks → (i j : ℕ) → i < j → j < length ks → key_cmp (key_at ks i) (key_at ks j) ≡ Less
-rising_below ks rising i j below inside =
-    let e : i + 1 + (j - (i + 1)) ≡ j = omega arith in
-    subst (λ k. key_cmp (key_at ks i) (key_at ks k) ≡ Less) e (rising_apart ks rising i (j - (i + 1)) (omega arith))
-
 pub rising_differ : (ks : List (List ℕ)) → AreRising ks → (i j : ℕ) → i < j → j < length ks → key_at ks i ≢ key_at ks j
 rising_differ ks rising i j below inside same =
-    let less : key_cmp (key_at ks j) (key_at ks j) ≡ Less = subst (λ k. key_cmp k (key_at ks j) ≡ Less) same (rising_below ks rising i j below inside) in
+    let less : key_cmp (key_at ks j) (key_at ks j) ≡ Less = subst (λ k. key_cmp k (key_at ks j) ≡ Less) same (rising_between ks rising i j below inside) in
     let equal : key_cmp (key_at ks j) (key_at ks j) ≡ Equal = tied_itself nat_list_cmp_total (key_at ks j) in
     cc
 

@@ -1,10 +1,9 @@
 -- The fault of a joined list whose live entries are sorted, and repeat.
 use Rattle.std.proofs.Common.{◌≡◌, ◌≢◌, inl, inr, sym, ap, ap₂, subst, ◌∙◌, ℕ, suc, ◌+◌, ◌-◌, ◌<◌, ◌≤◌, nat_lt, Bool, true, false, cond, List, [], ◌∷◌, ◌++◌, length, get_or, take, drop, map, filter, arith, All, AllPairs, IsPermutation}
 use Rattle.std.specs.Str.{bytes_eq}
-use Rattle.std.proofs.Math.Seq.{drop-cons}
 use Rattle.std.proofs.lemmas.Bool.{cases_lt, lt-ltb}
 use Rattle.std.proofs.lemmas.Cmp.{nat_list_eq_equiv}
-use Rattle.std.proofs.lemmas.List.{get_or_default, get_or-map, get_or-take, length-map, length-take, take_all, take-append-drop, take-map}
+use Rattle.std.proofs.lemmas.List.{get_or_default, get_or-map, get_or-take, length-map, length-take, take_all, take-map}
 use Rattle.std.proofs.lemmas.List.Elements.{All-weaker, All-filter}
 use Rattle.std.proofs.lemmas.List.Sorted.{All-permutation, IsPermutation-map}
 use Rattle.std.proofs.lemmas.Map.Keys.{IsDistinct-IsPermutation}
@@ -16,6 +15,7 @@ use Rattle.po_entry.specs.TextEntry.{TextEntry}
 use Rattle.po_entry.specs.Validity.{IsCatalogueEntry}
 use Rattle.po_catalog.specs.Joined.{InputEntry, is_live, entries_of}
 use Rattle.po_catalog.specs.Duplicate.{AllDiffer, IsDuplicateFault, live_entries}
+use Rattle.po_catalog.proofs.DuplicateLemmas.{split_at}
 use Rattle.po_compile.specs.Collected.{LiveMessage, live_message, row_view}
 use Rattle.po_compile.specs.JoinedRows.{AreJoinedRows, InputMessage, input_message, input_view, row_fault}
 use Rattle.po_compile.specs.Repeats.{ArePlaced, AreSorted, IsEarliestRepeat}
@@ -44,9 +44,6 @@ first_rows (row ∷ rows) from place placed =
           let none : place - suc from ≡ 0 = omega (arith, past) in
           ap (λ (t : Bool). cond t (row ∷ filter (is_before place) rows) (filter (is_before place) rows)) dropped ∙ later ∙ ap (λ (n : ℕ). take n rows) none ∙ ap (λ (n : ℕ). take n (row ∷ rows)) (sym short)
     ]
-
-split_at : (entries : List InputEntry) (i : ℕ) (e : InputEntry) → i < length entries → entries ≡ take i entries ++ get_or entries i e ∷ drop (suc i) entries
-split_at entries i e inside = sym (take-append-drop i entries) ∙ ap (λ es. take i entries ++ es) (drop-cons entries i e inside)
 
 first_entry : (entries : List InputEntry) → 0 < length entries → InputEntry
 first_entry [] some = absurd (omega arith)

@@ -1,27 +1,24 @@
 -- Texts that are read have valid entries, and so has their joined list.
-use Rattle.std.proofs.Common.{ℕ, ◌+◌, ◌<◌, ◌^◌, Bool, true, false, not, ◌||◌, List, [], ◌∷◌, ◌++◌, sym, ap, ◌∙◌, subst, length, map, All}
+use Rattle.std.proofs.Common.{ℕ, ◌+◌, ◌<◌, ◌^◌, Bool, false, ◌||◌, List, [], ◌∷◌, ◌++◌, sym, ap, ◌∙◌, subst, length, map, All}
 use Rattle.std.specs.List.{AllZip, list_any}
 use Rattle.std.proofs.lemmas.List.{map-append}
-use Rattle.std.proofs.lemmas.List.Elements.{All-nil, All-append, All-filter}
+use Rattle.std.proofs.lemmas.List.Elements.{All-nil, All-append}
 use Rattle.mo_file.specs.Layout.{layout}
 use Rattle.mo_file.specs.Laws.{LayoutIsMoFile}
 use Rattle.po_entry.specs.TextEntry.{TextEntry}
 use Rattle.po_entry.specs.ReadsText.{ReadsText}
 use Rattle.po_entry.specs.Validity.{IsCatalogueEntry}
 use Rattle.po_catalog.specs.Joined.{InputEntry, in_input, is_live_header, kept_entries, joined_from, joined_entries, entries_of}
+use Rattle.po_catalog.proofs.JoiningLemmas.{kept_valid}
+use Rattle.po_catalog.proofs.DuplicateLemmas.{entries_of_input}
 use Rattle.po_compile.specs.Accepted.{ReadsDistinct}
 use Rattle.po_compile.specs.CompiledList.{compiled_list}
 use Rattle.po_compile.specs.Headline.{LookUpMeansEntries, MessagesAreOne, MessagesMeanEntries}
-use Rattle.po_compile.proofs.ReadingLemmas.{entries_of_input}
 use Rattle.po_compile.proofs.SortLemmas.{compiled_valid}
 
 -- a text that reads as entries has entries that a catalogue may hold
 abbrev pub EntriesCanStand : Type 0
 EntriesCanStand = (text : List ℕ) (entries : List TextEntry) → ReadsText text entries → All IsCatalogueEntry entries
-
-kept_valid : (headed : Bool) (entries : List TextEntry) → All IsCatalogueEntry entries → All IsCatalogueEntry (kept_entries headed entries)
-kept_valid true entries valid = All-filter (λ e. not (is_live_header e)) IsCatalogueEntry entries valid
-kept_valid false entries valid = valid
 
 -- so does the joined list of texts that are read
 pub joined_valid : EntriesCanStand → (input : ℕ) (headed : Bool) (texts : List (List ℕ)) (catalogues : List (List TextEntry)) → AllZip ReadsDistinct texts catalogues

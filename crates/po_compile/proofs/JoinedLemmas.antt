@@ -5,19 +5,20 @@ use Rattle.std.specs.List.{AllZip, list_any}
 use Rattle.std.proofs.lemmas.Bool.{ne_eqb}
 use Rattle.std.proofs.lemmas.List.{map-append, drop_all}
 use Rattle.std.proofs.lemmas.Slice.Zip.{AllZip-long}
-use Rattle.std.proofs.lemmas.List.Elements.{All-nil, All-append, All-filter, filter-append}
+use Rattle.std.proofs.lemmas.List.Elements.{All-nil, All-append, filter-append}
 use Rattle.mo_file.specs.Key.{query_key}
 use Rattle.po_entry.specs.TextEntry.{TextEntry}
 use Rattle.po_entry.specs.Header.{is_header}
 use Rattle.po_entry.specs.Validity.{IsCatalogueEntry}
 use Rattle.po_catalog.specs.Joined.{InputEntry, entries_of, in_input, is_live, is_live_header, joined, joined_entries, joined_from, kept_entries}
 use Rattle.po_catalog.specs.Duplicate.{live_entries}
+use Rattle.po_catalog.proofs.JoiningLemmas.{kept_valid}
+use Rattle.po_catalog.proofs.DuplicateLemmas.{entries_of_input}
 use Rattle.po_compile.specs.Collected.{HoldsEntries, LiveMessage, lengths_of, live_message, row_view}
 use Rattle.po_compile.specs.JoinedRows.{AddsRows, AreJoinedRows, InputMessage, in_input_message, input_message, input_view, is_joined}
 use Rattle.po_compile.specs.declared.collecting.Collected.{Collected}
 use Rattle.po_compile.specs.declared.collecting.Lengths.{Lengths}
 use Rattle.po_compile.specs.declared.row.Row.{Row}
-use Rattle.po_compile.proofs.ReadingLemmas.{entries_of_input}
 
 -- only a header has an empty key
 no_key : (context id : List ℕ) → (length (context ++ 4 ∷ id) == 0) ≡ false
@@ -139,11 +140,6 @@ rows_more use_fuzzy catalogues inputs k headed headed_then collected old new h i
         placed = added.placed so_far.are.placed;
       };
     }
-
--- the entries of a joined list can stand in a catalogue
-kept_valid : (headed : Bool) (entries : List TextEntry) → All IsCatalogueEntry entries → All IsCatalogueEntry (kept_entries headed entries)
-kept_valid true entries valid = All-filter (λ e. not (is_live_header e)) IsCatalogueEntry entries valid
-kept_valid false entries valid = valid
 
 -- the entries that the inputs from one on add
 joined_valid : (use_fuzzy : Bool) (k : ℕ) (headed : Bool) (catalogues : List (List TextEntry)) (inputs : List Collected) → AllZip (HoldsEntries use_fuzzy) catalogues inputs → All IsCatalogueEntry (entries_of (joined_from k headed catalogues))

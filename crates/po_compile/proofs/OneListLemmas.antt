@@ -7,9 +7,9 @@ use Rattle.std.proofs.lemmas.List.{length-map, get_or_default}
 use Rattle.std.proofs.lemmas.List.Sorted.{Contains-permutation, IsPermutation-sym, IsPermutation-trans}
 use Rattle.mo_file.specs.Message.{Message}
 use Rattle.mo_file.specs.Key.{AreRising, key_at, key_cmp, key_of, keys}
+use Rattle.mo_lookup.proofs.RisingLemmas.{rising_between}
 use Rattle.po_compile.specs.CompiledMessages.{messages_of_entries}
 use Rattle.po_compile.specs.Headline.{MessagesAreOne}
-use Rattle.po_compile.proofs.FindLemmas.{rising_below}
 
 -- the key of the first is below that of the second
 abbrev pub IsBelow : Message → Message → Type 0
@@ -61,7 +61,7 @@ key_at_message messages i d inside =
 all_below : (messages : List Message) → AreRising (keys messages) → AllPairs IsBelow messages
 all_below messages rising i j d below inside =
     let key : Message → List ℕ = λ m. key_of m.original in
-    let less = rising_below (keys messages) rising i j below (omega (arith, length-map messages key)) in
+    let less = rising_between (keys messages) rising i j below (omega (arith, length-map messages key)) in
     ap (λ k. key_cmp k (key (get_or messages j d))) (sym (key_at_message messages i d (omega arith)))
     ∙ ap (key_cmp (key_at (keys messages) i)) (sym (key_at_message messages j d inside)) ∙ less
 

@@ -1,5 +1,5 @@
 -- The earliest live entry that repeats an earlier one, found in sorted rows.
-use Rattle.std.proofs.Common.{◌≡◌, ◌≢◌, inl, inr, refl, sym, ap, ap₂, subst, subst₂, ◌∙◌, ℕ, suc, ◌+◌, ◌<◌, ◌≤◌, nat_lt, Bool, true, false, cond, List, [], ◌∷◌, ◌++◌, Option, None, Some, IfSome, length, get_or, map, filter, arith, All, AllPairs, length-append}
+use Rattle.std.proofs.Common.{◌≡◌, ◌≢◌, inl, inr, refl, sym, ap, ap₂, subst, subst₂, ◌∙◌, ℕ, suc, ◌+◌, ◌<◌, ◌≤◌, nat_lt, Bool, true, false, cond, List, [], ◌∷◌, ◌++◌, Option, None, Some, length, get_or, map, filter, arith, All, AllPairs, length-append}
 use Rattle.std.specs.Ordering.{is_lt, nat_cmp, ordering_then, ordering_reverse}
 use Rattle.std.specs.declared.cmp.Ordering.{Ordering}
 use Rattle.std.specs.declared.cmp.Ordering.TheVariants.{Less, Equal, Greater}
@@ -10,6 +10,7 @@ use Rattle.std.proofs.lemmas.List.{get_or_append_left, get_or_default, get_or-ma
 use Rattle.std.proofs.lemmas.List.Elements.{All-nil, All-cons, All-map, All-weaker}
 use Rattle.std.proofs.lemmas.List.Kept.{AllPairs-cons}
 use Rattle.mo_file.specs.Key.{AreRising, key_cmp}
+use Rattle.mo_lookup.proofs.RisingLemmas.{less_is_other}
 use Rattle.po_compile.specs.declared.row.Row.{Row}
 use Rattle.po_compile.specs.Repeats.{row_cmp, ArePlaced, AreSorted, IsStep, IsEarlier, IsEarliestRepeat}
 
@@ -127,10 +128,6 @@ module _ (rows : List Row) (i p : ℕ) (a b : Row) (next : i ≡ suc p) (inside 
         ];
       })
 
-pub found_inside : (rows : List Row) (i : ℕ) (found : Option ℕ) → IsFoundUpTo rows i found → IfSome found (λ index. index < length rows)
-found_inside rows i None h = tt
-found_inside rows i (Some index) h = h.inside
-
 first_row : (rows : List Row) → 0 < length rows → Row
 first_row [] some = absurd (omega arith)
 first_row (row ∷ rows) some = row
@@ -144,16 +141,6 @@ found_rising rows i None past h none = record {
       let x = first_row rows (omega (arith, long)) in
       let next : k + 1 ≡ suc k = omega arith in
       ap₂ key_cmp (get_or-map key rows k x [] (omega (arith, long))) (get_or-map key rows (k + 1) x [] (omega (arith, long)) ∙ ap (λ (n : ℕ). key (get_or rows n x)) next) ∙ h k x (omega (arith, long));
-}
-
-pub found_earliest : (rows : List Row) (i : ℕ) (found : Option ℕ) → length rows ≤ i → IsFoundUpTo rows i found → IfSome found (IsEarliestRepeat rows (length rows))
-found_earliest rows i None past h = tt
-found_earliest rows i (Some index) past h = record {
-  before = h.before;
-  next = h.next;
-  inside = h.inside;
-  same = h.same;
-  earliest = λ k d within. h.earliest k d (omega (arith, past, within));
 }
 
 -- the places of the sorted rows
@@ -210,11 +197,6 @@ kept_above place a (b ∷ rows) h =
           (All-weaker (Below b) (Below a) (λ c below. subst (λ (k : List ℕ). key_cmp k (key c) ≡ Less) (sym same.0) below) kept later)
     ]
 
-less_differs : (k l : List ℕ) → key_cmp k l ≡ Less → k ≢ l
-less_differs k l less same =
-    let equal : key_cmp k l ≡ Equal = ap (key_cmp k) (sym same) ∙ key_itself k in
-    absurd (cc (less, equal))
-
 -- and so their keys differ
 kept_keys : (place : ℕ) (rows : List Row) → Steps place rows → AllPairs (λ k l. k ≢ l) (map key (filter (is_before place) rows))
 kept_keys place [] h = λ i j d below inside. absurd (omega arith)
@@ -226,7 +208,7 @@ kept_keys place (a ∷ rows) h = one (is_before place a) (kept_keys place rows (
   one true more =
       AllPairs-cons (λ k l. k ≢ l) (key a) (map key (filter (is_before place) rows))
       (All-map (λ l. key a ≢ l) key (filter (is_before place) rows)
-      (All-weaker (Below a) (λ (b : Row). key a ≢ key b) (λ b less. less_differs (key a) (key b) less) (filter (is_before place) rows) (kept_above place a rows h))) more
+      (All-weaker (Below a) (λ (b : Row). key a ≢ key b) (λ b less. less_is_other (key a) (key b) less) (filter (is_before place) rows) (kept_above place a rows h))) more
   one false more = more
 
 pub keys_before : (rows : List Row) (index : ℕ) (d : Row) → IsEarliestRepeat rows (length rows) index → AllPairs (λ k l. k ≢ l) (map key (filter (is_before (get_or rows index d).index) rows))

@@ -1,8 +1,7 @@
 -- The rows of live entries, sorted by their keys: neighbours show duplicates, and those that are
 -- compiled are the messages.
 use Rattle.std.proofs.Common.{◌≡◌, ◌≢◌, refl, sym, ap, ap₂, subst, ◌∙◌, ℕ, zero, suc, ◌<◌, Bool, true, false, ◌&&◌, cond, List, [], ◌∷◌, length, get_or, map, filter, arith, add-one, All, AllPairs, IsPermutation, count_by}
-use Rattle.std.specs.Ordering.{ordering_reverse}
-use Rattle.std.specs.declared.cmp.Ordering.TheVariants.{Less, Greater}
+use Rattle.std.specs.declared.cmp.Ordering.TheVariants.{Less}
 use Rattle.std.proofs.lemmas.Cmp.{nat_list_cmp_total, nat_list_eq_equiv}
 use Rattle.std.proofs.lemmas.List.{length-map}
 use Rattle.std.proofs.Math.ListN.{get_or-map}
@@ -19,6 +18,7 @@ use Rattle.po_entry.specs.TextEntry.{TextEntry}
 use Rattle.po_entry.specs.Validity.{IsCatalogueEntry}
 use Rattle.po_catalog.specs.Joined.{is_live}
 use Rattle.po_catalog.specs.Duplicate.{AllDiffer, HasNoDuplicate, IsSameMessage}
+use Rattle.mo_lookup.proofs.RisingLemmas.{less_is_other}
 use Rattle.po_compile.specs.Collected.{LiveMessage, live_message, row_view, IsSortedOf}
 use Rattle.po_compile.specs.JoinedRows.{counts_of}
 use Rattle.std.proofs.lemmas.List.Sums.{length-filter}
@@ -123,17 +123,11 @@ kept_messages use_fuzzy entries sorted valid permuted rising =
       rising = record { next = λ i inside. rw add-one (next_rises (filter compiled_view sorted) i (All-filter compiled_view IsKeyed sorted keyed) (filter_rises sorted (rising_rises sorted rising)) (omega (arith, inside))) };
     }
 
-less_differs : (k l : List ℕ) → key_cmp k l ≡ Less → k ≢ l
-less_differs k l less same =
-    let self : key_cmp k k ≡ Less = rw (ap (λ x. key_cmp k x) same) less in
-    let reversed : key_cmp k k ≡ Greater = nat_list_cmp_total.antisymm k k ∙ ap ordering_reverse self in
-    absurd (cc (self, reversed))
-
 distinct_keys : (ms : List LiveMessage) → Rises ms → AllPairs (λ k l. k ≢ l) (map key_view ms)
 distinct_keys [] h = λ i j d below inside. absurd (omega arith)
 distinct_keys (m ∷ ms) h =
     AllPairs-cons (λ k l. k ≢ l) m.key (map key_view ms)
-    (All-map (λ l. m.key ≢ l) key_view ms (All-weaker (λ (n : LiveMessage). key_cmp m.key n.key ≡ Less) (λ (n : LiveMessage). m.key ≢ n.key) (λ n less. less_differs m.key n.key less) ms h.0)) (distinct_keys ms h.1)
+    (All-map (λ l. m.key ≢ l) key_view ms (All-weaker (λ (n : LiveMessage). key_cmp m.key n.key ≡ Less) (λ (n : LiveMessage). m.key ≢ n.key) (λ n less. less_is_other m.key n.key less) ms h.0)) (distinct_keys ms h.1)
 
 same_key : (a b : TextEntry) → IsSameMessage a b → key_of_entry a ≡ key_of_entry b
 same_key a b same = ap₂ query_key same.0 same.1

@@ -8,6 +8,7 @@ use Rattle.std.proofs.lemmas.List.{append_cancel_left, drop_at}
 use Rattle.std.proofs.lemmas.List.Elements.{All-head, All-tail}
 use Rattle.std.proofs.lemmas.Slice.Eq.{starts_is}
 use Rattle.po_syntax.specs.Runs.{FailsFirst, parts_of}
+use Rattle.po_syntax.proofs.SpeltKeywords.{or_step}
 use Rattle.po_entry.specs.Header.{after_charset, ends_name, charset_of}
 use Rattle.po_entry.specs.Charset.{EndsName, space, tab, carriage_return, line_feed, semicolon, IsAfterName, at_end, at_byte, IsAround, NamesCharset, unnamed, named}
 
@@ -60,10 +61,6 @@ found (b ∷ text) =
       | inl e ↦ subst (Found (b ∷ text)) (sym (cond-true (starts (b ∷ text)) _ _ e)) (inr ([], starts_prefix (b ∷ text) e, λ other more h. omega arith))
       | inr e ↦ subst (Found (b ∷ text)) (sym (cond-false (starts (b ∷ text)) _ _ e)) (found_more b text (after_charset text) e (found text))
     ]
-
-or_step : {P : Type 0} (x y : Bool) → (x ≡ true → P) → (y ≡ true → P) → (x || y) ≡ true → P
-or_step true y p q e = p refl
-or_step false y p q e = q e
 
 ends_said : (b : ℕ) → ends_name b ≡ true → EndsName b
 ends_said b e =

@@ -21,9 +21,6 @@ of_option P x y a e h = rw (← e) h
 pub of_one : {X : Type 0} (P : X → Type 0) (x : X) (a : Bool) → (IsTrue a ↔ P x) → (IsTrue a ↔ All P (x ∷ []))
 of_one P x a h = (λ t. All-cons P x [] (h.0 t) (All-nil P), λ all. h.1 (All-head P x [] all))
 
-pub of_none : {X : Type 0} (P : X → Type 0) → (IsTrue true ↔ All P [])
-of_none P = (λ _. All-nil P, λ _. refl)
-
 pub on_option : {X : Type 0} (P : X → Type 0) (o : Option X) → (All P (option_to_list o) ↔ IfSome o P)
 on_option P None = (λ _. tt, λ _. All-nil P)
 on_option P (Some x) = (λ all. All-head P x [] all, λ h. All-cons P x [] h (All-nil P))

@@ -1,39 +1,22 @@
 -- The references and flags that are found in comment lines are those that the lines list.
-use Rattle.std.proofs.Common.{◌≡◌, ◌≢◌, inl, inr, ◌∙◌, refl, sym, ap, subst, ℕ, Bool, true, false, not, ◌||◌, ◌==◌, cond, List, [], ◌∷◌, ◌++◌, append_assoc, append-nil, length, take, drop, map, filter, fold, codes, bytes_eq, All, arith}
+use Rattle.std.proofs.Common.{◌≡◌, ◌≢◌, inl, inr, ◌∙◌, refl, sym, ap, subst, ℕ, true, false, not, ◌||◌, cond, List, [], ◌∷◌, ◌++◌, append_assoc, append-nil, length, take, map, filter, fold, codes, bytes_eq, All, arith}
 use Rattle.std.specs.Prelude.{◌↔◌, Contains}
 use Rattle.std.specs.List.{list_any, prefix_len}
 use Rattle.std.proofs.lemmas.Bool.{cases_Bool, or_from, or_left, or_right, cond-true, cond-false, eqb-true, eqb-false, ne_eqb, both_ways, false_from_ne_true}
-use Rattle.std.proofs.Math.Seq.{drop-append_seam}
 use Rattle.std.proofs.lemmas.List.Elements.{All-append, All-cons, All-nil, Contains-append_left, Contains-push, Contains-push_cases}
 use Rattle.std.proofs.lemmas.List.Folds.{list_any_at}
 use Rattle.std.proofs.lemmas.List.Splits.{slice_split_none, slice_split_at, slice_split-cons_yes}
 use Rattle.std.proofs.lemmas.List.Sums.{fold_push}
 use Rattle.std.proofs.lemmas.Map.Views.{Contains-from_any}
 use Rattle.std.proofs.lemmas.Slice.Eq.{bytes_eq-Decides}
-use Rattle.po_syntax.specs.Runs.{FailsFirst, parts_of, run_length, end_parts, kept_is, from_end}
-use Rattle.po_syntax.specs.Spelling.{IsBlank, space, tab, vertical_tab, form_feed, carriage_return}
+use Rattle.po_syntax.specs.Runs.{FailsFirst, parts_of, end_parts, kept_is, from_end}
+use Rattle.po_syntax.specs.Spelling.{IsBlank}
 use Rattle.po_syntax.specs.Token.{is_blank, skip_blanks}
+use Rattle.po_syntax.proofs.SpeltKeywords.{blank_says, blank_passes, skip_prefix}
 use Rattle.po_entry.specs.Bytes.{Lacks, without_end_blanks, trimmed}
 use Rattle.po_entry.specs.Parts.{CommentText}
 use Rattle.po_entry.specs.Comments.{is_not_empty, listed_references, is_comma, listed_flags, all_listed_flags, is_fuzzy_flag, with_flag, flags_of}
 use Rattle.po_entry.specs.Listed.{EndsReference, ListsReferences, no_text, blank, reference, IsWithoutBlanks, NamesFlag, no_flag, flag, ListsFlags, last, more, KeepsFlags, none, first, fuzzy, repeated}
-
-or_step : {P : Type 0} (x y : Bool) → (x ≡ true → P) → (y ≡ true → P) → (x || y) ≡ true → P
-or_step true y p q e = p refl
-or_step false y p q e = q e
-
-blank_says : (b : ℕ) → is_blank b ≡ true → IsBlank b
-blank_says b e =
-    or_step (b == 32 || b == 9 || b == 11 || b == 12) (b == 13) (or_step (b == 32 || b == 9 || b == 11) (b == 12) (or_step (b == 32 || b == 9) (b == 11) (or_step (b == 32) (b == 9)
-    (λ h. subst IsBlank (sym (eqb-true b 32 h)) space) (λ h. subst IsBlank (sym (eqb-true b 9 h)) tab)) (λ h. subst IsBlank (sym (eqb-true b 11 h)) vertical_tab))
-    (λ h. subst IsBlank (sym (eqb-true b 12 h)) form_feed)) (λ h. subst IsBlank (sym (eqb-true b 13 h)) carriage_return) e
-
-blank_passes : {b : ℕ} → IsBlank b → is_blank b ≡ true
-blank_passes space = refl
-blank_passes tab = refl
-blank_passes vertical_tab = refl
-blank_passes form_feed = refl
-blank_passes carriage_return = refl
 
 no_blank : (b : ℕ) → is_blank b ≡ false → IsBlank b → ⊥
 no_blank b e h = both_ways (is_blank b) e (blank_passes h)
@@ -98,11 +81,6 @@ pub references_listed : (text : List ℕ) (references : List (List ℕ)) → (re
 references_listed text references = (λ e. subst (ListsReferences text) (sym e) (lists text [] (All-nil (λ c. is_blank c ≡ false))), λ h. are_elements h)
 
 -- texts without the blanks at their ends
-
-skip_prefix : (blanks rest : List ℕ) → All IsBlank blanks → FailsFirst is_blank rest → skip_blanks (blanks ++ rest) ≡ rest
-skip_prefix blanks rest all other =
-    let passes : All (λ b. is_blank b ≡ true) blanks = λ k d below. blank_passes (all k d below) in
-    ap (λ n. drop n (blanks ++ rest)) (run_length is_blank blanks rest passes other) ∙ drop-append_seam blanks rest
 
 no_first_blank : (text : List ℕ) → FailsFirst is_blank text → (b : ℕ) (rest : List ℕ) → text ≡ b ∷ rest → IsBlank b → ⊥
 no_first_blank [] fails b rest e is = cc

@@ -11,12 +11,12 @@ use Rattle.po_syntax.specs.declared.item.CommentKind.{CommentKind}
 use Rattle.po_syntax.specs.declared.item.CommentKind.TheVariants.{Translator, Extracted, Reference, Flags}
 use Rattle.po_entry.specs.TextEntry.{TextEntry}
 use Rattle.po_catalog.specs.Joined.{is_live}
+use Rattle.po_catalog.proofs.FirstOnes.{fold_push, or_assoc, or_false}
 use Rattle.po_merge.specs.declared.input.MergeOptions.{MergeOptions}
 use Rattle.po_merge.specs.Inputs.{NamedEntry}
 use Rattle.po_merge.specs.MergedEntry.{collected, comment_of, ended, first_of, first_with, form_count, has_plural, has_previous, joined_form, joined_forms, marked, merged_entry, first_translated, texts_of, translations, with_others}
 use Rattle.po_merge.specs.Merged.{is_below, is_wanted}
 use Rattle.po_merge.specs.EntryLaws.{FormsAreJoined, JoinedIsFuzzy, KeptByCount, ObsoleteWhereNoneIsLive, PluralOfFirst, PreviousOfFirst, TextsInOrder, TextsOfAll, has_text, input_line}
-use Rattle.po_merge.proofs.FirstOnes.{fold_push, or_assoc, or_false}
 use Rattle.po_merge.proofs.Sets.{has_others}
 
 -- the texts of one kind of a merged entry

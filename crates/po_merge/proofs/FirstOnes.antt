@@ -7,27 +7,12 @@ use Rattle.std.proofs.lemmas.List.Folds.{list_any-append}
 use Rattle.std.proofs.lemmas.List.{map-append}
 use Rattle.std.proofs.lemmas.List.Elements.{filter-append}
 use Rattle.std.proofs.lemmas.Bool.{false≢true}
+use Rattle.po_catalog.proofs.FirstOnes.{any_alike, any_first_ones, fold_push, or_false}
 use Rattle.po_merge.specs.Groups.{with_new, first_ones}
-
-pub or_false : (b : Bool) → (b || false) ≡ b
-or_false true = refl
-or_false false = refl
-
-pub or_true : (b : Bool) → (b || true) ≡ true
-or_true true = refl
-or_true false = refl
-
-pub or_assoc : (a b c : Bool) → ((a || b) || c) ≡ (a || (b || c))
-or_assoc true b c = refl
-or_assoc false b c = refl
 
 pub or_parts : (a b : Bool) → (a || b) ≡ false → (a ≡ false) × (b ≡ false)
 or_parts true b e = absurd (false≢true (sym e))
 or_parts false b e = (refl, e)
-
-pub fold_push : {A B : Type 0} (f : B → A → B) (b : B) (xs : List A) (x : A) → fold f b (xs ++ x ∷ []) ≡ f (fold f b xs) x
-fold_push f b [] x = refl
-fold_push f b (y ∷ xs) x = fold_push f (f b y) xs x
 
 -- no two elements are alike
 abbrev pub Apart : {X : Type 0} → (X → X → Bool) → List X → Type 0
@@ -39,25 +24,6 @@ abbrev pub group_of : {X : Type 0} → (X → X → Bool) → List X → X → L
 group_of alike xs first = filter (λ x. alike x first) xs
 
 module _ {X : Type 0} (alike : X → X → Bool) (laws : IsEquivalence alike) where
-  pub any_alike : (a b : X) → alike a b ≡ true → (xs : List X) → list_any (alike a) xs ≡ list_any (alike b) xs
-  any_alike a b e [] = refl
-  any_alike a b e (x ∷ xs) = ap₂ (λ (s t : Bool). s || t) (laws.congr a b x e) (any_alike a b e xs)
-
-  any_with_new : (e : X) (xs : List X) (x : X) → list_any (alike e) (with_new alike xs x) ≡ (list_any (alike e) xs || alike e x)
-  any_with_new e xs x = found (list_any (alike x) xs) refl (alike e x) refl where
-    found : (b : Bool) → list_any (alike x) xs ≡ b → (c : Bool) → alike e x ≡ c → list_any (alike e) (if b then xs else xs ++ x ∷ []) ≡ (list_any (alike e) xs || c)
-    found true h true g = any_alike e x g xs ∙ h ∙ sym (or_true (list_any (alike e) xs))
-    found true h false g = sym (or_false (list_any (alike e) xs))
-    found false h c g = list_any-append (alike e) xs (x ∷ []) ∙ ap (λ (t : Bool). list_any (alike e) xs || t) (or_false (alike e x) ∙ g)
-
-  any_fold : (e : X) (xs ys : List X) → list_any (alike e) (fold (with_new alike) xs ys) ≡ (list_any (alike e) xs || list_any (alike e) ys)
-  any_fold e xs [] = sym (or_false (list_any (alike e) xs))
-  any_fold e xs (y ∷ ys) = any_fold e (with_new alike xs y) ys ∙ ap (λ (t : Bool). t || list_any (alike e) ys) (any_with_new e xs y) ∙ or_assoc (list_any (alike e) xs) (alike e y) (list_any (alike e) ys)
-
-  -- an element is like a first one exactly where it is like one of the list
-  pub any_first_ones : (e : X) (xs : List X) → list_any (alike e) (first_ones alike xs) ≡ list_any (alike e) xs
-  any_first_ones e xs = any_fold e [] xs
-
   apart_push : (xs : List X) (x : X) → Apart alike xs → list_any (alike x) xs ≡ false → Apart alike (xs ++ x ∷ [])
   apart_push [] x h new = (refl, tt)
   apart_push (y ∷ ys) x h new =
@@ -100,7 +66,7 @@ module _ {X : Type 0} (alike : X → X → Bool) (laws : IsEquivalence alike) wh
         → (position_or_len (alike x) fs < length fs
         → map (group_of alike (xs ++ x ∷ [])) fs ≡ set (map (group_of alike xs) fs) (position_or_len (alike x) fs) (get_or (map (group_of alike xs) fs) (position_or_len (alike x) fs) d ++ x ∷ []))
         → P i
-    found true a q more = subst P q (ap₂ (λ (g : List X) (gs : List (List X)). g ∷ gs) (more_of xs x f a) (skipped xs x fs (any_alike x f a fs ∙ h.0)))
+    found true a q more = subst P q (ap₂ (λ (g : List X) (gs : List (List X)). g ∷ gs) (more_of xs x f a) (skipped xs x fs (any_alike alike laws x f a fs ∙ h.0)))
     found false a q more =
         let suc_is : suc (position_or_len (alike x) fs) ≡ i = omega (arith, q) in
         let here : group_of alike (xs ++ x ∷ []) f ≡ group_of alike xs f = filter-append (λ y. alike y f) xs (x ∷ []) ∙ ap (λ (b : Bool). group_of alike xs f ++ cond b (x ∷ []) []) a ∙ append-nil (group_of alike xs f) in
@@ -117,7 +83,7 @@ module _ {X : Type 0} (alike : X → X → Bool) (laws : IsEquivalence alike) wh
       → map (group_of alike (xs ++ x ∷ [])) (first_ones alike xs ++ x ∷ []) ≡ map (group_of alike xs) (first_ones alike xs) ++ (x ∷ []) ∷ []
   grouped_new xs x h =
       let F = first_ones alike xs in
-      let alone : group_of alike (xs ++ x ∷ []) x ≡ x ∷ [] = more_of xs x x (laws.refl x) ∙ ap (λ (l : List X). l ++ x ∷ []) (none_alike x xs (sym (any_first_ones x xs) ∙ h)) in
+      let alone : group_of alike (xs ++ x ∷ []) x ≡ x ∷ [] = more_of xs x x (laws.refl x) ∙ ap (λ (l : List X). l ++ x ∷ []) (none_alike x xs (sym (any_first_ones alike laws x xs) ∙ h)) in
       map-append (group_of alike (xs ++ x ∷ [])) F (x ∷ []) ∙ ap₂ (λ (a : List (List X)) (b : List X). a ++ b ∷ []) (skipped xs x F h) alone
 
   pub firsts_same : (xs : List X) (x : X) → list_any (alike x) (first_ones alike xs) ≡ true → first_ones alike (xs ++ x ∷ []) ≡ first_ones alike xs
@@ -125,21 +91,6 @@ module _ {X : Type 0} (alike : X → X → Bool) (laws : IsEquivalence alike) wh
 
   pub firsts_more : (xs : List X) (x : X) → list_any (alike x) (first_ones alike xs) ≡ false → first_ones alike (xs ++ x ∷ []) ≡ first_ones alike xs ++ x ∷ []
   firsts_more xs x h = fold_push (with_new alike) [] xs x ∙ ap (λ (b : Bool). if b then first_ones alike xs else first_ones alike xs ++ x ∷ []) h
-
-module _ {X : Type 0} (test : X → Bool) where
-  pub place_within : (xs : List X) → list_any test xs ≡ true → position_or_len test xs < length xs
-  place_within [] h = cc
-  place_within (x ∷ xs) h = found (test x) (place_within xs) h where
-    found : (b : Bool) → (list_any test xs ≡ true → position_or_len test xs < length xs) → (b || list_any test xs) ≡ true → cond (not b) (1 + position_or_len test xs) 0 < length (x ∷ xs)
-    found true rest e = omega arith
-    found false rest e = let less = rest e in omega (arith, less)
-
-  pub place_past : (xs : List X) → list_any test xs ≡ false → position_or_len test xs ≡ length xs
-  place_past [] h = refl
-  place_past (x ∷ xs) h = found (test x) (place_past xs) h where
-    found : (b : Bool) → (list_any test xs ≡ false → position_or_len test xs ≡ length xs) → (b || list_any test xs) ≡ false → cond (not b) (1 + position_or_len test xs) 0 ≡ length (x ∷ xs)
-    found true rest e = cc
-    found false rest e = let same = rest e in omega (arith, same)
 
 module _ {X Y : Type 0} (f : X → Y) (alike : Y → Y → Bool) where
   any_map : (y : Y) (xs : List X) → list_any (alike y) (map f xs) ≡ list_any (λ x. alike y (f x)) xs

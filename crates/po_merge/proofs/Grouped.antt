@@ -7,11 +7,12 @@ use Rattle.po_catalog.specs.Message.{Message, entry_message, same_message}
 use Rattle.po_catalog.specs.MessageView.{message_of, messages}
 use Rattle.po_catalog.specs.declared.message_index.MessageKey.{MessageKey}
 use Rattle.po_catalog.proofs.MessageIndex.{same_message_laws}
+use Rattle.po_catalog.proofs.FirstOnes.{found_within, unfound}
 use Rattle.po_merge.specs.declared.definition.NamedEntry.{NamedEntry as BorrowedEntry}
 use Rattle.po_merge.specs.Inputs.{NamedEntry}
 use Rattle.po_merge.specs.InputsView.{named_entry, named_entries}
 use Rattle.po_merge.specs.Grouping.{named_messages}
-use Rattle.po_merge.proofs.FirstOnes.{firsts_same, firsts_more, place_within, place_past}
+use Rattle.po_merge.proofs.FirstOnes.{firsts_same, firsts_more}
 
 abbrev message : NamedEntry → Message
 message e = entry_message e.entry
@@ -25,7 +26,7 @@ module _ (ms : List Message) (i : ℕ) (d : Message) (number : ℕ) (inside : i 
   pub count_first : number ≡ length F → length (first_ones same_message (take (i + 1) ms)) ≡ length F + 1
   count_first last = found (list_any (same_message (get_or ms i d)) F) refl where
     found : (b : Bool) → list_any (same_message (get_or ms i d)) F ≡ b → length (first_ones same_message (take (i + 1) ms)) ≡ length F + 1
-    found true met = let less = place_within (same_message (get_or ms i d)) F met in absurd (omega (arith, less, is, last))
+    found true met = let less = found_within (same_message (get_or ms i d)) F met in absurd (omega (arith, less, is, last))
     found false unmet =
         ap (λ l. length (first_ones same_message l)) (take_more ms i d inside) ∙ ap length (firsts_more same_message same_message_laws (take i ms) (get_or ms i d) unmet) ∙ length-append F (get_or ms i d ∷ [])
 
@@ -34,9 +35,9 @@ module _ (ms : List Message) (i : ℕ) (d : Message) (number : ℕ) (inside : i 
   count_later other = found (list_any (same_message (get_or ms i d)) F) refl where
     found : (b : Bool) → list_any (same_message (get_or ms i d)) F ≡ b → (number < length F) × (length (first_ones same_message (take (i + 1) ms)) ≡ length F)
     found true met =
-        let less = place_within (same_message (get_or ms i d)) F met in
+        let less = found_within (same_message (get_or ms i d)) F met in
         (omega (arith, less, is), ap (λ l. length (first_ones same_message l)) (take_more ms i d inside) ∙ ap length (firsts_same same_message same_message_laws (take i ms) (get_or ms i d) met))
-    found false unmet = absurd (other (is ∙ place_past (same_message (get_or ms i d)) F unmet))
+    found false unmet = absurd (other (is ∙ unfound (same_message (get_or ms i d)) F unmet))
 
 -- the entries, with one more
 pub entries_taken : (ds : List BorrowedEntry) (i : ℕ) (d : BorrowedEntry) → i < length ds → d ≡ get_or ds i d → take (i + 1) (named_entries ds) ≡ take i (named_entries ds) ++ named_entry d ∷ []

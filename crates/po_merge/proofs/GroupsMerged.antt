@@ -14,6 +14,7 @@ use Rattle.po_entry.specs.Header.{HasAdmittedCharset}
 use Rattle.po_entry.specs.TextEntry.{TextEntry}
 use Rattle.po_entry.specs.Validity.{IsRefusedEntry}
 use Rattle.po_catalog.specs.Joined.{is_live}
+use Rattle.po_catalog.proofs.FirstOnes.{any_first_ones}
 use Rattle.po_merge.specs.declared.definition.NamedEntry.{NamedEntry as BorrowedEntry}
 use Rattle.po_merge.specs.declared.input.MergeOptions.{MergeOptions}
 use Rattle.po_merge.specs.Inputs.{NamedEntry}
@@ -22,7 +23,7 @@ use Rattle.po_merge.specs.Groups.{same_message, first_ones, groups, definitions}
 use Rattle.po_merge.specs.Grouping.{IsDefinition, IsGroup, group_entries}
 use Rattle.po_merge.specs.MergedEntry.{merged_entry}
 use Rattle.po_merge.specs.Merged.{is_kept, merged_messages, IsMergeFault}
-use Rattle.po_merge.proofs.FirstOnes.{group_of, any_first_ones}
+use Rattle.po_merge.proofs.FirstOnes.{group_of}
 use Rattle.po_merge.proofs.Messages.{same_message_laws}
 
 pub some_passes : {X : Type 0} (p : X → Bool) (xs : List X) → list_any p xs ≡ true → 0 < length (filter p xs)
@@ -63,14 +64,7 @@ all_live group live = ap (λ (b : Bool). if b then filter (λ d. is_live d.entry
 pub none_live : (group : List NamedEntry) → list_any (λ d. is_live d.entry) group ≡ false → definitions group ≡ group
 none_live group none = ap (λ (b : Bool). if b then filter (λ d. is_live d.entry) group else group) none
 
--- what is merged of one message more
-pub kept_message : (o : MergeOptions) (ds : List NamedEntry) (b : Bool) → is_kept o ds ≡ b → merged_messages o (ds ∷ []) ≡ cond b (merged_entry o ds ∷ []) []
-kept_message o ds b e = ap (λ (t : Bool). map (merged_entry o) (cond t (ds ∷ []) [])) e ∙ found b where
-  found : (t : Bool) → map (merged_entry o) (cond t (ds ∷ []) []) ≡ cond t (merged_entry o ds ∷ []) []
-  found true = refl
-  found false = refl
-
-messages_append : (o : MergeOptions) (xs ys : List (List NamedEntry)) → merged_messages o (xs ++ ys) ≡ merged_messages o xs ++ merged_messages o ys
+pub messages_append : (o : MergeOptions) (xs ys : List (List NamedEntry)) → merged_messages o (xs ++ ys) ≡ merged_messages o xs ++ merged_messages o ys
 messages_append o xs ys = ap (map (merged_entry o)) (filter-append (is_kept o) xs ys) ∙ map-append (merged_entry o) (filter (is_kept o) xs) (filter (is_kept o) ys)
 
 abbrev pub of_groups : MergeOptions → List (Vec BorrowedEntry) → List TextEntry

@@ -11,21 +11,23 @@ use Rattle.std.proofs.lemmas.List.Elements.{All-head, All-tail, All-filter, All-
 use Rattle.po_entry.specs.TextEntry.{TextEntry, plain_entry}
 use Rattle.po_catalog.specs.Joined.{is_live}
 use Rattle.po_catalog.specs.Duplicate.{IsSameMessage, AllDiffer, is_of_message}
+use Rattle.po_catalog.proofs.FirstOnes.{any_first_ones}
+use Rattle.po_catalog.proofs.MessageIndex.{contexts_are}
 use Rattle.po_merge.specs.declared.input.MergeOptions.{MergeOptions}
 use Rattle.po_merge.specs.Inputs.{Named, NamedEntry, named, all_entries}
 use Rattle.po_merge.specs.Groups.{same_message, first_ones, definitions}
 use Rattle.po_merge.specs.MergedEntry.{merged_entry}
 use Rattle.po_merge.specs.Merged.{is_kept, merged_messages}
 use Rattle.po_merge.specs.MergeLaws.{has_message, MessagesStandOnce, KeptMessagesStand}
-use Rattle.po_merge.proofs.FirstOnes.{Apart, group_of, apart_first_ones, any_first_ones}
-use Rattle.po_merge.proofs.Messages.{context_is, same_message_laws}
+use Rattle.po_merge.proofs.FirstOnes.{Apart, group_of, apart_first_ones}
+use Rattle.po_merge.proofs.Messages.{same_message_laws}
 use Rattle.po_merge.proofs.Valid.{first_keeps}
 use Rattle.po_merge.proofs.GroupsMerged.{some_passes, any_same}
 
 pub same_is : (a b : NamedEntry) → same_message a b ≡ true → IsSameMessage a.entry b.entry
 same_is a b h =
     let parts = and_parts (option_eq bytes_eq a.entry.context b.entry.context) (bytes_eq a.entry.id b.entry.id) h in
-    (context_is a.entry.context b.entry.context parts.0, (bytes_eq-Decides a.entry.id b.entry.id).0 parts.1)
+    (contexts_are a.entry.context b.entry.context parts.0, (bytes_eq-Decides a.entry.id b.entry.id).0 parts.1)
 
 pub is_same : (a b : NamedEntry) → IsSameMessage a.entry b.entry → same_message a b ≡ true
 is_same a b h = ap₂ (λ (c : Option (List ℕ)) (i : List ℕ). option_eq bytes_eq a.entry.context c && bytes_eq a.entry.id i) (sym h.0) (sym h.1) ∙ same_message_laws.refl a

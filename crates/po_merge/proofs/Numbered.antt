@@ -5,7 +5,7 @@ use Rattle.std.proofs.lemmas.Bool.Decides.{eqb_tells}
 use Rattle.std.proofs.lemmas.List.{get_or-map, length-map, length-set, map-append, map-set, take_all}
 use Rattle.std.specs.Global.{Vec}
 use Rattle.std.proofs.lemmas.List.FromFn.{fill_by_all}
-use Rattle.std.proofs.lemmas.List.Elements.{All-head, All-nil, All-push, All-tail, All-weaker}
+use Rattle.std.proofs.lemmas.List.Elements.{All-head, All-push, All-tail, All-weaker}
 use Rattle.po_merge.specs.Groups.{by_number, with_number}
 
 module _ {X : Type 0} where
@@ -45,9 +45,6 @@ module _ {X : Type 0} where
 pub record AreGrouped (X : Type 0) (groups : List (List X)) (numbers : List ℕ) (xs : List X) : Type 0 where
   pub below : All (λ n. n < length groups) numbers
   pub each : (n : ℕ) → get_or groups n [] ≡ with_number n numbers xs
-
-pub none_grouped : (X : Type 0) (groups : List (List X)) → groups ≡ [] → AreGrouped X groups [] []
-none_grouped X groups none = record { below = All-nil (λ n. n < length groups); each = λ n. ap (λ gs. get_or gs n []) none }
 
 module _ (X : Type 0) (gs : List (List X)) (ns : List ℕ) (xs : List X) (m : ℕ) (x : X) (long : length ns ≡ length xs) (are : AreGrouped X gs ns xs) where
   pub grouped_first : m ≡ length gs → AreGrouped X (gs ++ (x ∷ []) ∷ []) (ns ++ m ∷ []) (xs ++ x ∷ [])

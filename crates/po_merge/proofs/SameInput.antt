@@ -14,13 +14,14 @@ use Rattle.po_entry.specs.Equality.{texts_eq}
 use Rattle.po_catalog.specs.Joined.{is_live}
 use Rattle.po_catalog.specs.Duplicate.{IsSameMessage, AllDiffer}
 use Rattle.po_catalog.specs.Statistics.{has_translation}
+use Rattle.po_catalog.proofs.FirstOnes.{or_true}
 use Rattle.po_merge.specs.declared.input.MergeOptions.{MergeOptions}
 use Rattle.po_merge.specs.Inputs.{Named, NamedEntry, named}
 use Rattle.po_merge.specs.Groups.{with_new, first_ones, same_message, definitions}
 use Rattle.po_merge.specs.MergedEntry.{first_with, has_previous, has_plural, first_translated, texts_of, with_others, collected, comment_of, same_forms, translations, is_joined, joined_forms, merged_entry}
 use Rattle.po_merge.specs.Merged.{is_kept, merged_messages}
 use Rattle.po_merge.specs.MergeLaws.{keep_all, OneInputStays, WithItself}
-use Rattle.po_merge.proofs.FirstOnes.{Apart, group_of, or_true, or_parts}
+use Rattle.po_merge.proofs.FirstOnes.{Apart, group_of, or_parts}
 use Rattle.po_merge.proofs.Messages.{same_message_laws}
 use Rattle.po_merge.proofs.MessagesOnce.{same_is}
 use Rattle.po_merge.proofs.OneDefinition.{all_kept, rebuilt, one_definition}

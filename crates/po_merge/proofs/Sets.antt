@@ -13,10 +13,10 @@ use Rattle.std.proofs.lemmas.List.Folds.{list_any-append}
 use Rattle.std.proofs.lemmas.Slice.Eq.{bytes_eq-Decides}
 use Rattle.po_entry.specs.TextEntry.{texts}
 use Rattle.po_entry.specs.Equality.{texts_eq}
+use Rattle.po_catalog.proofs.FirstOnes.{or_false, or_true}
 use Rattle.po_merge.specs.Inputs.{NamedEntry}
 use Rattle.po_merge.specs.MergedEntry.{with_others}
 use Rattle.po_merge.specs.Sets.{HoldsTexts, HasForms}
-use Rattle.po_merge.proofs.FirstOnes.{or_false, or_true}
 
 cond_or : (a b c : Bool) → a ≡ b → cond a true c ≡ (c || b)
 cond_or true true c e = sym (or_true c)

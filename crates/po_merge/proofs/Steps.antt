@@ -1,39 +1,21 @@
 -- What one more text or definition adds.
-use Rattle.std.proofs.Common.{◌≡◌, ℕ, ◌+◌, ◌<◌, Bool, true, false, cond, not, List, [], ◌∷◌, ◌++◌, Option, Some, None, refl, sym, ap, ◌∙◌, filter, take, get_or, length, append_assoc, append-nil, nat_lt, max, ◌≤◌, zero, suc, arith}
+use Rattle.std.proofs.Common.{◌≡◌, ℕ, ◌+◌, ◌<◌, Bool, true, false, cond, List, [], ◌∷◌, ◌++◌, Option, Some, None, refl, sym, ap, ◌∙◌, filter, take, get_or, length, append_assoc, append-nil, nat_lt, max, ◌≤◌, zero, suc, arith}
 use Rattle.std.specs.Prelude.{slice_get, if◌then◌else◌}
 use Rattle.std.specs.List.{list_any, flat_map}
 use Rattle.std.specs.Option.{option_map_or}
-use Rattle.std.specs.Str.{bytes_eq}
 use Rattle.std.specs.Global.{Vec}
 use Rattle.std.proofs.lemmas.List.{take_more, map-append}
 use Rattle.std.proofs.lemmas.List.Elements.{filter-append}
 use Rattle.std.proofs.lemmas.Bool.{ltb-false}
 use Rattle.po_entry.specs.TextEntry.{TextEntry, texts}
 use Rattle.po_catalog.specs.Statistics.{has_translation}
+use Rattle.po_catalog.proofs.FirstOnes.{fold_push}
 use Rattle.po_merge.specs.declared.definition.NamedEntry.{NamedEntry as BorrowedEntry}
 use Rattle.po_merge.specs.Inputs.{NamedEntry}
 use Rattle.po_merge.specs.InputsView.{named_entry, named_entries}
 use Rattle.po_merge.specs.Groups.{with_new, first_ones}
 use Rattle.po_merge.specs.MergedEntry.{with_others, collected, same_forms, translations, form_count, joined_form, marked}
 use Rattle.po_merge.specs.Sets.{with_form}
-use Rattle.po_merge.proofs.FirstOnes.{fold_push}
-
-pub others_more : (done now : List (List ℕ)) (others : List (Vec ℕ)) (i : ℕ) (x : Vec ℕ) (b : Bool) → i < length others → x ≡ get_or others i x → list_any (bytes_eq x.items) done ≡ b
-    → now ≡ done ++ filter (λ t. not (list_any (bytes_eq t) done)) (texts (take i others))
-    → cond b now (now ++ x.items ∷ []) ≡ done ++ filter (λ t. not (list_any (bytes_eq t) done)) (texts (take (i + 1) others))
-others_more done now others i x b below at met is =
-    found b met ∙ sym (ap (λ (l : List (List ℕ)). done ++ filter P l) whole ∙ ap (λ (l : List (List ℕ)). done ++ l) (filter-append P (texts (take i others)) (x.items ∷ []))) where
-      P : List ℕ → Bool
-      P t = not (list_any (bytes_eq t) done)
-
-      whole : texts (take (i + 1) others) ≡ texts (take i others) ++ x.items ∷ []
-      whole = ap texts (take_more others i x below ∙ ap (λ (v : Vec ℕ). take i others ++ v ∷ []) (sym at)) ∙ map-append (λ (v : Vec ℕ). v.items) (take i others) (x ∷ [])
-
-      found : (c : Bool) → list_any (bytes_eq x.items) done ≡ c → cond c now (now ++ x.items ∷ []) ≡ done ++ (filter (λ t. not (list_any (bytes_eq t) done)) (texts (take i others)) ++ filter (λ t. not (list_any (bytes_eq t) done)) (x.items ∷ []))
-      found true e = is ∙ ap (λ (l : List (List ℕ)). done ++ l) (sym (ap (λ (c : Bool). filter (λ t. not (list_any (bytes_eq t) done)) (texts (take i others)) ++ cond (not c) (x.items ∷ []) []) e ∙ append-nil _))
-      found false e =
-          ap (λ (l : List (List ℕ)). l ++ x.items ∷ []) is ∙ append_assoc done (filter (λ t. not (list_any (bytes_eq t) done)) (texts (take i others))) (x.items ∷ [])
-          ∙ ap (λ (l : List (List ℕ)). done ++ l) (sym (ap (λ (c : Bool). filter (λ t. not (list_any (bytes_eq t) done)) (texts (take i others)) ++ cond (not c) (x.items ∷ []) []) e))
 
 pub texts_more : (others : List (Vec ℕ)) (i : ℕ) (x : Vec ℕ) → i < length others → x ≡ get_or others i x → texts (take (i + 1) others) ≡ texts (take i others) ++ x.items ∷ []
 texts_more others i x below at = ap texts (take_more others i x below ∙ ap (λ (v : Vec ℕ). take i others ++ v ∷ []) (sym at)) ∙ map-append (λ (v : Vec ℕ). v.items) (take i others) (x ∷ [])
@@ -75,15 +57,6 @@ joined_form_more ds i index d form below at is =
     ap (λ (l : List NamedEntry). joined_form l index) (named_more ds i d below at)
     ∙ flat_map_push (λ (t : NamedEntry). option_map_or (marked t.name) (slice_get t.entry.forms index) []) (named_entries (take i ds)) (named_entry d)
     ∙ ap (λ (o : Option (List ℕ)). joined_form (named_entries (take i ds)) index ++ option_map_or (marked d.name.now) o []) is
-
-pub with_form_more : (ds : List BorrowedEntry) (i index : ℕ) (d : BorrowedEntry) (b : Bool) → i < length ds → d ≡ get_or ds i d → nat_lt index (length d.entry.now.forms) ≡ b
-    → with_form index (named_entries (take (i + 1) ds)) ≡ cond b (with_form index (named_entries (take i ds)) ++ named_entry d ∷ []) (with_form index (named_entries (take i ds)))
-with_form_more ds i index d b below at is =
-    ap (with_form index) (named_more ds i d below at) ∙ filter-append (λ (t : NamedEntry). nat_lt index (length t.entry.forms)) (named_entries (take i ds)) (named_entry d ∷ [])
-    ∙ ap (λ (t : Bool). with_form index (named_entries (take i ds)) ++ cond t (named_entry d ∷ []) []) is ∙ found b where
-      found : (t : Bool) → with_form index (named_entries (take i ds)) ++ cond t (named_entry d ∷ []) [] ≡ cond t (with_form index (named_entries (take i ds)) ++ named_entry d ∷ []) (with_form index (named_entries (take i ds)))
-      found true = refl
-      found false = append-nil (with_form index (named_entries (take i ds)))
 
 -- dropping what has no form of this index, nor of a later one, changes no such form
 pub with_form_keeps : (index j : ℕ) (ts : List NamedEntry) → index ≤ j → joined_form (with_form index ts) j ≡ joined_form ts j

@@ -1,5 +1,5 @@
 -- Tests of definitions, as the code holds them and as contracts see them.
-use Rattle.std.proofs.Common.{◌≡◌, ℕ, ◌<◌, Bool, true, false, cond, ◌||◌, List, [], ◌∷◌, Option, Some, None, refl, sym, ap, ◌∙◌, filter, find, take, get_or, length, arith, suc, zero}
+use Rattle.std.proofs.Common.{◌≡◌, ℕ, ◌<◌, Bool, true, false, cond, ◌||◌, List, [], ◌∷◌, Option, Some, None, refl, sym, ap, ◌∙◌, find, take, get_or, length, arith, suc, zero}
 use Rattle.std.specs.List.{list_any}
 use Rattle.std.specs.Option.{option_map_or}
 use Rattle.po_entry.specs.TextEntry.{TextEntry}
@@ -11,14 +11,6 @@ use Rattle.po_merge.specs.MergedEntry.{first_with, first_of}
 pub any_named : (p : TextEntry → Bool) (ds : List BorrowedEntry) → list_any (λ d. p d.entry.now) ds ≡ list_any (λ d. p d.entry) (named_entries ds)
 any_named p [] = refl
 any_named p (d ∷ ds) = ap (λ (b : Bool). p d.entry.now || b) (any_named p ds)
-
-pub filter_named : (p : TextEntry → Bool) (ds : List BorrowedEntry) → named_entries (filter (λ d. p d.entry.now) ds) ≡ filter (λ d. p d.entry) (named_entries ds)
-filter_named p [] = refl
-filter_named p (d ∷ ds) = found (p d.entry.now) (filter_named p ds) where
-  found : (b : Bool) → named_entries (filter (λ x. p x.entry.now) ds) ≡ filter (λ x. p x.entry) (named_entries ds)
-      → named_entries (cond b (d ∷ filter (λ x. p x.entry.now) ds) (filter (λ x. p x.entry.now) ds)) ≡ cond b (named_entry d ∷ filter (λ x. p x.entry) (named_entries ds)) (filter (λ x. p x.entry) (named_entries ds))
-  found true e = ap (λ (l : List NamedEntry). named_entry d ∷ l) e
-  found false e = e
 
 or_cases : (a b : Bool) → (a || b) ≡ false → (a ≡ false) × (b ≡ false)
 or_cases true b e = cc

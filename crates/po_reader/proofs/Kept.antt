@@ -1,14 +1,12 @@
 -- What is kept of the comments of entries, and of the entries.
-use Rattle.std.proofs.Common.{◌≡◌, ℕ, Bool, true, false, cond, List, [], ◌∷◌, filter, map, refl, sym, subst, ap, ◌∙◌}
+use Rattle.std.proofs.Common.{◌≡◌, ℕ, Bool, true, false, cond, List, [], ◌∷◌, filter, map, refl, subst, ap, ◌∙◌}
 use Rattle.std.specs.Prelude.{All, flat_map, fold}
 use Rattle.std.specs.List.{list_any}
 use Rattle.std.proofs.lemmas.List.Elements.{All-nil, All-cons, All-head, All-tail}
 use Rattle.po_syntax.specs.declared.item.CommentKind.{CommentKind}
 use Rattle.po_syntax.specs.declared.item.CommentKind.TheVariants.{Translator, Extracted, Reference, Flags}
-use Rattle.po_syntax.specs.TextItem.{TextItem}
 use Rattle.po_entry.specs.TextEntry.{TextEntry}
 use Rattle.po_entry.specs.Parts.{Body, CommentText, PreviousText}
-use Rattle.po_reader.specs.Reads.{Reads}
 use Rattle.po_entry.specs.Header.{HasAdmittedCharset}
 use Rattle.po_entry.specs.Comments.{same_kind, texts_of, listed_references, listed_flags, is_fuzzy_flag, with_flag, previous_of}
 use Rattle.po_entry.specs.Validity.{HasTexts, IsTranslatorComment, IsReference}
@@ -77,10 +75,6 @@ kept_from false comment_texts previous body =
 pub all_kept : (entries : List TextEntry) → map (kept_entry true) entries ≡ entries
 all_kept [] = refl
 all_kept (entry ∷ entries) = ap (λ es. entry ∷ es) (all_kept entries)
-
--- where all is kept, the items spell what was made
-pub whole_reads : (items : List TextItem) (entries made : List TextEntry) → Reads items entries → made ≡ map (kept_entry true) entries → Reads items made
-whole_reads items entries made reads is = subst (Reads items) (sym (is ∙ all_kept entries)) reads
 
 -- without their comments, sound entries are sound
 pub sound_without_comments : (entries : List TextEntry) → All SoundEntry entries → All SoundEntry (map without_comments entries)

@@ -1,6 +1,5 @@
 -- Facts of one result, together.
-use Rattle.std.proofs.Common.{sym, subst}
-use Rattle.std.specs.Prelude.{◌≡◌, Result, Ok, Err, IfOk, IfErr}
+use Rattle.std.specs.Prelude.{Result, Ok, Err, IfOk, IfErr}
 
 pub ok_both : {T E : Type 0} {P Q R : T → Type 0} (r : Result T E) → ((y : T) → P y → Q y → R y) → IfOk r P → IfOk r Q → IfOk r R
 ok_both (Ok y) f p q = f y p q
@@ -13,11 +12,6 @@ err_step (Err e) f p = f e p
 pub ok_step : {T E : Type 0} {P Q : T → Type 0} (r : Result T E) → ((y : T) → P y → Q y) → IfOk r P → IfOk r Q
 ok_step (Ok y) f p = f y p
 ok_step (Err e) f p = tt
-
--- what holds of the value that an Ok is said to have
-pub ok_same : {T E : Type 0} (P : T → Type 0) (x : T) (r : Result T E) → IfOk r (λ y. y ≡ x) → IfOk r (λ y. P x) → IfOk r P
-ok_same P x (Ok y) e p = subst P (sym e) p
-ok_same P x (Err e) same p = tt
 
 pub ok_always : {T E : Type 0} {P : T → Type 0} (r : Result T E) → ((y : T) → P y) → IfOk r P
 ok_always (Ok y) f = f y

@@ -58,9 +58,6 @@ first_within (b ∷ rest) text h =
 shape_within : (text : List ℕ) → Within text (shape_of text)
 shape_within text = first_within (skip_blanks text) text (skip_blanks-rest text (whole_rest text))
 
-pub comment_line-rest : (text : List ℕ) {kind : CommentKind} {rest : List ℕ} → shape_of text ≡ CommentLine kind rest → IsRest rest text
-comment_line-rest text e = subst (Within text) e (shape_within text)
-
 pub tokens-rest : (text : List ℕ) {marks : Marks} {rest : List ℕ} → shape_of text ≡ Tokens marks rest → IsRest rest text
 tokens-rest text e = subst (Within text) e (shape_within text)
 

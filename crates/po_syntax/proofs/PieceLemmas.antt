@@ -198,16 +198,6 @@ pub record HasRead (size : ℕ) (old now : LinesLeft) (items : List TextItem) (l
   pub len_is : len ≡ lines_len (take count old.lines)
   pub fewest : (fewer : ℕ) → fewer < count → CanEnd size old fewer → ⊥
 
-pub nothing_read : (size : ℕ) (old : LinesLeft) → HasRead size old old [] 0
-nothing_read size old = record {
-  count = 0;
-  within = omega arith;
-  rest = ap (λ (n : ℕ). record { number = n; lines = old.lines }) (omega arith);
-  spelt = refl;
-  len_is = refl;
-  fewest = λ fewer less _. absurd (omega arith);
-}
-
 next_line : {size : ℕ} {old now : LinesLeft} {items : List TextItem} {len : ℕ} (read : HasRead size old now items len) (line : List ℕ) (others : List (List ℕ)) → now.lines ≡ line ∷ others → drop read.count old.lines ≡ line ∷ others
 next_line read line others e = sym (ap (λ (left : LinesLeft). left.lines) read.rest) ∙ e
 
@@ -303,10 +293,6 @@ of_text_after count left h within = record {
 -- what is left of a text that is read
 pub read_of_text : (size : ℕ) (old now : LinesLeft) (items : List TextItem) (len : ℕ) → HasRead size old now items len → AreOfText old → AreOfText now
 read_of_text size old now items len read h = subst AreOfText (sym read.rest) (of_text_after read.count old h read.within)
-
--- what is read is of a text
-pub len_read : (size : ℕ) (old now : LinesLeft) (items : List TextItem) (len : ℕ) → HasRead size old now items len → AreOfText old → len ≤ 2 ^ 31 + 1
-len_read size old now items len read h = omega (arith, read.len_is, h.small, sum_by-take-le (λ (l : List ℕ). length l + 1) old.lines read.count)
 
 -- a piece above 2 ^ 31 bytes is all that is left
 pub piece_whole : {size : ℕ} {old new : LinesLeft} {items : List TextItem} → IsPiece size old new items → AreOfText old → 2 ^ 31 < size → new.lines ≡ []

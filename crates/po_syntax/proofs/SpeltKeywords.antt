@@ -22,7 +22,7 @@ use Rattle.po_syntax.specs.Token.{Token, LineEnd, OpeningQuote, KeywordToken, Wr
 use Rattle.po_syntax.proofs.Escapes.{all_digits, positive}
 use Rattle.po_syntax.proofs.SpeltEscapes.{count_all}
 
-or_step : {P : Type 0} (x y : Bool) → (x ≡ true → P) → (y ≡ true → P) → (x || y) ≡ true → P
+pub or_step : {P : Type 0} (x y : Bool) → (x ≡ true → P) → (y ≡ true → P) → (x || y) ≡ true → P
 or_step true y p q e = p refl
 or_step false y p q e = q e
 

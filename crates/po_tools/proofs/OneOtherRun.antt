@@ -21,6 +21,7 @@ use Rattle.text_tools.specs.Msgattrib.{error_line}
 use Rattle.text_tools.specs.Msgcat.{AreReadAs, IsFileFault, msgcat_line}
 use Rattle.mo_tools.specs.Msgunfmt.{unformat_line, unformatted_run}
 use Rattle.tool_runs.specs.NamedFile.{NamedFile}
+use Rattle.po_catalog.proofs.DuplicateLemmas.{entries_of_input}
 use Rattle.po_tools.specs.RunLaws.{OneMsgattribRun, OneMsgcatRun, OneMsgunfmtRun}
 use Rattle.tool_runs.specs.Run.{refusal}
 use Rattle.text_tools.specs.TextRuns.{written_run}
@@ -45,10 +46,6 @@ msgunfmt_once unique no_fault one_text one_fault file run other (inr is) (inr al
     let messages : f.messages ≡ g.messages = (unique file.bytes f.order g.order f.messages g.messages f.valid g.valid).1 in
     is.run_is ∙ ap₂ (λ (m : List Message) (t : List ℕ). unformatted_run m t) messages (one_text file.bytes is.text also.text f g) ∙ sym also.run_is
 
-entries_in : (entries : List TextEntry) → entries_of (map (in_input 0) entries) ≡ entries
-entries_in [] = refl
-entries_in (e ∷ entries) = ap (λ (l : List TextEntry). e ∷ l) (entries_in entries)
-
 pub msgattrib_once : OneReading → OneTextFault → NoFaultWhereDistinct → NoFirstDuplicate → OneFirstDuplicate → OneMsgattribRun
 msgattrib_once one one_fault no_fault no_first one_first name text s run other (inl is) (inl also) =
     is.run_is ∙ ap (λ (e : PoError). refusal (error_line name e)) (one_fault text is.error also.error is.fault also.fault) ∙ sym also.run_is
@@ -64,11 +61,11 @@ msgattrib_once one one_fault no_fault no_first one_first name text s run other (
 msgattrib_once one one_fault no_fault no_first one_first name text s run other (inr (inl is)) (inr (inr also)) =
     let same : also.entries ≡ is.entries = one text also.entries is.entries also.read.reads is.read.reads in
     let distinct = subst (λ list. HasNoDuplicate (selected s list)) same also.distinct in
-    absurd (no_first (map (in_input 0) (selected s is.entries)) is.first is.later (subst HasNoDuplicate (sym (entries_in (selected s is.entries))) distinct) is.duplicate)
+    absurd (no_first (map (in_input 0) (selected s is.entries)) is.first is.later (subst HasNoDuplicate (sym (entries_of_input 0 (selected s is.entries))) distinct) is.duplicate)
 msgattrib_once one one_fault no_fault no_first one_first name text s run other (inr (inr is)) (inr (inl also)) =
     let same : is.entries ≡ also.entries = one text is.entries also.entries is.read.reads also.read.reads in
     let distinct = subst (λ list. HasNoDuplicate (selected s list)) same is.distinct in
-    absurd (no_first (map (in_input 0) (selected s also.entries)) also.first also.later (subst HasNoDuplicate (sym (entries_in (selected s also.entries))) distinct) also.duplicate)
+    absurd (no_first (map (in_input 0) (selected s also.entries)) also.first also.later (subst HasNoDuplicate (sym (entries_of_input 0 (selected s also.entries))) distinct) also.duplicate)
 msgattrib_once one one_fault no_fault no_first one_first name text s run other (inr (inr is)) (inr (inr also)) =
     is.run_is ∙ ap (λ (l : List TextEntry). written_run (selected s l)) (one text is.entries also.entries is.read.reads also.read.reads) ∙ sym also.run_is
 

@@ -1,7 +1,6 @@
 -- The rows of entries, as further entries are added.
 use Rattle.std.proofs.Common.{◌≡◌, sym, ap, ◌∙◌, subst, ℕ, List, [], ◌∷◌, ◌++◌, append-nil, append_assoc, length}
 use Rattle.std.specs.Prelude.{IsUtf8}
-use Rattle.std.specs.List.{AllZip}
 use Rattle.std.proofs.lemmas.List.{map-append}
 use Rattle.po_entry.specs.Bytes.{Lacks}
 use Rattle.po_entry.specs.Header.{is_header}
@@ -10,15 +9,9 @@ use Rattle.po_entry.specs.Validity.{IsCatalogueEntry}
 use Rattle.po_catalog.specs.Joined.{is_live}
 use Rattle.po_merge.specs.Inputs.{NamedEntry, named}
 use Rattle.po_writer.specs.TextParts.{separated}
+use Rattle.po_compile.proofs.InputLemmas.{zip_more}
 use Rattle.text_tools.specs.Entries.{AreRows, IsRow, unnamed}
 use Rattle.text_tools.specs.declared.entries.Row.{Row}
-
--- element by element, with one more
-pub zip_push : {X Y : Type 0} (R : X → Y → Type 0) (xs : List X) (ys : List Y) (x : X) (y : Y) → AllZip R xs ys → R x y → AllZip R (xs ++ x ∷ []) (ys ++ y ∷ [])
-zip_push R [] [] x y h r = (r, tt)
-zip_push R [] (b ∷ ys) x y h r = absurd h
-zip_push R (a ∷ xs) [] x y h r = absurd h
-zip_push R (a ∷ xs) (b ∷ ys) x y h r = (h.0, zip_push R xs ys x y h.1 r)
 
 row_stays : (text more : List ℕ) (entry : NamedEntry) (row : Row) → IsRow text entry row → IsRow (text ++ more) entry row
 row_stays text more entry row h = record {
@@ -47,7 +40,7 @@ pub row_more : (old new : List ℕ) (before : List NamedEntry) (rows : List Row)
     → row.start ≡ length old → row.end ≡ length new → row.is_live ≡ is_live entry → row.is_header ≡ is_header entry → IsUtf8 name → Lacks 0 name → IsCatalogueEntry entry
     → AreRows new (before ++ named name entry ∷ []) (rows ++ row ∷ [])
 row_more old new before rows name entry row have grown name_is start end live header utf8 no_nul valid =
-    zip_push (IsRow new) before rows (named name entry) row (subst (λ l. AreRows l before rows) (sym grown) (rows_stay old (separated (entry ∷ [])) before rows have)) (record {
+    zip_more (IsRow new) before rows (named name entry) row (subst (λ l. AreRows l before rows) (sym grown) (rows_stay old (separated (entry ∷ [])) before rows have)) (record {
       before = old;
       after = [];
       text_is = grown ∙ ap (λ l. old ++ l) (sym (append-nil (separated (entry ∷ []))));

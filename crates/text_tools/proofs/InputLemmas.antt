@@ -17,6 +17,7 @@ use Rattle.po_catalog.specs.Joined.{is_live}
 use Rattle.po_catalog.specs.Message.{entry_message, same_message}
 use Rattle.po_merge.specs.Grouping.{message_numbers}
 use Rattle.po_merge.specs.Inputs.{Named, NamedEntry, all_entries, named}
+use Rattle.po_compile.proofs.InputLemmas.{zip_more}
 use Rattle.text_tools.specs.Entries.{HoldEntries, unnamed}
 use Rattle.text_tools.specs.Inputs.{AddsEntries, AreReadUpTo, IsFaultOfFirst, IsFirstRepeating, IsReadInput, IsTextOf}
 use Rattle.text_tools.specs.Msgcat.{AreReadAs, IsFileFault}
@@ -25,7 +26,6 @@ use Rattle.text_tools.specs.declared.entries.Entries.{Entries}
 use Rattle.text_tools.specs.declared.inputs.FileFault.{FileFault}
 use Rattle.text_tools.specs.declared.inputs.ReadInput.{ReadInput}
 use Rattle.text_tools.specs.declared.inputs.ReadInputs.{ReadInputs}
-use Rattle.text_tools.proofs.EntryLemmas.{zip_push}
 use Rattle.text_tools.proofs.RepeatLemmas.{AreAmong, all_among, numbers_differ}
 use Rattle.text_tools.proofs.SelectedLemmas.{number_in, numbers_are, own_of, repeats_in}
 use Rattle.tool_runs.specs.NamedFile.{NamedFile}
@@ -213,7 +213,7 @@ pub text_more : (files : List NamedFile) (i : ℕ) (d : NamedFile) (inputs : Lis
     → AllZip IsTextOf (take (i + 1) files) (inputs ++ record { name = name; entries = entries } ∷ [])
 text_more files i d inputs name entries inside texts name_is reads =
     subst (λ l. AllZip IsTextOf l (inputs ++ record { name = name; entries = entries } ∷ [])) (sym (take_more files i d inside))
-    (zip_push IsTextOf (take i files) inputs (get_or files i d) (record { name = name; entries = entries }) texts (record { name = sym name_is; reads = reads }))
+    (zip_more IsTextOf (take i files) inputs (get_or files i d) (record { name = name; entries = entries }) texts (record { name = sym name_is; reads = reads }))
 
 pub entries_more : (inputs : List Named) (name : List ℕ) (entries : List TextEntry) → all_entries inputs ++ map (named name) entries ≡ all_entries (inputs ++ record { name = name; entries = entries } ∷ [])
 entries_more inputs name entries =
@@ -222,4 +222,4 @@ entries_more inputs name entries =
 
 pub known_more : (inputs : List Named) (read : List ReadInput) (name : List ℕ) (entries : List TextEntry) (input : ReadInput) → AllZip IsReadInput inputs read → input.name.now ≡ name → input.places.items ≡ are_placed is_live entries
     → AllZip IsReadInput (inputs ++ record { name = name; entries = entries } ∷ []) (read ++ input ∷ [])
-known_more inputs read name entries input known name_is places = zip_push IsReadInput inputs read (record { name = name; entries = entries }) input known (record { name = name_is; places = places })
+known_more inputs read name entries input known name_is places = zip_more IsReadInput inputs read (record { name = name; entries = entries }) input known (record { name = name_is; places = places })

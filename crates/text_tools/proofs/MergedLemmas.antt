@@ -4,7 +4,7 @@ use Rattle.std.specs.Prelude.{All, IsUtf8, if◌then◌else◌}
 use Rattle.std.specs.Global.{Vec}
 use Rattle.std.specs.List.{AllZip, flat_map, list_any, range_with_len}
 use Rattle.std.proofs.lemmas.List.{map-append, take_more}
-use Rattle.std.proofs.lemmas.List.Elements.{All-cons, All-nil, All-push, filter-append}
+use Rattle.std.proofs.lemmas.List.Elements.{All-cons, All-nil, All-push}
 use Rattle.po_syntax.specs.declared.fault.PoError.{PoError}
 use Rattle.po_syntax.specs.PoText.{IsSmall}
 use Rattle.po_entry.specs.Bytes.{Lacks}
@@ -25,14 +25,14 @@ use Rattle.po_merge.specs.InputsView.{named_entries, named_entry}
 use Rattle.po_merge.specs.Merged.{IsMergeFault, is_kept, is_wanted, merged_messages}
 use Rattle.po_merge.specs.MergeLaws.{GroupsByNumber}
 use Rattle.po_merge.specs.MergedEntry.{merged_entry}
-use Rattle.po_merge.proofs.GroupsMerged.{groups_valid}
+use Rattle.po_merge.proofs.GroupsMerged.{groups_valid, messages_append}
 use Rattle.po_writer.specs.TextParts.{AreParts, AreSeparated, separated}
 use Rattle.po_writer.specs.WrittenText.{arranged, entry_lines, in_order, written_text}
 use Rattle.po_writer.specs.declared.parts.TextParts.{TextParts}
+use Rattle.po_compile.proofs.InputLemmas.{zip_more}
 use Rattle.text_tools.specs.Entries.{AreRows, IsRow}
 use Rattle.text_tools.specs.MergedText.{AreGroups, AreReadBack, AreWritten, IsOnly}
 use Rattle.text_tools.specs.declared.entries.Row.{Row}
-use Rattle.text_tools.proofs.EntryLemmas.{zip_push}
 use Rattle.text_tools.proofs.InputLemmas.{zip_length}
 
 -- rows and their entries pass the same tests
@@ -192,10 +192,6 @@ fault_unlined a b error same (inl memory) = inl memory
 fault_unlined a b error same (inr foreign) =
     inr ((λ all. foreign.0 (All-cons HasAdmittedCharset a [] (charset_unlined b a (sym same) (all 0 b (omega arith))) (All-nil HasAdmittedCharset))), foreign.1)
 
--- a message that is kept or isn't
-pub not_kept : (o : MergeOptions) (ds : List NamedEntry) → is_kept o ds ≡ false → merged_messages o (ds ∷ []) ≡ []
-not_kept o ds none = ap (λ (b : Bool). map (merged_entry o) (cond b (ds ∷ []) [])) none
-
 pub kept : (o : MergeOptions) (ds : List NamedEntry) → is_kept o ds ≡ true → merged_messages o (ds ∷ []) ≡ merged_entry o ds ∷ []
 kept o ds some = ap (λ (b : Bool). map (merged_entry o) (cond b (ds ∷ []) [])) some
 
@@ -203,10 +199,6 @@ pub only_row : (text : List ℕ) (ds : List NamedEntry) (row : Row) → AreRows 
 only_row text [] row h = absurd h
 only_row text (d ∷ []) row h = (d, refl, h.0)
 only_row text (d ∷ e ∷ ds) row h = absurd h.1
-
--- messages one after the other
-messages_append : (o : MergeOptions) (xs ys : List (List NamedEntry)) → merged_messages o (xs ++ ys) ≡ merged_messages o xs ++ merged_messages o ys
-messages_append o xs ys = ap (map (merged_entry o)) (filter-append (is_kept o) xs ys) ∙ map-append (merged_entry o) (filter (is_kept o) xs) (filter (is_kept o) ys)
 
 abbrev pub of_groups : MergeOptions → List (List NamedEntry) → List TextEntry
 of_groups o all = merged_messages o (map definitions all)
@@ -296,7 +288,7 @@ definition_more text definitions rows es i r row found new x below h back valid 
     let more : named_entries new ≡ named_entries found ++ named_entry x ∷ [] = ap named_entries pushed ∙ map-append named_entry found (x ∷ []) in (
       subst (AllZip IsSameButLine (take (i + 1) definitions)) (sym more)
           (subst (λ l. AllZip IsSameButLine l (named_entries found ++ named_entry x ∷ [])) (sym (take_more definitions i none inside))
-          (zip_push IsSameButLine (take i definitions) (named_entries found) d (named_entry x) so_far.0 (record { name = sym name_is; entry = same }))),
+          (zip_more IsSameButLine (take i definitions) (named_entries found) d (named_entry x) so_far.0 (record { name = sym name_is; entry = same }))),
       subst (All IsDefinition) (sym more)
           (All-push IsDefinition (named_entries found) (named_entry x) so_far.1
           (record { valid = good.valid; utf8 = subst IsUtf8 (sym name_is) at.can.valid.utf8; no_nul = subst (λ l. Lacks 0 l) (sym name_is) at.can.valid.no_nul })),

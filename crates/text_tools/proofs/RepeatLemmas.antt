@@ -7,10 +7,11 @@ use Rattle.std.proofs.lemmas.List.Elements.{All-nil, All-cons, All-append, All-h
 use Rattle.std.proofs.lemmas.List.Quantifiers.{all_pairs_push}
 use Rattle.std.proofs.Math.Seq.{drop-cons}
 use Rattle.po_entry.specs.TextEntry.{TextEntry}
-use Rattle.po_catalog.specs.Duplicate.{AllDiffer, IsFirstDuplicate, IsSameMessage, live_entries}
+use Rattle.po_catalog.specs.Duplicate.{AllDiffer, IsFirstDuplicate, live_entries}
 use Rattle.po_catalog.specs.Joined.{InputEntry, entries_of, in_input, is_live}
 use Rattle.po_entry.specs.Halves.{All-left, All-right}
 use Rattle.po_catalog.specs.Message.{Message, entry_message}
+use Rattle.po_catalog.proofs.DuplicateLemmas.{entries_of_input, message_is}
 use Rattle.text_tools.specs.Repeats.{IsFirstRepeat, IsUnseen, NumbersDiffer, line_seen, numbered}
 use Rattle.text_tools.specs.declared.repeats.Numbered.{Numbered}
 use Rattle.text_tools.specs.declared.repeats.Seen.{Seen}
@@ -103,9 +104,6 @@ AreAmong known entries = All (λ e. Contains known (entry_message e)) entries
 abbrev pub AreOwn : List Message → (Message → ℕ) → Type 0
 AreOwn known number_of = (a b : Message) → Contains known a → Contains known b → number_of a ≡ number_of b → a ≡ b
 
-same_entries : (a b : TextEntry) → IsSameMessage a b → entry_message a ≡ entry_message b
-same_entries a b same = ap₂ (λ (c : Option (List ℕ)) (i : List ℕ). record { context = c; id = i }) same.0 same.1
-
 module _ (number_of : Message → ℕ) where
   abbrev of : TextEntry → Numbered
   of = numbered number_of
@@ -115,7 +113,7 @@ module _ (number_of : Message → ℕ) where
   numbers_differ entries differ =
       λ i j d below inside same.
       differ i j (of d) below (omega (arith, inside, length-map entries of))
-      (ap (λ (n : Numbered). n.number) (get_or-map of entries i d (of d) (omega (arith, below, inside))) ∙ ap number_of (same_entries (get_or entries i d) (get_or entries j d) same)
+      (ap (λ (n : Numbered). n.number) (get_or-map of entries i d (of d) (omega (arith, below, inside))) ∙ ap number_of (message_is (get_or entries i d) (get_or entries j d) same)
       ∙ sym (ap (λ (n : Numbered). n.number) (get_or-map of entries j d (of d) inside)))
 
   split_map : (entries : List TextEntry) (xs ys : List Numbered) → map of entries ≡ xs ++ ys
@@ -171,10 +169,6 @@ live_in input (e ∷ entries) = ap (λ l. cond (is_live e) (in_input input e ∷
   kept true = refl
   kept false = refl
 
-entries_in : (input : ℕ) (entries : List TextEntry) → entries_of (map (in_input input) entries) ≡ entries
-entries_in input [] = refl
-entries_in input (e ∷ entries) = ap (λ l. e ∷ l) (entries_in input entries)
-
 -- the first duplicate of entries
 pub duplicate_of : (known : List Message) (number_of : Message → ℕ) (input : ℕ) (entries live : List TextEntry) (lines : ℕ × ℕ) → AreOwn known number_of → filter is_live entries ≡ live → AreAmong known live
     → IsFirstRepeat (map (numbered number_of) live) lines
@@ -196,7 +190,7 @@ duplicate_of known number_of input entries live lines own live_is among found =
         after = in_ r.after;
         order = live_in input entries ∙ ap in_ (live_is ∙ r.order) ∙ map-append (in_input input) (r.before ++ r.first ∷ r.between) (r.later ∷ r.after) ∙ ap (λ l. l ++ in_input input r.later ∷ in_ r.after) front_in;
         same = (ap (λ (m : Message). m.context) same, ap (λ (m : Message). m.id) same);
-        differ = subst (λ l. AllDiffer (entries_of l)) front_in (subst AllDiffer (sym (entries_in input (r.before ++ r.first ∷ r.between))) r.differ);
+        differ = subst (λ l. AllDiffer (entries_of l)) front_in (subst AllDiffer (sym (entries_of_input input (r.before ++ r.first ∷ r.between))) r.differ);
       },
       r.lines_are,
     )

@@ -13,19 +13,17 @@ use Rattle.po_catalog.specs.Duplicate.{AllDiffer, HasNoDuplicate, IsSameMessage}
 use Rattle.po_catalog.specs.Joined.{in_input, is_live}
 use Rattle.po_select.specs.declared.selection.Selection.{Selection}
 use Rattle.po_select.specs.Selected.{changed, is_kept, obsolete_after, selected}
-use Rattle.po_writer.specs.WrittenText.{written_text}
 use Rattle.po_catalog.specs.FirstOnes.{first_ones, group_numbers}
 use Rattle.po_catalog.specs.Message.{Message, entry_message, same_message}
 use Rattle.text_tools.specs.Msgattrib.{IsMsgattribRun, error_line}
 use Rattle.text_tools.specs.Repeats.{IsFirstRepeat, NumbersDiffer, are_numbered, numbered}
-use Rattle.text_tools.specs.SelectedText.{IsSelectedText, IsSelectionFault, Repeats, RepeatsSelected, stays_live}
-use Rattle.text_tools.specs.TextRuns.{written_run}
+use Rattle.text_tools.specs.SelectedText.{IsSelectionFault, Repeats, RepeatsSelected, stays_live}
 use Rattle.std.proofs.lemmas.List.Folds.{list_any_at}
 use Rattle.std.proofs.lemmas.List.Sums.{passes_at_first}
 use Rattle.po_catalog.proofs.FirstOnes.{any_first_ones, found_within}
 use Rattle.po_catalog.proofs.MessageIndex.{messages_are, same_message_laws}
 use Rattle.text_tools.proofs.RepeatLemmas.{AreAmong, AreOwn, all_among, duplicate_of, numbers_differ}
-use Rattle.tool_runs.specs.Run.{RunView, refusal, run_view}
+use Rattle.tool_runs.specs.Run.{refusal, run_view}
 use Rattle.tool_runs.specs.declared.run.Run.{Run}
 
 -- entries are selected one by one
@@ -104,17 +102,6 @@ repeats_selected s entries lines error distinct repeat error_is =
 -- no number stands twice among them
 pub selected_differ : (s : Selection) (entries : List TextEntry) → NumbersDiffer (map (numbered (number_in entries)) (filter (stays_live s) entries)) → HasNoDuplicate (selected s entries)
 selected_differ s entries differ = numbers_differ (number_in entries) (filter is_live (selected s entries)) (subst NumbersDiffer (live_selected s (number_in entries) entries) differ)
-
--- the run that writes what is selected
-pub run_done : (name text : List ℕ) (s : Selection) (written : List ℕ) (run : RunView) → IsSelectedText s text written
-    → ((entries : List TextEntry) → written ≡ written_text entries → run ≡ written_run entries) → IsMsgattribRun name s text run
-run_done name text s written run of run_is =
-    inr (inr (record {
-      entries = of.entries;
-      read = record { reads = of.reads; distinct = of.distinct.read };
-      distinct = of.distinct.kept;
-      run_is = run_is (selected s of.entries) of.text_is;
-    }))
 
 -- the run that reports a fault
 pub run_refused : (name text : List ℕ) (s : Selection) (error : PoError) (run : Run) → IsSelectionFault s text error → (error.kind ≢ OutOfMemory) × (run_view run ≡ refusal (error_line name error))

@@ -2,9 +2,9 @@ use Rattle.std.proofs.Common.{◌≡◌, ◌++◌, ◌∷◌, [], ◌+◌, ◌<�
 use Rattle.std.proofs.lemmas.List.{take_all, take_more}
 use Rattle.po_entry.specs.TextEntry.{SameButLine, TextEntry, plain_entry}
 use Rattle.po_merge.specs.Inputs.{NamedEntry}
+use Rattle.po_compile.proofs.InputLemmas.{zip_more}
 use Rattle.text_tools.specs.Entries.{IsRow}
 use Rattle.text_tools.specs.MergedText.{AreReadBack}
-use Rattle.text_tools.proofs.EntryLemmas.{zip_push}
 use Rattle.text_tools.proofs.InputLemmas.{zip_length}
 use Rattle.text_tools.proofs.MergedLemmas.{zip_get}
 use Rattle.text_tools.proofs.merged_text.read_all_again.Goals as goal
@@ -23,7 +23,7 @@ loop-row-preserved c = λ entries h.
     let more : c.append.new.self ≡ c.loop-row.all ++ only.only ∷ [] = c.in_ok-append.ensures.ok ∙ ap (λ l. c.loop-row.all ++ l) only.entries_are in
     subst (AreReadBack (take (i + 1) entries)) (sym more)
     (subst (λ l. AreReadBack l (c.loop-row.all ++ only.only ∷ [])) (sym (take_more entries i none inside))
-    (zip_push (λ (e : NamedEntry) (r : TextEntry). SameButLine e.entry r) (take i entries) c.loop-row.all e only.only (c.loop-row.invariant entries h) (sym only.same)))
+    (zip_more (λ (e : NamedEntry) (r : TextEntry). SameButLine e.entry r) (take i entries) c.loop-row.all e only.only (c.loop-row.invariant entries h) (sym only.same)))
 
 pub returns : goal.returns
 returns c = λ entries h.
