@@ -1,14 +1,11 @@
 -- Keys: where the first NUL of an original stands.
-use Rattle.std.proofs.Common.{◌≡◌, ℕ, Bool, true, false, List, length, take, refl, sym, ap, arith}
+use Rattle.std.proofs.Common.{◌≡◌, ℕ, List, length, take, sym, ap, arith}
 use Rattle.std.specs.List.{position_or_len}
 use Rattle.std.proofs.lemmas.List.Sums.{position_or_len_is}
 use Rattle.std.proofs.lemmas.List.{take_all}
+use Rattle.std.proofs.lemmas.Bool.{false_from_ne_true}
 use Rattle.memchr.specs.Find.{NoneBefore, Nowhere, Passes, is_byte}
 use Rattle.mo_file.specs.Key.{is_nul, key_of}
-
-not_true : (b : Bool) → (b ≡ true → ⊥) → b ≡ false
-not_true true fails = absurd (fails refl)
-not_true false fails = refl
 
 -- what stands before the first NUL is the key
 pub key_of-first : (original : List ℕ) (end : ℕ) →
@@ -18,7 +15,7 @@ key_of-first original end none here =
     ap
     (λ n. take n original)
     (sym (position_or_len_is is_nul original end 0 (omega (arith, none.high))
-    (λ k lt. not_true _ (none.before k (omega arith) lt)) (λ _. here)))
+    (λ k lt. false_from_ne_true _ (none.before k (omega arith) lt)) (λ _. here)))
 
 -- an original without NUL is its own key
 pub key_of-none : (original : List ℕ) → Nowhere (Passes (is_byte 0) original) 0 (length original) →
@@ -26,5 +23,5 @@ pub key_of-none : (original : List ℕ) → Nowhere (Passes (is_byte 0) original
 key_of-none original none =
     let at_end : position_or_len is_nul original ≡ length original =
     position_or_len_is is_nul original (length original) 0 (omega arith)
-    (λ k lt. not_true _ (none k (omega arith) lt)) (λ lt. absurd (omega arith)) in
+    (λ k lt. false_from_ne_true _ (none k (omega arith) lt)) (λ lt. absurd (omega arith)) in
     sym (take_all (position_or_len is_nul original) original (omega arith))

@@ -1,7 +1,7 @@
 -- The forms of a translation, by its NULs.
-use Rattle.std.proofs.Common.{◌≡◌, ℕ, ◌+◌, ◌-◌, ◌<◌, ◌≤◌, ◌==◌, Bool, true, false, List, [], ◌∷◌, Some, length, take, drop, slice_get, refl, sym, ◌∙◌, ap, inl, inr, arith, length-drop}
+use Rattle.std.proofs.Common.{◌≡◌, ℕ, ◌+◌, ◌-◌, ◌<◌, ◌≤◌, ◌==◌, true, false, List, [], ◌∷◌, Some, length, take, drop, slice_get, refl, sym, ◌∙◌, ap, inl, inr, arith, length-drop}
 use Rattle.std.proofs.lemmas.List.{drop-drop, get_or-drop, take_rest}
-use Rattle.std.proofs.lemmas.Bool.{cases_eq, ne_eqb}
+use Rattle.std.proofs.lemmas.Bool.{cases_eq, false_from_ne_true, ne_eqb}
 use Rattle.std.specs.List.{position_or_len, slice_range}
 use Rattle.std.proofs.lemmas.List.Sums.{position_or_len_is}
 use Rattle.std.proofs.lemmas.List.Splits.{slice_split_first, slice_split_none, length-slice_split}
@@ -13,10 +13,6 @@ use Rattle.mo_lookup.specs.Answer.{form_at}
 use Rattle.mo_lookup.specs.CatalogView.{forms}
 use Rattle.mo_lookup.specs.Place.{IsFormAt}
 
-pub not_true : (b : Bool) → (b ≡ true → ⊥) → b ≡ false
-not_true true fails = absurd (fails refl)
-not_true false fails = refl
-
 -- a translation with a NUL: its first form stands before it, the others are the forms of what
 -- stands after it
 pub forms-first : (text : List ℕ) (end : ℕ) → NoneBefore (Passes (is_byte 0) text) 0 (length text) end → Passes (is_byte 0) text end →
@@ -24,13 +20,13 @@ pub forms-first : (text : List ℕ) (end : ℕ) → NoneBefore (Passes (is_byte 
 forms-first text end none here =
     let inside = none.high in
     let index : position_or_len is_nul text ≡ end =
-    position_or_len_is is_nul text end 0 (omega arith) (λ k lt. not_true _ (none.before k (omega arith) lt)) (λ _. here) in
+    position_or_len_is is_nul text end 0 (omega arith) (λ k lt. false_from_ne_true _ (none.before k (omega arith) lt)) (λ _. here) in
     slice_split_first is_nul text 0 (omega arith) ∙ ap (λ n. take n text ∷ forms (drop (n + 1) text)) index
 
 -- a translation without NUL is its one form
 pub forms-one : (text : List ℕ) → Nowhere (Passes (is_byte 0) text) 0 (length text) → forms text ≡ text ∷ []
 forms-one text none =
-    slice_split_none is_nul text (All-from_get_or (λ byte. is_nul byte ≡ false) text 0 (λ i inside. not_true _ (none i (omega arith) inside)))
+    slice_split_none is_nul text (All-from_get_or (λ byte. is_nul byte ≡ false) text 0 (λ i inside. false_from_ne_true _ (none i (omega arith) inside)))
 
 -- the byte at a place that passes as NUL
 nul_there : (x : ℕ) → (x == 0) ≡ true → x ≡ 0

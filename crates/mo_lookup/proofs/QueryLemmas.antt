@@ -3,9 +3,9 @@ use Rattle.std.proofs.Common.{◌≡◌, ℕ, ◌==◌, ◌||◌, Bool, true, fa
 use Rattle.std.specs.Option.{is_some}
 use Rattle.std.proofs.lemmas.List.Elements.{All-from_get_or}
 use Rattle.std.proofs.lemmas.List.Folds.{list_any_at, list_any_none}
+use Rattle.std.proofs.lemmas.Bool.{false_from_ne_true}
 use Rattle.memchr.specs.Find.{IsFirstByte, is_byte}
 use Rattle.mo_lookup.specs.Query.{is_separator, has_no_separator}
-use Rattle.mo_lookup.proofs.FormLemmas.{not_true}
 
 neither : (nul eot : Bool) → nul ≡ false → eot ≡ false → (nul || eot) ≡ false
 neither nul eot no_nul no_eot = rw (no_nul, no_eot) refl
@@ -33,7 +33,7 @@ no_separator_by_eot text None None true true first_nul first_eot is_nul none is_
     list_any_none is_separator text
     (
     All-from_get_or (λ byte. is_separator byte ≡ false) text 0
-    (λ i inside. neither _ _ (not_true _ (first_nul i (omega arith) inside)) (not_true _ (first_eot i (omega arith) inside)))
+    (λ i inside. neither _ _ (false_from_ne_true _ (first_nul i (omega arith) inside)) (false_from_ne_true _ (first_eot i (omega arith) inside)))
     )
     )
     )

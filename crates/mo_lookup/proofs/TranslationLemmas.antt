@@ -9,13 +9,12 @@ use Rattle.std.proofs.lemmas.List.Sums.{position_or_len_is}
 use Rattle.std.proofs.lemmas.List.Folds.{find_at}
 use Rattle.std.proofs.lemmas.Option.{slice_get-map, slice_get_past}
 use Rattle.std.proofs.lemmas.Slice.Eq.{bytes_eq-Decides}
-use Rattle.std.proofs.lemmas.Bool.{cases_lt}
+use Rattle.std.proofs.lemmas.Bool.{cases_lt, false_from_ne_true}
 use Rattle.mo_file.specs.Message.{Message, translations}
 use Rattle.mo_file.specs.Key.{AreRising, key_of, keys, key_at, key_cmp}
 use Rattle.mo_lookup.specs.Index.{IsIndexOf}
 use Rattle.mo_lookup.specs.Answer.{form_at}
 use Rattle.mo_lookup.specs.CatalogView.{forms, header_text, translation_under}
-use Rattle.mo_lookup.proofs.FormLemmas.{not_true}
 use Rattle.mo_lookup.proofs.RisingLemmas.{equal_is_same, less_is_other, rising_between}
 
 -- what is read after the end of a list of messages
@@ -31,7 +30,7 @@ tested-other : (messages : List Message) (key : List ℕ) (i : ℕ) → i < leng
     bytes_eq (key_of (get_or messages i no_message).original) key ≡ false
 tested-other messages key i inside other =
     let decides = bytes_eq-Decides (key_of (get_or messages i no_message).original) key in
-    not_true _ (λ same. other (key_at-original messages i inside ∙ decides.0 same))
+    false_from_ne_true _ (λ same. other (key_at-original messages i inside ∙ decides.0 same))
 
 tested-same : (messages : List Message) (key : List ℕ) (i : ℕ) → i < length messages → key_at (keys messages) i ≡ key →
     bytes_eq (key_of (get_or messages i no_message).original) key ≡ true

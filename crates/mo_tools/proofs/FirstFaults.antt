@@ -6,6 +6,7 @@ use Rattle.std.specs.Option.{is_some, option_or, option_to_list, option_map_or}
 use Rattle.std.proofs.lemmas.Bool.{cases_Bool, and_parts, and_from, both_ways, cond-true, cond-false, eqb-true, eqb-false, ne_eqb, ltb-true, ltb-false, le-ltb, false_from_ne_true, not-true, false≢true}
 use Rattle.std.proofs.lemmas.List.Elements.{All-nil, All-cons, All-head, All-tail}
 use Rattle.std.proofs.lemmas.List.Folds.{Any-from_list_any, list_any-from_Any}
+use Rattle.std.proofs.lemmas.Option.{none-some}
 use Rattle.po_syntax.specs.Runs.{from_end}
 use Rattle.po_entry.specs.TextEntry.{TextEntry}
 use Rattle.po_catalog.specs.Joined.{InputEntry}
@@ -33,10 +34,6 @@ ending_byte prefix b =
 
 ending_newline : (prefix : List ℕ) (b : ℕ) → has_newline Ending (prefix ++ b ∷ []) ≡ (b == 10)
 ending_newline prefix b = ap (λ o. option_map_or (λ c. c == 10) o false) (ending_byte prefix b)
-
-nothing_ends : (prefix : List ℕ) (b : ℕ) → [] ≡ prefix ++ b ∷ [] → ⊥
-nothing_ends [] b e = cc
-nothing_ends (x ∷ prefix) b e = cc
 
 newline_says : (end : End) (text : List ℕ) → has_newline end text ≡ true → HasNewline end text
 newline_says Beginning [] e = absurd (false≢true e)
@@ -105,9 +102,6 @@ if_some x false s t e = inr (refl, e)
 some_same : {X : Type 0} (x y : X) → Some x ≡ Some y → x ≡ y
 some_same x y e = cc
 
-none_some : {X : Type 0} (x : X) → None ≡ Some x → ⊥
-none_some x e = cc
-
 fault_of : (nplurals : ℕ) (e : InputEntry) (reported : Reported) (fault : CheckFault) → is_header_entry e ≡ false → Some (e.input, fault) ≡ Some reported → EntryFault nplurals e.entry fault → HasFault nplurals e reported
 fault_of nplurals e reported fault other is h =
     subst (HasFault nplurals e) (some_same (e.input, fault) reported is) (record { no_header = other; fault = h; input = refl })
@@ -116,7 +110,7 @@ entry_says : (nplurals : ℕ) (e : InputEntry) (reported : Reported) → entry_f
 entry_says nplurals e reported is =
     let line = e.entry.line in
     elim (if_some reported (is_header_entry e) _ _ is) [
-      | inl header ↦ absurd (none_some reported header.1)
+      | inl header ↦ absurd (none-some reported header.1)
       | inr other ↦ elim (if_some reported (other_count nplurals e) _ _ other.1) [
         | inl h ↦ fault_of nplurals e reported (FormCount line) other.0 h.1 (count (count_says nplurals e h.0))
         | inr right ↦ let has_count = λ (h : HasOtherCount nplurals e.entry). both_ways (other_count nplurals e) right.0 (count_passes nplurals e h) in
@@ -125,7 +119,7 @@ entry_says nplurals e reported is =
               | inr same ↦ elim (if_some reported (differs_from_msgid Ending e.entry) _ _ same.1) [
                 | inl h ↦ fault_of nplurals e reported (TrailingNewline line) other.0 h.1
                     (trailing has_count (λ d. both_ways (differs_from_msgid Beginning e.entry) same.0 (differs_passes Beginning e.entry d)) (differs_says Ending e.entry h.0))
-                | inr none ↦ absurd (none_some reported none.1)
+                | inr none ↦ absurd (none-some reported none.1)
               ]
             ]
       ]
@@ -146,7 +140,7 @@ entry_passes : (nplurals : ℕ) (e : InputEntry) (reported : Reported) → HasFa
 entry_passes nplurals e reported h = fault_given nplurals e h.no_header h.fault ∙ ap (λ i. Some (i, reported.1)) (sym h.input)
 
 no_fault : (nplurals : ℕ) (e : InputEntry) → entry_fault nplurals e ≡ None → HasNoFault nplurals e
-no_fault nplurals e none reported h = none_some reported (sym none ∙ entry_passes nplurals e reported h)
+no_fault nplurals e none reported h = none-some reported (sym none ∙ entry_passes nplurals e reported h)
 
 none_found : (nplurals : ℕ) (e : InputEntry) → HasNoFault nplurals e → entry_fault nplurals e ≡ None
 none_found nplurals e h = at (entry_fault nplurals e) refl where
@@ -160,7 +154,7 @@ value_says : (rule : RuleView) (n : ℕ) (reported : Reported) (o : Option ℕ) 
 value_says rule n reported None is e = let same = some_same (0, Undefined n) reported e in (sym (ap (λ (t : Reported). t.0) same), subst (λ (t : Reported). CountFault rule n t.1) same (undefined is))
 value_says rule n reported (Some index) is e =
     elim (if_some reported (nat_lt index rule.nplurals) None (Some (0, IndexOutside n)) e) [
-      | inl h ↦ absurd (none_some reported h.1)
+      | inl h ↦ absurd (none-some reported h.1)
       | inr h ↦ let same = some_same (0, IndexOutside n) reported h.1 in
           (sym (ap (λ (t : Reported). t.0) same), subst (λ (t : Reported). CountFault rule n t.1) same (outside is (ltb-false index rule.nplurals h.0)))
     ]
@@ -170,7 +164,7 @@ count_at {rule} {n} (undefined is) = ap (value_fault rule.nplurals n) is
 count_at {rule} {n} (outside {index = index} is past) = ap (value_fault rule.nplurals n) is ∙ cond-false (nat_lt index rule.nplurals) None (Some (0, IndexOutside n)) (le-ltb index rule.nplurals past)
 
 no_count : (rule : RuleView) (n : ℕ) → count_fault rule n ≡ None → HasNoCountFault rule n
-no_count rule n none fault h = none_some (0, fault) (sym none ∙ count_at h)
+no_count rule n none fault h = none-some (0, fault) (sym none ∙ count_at h)
 
 none_counted : (rule : RuleView) (n : ℕ) → HasNoCountFault rule n → count_fault rule n ≡ None
 none_counted rule n h = at (count_fault rule n) refl where
@@ -216,7 +210,7 @@ range_at f from more reported later None none e = least_later f from more report
 range_at f from more reported later (Some one) some same = record { least = from; from_on = omega arith; below = omega arith; given = some ∙ same; none_before = λ n on under. absurd (omega (arith, on, under)) }
 
 range_says : (f : ℕ → Option Reported) (from more : ℕ) (reported : Reported) → first_some f (range_with_len from more) ≡ Some reported → IsLeast f from (from + more) reported
-range_says f from zero reported e = absurd (none_some reported e)
+range_says f from zero reported e = absurd (none-some reported e)
 range_says f from (suc more) reported e = range_at f from more reported (λ later. range_says f (from + 1) more reported later) (f from) refl e
 
 range_gives : (f : ℕ → Option Reported) (from more least : ℕ) (reported : Reported) → from ≤ least → least < from + more → f least ≡ Some reported → ((n : ℕ) → from ≤ n → n < least → f n ≡ None) → first_some f (range_with_len from more) ≡ Some reported
@@ -255,7 +249,7 @@ list_at f x entries reported later None none e =
 list_at f x entries reported later (Some one) some same = record { before = []; e = x; after = entries; whole = refl; given = some ∙ same; none_before = All-nil (λ o. f o ≡ None) }
 
 list_says : (f : InputEntry → Option Reported) (entries : List InputEntry) (reported : Reported) → first_some f entries ≡ Some reported → IsGiven f entries reported
-list_says f [] reported e = absurd (none_some reported e)
+list_says f [] reported e = absurd (none-some reported e)
 list_says f (x ∷ entries) reported e = list_at f x entries reported (λ later. list_says f entries reported later) (f x) refl e
 
 list_gives : (f : InputEntry → Option Reported) (before : List InputEntry) (e : InputEntry) (after : List InputEntry) (reported : Reported) → f e ≡ Some reported → All (λ o. f o ≡ None) before → first_some f (before ++ e ∷ after) ≡ Some reported
@@ -265,7 +259,7 @@ list_gives f (x ∷ before) e after reported given none =
 
 none_at : (f : InputEntry → Option Reported) (x : InputEntry) (entries : List InputEntry) → (first_some f entries ≡ None → All (λ o. f o ≡ None) entries) → (o : Option Reported) → f x ≡ o → option_or o (first_some f entries) ≡ None → All (λ o. f o ≡ None) (x ∷ entries)
 none_at f x entries later None none e = All-cons (λ o. f o ≡ None) x entries none (later e)
-none_at f x entries later (Some one) some same = absurd (none_some one (sym same))
+none_at f x entries later (Some one) some same = absurd (none-some one (sym same))
 
 list_none : (f : InputEntry → Option Reported) (entries : List InputEntry) → first_some f entries ≡ None → All (λ o. f o ≡ None) entries
 list_none f [] e = All-nil (λ o. f o ≡ None)
@@ -290,7 +284,7 @@ plural_later x e entries fails h = record {
 }
 
 plural_says : (entries : List InputEntry) (e : InputEntry) → find is_plural entries ≡ Some e → IsFirst HasPlural entries e
-plural_says [] e is = absurd (none_some e is)
+plural_says [] e is = absurd (none-some e is)
 plural_says (x ∷ entries) e is =
     elim (if_some e (is_plural x) (Some x) (find is_plural entries) is) [
       | inl h ↦ subst (IsFirst HasPlural (x ∷ entries)) (some_same x e h.1) (record { before = []; after = entries; whole = refl; holds = some_given x.entry.plural h.0; none_before = All-nil (λ o. HasPlural o → ⊥) })
@@ -301,7 +295,7 @@ none_plural : (entries : List InputEntry) → find is_plural entries ≡ None �
 none_plural [] is = All-nil (λ e. HasPlural e → ⊥)
 none_plural (x ∷ entries) is =
     elim (cases_Bool (is_plural x)) [
-      | inl t ↦ absurd (none_some x (sym is ∙ cond-true (is_plural x) (Some x) (find is_plural entries) t))
+      | inl t ↦ absurd (none-some x (sym is ∙ cond-true (is_plural x) (Some x) (find is_plural entries) t))
       | inr f ↦ All-cons (λ e. HasPlural e → ⊥) x entries (no_plural x f) (none_plural entries (sym (cond-false (is_plural x) (Some x) (find is_plural entries) f) ∙ is))
     ]
 
@@ -355,11 +349,11 @@ count_first entries rule e reported plural source none is =
 after_rule : (entries : List InputEntry) (rule : RuleView) (reported : Reported) (plural : Option InputEntry) → NeedsNoOtherRule entries rule → ((e : InputEntry) → plural ≡ Some e → IsFirst HasPlural entries e × (rule.source ≡ Header)) → (o : Option Reported) → in_entries entries rule ≡ o
     → option_or o (at_counts rule plural) ≡ Some reported → FirstFault entries rule reported
 after_rule entries rule reported plural needs first (Some one) is e = entry_first entries rule reported needs (is ∙ e)
-after_rule entries rule reported None needs first None is e = absurd (none_some reported e)
+after_rule entries rule reported None needs first None is e = absurd (none-some reported e)
 after_rule entries rule reported (Some x) needs first None is e = let p = first x refl in count_first entries rule x reported p.0 p.1 is e
 
 order_says : (entries : List InputEntry) (rule : RuleView) (reported : Reported) (source : Source) (plural : Option InputEntry) → rule.source ≡ source → find is_plural entries ≡ plural → in_order entries rule source plural ≡ Some reported → FirstFault entries rule reported
-order_says entries rule reported source None s p e = after_rule entries rule reported None (inr (none_plural entries p)) (λ x none. absurd (none_some x none)) (in_entries entries rule) refl e
+order_says entries rule reported source None s p e = after_rule entries rule reported None (inr (none_plural entries p)) (λ x none. absurd (none-some x none)) (in_entries entries rule) refl e
 order_says entries rule reported Header (Some x) s p e = after_rule entries rule reported (Some x) (inl s) (λ y same. (subst (IsFirst HasPlural entries) (some_same x y same) (plural_says entries x p), s)) (in_entries entries rule) refl e
 order_says entries rule reported (Default reason) (Some x) s p e = subst (FirstFault entries rule) (some_same (x.input, NoRule x.entry.line reason) reported e) (no_rule (plural_says entries x p) s)
 

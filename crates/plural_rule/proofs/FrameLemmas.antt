@@ -23,13 +23,6 @@ least_more (First op j ∷ xs) f = omega (arith, least_more xs f)
 least_more (Second op left ∷ xs) f = omega (arith, least_more xs f)
 least_more (Condition j k ∷ xs) f = omega (arith, least_more xs f)
 
-pub numbers_more : (xs : List Frame) (f : Frame) → with_number (xs ++ f ∷ []) ≡ with_number xs + with_number (f ∷ [])
-numbers_more [] f = omega arith
-numbers_more (NotFrame ∷ xs) f = omega (arith, numbers_more xs f)
-numbers_more (First op j ∷ xs) f = omega (arith, numbers_more xs f)
-numbers_more (Second op left ∷ xs) f = omega (arith, numbers_more xs f)
-numbers_more (Condition j k ∷ xs) f = omega (arith, numbers_more xs f)
-
 pub frames_more : (whole : Tree) (xs : List Frame) (f : Frame) → AreFramesOf whole xs → IsFrameOf whole f → AreFramesOf whole (xs ++ f ∷ [])
 frames_more whole [] f h last = (last, tt)
 frames_more whole (x ∷ xs) f h last = (h.0, frames_more whole xs f h.1 last)

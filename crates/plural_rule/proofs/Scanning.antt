@@ -5,47 +5,14 @@ use Rattle.std.specs.List.{prefix_len}
 use Rattle.std.proofs.lemmas.Bool.{false≢true, cases_Bool, cond-true, cond-false}
 use Rattle.std.proofs.lemmas.List.Sums.{prefix_len_stops, prefix_len-le-length, take_while-cons}
 use Rattle.std.proofs.lemmas.List.Folds.{length-prefix_len}
-use Rattle.plural_rule.specs.declared.operator.Operator.{Operator}
-use Rattle.plural_rule.specs.declared.operator.Operator.TheVariants.{Or, And, Equal, NotEqual, Less, Greater, AtMost, AtLeast, Add, Subtract, Multiply, Divide, Remainder}
 use Rattle.plural_rule.specs.declared.token.Token.{Token}
 use Rattle.plural_rule.specs.declared.token.Token.TheVariants.{Count, Number, Not, Binary, Question, Colon, Open, Close}
 use Rattle.std.specs.Str.Parse.{AllDigits, digits_value}
 use Rattle.std.specs.Char.{is_ascii_digit}
-use Rattle.plural_rule.specs.Tokens.{operator_bytes, IsSpelling, IsLongest}
+use Rattle.plural_rule.specs.Tokens.{IsSpelling, IsLongest}
 use Rattle.plural_rule.specs.Scanner.{IsTokenAt, IsTooLarge, HasNoToken}
 use Rattle.plural_rule.proofs.Numerals.{digit_below_ten, below_ten_digit}
 use Rattle.plural_rule.proofs.Lexing.{one_prefix, first_byte, operator-facts}
-
--- two bytes or more that spell a token and begin with no digit are those of an operator
-pub record IsDouble (u : Token) (c d : ℕ) (more : List ℕ) : Type 0 where
-  pub operator : Operator
-  pub bytes : operator_bytes operator ≡ c ∷ d ∷ []
-  pub ends : more ≡ []
-
-double-operator : (op : Operator) (c d : ℕ) (more : List ℕ) → c ∷ d ∷ more ≡ operator_bytes op → IsDouble (Binary op) c d more
-double-operator Or c d more h = record { operator = Or; bytes = cc; ends = cc }
-double-operator And c d more h = record { operator = And; bytes = cc; ends = cc }
-double-operator Equal c d more h = record { operator = Equal; bytes = cc; ends = cc }
-double-operator NotEqual c d more h = record { operator = NotEqual; bytes = cc; ends = cc }
-double-operator Less c d more h = absurd cc
-double-operator Greater c d more h = absurd cc
-double-operator AtMost c d more h = record { operator = AtMost; bytes = cc; ends = cc }
-double-operator AtLeast c d more h = record { operator = AtLeast; bytes = cc; ends = cc }
-double-operator Add c d more h = absurd cc
-double-operator Subtract c d more h = absurd cc
-double-operator Multiply c d more h = absurd cc
-double-operator Divide c d more h = absurd cc
-double-operator Remainder c d more h = absurd cc
-
-pub double : (u : Token) (c d : ℕ) (more : List ℕ) → is_ascii_digit c ≡ false → IsSpelling u (c ∷ d ∷ more) → IsDouble u c d more
-double Count c d more n h = absurd cc
-double (Number v) c d more n h = absurd (false≢true (sym n ∙ below_ten_digit c h.1.0))
-double Not c d more n h = absurd cc
-double (Binary op) c d more n h = double-operator op c d more h
-double Question c d more n h = absurd cc
-double Colon c d more n h = absurd cc
-double Open c d more n h = absurd cc
-double Close c d more n h = absurd cc
 
 -- bytes that spell a token and begin with a digit are digits
 digits-only : (u : Token) (bytes : List ℕ) → is_ascii_digit (first_byte bytes) ≡ true → IsSpelling u bytes → AllDigits 10 bytes

@@ -1,8 +1,8 @@
 -- The first occurrence of a name in a text.
-use Rattle.std.proofs.Common.{◌≡◌, ℕ, zero, suc, ◌+◌, ◌-◌, ◌<◌, Bool, true, false, not, nat_eq, inl, inr, List, [], ◌∷◌, length, take, drop, Some, None, refl, ap, ◌∙◌, arith, length-append, length-drop}
+use Rattle.std.proofs.Common.{◌≡◌, ℕ, zero, suc, ◌+◌, ◌-◌, ◌<◌, Bool, true, not, nat_eq, inl, inr, List, [], ◌∷◌, length, take, drop, Some, None, refl, ap, ◌∙◌, arith, length-append, length-drop}
 use Rattle.std.specs.List.{starts_with, before_first}
 use Rattle.std.proofs.Math.Seq.{take-append_seam}
-use Rattle.std.proofs.lemmas.Bool.{cases_Bool}
+use Rattle.std.proofs.lemmas.Bool.{cases_Bool, false_from_ne_true}
 use Rattle.std.proofs.lemmas.Bool.Decides.{Decides-eqb}
 use Rattle.std.proofs.lemmas.Slice.Eq.{starts_is}
 use Rattle.std.proofs.lemmas.List.{take_all}
@@ -58,12 +58,8 @@ after_first-some name (c ∷ rest) (suc k) some h none =
 pub rest_from : (text : List ℕ) (n : ℕ) → take (length text - n) (drop n text) ≡ drop n text
 rest_from text n = take_all _ _ (omega (arith, length-drop n text))
 
-is_false : (b : Bool) → (b ≡ true → ⊥) → b ≡ false
-is_false true h = absurd (h refl)
-is_false false h = refl
-
 goes-on : (b : Bool) → (b ≡ true → ⊥) → not b ≡ true
-goes-on b h = ap not (is_false b h)
+goes-on b h = ap not (false_from_ne_true b h)
 
 pub before_first-some : (text : List ℕ) (k : ℕ) → IsFirstByte (is_byte2 59 10) text (Some k) → before_first is_end text ≡ take k text
 before_first-some text k h =

@@ -6,25 +6,10 @@ use Rattle.std.specs.List.{list_any, position_or_len}
 use Rattle.std.specs.Cmp.{IsEquivalence}
 use Rattle.std.proofs.lemmas.List.Folds.{list_any-append, position_or_len_push}
 use Rattle.std.proofs.lemmas.List.{map-append, length-map, get_or_at, get_or-map, take-append-drop}
-use Rattle.std.proofs.lemmas.List.Sums.{passes_at_first}
+use Rattle.std.proofs.lemmas.List.Sums.{fold_push, passes_at_first}
 use Rattle.std.proofs.lemmas.List.Elements.{All-nil, All-cons, All-head, All-tail}
+use Rattle.std.proofs.Math.Bool.{or-false, or-true, or_assoc}
 use Rattle.po_catalog.specs.FirstOnes.{with_new, first_ones, group_numbers}
-
-pub or_false : (b : Bool) → (b || false) ≡ b
-or_false true = refl
-or_false false = refl
-
-pub or_true : (b : Bool) → (b || true) ≡ true
-or_true true = refl
-or_true false = refl
-
-pub or_assoc : (a b c : Bool) → ((a || b) || c) ≡ (a || (b || c))
-or_assoc true b c = refl
-or_assoc false b c = refl
-
-pub fold_push : {A B : Type 0} (f : B → A → B) (b : B) (xs : List A) (x : A) → fold f b (xs ++ x ∷ []) ≡ f (fold f b xs) x
-fold_push f b [] x = refl
-fold_push f b (y ∷ xs) x = fold_push f (f b y) xs x
 
 module _ {X : Type 0} (p : X → Bool) where
   pub found_within : (xs : List X) → list_any p xs ≡ true → position_or_len p xs < length xs
@@ -55,12 +40,12 @@ module _ {X : Type 0} (alike : X → X → Bool) (laws : IsEquivalence alike) wh
   any_with_new : (e : X) (xs : List X) (x : X) → list_any (alike e) (with_new alike xs x) ≡ (list_any (alike e) xs || alike e x)
   any_with_new e xs x = found (list_any (alike x) xs) refl (alike e x) refl where
     found : (b : Bool) → list_any (alike x) xs ≡ b → (c : Bool) → alike e x ≡ c → list_any (alike e) (if b then xs else xs ++ x ∷ []) ≡ (list_any (alike e) xs || c)
-    found true h true g = any_alike e x g xs ∙ h ∙ sym (or_true (list_any (alike e) xs))
-    found true h false g = sym (or_false (list_any (alike e) xs))
-    found false h c g = list_any-append (alike e) xs (x ∷ []) ∙ ap (λ (t : Bool). list_any (alike e) xs || t) (or_false (alike e x) ∙ g)
+    found true h true g = any_alike e x g xs ∙ h ∙ sym (or-true (list_any (alike e) xs))
+    found true h false g = sym (or-false (list_any (alike e) xs))
+    found false h c g = list_any-append (alike e) xs (x ∷ []) ∙ ap (λ (t : Bool). list_any (alike e) xs || t) (or-false (alike e x) ∙ g)
 
   any_fold : (e : X) (xs ys : List X) → list_any (alike e) (fold (with_new alike) xs ys) ≡ (list_any (alike e) xs || list_any (alike e) ys)
-  any_fold e xs [] = sym (or_false (list_any (alike e) xs))
+  any_fold e xs [] = sym (or-false (list_any (alike e) xs))
   any_fold e xs (y ∷ ys) = any_fold e (with_new alike xs y) ys ∙ ap (λ (t : Bool). t || list_any (alike e) ys) (any_with_new e xs y) ∙ or_assoc (list_any (alike e) xs) (alike e y) (list_any (alike e) ys)
 
   -- an element is like a first one exactly where it is like one of the list
@@ -70,7 +55,7 @@ module _ {X : Type 0} (alike : X → X → Bool) (laws : IsEquivalence alike) wh
   all_from : (before xs : List X) → All (λ y. list_any (alike y) (before ++ xs) ≡ true) xs
   all_from before [] = All-nil (λ y. list_any (alike y) (before ++ []) ≡ true)
   all_from before (x ∷ xs) =
-      let here : list_any (alike x) (before ++ x ∷ xs) ≡ true = list_any-append (alike x) before (x ∷ xs) ∙ ap (λ (t : Bool). list_any (alike x) before || (t || list_any (alike x) xs)) (laws.refl x) ∙ or_true (list_any (alike x) before) in
+      let here : list_any (alike x) (before ++ x ∷ xs) ≡ true = list_any-append (alike x) before (x ∷ xs) ∙ ap (λ (t : Bool). list_any (alike x) before || (t || list_any (alike x) xs)) (laws.refl x) ∙ or-true (list_any (alike x) before) in
       All-cons (λ y. list_any (alike y) (before ++ x ∷ xs) ≡ true) x xs here
       (subst (λ l. All (λ y. list_any (alike y) l ≡ true) xs) (append_assoc before (x ∷ []) xs) (all_from (before ++ x ∷ []) xs))
 

@@ -1,5 +1,5 @@
 -- The messages of entries mean these entries.
-use Rattle.std.proofs.Common.{◌≡◌, ◌≢◌, ℕ, ◌<◌, Bool, true, false, ◌&&◌, ◌||◌, ◌==◌, not, cond, List, [], ◌∷◌, ◌++◌, Option, None, Some, refl, sym, ap, ◌∙◌, subst, length, arith, All, find, IfSome, option_to_list}
+use Rattle.std.proofs.Common.{◌≡◌, ◌≢◌, ℕ, ◌<◌, Bool, true, false, ◌==◌, cond, List, [], ◌∷◌, ◌++◌, Option, None, Some, refl, sym, ap, ◌∙◌, subst, length, arith, All, find, IfSome, option_to_list}
 use Rattle.std.specs.Bool.{Decides, one_answer}
 use Rattle.std.specs.List.{list_any, join_with_byte}
 use Rattle.std.specs.Option.{option_map, option_map_or, option_eq, unwrap_or}
@@ -7,6 +7,7 @@ use Rattle.std.specs.Str.{bytes_eq}
 use Rattle.std.proofs.lemmas.List.Elements.{All-head, All-tail, All-cons, All-nil, All-weaker, All-contains}
 use Rattle.std.proofs.lemmas.Slice.Eq.{bytes_eq-Decides}
 use Rattle.std.proofs.lemmas.Bool.Decides.{Decides-eqb, Decides-and, Decides-like}
+use Rattle.std.proofs.lemmas.Bool.{and_parts, not-true, or_parts}
 use Rattle.mo_file.specs.Message.{Message}
 use Rattle.mo_file.specs.Key.{key_of, query_key}
 use Rattle.mo_lookup.specs.Answer.{form_at, answer}
@@ -71,28 +72,16 @@ some_forms (form ∷ others) some lacks = slice_split-join form others lacks
 pub forms-translation : (entry : TextEntry) → LacksSeparators entry → forms (translation_of entry) ≡ entry.forms
 forms-translation entry lacks = some_forms entry.forms lacks.some_form lacks.forms_nul
 
-either_false : (a b : Bool) → (a || b) ≡ false → (a ≡ false) × (b ≡ false)
-either_false true b h = cc
-either_false false b h = (refl, h)
-
 -- a text without separators holds no EOT
 separators : (text : List ℕ) → list_any is_separator text ≡ false → Lacks 4 text
 separators [] h = All-nil (λ b. b ≢ 4)
 separators (b ∷ text) h =
-    let here = either_false (is_separator b) (list_any is_separator text) h in
-    let not_eot = either_false (b == 0) (b == 4) here.0 in
+    let here = or_parts (is_separator b) (list_any is_separator text) h in
+    let not_eot = or_parts (b == 0) (b == 4) here.0 in
     All-cons (λ b. b ≢ 4) b text (λ e. let same : (b == 4) ≡ true = (Decides-eqb b 4).1 e in cc (same, not_eot.1)) (separators text here.1)
 
-not_true : (b : Bool) → not b ≡ true → b ≡ false
-not_true true h = cc
-not_true false h = refl
-
 text_lacks_eot : (text : List ℕ) → has_no_separator text ≡ true → Lacks 4 text
-text_lacks_eot text h = separators text (not_true (list_any is_separator text) h)
-
-both : (a b : Bool) → (a && b) ≡ true → (a ≡ true) × (b ≡ true)
-both true b h = (refl, h)
-both false b h = cc
+text_lacks_eot text h = separators text (not-true (list_any is_separator text) h)
 
 context_lacks_eot : (context : Option (List ℕ)) → has_no_separator (unwrap_or context []) ≡ true → IfSome context (Lacks 4)
 context_lacks_eot None h = tt
@@ -108,7 +97,7 @@ option_decides (Some x) (Some y) = Decides-like (bytes_eq x y) (λ e. ap Some e)
 same_test : (context : Option (List ℕ)) (id : List ℕ) → can_be_key context id ≡ true → (entry : TextEntry) → LacksSeparators entry
     → has_key (query_key context id) (message_of entry) ≡ is_of_message context id entry
 same_test context id can_be entry c =
-    let parts = both (has_no_separator (unwrap_or context [])) (has_no_separator id) can_be in
+    let parts = and_parts (has_no_separator (unwrap_or context [])) (has_no_separator id) can_be in
     let key = key_of-original entry c in
     one_answer (has_key (query_key context id) (message_of entry)) (is_of_message context id entry)
     (bytes_eq-Decides (key_of (original_of entry)) (query_key context id))

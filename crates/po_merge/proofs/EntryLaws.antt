@@ -3,15 +3,16 @@ use Rattle.std.proofs.Common.{◌≡◌, ◌↔◌, ℕ, ◌<◌, Bool, true, fa
 use Rattle.std.specs.Prelude.{if◌then◌else◌}
 use Rattle.std.specs.List.{list_any}
 use Rattle.std.specs.Option.{option_map_or}
-use Rattle.std.proofs.lemmas.Bool.{and_parts, lt-ltb, ltb-true}
+use Rattle.std.proofs.lemmas.Bool.{and_parts, lt-ltb, ltb-true, not-false, not-true}
 use Rattle.std.proofs.lemmas.List.Elements.{filter_agree}
 use Rattle.std.proofs.lemmas.List.Folds.{list_any-append}
 use Rattle.std.proofs.lemmas.List.FromFn.{get_or-map-range_with_len, length-map-range_with_len}
+use Rattle.std.proofs.Math.Bool.{or-false, or_assoc}
+use Rattle.std.proofs.lemmas.List.Sums.{fold_push}
 use Rattle.po_syntax.specs.declared.item.CommentKind.{CommentKind}
 use Rattle.po_syntax.specs.declared.item.CommentKind.TheVariants.{Translator, Extracted, Reference, Flags}
 use Rattle.po_entry.specs.TextEntry.{TextEntry}
 use Rattle.po_catalog.specs.Joined.{is_live}
-use Rattle.po_catalog.proofs.FirstOnes.{fold_push, or_assoc, or_false}
 use Rattle.po_merge.specs.declared.input.MergeOptions.{MergeOptions}
 use Rattle.po_merge.specs.Inputs.{NamedEntry}
 use Rattle.po_merge.specs.MergedEntry.{collected, comment_of, ended, first_of, first_with, form_count, has_plural, has_previous, joined_form, joined_forms, marked, merged_entry, first_translated, texts_of, translations, with_others}
@@ -32,7 +33,7 @@ texts_collected o kind ds off = texts_merged o kind ds ∙ ap (λ (b : Bool). if
 -- a text is collected exactly if a definition has it
 any_collected : (kind : CommentKind) (text : List ℕ) (done : List (List ℕ)) (ds : List NamedEntry)
     → list_any (bytes_eq text) (fold (λ l d. with_others l (texts_of kind d.entry)) done ds) ≡ (list_any (bytes_eq text) done || list_any (λ d. has_text kind text d.entry) ds)
-any_collected kind text done [] = sym (or_false (list_any (bytes_eq text) done))
+any_collected kind text done [] = sym (or-false (list_any (bytes_eq text) done))
 any_collected kind text done (d ∷ ds) =
     any_collected kind text (with_others done (texts_of kind d.entry)) ds
     ∙ ap (λ (b : Bool). b || list_any (λ x. has_text kind text x.entry) ds)
@@ -91,14 +92,6 @@ previous_of_first o before d after none is = ap (λ (e : TextEntry). e.previous)
 pub plural_of_first : (o : MergeOptions) (before : List NamedEntry) (d : NamedEntry) (after : List NamedEntry) → PluralOfFirst o before d after
 plural_of_first o before d after none is = ap (λ (e : TextEntry). e.plural) (first_is has_plural before d after none is)
 
-not_live : (b : Bool) → not b ≡ true → b ≡ false
-not_live true e = cc
-not_live false e = refl
-
-live_not : (b : Bool) → not b ≡ false → b ≡ true
-live_not true e = refl
-live_not false e = cc
-
 or_left : (a b : Bool) → (a || b) ≡ false → a ≡ false
 or_left true b e = cc
 or_left false b e = refl
@@ -108,12 +101,12 @@ live_first [] h = cc
 live_first (e ∷ es) h = found (is_live e.entry) refl h (live_first es) where
   found : (b : Bool) → is_live e.entry ≡ b → (b || list_any (λ x. is_live x.entry) es) ≡ true → (list_any (λ x. is_live x.entry) es ≡ true → (first_of (filter (λ x. is_live x.entry) es)).obsolete ≡ false)
       → (first_of (cond b (e ∷ filter (λ x. is_live x.entry) es) (filter (λ x. is_live x.entry) es))).obsolete ≡ false
-  found true is h more = not_live e.entry.obsolete is
+  found true is h more = not-true e.entry.obsolete is
   found false is h more = more h
 
 obsolete_first : (es : List NamedEntry) → 0 < length es → list_any (λ e. is_live e.entry) es ≡ false → (first_of es).obsolete ≡ true
 obsolete_first [] some h = absurd (omega (arith, some))
-obsolete_first (e ∷ es) some h = live_not e.entry.obsolete (or_left (is_live e.entry) (list_any (λ x. is_live x.entry) es) h)
+obsolete_first (e ∷ es) some h = not-false e.entry.obsolete (or_left (is_live e.entry) (list_any (λ x. is_live x.entry) es) h)
 
 pub obsolete_where_none_is_live : (o : MergeOptions) (group : List NamedEntry) → ObsoleteWhereNoneIsLive o group
 obsolete_where_none_is_live o group some = found (list_any (λ e. is_live e.entry) group) refl where

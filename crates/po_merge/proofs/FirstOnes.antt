@@ -6,13 +6,11 @@ use Rattle.std.specs.Cmp.{IsEquivalence}
 use Rattle.std.proofs.lemmas.List.Folds.{list_any-append}
 use Rattle.std.proofs.lemmas.List.{map-append}
 use Rattle.std.proofs.lemmas.List.Elements.{filter-append}
-use Rattle.std.proofs.lemmas.Bool.{false≢true}
-use Rattle.po_catalog.proofs.FirstOnes.{any_alike, any_first_ones, fold_push, or_false}
+use Rattle.std.proofs.lemmas.Bool.{or_parts}
+use Rattle.std.proofs.Math.Bool.{or-false}
+use Rattle.std.proofs.lemmas.List.Sums.{fold_push}
+use Rattle.po_catalog.proofs.FirstOnes.{any_alike, any_first_ones}
 use Rattle.po_merge.specs.Groups.{with_new, first_ones}
-
-pub or_parts : (a b : Bool) → (a || b) ≡ false → (a ≡ false) × (b ≡ false)
-or_parts true b e = absurd (false≢true (sym e))
-or_parts false b e = (refl, e)
 
 -- no two elements are alike
 abbrev pub Apart : {X : Type 0} → (X → X → Bool) → List X → Type 0
@@ -28,7 +26,7 @@ module _ {X : Type 0} (alike : X → X → Bool) (laws : IsEquivalence alike) wh
   apart_push [] x h new = (refl, tt)
   apart_push (y ∷ ys) x h new =
       let parts = or_parts (alike x y) (list_any (alike x) ys) new in
-      (list_any-append (alike y) ys (x ∷ []) ∙ ap₂ (λ (s t : Bool). s || t) h.0 (or_false (alike y x) ∙ laws.symm y x ∙ parts.0), apart_push ys x h.1 parts.1)
+      (list_any-append (alike y) ys (x ∷ []) ∙ ap₂ (λ (s t : Bool). s || t) h.0 (or-false (alike y x) ∙ laws.symm y x ∙ parts.0), apart_push ys x h.1 parts.1)
 
   apart_new : (xs : List X) (x : X) → Apart alike xs → Apart alike (with_new alike xs x)
   apart_new xs x h = found (list_any (alike x) xs) refl where

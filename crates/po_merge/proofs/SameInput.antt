@@ -6,6 +6,8 @@ use Rattle.std.specs.Option.{option_map_or}
 use Rattle.std.proofs.lemmas.Slice.Eq.{bytes_eq-Decides, slice_eq-Decides}
 use Rattle.std.proofs.lemmas.List.Folds.{list_any-append, list_any_at, list_any_none}
 use Rattle.std.proofs.lemmas.List.Elements.{All-nil, All-cons, All-head, All-tail, All-map, All-weaker, filter-append}
+use Rattle.std.proofs.lemmas.Bool.{or_parts}
+use Rattle.std.proofs.Math.Bool.{or-true}
 use Rattle.po_syntax.specs.declared.item.CommentKind.{CommentKind}
 use Rattle.po_syntax.specs.declared.item.CommentKind.TheVariants.{Translator, Extracted, Reference, Flags}
 use Rattle.po_entry.specs.TextEntry.{TextEntry}
@@ -14,14 +16,13 @@ use Rattle.po_entry.specs.Equality.{texts_eq}
 use Rattle.po_catalog.specs.Joined.{is_live}
 use Rattle.po_catalog.specs.Duplicate.{IsSameMessage, AllDiffer}
 use Rattle.po_catalog.specs.Statistics.{has_translation}
-use Rattle.po_catalog.proofs.FirstOnes.{or_true}
 use Rattle.po_merge.specs.declared.input.MergeOptions.{MergeOptions}
 use Rattle.po_merge.specs.Inputs.{Named, NamedEntry, named}
 use Rattle.po_merge.specs.Groups.{with_new, first_ones, same_message, definitions}
 use Rattle.po_merge.specs.MergedEntry.{first_with, has_previous, has_plural, first_translated, texts_of, with_others, collected, comment_of, same_forms, translations, is_joined, joined_forms, merged_entry}
 use Rattle.po_merge.specs.Merged.{is_kept, merged_messages}
 use Rattle.po_merge.specs.MergeLaws.{keep_all, OneInputStays, WithItself}
-use Rattle.po_merge.proofs.FirstOnes.{Apart, group_of, or_parts}
+use Rattle.po_merge.proofs.FirstOnes.{Apart, group_of}
 use Rattle.po_merge.proofs.Messages.{same_message_laws}
 use Rattle.po_merge.proofs.MessagesOnce.{same_is}
 use Rattle.po_merge.proofs.OneDefinition.{all_kept, rebuilt, one_definition}
@@ -115,7 +116,7 @@ one_alone : (use_first : Bool) (d : NamedEntry) (group : List NamedEntry) → gr
 one_alone use_first d group e =
     let one : definitions group ≡ d ∷ [] = ap definitions e ∙ one_live d in
     record {
-      kept = ap (is_kept (keep_all use_first)) one ∙ or_true (is_header d.entry || false);
+      kept = ap (is_kept (keep_all use_first)) one ∙ or-true (is_header d.entry || false);
       same = ap (merged_entry (keep_all use_first)) one ∙ one_definition (keep_all use_first) d;
     }
 
@@ -177,7 +178,7 @@ two_alone : (use_first : Bool) (n m : List ℕ) (e : TextEntry) (group : List Na
 two_alone use_first n m e group same =
     let two : definitions group ≡ named n e ∷ named m e ∷ [] = ap definitions same ∙ two_live n m e in
     record {
-      kept = ap (is_kept (keep_all use_first)) two ∙ or_true (is_header e || (is_header e || false));
+      kept = ap (is_kept (keep_all use_first)) two ∙ or-true (is_header e || (is_header e || false));
       same = ap (merged_entry (keep_all use_first)) two ∙ same_twice (keep_all use_first) n m e;
     }
 
@@ -200,4 +201,4 @@ twice use_first input name h =
       each n m [] = All-nil (λ e. list_any (same_message (named m e)) [] ≡ true)
       each n m (x ∷ xs) =
           All-cons (λ e. list_any (same_message (named m e)) (map (named n) (x ∷ xs)) ≡ true) x xs (ap (λ (b : Bool). b || list_any (same_message (named m x)) (map (named n) xs)) (same_message_laws.refl (named m x)))
-          (λ k d below. ap (λ (b : Bool). same_message (named m (get_or xs k d)) (named n x) || b) (each n m xs k d below) ∙ or_true (same_message (named m (get_or xs k d)) (named n x)))
+          (λ k d below. ap (λ (b : Bool). same_message (named m (get_or xs k d)) (named n x) || b) (each n m xs k d below) ∙ or-true (same_message (named m (get_or xs k d)) (named n x)))

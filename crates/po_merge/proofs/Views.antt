@@ -2,6 +2,7 @@
 use Rattle.std.proofs.Common.{◌≡◌, ℕ, ◌<◌, Bool, true, false, cond, ◌||◌, List, [], ◌∷◌, Option, Some, None, refl, sym, ap, ◌∙◌, find, take, get_or, length, arith, suc, zero}
 use Rattle.std.specs.List.{list_any}
 use Rattle.std.specs.Option.{option_map_or}
+use Rattle.std.proofs.lemmas.Bool.{or_parts}
 use Rattle.po_entry.specs.TextEntry.{TextEntry}
 use Rattle.po_merge.specs.declared.definition.NamedEntry.{NamedEntry as BorrowedEntry}
 use Rattle.po_merge.specs.Inputs.{NamedEntry}
@@ -12,10 +13,6 @@ pub any_named : (p : TextEntry → Bool) (ds : List BorrowedEntry) → list_any 
 any_named p [] = refl
 any_named p (d ∷ ds) = ap (λ (b : Bool). p d.entry.now || b) (any_named p ds)
 
-or_cases : (a b : Bool) → (a || b) ≡ false → (a ≡ false) × (b ≡ false)
-or_cases true b e = cc
-or_cases false b e = (refl, e)
-
 -- the first definition that has the part, after ones that have not
 pub first_at : (p : TextEntry → Bool) (ds : List BorrowedEntry) (i : ℕ) (d : BorrowedEntry) → i < length ds → d ≡ get_or ds i d → list_any (λ x. p x.entry.now) (take i ds) ≡ false → p d.entry.now ≡ true
     → d.entry.now ≡ first_with p (named_entries ds)
@@ -25,7 +22,7 @@ first_at p ds i d below at none has = ap (λ (r : Option NamedEntry). option_map
   here (x ∷ xs) zero l e n =
       ap (λ (b : Bool). cond b (Some (named_entry x)) (find (λ y. p y.entry) (named_entries xs))) (ap (λ (y : BorrowedEntry). p y.entry.now) (sym e) ∙ has) ∙ ap (λ (y : BorrowedEntry). Some (named_entry y)) (sym e)
   here (x ∷ xs) (suc j) l e n =
-      let parts = or_cases (p x.entry.now) (list_any (λ y. p y.entry.now) (take j xs)) n in
+      let parts = or_parts (p x.entry.now) (list_any (λ y. p y.entry.now) (take j xs)) n in
       let less : j < length xs = omega (arith, l) in
       ap (λ (b : Bool). cond b (Some (named_entry x)) (find (λ y. p y.entry) (named_entries xs))) parts.0 ∙ here xs j less e parts.1
 
@@ -37,5 +34,5 @@ first_without p (x ∷ xs) d l e n =
       nothing : (ys : List BorrowedEntry) → list_any (λ y. p y.entry.now) ys ≡ false → find (λ y. p y.entry) (named_entries ys) ≡ None
       nothing [] h = refl
       nothing (y ∷ ys) h =
-          let parts = or_cases (p y.entry.now) (list_any (λ z. p z.entry.now) ys) h in
+          let parts = or_parts (p y.entry.now) (list_any (λ z. p z.entry.now) ys) h in
           ap (λ (b : Bool). cond b (Some (named_entry y)) (find (λ z. p z.entry) (named_entries ys))) parts.0 ∙ nothing ys parts.1

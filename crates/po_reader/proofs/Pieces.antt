@@ -1,5 +1,5 @@
 -- What pieces of a text keep: UTF-8, where they are cut at ASCII bytes, and the bytes that they lack.
-use Rattle.std.proofs.Common.{◌≡◌, ℕ, ◌+◌, ◌<◌, ◌≤◌, Bool, true, false, not, cond, ◌||◌, ◌==◌, nat_lt, List, [], ◌∷◌, ◌++◌, length, get_or, refl, arith, inl, inr, ◌⊎◌, zero, suc, lit<}
+use Rattle.std.proofs.Common.{◌≡◌, ℕ, ◌+◌, ◌<◌, ◌≤◌, Bool, true, false, not, cond, ◌==◌, nat_lt, List, [], ◌∷◌, ◌++◌, length, get_or, refl, arith, inl, inr, zero, suc, lit<}
 use Rattle.std.specs.Prelude.{All, IsUtf8}
 use Rattle.std.specs.List.{slice_split, position_or_len, before_first, after_first, onto_first}
 use Rattle.std.proofs.Math.Seq.{take-append_seam}
@@ -8,7 +8,7 @@ use Rattle.std.proofs.lemmas.List.Elements.{All-nil, All-cons, All-head, All-tai
 use Rattle.std.proofs.lemmas.List.Sums.{prefix_len_passes, prefix_len_stops}
 use Rattle.std.proofs.lemmas.List.Splits.{slice_split_none, slice_split_first}
 use Rattle.std.proofs.lemmas.Str.{IsUtf8-past_char, IsUtf8-take, IsUtf8-drop, IsCharBoundary-before_ascii, IsCharBoundary-after_ascii, encode_ascii}
-use Rattle.std.proofs.lemmas.Bool.{ltb-false, ltb-true, eqb-true, not-true, not-false}
+use Rattle.std.proofs.lemmas.Bool.{ltb-false, ltb-true, eqb-true, not-true, not-false, or_cases}
 use Rattle.po_syntax.specs.Token.{is_blank}
 
 -- text after an ASCII byte
@@ -27,16 +27,12 @@ utf8_before text b ascii h =
     at_seam [] b = refl
     at_seam (c ∷ text) b = at_seam text b
 
-either_test : (x y : Bool) → (x || y) ≡ true → (x ≡ true) ⊎ (y ≡ true)
-either_test true y e = inl refl
-either_test false y e = inr e
-
 pub blank_is_ascii : (b : ℕ) → is_blank b ≡ true → b < 128
 blank_is_ascii b t =
-    elim (either_test _ _ t) [
-      | inl four ↦ elim (either_test _ _ four) [
-        | inl three ↦ elim (either_test _ _ three) [
-          | inl two ↦ elim (either_test _ _ two) [ inl one ↦ small 32 (lit< tt) one | inr one ↦ small 9 (lit< tt) one ]
+    elim (or_cases _ _ t) [
+      | inl four ↦ elim (or_cases _ _ four) [
+        | inl three ↦ elim (or_cases _ _ three) [
+          | inl two ↦ elim (or_cases _ _ two) [ inl one ↦ small 32 (lit< tt) one | inr one ↦ small 9 (lit< tt) one ]
           | inr one ↦ small 11 (lit< tt) one
         ]
         | inr one ↦ small 12 (lit< tt) one

@@ -11,6 +11,7 @@ use Rattle.std.specs.BTreeSet.{BTreeSet, contains}
 use Rattle.std.proofs.lemmas.List.{take_more, map-append}
 use Rattle.std.proofs.lemmas.List.Folds.{list_any-append}
 use Rattle.std.proofs.lemmas.List.Sums.{fold_push}
+use Rattle.std.proofs.Math.Bool.{or-false}
 use Rattle.po_entry.specs.TextEntry.{texts}
 use Rattle.po_entry.specs.Comments.{is_fuzzy_flag, with_flag}
 use Rattle.po_reader.specs.Steps.SeenFlags.{HasFlags}
@@ -19,16 +20,12 @@ pub list_any-texts : (p : List ℕ → Bool) (elements : List (Vec ℕ)) → lis
 list_any-texts p [] = refl
 list_any-texts p (flag ∷ elements) = ap (λ b. p flag.items || b) (list_any-texts p elements)
 
-or_false : (b : Bool) → (b || false) ≡ b
-or_false true = refl
-or_false false = refl
-
 cond_or : (a b c : Bool) → a ≡ b → cond a true c ≡ (c || b)
 cond_or true true true e = refl
 cond_or true true false e = refl
 cond_or true false c e = cc
 cond_or false true c e = cc
-cond_or false false c e = sym (or_false c)
+cond_or false false c e = sym (or-false c)
 
 -- a flag more
 pub one_flag_more : (old new : BTreeSet (Bor (List ℕ))) (k : Bor (List ℕ)) (flags : List (List ℕ)) → HasFlags old flags
@@ -36,7 +33,7 @@ pub one_flag_more : (old new : BTreeSet (Bor (List ℕ))) (k : Bor (List ℕ)) (
     → HasFlags new (flags ++ k.now ∷ [])
 one_flag_more old new k flags h updated q =
     updated q ∙ cond_or (is_at (λ y. slice_cmp nat_cmp k.now y.now) q) (bytes_eq q.now k.now) (contains (λ x y. slice_cmp nat_cmp x.now y.now) old q) (sym (texts_ties k.now q.now) ∙ nat_list_eq_equiv.symm k.now q.now)
-    ∙ ap₂ (λ (s t : Bool). s || t) (h q) (sym (or_false (bytes_eq q.now k.now))) ∙ sym (list_any-append (bytes_eq q.now) flags (k.now ∷ []))
+    ∙ ap₂ (λ (s t : Bool). s || t) (h q) (sym (or-false (bytes_eq q.now k.now))) ∙ sym (list_any-append (bytes_eq q.now) flags (k.now ∷ []))
 
 -- the elements up to the next one, of which flags are kept
 pub flags_more : (elements : List (Vec ℕ)) (i : ℕ) (x : Vec ℕ) (flags : List (List ℕ)) (b : Bool) → i < length elements → x ≡ get_or elements i x

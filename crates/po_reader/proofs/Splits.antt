@@ -3,12 +3,8 @@ use Rattle.std.proofs.Common.{◌≡◌, ℕ, ◌<◌, ◌≤◌, Bool, true, fa
 use Rattle.std.specs.List.{position_or_len, slice_split}
 use Rattle.std.proofs.lemmas.List.Sums.{prefix_len_passes}
 use Rattle.std.proofs.lemmas.List.Splits.{slice_split_none, slice_split_first}
-use Rattle.std.proofs.lemmas.Bool.{ltb-false, ltb-true}
+use Rattle.std.proofs.lemmas.Bool.{ltb-false, ltb-true, not-true}
 use Rattle.std.proofs.lemmas.List.{drop-drop}
-
-not_passed : (b : Bool) → not b ≡ true → b ≡ false
-not_passed true e = cc
-not_passed false e = refl
 
 pub cut_none : (p : ℕ → Bool) (xs : List ℕ) → None ≡ position p xs → slice_split p xs ≡ xs ∷ []
 cut_none p xs e = found (nat_lt (position_or_len p xs) (length xs)) refl e where
@@ -16,7 +12,7 @@ cut_none p xs e = found (nat_lt (position_or_len p xs) (length xs)) refl e where
   found true t q = cc
   found false t q =
       let past : length xs ≤ position_or_len p xs = ltb-false _ _ t in
-      slice_split_none p xs (λ k d inside. not_passed _ (prefix_len_passes (λ x. not (p x)) xs k d (omega arith)))
+      slice_split_none p xs (λ k d inside. not-true _ (prefix_len_passes (λ x. not (p x)) xs k d (omega arith)))
 
 pub cut_found : (p : ℕ → Bool) (xs : List ℕ) (i : ℕ) → Some i ≡ position p xs → slice_split p xs ≡ take i xs ∷ slice_split p (drop 1 (drop i xs))
 cut_found p xs i e = found (nat_lt (position_or_len p xs) (length xs)) refl e where

@@ -1,6 +1,6 @@
 -- What each option keeps, removes and changes.
 use Rattle.std.proofs.Common.{◌≡◌, ◌≢◌, ◌⊎◌, ℕ, Bool, true, false, not, ◌&&◌, ◌||◌, ◌==◌, List, [], ◌∷◌, All, map, length, refl, sym, ap, ◌∙◌, inl, inr, arith, if◌then◌else◌}
-use Rattle.std.proofs.lemmas.Bool.{and_parts, false≢true, ne_eqb}
+use Rattle.std.proofs.lemmas.Bool.{and_parts, false≢true, ne_eqb, not-false, not-true, or_parts}
 use Rattle.std.proofs.lemmas.List.{length-map}
 use Rattle.std.proofs.lemmas.List.Elements.{All-nil, All-cons, All-weaker, filter_passes}
 use Rattle.po_entry.specs.TextEntry.{TextEntry}
@@ -19,21 +19,9 @@ not_given : (option condition : Bool) → if_given option condition ≡ false �
 not_given true condition h = (refl, h)
 not_given false condition h = cc
 
-not_true : (b : Bool) → not b ≡ true → b ≡ false
-not_true true h = cc
-not_true false h = refl
-
-not_false : (b : Bool) → not b ≡ false → b ≡ true
-not_false true h = refl
-not_false false h = cc
-
 one_fails : (a b : Bool) → (a && b) ≡ false → (a ≡ false) ⊎ (b ≡ false)
 one_fails true b h = inr h
 one_fails false b h = inl refl
-
-none_of : (a b : Bool) → (a || b) ≡ false → (a ≡ false) × (b ≡ false)
-none_of true b h = cc
-none_of false b h = (refl, h)
 
 has_some : (form : List ℕ) → not (length form == 0) ≡ true → form ≢ []
 has_some form h is = false≢true (ap (λ (f : List ℕ). not (length f == 0)) (sym is) ∙ h)
@@ -70,33 +58,33 @@ pub keeps_translated : (s : Selection) (entries : List TextEntry) → KeepsTrans
 keeps_translated s entries on = all_met s (λ e. first_form e.forms ≢ []) (λ e m. has_some (first_form e.forms) (given s.translated (has_translation e) m.translated on)) entries
 
 pub keeps_untranslated : (s : Selection) (entries : List TextEntry) → KeepsUntranslated s entries
-keeps_untranslated s entries on = all_met s (λ e. first_form e.forms ≡ []) (λ e m. has_none (first_form e.forms) (not_true (has_translation e) (given s.untranslated (not (has_translation e)) m.untranslated on))) entries
+keeps_untranslated s entries on = all_met s (λ e. first_form e.forms ≡ []) (λ e m. has_none (first_form e.forms) (not-true (has_translation e) (given s.untranslated (not (has_translation e)) m.untranslated on))) entries
 
 pub removes_fuzzy : (s : Selection) (entries : List TextEntry) → RemovesFuzzy s entries
-removes_fuzzy s entries on = all_met s (λ e. e.fuzzy ≡ false) (λ e m. not_true e.fuzzy (given s.no_fuzzy (not e.fuzzy) m.no_fuzzy on)) entries
+removes_fuzzy s entries on = all_met s (λ e. e.fuzzy ≡ false) (λ e m. not-true e.fuzzy (given s.no_fuzzy (not e.fuzzy) m.no_fuzzy on)) entries
 
 pub keeps_fuzzy : (s : Selection) (entries : List TextEntry) → KeepsFuzzy s entries
 keeps_fuzzy s entries on = all_met s (λ e. e.fuzzy ≡ true) (λ e m. given s.only_fuzzy e.fuzzy m.only_fuzzy on) entries
 
 pub removes_obsolete : (s : Selection) (entries : List TextEntry) → RemovesObsolete s entries
-removes_obsolete s entries on = all_met s (λ e. e.obsolete ≡ false) (λ e m. not_true e.obsolete (given s.no_obsolete (not e.obsolete) m.no_obsolete on)) entries
+removes_obsolete s entries on = all_met s (λ e. e.obsolete ≡ false) (λ e m. not-true e.obsolete (given s.no_obsolete (not e.obsolete) m.no_obsolete on)) entries
 
 pub keeps_obsolete : (s : Selection) (entries : List TextEntry) → KeepsObsolete s entries
 keeps_obsolete s entries on =
-    all_met s (λ e. e.obsolete ≡ true) (λ e m. not_false e.obsolete (not_true (not e.obsolete) (given s.only_obsolete (not (not e.obsolete)) m.only_obsolete on))) entries
+    all_met s (λ e. e.obsolete ≡ true) (λ e m. not-false e.obsolete (not-true (not e.obsolete) (given s.only_obsolete (not (not e.obsolete)) m.only_obsolete on))) entries
 
 -- an entry that isn't kept fails a condition
 pub only_unwanted : (s : Selection) (e : TextEntry) → is_kept s e ≡ false → IsUnwanted s e
-only_unwanted s e h = elim (one_fails _ (if_given s.only_obsolete (not (not e.obsolete))) (none_of (is_live_header e) (meets s e) h).1) [
-  | inr f ↦ let n = not_given s.only_obsolete (not (not e.obsolete)) f in inr (inr (inr (inr (inr (n.0, not_true e.obsolete (not_false (not e.obsolete) n.1))))))
+only_unwanted s e h = elim (one_fails _ (if_given s.only_obsolete (not (not e.obsolete))) (or_parts (is_live_header e) (meets s e) h).1) [
+  | inr f ↦ let n = not_given s.only_obsolete (not (not e.obsolete)) f in inr (inr (inr (inr (inr (n.0, not-true e.obsolete (not-false (not e.obsolete) n.1))))))
   | inl a ↦ elim (one_fails _ (if_given s.no_obsolete (not e.obsolete)) a) [
-    | inr f ↦ let n = not_given s.no_obsolete (not e.obsolete) f in inr (inr (inr (inr (inl (n.0, not_false e.obsolete n.1)))))
+    | inr f ↦ let n = not_given s.no_obsolete (not e.obsolete) f in inr (inr (inr (inr (inl (n.0, not-false e.obsolete n.1)))))
     | inl b ↦ elim (one_fails _ (if_given s.only_fuzzy e.fuzzy) b) [
       | inr f ↦ let n = not_given s.only_fuzzy e.fuzzy f in inr (inr (inr (inl n)))
       | inl c ↦ elim (one_fails _ (if_given s.no_fuzzy (not e.fuzzy)) c) [
-        | inr f ↦ let n = not_given s.no_fuzzy (not e.fuzzy) f in inr (inr (inl (n.0, not_false e.fuzzy n.1)))
+        | inr f ↦ let n = not_given s.no_fuzzy (not e.fuzzy) f in inr (inr (inl (n.0, not-false e.fuzzy n.1)))
         | inl d ↦ elim (one_fails (if_given s.translated (has_translation e)) (if_given s.untranslated (not (has_translation e))) d) [
-          | inr f ↦ let n = not_given s.untranslated (not (has_translation e)) f in inr (inl (n.0, has_some (first_form e.forms) (not_false (has_translation e) n.1)))
+          | inr f ↦ let n = not_given s.untranslated (not (has_translation e)) f in inr (inl (n.0, has_some (first_form e.forms) (not-false (has_translation e) n.1)))
           | inl f ↦ let n = not_given s.translated (has_translation e) f in inl (n.0, has_none (first_form e.forms) n.1)
         ]
       ]

@@ -11,6 +11,7 @@ use Rattle.std.specs.BTreeSet.{BTreeSet, contains}
 use Rattle.std.proofs.lemmas.Grind.{fold-append}
 use Rattle.std.proofs.lemmas.List.{take_more, map-append}
 use Rattle.std.proofs.lemmas.List.Folds.{list_any-append}
+use Rattle.std.proofs.Math.Bool.{or-false}
 use Rattle.po_shell.specs.Locales.{distinct, with_name}
 
 -- the tree has exactly these names
@@ -19,16 +20,12 @@ HasNames seen names =
     (q : Bor (List ℕ))
     → contains (λ x y. slice_cmp nat_cmp x.now y.now) seen q ≡ list_any (λ known. bytes_eq known q.now) names
 
-or_false : (b : Bool) → (b || false) ≡ b
-or_false true = refl
-or_false false = refl
-
 cond_or : (a b c : Bool) → a ≡ b → cond a true c ≡ (c || b)
 cond_or true true true e = refl
 cond_or true true false e = refl
 cond_or true false c e = cc
 cond_or false true c e = cc
-cond_or false false c e = sym (or_false c)
+cond_or false false c e = sym (or-false c)
 
 -- a name more
 pub one_name_more : (old new : BTreeSet (Bor (List ℕ))) (k : Bor (List ℕ)) (names : List (List ℕ)) → HasNames old names
@@ -36,7 +33,7 @@ pub one_name_more : (old new : BTreeSet (Bor (List ℕ))) (k : Bor (List ℕ)) (
     → HasNames new (names ++ k.now ∷ [])
 one_name_more old new k names h updated q =
     updated q ∙ cond_or (is_at (λ y. slice_cmp nat_cmp k.now y.now) q) (bytes_eq k.now q.now) (contains (λ x y. slice_cmp nat_cmp x.now y.now) old q) (sym (texts_ties k.now q.now))
-    ∙ ap₂ (λ (s t : Bool). s || t) (h q) (sym (or_false (bytes_eq k.now q.now))) ∙ sym (list_any-append (λ known. bytes_eq known q.now) names (k.now ∷ []))
+    ∙ ap₂ (λ (s t : Bool). s || t) (h q) (sym (or-false (bytes_eq k.now q.now))) ∙ sym (list_any-append (λ known. bytes_eq known q.now) names (k.now ∷ []))
 
 -- the names up to the next one, each kept once
 pub distinct_more : (names : List (Vec ℕ)) (i : ℕ) (x : Vec ℕ) (kept : List (List ℕ)) (b : Bool) → i < length names → x ≡ get_or names i x

@@ -7,6 +7,7 @@ use Rattle.std.proofs.lemmas.Bool.{cases_Bool, cond-true, cond-false, both_ways,
 use Rattle.std.proofs.lemmas.List.Elements.{All-nil, All-cons, All-head, All-tail}
 use Rattle.std.proofs.lemmas.List.Folds.{Any-from_list_any, list_any-from_Any}
 use Rattle.std.proofs.lemmas.Slice.Eq.{bytes_eq-Decides}
+use Rattle.std.proofs.lemmas.Option.{none-some}
 use Rattle.po_shell.specs.Substitution.{value_of, is_replaced, values_of}
 use Rattle.po_shell.specs.Replacing.{HasValue, unset, set, IsReplaced}
 
@@ -64,16 +65,13 @@ replaced_passes (Some names) name h = list_any-from_Any (λ n. bytes_eq n name) 
 some_same : {X : Type 0} (x y : X) → Some x ≡ Some y → x ≡ y
 some_same x y e = cc
 
-none_some : {X : Type 0} (x : X) → None ≡ Some x → ⊥
-none_some x e = cc
-
 value_says : (vars : List Variable) (only : Option (List (List ℕ))) (name value : List ℕ) → values_of vars only name ≡ Some value → IsReplaced only name × HasValue name vars value
 unfolding values_of
 value_says vars only name value e =
     elim (cases_Bool (is_replaced only name)) [
       | inl t ↦ let same = some_same (value_of vars name) value (sym (cond-true (is_replaced only name) (Some (value_of vars name)) None t) ∙ e) in
           (replaced_says only name t, subst (HasValue name vars) same (has_value name vars))
-      | inr f ↦ absurd (none_some value (sym (cond-false (is_replaced only name) (Some (value_of vars name)) None f) ∙ e))
+      | inr f ↦ absurd (none-some value (sym (cond-false (is_replaced only name) (Some (value_of vars name)) None f) ∙ e))
     ]
 
 value_is : (vars : List Variable) (only : Option (List (List ℕ))) (name value : List ℕ) → IsReplaced only name → HasValue name vars value → values_of vars only name ≡ Some value

@@ -1,9 +1,9 @@
 -- The quoted form of a UTF-8 text is UTF-8, and holds no byte below space.
-use Rattle.std.proofs.Common.{◌≡◌, ◌==◌, ◌||◌, ◌⊎◌, ◌/◌, ◌%◌, refl, sym, subst, inl, inr, ℕ, ◌+◌, ◌<◌, ◌≤◌, Bool, true, false, nat_lt, if◌then◌else◌, List, [], ◌∷◌, ◌++◌, append-nil, length, get_or, All, IsUtf8, arith}
+use Rattle.std.proofs.Common.{◌≡◌, ◌==◌, ◌/◌, ◌%◌, refl, sym, subst, inl, inr, ℕ, ◌+◌, ◌<◌, ◌≤◌, Bool, true, false, nat_lt, if◌then◌else◌, List, [], ◌∷◌, ◌++◌, append-nil, length, get_or, All, IsUtf8, arith}
 use Rattle.std.specs.Char.{digit_char}
 use Rattle.std.specs.Str.{IsAscii}
 use lib.Utf8.{encode, encodes, scalars, scalar}
-use Rattle.std.proofs.lemmas.Bool.{cases_lt, cond-true, lt-ltb, le-ltb, ltb-true, ltb-false, eqb-true, ne_eqb, or_parts, and_parts}
+use Rattle.std.proofs.lemmas.Bool.{cases_lt, cond-true, lt-ltb, le-ltb, ltb-true, ltb-false, eqb-true, ne_eqb, or_parts, and_parts, or_cases}
 use Rattle.std.proofs.lemmas.Grind.{flat_map-append}
 use Rattle.std.proofs.lemmas.List.{take_all}
 use Rattle.std.proofs.lemmas.List.Elements.{All-append, All-cons, All-head, All-tail}
@@ -28,13 +28,9 @@ if_shown : (most : ℕ) (test : Bool) (s t : List ℕ) → (test ≡ true → Al
 if_shown most true s t p q = p refl
 if_shown most false s t p q = q refl
 
-either : (s t : Bool) → (s || t) ≡ true → (s ≡ true) ⊎ (t ≡ true)
-either true t e = inl refl
-either false t e = inr e
-
 control_ascii : (b : ℕ) → is_control b ≡ true → b < 128
 control_ascii b e =
-    elim (either (nat_lt b 32) (b == 127) e) [ inl low ↦ omega (arith, ltb-true b 32 low) | inr delete ↦ omega (arith, eqb-true b 127 delete) ]
+    elim (or_cases (nat_lt b 32) (b == 127) e) [ inl low ↦ omega (arith, ltb-true b 32 low) | inr delete ↦ omega (arith, eqb-true b 127 delete) ]
 
 digit_shown : (most d : ℕ) → 128 ≤ most → d < 8 → Shown most (digit_char d)
 digit_shown most d bound small =

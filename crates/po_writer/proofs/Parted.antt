@@ -1,5 +1,5 @@
 -- A written text in two parts.
-use Rattle.std.proofs.Common.{◌≡◌, ◌∙◌, refl, sym, ap, ◌<◌, ◌==◌, List, [], ◌∷◌, ◌++◌, true, false, not, filter, length, append-nil, append_assoc, arith, vec_len}
+use Rattle.std.proofs.Common.{◌≡◌, ◌∙◌, sym, ap, ◌<◌, ◌==◌, List, [], ◌∷◌, ◌++◌, true, false, not, filter, length, append-nil, append_assoc, arith, vec_len}
 use Rattle.std.specs.Prelude.{fold}
 use Rattle.std.proofs.lemmas.List.Elements.{filter-append, filter_agree}
 use Rattle.std.proofs.lemmas.List.Sums.{fold-append}
@@ -31,10 +31,6 @@ obsolete_grown before entries =
 none_after : (prefix after : List TextEntry) → length (in_order after) ≡ 0 → in_order prefix ≡ in_order (prefix ++ after)
 none_after prefix [] none = ap in_order (sym (append-nil prefix))
 none_after prefix (entry ∷ entries) none = absurd (omega (arith, none, some_text (entry ∷ entries) (omega arith)))
-
-none_before : (prefix after : List TextEntry) → length (in_order prefix) ≡ 0 → in_order after ≡ in_order (prefix ++ after)
-none_before [] after none = refl
-none_before (entry ∷ entries) after none = absurd (omega (arith, none, some_text (entry ∷ entries) (omega arith)))
 
 some_both : (prefix after : List TextEntry) → 0 < length (in_order prefix) → 0 < length (in_order after) → (in_order prefix ++ 10 ∷ []) ++ in_order after ≡ in_order (prefix ++ after)
 some_both prefix [] some more = absurd (omega (arith, more))

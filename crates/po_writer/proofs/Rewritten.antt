@@ -4,6 +4,7 @@ use Rattle.std.proofs.Common.{◌≡◌, ◌∙◌, not, refl, sym, ap, Bool, tr
 use Rattle.std.specs.List.{flat_map, join_by}
 use Rattle.std.proofs.lemmas.List.{append-nil, map-append}
 use Rattle.std.proofs.lemmas.List.Elements.{filter-append}
+use Rattle.std.proofs.lemmas.Bool.{not-true}
 use Rattle.po_entry.specs.TextEntry.{TextEntry, with_line}
 use Rattle.po_writer.specs.WrittenText.{entry_lines, arranged, written_text}
 
@@ -51,10 +52,6 @@ kept_other test other (e ∷ entries) apart = other_cases test other e (test e.o
 not_true : (b : Bool) → b ≡ true → not b ≡ false
 not_true b h = ap not h
 
-not_not_true : (b : Bool) → not b ≡ true → b ≡ false
-not_not_true true h = sym h
-not_not_true false h = refl
-
 -- arranged entries stay as they are
 arranged_again : (entries : List TextEntry) → arranged (arranged entries) ≡ arranged entries
 arranged_again entries =
@@ -63,7 +60,7 @@ arranged_again entries =
     let prefix : kept not (live ++ obsolete) ≡ live =
     filter-append (λ e. not e.obsolete) live obsolete ∙ rw (kept_again not entries, kept_other (λ b. b) not entries not_true) (append-nil live) in
     let back : kept (λ b. b) (live ++ obsolete) ≡ obsolete =
-    filter-append (λ e. e.obsolete) live obsolete ∙ rw (kept_again (λ b. b) entries, kept_other not (λ b. b) entries not_not_true) refl in
+    filter-append (λ e. e.obsolete) live obsolete ∙ rw (kept_again (λ b. b) entries, kept_other not (λ b. b) entries not-true) refl in
     rw (prefix, back) refl
 
 arranged_same : (entries : List TextEntry) → arranged (unnumbered entries) ≡ unnumbered (arranged entries)

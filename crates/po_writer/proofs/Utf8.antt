@@ -8,7 +8,7 @@ use Rattle.std.proofs.lemmas.Str.{IsUtf8-append, IsUtf8-nil, IsUtf8-encode, IsUt
 use Rattle.std.proofs.lemmas.List.Elements.{All-nil, All-cons, All-head, All-tail, All-append, All-weaker}
 use Rattle.std.proofs.lemmas.Grind.{flat_map-append}
 use Rattle.po_entry.specs.Halves.{All-right}
-use Rattle.std.proofs.lemmas.Bool.{ne_eqb, lt-ltb, ltb-true, le-ltb, ltb-false}
+use Rattle.std.proofs.lemmas.Bool.{ne_eqb, lt-ltb, ltb-true, le-ltb, ltb-false, and_parts}
 use Rattle.po_syntax.specs.QuotedForm.{octal_escape, is_control, written_byte, written_bytes, quoted}
 use Rattle.po_writer.specs.WrittenText.{lines_with_ends}
 
@@ -54,10 +54,6 @@ one_chunk : (c : ℕ) (rest : List ℕ) → IsScalar c → (c < 128) ⊎ (128 �
 one_chunk c rest h (inl low) more = rw (encode_ascii c low) (ascii c low more)
 one_chunk c rest h (inr big) more = high (encode c) (encode_high c h big) (IsUtf8-encode c h) more
 
-and_true_both : (x y : Bool) → (x && y) ≡ true → (x ≡ true) × (y ≡ true)
-and_true_both true y h = (refl, h)
-and_true_both false y h = cc
-
 low_or_high : (c : ℕ) (test : Bool) → nat_lt c 128 ≡ test → (c < 128) ⊎ (128 ≤ c)
 low_or_high c true e = inl (ltb-true c 128 e)
 low_or_high c false e = inr (ltb-false c 128 e)
@@ -65,7 +61,7 @@ low_or_high c false e = inr (ltb-false c 128 e)
 all_chunks : (cs : List ℕ) → all_scalars cs ≡ true → Chunks (encode_utf8_all cs)
 all_chunks [] h = none
 all_chunks (c ∷ cs) h =
-    let both = and_true_both _ _ h in
+    let both = and_parts _ _ h in
     one_chunk c (encode_utf8_all cs) both.0 (low_or_high c (nat_lt c 128) refl) (all_chunks cs both.1)
 
 pub chunks : (text : List ℕ) → IsUtf8 text → Chunks text
@@ -234,8 +230,8 @@ is_plain_ascii b = nat_lt b 128 && is_plain b
 plain_ascii : (text : List ℕ) → list_all is_plain_ascii text ≡ true → IsPlainText text
 plain_ascii [] h = no_text
 plain_ascii (b ∷ text) h =
-    let both = and_true_both _ _ h in
-    let here = and_true_both _ _ both.0 in
+    let both = and_parts _ _ h in
+    let here = and_parts _ _ both.0 in
     plain_one b text (ltb-true b 128 here.0) here.1 (plain_ascii text both.1)
 
 -- a text of ASCII bytes, as it computes

@@ -1,5 +1,5 @@
 -- Lists made of the same elements, element by element.
-use Rattle.std.proofs.Common.{◌≡◌, refl, ap, ℕ, zero, suc, ◌+◌, ◌<◌, List, [], ◌∷◌, ◌++◌, ◌∙◌, Bool, cond, true, false, not, filter, length, get_or, take, drop, map, arith, add-one}
+use Rattle.std.proofs.Common.{◌≡◌, refl, ap, ℕ, zero, suc, ◌+◌, ◌<◌, List, [], ◌∷◌, ◌++◌, ◌∙◌, Bool, cond, true, false, filter, length, get_or, take, drop, map, arith, add-one}
 use Rattle.std.proofs.lemmas.List.{map-append}
 use Rattle.std.proofs.lemmas.List.Elements.{filter-append}
 
@@ -24,17 +24,3 @@ filtered_more {Y = Y} p f xs i x b one passes =
       kept : (b : Bool) → map f (cond b (x ∷ []) []) ≡ cond b (f x ∷ []) []
       kept true = refl
       kept false = refl
-
-pub not_true : (b : Bool) → not b ≡ true → b ≡ false
-not_true true h = cc
-not_true false h = refl
-
-pub not_false : (b : Bool) → not b ≡ false → b ≡ true
-not_false true h = refl
-not_false false h = cc
-
--- what stands for a missing element doesn't matter where none is missing
-pub same_at : {X : Type 0} (xs : List X) (i : ℕ) (d e : X) → i < length xs → get_or xs i d ≡ get_or xs i e
-same_at [] i d e inside = absurd (omega (arith, inside))
-same_at (x ∷ xs) zero d e inside = refl
-same_at (x ∷ xs) (suc i) d e inside = let less : i < length xs = omega (arith, inside) in same_at xs i d e less

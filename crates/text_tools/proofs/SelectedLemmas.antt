@@ -5,11 +5,10 @@ use Rattle.std.specs.List.{position_or_len}
 use Rattle.std.proofs.lemmas.List.{map-append}
 use Rattle.std.proofs.lemmas.Simd.{map-map}
 use Rattle.std.proofs.lemmas.List.Elements.{All-filter, All-map, filter-append}
-use Rattle.std.proofs.lemmas.List.Kept.{AllPairs-filter}
 use Rattle.po_syntax.specs.declared.fault.PoError.{PoError}
 use Rattle.po_syntax.specs.declared.fault.PoFault.TheVariants.{Duplicate, OutOfMemory}
 use Rattle.po_entry.specs.TextEntry.{TextEntry}
-use Rattle.po_catalog.specs.Duplicate.{AllDiffer, HasNoDuplicate, IsSameMessage}
+use Rattle.po_catalog.specs.Duplicate.{HasNoDuplicate}
 use Rattle.po_catalog.specs.Joined.{in_input, is_live}
 use Rattle.po_select.specs.declared.selection.Selection.{Selection}
 use Rattle.po_select.specs.Selected.{changed, is_kept, obsolete_after, selected}
@@ -30,10 +29,6 @@ use Rattle.tool_runs.specs.declared.run.Run.{Run}
 pub selected_joined : (s : Selection) (before entries : List TextEntry) → selected s before ++ selected s entries ≡ selected s (before ++ entries)
 selected_joined s before entries =
     sym (ap (map (changed s)) (filter-append (is_kept s) before entries) ∙ map-append (changed s) (filter (is_kept s) before) (filter (is_kept s) entries))
-
--- entries of different messages have no duplicate
-pub live_differ : (entries : List TextEntry) → AllDiffer entries → HasNoDuplicate entries
-live_differ entries differ = AllPairs-filter (λ a b. ¬ IsSameMessage a b) is_live entries differ
 
 -- the number of a message among those of the entries
 abbrev pub number_in : List TextEntry → Message → ℕ
