@@ -11,25 +11,14 @@ use Rattle.std.specs.BTreeMap.{is_at}
 use Rattle.std.specs.BTreeSet.{BTreeSet, contains}
 use Rattle.std.proofs.lemmas.List.Folds.{list_any-append}
 use Rattle.std.proofs.lemmas.Slice.Eq.{bytes_eq-Decides}
-use Rattle.std.proofs.Math.Bool.{or-false, or-true}
+use Rattle.std.proofs.Math.Bool.{or-false}
 use Rattle.po_entry.specs.TextEntry.{texts}
 use Rattle.po_entry.specs.Equality.{texts_eq}
+use Rattle.po_reader.specs.SeenTexts.{HoldsTexts}
+use Rattle.po_reader.proofs.SeenTexts.{cond_or}
 use Rattle.po_merge.specs.Inputs.{NamedEntry}
 use Rattle.po_merge.specs.MergedEntry.{with_others}
-use Rattle.po_merge.specs.Sets.{HoldsTexts, HasForms}
-
-cond_or : (a b c : Bool) → a ≡ b → cond a true c ≡ (c || b)
-cond_or true true c e = sym (or-true c)
-cond_or true false c e = cc
-cond_or false true c e = cc
-cond_or false false c e = sym (or-false c)
-
-pub one_text_more : (old new : BTreeSet (Bor (List ℕ))) (k : Bor (List ℕ)) (done : List (List ℕ)) → HoldsTexts old done
-    → ((q : Bor (List ℕ)) → contains (λ x y. slice_cmp nat_cmp x.now y.now) new q ≡ cond (is_at (λ y. slice_cmp nat_cmp k.now y.now) q) true (contains (λ x y. slice_cmp nat_cmp x.now y.now) old q))
-    → HoldsTexts new (done ++ k.now ∷ [])
-one_text_more old new k done h updated q =
-    updated q ∙ cond_or (is_at (λ y. slice_cmp nat_cmp k.now y.now) q) (bytes_eq q.now k.now) (contains (λ x y. slice_cmp nat_cmp x.now y.now) old q) (sym (texts_ties k.now q.now) ∙ nat_list_eq_equiv.symm k.now q.now)
-    ∙ ap₂ (λ (s t : Bool). s || t) (h q) (sym (or-false (bytes_eq q.now k.now))) ∙ sym (list_any-append (bytes_eq q.now) done (k.now ∷ []))
+use Rattle.po_merge.specs.Sets.{HasForms}
 
 forms_tie : (a b : List (Vec ℕ)) → texts_eq (texts a) (texts b) ≡ is_eq (slice_cmp (λ v w. slice_cmp nat_cmp v.items w.items) a b)
 forms_tie [] [] = refl

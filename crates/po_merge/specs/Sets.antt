@@ -1,5 +1,5 @@
--- Internal: sets of texts and of form lists, which say what was seen so far.
-use Rattle.std.specs.Prelude.{◌≡◌, ℕ, List, bytes_eq, filter, length, nat_lt}
+-- Internal: sets of form lists, which say what was seen so far.
+use Rattle.std.specs.Prelude.{◌≡◌, ℕ, List, filter, length, nat_lt}
 use Rattle.std.specs.List.{list_any}
 use Rattle.std.specs.Ordering.{nat_cmp}
 use Rattle.std.specs.Cmp.Lexicographic.{slice_cmp}
@@ -9,11 +9,6 @@ use Rattle.std.specs.BTreeSet.{BTreeSet, contains}
 use Rattle.po_entry.specs.TextEntry.{texts}
 use Rattle.po_entry.specs.Equality.{texts_eq}
 use Rattle.po_merge.specs.Inputs.{NamedEntry}
-
--- the set has just these texts
-abbrev pub HoldsTexts : BTreeSet (Bor (List ℕ)) → List (List ℕ) → Type 0
-HoldsTexts seen done =
-    (q : Bor (List ℕ)) → contains (λ x y. slice_cmp nat_cmp x.now y.now) seen q ≡ list_any (bytes_eq q.now) done
 
 -- the set has just the form lists of these definitions
 abbrev pub HasForms : BTreeSet (Bor (List (Vec ℕ))) → List NamedEntry → Type 0

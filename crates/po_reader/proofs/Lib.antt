@@ -32,6 +32,7 @@ pub mod TextEnds
 pub mod NoMemory
 pub mod RestFaults
 pub mod PieceReading
+pub mod SeenTexts
 pub mod SeenFlags
 pub mod Kept
 pub mod KeptEntries

@@ -5,3 +5,4 @@ pub mod Faults
 pub mod KeptComments
 pub mod ItemsRead
 pub mod PieceRead
+pub mod SeenTexts

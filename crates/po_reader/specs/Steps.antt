@@ -7,4 +7,3 @@ pub mod Head
 pub mod Stops
 pub mod ReaderView
 pub mod HeadView
-pub mod SeenFlags

@@ -8,8 +8,9 @@ use Rattle.std.proofs.lemmas.Bool.{not-true}
 use Rattle.std.proofs.lemmas.List.{map-append}
 use Rattle.po_entry.specs.TextEntry.{texts}
 use Rattle.po_entry.specs.Comments.{is_fuzzy_flag}
-use Rattle.po_reader.specs.Steps.SeenFlags.{HasFlags}
-use Rattle.po_reader.proofs.SeenFlags.{one_flag_more, flags_more}
+use Rattle.po_reader.specs.SeenTexts.{HoldsTexts}
+use Rattle.po_reader.proofs.SeenTexts.{one_text_more}
+use Rattle.po_reader.proofs.SeenFlags.{flags_more}
 use Rattle.po_reader.proofs.flags.others.Goals as goal
 
 pub loop-flag-init : goal.loop-flag-init
@@ -34,5 +35,5 @@ loop-flag-preserved c =
       are_kept = pushed ∙ ap (λ n. flags ++ n ∷ []) here
           ∙ flags_more c.args.elements.now c.loop-flag.flag-index c.flag-item.result flags false c.loop-flag-test.true c.flag-item.is inv.are_kept
           (ap (λ n. is_fuzzy_flag n || list_any (bytes_eq n) flags) (sym here) ∙ fresh);
-      seen = subst (HasFlags c.insert.new.self) (sym pushed) (one_flag_more c.loop-flag.seen c.insert.new.self c.as_slice.result flags inv.seen c.in_ok-insert.ensures.updates.0);
+      seen = subst (HoldsTexts c.insert.new.self) (sym pushed) (one_text_more c.loop-flag.seen c.insert.new.self c.as_slice.result flags inv.seen c.in_ok-insert.ensures.updates.0);
     }

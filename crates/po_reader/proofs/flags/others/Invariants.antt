@@ -2,12 +2,12 @@ use Rattle.std.proofs.Common.{◌≡◌, [], take}
 use Rattle.std.specs.Prelude.{fold}
 use Rattle.po_entry.specs.TextEntry.{texts}
 use Rattle.po_entry.specs.Comments.{with_flag}
-use Rattle.po_reader.specs.Steps.SeenFlags.{HasFlags}
+use Rattle.po_reader.specs.SeenTexts.{HoldsTexts}
 use Rattle.po_reader.proofs.flags.others.Given as goal
 
 -- the flags among the elements so far are kept, and the tree has them
 abbrev pub invariant-loop-flag : goal.invariant-loop-flag
 invariant-loop-flag l = record {
   are_kept : texts l.kept.items ≡ fold with_flag [] (texts (take l.flag-index l.elements));
-  seen : HasFlags l.seen (texts l.kept.items);
+  seen : HoldsTexts l.seen (texts l.kept.items);
 }
