@@ -10,7 +10,8 @@ use Rattle.tool_runs.specs.declared.output_files.OutputFault.{OutputFault}
 use Rattle.tool_runs.specs.declared.output_files.OutputFault.TheVariants.{CannotCreate, WriteFault}
 use Rattle.tool_runs.specs.FileCalls.{FileCall, asks, reads_link, fails_to_read_link, makes, fails_to_make, sets_mode, fails_to_open, closes, renames, removes}
 use Rattle.tool_runs.specs.OutputFiles.{IsWritten, whole as all_taken, cut, late, WritesInPlace, unopened, written, unwritten, Fills, modeless, replaced, unmoved, unwritten as unfilled, mode_calls, Replaces, unnamed, made, taken, forbidden as not_beside, unmade, WritesFile, stream as to_stream, special as to_special, unknown, replaces, unread, unnamed as unfollowed, follows, too_long, beside, new_mode}
-use Rattle.tool_runs.specs.OutputLaw.{Held, nothing, whole, part, Files, put, held_after, after_call, after, Always, GivesAll, Each, Among, Leads, arrives, by_link, IsRegular, IsBeside, IsWrittenInPlace, stream, special, forbidden, IsAllowed, IsNotOpening, IsWholeOrAsItWas, IsAnother, IsWholeOrAsItWasThroughout}
+use Rattle.tool_runs.specs.OutputLaw.{Held, nothing, whole, part, Files, put, held_after, after_call, after, Always, GivesAll, Each, Among, Leads, arrives, by_link, IsRegular, IsBeside, IsWrittenInPlace, stream, special, forbidden, IsAllowed, IsNotOpening, IsWholeOrAsItWas, IsWholeOrAsItWasThroughout}
+use Rattle.tool_runs.proofs.NewPaths.{beside_is_another}
 
 same_or_other : (p q : List ℕ) → (p ≡ q) ⊎ (p ≢ q)
 same_or_other p q = elim (cases_Bool (bytes_eq p q)) [
@@ -74,7 +75,7 @@ ended new held files path is = put_elsewhere new held (put new part files.at) is
 -- what these calls come to, which are some of those around
 record Comes (output target : List ℕ) (around calls : List FileCall) (outcome : Option OutputFault) : Type 0 where
   allowed : Each (IsAllowed target around) calls
-  whole_or_as_it_was : (files : Files) → GivesAll calls files → Each IsNotOpening calls → IsAnother target
+  whole_or_as_it_was : (files : Files) → GivesAll calls files → Each IsNotOpening calls
       → Always (IsWholeOrAsItWas output target files) calls files
   success : (files : Files) → GivesAll calls files → outcome ≡ None → (after calls files).at target ≡ whole output
   fault : (files : Files) (why : OutputFault) → GivesAll calls files → Each IsNotOpening calls → outcome ≡ Some why
@@ -91,8 +92,8 @@ module _ {output target : List ℕ} {around : List FileCall} where
       let given : (files : Files) → GivesAll (call ∷ calls) files → GivesAll calls files = λ files given. subst (GivesAll calls) (idle files) given.1 in
       record {
         allowed = (may, rest.allowed);
-        whole_or_as_it_was = λ files gives not_opening another.
-            (as_it_was files, subst (Always (IsWholeOrAsItWas output target files) calls) (sym (idle files)) (rest.whole_or_as_it_was files (given files gives) not_opening.1 another));
+        whole_or_as_it_was = λ files gives not_opening.
+            (as_it_was files, subst (Always (IsWholeOrAsItWas output target files) calls) (sym (idle files)) (rest.whole_or_as_it_was files (given files gives) not_opening.1));
         success = λ files gives is. subst (λ now. (after calls now).at target ≡ whole output) (sym (idle files)) (rest.success files (given files gives) is);
         fault = λ files why gives not_opening is. subst (λ now. (after calls now).at target ≡ files.at target) (sym (idle files)) (rest.fault files why (given files gives) not_opening.1 is);
         others = λ files other gives is. subst (λ now. (after calls now).at other ≡ files.at other) (sym (idle files)) (rest.others files other (given files gives) is);
@@ -102,7 +103,7 @@ module _ {output target : List ℕ} {around : List FileCall} where
   at_once : (why : OutputFault) → Comes output target around [] (Some why)
   at_once why = record {
     allowed = tt;
-    whole_or_as_it_was = λ files gives not_opening another. as_it_was files;
+    whole_or_as_it_was = λ files gives not_opening. as_it_was files;
     success = λ files gives is. no_fault is;
     fault = λ files reason gives not_opening is. refl;
     others = λ files other gives is. refl;
@@ -114,7 +115,7 @@ module _ {output target : List ℕ} {around : List FileCall} where
   in_place may unopened = after_idle (fails_to_open target) (λ files. refl) tt (at_once CannotCreate)
   in_place may (written {before} {after = bytes} {failures} {closed} is_written) = record {
     allowed = ((refl, may), (tt, tt));
-    whole_or_as_it_was = λ files gives not_opening another. absurd not_opening.0;
+    whole_or_as_it_was = λ files gives not_opening. absurd not_opening.0;
     success = λ files gives is.
         put_there target (held_after bytes failures closed) (put target part files.at) refl ∙ whole_taken bytes is_written refl gives.0;
     fault = λ files why gives not_opening is. no_success is;
@@ -123,7 +124,7 @@ module _ {output target : List ℕ} {around : List FileCall} where
   }
   in_place may (unwritten {before} {after = bytes} {failures} {closed} is_written) = record {
     allowed = ((refl, may), (tt, tt));
-    whole_or_as_it_was = λ files gives not_opening another. absurd not_opening.0;
+    whole_or_as_it_was = λ files gives not_opening. absurd not_opening.0;
     success = λ files gives is. no_fault is;
     fault = λ files why gives not_opening is. absurd not_opening.0;
     others = λ files other gives is.
@@ -135,8 +136,8 @@ module _ {output target : List ℕ} {around : List FileCall} where
       → Comes output target around (call ∷ rest) outcome → Comes output target around (call ∷ sets_mode bits given ∷ rest) outcome
   with_mode {rest} call bits given it = record {
     allowed = (it.allowed.0, (tt, it.allowed.1));
-    whole_or_as_it_was = λ files gives not_opening another.
-        let always = it.whole_or_as_it_was files (gives.0, gives.1.1) (not_opening.0, not_opening.1.1) another in
+    whole_or_as_it_was = λ files gives not_opening.
+        let always = it.whole_or_as_it_was files (gives.0, gives.1.1) (not_opening.0, not_opening.1.1) in
         (always.0, (always_now _ rest always.1, always.1));
     success = λ files gives is. it.success files (gives.0, gives.1.1) is;
     fault = λ files why gives not_opening is. it.fault files why (gives.0, gives.1.1) (not_opening.0, not_opening.1.1) is;
@@ -148,13 +149,13 @@ module _ {output target : List ℕ} {around : List FileCall} where
   with_modes call None it = it
   with_modes call (Some bits) it = with_mode call bits true it
 
-  module _ {new : List ℕ} {bits : ℕ} {before : Option (List ℕ)} (beside_it : IsBeside new target) (other_name : IsAnother target → new ≢ target) where
+  module _ {new : List ℕ} {bits : ℕ} {before : Option (List ℕ)} (beside_it : IsBeside new target) (other_name : new ≢ target) where
     removed_at_once : (why : OutputFault) → Comes output target around (makes new bits before ∷ removes new ∷ []) (Some why)
     removed_at_once why = record {
       allowed = (beside_it, (beside_it, tt));
-      whole_or_as_it_was = λ files gives not_opening another. (
+      whole_or_as_it_was = λ files gives not_opening. (
         as_it_was files,
-        (only_new new files _ new (begun new files) gives.0.0 (other_name another), λ path. inl (none_new new files _ (begun new files) gives.0.0 path)),
+        (only_new new files _ new (begun new files) gives.0.0 other_name, λ path. inl (none_new new files _ (begun new files) gives.0.0 path)),
       );
       success = λ files gives is. no_fault is;
       fault = λ files reason gives not_opening is. none_new new files _ (begun new files) gives.0.0 target;
@@ -168,11 +169,11 @@ module _ {output target : List ℕ} {around : List FileCall} where
           let held = held_after bytes failures closed in
           record {
             allowed = (beside_it, (tt, (beside_it, tt)));
-            whole_or_as_it_was = λ files gives not_opening another. (
+            whole_or_as_it_was = λ files gives not_opening. (
               as_it_was files,
               (
-                only_new new files _ new (begun new files) gives.0.0 (other_name another),
-                (only_new new files _ new (ended new held files) gives.0.0 (other_name another), λ path. inl (none_new new files _ (ended new held files) gives.0.0 path)),
+                only_new new files _ new (begun new files) gives.0.0 other_name,
+                (only_new new files _ new (ended new held files) gives.0.0 other_name, λ path. inl (none_new new files _ (ended new held files) gives.0.0 path)),
               ),
             );
             success = λ files gives is. no_fault is;
@@ -186,10 +187,10 @@ module _ {output target : List ℕ} {around : List FileCall} where
           let held = held_after bytes failures closed in
           record {
             allowed = (beside_it, (tt, ((beside_it, refl, regular), (beside_it, tt))));
-            whole_or_as_it_was = λ files gives not_opening another.
-                let full = only_new new files _ new (ended new held files) gives.0.0 (other_name another) in (
+            whole_or_as_it_was = λ files gives not_opening.
+                let full = only_new new files _ new (ended new held files) gives.0.0 other_name in (
                   as_it_was files,
-                  (only_new new files _ new (begun new files) gives.0.0 (other_name another), (full, (full, λ path. inl (none_new new files _ (ended new held files) gives.0.0 path)))),
+                  (only_new new files _ new (begun new files) gives.0.0 other_name, (full, (full, λ path. inl (none_new new files _ (ended new held files) gives.0.0 path)))),
                 );
             success = λ files gives is. no_fault is;
             fault = λ files reason gives not_opening is. none_new new files _ (ended new held files) gives.0.0 target;
@@ -207,11 +208,11 @@ module _ {output target : List ℕ} {around : List FileCall} where
           λ files none path is. put_elsewhere target (there files new) (put new nothing (there files)) is ∙ none_new new files (there files) (ended new held files) none path in
           record {
             allowed = (beside_it, (tt, ((beside_it, refl, regular), tt)));
-            whole_or_as_it_was = λ files gives not_opening another.
-                let full = only_new new files _ new (ended new held files) gives.0.0 (other_name another) in (
+            whole_or_as_it_was = λ files gives not_opening.
+                let full = only_new new files _ new (ended new held files) gives.0.0 other_name in (
                   as_it_was files,
                   (
-                    only_new new files _ new (begun new files) gives.0.0 (other_name another),
+                    only_new new files _ new (begun new files) gives.0.0 other_name,
                     (
                       full,
                       λ path. elim (same_or_other path target) [
@@ -239,7 +240,7 @@ module _ {output target : List ℕ} {around : List FileCall} where
       → Replaces output target mode number calls outcome → Comes output target around calls outcome
   replaced_whole few regular asked inside unnamed = at_once _
   replaced_whole {number} few regular asked inside (made fills) =
-      filled (_, refl) (λ another. another number few) regular fills
+      filled (_, refl) (beside_is_another number few target) regular fills
   replaced_whole {mode} {number} few regular asked inside (taken below rest) =
       after_idle (fails_to_make (beside target number) (new_mode mode) Exists) (λ files. refl) tt
       (replaced_whole (omega (arith, below)) regular asked (λ call among. inside call (inr among)) rest)

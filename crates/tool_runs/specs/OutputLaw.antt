@@ -1,7 +1,7 @@
 -- What the calls by which an output is made do to the files of a system. The model is small: what
 -- each path holds, and which file is open. Two paths are two files, and no other program changes
 -- one meanwhile.
-use Rattle.std.specs.Prelude.{◌≡◌, ◌≢◌, ◌⊎◌, ◌≤◌, ℕ, zero, Bool, true, false, List, [], ◌∷◌, if◌then◌else◌, Option}
+use Rattle.std.specs.Prelude.{◌≡◌, ◌≢◌, ◌⊎◌, ℕ, zero, Bool, true, false, List, [], ◌∷◌, if◌then◌else◌, Option}
 use Rattle.std.specs.Prelude.{Some, None, ⊤}
 use Rattle.std.specs.Path.{path_with_file_name}
 use Rattle.std.specs.Str.{bytes_eq}
@@ -9,7 +9,7 @@ use Rattle.tool_runs.specs.declared.output_files.FileKind.TheVariants.{Regular, 
 use Rattle.tool_runs.specs.declared.output_files.NotMade.TheVariants.{Forbidden}
 use Rattle.tool_runs.specs.declared.output_files.OutputFault.{OutputFault}
 use Rattle.tool_runs.specs.FileCalls.{FileCall, asks, reads_link, makes, fails_to_make, opens, closes, renames, removes}
-use Rattle.tool_runs.specs.OutputFiles.{beside, link_target, names_stream}
+use Rattle.tool_runs.specs.OutputFiles.{link_target, names_stream}
 
 -- what a path holds
 pub data Held : Type 0 where
@@ -129,10 +129,6 @@ IsWholeOrAsItWas output target before now = (path : List ℕ)
     ⊎ ((path ≡ target) × (now.at path ≡ whole output))
     ⊎ ((path ≢ target) × (before.at path ≡ nothing))
 
--- no new file that is tried has the name of the target
-abbrev pub IsAnother : List ℕ → Type 0
-IsAnother target = (number : ℕ) → number ≤ 999 → beside target number ≢ target
-
 -- what an output comes to, with these calls and this outcome: at every moment, thus also where the
 -- run is killed, the file that the path leads to holds all of the output, or what it held before
 pub record IsWholeOrAsItWasThroughout (output path : List ℕ) (calls : List FileCall)
@@ -140,7 +136,7 @@ pub record IsWholeOrAsItWasThroughout (output path : List ℕ) (calls : List Fil
   pub target : List ℕ
   pub leads : Leads path calls target
   pub allowed : Each (IsAllowed target calls) calls
-  pub whole_or_as_it_was : (files : Files) → GivesAll calls files → Each IsNotOpening calls → IsAnother target
+  pub whole_or_as_it_was : (files : Files) → GivesAll calls files → Each IsNotOpening calls
       → Always (IsWholeOrAsItWas output target files) calls files
   pub success : (files : Files) → GivesAll calls files → outcome ≡ None → (after calls files).at target ≡ whole output
   pub fault : (files : Files) (why : OutputFault) → GivesAll calls files → Each IsNotOpening calls → outcome ≡ Some why
