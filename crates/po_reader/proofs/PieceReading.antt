@@ -1,10 +1,9 @@
 -- A text that is read in pieces.
-use Rattle.std.proofs.Common.{◌≡◌, ◌⊎◌, ◌+◌, inl, inr, refl, sym, subst, ℕ, Bool, List, [], ◌∷◌, ◌++◌, append-nil, arith, length}
+use Rattle.std.proofs.Common.{◌≡◌, ◌⊎◌, inl, inr, refl, sym, subst, ℕ, Bool, List, [], ◌∷◌, ◌++◌, append-nil}
 use Rattle.std.proofs.lemmas.List.Elements.{All-nil, All-append}
 use Rattle.po_syntax.specs.declared.fault.PoFault.{PoFault}
 use Rattle.po_syntax.specs.LinesLeft.{LeftStops, LinesLeft, SpellsLeft}
-use Rattle.std.proofs.lemmas.List.Sums.{sum_by-take-drop}
-use Rattle.po_syntax.specs.Piece.{CanEnd, EndsInString, IsNew, IsPiece, LeftAnew}
+use Rattle.po_syntax.specs.Piece.{EndsInString, IsNew, LeftAnew}
 use Rattle.po_syntax.specs.PoText.{SpellsText, SpellsLines, LinesStop, TextFault}
 use Rattle.po_syntax.specs.TextItem.{TextItem, Comment, Word, Str}
 use Rattle.po_syntax.specs.declared.item.Keyword.TheVariants.{MsgCtxt, MsgId, MsgIdPlural, MsgStr, MsgStrAt}
@@ -21,7 +20,7 @@ use Rattle.po_reader.specs.Faults.{IsReadFault}
 use Rattle.po_reader.specs.Faults as faults
 use Rattle.po_reader.specs.ItemsRead.{ReadsItems, ItemsStop}
 use Rattle.po_reader.specs.ItemsRead as stops
-use Rattle.po_reader.specs.PieceRead.{SpellsOn, ReadsAtLeast, ReadsOn, KeepsReading, KeepsItems, StopsStay, FaultsStay, IsLeftFault}
+use Rattle.po_reader.specs.PieceRead.{SpellsOn, ReadsOn, KeepsReading, KeepsItems, StopsStay, FaultsStay, IsLeftFault}
 use Rattle.po_reader.specs.PieceRead as piece
 
 -- where no line is left, nothing reads as no entries
@@ -115,11 +114,3 @@ pub fault_of_text : (text : List ℕ) (old : LinesLeft) → ((items : List TextI
     → (fault : PoFault) (line : ℕ) → IsLeftFault old fault line → IsReadFault text fault line
 fault_of_text text old spelt stops fault line (piece.in_lines stopped) = faults.in_text (stops fault line stopped)
 fault_of_text text old spelt stops fault line (piece.in_items {items = items} h stopped) = stop_fault (spelt items h) stopped
-
--- a piece of this size takes as many bytes, or all
-pub piece_large : (size : ℕ) (old new : LinesLeft) (items : List TextItem) → IsPiece size old new items → ReadsAtLeast size old new
-piece_large size old new items p = large p.ends
-  where
-    large : (new.lines ≡ []) ⊎ CanEnd size old p.count → ReadsAtLeast size old new
-    large (inl none) = inl none
-    large (inr end) = inr (rw p.rest (omega (arith, end.large, sum_by-take-drop (λ (line : List ℕ). length line + 1) old.lines p.count)))

@@ -1,11 +1,12 @@
 -- How a text is read piece by piece, and why what is left of it isn't read. Internal but for the functions that read
 -- pieces (manual, "The Format of PO Files").
-use Rattle.std.specs.Prelude.{◌≡◌, ◌≢◌, ◌⊎◌, ◌+◌, ◌<◌, ◌≤◌, ℕ, Bool, List, [], ◌++◌, map, length}
+use Rattle.std.specs.Prelude.{◌≡◌, ◌≢◌, ◌<◌, ℕ, Bool, List, [], ◌++◌, map, length}
 use Rattle.po_syntax.specs.declared.fault.PoFault.{PoFault}
 use Rattle.po_syntax.specs.declared.fault.PoError.{PoError}
 use Rattle.po_syntax.specs.declared.fault.PoFault.TheVariants.{OutOfMemory}
 use Rattle.po_reader.specs.Faults.{IsReadFault, IsStop}
-use Rattle.po_syntax.specs.LinesLeft.{LinesLeft, SpellsLeft, LeftStops, lines_len}
+use Rattle.po_syntax.specs.LinesLeft.{LinesLeft, SpellsLeft, LeftStops}
+use Rattle.po_syntax.specs.Piece.{IsPiece}
 use Rattle.po_syntax.specs.TextItem.{TextItem}
 use Rattle.po_entry.specs.TextEntry.{TextEntry}
 use Rattle.po_entry.specs.ReadsText.{ReadsLeft}
@@ -60,9 +61,12 @@ FaultsStay old new = (fault : PoFault) (line : ℕ) → IsLeftFault new fault li
 abbrev pub IsShorter : LinesLeft → LinesLeft → Type 0
 IsShorter old new = old.lines ≢ [] → length new.lines < length old.lines
 
--- lines of at least so many bytes were read, or all
-abbrev pub ReadsAtLeast : ℕ → LinesLeft → LinesLeft → Type 0
-ReadsAtLeast size old new = (new.lines ≡ []) ⊎ (size + lines_len new.lines ≤ lines_len old.lines)
+-- what was read is the next piece of at least so many bytes; or it is all that is left, where the
+-- items of that piece don't read
+pub data ReadsPiece (size : ℕ) (old new : LinesLeft) : Type 0 where
+  piece : {items : List TextItem} → IsPiece size old new items → ReadsPiece size old new
+  all : {cut : LinesLeft} {items : List TextItem} {fault : PoFault} {line : ℕ} → IsPiece size old cut items
+      → ItemsStop items fault line → new.lines ≡ [] → ReadsPiece size old new
 
 -- the error is the fault of what is left to be read, or out of memory, without a line
 abbrev pub IsLeftError : LinesLeft → PoError → Type 0

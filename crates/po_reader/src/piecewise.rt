@@ -1,5 +1,5 @@
 ghost use Rattle.std.specs.Prelude.{◌≡◌, [], IfOk, IfErr, OnOk};
-ghost use Rattle.po_reader.specs.PieceRead.{ReadsOn, KeepsReading, ReadsMessages, ReadsAtLeast, FaultsStay, IsLeftError, IsShorter};
+ghost use Rattle.po_reader.specs.PieceRead.{ReadsOn, KeepsReading, ReadsMessages, ReadsPiece, FaultsStay, IsLeftError, IsShorter};
 
 use crate::items::read_items;
 use po_entry::Catalogue;
@@ -19,7 +19,7 @@ pub fn next_catalogue(
     size: usize,
 ) -> Result<Catalogue, PoError>
     ensures found { IfOk result (ReadsOn pieces.old pieces.new) }
-    ensures size { OnOk result (ReadsAtLeast size pieces.old pieces.new) }
+    ensures piece { OnOk result (ReadsPiece size pieces.old pieces.new) }
     ensures faults { OnOk result (FaultsStay pieces.old pieces.new) }
     ensures fewer { OnOk result (IsShorter pieces.old pieces.new) }
     ensures fault { IfErr result (IsLeftError pieces.old) }
@@ -35,7 +35,7 @@ pub fn next_messages(
     size: usize,
 ) -> Result<Catalogue, PoError>
     ensures found { IfOk result (ReadsMessages pieces.old pieces.new) }
-    ensures size { OnOk result (ReadsAtLeast size pieces.old pieces.new) }
+    ensures piece { OnOk result (ReadsPiece size pieces.old pieces.new) }
     ensures faults { OnOk result (FaultsStay pieces.old pieces.new) }
     ensures fewer { OnOk result (IsShorter pieces.old pieces.new) }
     ensures fault { IfErr result (IsLeftError pieces.old) }
@@ -51,7 +51,7 @@ fn next_entries(
     with_comments: bool,
 ) -> Result<Catalogue, PoError>
     ensures found { IfOk result (KeepsReading with_comments pieces.old pieces.new) }
-    ensures size { OnOk result (ReadsAtLeast size pieces.old pieces.new) }
+    ensures piece { OnOk result (ReadsPiece size pieces.old pieces.new) }
     ensures faults { OnOk result (FaultsStay pieces.old pieces.new) }
     ensures fewer { OnOk result (IsShorter pieces.old pieces.new) }
     ensures fault { IfErr result (IsLeftError pieces.old) }

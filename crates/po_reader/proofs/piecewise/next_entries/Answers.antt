@@ -1,7 +1,7 @@
 use Rattle.std.proofs.lemmas.Result.{err_from_is_err_and}
 use Rattle.po_reader.specs.PieceRead.IsLeftFault.{in_lines}
-use Rattle.po_reader.proofs.PieceReading.{items_kept, piece_faults, piece_large}
-use Rattle.std.proofs.Common.{inl}
+use Rattle.po_reader.specs.PieceRead.ReadsPiece.{all, piece}
+use Rattle.po_reader.proofs.PieceReading.{items_kept, piece_faults}
 use Rattle.po_reader.proofs.Results.{ok_step}
 use Rattle.po_reader.proofs.piecewise.next_entries.Goals as goal
 
@@ -38,8 +38,8 @@ returns-in_default-clause-fewer c = rw c.copy-start.ensures at c.all_entries.ens
 pub returns-in_default-clause-fault : goal.returns-in_default-clause-fault
 returns-in_default-clause-fault c = rw c.copy-start.ensures at c.all_entries.ensures.fault
 
-pub returns-in-Ok-clause-size : goal.returns-in-Ok-clause-size
-returns-in-Ok-clause-size c = piece_large _ _ _ _ c.in_ok-items.ensures.piece
+pub returns-in-Ok-clause-piece : goal.returns-in-Ok-clause-piece
+returns-in-Ok-clause-piece c = piece c.in_ok-items.ensures.piece
 
-pub returns-in_default-clause-size : goal.returns-in_default-clause-size
-returns-in_default-clause-size c = ok_step c.all_entries.result (λ kept none. inl none) c.all_entries.ensures.all
+pub returns-in_default-clause-piece : goal.returns-in_default-clause-piece
+returns-in_default-clause-piece c = ok_step c.all_entries.result (λ kept none. all c.in_ok-items.ensures.piece (c.in-Err.ensures.fault c.in_default.not-OutOfMemory) none) c.all_entries.ensures.all
