@@ -144,5 +144,6 @@ pub(crate) fn selected_text(
 {
     let SelectedSoFar { parts, rows } = select_pieces(alloc, text, selection)?;
     rows.check(alloc)?;
+    drop(rows);
     Ok(parts.join()?)
 }
