@@ -24,7 +24,7 @@ digits_lack_slash : (digits : List ℕ) → AllDigits 10 digits → LacksSlash d
 digits_lack_slash [] h = All-nil (λ b. b ≢ slash)
 digits_lack_slash (d ∷ digits) h = All-cons (λ b. b ≢ slash) d digits (λ e. omega (arith, e, digit_from_value d h.0)) (digits_lack_slash digits h.1)
 
--- the last component has none
+-- the last component of a path has no slash
 lacks_after : (text : List ℕ) (n : ℕ) (last : Option ℕ) → rfind_below slash text n ≡ last → (k : ℕ) → k < n
     → IfSome last (λ i. i < k) → get_or text k 0 ≢ slash
 lacks_after text zero last e k below after = absurd (omega (arith, below))
