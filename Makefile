@@ -2,26 +2,26 @@
 PREFIX ?= /usr/local
 export DESTDIR PREFIX LIBDIR
 
-all: proved build/libpokit.so build/libpokit_intl.so
+all: proved
+	@$(MAKE) --no-print-directory libraries
 
 # Proves what has changed, and builds build/pokit and build/libpokit.a: the program, and the look-up for C.
 proved:
 	@scripts/needs-rt
 	@scripts/build
 
-build/libpokit.a: proved
-	@:
+# The look-up as a shared library too, with an export for each function of pokit.h, and the drop-in for libintl, shared
+# and as an archive, where there is a C compiler.
+libraries: build/libpokit.so.0 build/libpokit_intl.so.0
 
-# The same as a shared library with an export for each function of pokit.h, where there is a C compiler to link it.
-build/libpokit.so: build/libpokit.a
+build/libpokit.so.0: build/libpokit.a include/pokit.c include/pokit.h
 	@scripts/shared $< build
 
-# The drop-in for libintl, shared and as an archive.
-build/libpokit_intl.so: build/libpokit.a
+build/libpokit_intl.so.0: build/libpokit.a $(wildcard intl/*) include/pokit.h
 	@scripts/intl $< build
 
 # Compiles the examples, and asks messages of them.
-demo: proved
+demo: all
 	@examples/demo build/pokit build/libpokit.a
 
 # The gate, and then the runs of the program that it built.
@@ -31,6 +31,10 @@ test:
 # The mutants of all crates, which the gate tries too.
 mutants:
 	@tests/mutants/run
+
+# The functions of pokit.h by their contracts in pokit.acsl.h, with Frama-C, where it is there, as the gate does.
+c-proof:
+	@tests/acsl/run
 
 # Changed texts and files for the tools, for a minute; tests/fuzz/run --help has more.
 fuzz: proved
@@ -44,15 +48,16 @@ bench: proved
 bench-lookup: proved
 	bench/lookup
 
-# The program, GNU's names for its tools in a folder of their own, manuals, completions, documents, and the library
-# for C in LIBDIR, or PREFIX/lib.
-install: $(if $(wildcard build/pokit),,all)
+# The program, GNU's names for its tools in a folder of their own, manuals, completions, documents, and the libraries
+# for C in LIBDIR, or PREFIX/lib. What was proved is installed as it is.
+install: $(if $(and $(wildcard build/pokit),$(wildcard build/libpokit.a)),libraries,all)
 	scripts/install install "$$DESTDIR" "$$PREFIX" "$$LIBDIR"
 
 uninstall:
 	scripts/install uninstall "$$DESTDIR" "$$PREFIX" "$$LIBDIR"
 
+# Everything that was made: the proofs too, which `make` then makes again from nothing.
 clean:
-	rm -rf build
+	@scripts/clean
 
-.PHONY: all proved demo test mutants fuzz bench bench-lookup install uninstall clean
+.PHONY: all proved libraries demo test mutants c-proof fuzz bench bench-lookup install uninstall clean

@@ -80,36 +80,42 @@ static int has_separator(const char *text, size_t len)
     return memchr(text, 4, len) != NULL;
 }
 
-static uint64_t plain_value(const pokit_node *nodes, uint32_t at, uint64_t n)
+static uint64_t plain_value(const pokit_catalog *of, uint64_t n)
 {
-    const pokit_node *node = nodes + at;
-    uint64_t a, b;
-    switch (node->kind) {
-    case 0: return n;
-    case 1: return (uint64_t)node->parts[3] << 48 | (uint64_t)node->parts[2] << 32 | (uint64_t)node->parts[1] << 16 | node->parts[0];
-    case 2: return !plain_value(nodes, node->parts[0], n);
-    case 4: return plain_value(nodes, node->parts[plain_value(nodes, node->parts[0], n) ? 1 : 2], n);
+    uint64_t values[4096], *top = values, right;
+    const pokit_instruction *it = of->instructions, *end = it + of->instruction_count;
+    for (; it < end; it++) {
+        switch (it->kind) {
+        case 0: *top++ = n; continue;
+        case 1: *top++ = it->number; continue;
+        case 2: *top++ = (uint64_t)it->number << 32 | it[1].number; it++; continue;
+        case 3: top[-1] = !top[-1]; continue;
+        case 5:
+            if ((top[-1] != 0) == (it->operation == 0)) {
+                top[-1] = it->operation == 0;
+                it += it->count;
+            }
+            continue;
+        case 6: it += *--top ? 0 : it->count; continue;
+        case 7: it += it->count; continue;
+        }
+        right = *--top;
+        switch (it->operation) {
+        case 0: case 1: top[-1] = right != 0; break;
+        case 2: top[-1] = top[-1] == right; break;
+        case 3: top[-1] = top[-1] != right; break;
+        case 4: top[-1] = top[-1] < right; break;
+        case 5: top[-1] = top[-1] > right; break;
+        case 6: top[-1] = top[-1] <= right; break;
+        case 7: top[-1] = top[-1] >= right; break;
+        case 8: top[-1] += right; break;
+        case 9: top[-1] -= right; break;
+        case 10: top[-1] *= right; break;
+        case 11: if (right == 0) return 0; top[-1] /= right; break;
+        default: if (right == 0) return 0; top[-1] %= right;
+        }
     }
-    a = plain_value(nodes, node->parts[0], n);
-    if (node->operation == 0 && a)
-        return 1;
-    if (node->operation == 1 && !a)
-        return 0;
-    b = plain_value(nodes, node->parts[1], n);
-    switch (node->operation) {
-    case 0: case 1: return b != 0;
-    case 2: return a == b;
-    case 3: return a != b;
-    case 4: return a < b;
-    case 5: return a > b;
-    case 6: return a <= b;
-    case 7: return a >= b;
-    case 8: return a + b;
-    case 9: return a - b;
-    case 10: return a * b;
-    case 11: return b ? a / b : 0;
-    default: return b ? a % b : 0;
-    }
+    return top[-1];
 }
 
 static const char *plain_look(const struct plain *p, const char *id, const char *plural, uint64_t n)
@@ -123,7 +129,7 @@ static const char *plain_look(const struct plain *p, const char *id, const char 
         if (order == 0) {
             const char *text = text_at(p, p->translations, middle);
             const char *end = text + word(p, p->translations + 8 * (size_t)middle);
-            uint64_t form = plural ? plain_value(catalog.nodes, catalog.node_count - 1, n) : 0;
+            uint64_t form = plural ? plain_value(&catalog, n) : 0;
             const char *at = text;
             if (form >= catalog.nplurals)
                 form = 0;

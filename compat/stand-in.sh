@@ -1,7 +1,7 @@
 # What pokit's stand-ins for GNU's programs share; each of them reads this file.
 pokit='@BINDIR@/pokit'
 
-say() { echo "$tool (pokit): $1" >&2; }
+say() { printf '%s\n' "$tool (pokit): $1" >&2; }
 
 # gnu NAME: sets program to the path of GNU's program of that name, past the stand-ins on PATH; false where there is none.
 gnu() {
@@ -11,7 +11,7 @@ gnu() {
         program=${program:-.}/$1
         [ -f "$program" ] && [ -x "$program" ] || continue
         { read -r first; read -r second; } < "$program" 2> /dev/null
-        case $first$second in '#!'*"pokit's stand-in for GNU's"*) ;; *) return ;; esac
+        case $first$second in '#!'*"pokit's stand-in for GNU's"*) ;; *) return 0 ;; esac
     done
     return 1
 }
@@ -33,25 +33,47 @@ are_ours() {
     done
 }
 
-# all_ours WORD..: whether pokit's tool has each option among the words.
+# Whether the options of GNU's tool end before its first operand.
+case $tool in gettext | ngettext) stops=1 ;; *) stops= ;; esac
+
+# all_ours WORD..: whether pokit's tool takes all words as GNU's does: it has each option, none stands where GNU's takes
+# it for an operand, and the count of ngettext, its last operand, is of digits.
 all_ours() {
-    skipped=
+    skipped= operand= only_operands=
     for word; do
         if [ -n "$skipped" ]; then
             skipped=
             continue
         fi
-        case $word in
-            --) return ;;
+        [ -z "$operand" ] || [ -z "$stops" ] || case $only_operands$word in -?*) return 1 ;; esac
+        case $only_operands$word in
+            --) only_operands=x ;;
+            --domain | --context) skipped=1 ;;
             --*) is_ours "$word" || return ;;
             -?*) are_ours "${word#-}" || return ;;
+            *) operand=x$word ;;
         esac
     done
+    [ "$tool" != ngettext ] || case ${operand#x} in *[!0-9]*) return 1 ;; esac
 }
 
-# run_tool WORD..: has pokit do it, or GNU's program where pokit lacks an option and GNU's is there.
+# is_utf8: whether messages are asked for in UTF-8, or the machine doesn't say in which charset.
+is_utf8() {
+    case ${LC_ALL:-${LC_MESSAGES:-$LANG}} in '' | C | POSIX) return 0 ;; esac
+    case ${OUTPUT_CHARSET:-${LC_ALL:-${LC_CTYPE:-$LANG}}} in
+        *[Uu][Tt][Ff]-8* | *[Uu][Tt][Ff]8*) return 0 ;;
+    esac
+    [ -z "$OUTPUT_CHARSET" ] || return 1
+    # (of a locale that isn't there it says that, in words)
+    case $(locale charmap 2>&1) in UTF-8 | '' | *' '*) ;; *) return 1 ;; esac
+}
+
+# run_tool WORD..: has pokit do it, or GNU's program where pokit would do it otherwise and GNU's is there.
 run_tool() {
-    all_ours "$@" || { gnu "$tool" && exec "$program" "$@"; }
+    ours=1
+    all_ours "$@" || ours=
+    [ -z "$stops" ] || is_utf8 || ours=
+    [ -n "$ours" ] || { gnu "$tool" && exec "$program" "$@"; }
     case $1 in -V | --version) echo "$tool (pokit's stand-in for GNU gettext) 0.21"; exit ;; esac
     exec "$pokit" "$tool" "$@"
 }

@@ -32,7 +32,7 @@ int main(int argc, char **argv)
     static pokit_catalog catalogs[MOST];
     const pokit_catalog *members[MOST];
     char path[4096];
-    uint32_t next = 0;
+    pokit_walk walk = {{0, 0}, 0};
     size_t count = 0;
 
     if (argc != 4) {
@@ -41,7 +41,7 @@ int main(int argc, char **argv)
     }
     setlocale(LC_ALL, "");
     while (count < MOST && pokit_path(argv[1], "LC_MESSAGES", argv[2], setlocale(LC_MESSAGES, NULL), getenv("LANGUAGE"),
-                                      &next, path, sizeof path) != 0)
+                                      &walk, path, sizeof path) != 0)
         if (open_file(&catalogs[count], path)) {
             members[count] = &catalogs[count];
             count++;

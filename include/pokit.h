@@ -2,7 +2,7 @@
  *
  *     #include <pokit.h>                    link with -lpokit
  *
- *     static pokit_catalog catalog;         41 KB: static or allocated, not on a small stack
+ *     static pokit_catalog catalog;         33 KB: static or allocated, not on a small stack
  *     uint32_t message;
  *     if (pokit_open(&catalog, bytes, len, &message) != POKIT_OK) { ... }
  *     puts(pokit_gettext(&catalog, "Open"));
@@ -24,9 +24,9 @@
  * Threads. A look-up changes nothing but the answer, so any number of threads may ask one catalogue at a time, once
  * the call of pokit_open has returned. pokit_open writes the catalogue and is called by one thread.
  *
- * Stack. pokit_open takes less than 1 KB of the stack, whatever the file. A look-up takes little more than 1 KB
- * where the plural expression has at most 128 nodes, which is more than any language needs, and up to 22 KB where it has
- * more.
+ * Stack. pokit_open takes less than 1.4 KB of the stack where the plural expression has at most 240 bytes, and up to
+ * 17 KB where it has more. A look-up takes less than 1.4 KB where the program of the expression has at most 128
+ * instructions, which is more than any language needs, and up to 33 KB where it has more.
  *
  * Charsets. A text is the bytes of the file: nothing is converted. pokit_charset answers the charset that the header
  * entry names.
@@ -88,21 +88,22 @@ typedef struct pokit_bytes {
     size_t len;
 } pokit_bytes;
 
-/* A node of a plural expression, as plural_rule's Node documents it: `operation` is its operator, `parts` are its first
- * to fourth. */
-typedef struct pokit_node {
+/* An instruction of the program that computes a plural expression, as plural_rule's Instruction documents it:
+ * `operation` is its operator. */
+typedef struct pokit_instruction {
     uint8_t kind;
     uint8_t operation;
-    uint16_t parts[4];
-} pokit_node;
+    uint16_t count;
+    uint32_t number;
+} pokit_instruction;
 
-/* A catalogue: 40,992 bytes. A program only reads it by the functions below. Each look-up relies on it and on its bytes
+/* A catalogue: 32,800 bytes. A program only reads it by the functions below. Each look-up relies on it and on its bytes
  * being as pokit_open left them. */
 typedef struct pokit_catalog {
     pokit_bytes bytes;
     uint64_t nplurals;
-    uint32_t node_count; /* how many nodes the expression has; 0 in a catalogue that isn't open */
-    pokit_node nodes[4096];
+    uint32_t instruction_count; /* how many instructions the program has; 0 in a catalogue that isn't open */
+    pokit_instruction instructions[4096];
 } pokit_catalog;
 
 /* What is asked. A query of all zeros asks for the empty msgid, which is the header entry. A context, a plural and a
@@ -149,12 +150,25 @@ typedef struct pokit_chain_answer {
     bool found;           /* whether it is a translation */
 } pokit_chain_answer;
 
+/* Where a walk over the candidates of a locale and LANGUAGE is. All zeros are its beginning. */
+typedef struct pokit_position {
+    size_t offset;  /* how many bytes of LANGUAGE it has passed */
+    uint32_t given; /* how many candidates of the next language were given */
+} pokit_position;
+
+/* Where a walk over paths is. All zeros are its beginning, and pokit_path sets the rest. */
+typedef struct pokit_walk {
+    pokit_position next;
+    size_t language_len;
+} pokit_walk;
+
 /* The structs are those that the library was compiled with. */
 typedef char pokit_bytes_has_16_bytes[sizeof(pokit_bytes) == 16 ? 1 : -1];
-typedef char pokit_node_has_10_bytes[sizeof(pokit_node) == 10 ? 1 : -1];
-typedef char pokit_catalog_has_40992_bytes[sizeof(pokit_catalog) == 40992 ? 1 : -1];
+typedef char pokit_instruction_has_8_bytes[sizeof(pokit_instruction) == 8 ? 1 : -1];
+typedef char pokit_catalog_has_32800_bytes[sizeof(pokit_catalog) == 32800 ? 1 : -1];
 typedef char pokit_query_has_64_bytes[sizeof(pokit_query) == 64 ? 1 : -1];
 typedef char pokit_located_has_32_bytes[sizeof(pokit_located) == 32 ? 1 : -1];
+typedef char pokit_position_has_16_bytes[sizeof(pokit_position) == 16 ? 1 : -1];
 
 /* The exports of libpokit.a, which are proved. No pointer is NULL, not even that of no bytes: call the functions after
  * them, which see to that. */
@@ -162,17 +176,23 @@ uint32_t pokit_catalog_open(pokit_catalog *catalog, const uint8_t *bytes, size_t
 uint32_t pokit_catalog_len(const pokit_catalog *catalog);
 void pokit_catalog_look(const pokit_catalog *catalog, const pokit_query *query, pokit_located *located);
 
-/* Candidate `index`, counted from 0, of a locale ("de_DE.UTF-8") and the value of LANGUAGE, of which no bytes are an
- * unset one: the names of locales whose catalogues are looked for, the first to be asked first. They are five for each
- * language in LANGUAGE, or for the locale where LANGUAGE is unset: of L_T.C@M the name itself, L_T@M, L@M, L_T and L;
- * some may be equal. There are none without a locale, in C and POSIX, and in a locale whose name has a slash; a part of
- * LANGUAGE that is empty or has a slash has none, and C or POSIX in LANGUAGE ends the list. The result is the length of
- * the name, or POKIT_END where there is no such candidate. A name of no more than `size` bytes is written to the
- * beginning of `name`, without a NUL; else `name` stays as it is. A locale without a language, as "@euro", has empty
- * names among its candidates: pass them over. */
+/* The next candidate of a locale ("de_DE.UTF-8") and the value of LANGUAGE, of which no bytes are an unset one: the
+ * names of locales whose catalogues are looked for, the first to be asked first. They are five for each language in
+ * LANGUAGE, or for the locale where LANGUAGE is unset: of L_T.C@M the name itself, L_T@M, L@M, L_T and L; some may be
+ * equal. There are none without a locale, in C and POSIX, and in a locale whose name has a slash; a part of LANGUAGE
+ * that is empty or has a slash has none, and C or POSIX in LANGUAGE ends the list. The result is the length of the
+ * name, and `position` is then that of the one after it; or POKIT_END where there is none more. A name of no more than
+ * `size` bytes is written to the beginning of `name`, without a NUL; else `name` stays as it is. A locale without a
+ * language, as "@euro", has empty names among its candidates: pass them over, and "." and "..", which lead out of a
+ * folder. A call takes time in proportion to the locale's name and to the part of LANGUAGE that it passes. */
 #define POKIT_END SIZE_MAX
 size_t pokit_candidate(const uint8_t *locale, size_t locale_len, const uint8_t *language, size_t language_len,
-                       uint32_t index, uint8_t *name, size_t size);
+                       pokit_position *position, uint8_t *name, size_t size);
+
+/* The contracts of these functions, which Frama-C proves. */
+#ifdef __FRAMAC__
+#include "pokit.acsl.h"
+#endif
 
 /* The version of this header; of libpokit.so, that of the library. */
 POKIT_FUNCTION const char *pokit_version(void)
@@ -210,7 +230,7 @@ POKIT_FUNCTION enum pokit_error pokit_open(pokit_catalog *catalog, const void *b
     pokit_bytes file = pokit_bytes_of(bytes, len);
     catalog->bytes = pokit_bytes_of(NULL, 0);
     catalog->nplurals = 0;
-    catalog->node_count = 0;
+    catalog->instruction_count = 0;
     if (message == NULL)
         message = &unused;
     *message = 0;
@@ -220,7 +240,7 @@ POKIT_FUNCTION enum pokit_error pokit_open(pokit_catalog *catalog, const void *b
 /* How many messages a catalogue has, its header entry among them: 0 where it isn't open. */
 POKIT_FUNCTION uint32_t pokit_len(const pokit_catalog *catalog)
 {
-    return catalog->node_count != 0 ? pokit_catalog_len(catalog) : 0;
+    return catalog->instruction_count != 0 ? pokit_catalog_len(catalog) : 0;
 }
 
 /* The query with all of its fields set, and pointers that aren't NULL. */
@@ -266,7 +286,7 @@ POKIT_FUNCTION pokit_answer pokit_look(const pokit_catalog *catalog, pokit_query
     pokit_query whole = pokit_whole(query);
     pokit_located located;
     pokit_answer answer;
-    if (catalog->node_count == 0)
+    if (catalog->instruction_count == 0)
         return pokit_untranslated(whole);
     pokit_catalog_look(catalog, &whole, &located);
     answer.text = pokit_located_text(catalog, &whole, &located);
@@ -294,6 +314,10 @@ POKIT_FUNCTION pokit_chain_answer pokit_look_chain(const pokit_catalog *const *c
     chain.asked = 0;
     if (pokit_has_separator(whole.context) || pokit_has_separator(whole.id))
         count = 0;
+    /*@ loop invariant chain.asked <= count && pokit_is_last(catalogs, query, chain.asked, answer);
+        loop invariant chain.comparisons == pokit_compared_by(catalogs, query, chain.asked) <= 32 * chain.asked;
+        loop assigns answer, chain.comparisons, chain.asked;
+        loop variant count - chain.asked; */
     while (chain.asked < count && !answer.found) {
         const pokit_catalog *member = catalogs[chain.asked++];
         if (member != NULL) {
@@ -378,59 +402,113 @@ POKIT_FUNCTION const char *pokit_gettext(const pokit_catalog *catalog, const cha
 POKIT_FUNCTION pokit_bytes pokit_charset(const pokit_catalog *catalog)
 {
     pokit_answer header = pokit_look(catalog, pokit_query_of(NULL, "", NULL, 0));
-    const char *text = header.found ? (const char *)header.text.ptr : "";
-    const char *field = strstr(text, "charset=");
-    const char *charset = field != NULL ? field + strlen("charset=") : "";
-    return pokit_bytes_of(charset, strcspn(charset, " \t\r\n;"));
+    const char *field = header.found ? strstr((const char *)header.text.ptr, "charset=") : NULL;
+    if (field == NULL)
+        return pokit_bytes_of(NULL, 0);
+    field += sizeof "charset=" - 1;
+    return pokit_bytes_of(field, strcspn(field, " \t\r\n;"));
 }
 
-/* Whether candidate `index` is one of those before it that stand for the same name. */
-static inline bool pokit_is_repeated(pokit_bytes locale, pokit_bytes language, uint32_t index, const char *name,
+/* The candidate at a position, as pokit_candidate answers it, with the position after it in its own copy. */
+static inline size_t pokit_candidate_at(pokit_bytes locale, pokit_bytes language, size_t offset, uint32_t given,
+                                        uint8_t *name, size_t size)
+{
+    pokit_position position;
+    position.offset = offset;
+    position.given = given;
+    return pokit_candidate(locale.ptr, locale.len, language.ptr, language.len, &position, name, size);
+}
+
+/* Whether the candidate at a position, of `len` bytes, names no folder in another one: it is empty, "." or "..". */
+static inline bool pokit_leads_out(pokit_bytes locale, pokit_bytes language, size_t offset, uint32_t given, size_t len)
+{
+    uint8_t name[2] = {0, 0};
+    if (len > sizeof name)
+        return false;
+    pokit_candidate_at(locale, language, offset, given, name, sizeof name);
+    return len == 0 || (name[0] == '.' && name[len - 1] == '.');
+}
+
+/* Whether the candidate at a position is one of those of the same language before it; that after its fifth is of the
+ * next one. Of L_T.C@M they are L_T.C@M, L_T@M, L@M, L_T and L. Two are equal where the parts are missing in which they
+ * differ, and then one is as long as one before it: the second as the first, the third and the fourth as the second,
+ * the fifth as the third or the fourth. */
+static inline bool pokit_is_repeated(pokit_bytes locale, pokit_bytes language, size_t offset, uint32_t given,
                                      size_t len)
 {
-    uint8_t other[256];
-    uint32_t at;
-    for (at = index - index % 5; at < index; at++)
-        if (pokit_candidate(locale.ptr, locale.len, language.ptr, language.len, at, other, sizeof other) == len
-            && len <= sizeof other && memcmp(other, name, len) == 0)
-            return true;
-    return false;
+    uint8_t unused;
+    if (given == 0 || given > 4)
+        return false;
+    return pokit_candidate_at(locale, language, offset, given / 2, &unused, 0) == len
+           || (given == 4 && pokit_candidate_at(locale, language, offset, 3, &unused, 0) == len);
+}
+
+/* The next candidate that is a folder's name which its language hasn't had before, as pokit_candidate answers it. */
+static inline size_t pokit_next_name(pokit_bytes locale, pokit_bytes language, pokit_position *next, uint8_t *name,
+                                     size_t size)
+{
+    pokit_position at;
+    size_t len;
+    /*@ loop invariant pokit_are_same{Pre,Here}(locale, language);
+        loop invariant pokit_left_from{Pre,Here}(locale, language, next)
+          <= pokit_left_from{Pre,Pre}(locale, language, next);
+        loop assigns at, len, *next, name[0 .. size - 1];
+        loop variant pokit_left_at{Pre}(locale, language, *next); */
+    do {
+        at = *next;
+        len = pokit_candidate(locale.ptr, locale.len, language.ptr, language.len, next, name, size);
+        if (len == POKIT_END)
+            return POKIT_END;
+    } while (pokit_leads_out(locale, language, at.offset, at.given, len)
+             || pokit_is_repeated(locale, language, at.offset, at.given, len));
+    return len;
+}
+
+/* Writes FOLDER/NAME/CATEGORY/DOMAIN.mo and a NUL, but for the name, which is in its place. */
+static inline void pokit_write_around(char *path, const char *folder, size_t folder_len, size_t name_len,
+                                      const char *category, size_t category_len, const char *domain, size_t domain_len)
+{
+    char *rest = path + folder_len + 1 + name_len;
+    memcpy(path, folder, folder_len);
+    path[folder_len] = '/';
+    *rest++ = '/';
+    memcpy(rest, category, category_len);
+    rest += category_len;
+    *rest++ = '/';
+    memcpy(rest, domain, domain_len);
+    rest += domain_len;
+    memcpy(rest, ".mo", sizeof ".mo" - 1);
+    rest[sizeof ".mo" - 1] = 0;
 }
 
 /* Writes the path FOLDER/NAME/CATEGORY/DOMAIN.mo of the next candidate of a locale and LANGUAGE, with a NUL, and
- * answers its length, or 0 after the last one. `*next` is 0 before the first call. Where the path doesn't fit into
- * `size` bytes, of which there is at least one, its length is answered and the path is empty. Empty names are passed
- * over, and those that stand for a name more than once. The locale and LANGUAGE may be NULL: they are unset. A domain
- * that is empty or has a slash has no path. A common folder is "/usr/share/locale", a common category "LC_MESSAGES". */
+ * answers its length, or 0 after the last one. `walk` is all zeros before the first call, and the texts are the same
+ * ones in all calls. Where the path doesn't fit into `size` bytes, of which there is at least one, its length is
+ * answered and the path is empty. Passed over are names that are empty, "." or "..", and each that its language has
+ * stood for before; a name that two languages stand for, as "de" in "de_AT:de_CH", comes for each. A walk
+ * takes time in proportion to LANGUAGE, and for each path to the other texts. The locale and LANGUAGE may be NULL: they
+ * are unset. A domain that is empty or has a slash has no path. A common folder is "/usr/share/locale", a common
+ * category "LC_MESSAGES". Neither `path` nor `walk` overlaps the texts or the other; each text has less than 2^60
+ * bytes. */
 POKIT_FUNCTION size_t pokit_path(const char *folder, const char *category, const char *domain, const char *locale,
-                                 const char *language, uint32_t *next, char *path, size_t size)
+                                 const char *language, pokit_walk *walk, char *path, size_t size)
 {
-    pokit_bytes locale_bytes = pokit_bytes_of_string(locale), language_bytes = pokit_bytes_of_string(language);
-    size_t before = strlen(folder) + 1, category_len = strlen(category), domain_len = strlen(domain), len;
-    size_t around = before + category_len + domain_len + strlen("//.mo");
+    pokit_bytes locale_bytes = pokit_bytes_of_string(locale), language_bytes;
+    size_t before = strlen(folder) + 1, category_len = strlen(category), domain_len = strlen(domain);
+    size_t around = before + category_len + domain_len + sizeof "//.mo" - 1;
     char *name = path + (before < size ? before : 0);
-    size_t room = around < size ? size - around - 1 : 0;
+    size_t room = around < size ? size - around - 1 : 0, len = POKIT_END;
+    if (walk->next.offset == 0 && walk->next.given == 0)
+        walk->language_len = language != NULL ? strlen(language) : 0;
+    language_bytes = pokit_bytes_of(language, walk->language_len);
+    if (domain_len != 0 && strchr(domain, '/') == NULL)
+        len = pokit_next_name(locale_bytes, language_bytes, &walk->next, (uint8_t *)name, room);
     path[0] = 0;
-    if (domain_len == 0 || strchr(domain, '/') != NULL)
+    if (len == POKIT_END)
         return 0;
-    do {
-        len = pokit_candidate(locale_bytes.ptr, locale_bytes.len, language_bytes.ptr, language_bytes.len, *next,
-                              (uint8_t *)name, room);
-        if (len == POKIT_END)
-            return 0;
-        (*next)++;
-    } while (len == 0 || (len <= room && pokit_is_repeated(locale_bytes, language_bytes, *next - 1, name, len)));
     if (len > room)
         return around + len;
-    memcpy(path, folder, before - 1);
-    path[before - 1] = '/';
-    name += len;
-    *name++ = '/';
-    memcpy(name, category, category_len);
-    name += category_len;
-    *name++ = '/';
-    memcpy(name, domain, domain_len);
-    memcpy(name + domain_len, ".mo", sizeof ".mo");
+    pokit_write_around(path, folder, before - 1, len, category, category_len, domain, domain_len);
     return around + len;
 }
 

@@ -1,5 +1,8 @@
 /* Catalogues, each read once and kept by its path. All of this is called under the lock. */
-enum { LARGEST_FILE = 1 << 28 }; /* bytes */
+enum {
+    LARGEST_FILE = 1 << 28, /* bytes */
+    SHORT_RULE = 240        /* bytes of a plural expression that libpokit reads on little stack */
+};
 
 struct file {
     struct file *next;
@@ -38,12 +41,48 @@ static size_t read_all(int fd, char *bytes, size_t len)
     return done;
 }
 
+/* Whether a file may have a plural expression that libpokit needs more of the stack to read. */
+static bool has_long_rule(const char *at, size_t len)
+{
+    static const char name[] = "plural=";
+    const char *end = at + len;
+    while ((at = memmem(at, (size_t)(end - at), name, sizeof name - 1)) != NULL) {
+        const char *it = at += sizeof name - 1;
+        while (it < end && it - at <= SHORT_RULE && *it != ';' && *it != '\n' && *it != '\0')
+            it++;
+        if (it - at > SHORT_RULE)
+            return true;
+    }
+    return false;
+}
+
+/* A file in the memory behind a catalogue, and what came of opening it. */
+struct opening {
+    pokit_catalog *catalog;
+    size_t len;
+    uint32_t message;
+    enum pokit_error error;
+};
+
+static void *open_catalog(void *argument)
+{
+    struct opening *it = argument;
+    it->error = pokit_open(it->catalog, it->catalog + 1, it->len, &it->message);
+    return it;
+}
+
+/* Opens it where there is stack enough. Returns whether there is. */
+static bool opens(struct opening *it)
+{
+    if (is_first_thread() || !has_long_rule((const char *)(it->catalog + 1), it->len))
+        return open_catalog(it) != NULL;
+    return on_large_stack(open_catalog, it) != NULL;
+}
+
 /* Reads and checks an open file. `*again` tells that only memory was missing. */
 static const pokit_catalog *read_catalog(int fd, bool *again)
 {
     struct stat info = {0};
-    uint32_t message;
-    enum pokit_error error;
     if (fstat(fd, &info) != 0 || !S_ISREG(info.st_mode) || info.st_size > LARGEST_FILE) {
         tell(S_ISREG(info.st_mode) ? "too large" : "not a regular file", -1);
         return NULL;
@@ -53,10 +92,11 @@ static const pokit_catalog *read_catalog(int fd, bool *again)
     *again = catalog == MAP_FAILED;
     if (*again)
         return NULL;
-    len = read_all(fd, (char *)(catalog + 1), len);
-    error = pokit_open(catalog, catalog + 1, len, &message);
-    if (error != POKIT_OK)
-        tell(pokit_error_text(error), error >= POKIT_STRING_OUTSIDE ? (int64_t)message : -1);
+    struct opening it = {.catalog = catalog, .len = read_all(fd, (char *)(catalog + 1), len)};
+    if (!opens(&it))
+        *again = true;
+    else if (it.error != POKIT_OK)
+        tell(pokit_error_text(it.error), it.error >= POKIT_STRING_OUTSIDE ? (int64_t)it.message : -1);
     else if (mprotect(catalog, size, PROT_READ) == 0)
         return catalog;
     else

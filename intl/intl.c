@@ -7,7 +7,8 @@
  * A view is what a call names: domain, category, locale and codeset. Its chain has the catalogues that were found so
  * far, and is found anew when the stamp has changed. Views, chains, links and texts are never changed once another
  * thread can see them, but for atomic pointers that go from NULL to what was found. So a message of a catalogue that
- * was loaded is answered without a lock and without a write; all else is done under one lock. */
+ * was loaded is answered without a lock and without a write. All else is done under one lock, but for what may wait for
+ * another thread that wants a message: it loads libraries (iconv_open, dlsym) or may do so (iconv, malloc). */
 #define _GNU_SOURCE
 #include <errno.h>
 #include <fcntl.h>
@@ -44,7 +45,7 @@
 #include "views.h"
 
 enum {
-    SMALL_RULE = 128, /* nodes of a plural expression that libpokit evaluates on 1 KB of stack */
+    SMALL_RULE = 128, /* instructions of a plural expression that libpokit evaluates on 1 KB of stack */
     EOT = 4           /* stands between context and msgid */
 };
 
@@ -73,7 +74,7 @@ static const char *answer_of(const struct link *link, struct question *question)
 {
     question->catalog = link->catalog;
     question->answer.found = false;
-    if (question->plural != NULL && link->catalog->node_count > SMALL_RULE)
+    if (question->plural != NULL && link->catalog->instruction_count > SMALL_RULE)
         on_large_stack(look, question);
     else
         look(question);
@@ -150,23 +151,50 @@ EXPORT char *dcngettext(const char *domain, const char *msgid, const char *plura
     return answer(domain, msgid, plural, true, count, category);
 }
 
-/* Tells libc's own function of a setting, for what asks it from inside libc, as argp does for a program's texts. This is
- * done under the lock too, so that no thread is in there while another one forks. */
-static void forward(const char *function, const char *domain, const char *value)
+/* libc's own functions of settings. */
+enum setter { TEXTDOMAIN, BINDTEXTDOMAIN, BIND_TEXTDOMAIN_CODESET, SETTERS };
+
+/* One of them, or NULL. They are looked for when the library is loaded, or where a setting comes before that: without
+ * the lock, since dlsym may wait for a thread that loads another library. */
+static void *setter_of(enum setter which)
 {
 #ifdef POKIT_INTL_FORWARD
+    static const char *const names[SETTERS] = {"textdomain", "bindtextdomain", "bind_textdomain_codeset"};
+    static _Atomic(void *) found[SETTERS];
+    void *setter = atomic_load_explicit(&found[which], memory_order_relaxed);
+    if (setter == NULL) {
+        setter = dlsym(RTLD_NEXT, names[which]);
+        atomic_store_explicit(&found[which], setter, memory_order_relaxed);
+    }
+    return setter;
+#else
+    (void)which;
+    return NULL;
+#endif
+}
+
+/* Tells libc's own function of a setting, for what asks it from inside libc, as argp does for a program's texts. This is
+ * done under the lock, so that no thread is in there while another one forks. */
+static void forward(void *setter, const char *domain, const char *value)
+{
     union {
         void *found;
-        char *(*call)(const char *, const char *);
-        char *(*call_textdomain)(const char *);
-    } next = {dlsym(RTLD_NEXT, function)};
+        char *(*of_two)(const char *, const char *);
+        char *(*of_one)(const char *);
+    } next = {setter};
     if (next.found != NULL && value != NULL)
-        next.call(domain, value);
+        next.of_two(domain, value);
     else if (next.found != NULL)
-        next.call_textdomain(domain);
-#else
-    (void)function, (void)domain, (void)value;
-#endif
+        next.of_one(domain);
+}
+
+__attribute__((constructor)) static void start(void)
+{
+    pthread_atfork(before_fork, after_fork, start_child);
+    if (syscall(SYS_gettid) == getpid())
+        is_first_inside = &is_inside;
+    for (enum setter which = TEXTDOMAIN; which < SETTERS; which++)
+        setter_of(which);
 }
 
 EXPORT char *textdomain(const char *domain)
@@ -174,13 +202,14 @@ EXPORT char *textdomain(const char *domain)
     const char *chosen = atomic_load_explicit(&current_domain, memory_order_acquire);
     if (domain == NULL)
         return (char *)(uintptr_t)chosen;
+    void *setter = setter_of(TEXTDOMAIN);
     if (!enter())
         return NULL;
     chosen = domain[0] == 0 ? default_domain : interned(domain);
     if (chosen != NULL) {
         atomic_store_explicit(&current_domain, chosen, memory_order_release);
         atomic_fetch_add_explicit(&changes, 1, memory_order_release);
-        forward("textdomain", chosen, NULL);
+        forward(setter, chosen, NULL);
     }
     leave();
     return (char *)(uintptr_t)chosen;
@@ -198,12 +227,12 @@ static struct binding *add_binding(const char *domain)
     return it;
 }
 
-/* Sets the folder or the codeset of a domain, as the function of that name. Returns it, or NULL where memory is
- * missing. */
-static const char *bind(const char *function, const char *domain, const char *value, bool is_folder)
+/* Sets the folder or the codeset of a domain. Returns it, or NULL where memory is missing. */
+static const char *bind(const char *domain, const char *value, bool is_folder)
 {
     const char *kept, **place;
     struct binding *it;
+    void *setter = setter_of(is_folder ? BINDTEXTDOMAIN : BIND_TEXTDOMAIN_CODESET);
     if (!enter())
         return NULL;
     kept = interned(value);
@@ -216,7 +245,7 @@ static const char *bind(const char *function, const char *domain, const char *va
         if (*place != kept)
             atomic_fetch_add_explicit(&changes, 1, memory_order_release);
         *place = kept;
-        forward(function, domain, kept);
+        forward(setter, domain, kept);
     }
     leave();
     return kept;
@@ -238,7 +267,7 @@ EXPORT char *bindtextdomain(const char *domain, const char *folder)
 {
     const char *value = NULL;
     if (domain != NULL && domain[0] != 0)
-        value = folder != NULL ? bind("bindtextdomain", domain, folder, true) : bound(domain, true);
+        value = folder != NULL ? bind(domain, folder, true) : bound(domain, true);
     return (char *)(uintptr_t)value;
 }
 
@@ -246,7 +275,7 @@ EXPORT char *bind_textdomain_codeset(const char *domain, const char *codeset)
 {
     const char *value = NULL;
     if (domain != NULL && domain[0] != 0)
-        value = codeset != NULL ? bind("bind_textdomain_codeset", domain, codeset, false) : bound(domain, false);
+        value = codeset != NULL ? bind(domain, codeset, false) : bound(domain, false);
     return (char *)(uintptr_t)value;
 }
 

@@ -18,7 +18,7 @@ struct chain {
     struct chain *older;
     const char *domain, *locale, *folder, *language, *charset;
     int category;
-    uint32_t candidate; /* the next that is looked for */
+    pokit_walk walk; /* to the next candidate; under the lock */
     _Atomic(struct link *) first;
 };
 
@@ -39,7 +39,7 @@ EXPORT int _nl_msg_cat_cntr;
 #endif
 
 static _Atomic(struct view *) views[BUCKETS];
-static _Thread_local struct view *asked_last __attribute__((tls_model("initial-exec")));
+OWN_TO_A_THREAD struct view *asked_last;
 static struct link end;
 static struct binding *bindings; /* under the lock */
 static _Atomic uint32_t changes; /* of the bindings */
@@ -86,8 +86,6 @@ static struct link *link_of(const struct chain *chain, struct file *file)
         conversion = conversion_of(file, charset, chain->charset);
         if (conversion == NULL)
             return NULL;
-        if (conversion->descriptor == (iconv_t)-1)
-            return &end;
     }
     struct link *link = take(sizeof *link);
     if (link != NULL) {
@@ -98,17 +96,15 @@ static struct link *link_of(const struct chain *chain, struct file *file)
 }
 
 /* The next link of a chain: that of its next candidate that has a catalogue. */
-static void *find_link(void *argument)
+static struct link *find_link(struct chain *chain)
 {
-    struct chain *chain = argument;
-    is_inside = true;
     for (;;) {
-        uint32_t candidate = chain->candidate;
+        pokit_walk walk = chain->walk;
         size_t len = pokit_path(chain->folder, category_name(chain->category), chain->domain, chain->locale,
-                                chain->language, &candidate, path, sizeof path);
+                                chain->language, &walk, path, sizeof path);
         struct link *link = len == 0 || len >= sizeof path ? &end : link_of(chain, file_at_path());
         if (link != NULL)
-            chain->candidate = candidate;
+            chain->walk = walk;
         if (len == 0 || link != &end)
             return link;
     }
@@ -122,7 +118,7 @@ static struct link *link_at(struct chain *chain, _Atomic(struct link *) *place)
         return link;
     link = atomic_load_explicit(place, memory_order_relaxed);
     if (link == NULL) {
-        link = on_large_stack(find_link, chain);
+        link = find_link(chain);
         atomic_store_explicit(place, link, memory_order_release);
     }
     leave();

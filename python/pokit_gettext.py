@@ -3,14 +3,24 @@
     import gettext, pokit_gettext
     _ = gettext.translation("bookshelf", "locale", class_=pokit_gettext.Translations).gettext
 
-A Translations has the methods of gettext.GNUTranslations. A file is checked when it is opened, and nothing of it is
-decoded before it is asked for; one that is damaged raises OSError with its fault. As in C, ngettext also finds a
-message without plural forms, takes the first form where that of the count is missing, and takes a count modulo 2**64.
+A Translations is a gettext.GNUTranslations, and answers as one. A file is checked when it is opened, and nothing of it
+is decoded before it is asked for; one that is damaged raises OSError with its fault. As in C, ngettext also finds a
+message without plural forms, and takes the first form where that of the count is missing.
+
+The library is asked where the msgid and the context are texts and the count is an int from 0 to 2**64 - 1. All else is
+answered by GNUTranslations' own methods. These use _catalog, which reads single messages from the file in Python, and
+plural, which is Python's function of the header's rule. Django uses both too; _catalog.copy() reads all messages.
+
 POKIT_LIBRARY names the library where it isn't found as libpokit.so.0.
 """
+import bisect
+import codecs
+import collections.abc
 import ctypes
+import functools
 import gettext
 import os
+import struct
 
 _library = ctypes.CDLL(os.environ.get("POKIT_LIBRARY") or "libpokit.so.0")
 _size = ctypes.c_size_t
@@ -23,24 +33,115 @@ _error_text.restype = ctypes.c_char_p
 _catalog_size = _library.pokit_catalog_size
 _catalog_size.restype = _size
 _look_up = _library.pokit_lookup
-_look_up.argtypes = [ctypes.c_void_p, ctypes.c_char_p, _size, ctypes.c_char_p, _size, ctypes.c_char_p, _size, ctypes.c_uint64,
-                     ctypes.c_void_p]
+_look_up.argtypes = [ctypes.c_void_p, ctypes.c_char_p, _size, ctypes.c_char_p, _size, ctypes.c_char_p, _size,
+                     ctypes.c_uint64, ctypes.c_void_p]
 _look_up.restype = ctypes.c_char_p
 
+_COUNTS = 2 ** 64
+_NONE = gettext.NullTranslations  # whose methods ask the fallback
 
-class Translations(gettext.NullTranslations):
+
+class _Keys(collections.abc.Sequence):
+    """The keys of a file that was checked, as bytes: contexts and msgids."""
+
+    def __init__(self, file):
+        order = "<" if file[:4] == b"\xde\x12\x04\x95" else ">"
+        self.file = file
+        self.len, self.originals, self.translations = struct.unpack_from(order + "3I", file, 8)
+        self.entry = struct.Struct(order + "2I")
+
+    def __len__(self):
+        return self.len
+
+    def string(self, table, index):
+        len_, at = self.entry.unpack_from(self.file, table + 8 * index)
+        return self.file[at:at + len_]
+
+    def __getitem__(self, index):
+        return self.string(self.originals, index).partition(b"\0")[0]
+
+
+class _Catalog(collections.abc.Mapping):
+    """The messages of one MO file: as a mapping those of GNUTranslations._catalog, read when they are asked for. It
+    never changes. The library's room has the address of the file's bytes, so a copy opens the file's bytes again."""
+
+    def __init__(self, file, name="", charset="ascii"):
+        message = ctypes.c_uint32()
+        self._file = file
+        self.room = ctypes.byref((ctypes.c_uint64 * ((_catalog_size() + 7) // 8))())
+        error = _open(self.room, file, len(file), message)
+        if error:
+            raise OSError(0, _error_text(error).decode(), name)
+        self._keys = _Keys(file)
+        self.charset = charset
+
+    def __reduce__(self):
+        return _Catalog, (self._file, "", self.charset)
+
+    def header(self):
+        return (_look_up(self.room, None, 0, b"", 0, None, 0, 0, None) or b"").decode("utf-8", "replace")
+
+    def _entry(self, index):
+        """A key, and its translation or the list of its forms."""
+        keys = self._keys
+        key, separator, _ = keys.string(keys.originals, index).partition(b"\0")
+        text = keys.string(keys.translations, index)
+        if separator:
+            return key.decode(self.charset), [form.decode(self.charset) for form in text.split(b"\0")]
+        return key.decode(self.charset), text.decode(self.charset)
+
+    def _find(self, key):
+        """The translation of a key or the list of its forms, or None."""
+        try:
+            key = key.encode(self.charset)
+        except UnicodeEncodeError:
+            return None
+        index = bisect.bisect_left(self._keys, key)
+        return self._entry(index)[1] if index < len(self._keys) and self._keys[index] == key else None
+
+    def __getitem__(self, key):
+        hash(key)
+        text = None
+        if isinstance(key, str):
+            text = self._find(key)
+        elif isinstance(key, tuple) and len(key) == 2 and isinstance(key[0], str):
+            forms = self._find(key[0])
+            text = dict(enumerate(forms)).get(key[1]) if isinstance(forms, list) else None
+        if not isinstance(text, str):
+            raise KeyError(key)
+        return text
+
+    def items(self):
+        for index in range(len(self._keys)):
+            key, text = self._entry(index)
+            if isinstance(text, str):
+                yield key, text
+            else:
+                for form, of_form in enumerate(text):
+                    yield (key, form), of_form
+
+    def __iter__(self):
+        return (key for key, _ in self.items())
+
+    def __len__(self):
+        return sum(1 for _ in self.items())
+
+    def __bool__(self):
+        return len(self._keys) > 0
+
+    def copy(self):
+        """All messages, as a dict."""
+        return dict(self.items())
+
+
+class Translations(gettext.GNUTranslations):
     """The messages of one MO file."""
 
     def _parse(self, fp):
-        self._bytes = fp.read()
-        self._room = (ctypes.c_uint64 * ((_catalog_size() + 7) // 8))()
-        self._catalog = ctypes.addressof(self._room)
-        message = ctypes.c_uint32()
-        error = _open(self._catalog, self._bytes, len(self._bytes), message)
-        if error:
-            raise OSError(0, _error_text(error).decode(), getattr(fp, "name", ""))
-        self._encoding = "ascii"
-        self._read_header((_look_up(self._catalog, None, 0, b"", 0, None, 0, 0, None) or b"").decode("utf-8", "replace"))
+        self._catalog = _Catalog(fp.read(), getattr(fp, "name", ""))
+        self._read_header(self._catalog.header())
+        if self._charset is not None:
+            self._catalog.charset = codecs.lookup(self._charset).name
 
     def _read_header(self, header):
         last = None
@@ -52,35 +153,62 @@ class Translations(gettext.NullTranslations):
                 last, value = last.strip().lower(), value.strip()
                 self._info[last] = value
                 if last == "content-type" and "charset=" in value:
-                    self._charset = self._encoding = value.split("charset=")[1]
+                    self._charset = value.split("charset=")[1]
             elif item and last:
                 self._info[last] += "\n" + item
 
+    @functools.cached_property
+    def plural(self):
+        """The form of a count: Python's function of the header's rule."""
+        forms = self._info.get("plural-forms")
+        return (lambda n: int(n != 1)) if forms is None else gettext.c2py(forms.split(";")[1].split("plural=")[1])
+
+    def __getstate__(self):
+        return {name: value for name, value in self.__dict__.items() if name != "plural"}
+
+    def _asks(self, context, msgid, count):
+        """Whether the library is asked: a subclass may have another catalogue."""
+        return (isinstance(msgid, str) and isinstance(context, str) and isinstance(count, int) and 0 <= count < _COUNTS
+                and _SEPARATOR not in msgid and _SEPARATOR not in context and isinstance(self._catalog, _Catalog))
+
     def _look(self, context, msgid, count):
-        """The translation, or None. A count selects the form; without a plural form the text is found by any count."""
+        """The translation, None where there is none, or NotImplemented where GNUTranslations' own methods answer. A
+        count selects the form; without a plural form the text is found by any count."""
+        if not (isinstance(count, int) and 0 <= count < _COUNTS):
+            return NotImplemented
         try:
-            key = msgid.encode(self._encoding)
-            if context is None:
-                text = _look_up(self._catalog, None, 0, key, len(key), b"", 0, count & 0xFFFFFFFFFFFFFFFF, None)
-            else:
-                context = context.encode(self._encoding)
-                text = _look_up(self._catalog, context, len(context), key, len(key), b"", 0, count & 0xFFFFFFFFFFFFFFFF, None)
+            room, charset = self._catalog.room, self._catalog.charset
+            key = msgid.encode(charset)
+            before = None if context is None else context.encode(charset)
+        except AttributeError:
+            return NotImplemented
         except UnicodeEncodeError:
             return None
-        return None if text is None else text.decode(self._encoding)
+        text = _look_up(room, before, 0 if before is None else len(before), key, len(key), b"", 0, count, None)
+        if text is not None:
+            return text.decode(charset)
+        return NotImplemented if b"\4" in key or (before is not None and b"\4" in before) else None
 
     def gettext(self, message):
         text = self._look(None, message, 1)
-        return super().gettext(message) if text is None else text
+        if text is NotImplemented:
+            return super().gettext(message)
+        return _NONE.gettext(self, message) if text is None else text
 
     def ngettext(self, msgid1, msgid2, n):
         text = self._look(None, msgid1, n)
-        return super().ngettext(msgid1, msgid2, n) if text is None else text
+        if text is NotImplemented:
+            return super().ngettext(msgid1, msgid2, n)
+        return _NONE.ngettext(self, msgid1, msgid2, n) if text is None else text
 
     def pgettext(self, context, message):
-        text = self._look(context, message, 1)
-        return super().pgettext(context, message) if text is None else text
+        text = self._look(str(context), str(message), 1)
+        if text is NotImplemented:
+            return super().pgettext(context, message)
+        return _NONE.pgettext(self, context, message) if text is None else text
 
     def npgettext(self, context, msgid1, msgid2, n):
-        text = self._look(context, msgid1, n)
-        return super().npgettext(context, msgid1, msgid2, n) if text is None else text
+        text = self._look(str(context), str(msgid1), n)
+        if text is NotImplemented:
+            return super().npgettext(context, msgid1, msgid2, n)
+        return _NONE.npgettext(self, context, msgid1, msgid2, n) if text is None else text

@@ -34,10 +34,10 @@ static const struct row {
     {"de", "de_AT:fr:de", "de_AT,de,fr,"},
 };
 
-static size_t ask(const struct row *row, uint32_t index, char *name, size_t size)
+static size_t ask(const struct row *row, pokit_position *position, char *name, size_t size)
 {
     return pokit_candidate((const uint8_t *)row->locale, strlen(row->locale), (const uint8_t *)row->language,
-                           strlen(row->language), index, (uint8_t *)name, size);
+                           strlen(row->language), position, (uint8_t *)name, size);
 }
 
 /* Whether a name, and a comma, is one of those before. */
@@ -54,72 +54,133 @@ static int is_listed(const char *names, const char *name)
 /* The candidates of a row, each once, as its last field has them, and how many there are with the repeats. */
 static uint32_t list(const struct row *row, char *names)
 {
+    pokit_position position = {0, 0};
     char name[64];
     size_t len;
-    uint32_t index;
+    uint32_t count = 0;
     *names = 0;
-    for (index = 0; (len = ask(row, index, name, sizeof name)) != POKIT_END; index++) {
+    for (; (len = ask(row, &position, name, sizeof name)) != POKIT_END; count++) {
         check(len < sizeof name - 1, "the length of a name");
         name[len] = ',';
         name[len + 1] = 0;
         if (!is_listed(names, name))
             strcat(names, name);
     }
-    return index;
+    return count;
+}
+
+static int is_same(pokit_position one, pokit_position other)
+{
+    return one.offset == other.offset && one.given == other.given;
+}
+
+/* What a call at a position writes, and how it moves it. */
+static void check_position(const struct row *row, pokit_position position)
+{
+    pokit_position after = position, again = position;
+    char name[64], before[64];
+    size_t len = ask(row, &after, name, 0);
+    memset(before, '#', sizeof before);
+    memset(name, '#', sizeof name);
+    if (len == POKIT_END || len > 0)
+        check(ask(row, &again, name, len == POKIT_END ? sizeof name : len - 1) == len
+              && memcmp(name, before, sizeof name) == 0, "a name that doesn't fit, and none, write nothing");
+    check(len == POKIT_END ? is_same(after, position) : !is_same(after, position), "a position moves, or is the last");
+    check(len == POKIT_END || len == 0 || is_same(again, after), "a name that doesn't fit moves it too");
+    again = position;
+    if (len != POKIT_END)
+        check(ask(row, &again, name, len) == len && memcmp(name + len, before, sizeof name - len) == 0
+              && is_same(again, after), "no byte after a name is written");
 }
 
 static void check_row(const struct row *row)
 {
-    char names[256], name[64], before[64];
-    uint32_t count = list(row, names), index;
+    static const pokit_position far_off[] = {{SIZE_MAX, 0}, {SIZE_MAX, UINT32_MAX}, {1000, 3}};
+    char names[256];
+    uint32_t count = list(row, names), i;
+    pokit_position position = {0, 0};
     check_text(names, row->names, row->locale);
     check(count % 5 == 0, row->locale);
-    check(ask(row, count + 1, name, sizeof name) == POKIT_END && ask(row, UINT32_MAX, name, 0) == POKIT_END, "the end");
-    memset(before, '#', sizeof before);
-    for (index = 0; index <= count; index++) {
-        size_t len = ask(row, index, name, sizeof name);
-        memset(name, '#', sizeof name);
-        if (len == POKIT_END || len > 0)
-            check(ask(row, index, name, len == POKIT_END ? sizeof name : len - 1) == len
-                  && memcmp(name, before, sizeof name) == 0, "a name that doesn't fit, and none, write nothing");
-        if (len != POKIT_END)
-            check(ask(row, index, name, len) == len && memcmp(name + len, before, sizeof name - len) == 0,
-                  "no byte after a name is written");
+    for (i = 0; i <= count; i++) {
+        check_position(row, position);
+        ask(row, &position, names, 0);
+    }
+    for (i = 0; *row->language != 0 && i < sizeof far_off / sizeof *far_off; i++) {
+        position = far_off[i];
+        check(ask(row, &position, names, 0) == POKIT_END, "a position behind LANGUAGE");
     }
 }
 
-/* The paths of a domain, each with a comma after it. */
-static void check_paths(const char *folder, const char *domain, const char *locale, const char *language, const char *wanted)
+/* The paths of a domain, each with a comma after it; and as many, of the same lengths, where none fits. */
+static void check_paths(const char *folder, const char *domain, const char *locale, const char *language,
+                        const char *wanted)
 {
-    char path[256], paths[1024] = "";
-    uint32_t next = 0;
+    char path[256], none[1], paths[1024] = "";
+    pokit_walk walk = {{0, 0}, 0}, narrow = {{0, 0}, 0};
     size_t len;
-    while ((len = pokit_path(folder, "LC_MESSAGES", domain, locale, language, &next, path, sizeof path)) != 0) {
+    do {
+        len = pokit_path(folder, "LC_MESSAGES", domain, locale, language, &walk, path, sizeof path);
+        check(pokit_path(folder, "LC_MESSAGES", domain, locale, language, &narrow, none, 1) == len && *none == 0,
+              "a path that doesn't fit");
         check(len == strlen(path), "the length of a path");
-        strcat(strcat(paths, path), ",");
-    }
+        if (len != 0)
+            strcat(strcat(paths, path), ",");
+    } while (len != 0);
     check_text(paths, wanted, wanted);
+}
+
+/* A walk over LANGUAGE of `parts` parts: how many paths there are. */
+static long walked(int parts, const char *part)
+{
+    char *language = (char *)malloc((size_t)parts * strlen(part) + 1), path[256];
+    pokit_walk walk = {{0, 0}, 0};
+    long count = 0;
+    int i;
+    if (language == NULL)
+        exit(2);
+    for (i = 0; i < parts; i++)
+        memcpy(language + (size_t)i * strlen(part), part, strlen(part) + 1);
+    while (pokit_path("/d", "LC_MESSAGES", "w", "de", language, &walk, path, sizeof path) != 0)
+        count++;
+    free(language);
+    return count;
 }
 
 static void paths(void)
 {
     char path[40], first[40];
-    uint32_t next = 0;
+    pokit_walk walk = {{0, 0}, 0};
     size_t size, len;
-    check_paths("/d", "w", "de_AT.UTF-8", NULL, "/d/de_AT.UTF-8/LC_MESSAGES/w.mo,/d/de_AT/LC_MESSAGES/w.mo,/d/de/LC_MESSAGES/w.mo,");
-    check_paths("/d", "w", "de", "fr:pl_PL", "/d/fr/LC_MESSAGES/w.mo,/d/pl_PL/LC_MESSAGES/w.mo,/d/pl/LC_MESSAGES/w.mo,");
+    check_paths("/d", "w", "de_AT.UTF-8", NULL, "/d/de_AT.UTF-8/LC_MESSAGES/w.mo,/d/de_AT/LC_MESSAGES/w.mo,"
+                "/d/de/LC_MESSAGES/w.mo,");
+    check_paths("/d", "w", "de", "fr:pl_PL", "/d/fr/LC_MESSAGES/w.mo,/d/pl_PL/LC_MESSAGES/w.mo,"
+                "/d/pl/LC_MESSAGES/w.mo,");
+    check_paths("/d", "w", "sr_RS.U@la", "", "/d/sr_RS.U@la/LC_MESSAGES/w.mo,/d/sr_RS@la/LC_MESSAGES/w.mo,"
+                "/d/sr@la/LC_MESSAGES/w.mo,/d/sr_RS/LC_MESSAGES/w.mo,/d/sr/LC_MESSAGES/w.mo,");
+    check_paths("/d", "w", "de_AT@xx", "", "/d/de_AT@xx/LC_MESSAGES/w.mo,/d/de@xx/LC_MESSAGES/w.mo,"
+                "/d/de_AT/LC_MESSAGES/w.mo,/d/de/LC_MESSAGES/w.mo,");
+    check_paths("/d", "w", "de", "de_AT:de", "/d/de_AT/LC_MESSAGES/w.mo,/d/de/LC_MESSAGES/w.mo,"
+                "/d/de/LC_MESSAGES/w.mo,");
     check_paths("/d", "w", "de", "@x", "/d/@x/LC_MESSAGES/w.mo,");
     check_paths("", "w", "de", "", "/de/LC_MESSAGES/w.mo,");
+    check_paths("/d", "w", "..", NULL, "");
+    check_paths("/d", "w", ".", NULL, "");
+    check_paths("/d", "w", "de", "..:.:fr", "/d/fr/LC_MESSAGES/w.mo,");
+    check_paths("/d", "w", "de", ".x:...", "/d/.x/LC_MESSAGES/w.mo,/d/.../LC_MESSAGES/w.mo,");
+    check_paths("/d", "w", "de", "..@x", "/d/..@x/LC_MESSAGES/w.mo,/d/@x/LC_MESSAGES/w.mo,");
+    check_paths("/d", "w", "..", "fr", "/d/fr/LC_MESSAGES/w.mo,");
     check_paths("/d", "w", NULL, "fr", "");
     check_paths("/d", "", "de", NULL, "");
     check_paths("/d", "../w", "de", NULL, "");
-    len = pokit_path("/d", "LC_MESSAGES", "w", "de", NULL, &next, first, sizeof first);
-    check(len == strlen("/d/de/LC_MESSAGES/w.mo") && next == 1, "a path");
-    check(pokit_path("/d", "LC_MESSAGES", "w", "de", NULL, &next, path, sizeof path) == 0 && *path == 0, "no path more");
+    check(walked(100000, "de_AT:") == 200000, "a long walk");
+    check(walked(100000, ":") == 0 && walked(100000, "a/b:") == 0, "a long walk past parts that don't count");
+    len = pokit_path("/d", "LC_MESSAGES", "w", "de", NULL, &walk, first, sizeof first);
+    check(len == strlen("/d/de/LC_MESSAGES/w.mo"), "a path");
+    check(pokit_path("/d", "LC_MESSAGES", "w", "de", NULL, &walk, path, sizeof path) == 0 && *path == 0, "no path more");
     for (size = 1; size < sizeof path; size++) {
+        pokit_walk anew = {{0, 0}, 0};
         memset(path, '#', sizeof path);
-        next = 0;
-        check(pokit_path("/d", "LC_MESSAGES", "w", "de", NULL, &next, path, size) == len && next == 1, "a path's length");
+        check(pokit_path("/d", "LC_MESSAGES", "w", "de", NULL, &anew, path, size) == len, "a path's length");
         check_text(path, size > len ? first : "", "a path that fits, or not");
         check(size > len || path[size] == '#', "no byte outside of the room for a path");
     }

@@ -76,7 +76,7 @@ static void rows(int big)
     check(answer.found && answer.text.len == sizeof polish - 1, "a pointer of no bytes");
     query = pokit_query_of(NULL, "book", "books", 22);
     answer = pokit_look(&catalog, query);
-    check(answer.found && answer.steps > 0 && answer.steps <= catalog.node_count, "steps");
+    check(answer.found && answer.steps > 0 && answer.steps <= catalog.instruction_count, "steps");
 
     check(pokit_open(&other, file.bytes, 0, NULL) == POKIT_TOO_SHORT, "no bytes");
     chain[0] = &other;

@@ -1,6 +1,6 @@
-/* The drop-in when calls of the system fail: each mmap, open, mprotect, realloc, iconv_open and creation of a thread in
- * turn, alone and with all after it. A text is the translation or the msgid then, and the translation when calls work
- * again. It also counts what is called for a message that was loaded: nothing.
+/* The drop-in when calls of the system fail: each mmap, open, mprotect, calloc, realloc, iconv_open and creation of a thread
+ * in turn, alone and with all after it. A text is the translation or the msgid then, and the translation when calls work
+ * again. It also counts what is called for a message that was loaded: nothing, and the lock isn't taken.
  *
  *     faults FOLDER LOCALE
  */
@@ -27,10 +27,10 @@ static bool fails(int error)
 #define mmap(...) (fails(ENOMEM) ? MAP_FAILED : mmap(__VA_ARGS__))
 #define mprotect(...) (fails(ENOMEM) ? -1 : mprotect(__VA_ARGS__))
 #define open(...) (fails(EMFILE) ? -1 : open(__VA_ARGS__))
+#define calloc(...) (fails(ENOMEM) ? NULL : calloc(__VA_ARGS__))
 #define realloc(...) (fails(ENOMEM) ? NULL : realloc(__VA_ARGS__))
 #define iconv_open(...) (fails(ENOMEM) ? (iconv_t)-1 : iconv_open(__VA_ARGS__))
 #define pthread_create(...) (fails(EAGAIN) ? EAGAIN : pthread_create(__VA_ARGS__))
-#define pthread_mutex_lock(...) (calls++, pthread_mutex_lock(__VA_ARGS__))
 #include "../../intl/intl.c"
 #undef pthread_create
 
@@ -73,7 +73,7 @@ static int outcome(int first, int last, bool in_thread)
     pid_t child = fork();
     if (child == 0) {
         pthread_t thread;
-        alarm(20);
+        alarm(60);
         calls = 0;
         first_failing = first;
         last_failing = last;
@@ -100,13 +100,17 @@ static void try_faults(bool in_thread, bool all_after)
     check(false, "200 calls");
 }
 
-/* Once a message was answered, asking again calls none of these functions, and takes no lock. */
+/* Once a message was answered, asking again calls none of these functions, and doesn't wait for a thread that has the
+ * lock. */
 static void count_calls(void)
 {
     bool right;
     ask(&right);
     int before = calls;
+    alarm(60);
+    lock = number + 1;
     right = right && all_right(true);
+    lock = 0;
     check(right && calls == before, "no call and no lock for what was loaded");
 }
 

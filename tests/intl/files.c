@@ -193,7 +193,7 @@ static void try(const char *name, bool (*holds)(void), const char *line)
     unlink(log_path);
     pid_t child = fork();
     if (child == 0) {
-        alarm(20);
+        alarm(60);
         _exit(!holds());
     }
     waitpid(child, &status, 0);

@@ -66,7 +66,7 @@ static void fork_once(void)
     int status = 1;
     pid_t child = fork();
     if (child == 0) {
-        alarm(20);
+        alarm(60);
         ask();
         if (dgettext("first", "Open") == NULL || bindtextdomain("first", folder_a) == NULL)
             wrong++;

@@ -3,8 +3,14 @@
     python.py FOLDER LISTED_FILES
 
 FOLDER has the catalogues of trace.c. The last line counts what passed and failed."""
+import copy
+import decimal
+import fractions
+import gc
 import gettext
 import io
+import pickle
+import subprocess
 import sys
 import warnings
 
@@ -32,7 +38,7 @@ def opened(class_, path):
 
 
 def has_forms(one, other, msgid, asked):
-    """Whether plural forms are the same. Where the file lacks the form of a count, GNUTranslations has none, and C the first."""
+    """Whether plural forms are the same. Where a count's form is missing, GNUTranslations has none, and C the first."""
     for n in COUNTS:
         if (msgid, one.plural(n)) in one._catalog:
             wanted = asked(one, n)
@@ -46,6 +52,8 @@ def has_forms(one, other, msgid, asked):
 def is_same(one, other):
     """Whether the two answer the same to each message that GNUTranslations has."""
     if one.info() != other.info() or one.charset() != other.charset():
+        return False
+    if one._catalog != other._catalog.copy():
         return False
     for key, text in one._catalog.items():
         msgid, form = key if isinstance(key, tuple) else (key, None)
@@ -98,9 +106,105 @@ def try_translation(folder):
             check(one.npgettext("menu", "item", "items", n) == other.npgettext("menu", "item", "items", n), "item")
 
 
+MESSAGES = ["Open", "file", "menu\x04Open", "menu\x04item", "absent", "", "\ud800", "file\0files", "a\x04b\x04c", None,
+            0, 1.5, b"Open", b"file", "menu", ("file", 0), ("file", 1), ("file", 9), (b"file", 0), (None, 0), ("Open",),
+            [], {}, ["file"]]
+ALL_COUNTS = COUNTS + [True, -1, -2, -11, 2 ** 64 - 1, 2 ** 64, 2 ** 70 + 1, 0.0, 1.0, 1.5, -0.5, 2.0, 1e300,
+                       float("inf"), float("nan"), decimal.Decimal("1.5"), fractions.Fraction(3, 2), 1j, "1", b"1",
+                       None, [], (1,)]
+WITHOUT_FORMS = ("Open", ""), ("menu", "Open")  # which ngettext of GNUTranslations doesn't find
+
+
+def outcome(asked, *arguments):
+    """A value, or the kind of an exception."""
+    try:
+        return asked(*arguments)
+    except Exception as fault:
+        return type(fault)
+
+
+def try_arguments(folder):
+    """What isn't a text or a count is answered, or refused, as GNUTranslations does."""
+    for languages in (["de"], ["pl"], ["fr", "pl", "de"]):
+        one = gettext.translation("app", folder, languages)
+        other = gettext.translation("app", folder, languages, class_=pokit_gettext.Translations)
+        for message in MESSAGES:
+            what = "%s %r" % (languages, message)
+            check(outcome(one.gettext, message) == outcome(other.gettext, message), what)
+            for context in ["menu", "absent", b"menu", None, 1, [], "a\x04b"]:
+                check(outcome(one.pgettext, context, message) == outcome(other.pgettext, context, message), what)
+                if (context, message) != WITHOUT_FORMS[1]:
+                    for n in ALL_COUNTS:
+                        check(outcome(one.npgettext, context, message, "s", n)
+                              == outcome(other.npgettext, context, message, "s", n), "%s %r %r" % (what, context, n))
+            if message not in WITHOUT_FORMS[0]:
+                for n in ALL_COUNTS:
+                    check(outcome(one.ngettext, message, "s", n) == outcome(other.ngettext, message, "s", n),
+                          "%s %r" % (what, n))
+        check(one.ngettext("absent", None, 2) is None and other.ngettext("absent", None, 2) is None, "no plural")
+
+
+def try_catalogue(folder):
+    """_catalog and plural, which programs take from GNUTranslations."""
+    for language in ("de", "pl", "fr"):
+        one = gettext.translation("app", folder, [language])
+        other = gettext.translation("app", folder, [language], class_=pokit_gettext.Translations)
+        check(other._catalog == one._catalog and other._catalog.copy() == one._catalog, language)
+        check(set(other._catalog) == set(one._catalog) and len(other._catalog) == len(one._catalog), language)
+        check(bool(other._catalog), language)
+        for key in MESSAGES + [("file", 1.0), ("file", True), ("file", None), ("file", 0, 0), ("Open", 0)]:
+            check(outcome(lambda: other._catalog[key]) == outcome(lambda: one._catalog[key]), "%r" % (key,))
+            check(outcome(other._catalog.get, key, 7) == outcome(one._catalog.get, key, 7), "%r" % (key,))
+            check(outcome(lambda: key in other._catalog) == outcome(lambda: key in one._catalog), "%r" % (key,))
+        for n in ALL_COUNTS:
+            check(outcome(other.plural, n) == outcome(one.plural, n), "plural of %r" % (n,))
+        check(other.plural.__code__ == one.plural.__code__, "the code of a rule")
+        merged = pokit_gettext.Translations()
+        merged._catalog, merged.plural = other._catalog.copy(), other.plural
+        merged._catalog["Open"] = "changed"
+        check(merged.gettext("Open") == "changed", "a catalogue that was merged")
+        check(other.gettext("Open") == one.gettext("Open"), "what it was made of")
+        for n in COUNTS:
+            check(merged.ngettext("file", "files", n) == one.ngettext("file", "files", n), "a count of it")
+    unopened = [outcome(class_().gettext, "Open") for class_ in (gettext.GNUTranslations, pokit_gettext.Translations)]
+    check(unopened[0] == unopened[1], "no file")
+
+
+def answers(translations):
+    return [translations.gettext("Open"), translations.ngettext("file", "files", 5),
+            translations.pgettext("menu", "Open")]
+
+
+def try_copies(folder):
+    """Copies that outlive what they were made of, and those of another process."""
+    for language in ("de", "pl"):
+        wanted = answers(gettext.translation("app", folder, [language]))
+        with open("%s/%s/LC_MESSAGES/app.mo" % (folder, language), "rb") as file:
+            bytes_ = file.read()
+        for is_used in (False, True):
+            for copied in (copy.copy, copy.deepcopy, lambda it: pickle.loads(pickle.dumps(it))):
+                one = pokit_gettext.Translations(io.BytesIO(bytes_))
+                if is_used:
+                    one.plural(1)
+                other = copied(one)
+                del one
+                gc.collect()
+                in_its_place = [bytearray(b"x" * len(bytes_)) for _ in range(1000)]
+                check(answers(other) == wanted and other.plural(1) == 0 and in_its_place, "a copy")
+        dumped = pickle.dumps(pokit_gettext.Translations(io.BytesIO(bytes_)))
+        code = "import pickle, sys; print(ascii(pickle.load(sys.stdin.buffer).gettext('Open')))"
+        told = subprocess.run([sys.executable, "-c", code], input=dumped, stdout=subprocess.PIPE).stdout
+        check(told.decode().strip() == ascii(wanted[0]), "a copy in another process")
+    room = pokit_gettext.Translations(io.BytesIO(bytes_))._catalog.room
+    check(outcome(copy.deepcopy, room) == outcome(pickle.dumps, room) == TypeError, "no address is copied")
+
+
 warnings.simplefilter("ignore")
 try_damaged()
 try_translation(sys.argv[1])
+try_arguments(sys.argv[1])
+try_catalogue(sys.argv[1])
+try_copies(sys.argv[1])
 with open(sys.argv[2]) as listed:
     for line in listed:
         try_file(line.rstrip("\n"))

@@ -91,6 +91,17 @@ static char *word_of(const char *folder, const char *word)
     return to;
 }
 
+/* Sets the locale of the thread, or the program's again. Each one is kept, since texts of it may still be in use. */
+static bool use_locale(const char *name)
+{
+    static locale_t made[100];
+    static int used;
+    if (name == NULL || used == 100)
+        return uselocale(LC_GLOBAL_LOCALE) != 0;
+    made[used] = newlocale(LC_ALL_MASK, name, NULL);
+    return uselocale(made[used++]) != 0;
+}
+
 static const char *setting(const char *call, char **w)
 {
     if (strcmp(call, "textdomain") == 0)
@@ -102,7 +113,7 @@ static const char *setting(const char *call, char **w)
     if (strcmp(call, "setlocale") == 0)
         return setlocale(category_of(w[1]), w[2]);
     if (strcmp(call, "uselocale") == 0)
-        return uselocale(w[1] != NULL ? newlocale(LC_ALL_MASK, w[1], NULL) : LC_GLOBAL_LOCALE) != 0 ? "set" : NULL;
+        return use_locale(w[1]) ? "set" : NULL;
     if (strcmp(call, "setenv") == 0)
         return (w[2] != NULL ? setenv(w[1], w[2], 1) : unsetenv(w[1])) == 0 ? "set" : NULL;
     if (strcmp(call, "chdir") == 0)

@@ -1,5 +1,5 @@
 -- The names of the tools that a command has, as they are added.
-use Rattle.std.proofs.Common.{◌≡◌, ◌+◌, ◌<◌, ℕ, zero, suc, List, [], ◌∷◌, ◌++◌, length, map, take, get_or, refl, ap, ◌∙◌, add-one, arith}
+use Rattle.std.proofs.Common.{◌≡◌, ◌+◌, ◌<◌, ℕ, zero, suc, List, [], ◌∷◌, ◌++◌, length, map, take, get_or, refl, ap, ◌∙◌, arith}
 use Rattle.clap.specs.Built.{AddsSubcommand, names_in, subcommand_names}
 use Rattle.clap.specs.declared.builder.command.Command.{Command}
 use Rattle.command_line.specs.declared.tool.Tool.{Tool}

@@ -7,6 +7,7 @@ use Rattle.std.specs.Option.{option_or}
 use Rattle.std.specs.Str.{bytes_eq}
 use Rattle.command_line.specs.declared.tool.Tool.{Tool}
 use Rattle.command_line.specs.declared.tool.Tool.TheVariants.{Msgfmt, Msgunfmt, Msgattrib, Msgcat}
+use Rattle.command_line.specs.Tools.{tool_name}
 
 -- the tool's arguments are files
 abbrev pub takes_files : Option Tool → Bool
@@ -25,30 +26,38 @@ gnu_tools =
 
 -- the letters that are options of GNU's tool alone
 abbrev pub gnu_letters : Option Tool → List ℕ
-gnu_letters (Some Msgfmt) = codes "CDLPVacdjklrv"
-gnu_letters (Some Msgunfmt) = codes "EVdeijlprsvw"
-gnu_letters (Some Msgattrib) = codes "DEFPVeinpsw"
-gnu_letters (Some Msgcat) = codes "DEFPVefinpstw"
-gnu_letters tool = codes "V"
-
--- the long options that GNU's tools of files alone have
-abbrev pub file_options : List (List ℕ)
-file_options =
-    codes "--add-location" ∷ codes "--alignment" ∷ codes "--check" ∷ codes "--check-accelerators"
-    ∷ codes "--check-compatibility" ∷ codes "--check-domain" ∷ codes "--check-format" ∷ codes "--check-header"
-    ∷ codes "--color" ∷ codes "--csharp" ∷ codes "--csharp-resources" ∷ codes "--desktop" ∷ codes "--directory"
-    ∷ codes "--escape" ∷ codes "--files-from" ∷ codes "--force-po" ∷ codes "--ignore-file" ∷ codes "--indent"
-    ∷ codes "--java" ∷ codes "--java2" ∷ codes "--keyword" ∷ codes "--lang" ∷ codes "--language" ∷ codes "--locale"
-    ∷ codes "--no-convert" ∷ codes "--no-escape" ∷ codes "--no-location" ∷ codes "--no-redundancy"
-    ∷ codes "--only-file" ∷ codes "--properties-input" ∷ codes "--properties-output" ∷ codes "--qt"
-    ∷ codes "--resource" ∷ codes "--sort-by-file" ∷ codes "--sort-output" ∷ codes "--source" ∷ codes "--strict"
-    ∷ codes "--stringtable-input" ∷ codes "--stringtable-output" ∷ codes "--style" ∷ codes "--tcl"
-    ∷ codes "--template" ∷ codes "--to-code" ∷ codes "--verbose" ∷ codes "--version" ∷ codes "--width"
-    ∷ codes "--xml" ∷ []
+gnu_letters (Some Msgfmt) = codes "DLPadjklrv"
+gnu_letters (Some Msgunfmt) = codes "Edeijlprsvw"
+gnu_letters (Some Msgattrib) = codes "DEFPeinpsw"
+gnu_letters (Some Msgcat) = codes "<>DEFPefinpstw"
+gnu_letters tool = []
 
 -- the long options that GNU's tool alone has
 abbrev pub long_options : Option Tool → List (List ℕ)
-long_options tool = if takes_files tool then file_options else codes "--version" ∷ []
+long_options (Some Msgfmt) =
+    codes "--alignment" ∷ codes "--csharp" ∷ codes "--csharp-resources" ∷ codes "--desktop"
+    ∷ codes "--directory" ∷ codes "--java" ∷ codes "--java2" ∷ codes "--keyword" ∷ codes "--language"
+    ∷ codes "--locale" ∷ codes "--no-convert" ∷ codes "--no-redundancy" ∷ codes "--properties-input"
+    ∷ codes "--qt" ∷ codes "--resource" ∷ codes "--source" ∷ codes "--strict" ∷ codes "--stringtable-input"
+    ∷ codes "--tcl" ∷ codes "--template" ∷ codes "--verbose" ∷ codes "--xml" ∷ []
+long_options (Some Msgunfmt) =
+    codes "--color" ∷ codes "--csharp" ∷ codes "--csharp-resources" ∷ codes "--escape" ∷ codes "--force-po"
+    ∷ codes "--indent" ∷ codes "--java" ∷ codes "--locale" ∷ codes "--no-escape" ∷ codes "--properties-output"
+    ∷ codes "--resource" ∷ codes "--sort-output" ∷ codes "--strict" ∷ codes "--stringtable-output"
+    ∷ codes "--style" ∷ codes "--tcl" ∷ codes "--verbose" ∷ codes "--width" ∷ []
+long_options (Some Msgattrib) =
+    codes "--add-location" ∷ codes "--color" ∷ codes "--directory" ∷ codes "--escape" ∷ codes "--force-po"
+    ∷ codes "--ignore-file" ∷ codes "--indent" ∷ codes "--no-escape" ∷ codes "--no-location"
+    ∷ codes "--only-file" ∷ codes "--previous" ∷ codes "--properties-input" ∷ codes "--properties-output"
+    ∷ codes "--sort-by-file" ∷ codes "--sort-output" ∷ codes "--strict" ∷ codes "--stringtable-input"
+    ∷ codes "--stringtable-output" ∷ codes "--style" ∷ codes "--width" ∷ []
+long_options (Some Msgcat) =
+    codes "--add-location" ∷ codes "--color" ∷ codes "--directory" ∷ codes "--escape" ∷ codes "--files-from"
+    ∷ codes "--force-po" ∷ codes "--indent" ∷ codes "--lang" ∷ codes "--no-escape" ∷ codes "--no-location"
+    ∷ codes "--properties-input" ∷ codes "--properties-output" ∷ codes "--sort-by-file" ∷ codes "--sort-output"
+    ∷ codes "--strict" ∷ codes "--stringtable-input" ∷ codes "--stringtable-output" ∷ codes "--style"
+    ∷ codes "--to-code" ∷ codes "--width" ∷ []
+long_options tool = []
 
 -- a dash and the letter
 abbrev pub short_option : ℕ → List ℕ
@@ -58,12 +67,16 @@ short_option letter = 45 ∷ letter ∷ []
 abbrev pub gnu_options : Option Tool → List (List ℕ)
 gnu_options tool = map short_option (gnu_letters tool) ++ long_options tool
 
--- the options of GNU's msgfmt that check a text, or show its version
+-- the options of GNU's msgfmt that check a text
 abbrev pub gnu_checks : Option Tool → List (List ℕ)
 gnu_checks (Some Msgfmt) =
-    codes "-c" ∷ codes "-C" ∷ codes "-V" ∷ codes "--check" ∷ codes "--check-format" ∷ codes "--check-header"
-    ∷ codes "--check-domain" ∷ codes "--version" ∷ []
+    codes "-c" ∷ codes "-C" ∷ codes "--check" ∷ codes "--check-accelerators" ∷ codes "--check-compatibility"
+    ∷ codes "--check-domain" ∷ codes "--check-format" ∷ codes "--check-header" ∷ []
 gnu_checks tool = []
+
+-- the options by which GNU's tools show their version
+abbrev pub version_options : List (List ℕ)
+version_options = codes "-V" ∷ codes "--version" ∷ []
 
 -- one of the names is this word
 abbrev pub is_among : List (List ℕ) → List ℕ → Bool
@@ -78,28 +91,38 @@ abbrev pub word_after : List ℕ → List ℕ → Option (List ℕ)
 word_after beginning text =
     if starts_with nat_eq text beginning then Some (before_quote (drop (length beginning) text)) else None
 
+-- the tip on an option that shows the version
+abbrev pub version_tip : List ℕ
+version_tip = codes "  tip: the first line of 'pokit --help' has the version\n\n"
+
 -- the tip on a check of GNU's msgfmt
 abbrev pub check_tip : List ℕ
 check_tip =
     codes "  tip: '--profile-check' checks headers, plural forms and newlines; the msgfmt that\n"
-    ++ codes "       'make install' puts into libexec/pokit takes GNU's '-c', '--check' and '--version'\n\n"
+    ++ codes "       'make install' puts into libexec/pokit takes GNU's checks\n\n"
 
--- the tip on anything else that GNU's alone has
-abbrev pub tip_on : List ℕ → List ℕ → List ℕ
-tip_on word kind =
-    codes "  tip: '" ++ word ++ codes "' is " ++ kind
-    ++ codes " of GNU gettext alone; see DIFFERENCES in the manual pokit(1)\n\n"
+-- the tip on anything else that GNU's alone has, with the manual that names it
+abbrev pub tip_on : List ℕ → List ℕ → List ℕ → List ℕ
+tip_on word kind manual =
+    codes "  tip: '" ++ word ++ codes "' is " ++ kind ++ codes " of GNU gettext alone; see DIFFERENCES in the manual "
+    ++ manual ++ codes "(1)\n\n"
+
+-- the manual of a tool, or of the program
+abbrev pub manual_of : Option Tool → List ℕ
+manual_of (Some tool) = codes "pokit-" ++ tool_name tool
+manual_of None = codes "pokit"
 
 -- the tip on an option, if GNU's tool alone has it
 abbrev pub option_tip : Option Tool → List ℕ → Option (List ℕ)
 option_tip tool option =
-    if is_among (gnu_checks tool) option then Some check_tip
-    else if is_among (gnu_options tool) option then Some (tip_on option (codes "an option"))
+    if is_among version_options option then Some version_tip
+    else if is_among (gnu_checks tool) option then Some check_tip
+    else if is_among (gnu_options tool) option then Some (tip_on option (codes "an option") (manual_of tool))
     else None
 
 -- the tip on a tool, if GNU's alone has it
 abbrev pub tool_tip : List ℕ → Option (List ℕ)
-tool_tip name = if is_among gnu_tools name then Some (tip_on name (codes "a tool")) else None
+tool_tip name = if is_among gnu_tools name then Some (tip_on name (codes "a tool") (codes "pokit")) else None
 
 -- the option that clap's text names as unknown
 abbrev pub unknown_option : List ℕ → Option (List ℕ)

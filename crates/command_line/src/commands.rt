@@ -219,8 +219,7 @@ fn with_every_tool<'a>(alloc: Global) -> Result<Command<'a>, AllocError>
 fn without_tools<'a>(alloc: Global) -> Command<'a>
     ensures { subcommand_names result ≡ [] }
 {
-    let about = "Compiles message catalogues and looks messages up in them";
-    described(alloc, "pokit", about, help::PROGRAM)
+    described(alloc, "pokit", help::ABOUT, help::PROGRAM)
         .disable_version_flag(true)
         .disable_help_subcommand(true)
         .subcommand_required(true)

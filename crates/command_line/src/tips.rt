@@ -4,8 +4,8 @@ ghost use Rattle.std.specs.List.{list_any};
 ghost use Rattle.std.specs.Option.{option_copied};
 ghost use Rattle.std.specs.Str.{bytes_eq};
 ghost use Rattle.command_line.specs.OwnTip.{before_quote, gnu_checks, gnu_letters, gnu_options};
-ghost use Rattle.command_line.specs.OwnTip.{is_among, long_options, option_tip, own_tip, short_option};
-ghost use Rattle.command_line.specs.OwnTip.{takes_files, tip_on, tool_tip, unknown_option};
+ghost use Rattle.command_line.specs.OwnTip.{is_among, long_options, manual_of, option_tip, own_tip};
+ghost use Rattle.command_line.specs.OwnTip.{short_option, takes_files, tip_on, tool_tip, unknown_option};
 ghost use Rattle.command_line.specs.OwnTip.{unknown_tool, word_after};
 
 use crate::tool::Tool;
@@ -17,22 +17,28 @@ const UNKNOWN_OPTION: &str = "error: unexpected argument '";
 /// How clap's text of an unknown tool begins.
 const UNKNOWN_TOOL: &str = "error: unrecognized subcommand '";
 
-/// Options of GNU's msgfmt that check a text, or show its version.
+/// The options by which GNU's tools show their version.
+static VERSION_OPTIONS: [&str; 2] = ["-V", "--version"];
+
+/// The tip where one of these was given.
+const VERSION_TIP: &str = "  tip: the first line of 'pokit --help' has the version\n\n";
+
+/// Options of GNU's msgfmt that check a text.
 static CHECKS: [&str; 8] = [
     "-c",
     "-C",
-    "-V",
     "--check",
+    "--check-accelerators",
+    "--check-compatibility",
+    "--check-domain",
     "--check-format",
     "--check-header",
-    "--check-domain",
-    "--version",
 ];
 
 /// The tip where one of `CHECKS` was given to msgfmt.
 const CHECK_TIP: &str =
     "  tip: '--profile-check' checks headers, plural forms and newlines; the msgfmt that
-       'make install' puts into libexec/pokit takes GNU's '-c', '--check' and '--version'
+       'make install' puts into libexec/pokit takes GNU's checks
 
 ";
 
@@ -54,55 +60,100 @@ static GNU_TOOLS: [&str; 14] = [
     "xgettext",
 ];
 
-/// Long options of GNU's msgfmt, msgunfmt, msgattrib and msgcat that pokit doesn't have.
-static FILE_OPTIONS: [&str; 47] = [
-    "--add-location",
+/// Long options of GNU's msgfmt that pokit's doesn't have.
+static MSGFMT_OPTIONS: [&str; 22] = [
     "--alignment",
-    "--check",
-    "--check-accelerators",
-    "--check-compatibility",
-    "--check-domain",
-    "--check-format",
-    "--check-header",
-    "--color",
     "--csharp",
     "--csharp-resources",
     "--desktop",
     "--directory",
-    "--escape",
-    "--files-from",
-    "--force-po",
-    "--ignore-file",
-    "--indent",
     "--java",
     "--java2",
     "--keyword",
-    "--lang",
     "--language",
     "--locale",
     "--no-convert",
-    "--no-escape",
-    "--no-location",
     "--no-redundancy",
-    "--only-file",
     "--properties-input",
-    "--properties-output",
     "--qt",
     "--resource",
+    "--source",
+    "--strict",
+    "--stringtable-input",
+    "--tcl",
+    "--template",
+    "--verbose",
+    "--xml",
+];
+
+/// Those of GNU's msgunfmt.
+static MSGUNFMT_OPTIONS: [&str; 18] = [
+    "--color",
+    "--csharp",
+    "--csharp-resources",
+    "--escape",
+    "--force-po",
+    "--indent",
+    "--java",
+    "--locale",
+    "--no-escape",
+    "--properties-output",
+    "--resource",
+    "--sort-output",
+    "--strict",
+    "--stringtable-output",
+    "--style",
+    "--tcl",
+    "--verbose",
+    "--width",
+];
+
+/// Those of GNU's msgattrib.
+static MSGATTRIB_OPTIONS: [&str; 20] = [
+    "--add-location",
+    "--color",
+    "--directory",
+    "--escape",
+    "--force-po",
+    "--ignore-file",
+    "--indent",
+    "--no-escape",
+    "--no-location",
+    "--only-file",
+    "--previous",
+    "--properties-input",
+    "--properties-output",
     "--sort-by-file",
     "--sort-output",
-    "--source",
     "--strict",
     "--stringtable-input",
     "--stringtable-output",
     "--style",
-    "--tcl",
-    "--template",
-    "--to-code",
-    "--verbose",
-    "--version",
     "--width",
-    "--xml",
+];
+
+/// Those of GNU's msgcat.
+static MSGCAT_OPTIONS: [&str; 20] = [
+    "--add-location",
+    "--color",
+    "--directory",
+    "--escape",
+    "--files-from",
+    "--force-po",
+    "--indent",
+    "--lang",
+    "--no-escape",
+    "--no-location",
+    "--properties-input",
+    "--properties-output",
+    "--sort-by-file",
+    "--sort-output",
+    "--strict",
+    "--stringtable-input",
+    "--stringtable-output",
+    "--style",
+    "--to-code",
+    "--width",
 ];
 
 /// The tip on the option or the tool that clap's text names, if GNU's alone has it.
@@ -131,11 +182,14 @@ fn tip_on_option(
     let Some(option) = word_after(text, UNKNOWN_OPTION) else {
         return Ok(None);
     };
+    if VERSION_OPTIONS.contains(&option) {
+        return Ok(Some(String::from_str(alloc, VERSION_TIP)?));
+    }
     if is_check(tool, option) {
         return Ok(Some(String::from_str(alloc, CHECK_TIP)?));
     }
     if is_gnus(tool, option) {
-        return Ok(Some(tip_on(alloc, option, "an option")?));
+        return Ok(Some(tip_on(alloc, option, "an option", manual_of(tool))?));
     }
     Ok(None)
 }
@@ -146,18 +200,36 @@ fn tip_on_tool(alloc: Global, text: &str) -> Result<Option<String>, AllocError>
         ≡ option_and_then tool_tip (unknown_tool text.now)) }
 {
     match word_after(text, UNKNOWN_TOOL) {
-        Some(name) if GNU_TOOLS.contains(&name) => Ok(Some(tip_on(alloc, name, "a tool")?)),
+        Some(name) if GNU_TOOLS.contains(&name) => {
+            Ok(Some(tip_on(alloc, name, "a tool", manual_of(None))?))
+        }
         _ => Ok(None),
     }
 }
 
 /// The tip on what GNU's alone has.
-fn tip_on(alloc: Global, word: &str, kind: &str) -> Result<String, AllocError>
-    ensures { IfOk result (λ tip. string_bytes tip ≡ tip_on word.now kind.now) }
+fn tip_on(alloc: Global, word: &str, kind: &str, manual: &str) -> Result<String, AllocError>
+    ensures { IfOk result (λ tip. string_bytes tip ≡ tip_on word.now kind.now manual.now) }
 {
     format!(in alloc;
-        "  tip: '{word}' is {kind} of GNU gettext alone; see DIFFERENCES in the manual pokit(1)\n\n"
+        "  tip: '{word}' is {kind} of GNU gettext alone; see DIFFERENCES in the manual {manual}(1)\n\n"
     )
+}
+
+/// The manual of a tool, or of the program.
+fn manual_of(tool: Option<Tool>) -> &'static str
+    ensures { result.now ≡ manual_of tool }
+{
+    match tool {
+        Some(Tool::Msgfmt) => "pokit-msgfmt",
+        Some(Tool::Msgunfmt) => "pokit-msgunfmt",
+        Some(Tool::Msgattrib) => "pokit-msgattrib",
+        Some(Tool::Msgcat) => "pokit-msgcat",
+        Some(Tool::Gettext) => "pokit-gettext",
+        Some(Tool::Ngettext) => "pokit-ngettext",
+        Some(Tool::Envsubst) => "pokit-envsubst",
+        None => "pokit",
+    }
 }
 
 /// The word between a beginning of a text and the next quote.
@@ -209,11 +281,11 @@ fn letters_of(tool: Option<Tool>) -> &'static str
     ensures { result.now ≡ gnu_letters tool }
 {
     match tool {
-        Some(Tool::Msgfmt) => "CDLPVacdjklrv",
-        Some(Tool::Msgunfmt) => "EVdeijlprsvw",
-        Some(Tool::Msgattrib) => "DEFPVeinpsw",
-        Some(Tool::Msgcat) => "DEFPVefinpstw",
-        _ => "V",
+        Some(Tool::Msgfmt) => "DLPadjklrv",
+        Some(Tool::Msgunfmt) => "Edeijlprsvw",
+        Some(Tool::Msgattrib) => "DEFPeinpsw",
+        Some(Tool::Msgcat) => "<>DEFPefinpstw",
+        _ => "",
     }
 }
 
@@ -221,10 +293,12 @@ fn letters_of(tool: Option<Tool>) -> &'static str
 fn is_long(tool: Option<Tool>, option: &str) -> bool
     ensures { result ≡ is_among (long_options tool) option.now }
 {
-    if takes_files(tool) {
-        FILE_OPTIONS.contains(&option)
-    } else {
-        option == "--version"
+    match tool {
+        Some(Tool::Msgfmt) => MSGFMT_OPTIONS.contains(&option),
+        Some(Tool::Msgunfmt) => MSGUNFMT_OPTIONS.contains(&option),
+        Some(Tool::Msgattrib) => MSGATTRIB_OPTIONS.contains(&option),
+        Some(Tool::Msgcat) => MSGCAT_OPTIONS.contains(&option),
+        _ => false,
     }
 }
 

@@ -1,11 +1,12 @@
 -- Lemmas on the names that are still to be given.
-use Rattle.std.proofs.Common.{◌≡◌, ℕ, suc, drop-cons, ◌==◌, ◌+◌, ◌≤◌, ◌||◌, true, false, not, ◌⊎◌, inl, inr, List, [], ◌∷◌, ◌++◌, length, length-drop, drop, zero, Option, Some, None, MatchOption, option_map, slice_get, refl, sym, ap, ◌∙◌, arith}
+use Rattle.std.proofs.Common.{◌≡◌, ℕ, suc, drop-cons, ◌==◌, ◌+◌, ◌≤◌, ◌||◌, true, false, not, cond, ◌⊎◌, inl, inr, List, [], ◌∷◌, ◌++◌, length, drop, Option, Some, None, MatchOption, slice_get, refl, sym, ap, ◌∙◌, arith}
 use Rattle.std.specs.List.{flat_map}
 use Rattle.std.proofs.lemmas.Bool.{cond-true, cond-false, or_left, or_right, or_from}
-use Rattle.std.proofs.lemmas.List.{drop-drop}
-use Rattle.std.proofs.lemmas.Option.{slice_get_within, get_or_from_slice_get, slice_get_past}
+use Rattle.std.proofs.lemmas.List.{drop-drop, drop_all}
+use Rattle.std.proofs.lemmas.Option.{slice_get_within, get_or_from_slice_get}
 use Rattle.locale_names.specs.declared.name.Candidate.{Candidate}
-use Rattle.locale_names.specs.Candidate.{text_of}
+use Rattle.locale_names.specs.declared.position.Position.{Position}
+use Rattle.locale_names.specs.Candidate.{names_from, names_left, text_of}
 use Rattle.locale_names.specs.Names.{before, candidates, candidates_of_name, from_first, is_path_part, is_untranslated, language_parts, languages}
 use Rattle.locale_names.proofs.PartLemmas.{parts-none}
 
@@ -77,20 +78,76 @@ none-left old languages n five parts =
     ap (λ (k : ℕ). drop k (candidates_of_name old) ++ flat_map candidates_of_name (language_parts languages)) five
     ∙ all-given old (flat_map candidates_of_name (language_parts languages)) ∙ ap (flat_map candidates_of_name) parts
 
--- names by their index
-pub one-less : (names later : List (List ℕ)) (n : ℕ) (name : List ℕ) (now : List (List ℕ)) → now ≡ drop n names → now ≡ name ∷ later → later ≡ drop (n + 1) names
-one-less names later n name now left is = ap (drop 1) (sym is ∙ left) ∙ drop-drop 1 n names
+-- the names left of languages
+pub past-five : (name : List ℕ) (n : ℕ) (later : List (List ℕ)) → 5 ≤ n → drop n (candidates_of_name name) ++ later ≡ later
+unfolding candidates_of_name
+past-five name n later l = ap (λ names. names ++ later) (drop_all n (candidates_of_name name) l)
 
-at-drop : (names : List (List ℕ)) (n : ℕ) → slice_get names n ≡ slice_get (drop n names) 0
-at-drop names zero = refl
-at-drop [] (suc n) = refl
-at-drop (name ∷ names) (suc n) = at-drop names n
+pub no-language-left : (names : List (List ℕ)) (n : ℕ) → names ≡ [] → names_left n names ≡ []
+unfolding names_left
+no-language-left names n none = ap (names_left n) none
 
-pub ended : (names now : List (List ℕ)) (n index : ℕ) → now ≡ drop n names → now ≡ [] → n ≤ index → None ≡ slice_get names index
-ended names now n index left none l =
-    let short : length names ≤ index = omega (arith, ap length (sym left ∙ none), length-drop n names) in
-    sym (slice_get_past names index short)
+pub next-given : (names : List (List ℕ)) (n : ℕ) (name text : List ℕ) (later : List (List ℕ)) → names ≡ name ∷ later → slice_get (candidates_of_name name) n ≡ Some text
+    → names_left n names ≡ text ∷ names_left (n + 1) names
+unfolding names_left
+next-given names n name text later is at =
+    ap (names_left n) is ∙ one-given name n text (flat_map candidates_of_name later) at ∙ ap (λ names. text ∷ names_left (n + 1) names) (sym is)
 
-pub at-index : (names now later : List (List ℕ)) (n : ℕ) (next : Option Candidate) → now ≡ drop n names → MatchOption next (now ≡ []) (λ c. now ≡ text_of c ∷ later) → option_map text_of next ≡ slice_get names n
-at-index names now later n None left none = ended names now n n left none (omega arith)
-at-index names now later n (Some c) left is = ap (λ names. slice_get names 0) (sym is ∙ left) ∙ sym (at-drop names n)
+pub first-given : (names : List (List ℕ)) (name text : List ℕ) (later : List (List ℕ)) → names ≡ name ∷ later → slice_get (candidates_of_name name) 0 ≡ Some text
+    → flat_map candidates_of_name names ≡ text ∷ names_left 1 names
+unfolding names_left
+first-given names name text later is at =
+    ap (flat_map candidates_of_name) is ∙ one-given name 0 text (flat_map candidates_of_name later) at ∙ ap (λ names. text ∷ names_left 1 names) (sym is)
+
+pub language-passed : (language name : List ℕ) (offset len n : ℕ) → language_parts (drop offset language) ≡ name ∷ language_parts (drop len (drop offset language)) → 5 ≤ n
+    → names_left n (language_parts (drop offset language)) ≡ flat_map candidates_of_name (language_parts (drop (offset + len) language))
+unfolding names_left
+language-passed language name offset len n is five =
+    ap (names_left n) is ∙ past-five name n _ five ∙ ap (λ rest. flat_map candidates_of_name (language_parts rest)) (drop-drop len offset language)
+
+-- what is said of the names left of one list holds of one that is the same at each position
+pub matched-left : (names left : Position → List (List ℕ)) → ((p : Position) → names p ≡ left p) → (at : Position) (next : Option (Candidate × Position))
+    → MatchOption next (left at ≡ []) (λ n. left at ≡ text_of n.0 ∷ left n.1) → MatchOption next (names at ≡ []) (λ n. names at ≡ text_of n.0 ∷ names n.1)
+matched-left names left same at None none = same at ∙ none
+matched-left names left same at (Some n) is = same at ∙ is ∙ ap (λ later. text_of n.0 ∷ later) (sym (same n.1))
+
+pub matched-first : (now first : List (List ℕ)) (after : Candidate × Position → List (List ℕ)) → now ≡ first → (next : Option (Candidate × Position))
+    → MatchOption next (first ≡ []) (λ n. first ≡ text_of n.0 ∷ after n) → MatchOption next (now ≡ []) (λ n. now ≡ text_of n.0 ∷ after n)
+matched-first now first after same None none = same ∙ none
+matched-first now first after same (Some n) is = same ∙ is
+
+-- the names from a position on
+pub barred-from : (locale language : List ℕ) (at : Position) → (is_untranslated locale ≡ true) ⊎ (is_path_part locale ≡ false) → names_from locale language at ≡ []
+unfolding names_from
+barred-from locale language at is =
+    cond-true (is_untranslated locale || not (is_path_part locale)) [] _ (elim is [ inl e ↦ or_left _ _ e | inr e ↦ or_right _ _ (ap not e) ])
+
+not-barred-from : (locale language : List ℕ) (at : Position) → is_untranslated locale ≡ false → is_path_part locale ≡ true
+    → names_from locale language at ≡ names_left at.given (cond (length language == 0) (locale ∷ []) (language_parts (drop at.offset language)))
+unfolding names_from
+not-barred-from locale language at fine plain =
+    cond-false (is_untranslated locale || not (is_path_part locale)) [] _ (or_from _ _ fine (ap not plain))
+
+pub from-locale : (locale language : List ℕ) → is_untranslated locale ≡ false → is_path_part locale ≡ true → (length language == 0) ≡ true → (at : Position)
+    → names_from locale language at ≡ names_left at.given (locale ∷ [])
+from-locale locale language fine plain unset at =
+    not-barred-from locale language at fine plain ∙ ap (names_left at.given) (cond-true (length language == 0) (locale ∷ []) (language_parts (drop at.offset language)) unset)
+
+pub from-language : (locale language : List ℕ) → is_untranslated locale ≡ false → is_path_part locale ≡ true → (length language == 0) ≡ false → (at : Position)
+    → names_from locale language at ≡ names_left at.given (language_parts (drop at.offset language))
+from-language locale language fine plain set at =
+    not-barred-from locale language at fine plain ∙ ap (names_left at.given) (cond-false (length language == 0) (locale ∷ []) (language_parts (drop at.offset language)) set)
+
+all-left : (names : List (List ℕ)) → names_left 0 names ≡ flat_map candidates_of_name names
+unfolding names_left
+all-left [] = refl
+all-left (name ∷ names) = refl
+
+-- at the beginning all are left
+pub from-start : (locale language : List ℕ) (at : Position) → at.offset ≡ 0 → at.given ≡ 0 → names_from locale language at ≡ candidates locale language
+unfolding names_from
+from-start locale language at offset given =
+    let bar = is_untranslated locale || not (is_path_part locale) in
+    ap (λ (o : ℕ). cond bar [] (names_left at.given (cond (length language == 0) (locale ∷ []) (language_parts (drop o language))))) offset
+    ∙ ap (λ (g : ℕ). cond bar [] (names_left g (languages locale language))) given
+    ∙ ap (λ names. cond bar [] names) (all-left (languages locale language))

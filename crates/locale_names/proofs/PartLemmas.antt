@@ -3,6 +3,7 @@ use Rattle.std.proofs.Common.{◌≡◌, ℕ, ◌+◌, ◌<◌, Bool, true, fals
 use Rattle.std.specs.Prelude.{take_while}
 use Rattle.std.specs.List.{slice_split, position_or_len, onto_first}
 use Rattle.std.proofs.lemmas.Bool.{cases_Bool, eqb-true}
+use Rattle.std.proofs.lemmas.List.{drop_all}
 use Rattle.std.proofs.lemmas.List.Splits.{slice_split_first, slice_split-cons_no}
 use Rattle.std.proofs.lemmas.List.Sums.{take_while-cons}
 use Rattle.memchr.specs.Find.{is_byte}
@@ -43,12 +44,13 @@ parts-next bs n index l =
     ∙ kept _ _ (take n bs) (slice_split (is_byte 58) (drop (n + 1) bs)) refl refl
 
 -- the last part
-pub parts-last : (bs : List ℕ) → position_or_len (is_byte 58) bs ≡ length bs
-    → language_parts bs ≡ cond (is_untranslated bs) [] (cond (is_path_part bs) (bs ∷ language_parts []) (language_parts []))
+pub parts-last : (bs : List ℕ) (n : ℕ) → n ≡ position_or_len (is_byte 58) bs → n ≡ length bs
+    → language_parts bs ≡ cond (is_untranslated bs) [] (cond (is_path_part bs) (bs ∷ language_parts (drop n bs)) (language_parts (drop n bs)))
 unfolding language_parts is_untranslated
-parts-last bs end =
-    ap (λ parts. filter is_path_part (take_while counts parts)) (split-last bs end)
+parts-last bs n index end =
+    ap (λ parts. filter is_path_part (take_while counts parts)) (split-last bs (sym index ∙ end))
     ∙ kept _ _ bs [] refl refl
+    ∙ ap (λ later. cond (is_untranslated bs) [] (cond (is_path_part bs) (bs ∷ language_parts later) (language_parts later))) (sym (drop_all n bs (omega (arith, end))))
 
 -- without a text there is no part
 pub parts-none : language_parts [] ≡ []

@@ -1,6 +1,6 @@
 //! The names of the locales whose catalogues are looked for, in order.
 
-ghost use Rattle.std.specs.Prelude.{◌≡◌, [], ◌∷◌, MatchOption, option_map, slice_get};
+ghost use Rattle.std.specs.Prelude.{◌≡◌, [], ◌∷◌, MatchOption};
 ghost use Rattle.std.specs.List.{flat_map};
 ghost use Rattle.locale_names.specs.Names.{candidates, candidates_of_name, language_parts};
 ghost use Rattle.locale_names.specs.Candidate.{text_of};
@@ -66,28 +66,15 @@ impl<'a> Candidates<'a> {
         ensures next { MatchOption result (self.old ≡ []) (λ c. self.old ≡ text_of c ∷ self.new) }
     {
         if self.given == 5 {
-            let Some((name, languages)) = next_language(self.languages) else {
+            let Some((name, len)) = next_language(self.languages) else {
                 return None;
             };
             self.name = name;
-            self.languages = languages;
+            self.languages = &self.languages[len..];
             self.given = 0;
         }
         let candidate = candidate_of_name(self.name, self.given);
         self.given += 1;
         Some(candidate)
     }
-}
-
-/// The candidate with an index, counted from 0, where there is one.
-pub fn candidate<'a>(locale: &'a [u8], language: &'a [u8], index: u32) -> Option<Candidate<'a>>
-    ensures { option_map text_of result ≡ slice_get (candidates locale.now language.now) index }
-{
-    let mut candidates = Candidates::new(locale, language);
-    for _ in 0..index {
-        let Some(_) = candidates.next() else {
-            return None;
-        };
-    }
-    candidates.next()
 }

@@ -112,7 +112,7 @@ impl<'a> Catalog<'a> {
         look(
             &mut ViewMessages { view, meter },
             self.rule.nplurals(),
-            self.rule.table(),
+            self.rule.program(),
             context,
             id,
             plural,
@@ -151,8 +151,8 @@ impl<'a> Catalog<'a> {
         ensures steps { result.1 ≡ (translated (forms translation.now) self.now.rule (given plural.entry)).steps }
         ensures nodes { result.1 ≤ nodes self.now.rule.tree }
     {
-        let (nplurals, table) = (self.rule.nplurals(), self.rule.table());
-        let (form, steps) = answered_form(nplurals, table, translation, plural);
+        let (nplurals, program) = (self.rule.nplurals(), self.rule.program());
+        let (form, steps) = answered_form(nplurals, program, translation, plural);
         (&translation[form], steps)
     }
 }

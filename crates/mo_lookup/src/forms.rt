@@ -3,13 +3,13 @@
 ghost use Rattle.std.specs.Prelude.{◌≡◌, ◌≤◌, ℕ, [], ◌∷◌, List, None, Some, drop, length, slice_get, MatchOption};
 ghost use Rattle.plural_rule.specs.Expression.{nodes, value, visited};
 ghost use Rattle.plural_rule.specs.PluralRule.{expression_limit};
-ghost use Rattle.plural_rule.specs.PostOrder.{post_order, tree_of};
+ghost use Rattle.plural_rule.specs.Program.{program as program_of, tree_of};
 ghost use Rattle.mo_lookup.specs.Answer.{form_at, selected_form};
 ghost use Rattle.mo_lookup.specs.CatalogView.{forms};
 ghost use Rattle.mo_lookup.specs.Place.{IsFormAt};
 
 use mo_file::find_byte;
-use plural_rule::{Node, evaluate};
+use plural_rule::{Instruction, evaluate};
 use std::ops::Range;
 
 /// Where the first of the forms from byte `start` of a translation on stands in the translation.
@@ -55,17 +55,17 @@ fn form(translation: &[u8], index: u64) -> Option<Range<usize>>
 pub(crate) fn selected_form(
     translation: &[u8],
     nplurals: u64,
-    table: &[Node],
+    program: &[Instruction],
     count: u64,
 ) -> (Range<usize>, u32)
-    requires post_order { table.now ≡ post_order 0 (tree_of table.now) }
-    requires limit { length table.now ≤ expression_limit }
+    requires program { program.now ≡ program_of 0 (tree_of program.now) }
+    requires limit { length program.now ≤ expression_limit }
     ensures text { IsFormAt translation.now result.0.start result.0.end
-        (selected_form (forms translation.now) nplurals (value (tree_of table.now) count)) }
-    ensures steps { result.1 ≡ visited (tree_of table.now) count }
-    ensures nodes { result.1 ≤ nodes (tree_of table.now) }
+        (selected_form (forms translation.now) nplurals (value (tree_of program.now) count)) }
+    ensures steps { result.1 ≡ visited (tree_of program.now) count }
+    ensures nodes { result.1 ≤ nodes (tree_of program.now) }
 {
-    let (value, steps) = evaluate(table, count);
+    let (value, steps) = evaluate(program, count);
     let selected = match value {
         Some(index) if index < nplurals => form(translation, index),
         _ => None,

@@ -36,6 +36,8 @@ pub use looking::{locate, look};
 pub use messages::{Messages, ViewMessages};
 pub use opening::open_into;
 pub use place::{Located, Place};
-pub use plural_rule::laws::{longer_limit, one_rule, one_tree, visited_at_most_nodes};
-pub use plural_rule::{EXPRESSION_LIMIT, Node, ParsedRule, Reason, Rule, Source};
+pub use plural_rule::laws::{
+    longer_limit, one_rule, one_tree, value_evaluates, visited_at_most_nodes,
+};
+pub use plural_rule::{EXPRESSION_LIMIT, Instruction, ParsedRule, Reason, Rule, Source};
 pub use search::{Keys, find};

@@ -1,11 +1,11 @@
-//! Looking up a message, by the number of plural forms and the table of the plural rule.
+//! Looking up a message, by the number of plural forms and the program of the plural rule.
 
 ghost use Rattle.std.specs.Prelude.{◌≡◌, ◌+◌, ◌^◌, ◌<◌, ◌≤◌, ℕ, List, None, Some, length, false, true, MatchOption};
 ghost use Rattle.std.specs.Option.{option_copied};
 ghost use Rattle.plural_rule.specs.declared.rule.Source.{Source};
 ghost use Rattle.plural_rule.specs.Expression.{nodes};
 ghost use Rattle.plural_rule.specs.PluralRule.{expression_limit};
-ghost use Rattle.plural_rule.specs.PostOrder.{post_order, tree_of};
+ghost use Rattle.plural_rule.specs.Program.{program as program_of, tree_of};
 ghost use Rattle.mo_file.specs.FileView.{IsStringAt};
 ghost use Rattle.mo_file.specs.Key.{keys, query_key};
 ghost use Rattle.mo_lookup.specs.Bound.{search_bound};
@@ -21,15 +21,15 @@ use crate::messages::Messages;
 use crate::place::{Located, Place};
 use crate::query::{can_be_key, untranslated_place};
 use crate::search::find;
-use plural_rule::Node;
+use plural_rule::Instruction;
 use std::ops::Range;
 
 /// Looks up a message as [`Catalog::look`](crate::Catalog::look) does, with a rule of `nplurals`
-/// forms whose expression stands in `table`, as `Rule::table` gives it: at most 4,096 nodes.
+/// forms whose expression stands in `program`, as `Rule::program` gives it: at most 4,096 nodes.
 pub fn look<'a, 'q, M: Messages<'a>>(
     messages: &mut M,
     nplurals: u64,
-    table: &[Node],
+    program: &[Instruction],
     context: Option<&[u8]>,
     id: &'q [u8],
     plural: Option<(&'q [u8], u64)>,
@@ -38,12 +38,12 @@ where
     'a: 'q,
     requires keys { M.listed messages.old ≡ keys (M.file messages.old).messages }
     requires room { M.counted messages.old < 2 ^ 63 }
-    requires post_order { table.now ≡ post_order 0 (tree_of table.now) }
-    requires limit { length table.now ≤ expression_limit }
+    requires program { program.now ≡ program_of 0 (tree_of program.now) }
+    requires limit { length program.now ≤ expression_limit }
     ensures answered { (source : Source) → answer_view result
         ≡ answered (record {
           messages = (M.file messages.old).messages;
-          rule = record { source = source; nplurals = nplurals; tree = tree_of table.now };
+          rule = record { source = source; nplurals = nplurals; tree = tree_of program.now };
         })
         (query context.entry id.now plural.entry) }
     ensures counted { M.counted messages.new ≡ M.counted messages.old + result.comparisons }
@@ -51,11 +51,11 @@ where
         ≡ query_comparisons (M.file messages.old).messages (query context.entry id.now plural.entry) }
     ensures bound { result.comparisons ≤ search_bound (length (M.file messages.old).messages) }
     ensures no_key { can_be_key (option_copied context.entry) id.now ≡ false → result.comparisons ≡ 0 }
-    ensures nodes { result.steps ≤ nodes (tree_of table.now) }
+    ensures nodes { result.steps ≤ nodes (tree_of program.now) }
     ensures same_counter { M.counter messages.new ≡ M.counter messages.old }
 {
     let bytes = messages.bytes();
-    let located = locate(messages, nplurals, table, context, id, plural);
+    let located = locate(messages, nplurals, program, context, id, plural);
     Answer {
         text: text_at(bytes, id, plural, located.place),
         found: is_translation(located.place),
@@ -68,20 +68,20 @@ where
 pub fn locate<'a, M: Messages<'a>>(
     messages: &mut M,
     nplurals: u64,
-    table: &[Node],
+    program: &[Instruction],
     context: Option<&[u8]>,
     id: &[u8],
     plural: Option<(&[u8], u64)>,
 ) -> Located
     requires keys { M.listed messages.old ≡ keys (M.file messages.old).messages }
     requires room { M.counted messages.old < 2 ^ 63 }
-    requires post_order { table.now ≡ post_order 0 (tree_of table.now) }
-    requires limit { length table.now ≤ expression_limit }
+    requires program { program.now ≡ program_of 0 (tree_of program.now) }
+    requires limit { length program.now ≤ expression_limit }
     ensures answered { (source : Source)
         → located_view (M.file messages.old).bytes (query context.entry id.now plural.entry) result
         ≡ answered (record {
           messages = (M.file messages.old).messages;
-          rule = record { source = source; nplurals = nplurals; tree = tree_of table.now };
+          rule = record { source = source; nplurals = nplurals; tree = tree_of program.now };
         })
         (query context.entry id.now plural.entry) }
     ensures place { IsPlace (M.file messages.old).bytes (given plural.entry) result.place }
@@ -90,7 +90,7 @@ pub fn locate<'a, M: Messages<'a>>(
         ≡ query_comparisons (M.file messages.old).messages (query context.entry id.now plural.entry) }
     ensures bound { result.comparisons ≤ search_bound (length (M.file messages.old).messages) }
     ensures no_key { can_be_key (option_copied context.entry) id.now ≡ false → result.comparisons ≡ 0 }
-    ensures nodes { result.steps ≤ nodes (tree_of table.now) }
+    ensures nodes { result.steps ≤ nodes (tree_of program.now) }
     ensures same_counter { M.counter messages.new ≡ M.counter messages.old }
 {
     let bytes = messages.bytes();
@@ -102,7 +102,7 @@ pub fn locate<'a, M: Messages<'a>>(
     };
     let comparisons = (messages.count() - before) as u32;
     let (place, steps) = match translation {
-        Some(range) => translated_place(nplurals, table, bytes, range, plural),
+        Some(range) => translated_place(nplurals, program, bytes, range, plural),
         None => (untranslated_place(plural), 0),
     };
     Located {
@@ -196,13 +196,13 @@ fn translation_range<'a, M: Messages<'a>>(
 /// And how many nodes were evaluated for it.
 fn translated_place(
     nplurals: u64,
-    table: &[Node],
+    program: &[Instruction],
     bytes: &[u8],
     range: Range<usize>,
     plural: Option<(&[u8], u64)>,
 ) -> (Place, u32)
-    requires post_order { table.now ≡ post_order 0 (tree_of table.now) }
-    requires limit { length table.now ≤ expression_limit }
+    requires program { program.now ≡ program_of 0 (tree_of program.now) }
+    requires limit { length program.now ≤ expression_limit }
     requires there { (translation : List ℕ) × IsStringAt bytes.now range.start range.end translation }
     ensures translation { is_translation result.0 ≡ true }
     ensures place { IsPlace bytes.now (given plural.entry) result.0 }
@@ -210,18 +210,18 @@ fn translated_place(
         → IsStringAt bytes.now range.start range.end translation
         → text_at bytes.now id (given plural.entry) result.0
         ≡ (translated (forms translation)
-        (record { source = source; nplurals = nplurals; tree = tree_of table.now })
+        (record { source = source; nplurals = nplurals; tree = tree_of program.now })
         (given plural.entry)).text }
     ensures steps { (source : Source) (translation : List ℕ)
         → IsStringAt bytes.now range.start range.end translation
         → result.1
         ≡ (translated (forms translation)
-        (record { source = source; nplurals = nplurals; tree = tree_of table.now })
+        (record { source = source; nplurals = nplurals; tree = tree_of program.now })
         (given plural.entry)).steps }
-    ensures nodes { result.1 ≤ nodes (tree_of table.now) }
+    ensures nodes { result.1 ≤ nodes (tree_of program.now) }
 {
     let translation = &bytes[range.start..range.end];
-    let (form, steps) = answered_form(nplurals, table, translation, plural);
+    let (form, steps) = answered_form(nplurals, program, translation, plural);
     let place = Place::Translation {
         start: range.start + form.start,
         end: range.start + form.end,
@@ -233,25 +233,25 @@ fn translated_place(
 /// the one that the rule selects. And how many nodes were evaluated for it.
 pub(crate) fn answered_form(
     nplurals: u64,
-    table: &[Node],
+    program: &[Instruction],
     translation: &[u8],
     plural: Option<(&[u8], u64)>,
 ) -> (Range<usize>, u32)
-    requires post_order { table.now ≡ post_order 0 (tree_of table.now) }
-    requires limit { length table.now ≤ expression_limit }
+    requires program { program.now ≡ program_of 0 (tree_of program.now) }
+    requires limit { length program.now ≤ expression_limit }
     ensures text { (source : Source) → IsFormAt translation.now result.0.start result.0.end
         (translated (forms translation.now)
-        (record { source = source; nplurals = nplurals; tree = tree_of table.now })
+        (record { source = source; nplurals = nplurals; tree = tree_of program.now })
         (given plural.entry)).text }
     ensures inside { (result.0.start ≤ result.0.end) × (result.0.end ≤ length translation.now) }
     ensures steps { (source : Source) → result.1
         ≡ (translated (forms translation.now)
-        (record { source = source; nplurals = nplurals; tree = tree_of table.now })
+        (record { source = source; nplurals = nplurals; tree = tree_of program.now })
         (given plural.entry)).steps }
-    ensures nodes { result.1 ≤ nodes (tree_of table.now) }
+    ensures nodes { result.1 ≤ nodes (tree_of program.now) }
 {
     match plural {
-        Some((_, count)) => selected_form(translation, nplurals, table, count),
+        Some((_, count)) => selected_form(translation, nplurals, program, count),
         None => (first_form(translation, 0), 0),
     }
 }

@@ -1,8 +1,8 @@
 //! Opening a file: it is checked whole, and the plural rule of its header entry is read.
 
 ghost use Rattle.std.specs.Prelude.{◌≡◌, ◌+◌, ◌^◌, ◌<◌, ◌≤◌, List, length, min, MatchResult, IsOk, IfOk, OnErr};
-ghost use Rattle.plural_rule.specs.PluralRule.{expression_limit, nodes_in, rule_in};
-ghost use Rattle.plural_rule.specs.PostOrder.{post_order};
+ghost use Rattle.plural_rule.specs.PluralRule.{rule_in, program_in, expression_limit};
+ghost use Rattle.plural_rule.specs.Program.{program as program_of};
 ghost use Rattle.mo_file.specs.declared.byte_order.Order.{Order};
 ghost use Rattle.mo_file.specs.Message.{Message};
 ghost use Rattle.mo_file.specs.Key.{AreRising, keys};
@@ -13,7 +13,7 @@ ghost use Rattle.mo_lookup.specs.CatalogView.{IsCatalogView, header_text};
 use crate::forms::first_form;
 use crate::messages::{Messages, ViewMessages};
 use mo_file::{Meter, MoError, MoView};
-use plural_rule::{EXPRESSION_LIMIT, Node, ParsedRule, Rule};
+use plural_rule::{EXPRESSION_LIMIT, Instruction, ParsedRule, Rule};
 use std::cmp::Ordering;
 
 /// The text of the header entry, which stands under the empty key and so first; empty where there
@@ -60,23 +60,22 @@ pub(crate) fn checked<'a>(
     Ok((view, header))
 }
 
-/// Opens a file as [`Catalog::open`](crate::Catalog::open) does, with the nodes of its plural rule
-/// at the beginning of `room`. Where the file is refused, `room` stays as it was.
+/// Opens a file as [`Catalog::open`](crate::Catalog::open) does, with the program of its plural
+/// rule at the beginning of `room`. Where the file is refused, `room` stays as it was.
 ///
 /// It needs little of the machine's stack, whatever the file.
 pub fn open_into<'a>(
     bytes: &'a [u8],
     meter: &mut Meter,
-    room: &mut [Node; EXPRESSION_LIMIT],
+    room: &mut [Instruction; EXPRESSION_LIMIT],
 ) -> Result<(MoView<'a>, ParsedRule), MoError>
     requires { meter.old < 2 ^ 63 }
     ensures exact { MatchResult result (λ opened. (order : Order) × IsMoFile order bytes.now opened.0.messages)
         (IsFirstFault bytes.now) }
     ensures only { (order : Order) (messages : List Message) → IsMoFile order bytes.now messages → IsOk result }
     ensures view { IfOk result (λ opened. IsCatalogView opened.0.messages (rule_in opened.1 room.new)) }
-    ensures post_order { IfOk result (λ opened. nodes_in opened.1 room.new
-        ≡ post_order 0 (rule_in opened.1 room.new).tree) }
-    ensures limit { IfOk result (λ opened. opened.1.node_count ≤ expression_limit) }
+    ensures program { IfOk result (λ opened. program_in opened.1 room.new ≡ program_of 0 (rule_in opened.1 room.new).tree) }
+    ensures limit { IfOk result (λ opened. opened.1.instruction_count ≤ expression_limit) }
     ensures unchanged { OnErr result (room.new ≡ room.old) }
     ensures cost { MatchResult result (λ opened. meter.new ≡ meter.old + length opened.0.messages)
         (λ fault. meter.new ≡ meter.old + comparisons_before fault) }

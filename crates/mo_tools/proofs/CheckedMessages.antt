@@ -10,7 +10,7 @@ use Rattle.plural_rule.specs.declared.rule.Source.TheVariants.{Header, Default}
 use Rattle.po_entry.specs.TextEntry.{TextEntry, plain_entry, with_line}
 use Rattle.po_entry.specs.Header.{first_form}
 use Rattle.po_entry.specs.Validity.{IsCatalogueEntry, IsEntry}
-use Rattle.po_catalog.specs.Joined.{InputEntry, entries_of, joined, joined_entries}
+use Rattle.po_messages.specs.Joined.{InputEntry, entries_of, joined, joined_entries}
 use Rattle.po_compile.specs.CompiledInputs.{compiled_inputs, compiled_message, compiled_view}
 use Rattle.po_compile.specs.CompiledList.{is_compiled}
 use Rattle.po_compile.specs.CompiledMessages.{original_of, translation_of}

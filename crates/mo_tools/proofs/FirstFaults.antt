@@ -9,7 +9,7 @@ use Rattle.std.proofs.lemmas.List.Folds.{Any-from_list_any, list_any-from_Any}
 use Rattle.std.proofs.lemmas.Option.{none-some}
 use Rattle.po_syntax.specs.Runs.{from_end}
 use Rattle.po_entry.specs.TextEntry.{TextEntry}
-use Rattle.po_catalog.specs.Joined.{InputEntry}
+use Rattle.po_messages.specs.Joined.{InputEntry}
 use Rattle.plural_rule.specs.Expression.{value}
 use Rattle.plural_rule.specs.PluralRule.{RuleView}
 use Rattle.plural_rule.specs.declared.rule.Source.{Source}

@@ -7,8 +7,8 @@ use Rattle.std.specs.Borrow.{Bor}
 use Rattle.po_syntax.specs.declared.fault.PoFault.TheVariants.{OutOfMemory as NoMemory}
 use Rattle.po_entry.specs.ReadsText.{ReadsText}
 use Rattle.po_entry.specs.TextEntry.{TextEntry}
-use Rattle.po_catalog.specs.Joined.{joined_entries}
-use Rattle.po_catalog.specs.declared.duplicate.JoinError.{JoinError}
+use Rattle.po_messages.specs.Joined.{joined_entries}
+use Rattle.po_messages.specs.declared.duplicate.JoinError.{JoinError}
 use Rattle.po_compile.specs.Accepted.{AreRead, IsCompileFault}
 use Rattle.po_compile.specs.Collected.{HoldsEntries}
 use Rattle.po_compile.specs.CompiledInputs.{AreCollected}

@@ -12,11 +12,12 @@ ghost use Rattle.tool_runs.specs.Run.{refusal, run_view};
 
 use crate::profile::{CheckFault, check_messages};
 use mo_file::Order;
-use po_catalog::{Catalogue, JoinError};
 use po_compile::{
     Collected, Compiled, Options, collect_all, collect_catalogues, compile_collected,
     compiled_messages,
 };
+use po_entry::Catalogue;
+use po_messages::JoinError;
 use po_shell::{ByteIn, ByteOut, ToolFault, read_input};
 use po_syntax::PoFault;
 use po_unformat::laws::texts_come_back;

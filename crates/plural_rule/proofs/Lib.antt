@@ -5,10 +5,8 @@ pub mod ParserSteps
 pub mod Numerals
 pub mod Scanning
 pub mod ParserRun
-pub mod FrameLemmas
-pub mod FrameMarks
-pub mod Subtrees
+pub mod Programs
 pub mod Searches
 pub mod Rules
 pub mod Uniqueness
-pub mod PartsLemmas
+pub mod Evaluating

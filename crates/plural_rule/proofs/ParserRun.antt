@@ -1,19 +1,23 @@
 -- The parser between two tokens of a text.
-use Rattle.std.proofs.Common.{◌≡◌, ◌≢◌, ℕ, suc, ◌+◌, ◌^◌, Bool, true, false, nat_lt, MatchBool, inl, inr, List, [], ◌∷◌, ◌++◌, take, drop, Option, Some, None, option_and_then, refl, sym, ap, ◌∙◌, arith, subst, append_assoc, append-nil, take-append-drop}
+use Rattle.std.proofs.Common.{◌≡◌, ◌≢◌, ℕ, suc, ◌+◌, ◌^◌, ◌<◌, ◌≤◌, Bool, true, false, nat_lt, MatchBool, inl, inr, List, [], ◌∷◌, ◌++◌, length, take, drop, Option, Some, None, option_and_then, refl, sym, ap, ◌∙◌, arith, subst, append_assoc, append-nil, take-append-drop}
 use Rattle.std.specs.List.{prefix_len}
-use Rattle.std.proofs.lemmas.Bool.{false≢true, cases_Bool}
+use Rattle.std.specs.Str.Parse.{digits_value}
+use Rattle.std.proofs.lemmas.Int.Digits.{digits_value-lt}
+use Rattle.std.proofs.lemmas.List.{length-take-le}
+use Rattle.plural_rule.specs.declared.operator.Operator.{Operator}
+use Rattle.plural_rule.specs.declared.operator.Operator.TheVariants.{Or, And, Equal, NotEqual, Less, Greater, AtMost, AtLeast, Add, Subtract, Multiply, Divide, Remainder}
+use Rattle.std.proofs.lemmas.Bool.{false≢true, cases_Bool, cases_lt}
 use Rattle.std.proofs.lemmas.Bool.Decides.{nat_tests}
-use Rattle.plural_rule.specs.declared.node.Node.{Node}
-use Rattle.plural_rule.specs.declared.parts.Pending.{Pending}
 use Rattle.plural_rule.specs.declared.token.Token.{Token}
 use Rattle.plural_rule.specs.declared.token.Token.TheVariants.{Count as CountToken, Number as NumberToken, Not as NotToken, Binary as BinaryToken, Question, Colon, Open, Close}
 use Rattle.plural_rule.specs.Expression.{Tree}
-use Rattle.plural_rule.specs.Tokens.{is_blank, IsSpelling, IsLongest, Lexes, end, blank, token}
+use Rattle.plural_rule.specs.Tokens.{is_blank, operator_bytes, IsSpelling, IsLongest, Lexes, end, blank, token}
 use Rattle.plural_rule.specs.Grammar.{Spelt, Spells}
 use Rattle.plural_rule.specs.Header.{without_blanks}
 use Rattle.plural_rule.specs.Scanner.{IsTokenAt, IsTooLarge, HasNoToken}
 use Rattle.plural_rule.specs.ShiftReduce.{State, Want, Have, step, run, finish, outcome}
-use Rattle.plural_rule.specs.ParserState.{Represents, Answers, HoldsTree, HoldsExpression}
+use Rattle.plural_rule.specs.ParserState.{Held, Represents, Answers, HoldsTree, HoldsExpression, most_added}
+use Rattle.plural_rule.specs.declared.instruction.Instruction.{Instruction}
 use Rattle.plural_rule.proofs.Complete.{complete}
 use Rattle.plural_rule.proofs.Sound.{sound}
 use Rattle.plural_rule.proofs.Lexing.{first_byte, Lexes-token, Lexes-blank, Lexes-nothing}
@@ -72,16 +76,16 @@ pub record Split (read : List Token) (rest : List ℕ) (ts : List Token) : Type 
   pub lexes : Lexes rest later
 
 -- the parser has read the text up to a rest
-pub record Reached (text rest : List ℕ) (table : List Node) (entries : List Pending) (complete : Bool) : Type 0 where
+pub record Reached (text rest : List ℕ) (parser : Held) (complete : Bool) : Type 0 where
   pub state : State
   pub read : List Token
   pub runs : run (Want []) read ≡ Some state
   pub gives : (ts : List Token) → Lexes rest ts → Lexes text (read ++ ts)
   pub only : (ts : List Token) → Lexes text ts → Split read rest ts
   pub begins : rest ≢ [] → is_blank (first_byte rest) ≡ false
-  pub represents : Represents table entries complete state
+  pub represents : Represents parser complete state
 
-pub reached-start : (text : List ℕ) → Reached text (without_blanks text) [] [] false
+pub reached-start : (text : List ℕ) → Reached text (without_blanks text) (record { code = []; entries = []; start = 0 }) false
 reached-start text =
     record {
       state = Want [];
@@ -90,22 +94,22 @@ reached-start text =
       gives = with-blanks text;
       only = λ ts d. record { later = ts; is = refl; lexes = no-blanks text ts d };
       begins = begins text;
-      represents = (refl, record { table_is = refl; entries_are = refl });
+      represents = (refl, record { code_is = refl; entries_are = refl });
     }
 
 -- the state after one more token
-record Next (next : Option State) (table : List Node) (entries : List Pending) (complete : Bool) : Type 0 where
+record Next (next : Option State) (parser : Held) (complete : Bool) : Type 0 where
   after : State
   is : next ≡ Some after
-  represents : Represents table entries complete after
+  represents : Represents parser complete after
 
-next-some : (next : Option State) (table : List Node) (entries : List Pending) (complete : Bool) → Answers next (Some complete) table entries → Next next table entries complete
-next-some None table entries complete a = absurd cc
-next-some (Some s) table entries complete a = record { after = s; is = refl; represents = a }
+next-some : (next : Option State) (parser : Held) (complete : Bool) → Answers next (Some complete) parser → Next next parser complete
+next-some None parser complete a = absurd cc
+next-some (Some s) parser complete a = record { after = s; is = refl; represents = a }
 
-pub reached-token : (text rest : List ℕ) (t : Token) (n : ℕ) (before after : List Node) (entries entries' : List Pending) (complete complete' : Bool) → (r : Reached text rest before entries complete) → IsTokenAt rest t n → Answers (step r.state t) (Some complete') after entries' → Reached text (without_blanks (drop n rest)) after entries' complete'
-reached-token text rest t n before after entries entries' complete complete' r at answers =
-    let next = next-some (step r.state t) after entries' complete' answers in
+pub reached-token : (text rest : List ℕ) (t : Token) (n : ℕ) (before after : Held) (complete complete' : Bool) → (r : Reached text rest before complete) → IsTokenAt rest t n → Answers (step r.state t) (Some complete') after → Reached text (without_blanks (drop n rest)) after complete'
+reached-token text rest t n before after complete complete' r at answers =
+    let next = next-some (step r.state t) after complete' answers in
     let whole : take n rest ++ drop n rest ≡ rest = take-append-drop n rest in
     record {
       state = next.after;
@@ -126,6 +130,48 @@ reached-token text rest t n before after entries entries' complete complete' r a
       begins = begins (drop n rest);
       represents = next.represents;
     }
+
+-- a token has as many bytes as it adds instructions
+pub most-added : (text : List ℕ) (t : Token) (n : ℕ) → IsTokenAt text t n → most_added t ≤ n
+most-added text CountToken n at = at.some
+most-added text (NumberToken v) n at =
+    let long : length (take n text) ≡ n = length-take-le n text at.within in
+    let below = digits_value-lt 10 (take n text) at.spelling.1 in
+    elim (cases_Bool (nat_lt v (2 ^ 32))) [
+      | inl small ↦ rw small at.some
+      | inr large ↦ rw large (several v n (take n text) large long below at.spelling.2 at.some)
+    ] where
+      several : (v n : ℕ) (own : List ℕ) → nat_lt v (2 ^ 32) ≡ false → length own ≡ n → digits_value 10 own < 10 ^ length own → digits_value 10 own ≡ v → 0 < n → 2 ≤ n
+      several v n own large long below is some =
+          let least : 2 ^ 32 ≤ v = grind (arith, nat_tests) in
+          elim (cases_lt n 2) [
+            | inl few ↦
+                let one : length own ≡ 1 = omega arith in
+                let tiny : digits_value 10 own < 10 ^ 1 = rw one at below in
+                absurd (omega arith)
+            | inr enough ↦ enough
+          ]
+most-added text NotToken n at = at.some
+most-added text (BinaryToken op) n at =
+    two op (length-take-le n text at.within) at.spelling at.some where
+      two : (op : Operator) → length (take n text) ≡ n → take n text ≡ operator_bytes op → 0 < n → most_added (BinaryToken op) ≤ n
+      two Or long is some = omega (arith, ap length is, long)
+      two And long is some = omega (arith, ap length is, long)
+      two Equal long is some = some
+      two NotEqual long is some = some
+      two Less long is some = some
+      two Greater long is some = some
+      two AtMost long is some = some
+      two AtLeast long is some = some
+      two Add long is some = some
+      two Subtract long is some = some
+      two Multiply long is some = some
+      two Divide long is some = some
+      two Remainder long is some = some
+most-added text Question n at = at.some
+most-added text Colon n at = at.some
+most-added text Open n at = at.some
+most-added text Close n at = at.some
 
 -- the first token of a text
 record First (rest : List ℕ) (ts : List Token) : Type 0 where
@@ -174,36 +220,36 @@ too_large (Have stack t) Close h = absurd h
 abbrev pub SpellsNothing : List ℕ → Type 0
 SpellsNothing text = (tree : Tree) → Spelt tree text → ⊥
 
-pub no-token : (text rest : List ℕ) (table : List Node) (entries : List Pending) (complete : Bool) → Reached text rest table entries complete → rest ≢ [] → HasNoToken rest → SpellsNothing text
-no-token text rest table entries complete r n none tree (ts, lexes, spells) =
+pub no-token : (text rest : List ℕ) (parser : Held) (complete : Bool) → Reached text rest parser complete → rest ≢ [] → HasNoToken rest → SpellsNothing text
+no-token text rest parser complete r n none tree (ts, lexes, spells) =
     let s = r.only ts lexes in
     let f = first rest rest s.later n (r.begins n) refl s.lexes in
     let large = none f.prefix f.own f.after f.rest_is f.spelling f.longest in
     refused r.read f.later f.prefix r.state tree r.runs (too_large r.state f.prefix large)
     (subst (λ x. Spells 0 x tree) (s.is ∙ ap (λ x. r.read ++ x) f.ts_is) spells)
 
-stands-not : (next : Option State) (table : List Node) (entries : List Pending) → Answers next None table entries → next ≡ None
-stands-not None table entries a = refl
-stands-not (Some s) table entries a = absurd a
+stands-not : (next : Option State) (parser : Held) → Answers next None parser → next ≡ None
+stands-not None parser a = refl
+stands-not (Some s) parser a = absurd a
 
-pub no-index : (text rest : List ℕ) (t : Token) (n : ℕ) (before after : List Node) (entries entries' : List Pending) (complete : Bool) → (r : Reached text rest before entries complete) → IsTokenAt rest t n → Answers (step r.state t) None after entries' → SpellsNothing text
-no-index text rest t n before after entries entries' complete r at answers tree (ts, lexes, spells) =
+pub no-index : (text rest : List ℕ) (t : Token) (n : ℕ) (before after : Held) (complete : Bool) → (r : Reached text rest before complete) → IsTokenAt rest t n → Answers (step r.state t) None after → SpellsNothing text
+no-index text rest t n before after complete r at answers tree (ts, lexes, spells) =
     let s = r.only ts lexes in
     let whole : take n rest ++ drop n rest ≡ rest = take-append-drop n rest in
     let b = Lexes-token t (take n rest) (drop n rest) s.later at.spelling at.longest (subst (λ x. Lexes x s.later) (sym whole) s.lexes) in
-    refused r.read b.later t r.state tree r.runs (stands-not (step r.state t) after entries' answers)
+    refused r.read b.later t r.state tree r.runs (stands-not (step r.state t) after answers)
     (subst (λ x. Spells 0 x tree) (s.is ∙ ap (λ x. r.read ++ x) b.is) spells)
 
 -- at the end of the text
-pub reached-end : (text : List ℕ) (before after : List Node) (entries : List Pending) (complete whole : Bool) → (r : Reached text [] before entries complete) → MatchBool whole (HoldsTree (finish r.state) after) (finish r.state ≡ None) → MatchBool whole (HoldsExpression text after) (SpellsNothing text)
-reached-end text before after entries complete true r h =
+pub reached-end : (text : List ℕ) (before : Held) (after : List Instruction) (complete whole : Bool) → (r : Reached text [] before complete) → MatchBool whole (HoldsTree (finish r.state) after) (finish r.state ≡ None) → MatchBool whole (HoldsExpression text after) (SpellsNothing text)
+reached-end text before after complete true r h =
     let read : outcome r.read ≡ Some h.tree = ap (option_and_then finish) r.runs ∙ h.read_is in
     record {
       tree = h.tree;
       spelt = (r.read, subst (Lexes text) (append-nil r.read) (r.gives [] end), sound r.read h.tree read);
-      table_is = h.table_is;
+      code_is = h.code_is;
     }
-reached-end text before after entries complete' false r h =
+reached-end text before after complete' false r h =
     λ tree (ts, lexes, spells).
     let s = r.only ts lexes in
     let all : ts ≡ r.read = s.is ∙ ap (λ x. r.read ++ x) (Lexes-nothing s.later s.lexes) ∙ append-nil r.read in

@@ -1,94 +1,150 @@
--- Internal: how the parser's table and stack stand for what waits and for a complete operand.
-use Rattle.std.specs.Prelude.{◌≡◌, ℕ, ◌+◌, ◌-◌, nat_le, ◌==◌, Bool, true, false, List, [], ◌∷◌, ◌++◌, Option, Some}
-use Rattle.std.specs.Prelude.{None, if◌then◌else◌}
-use Rattle.plural_rule.specs.declared.node.Node.{Node}
+-- Internal: how the parser's program and stack stand for what waits and for a complete operand.
+use Rattle.std.specs.Prelude.{◌≡◌, ℕ, ◌+◌, ◌-◌, ◌%◌, ◌^◌, nat_le, nat_lt, ◌==◌, Bool, true, false, List, [], ◌∷◌, ◌++◌, length, Option, Some}
+use Rattle.std.specs.Prelude.{None, if◌then◌else◌, slice_set, slice_index_or}
+use Rattle.plural_rule.specs.declared.instruction.Instruction.{Instruction}
+use Rattle.plural_rule.specs.declared.parts.Parts.{Parts}
 use Rattle.plural_rule.specs.declared.parts.Pending.{Pending}
 use Rattle.plural_rule.specs.declared.parts.Pending.TheVariants.{Not as NotPending, Open as OpenPending}
 use Rattle.plural_rule.specs.declared.parts.Pending.TheVariants.{Binary as BinaryPending, Question as QuestionPending}
 use Rattle.plural_rule.specs.declared.parts.Pending.TheVariants.{Colon as ColonPending}
-use Rattle.plural_rule.specs.Expression.{Tree, nodes}
+use Rattle.plural_rule.specs.declared.token.Token.{Token}
+use Rattle.plural_rule.specs.declared.token.Token.TheVariants.{Number as NumberToken, Binary as BinaryToken}
+use Rattle.plural_rule.specs.Expression.{Tree}
 use Rattle.plural_rule.specs.Grammar.{level, Spelt}
+use Rattle.plural_rule.specs.Instruction.{count_instruction, not_instruction, binary_instruction, choose_instruction}
+use Rattle.plural_rule.specs.Instruction.{jump_instruction}
 use Rattle.plural_rule.specs.PluralRule.{IsReadable}
-use Rattle.plural_rule.specs.Node.{not_node, binary_node, conditional_node}
-use Rattle.plural_rule.specs.PostOrder.{post_order}
+use Rattle.plural_rule.specs.Program.{program, size, is_lazy, branch_program}
 use Rattle.plural_rule.specs.ShiftReduce.{Waiting, WaitNot, WaitOpen, WaitBinary, WaitQuestion, WaitColon, State, Want}
 use Rattle.plural_rule.specs.ShiftReduce.{Have}
 
--- how many nodes stand in the table for what waits
-abbrev pub size : List Waiting → ℕ
-size [] = 0
-size (WaitNot ∷ stack) = size stack
-size (WaitOpen ∷ stack) = size stack
-size (WaitBinary op a ∷ stack) = size stack + nodes a
-size (WaitQuestion a ∷ stack) = size stack + nodes a
-size (WaitColon a b ∷ stack) = size stack + nodes a + nodes b
+-- the instructions of what waits, before its last operand: what is skipped over that isn't known yet
+abbrev pub waiting_program : List Waiting → List Instruction
+waiting_program [] = []
+waiting_program (WaitNot ∷ stack) = waiting_program stack
+waiting_program (WaitOpen ∷ stack) = waiting_program stack
+waiting_program (WaitBinary op a ∷ stack) = waiting_program stack ++ (program 1 a ++ branch_program op 0)
+waiting_program (WaitQuestion a ∷ stack) = waiting_program stack ++ (program 1 a ++ choose_instruction 0 ∷ [])
+waiting_program (WaitColon a b ∷ stack) =
+    waiting_program stack ++ (program 1 a ++ choose_instruction (size b + 1) ∷ (program 0 b ++ jump_instruction 0 ∷ []))
 
--- these nodes, in the order of the table
-abbrev pub waiting_nodes : List Waiting → List Node
-waiting_nodes [] = []
-waiting_nodes (WaitNot ∷ stack) = waiting_nodes stack
-waiting_nodes (WaitOpen ∷ stack) = waiting_nodes stack
-waiting_nodes (WaitBinary op a ∷ stack) = waiting_nodes stack ++ post_order (size stack) a
-waiting_nodes (WaitQuestion a ∷ stack) = waiting_nodes stack ++ post_order (size stack) a
-waiting_nodes (WaitColon a b ∷ stack) =
-    (waiting_nodes stack ++ post_order (size stack) a) ++ post_order (size stack + nodes a) b
-
--- what waits, as the parser's stack has it; its operands stand in the table from index base on
+-- what waits, as the parser's stack has it, whose instructions begin at an index
 abbrev pub pending : ℕ → Waiting → Pending
-pending base WaitNot = NotPending
-pending base WaitOpen = OpenPending
-pending base (WaitBinary op a) = BinaryPending op (base + nodes a - 1)
-pending base (WaitQuestion a) = QuestionPending (base + nodes a - 1)
-pending base (WaitColon a b) = ColonPending (base + nodes a - 1) (base + nodes a + nodes b - 1)
+pending first WaitNot = NotPending
+pending first WaitOpen = OpenPending
+pending first (WaitBinary op a) = BinaryPending op first
+pending first (WaitQuestion a) = QuestionPending first
+pending first (WaitColon a b) = ColonPending first
 
 -- the parser's stack, oldest first
 abbrev pub pendings : List Waiting → List Pending
 pendings [] = []
-pendings (w ∷ stack) = pendings stack ++ pending (size stack) w ∷ []
+pendings (w ∷ stack) = pendings stack ++ pending (length (waiting_program stack)) w ∷ []
 
--- the node that the operand at index `last` completes, where an operator of level k follows it
-abbrev pub completed_node : ℕ → Pending → ℕ → Option Node
-completed_node k NotPending last = Some (not_node last)
-completed_node k OpenPending last = None
-completed_node k (BinaryPending op i) last = if nat_le k (level op) then Some (binary_node op i last) else None
-completed_node k (QuestionPending i) last = None
-completed_node k (ColonPending i j) last = if k == 0 then Some (conditional_node i j last) else None
+-- what the parser holds: instructions, what waits, and where the last operand begins
+pub record Held : Type 0 where
+  pub code : List Instruction
+  pub entries : List Pending
+  pub start : ℕ
 
--- table and stack stand for what waits
-pub record IsWaiting (table : List Node) (entries : List Pending) (stack : List Waiting) : Type 0 where
-  pub table_is : table ≡ waiting_nodes stack
-  pub entries_are : entries ≡ pendings stack
+abbrev pub held : {N : ℕ} → List Instruction → Parts N → Held
+held {N} code parts = record { code = code; entries = parts.waiting.items; start = parts.start }
 
--- table and stack stand for what waits and an operand after it
-pub record IsOperand (table : List Node) (entries : List Pending) (stack : List Waiting) (tree : Tree) : Type 0 where
-  pub table_is : table ≡ waiting_nodes stack ++ post_order (size stack) tree
-  pub entries_are : entries ≡ pendings stack
+-- that stands for what waits
+pub record IsWaiting (parser : Held) (stack : List Waiting) : Type 0 where
+  pub code_is : parser.code ≡ waiting_program stack
+  pub entries_are : parser.entries ≡ pendings stack
 
--- table, stack and whether an operand is complete stand for a state
-abbrev pub Represents : List Node → List Pending → Bool → State → Type 0
-Represents table entries complete (Want stack) = (complete ≡ false) × IsWaiting table entries stack
-Represents table entries complete (Have stack tree) = (complete ≡ true) × IsOperand table entries stack tree
+-- that stands for what waits and an operand after it
+pub record IsOperand (parser : Held) (stack : List Waiting) (tree : Tree) : Type 0 where
+  pub code_is : parser.code ≡ waiting_program stack ++ program 0 tree
+  pub entries_are : parser.entries ≡ pendings stack
+  pub start_is : parser.start ≡ length (waiting_program stack)
+
+-- that and whether an operand is complete stand for a state
+abbrev pub Represents : Held → Bool → State → Type 0
+Represents parser complete (Want stack) = (complete ≡ false) × IsWaiting parser stack
+Represents parser complete (Have stack tree) = (complete ≡ true) × IsOperand parser stack tree
 
 -- the answer to a token stands for the state after it
-abbrev pub Answers : Option State → Option Bool → List Node → List Pending → Type 0
-Answers None answer table entries = answer ≡ None
-Answers (Some state) None table entries = ⊥
-Answers (Some state) (Some complete) table entries = Represents table entries complete state
+abbrev pub Answers : Option State → Option Bool → Held → Type 0
+Answers None answer parser = answer ≡ None
+Answers (Some state) None parser = ⊥
+Answers (Some state) (Some complete) parser = Represents parser complete state
 
--- the table holds the tree that was read
-pub record HoldsTree (read : Option Tree) (table : List Node) : Type 0 where
+-- one more node begins with an instruction
+abbrev pub counted : Instruction → Instruction
+counted i = record { kind = i.kind; operator = i.operator; count = (i.count + 1) % 2 ^ 16; number = i.number }
+
+abbrev pub edited : (Instruction → Instruction) → ℕ → List Instruction → List Instruction
+edited edit index code =
+    if nat_lt index (length code) then slice_set code index (edit (slice_index_or code index (count_instruction 1)))
+    else code
+
+abbrev pub begun : ℕ → List Instruction → List Instruction
+begun index code = edited counted index code
+
+-- an instruction skips so many others
+abbrev pub with_skip : ℕ → Instruction → Instruction
+with_skip skip i = record { kind = i.kind; operator = i.operator; count = skip; number = i.number }
+
+abbrev pub skipping : ℕ → ℕ → List Instruction → List Instruction
+skipping index skip code = edited (with_skip skip) index code
+
+-- the operand completes what waits, where an operator of this level follows it
+abbrev pub binds : ℕ → Pending → Bool
+binds k NotPending = true
+binds k OpenPending = false
+binds k (BinaryPending op first) = nat_le k (level op)
+binds k (QuestionPending first) = false
+binds k (ColonPending first) = k == 0
+
+-- the instructions once it has, and where the new operand begins
+abbrev pub completed_program : Pending → ℕ → List Instruction → List Instruction
+completed_program NotPending start code = begun start code ++ not_instruction ∷ []
+completed_program (BinaryPending op first) start code =
+    (if is_lazy op then skipping (start - 1) (length code - start + 1) code else code) ++ binary_instruction op ∷ []
+completed_program (ColonPending first) start code = skipping (start - 1) (length code - start) code
+completed_program OpenPending start code = code
+completed_program (QuestionPending first) start code = code
+
+abbrev pub first_of : Pending → ℕ → ℕ
+first_of NotPending start = start
+first_of OpenPending start = start
+first_of (BinaryPending op first) start = first
+first_of (QuestionPending first) start = first
+first_of (ColonPending first) start = first
+
+-- how many instructions are added for what waits once it is complete
+abbrev pub weight_of : Pending → ℕ
+weight_of NotPending = 1
+weight_of (BinaryPending op first) = 1
+weight_of _ = 0
+
+abbrev pub weight : List Pending → ℕ
+weight [] = 0
+weight (p ∷ entries) = weight_of p + weight entries
+
+-- how many instructions a token adds at most
+abbrev pub most_added : Token → ℕ
+most_added (NumberToken v) = if nat_lt v (2 ^ 32) then 1 else 2
+most_added (BinaryToken op) = if is_lazy op then 2 else 1
+most_added _ = 1
+
+-- the program is that of the tree that was read
+pub record HoldsTree (read : Option Tree) (code : List Instruction) : Type 0 where
   pub tree : Tree
   pub read_is : read ≡ Some tree
-  pub table_is : table ≡ post_order 0 tree
+  pub code_is : code ≡ program 0 tree
 
--- the table holds the tree that the text spells
-pub record HoldsExpression (text : List ℕ) (table : List Node) : Type 0 where
+-- the program is that of the tree that the text spells
+pub record HoldsExpression (text : List ℕ) (code : List Instruction) : Type 0 where
   pub tree : Tree
   pub spelt : Spelt tree text
-  pub table_is : table ≡ post_order 0 tree
+  pub code_is : code ≡ program 0 tree
 
--- the header names a rule that can be read, and the table holds its tree
-pub record HoldsRule (limit : ℕ) (header : List ℕ) (nplurals : ℕ) (table : List Node) : Type 0 where
+-- the header names a rule that can be read, and the program is that of its tree
+pub record HoldsRule (limit : ℕ) (header : List ℕ) (nplurals : ℕ) (code : List Instruction) : Type 0 where
   pub tree : Tree
   pub readable : IsReadable limit header nplurals tree
-  pub table_is : table ≡ post_order 0 tree
+  pub code_is : code ≡ program 0 tree

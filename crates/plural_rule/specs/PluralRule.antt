@@ -7,9 +7,9 @@ use Rattle.plural_rule.specs.declared.rule.Source.TheVariants.{Header, Default}
 use Rattle.plural_rule.specs.declared.rule.Reason.{Reason}
 use Rattle.plural_rule.specs.declared.rule.Reason.TheVariants.{NoNumber, NoExpression, Unreadable, TooLong}
 use Rattle.plural_rule.specs.declared.rule.ParsedRule.{ParsedRule}
-use Rattle.plural_rule.specs.declared.node.Node.{Node}
+use Rattle.plural_rule.specs.declared.instruction.Instruction.{Instruction}
 use Rattle.plural_rule.specs.Expression.{Tree, Count, Number, Binary}
-use Rattle.plural_rule.specs.PostOrder.{tree_of}
+use Rattle.plural_rule.specs.Program.{tree_of}
 use Rattle.plural_rule.specs.Grammar.{Spelt}
 use Rattle.plural_rule.specs.Header.{nplurals_of, expression_of}
 
@@ -19,13 +19,14 @@ pub record RuleView : Type 0 where
   pub nplurals : ℕ
   pub tree : Tree
 
--- the nodes of a rule that was written to the beginning of an array, and the rule
-abbrev pub nodes_in : ParsedRule → List Node → List Node
-nodes_in parsed room = take parsed.node_count room
+-- the program at the beginning of an array
+abbrev pub program_in : ParsedRule → List Instruction → List Instruction
+program_in parsed room = take parsed.instruction_count room
 
-abbrev pub rule_in : ParsedRule → List Node → RuleView
+-- the rule that was read with it
+abbrev pub rule_in : ParsedRule → List Instruction → RuleView
 rule_in parsed room =
-    record { source = parsed.source; nplurals = parsed.nplurals; tree = tree_of (nodes_in parsed room) }
+    record { source = parsed.source; nplurals = parsed.nplurals; tree = tree_of (program_in parsed room) }
 
 -- the most bytes of an expression that is read, and so the most nodes that a rule has
 abbrev pub expression_limit : ℕ

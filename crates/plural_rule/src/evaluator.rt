@@ -1,270 +1,214 @@
-//! The value of an expression at a count.
-//!
-//! What waits for an operand stands in a stack of fixed size, so the machine's stack doesn't grow
-//! with the expression.
-ghost use Rattle.std.specs.Prelude.{◌≡◌, ◌+◌, ◌*◌, ◌<◌, ◌≤◌, Some, [], length, IfSome};
-ghost use Rattle.plural_rule.specs.declared.frames.Frame.TheVariants.{First};
+//! The value of an expression at a count, by its program: one instruction after the other, with
+//! jumps that go forward only.
+ghost use Rattle.std.specs.Prelude.{◌≡◌, ℕ, ◌+◌, ◌*◌, ◌^◌, ◌<◌, ◌≤◌, List, ◌∷◌, length, drop, slice_index_or, ⊤, MatchOption, IfSome, OnSome};
+ghost use Rattle.plural_rule.specs.declared.instruction.Instruction.{Instruction};
+ghost use Rattle.plural_rule.specs.declared.instruction.Action.TheVariants.{Binary};
+ghost use Rattle.plural_rule.specs.Instruction.{action_of};
 ghost use Rattle.plural_rule.specs.Expression.{nodes, value, visited};
 ghost use Rattle.plural_rule.specs.PluralRule.{expression_limit};
-ghost use Rattle.plural_rule.specs.PostOrder.{post_order, tree_of};
-ghost use Rattle.plural_rule.specs.Evaluation.{subtree, IsNodeOf, IsLeaf, Evaluated, evaluated, resumed, finished, finished_next, remaining, remaining_next, least_steps, least_next, AreFramesOf, IsNextOf, IsHandedTo};
+ghost use Rattle.plural_rule.specs.Program.{program, tree_of, low_of};
+ghost use Rattle.plural_rule.specs.Run.{act, Go, Leads};
 
-use crate::frames::{Frame, Frames};
-use crate::node::{Node, Shape, numeral};
+use crate::instruction::{Action, Instruction};
 use crate::operator::{Operator, truth};
+use crate::values::Values;
 
-/// The most nodes of an expression that is evaluated with the smallest stack: one that holds more
-/// takes longer to set up.
+/// The most instructions of a program that runs with the smallest stack: a larger one takes longer
+/// to set up.
+const TINY: usize = 16;
+
+/// The same for the next larger one.
 const SHORT: usize = 48;
 
-/// The most nodes of an expression that is evaluated with little more of the machine's stack.
+/// The most instructions of a program that runs with little more of the machine's stack.
 const MEDIUM: usize = 128;
 
-/// What to do next.
-#[derive(Clone, Copy, Drop)]
-pub(crate) enum Next {
-    /// Evaluate the node at this index.
-    Visit(u16),
-    /// Hand this value to the last node that waits. Where none does, it is that of the whole
-    /// expression.
-    Value(u64),
-    /// Stop: the expression divides by 0.
-    Undefined,
-}
-
-/// The value of the expression in `table` at `count`, or `None` where it divides by 0, and how many
-/// nodes were evaluated.
-///
-/// The table is that of a rule: each node stands after its operands, and the node of the whole
-/// expression is last.
-pub fn evaluate(table: &[Node], count: u64) -> (Option<u64>, u32)
-    requires post_order { table.now ≡ post_order 0 (tree_of table.now) }
-    requires limit { length table.now ≤ expression_limit }
-    ensures value { result.0 ≡ value (tree_of table.now) count }
-    ensures steps { result.1 ≡ visited (tree_of table.now) count }
-    ensures bound { result.1 ≤ nodes (tree_of table.now) }
+/// The value of the expression with this program at `count`, or `None` where it divides by 0, and
+/// how many nodes were evaluated.
+pub fn evaluate(instructions: &[Instruction], count: u64) -> (Option<u64>, u32)
+    requires program { instructions.now ≡ program 0 (tree_of instructions.now) }
+    requires limit { length instructions.now ≤ expression_limit }
+    ensures value { result.0 ≡ value (tree_of instructions.now) count }
+    ensures steps { result.1 ≡ visited (tree_of instructions.now) count }
+    ensures bound { result.1 ≤ nodes (tree_of instructions.now) }
 {
-    if table.len() <= SHORT {
-        evaluate_within::<48, 24>(table, count)
-    } else if table.len() <= MEDIUM {
-        evaluate_within::<128, 64>(table, count)
+    if instructions.len() <= TINY {
+        evaluate_within::<16>(instructions, count)
+    } else if instructions.len() <= SHORT {
+        evaluate_within::<48>(instructions, count)
+    } else if instructions.len() <= MEDIUM {
+        evaluate_within::<128>(instructions, count)
     } else {
-        evaluate_within::<4096, 2048>(table, count)
+        evaluate_within::<4096>(instructions, count)
     }
 }
 
-/// The same as `evaluate`, with room for `NODES` nodes that wait, of which `NUMBERS` have a number.
+/// The same with room for `N` values.
 #[inline(never)]
-fn evaluate_within<const NODES: usize, const NUMBERS: usize>(
-    table: &[Node],
-    count: u64,
-) -> (Option<u64>, u32)
-    requires post_order { table.now ≡ post_order 0 (tree_of table.now) }
-    requires limit { nodes (tree_of table.now) ≤ expression_limit }
-    requires room { nodes (tree_of table.now) ≤ NODES }
-    requires half { NODES ≡ 2 * NUMBERS }
-    requires size { NODES ≤ expression_limit }
-    ensures value { result.0 ≡ value (tree_of table.now) count }
-    ensures steps { result.1 ≡ visited (tree_of table.now) count }
-    ensures bound { result.1 ≤ nodes (tree_of table.now) }
+fn evaluate_within<const N: usize>(instructions: &[Instruction], count: u64) -> (Option<u64>, u32)
+    requires program { instructions.now ≡ program 0 (tree_of instructions.now) }
+    requires room { length instructions.now ≤ N }
+    requires size { N ≤ expression_limit }
+    ensures value { result.0 ≡ value (tree_of instructions.now) count }
+    ensures steps { result.1 ≡ visited (tree_of instructions.now) count }
+    ensures bound { result.1 ≤ nodes (tree_of instructions.now) }
 {
-    let mut marks = [0; NODES];
-    let mut numbers = [0; NUMBERS];
-    let mut frames = Frames::new(&mut marks, &mut numbers);
-    let mut index = table.len() - 1;
+    let mut stack = [0; N];
+    let mut values = Values::new(&mut stack);
     let mut steps = 0;
-    'visits: loop {
-        let value = match visit(table, index, count, &mut frames, &mut steps) {
-            Next::Visit(next) => {
-                index = next as usize;
-                continue;
-            }
-            Next::Value(value) => value,
-            Next::Undefined => return (None, steps),
-        };
-        match resume(table, value, count, &mut frames, &mut steps) {
-            Next::Visit(next) => index = next as usize,
-            Next::Value(value) => return (Some(value), steps),
-            Next::Undefined => return (None, steps),
+    let mut index = 0;
+    while index < instructions.len() {
+        let action = instructions[index].action();
+        index += 1;
+        if let Some((operand, begins)) = leaf(action, count)
+            && let Some(operator) = operator_at(instructions, index)
+        {
+            steps += begins as u32;
+            let Some(skip) = apply(operator, operand, &mut values) else {
+                return (None, steps);
+            };
+            index += 1 + skip as usize;
+            continue;
         }
+        let Some(skip) = act(action, instructions, index, count, &mut values, &mut steps) else {
+            return (None, steps);
+        };
+        index += skip as usize;
+    }
+    (values.pop(), steps)
+}
+
+/// The number of the instruction at an index.
+#[inline(always)]
+fn low_at(instructions: &[Instruction], index: usize) -> u32
+    ensures { result ≡ low_of (drop index instructions.now) }
+{
+    if index < instructions.len() {
+        instructions[index].number
+    } else {
+        0
     }
 }
 
-/// What the node at an index is.
+/// The value of `n` or of a numeral below 2^32, and how many nodes begin with it.
 #[inline(always)]
-fn node_at(table: &[Node], index: usize) -> Shape
-    requires post_order { table.now ≡ post_order 0 (tree_of table.now) }
-    requires limit { nodes (tree_of table.now) ≤ expression_limit }
-    requires index { index < nodes (tree_of table.now) }
-    ensures { IsNodeOf (tree_of table.now) (subtree (tree_of table.now) index) result }
+fn leaf(action: Action, count: u64) -> Option<(u64, u16)>
+    ensures next { MatchOption result ⊤ (λ r. (low : ℕ) (values : List ℕ) →
+        act count action low values ≡ Go 0 (r.0 ∷ values) r.1) }
+    ensures fits { IfSome result (λ r. r.1 < 2 ^ 16) }
 {
-    table[index].shape()
-}
-
-/// The value of the node at an index where it has no operands.
-#[inline(always)]
-fn leaf_value(table: &[Node], index: usize, count: u64) -> Option<u64>
-    requires post_order { table.now ≡ post_order 0 (tree_of table.now) }
-    requires limit { nodes (tree_of table.now) ≤ expression_limit }
-    requires index { index < nodes (tree_of table.now) }
-    ensures { IfSome result (λ leaf. IsLeaf (subtree (tree_of table.now) index) count leaf) }
-{
-    match node_at(table, index) {
-        Shape::Count => Some(count),
-        Shape::Number(first, second, third, fourth) => Some(numeral(first, second, third, fourth)),
+    match action {
+        Action::Count(begins) => Some((count, begins)),
+        Action::Number(begins, number) => Some((number as u64, begins)),
         _ => None,
     }
 }
 
-/// Visits the node at an index: a leaf has its value, and any other node waits for its first
-/// operand, unless that is a leaf of an operator, which is visited with it.
-#[tactic(auto, using(crate::proofs::FrameLemmas::visits_not, crate::proofs::FrameLemmas::visits_binary, crate::proofs::FrameLemmas::visits_conditional, crate::proofs::FrameLemmas::remaining_more, crate::proofs::FrameLemmas::least_more, crate::proofs::FrameLemmas::frames_more))]
+/// The operator at an index, which takes the operand before it.
 #[inline(always)]
-fn visit<const NODES: usize, const NUMBERS: usize>(
-    table: &[Node],
-    index: usize,
-    count: u64,
-    frames: &mut Frames<'_, NODES, NUMBERS>,
-    steps: &mut u32,
-) -> Next
-    requires post_order { table.now ≡ post_order 0 (tree_of table.now) }
-    requires limit { nodes (tree_of table.now) ≤ expression_limit }
-    requires room { nodes (tree_of table.now) ≤ NODES }
-    requires half { NODES ≡ 2 * NUMBERS }
-    requires size { NODES ≤ expression_limit }
-    requires index { index < nodes (tree_of table.now) }
-    requires remaining { steps.old + nodes (subtree (tree_of table.now) index) + remaining (tree_of table.now) frames.old
-        ≤ nodes (tree_of table.now) }
-    requires least { least_steps frames.old ≤ steps.old }
-    requires frames { AreFramesOf (tree_of table.now) frames.old }
-    ensures outcome { finished_next (tree_of table.now) count frames.new steps.new result
-        ≡ finished (tree_of table.now) count frames.old
-        (evaluated (subtree (tree_of table.now) index) count steps.old) }
-    ensures remaining { steps.new + remaining_next (tree_of table.now) result + remaining (tree_of table.now) frames.new
-        ≤ steps.old + nodes (subtree (tree_of table.now) index) + remaining (tree_of table.now) frames.old }
-    ensures more { steps.old < steps.new }
-    ensures least { least_steps frames.new + least_next result ≤ steps.new }
-    ensures next { IsNextOf (tree_of table.now) result }
-    ensures frames { AreFramesOf (tree_of table.now) frames.new }
+fn operator_at(instructions: &[Instruction], index: usize) -> Option<Operator>
+    ensures { MatchOption result ⊤ (λ operator. (index < length instructions.now)
+        × ((d : Instruction) → Binary operator ≡ action_of (slice_index_or instructions.now index d))) }
 {
-    *steps += 1;
-    match node_at(table, index) {
-        Shape::Count => Next::Value(count),
-        Shape::Number(first, second, third, fourth) => {
-            Next::Value(numeral(first, second, third, fourth))
+    if index < instructions.len() {
+        match instructions[index].action() {
+            Action::Binary(operator) => Some(operator),
+            _ => None,
         }
-        Shape::Not(operand) => {
-            frames.push(Frame::Not);
-            Next::Visit(operand)
-        }
-        Shape::Binary(operator, left, right) => {
-            let Some(leaf) = leaf_value(table, left as usize, count) else {
-                frames.push(Frame::First(operator, right));
-                return Next::Visit(left);
-            };
-            *steps += 1;
-            visit_right(table, operator, leaf, right, count, frames, steps)
-        }
-        Shape::Conditional(condition, yes, no) => {
-            frames.push(Frame::Condition(yes, no));
-            Next::Visit(condition)
-        }
+    } else {
+        None
     }
 }
 
-/// Goes on with an operator whose first operand has the value `left`, and whose second one stands
-/// at the index `right`: if that is needed, a leaf is visited here, and the operator waits for any
-/// other node.
+/// Carries out an operator whose second operand is known: nothing is skipped, or `None` where it
+/// divides by 0.
 #[inline(always)]
-fn visit_right<const NODES: usize, const NUMBERS: usize>(
-    table: &[Node],
-    operator: Operator,
-    left: u64,
-    right: u16,
-    count: u64,
-    frames: &mut Frames<'_, NODES, NUMBERS>,
-    steps: &mut u32,
-) -> Next
-    requires post_order { table.now ≡ post_order 0 (tree_of table.now) }
-    requires limit { nodes (tree_of table.now) ≤ expression_limit }
-    requires room { nodes (tree_of table.now) ≤ NODES }
-    requires half { NODES ≡ 2 * NUMBERS }
-    requires size { NODES ≤ expression_limit }
-    requires right { right < nodes (tree_of table.now) }
-    requires remaining { steps.old + nodes (subtree (tree_of table.now) right) + remaining (tree_of table.now) frames.old
-        ≤ nodes (tree_of table.now) }
-    requires least { 2 + least_steps frames.old ≤ steps.old }
-    requires frames { AreFramesOf (tree_of table.now) frames.old }
-    ensures outcome { finished_next (tree_of table.now) count frames.new steps.new result
-        ≡ finished (tree_of table.now) count frames.old
-        (resumed (tree_of table.now) count (First operator right) (record { value = Some left; steps = steps.old })) }
-    ensures remaining { steps.new + remaining_next (tree_of table.now) result + remaining (tree_of table.now) frames.new
-        ≤ steps.old + nodes (subtree (tree_of table.now) right) + remaining (tree_of table.now) frames.old }
-    ensures more { steps.old ≤ steps.new }
-    ensures least { least_steps frames.new + least_next result ≤ steps.new }
-    ensures next { IsNextOf (tree_of table.now) result }
-    ensures frames { AreFramesOf (tree_of table.now) frames.new }
-    ensures same { IsHandedTo frames.old frames.new result }
+fn apply<const N: usize>(operator: Operator, right: u64, values: &mut Values<'_, N>) -> Option<u16>
+    requires { length values.old ≤ N }
+    ensures leads { (count low steps : ℕ) →
+        Leads (act count (Binary operator) low (right ∷ values.old)) result values.new steps steps }
+    ensures few { OnSome result (length values.new ≤ length values.old) }
 {
-    if !operator.needs_right(left) {
-        return Next::Value(operator.short_circuit_value());
-    }
-    let Some(leaf) = leaf_value(table, right as usize, count) else {
-        frames.push(Frame::Second(operator, left));
-        return Next::Visit(right);
+    let Some(left) = values.pop() else {
+        return None;
     };
-    *steps += 1;
-    match operator.combined(left, leaf) {
-        Some(value) => Next::Value(value),
-        None => Next::Undefined,
-    }
+    let Some(value) = operator.combined(left, right) else {
+        return None;
+    };
+    values.push(value);
+    Some(0)
 }
 
-/// Hands a value to the nodes that wait for it, up to one that needs a further operand which is no
-/// leaf.
+/// Carries out an instruction, where the next one stands at an index: how many are then skipped, or
+/// `None` where it divides by 0.
 #[inline(always)]
-fn resume<const NODES: usize, const NUMBERS: usize>(
-    table: &[Node],
-    operand: u64,
+fn act<const N: usize>(
+    action: Action,
+    instructions: &[Instruction],
+    next: usize,
     count: u64,
-    frames: &mut Frames<'_, NODES, NUMBERS>,
+    values: &mut Values<'_, N>,
     steps: &mut u32,
-) -> Next
-    requires post_order { table.now ≡ post_order 0 (tree_of table.now) }
-    requires limit { nodes (tree_of table.now) ≤ expression_limit }
-    requires room { nodes (tree_of table.now) ≤ NODES }
-    requires half { NODES ≡ 2 * NUMBERS }
-    requires size { NODES ≤ expression_limit }
-    requires remaining { steps.old + remaining (tree_of table.now) frames.old ≤ nodes (tree_of table.now) }
-    requires least { least_steps frames.old < steps.old }
-    requires frames { AreFramesOf (tree_of table.now) frames.old }
-    ensures outcome { finished_next (tree_of table.now) count frames.new steps.new result
-        ≡ finished (tree_of table.now) count frames.old (record { value = Some operand; steps = steps.old }) }
-    ensures remaining { steps.new + remaining_next (tree_of table.now) result + remaining (tree_of table.now) frames.new
-        ≤ steps.old + remaining (tree_of table.now) frames.old }
-    ensures more { steps.old ≤ steps.new }
-    ensures least { least_steps frames.new ≤ steps.new }
-    ensures next { IsNextOf (tree_of table.now) result }
-    ensures frames { AreFramesOf (tree_of table.now) frames.new }
-    ensures whole { IsHandedTo [] frames.new result }
+) -> Option<u16>
+    requires room { length values.old < N }
+    requires steps { steps.old + 2 ^ 16 < 2 ^ 32 }
+    ensures leads { Leads (act count action (low_of (drop next instructions.now)) values.old) result values.new steps.old steps.new }
+    ensures few { OnSome result (length values.new ≤ length values.old + 1) }
+    ensures bound { steps.new < steps.old + 2 ^ 16 }
 {
-    let mut value = operand;
-    while let Some(frame) = frames.pop() {
-        match frame {
-            Frame::Not => value = truth(value == 0),
-            Frame::First(operator, right) => {
-                match visit_right(table, operator, value, right, count, frames, steps) {
-                    Next::Value(combined) => value = combined,
-                    Next::Visit(next) => return Next::Visit(next),
-                    Next::Undefined => return Next::Undefined,
-                }
-            }
-            Frame::Second(operator, left) => match operator.combined(left, value) {
-                Some(combined) => value = combined,
-                None => return Next::Undefined,
-            },
-            Frame::Condition(yes, no) => return Next::Visit(if value == 0 { no } else { yes }),
+    match action {
+        Action::Count(begins) => {
+            values.push(count);
+            *steps += begins as u32;
+            Some(0)
         }
+        Action::Number(begins, number) => {
+            values.push(number as u64);
+            *steps += begins as u32;
+            Some(0)
+        }
+        Action::Wide(begins, high) => {
+            values.push(high as u64 * 4294967296 + low_at(instructions, next) as u64);
+            *steps += begins as u32;
+            Some(1)
+        }
+        Action::Not => {
+            let Some(operand) = values.pop() else {
+                return None;
+            };
+            values.push(truth(operand == 0));
+            Some(0)
+        }
+        Action::Binary(operator) => {
+            let Some(right) = values.pop() else {
+                return None;
+            };
+            let Some(left) = values.pop() else {
+                return None;
+            };
+            let Some(value) = operator.combined(left, right) else {
+                return None;
+            };
+            values.push(value);
+            Some(0)
+        }
+        Action::Branch(operator, skip) => {
+            let Some(left) = values.pop() else {
+                return None;
+            };
+            if operator.needs_right(left) {
+                values.push(left);
+                return Some(0);
+            }
+            values.push(operator.short_circuit_value());
+            Some(skip)
+        }
+        Action::Choose(skip) => {
+            let Some(condition) = values.pop() else {
+                return None;
+            };
+            Some(if condition == 0 { skip } else { 0 })
+        }
+        Action::Jump(skip) => Some(skip),
     }
-    Next::Value(value)
 }

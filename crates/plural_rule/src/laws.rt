@@ -1,13 +1,20 @@
 //! Laws of plural rules, each the contract of a function that does nothing: a call brings the law
 //! into a proof.
-ghost use Rattle.std.specs.Prelude.{◌≡◌, ◌≤◌, ◌↔◌, ℕ, List};
-ghost use Rattle.plural_rule.specs.Expression.{Tree, visited, nodes};
+ghost use Rattle.std.specs.Prelude.{◌≡◌, ◌≤◌, ◌↔◌, ℕ, List, Some};
+ghost use Rattle.plural_rule.specs.Evaluates.{Evaluates};
+ghost use Rattle.plural_rule.specs.Expression.{Tree, value, visited, nodes};
 ghost use Rattle.plural_rule.specs.Grammar.{Spelt};
 ghost use Rattle.plural_rule.specs.PluralRule.{RuleView, IsRuleOf, IsWithin};
 
 /// A text spells at most one expression.
 pub fn one_tree()
     ensures { (text : List ℕ) (t u : Tree) → Spelt t text → Spelt u text → t ≡ u }
+{}
+
+/// The value of an expression is the one that C's operators give it, and it has none where C leaves
+/// that undefined: where it divides by 0.
+pub fn value_evaluates()
+    ensures { (count : ℕ) (tree : Tree) (number : ℕ) → value tree count ≡ Some number ↔ Evaluates count tree number }
 {}
 
 /// No evaluation visits more nodes than there are.

@@ -2,29 +2,29 @@
 //!
 //! The GNU gettext manual, "Plural forms", says what stands in a header, such as
 //! `nplurals=2; plural=n != 1;`. The expression is one of C, over unsigned numbers of 64 bits. A
-//! rule contains a table of fixed size for its nodes, so neither reading nor evaluating allocates,
+//! rule contains a program of fixed size, so neither reading nor evaluating allocates,
 //! and neither takes more of the machine's stack for a deeper expression.
 //!
 //! [`Rule::parse`] reads a rule, [`Rule::parse_into`] into memory of the caller, and [`evaluate`]
 //! computes its value at a count.
 //!
-//! The modules in reading order: `operator`, `token`, `lexer`, `node`, `parts`, `parser`, `frames`,
-//! `evaluator`, `header`, `rule`, `laws`.
+//! The modules in reading order: `operator`, `token`, `lexer`, `instruction`, `parts`, `parser`,
+//! `values`, `evaluator`, `header`, `rule`, `laws`.
 
 #![tactic(auto)]
 
 mod evaluator;
-mod frames;
 mod header;
+mod instruction;
 pub mod laws;
 mod lexer;
-mod node;
 mod operator;
 mod parser;
 mod parts;
 mod rule;
 mod token;
+mod values;
 
 pub use evaluator::evaluate;
-pub use node::Node;
+pub use instruction::Instruction;
 pub use rule::{EXPRESSION_LIMIT, ParsedRule, Reason, Rule, Source};

@@ -2,7 +2,8 @@
 ghost use Rattle.std.specs.Prelude.{◌≡◌};
 ghost use Rattle.plural_rule.specs.Expression.{combined, needs_right, short_circuit_value, truth};
 ghost use Rattle.plural_rule.specs.Grammar.{level};
-ghost use Rattle.plural_rule.specs.Node.{operator_code, operator_of};
+ghost use Rattle.plural_rule.specs.Program.{is_lazy};
+ghost use Rattle.plural_rule.specs.Instruction.{operator_code, operator_of};
 
 /// An operator of two operands, with the meaning that it has in C for unsigned numbers of 64 bits.
 #[derive(Clone, Copy, Drop)]
@@ -89,6 +90,16 @@ impl Operator {
             10 => Operator::Multiply,
             11 => Operator::Divide,
             _ => Operator::Remainder,
+        }
+    }
+
+    /// Whether the second operand isn't always evaluated.
+    pub(crate) fn is_lazy(self) -> bool
+        ensures { result ≡ is_lazy self }
+    {
+        match self {
+            Operator::Or | Operator::And => true,
+            _ => false,
         }
     }
 

@@ -14,144 +14,186 @@
 //! unary          = "!" unary | "(" expression ")" | "n" | numeral
 //! ```
 //!
-//! Nodes and what waits for an operand stand in memory of the caller, so the machine's stack doesn't
-//! grow with the expression.
-ghost use Rattle.std.specs.Prelude.{◌≡◌, ◌+◌, ◌-◌, ◌<◌, ◌≤◌, List, Some, None, true, length, take, IfSome, MatchBool, MatchOption};
+//! The instructions stand in memory of the caller, and what waits for an operand in an array of fixed
+//! size, so the machine's stack doesn't grow with the expression.
+ghost use Rattle.std.specs.Prelude.{◌≡◌, ◌+◌, ◌<◌, ◌≤◌, List, ◌∷◌, Some, None, true, false, length, take, MatchBool, OnSome};
+ghost use Rattle.arrayvec.specs.ArrayVec.{array_vec_len};
 ghost use Rattle.plural_rule.specs.Expression.{Tree};
-ghost use Rattle.plural_rule.specs.ShiftReduce.{Waiting, State, reduce, want_step, have_step, step, finish};
-ghost use Rattle.plural_rule.specs.ParserState.{IsWaiting, IsOperand, Represents, Answers, HoldsTree, HoldsExpression, completed_node};
-ghost use Rattle.plural_rule.specs.Parts.{complete_in, waiting_in};
+ghost use Rattle.plural_rule.specs.ShiftReduce.{Waiting, WaitBinary, WaitQuestion, State, reduce, want_step, have_step, step, finish, at_colon};
+ghost use Rattle.plural_rule.specs.declared.token.Token.TheVariants.{Binary as BinaryToken};
+ghost use Rattle.plural_rule.specs.ParserState.{held, IsWaiting, IsOperand, Represents, Answers, HoldsTree, HoldsExpression, weight, most_added};
 ghost use Rattle.plural_rule.specs.Grammar.{Spelt};
 ghost use Rattle.plural_rule.specs.PluralRule.{expression_limit};
 
+use crate::instruction::Instruction;
 use crate::lexer;
-use crate::node::Node;
 use crate::operator::Operator;
-use crate::parts::{Parts, Pending, Room};
+use crate::parts::{
+    Parts, Pending, Room, begin, complete, push, push_branch, push_numeral, skip_operand,
+};
 use crate::token::Token;
 
-impl Pending {
-    /// The node that the operand at index `last` completes, where an operator of level `next_level`
-    /// follows it.
-    fn completed(self, next_level: u8, last: u16) -> Option<Node>
-        ensures { result ≡ completed_node next_level self last }
-    {
-        match self {
-            Pending::Not => Some(Node::not(last)),
-            Pending::Binary(operator, left) if next_level <= operator.level() => {
-                Some(Node::binary(operator, left, last))
-            }
-            Pending::Colon(condition, yes) if next_level == 0 => {
-                Some(Node::conditional(condition, yes, last))
-            }
-            _ => None,
-        }
-    }
-}
-
-/// The index of the last node.
-fn last_index(parts: &Parts) -> u16
-    requires some { 0 < parts.now.complete }
-    requires limit { parts.now.complete ≤ expression_limit }
-    ensures { result ≡ parts.now.complete - 1 }
-{
-    (parts.complete - 1) as u16
-}
+/// The most bytes of a text that is read with the smaller stack: the larger one takes longer to set up.
+const SHORT: usize = 240;
 
 /// Completes what waits for the last operand and binds at least as tight as `next_level`.
-fn reduce(room: &mut Room, parts: &mut Parts, next_level: u8)
-    requires some { 0 < parts.old.complete }
-    requires room { parts.old.complete + parts.old.waiting ≤ expression_limit }
+fn reduce<const N: usize>(room: &mut Room, len: &mut usize, parts: &mut Parts<N>, next_level: u8)
+    requires count { array_vec_len parts.old.waiting ≤ N }
+    requires weight { len.old + weight parts.old.waiting.items ≤ expression_limit }
     ensures reduced { (waiting : List Waiting) (tree : Tree) →
-        IsOperand (complete_in parts.old room.old) (waiting_in parts.old room.old) waiting tree →
-        IsOperand (complete_in parts.new room.new) (waiting_in parts.new room.new)
+        IsOperand (held (take len.old room.old) parts.old) waiting tree →
+        IsOperand (held (take len.new room.new) parts.new)
         (reduce next_level waiting tree).stack (reduce next_level waiting tree).tree }
-    ensures some { 0 < parts.new.complete }
-    ensures size { parts.new.complete + parts.new.waiting
-        ≡ parts.old.complete + parts.old.waiting }
+    ensures weight { len.new + weight parts.new.waiting.items
+        ≤ len.old + weight parts.old.waiting.items }
+    ensures count { array_vec_len parts.new.waiting ≤ array_vec_len parts.old.waiting }
 {
-    while let Some(top) = parts.pop_waiting(room) {
-        let last = last_index(parts);
-        match top.completed(next_level, last) {
-            Some(node) => parts.push(room, node),
-            None => {
-                parts.push_waiting(room, top);
-                return;
-            }
+    while let Some(top) = parts.pop() {
+        if !top.binds(next_level) {
+            parts.push(top);
+            return;
         }
+        parts.start = complete(room, len, parts.start, top);
     }
 }
 
 /// Reads a token where an operand may begin: whether an operand is complete after it, or `None`
 /// where it can't stand here.
-fn take_operand(room: &mut Room, parts: &mut Parts, token: Token) -> Option<bool>
-    requires room { parts.old.complete + parts.old.waiting < expression_limit }
+fn take_operand<const N: usize>(
+    room: &mut Room,
+    len: &mut usize,
+    parts: &mut Parts<N>,
+    token: Token,
+) -> Option<bool>
+    requires weight { len.old + weight parts.old.waiting.items + most_added token ≤ expression_limit }
+    requires count { array_vec_len parts.old.waiting < N }
     ensures step { (waiting : List Waiting) →
-        IsWaiting (complete_in parts.old room.old) (waiting_in parts.old room.old) waiting →
-        Answers (want_step waiting token) result (complete_in parts.new room.new) (waiting_in parts.new room.new) }
-    ensures some { result ≡ Some true → 0 < parts.new.complete }
-    ensures size { parts.new.complete + parts.new.waiting
-        ≤ parts.old.complete + parts.old.waiting + 1 }
+        IsWaiting (held (take len.old room.old) parts.old) waiting →
+        Answers (want_step waiting token) result (held (take len.new room.new) parts.new) }
+    ensures weight { OnSome result (len.new + weight parts.new.waiting.items
+        ≤ len.old + weight parts.old.waiting.items + most_added token) }
+    ensures count { OnSome result (array_vec_len parts.new.waiting ≤ array_vec_len parts.old.waiting + 1) }
 {
     match token {
         Token::Count => {
-            parts.push(room, Node::COUNT);
+            parts.start = *len as u16;
+            push(room, len, Instruction::COUNT);
             Some(true)
         }
         Token::Number(number) => {
-            parts.push(room, Node::numeral(number));
+            parts.start = *len as u16;
+            push_numeral(room, len, number);
             Some(true)
         }
         Token::Not => {
-            parts.push_waiting(room, Pending::Not);
+            parts.push(Pending::Not);
             Some(false)
         }
         Token::Open => {
-            parts.push_waiting(room, Pending::Open);
+            parts.push(Pending::Open);
             Some(false)
         }
         _ => None,
     }
 }
 
+/// Goes on with an operator after a complete operand.
+fn wait_binary<const N: usize>(
+    room: &mut Room,
+    len: &mut usize,
+    parts: &mut Parts<N>,
+    operator: Operator,
+)
+    requires weight { len.old + weight parts.old.waiting.items + most_added (BinaryToken operator) ≤ expression_limit }
+    requires count { array_vec_len parts.old.waiting < N }
+    ensures step { (waiting : List Waiting) (tree : Tree) →
+        IsOperand (held (take len.old room.old) parts.old) waiting tree →
+        IsWaiting (held (take len.new room.new) parts.new) (WaitBinary operator tree ∷ waiting) }
+    ensures weight { len.new + weight parts.new.waiting.items
+        ≤ len.old + weight parts.old.waiting.items + most_added (BinaryToken operator) }
+    ensures count { array_vec_len parts.new.waiting ≤ array_vec_len parts.old.waiting + 1 }
+{
+    begin(room, *len, parts.start);
+    push_branch(room, len, operator);
+    parts.push(Pending::Binary(operator, parts.start));
+}
+
+/// Goes on with `?` after a condition.
+fn wait_question<const N: usize>(room: &mut Room, len: &mut usize, parts: &mut Parts<N>)
+    requires weight { len.old + weight parts.old.waiting.items < expression_limit }
+    requires count { array_vec_len parts.old.waiting < N }
+    ensures step { (waiting : List Waiting) (tree : Tree) →
+        IsOperand (held (take len.old room.old) parts.old) waiting tree →
+        IsWaiting (held (take len.new room.new) parts.new) (WaitQuestion tree ∷ waiting) }
+    ensures weight { len.new + weight parts.new.waiting.items
+        ≤ len.old + weight parts.old.waiting.items + 1 }
+    ensures count { array_vec_len parts.new.waiting ≤ array_vec_len parts.old.waiting + 1 }
+{
+    begin(room, *len, parts.start);
+    push(room, len, Instruction::choose());
+    parts.push(Pending::Question(parts.start));
+}
+
+/// Goes on with `:` after the second operand, or says that no `?` waits for it.
+fn wait_colon<const N: usize>(room: &mut Room, len: &mut usize, parts: &mut Parts<N>) -> bool
+    requires count { array_vec_len parts.old.waiting ≤ N }
+    requires weight { len.old + weight parts.old.waiting.items < expression_limit }
+    ensures step { (waiting : List Waiting) (tree : Tree) →
+        IsOperand (held (take len.old room.old) parts.old) waiting tree →
+        MatchBool result (Answers (at_colon waiting tree) (Some false) (held (take len.new room.new) parts.new))
+        (at_colon waiting tree ≡ None) }
+    ensures weight { len.new + weight parts.new.waiting.items
+        ≤ len.old + weight parts.old.waiting.items + 1 }
+    ensures count { array_vec_len parts.new.waiting ≤ array_vec_len parts.old.waiting }
+{
+    let Some(Pending::Question(first)) = parts.pop() else {
+        return false;
+    };
+    skip_operand(room, *len, parts.start, 1);
+    push(room, len, Instruction::jump());
+    parts.push(Pending::Colon(first));
+    true
+}
+
 /// Reads a token after a complete operand: whether one is complete after the token too, or `None`
 /// where it can't stand here.
-fn take_operator(room: &mut Room, parts: &mut Parts, token: Token) -> Option<bool>
-    requires some { 0 < parts.old.complete }
-    requires room { parts.old.complete + parts.old.waiting < expression_limit }
+fn take_operator<const N: usize>(
+    room: &mut Room,
+    len: &mut usize,
+    parts: &mut Parts<N>,
+    token: Token,
+) -> Option<bool>
+    requires weight { len.old + weight parts.old.waiting.items + most_added token ≤ expression_limit }
+    requires count { array_vec_len parts.old.waiting < N }
     ensures step { (waiting : List Waiting) (tree : Tree) →
-        IsOperand (complete_in parts.old room.old) (waiting_in parts.old room.old) waiting tree →
-        Answers (have_step waiting tree token) result (complete_in parts.new room.new) (waiting_in parts.new room.new) }
-    ensures some { 0 < parts.new.complete }
-    ensures size { parts.new.complete + parts.new.waiting
-        ≤ parts.old.complete + parts.old.waiting + 1 }
+        IsOperand (held (take len.old room.old) parts.old) waiting tree →
+        Answers (have_step waiting tree token) result (held (take len.new room.new) parts.new) }
+    ensures weight { OnSome result (len.new + weight parts.new.waiting.items
+        ≤ len.old + weight parts.old.waiting.items + most_added token) }
+    ensures count { OnSome result (array_vec_len parts.new.waiting ≤ array_vec_len parts.old.waiting + 1) }
 {
     match token {
         Token::Binary(operator) => {
-            reduce(room, parts, operator.level());
-            let last = last_index(parts);
-            parts.push_waiting(room, Pending::Binary(operator, last));
+            reduce(room, len, parts, operator.level());
+            wait_binary(room, len, parts, operator);
             Some(false)
         }
         Token::Question => {
             // `?:` groups to the right, so what waits after a `:` isn't completed here.
-            reduce(room, parts, 1);
-            let last = last_index(parts);
-            parts.push_waiting(room, Pending::Question(last));
+            reduce(room, len, parts, 1);
+            wait_question(room, len, parts);
             Some(false)
         }
         Token::Colon => {
-            reduce(room, parts, 0);
-            let last = last_index(parts);
-            let Some(Pending::Question(condition)) = parts.pop_waiting(room) else {
+            reduce(room, len, parts, 0);
+            if !wait_colon(room, len, parts) {
                 return None;
-            };
-            parts.push_waiting(room, Pending::Colon(condition, last));
+            }
             Some(false)
         }
         Token::Close => {
-            reduce(room, parts, 0);
-            let Some(Pending::Open) = parts.pop_waiting(room) else {
+            reduce(room, len, parts, 0);
+            let Some(Pending::Open) = parts.pop() else {
                 return None;
             };
             Some(true)
@@ -162,63 +204,86 @@ fn take_operator(room: &mut Room, parts: &mut Parts, token: Token) -> Option<boo
 
 /// Reads a token: whether an operand is complete after it, or `None` where the token can't stand
 /// here.
-fn take(room: &mut Room, parts: &mut Parts, complete: bool, token: Token) -> Option<bool>
-    requires some { complete ≡ true → 0 < parts.old.complete }
-    requires room { parts.old.complete + parts.old.waiting < expression_limit }
+fn take<const N: usize>(
+    room: &mut Room,
+    len: &mut usize,
+    parts: &mut Parts<N>,
+    complete: bool,
+    token: Token,
+) -> Option<bool>
+    requires weight { len.old + weight parts.old.waiting.items + most_added token ≤ expression_limit }
+    requires count { array_vec_len parts.old.waiting < N }
     ensures step { (state : State) →
-        Represents (complete_in parts.old room.old) (waiting_in parts.old room.old) complete state →
-        Answers (step state token) result (complete_in parts.new room.new) (waiting_in parts.new room.new) }
-    ensures some { result ≡ Some true → 0 < parts.new.complete }
-    ensures size { parts.new.complete + parts.new.waiting
-        ≤ parts.old.complete + parts.old.waiting + 1 }
+        Represents (held (take len.old room.old) parts.old) complete state →
+        Answers (step state token) result (held (take len.new room.new) parts.new) }
+    ensures weight { OnSome result (len.new + weight parts.new.waiting.items
+        ≤ len.old + weight parts.old.waiting.items + most_added token) }
+    ensures count { OnSome result (array_vec_len parts.new.waiting ≤ array_vec_len parts.old.waiting + 1) }
 {
     if complete {
-        take_operator(room, parts, token)
+        take_operator(room, len, parts, token)
     } else {
-        take_operand(room, parts, token)
+        take_operand(room, len, parts, token)
     }
 }
 
-/// Whether the tokens end with a whole expression, whose nodes then are the only ones.
-fn finish(room: &mut Room, parts: &mut Parts, complete: bool) -> bool
-    requires some { complete ≡ true → 0 < parts.old.complete }
-    requires room { parts.old.complete + parts.old.waiting ≤ expression_limit }
+/// Whether the tokens end with a whole expression, whose instructions then are the only ones.
+fn finish<const N: usize>(
+    room: &mut Room,
+    len: &mut usize,
+    parts: &mut Parts<N>,
+    complete: bool,
+) -> bool
+    requires count { array_vec_len parts.old.waiting ≤ N }
+    requires weight { len.old + weight parts.old.waiting.items ≤ expression_limit }
     ensures tree { (state : State) →
-        Represents (complete_in parts.old room.old) (waiting_in parts.old room.old) complete state →
-        MatchBool result (HoldsTree (finish state) (complete_in parts.new room.new)) (finish state ≡ None) }
-    ensures within { parts.new.complete ≤ expression_limit }
+        Represents (held (take len.old room.old) parts.old) complete state →
+        MatchBool result (HoldsTree (finish state) (take len.new room.new)) (finish state ≡ None) }
+    ensures limit { len.new ≤ expression_limit }
 {
     if !complete {
         return false;
     }
-    reduce(room, parts, 0);
-    parts.waiting == 0
+    reduce(room, len, parts, 0);
+    parts.waiting.is_empty()
 }
 
-/// Writes the nodes of the expression that a text spells to the beginning of `room`, and says how
-/// many they are, or `None` where the text spells none.
-pub(crate) fn parse(text: &[u8], room: &mut Room) -> Option<usize>
+/// Whether a text spells an expression, whose program is then the first `len` instructions of `room`.
+pub(crate) fn parse(text: &[u8], room: &mut Room, len: &mut usize) -> bool
     requires { length text.now ≤ expression_limit }
-    ensures expression { MatchOption result ((tree : Tree) → Spelt tree text.now → ⊥)
-        (λ count. HoldsExpression text.now (take count room.new)) }
-    ensures within { IfSome result (λ count. count ≤ expression_limit) }
+    ensures expression { MatchBool result (HoldsExpression text.now (take len.new room.new))
+        ((tree : Tree) → Spelt tree text.now → ⊥) }
+    ensures limit { result ≡ true → len.new ≤ expression_limit }
 {
-    let mut parts = Parts::new();
+    if text.len() <= SHORT {
+        parse_within::<240>(text, room, len)
+    } else {
+        parse_within::<4096>(text, room, len)
+    }
+}
+
+/// The same with room for `N` operators that wait.
+#[inline(never)]
+fn parse_within<const N: usize>(text: &[u8], room: &mut Room, len: &mut usize) -> bool
+    requires room { length text.now ≤ N }
+    requires limit { N ≤ expression_limit }
+    ensures expression { MatchBool result (HoldsExpression text.now (take len.new room.new))
+        ((tree : Tree) → Spelt tree text.now → ⊥) }
+    ensures limit { result ≡ true → len.new ≤ expression_limit }
+{
+    *len = 0;
+    let mut parts: Parts<N> = Parts::new();
     let mut complete = false;
     let mut rest = lexer::without_blanks(text);
     while !rest.is_empty() {
-        let Some((token, len)) = lexer::token(rest) else {
-            return None;
+        let Some((token, token_len)) = lexer::token(rest) else {
+            return false;
         };
-        let Some(taken) = take(room, &mut parts, complete, token) else {
-            return None;
+        let Some(taken) = take(room, len, &mut parts, complete, token) else {
+            return false;
         };
         complete = taken;
-        rest = lexer::without_blanks(&rest[len..]);
+        rest = lexer::without_blanks(&rest[token_len..]);
     }
-    if finish(room, &mut parts, complete) {
-        Some(parts.complete)
-    } else {
-        None
-    }
+    finish(room, len, &mut parts, complete)
 }

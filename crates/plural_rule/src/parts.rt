@@ -1,132 +1,192 @@
-//! The memory of the caller in which the parser works.
-//!
-//! The nodes of complete operands stand at its beginning, where they stay, and what waits for an
-//! operand stands at its end, the newest first. Each byte of a text adds one of them at most, so
-//! they never meet.
-ghost use Rattle.std.specs.Prelude.{◌≡◌, ◌+◌, ◌<◌, ◌≤◌, ◌↔◌, ◌++◌, [], ◌∷◌, option_to_list, IsSome, OnSome, IfNone};
-ghost use Rattle.plural_rule.specs.Parts.{complete_in, waiting_in, waiting_node, pending_of};
+//! What the parser holds: the instructions so far, and what waits for an operand.
+ghost use Rattle.std.specs.Prelude.{◌≡◌, ◌+◌, ◌-◌, ◌<◌, ◌≤◌, [], ◌∷◌, ◌++◌, length, take, MatchOption, IfSome, IfNone, OnSome};
+ghost use Rattle.arrayvec.specs.ArrayVec.{array_vec_len};
+ghost use Rattle.plural_rule.specs.ParserState.{begun, skipping, binds, completed_program, first_of, weight_of, weight};
 ghost use Rattle.plural_rule.specs.PluralRule.{expression_limit};
+ghost use Rattle.plural_rule.specs.Program.{numeral_program, branch_program};
 
-use crate::node::Node;
+use crate::instruction::Instruction;
 use crate::operator::Operator;
 use crate::rule::EXPRESSION_LIMIT;
+use arrayvec::ArrayVec;
 
-/// What waits for its last operand, with the indices of the operands before it.
+/// The memory of the caller, whose first instructions are the program.
+pub(crate) type Room = [Instruction; EXPRESSION_LIMIT];
+
+/// What waits for its last operand, with the index at which its instructions begin.
 #[derive(Clone, Copy, Drop)]
 pub(crate) enum Pending {
-    /// `!`
-    Not,
     /// `(`
     Open,
+    /// `!`
+    Not,
     /// `a` and an operator
     Binary(Operator, u16),
     /// `a ?`
     Question(u16),
     /// `a ? b :`
-    Colon(u16, u16),
+    Colon(u16),
+}
+
+impl Default for Pending {
+    fn default() -> Pending {
+        Pending::Open
+    }
 }
 
 impl Pending {
-    /// It as a node: the one that it becomes, without the last operand, or one of a kind of its own.
-    fn node(self) -> Node
-        ensures { result ≡ waiting_node self }
+    /// Whether an operand completes it, where an operator of level `next_level` follows.
+    pub(crate) fn binds(self, next_level: u8) -> bool
+        ensures { result ≡ binds next_level self }
     {
         match self {
-            Pending::Not => Node::not(0),
-            Pending::Binary(operator, left) => Node::binary(operator, left, 0),
-            Pending::Colon(condition, yes) => Node::conditional(condition, yes, 0),
-            Pending::Question(condition) => Node {
-                kind: 5,
-                first: condition,
-                ..Node::COUNT
-            },
-            Pending::Open => Node {
-                kind: 6,
-                ..Node::COUNT
-            },
-        }
-    }
-
-    /// What a node stands for.
-    fn of_node(node: Node) -> Pending
-        ensures { result ≡ pending_of node }
-    {
-        match node.kind {
-            2 => Pending::Not,
-            3 => Pending::Binary(Operator::of_code(node.operator), node.first),
-            4 => Pending::Colon(node.first, node.second),
-            5 => Pending::Question(node.first),
-            _ => Pending::Open,
+            Pending::Not => true,
+            Pending::Binary(operator, _) => next_level <= operator.level(),
+            Pending::Colon(_) => next_level == 0,
+            Pending::Open | Pending::Question(_) => false,
         }
     }
 }
 
-/// The memory of the caller.
-pub(crate) type Room = [Node; EXPRESSION_LIMIT];
-
-/// How much of it is in use.
-#[derive(Clone, Copy, Drop)]
-pub(crate) struct Parts {
-    /// How many nodes of complete operands stand at the beginning.
-    pub(crate) complete: usize,
-    /// How much waits at the end.
-    pub(crate) waiting: usize,
+/// What waits, `N` at most and the newest last, and where the last complete operand begins.
+#[derive(Drop)]
+pub(crate) struct Parts<const N: usize> {
+    pub(crate) waiting: ArrayVec<Pending, N>,
+    pub(crate) start: u16,
 }
 
-impl Parts {
-    /// Nothing is in use.
-    pub(crate) fn new() -> Parts
-        ensures complete { result.complete ≡ 0 }
-        ensures waiting { result.waiting ≡ 0 }
+impl<const N: usize> Parts<N> {
+    /// Nothing waits.
+    pub(crate) fn new() -> Self
+        requires { N ≤ expression_limit }
+        ensures waiting { result.waiting.items ≡ [] }
+        ensures start { result.start ≡ 0 }
     {
         Parts {
-            complete: 0,
-            waiting: 0,
+            waiting: ArrayVec::new(),
+            start: 0,
         }
-    }
-
-    /// Adds a node.
-    #[inline(always)]
-    pub(crate) fn push(&mut self, room: &mut Room, node: Node)
-        requires { self.old.complete + self.old.waiting < expression_limit }
-        ensures complete { complete_in self.new room.new ≡ complete_in self.old room.old ++ node ∷ [] }
-        ensures waiting { waiting_in self.new room.new ≡ waiting_in self.old room.old }
-        ensures count { self.new.complete ≡ self.old.complete + 1 }
-        ensures waiting_count { self.new.waiting ≡ self.old.waiting }
-    {
-        room[self.complete] = node;
-        self.complete += 1;
     }
 
     /// Adds to what waits.
-    #[inline(always)]
-    pub(crate) fn push_waiting(&mut self, room: &mut Room, pending: Pending)
-        requires { self.old.complete + self.old.waiting < expression_limit }
-        ensures complete { complete_in self.new room.new ≡ complete_in self.old room.old }
-        ensures waiting { waiting_in self.new room.new ≡ waiting_in self.old room.old ++ pending ∷ [] }
-        ensures count { self.new.complete ≡ self.old.complete }
-        ensures waiting_count { self.new.waiting ≡ self.old.waiting + 1 }
+    pub(crate) fn push(&mut self, pending: Pending)
+        requires { array_vec_len self.old.waiting < N }
+        ensures items { self.new.waiting.items ≡ self.old.waiting.items ++ pending ∷ [] }
+        ensures weight { weight self.new.waiting.items ≡ weight self.old.waiting.items + weight_of pending }
+        ensures count { array_vec_len self.new.waiting ≡ array_vec_len self.old.waiting + 1 }
+        ensures start { self.new.start ≡ self.old.start }
     {
-        self.waiting += 1;
-        room[EXPRESSION_LIMIT - self.waiting] = pending.node();
+        self.waiting.push(pending);
     }
 
     /// Takes the newest of what waits.
-    #[inline(always)]
-    pub(crate) fn pop_waiting(&mut self, room: &Room) -> Option<Pending>
-        requires { self.old.waiting ≤ expression_limit }
-        ensures complete { complete_in self.new room.now ≡ complete_in self.old room.now }
-        ensures waiting { waiting_in self.old room.now ≡ waiting_in self.new room.now ++ option_to_list result }
-        ensures variant { IsSome result ↔ (0 < self.old.waiting) }
-        ensures count { self.new.complete ≡ self.old.complete }
-        ensures waiting_count { OnSome result (self.new.waiting + 1 ≡ self.old.waiting) }
+    pub(crate) fn pop(&mut self) -> Option<Pending>
+        ensures items { MatchOption result (self.old.waiting.items ≡ [])
+            (λ top. self.old.waiting.items ≡ self.new.waiting.items ++ top ∷ []) }
+        ensures weight { IfSome result (λ top. weight self.old.waiting.items ≡ weight self.new.waiting.items + weight_of top) }
+        ensures count { OnSome result (array_vec_len self.old.waiting ≡ array_vec_len self.new.waiting + 1) }
         ensures none { IfNone result (self.new ≡ self.old) }
+        ensures start { self.new.start ≡ self.old.start }
     {
-        if self.waiting == 0 {
-            return None;
+        self.waiting.pop()
+    }
+}
+
+/// Adds an instruction to a program of `len` instructions.
+#[inline(always)]
+pub(crate) fn push(room: &mut Room, len: &mut usize, instruction: Instruction)
+    requires { len.old < expression_limit }
+    ensures items { take len.new room.new ≡ take len.old room.old ++ instruction ∷ [] }
+    ensures len { len.new ≡ len.old + 1 }
+{
+    room[*len] = instruction;
+    *len += 1;
+}
+
+/// Adds the instruction between the operands of `||` or `&&`.
+pub(crate) fn push_branch(room: &mut Room, len: &mut usize, operator: Operator)
+    requires { len.old + length (branch_program operator 0) ≤ expression_limit }
+    ensures items { take len.new room.new ≡ take len.old room.old ++ branch_program operator 0 }
+    ensures len { len.new ≡ len.old + length (branch_program operator 0) }
+{
+    if operator.is_lazy() {
+        push(room, len, Instruction::branch(operator));
+    }
+}
+
+/// Counts one more node that begins with the instruction at an index.
+pub(crate) fn begin(room: &mut Room, len: usize, index: u16)
+    requires { len ≤ expression_limit }
+    ensures { take len room.new ≡ begun index (take len room.old) }
+{
+    if (index as usize) < len {
+        let mut instruction = room[index as usize];
+        instruction.count = instruction.count.wrapping_add(1);
+        room[index as usize] = instruction;
+    }
+}
+
+/// Sets how many instructions the one at an index skips.
+fn set_skip(room: &mut Room, len: usize, index: u16, skip: u16)
+    requires { len ≤ expression_limit }
+    ensures { take len room.new ≡ skipping index skip (take len room.old) }
+{
+    if (index as usize) < len {
+        let mut instruction = room[index as usize];
+        instruction.count = skip;
+        room[index as usize] = instruction;
+    }
+}
+
+/// Lets the instruction before the last operand, which begins at `start`, skip it and `more` others.
+pub(crate) fn skip_operand(room: &mut Room, len: usize, start: u16, more: u16)
+    requires len { len ≤ expression_limit }
+    requires more { more ≤ 1 }
+    ensures { take len room.new ≡ skipping (start - 1) (length (take len room.old) - start + more) (take len room.old) }
+{
+    let skip = (len as u16).saturating_sub(start) + more;
+    set_skip(room, len, start.saturating_sub(1), skip);
+}
+
+/// Adds a numeral.
+pub(crate) fn push_numeral(room: &mut Room, len: &mut usize, value: u64)
+    requires { len.old + length (numeral_program 1 value) ≤ expression_limit }
+    ensures items { take len.new room.new ≡ take len.old room.old ++ numeral_program 1 value }
+    ensures len { len.new ≡ len.old + length (numeral_program 1 value) }
+{
+    if value < 4294967296 {
+        push(room, len, Instruction::number(value as u32));
+    } else {
+        push(room, len, Instruction::wide((value / 4294967296) as u32));
+        push(room, len, Instruction::low((value % 4294967296) as u32));
+    }
+}
+
+/// Completes what waits for the last operand, which begins at `start`: where the new one begins.
+pub(crate) fn complete(room: &mut Room, len: &mut usize, start: u16, top: Pending) -> u16
+    requires { len.old + weight_of top ≤ expression_limit }
+    ensures items { take len.new room.new ≡ completed_program top start (take len.old room.old) }
+    ensures start { result ≡ first_of top start }
+    ensures len { len.new ≤ len.old + weight_of top }
+{
+    match top {
+        Pending::Not => {
+            begin(room, *len, start);
+            push(room, len, Instruction::NOT);
+            start
         }
-        let pending = Pending::of_node(room[EXPRESSION_LIMIT - self.waiting]);
-        self.waiting -= 1;
-        Some(pending)
+        Pending::Binary(operator, first) => {
+            if operator.is_lazy() {
+                skip_operand(room, *len, start, 1);
+            }
+            push(room, len, Instruction::binary(operator));
+            first
+        }
+        Pending::Colon(first) => {
+            skip_operand(room, *len, start, 0);
+            first
+        }
+        Pending::Question(first) => first,
+        Pending::Open => start,
     }
 }

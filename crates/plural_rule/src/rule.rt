@@ -1,14 +1,16 @@
 //! The rule of a header text.
-ghost use Rattle.std.specs.Prelude.{◌≡◌, ◌≤◌, length, take, IfOk, MatchResult};
+ghost use Rattle.std.specs.Prelude.{◌≡◌, ◌≤◌, length, take, OnOk, MatchResult};
 ghost use Rattle.plural_rule.specs.Expression.{value, visited, nodes};
-ghost use Rattle.plural_rule.specs.PluralRule.{IsRuleOf, IsReason, default_tree, expression_limit, nodes_in, rule_in};
-ghost use Rattle.plural_rule.specs.PostOrder.{post_order, tree_of};
+ghost use Rattle.plural_rule.specs.PluralRule.{IsRuleOf, IsReason, default_tree, expression_limit, rule_in, program_in};
+ghost use Rattle.plural_rule.specs.Program.{program as program_of, tree_of};
 ghost use Rattle.plural_rule.specs.ParserState.{HoldsRule};
 
 use crate::evaluator::evaluate;
-use crate::node::Node;
+use crate::instruction::Instruction;
 use crate::operator::Operator;
+use crate::parts::Room;
 use crate::{header, lexer, parser};
+use arrayvec::ArrayVec;
 use std::marker::Model;
 
 /// The most bytes that an expression may have, and so the most nodes.
@@ -40,45 +42,39 @@ pub enum Reason {
 
 /// A plural rule: the number of plural forms, and the expression that chooses one for a count.
 ///
-/// It allocates nothing: its nodes are part of the value, which has about 41 KB, so pass it by
-/// reference. See the GNU gettext manual, "Plural forms".
+/// It allocates nothing: the program of the expression is part of the value, which has about 33 KB,
+/// so pass it by reference. See the GNU gettext manual, "Plural forms".
 #[derive(Drop)]
 pub struct Rule {
     source: Source,
     nplurals: u64,
-    node_count: u32,
-    nodes: [Node; EXPRESSION_LIMIT],
+    program: ArrayVec<Instruction, EXPRESSION_LIMIT>,
 }
 
-/// A plural rule whose nodes stand in memory of the caller.
+/// A plural rule whose program stands in memory of the caller.
 #[derive(Clone, Copy, Debug, PartialEq, Eq, Drop)]
 pub struct ParsedRule {
     /// Where the rule comes from.
     pub source: Source,
     /// The number of plural forms.
     pub nplurals: u64,
-    /// How many nodes the expression has.
-    pub node_count: u32,
+    /// How many instructions the program has.
+    pub instruction_count: u32,
 }
 
 impl Model for Rule {
-    ghost use Rattle.std.specs.Prelude.{◌≡◌, ◌≤◌, take};
+    ghost use Rattle.std.specs.Prelude.{◌≡◌};
     ghost use Rattle.std.specs.Coded.{codes};
-    ghost use Rattle.plural_rule.specs.PluralRule.{RuleView, expression_limit};
-    ghost use Rattle.plural_rule.specs.PostOrder.{post_order, tree_of, tree_code};
+    ghost use Rattle.plural_rule.specs.PluralRule.{RuleView};
+    ghost use Rattle.plural_rule.specs.Program.{program as program_of, tree_of, tree_code};
 
     ghost Value = { RuleView };
 
     ghost coded = { Prim.hlevel (codes, tree_code (Prim.hlevel codes)) };
 
-    ghost view = { λ r. record {
-      source = r.source;
-      nplurals = r.nplurals;
-      tree = tree_of (take r.node_count r.nodes);
-    } };
+    ghost view = { λ r. record { source = r.source; nplurals = r.nplurals; tree = tree_of r.program.items } };
 
-    ghost invariant = { λ r. (take r.node_count r.nodes ≡ post_order 0 (tree_of (take r.node_count r.nodes)))
-        × (r.node_count ≤ expression_limit) };
+    ghost invariant = { λ r. r.program.items ≡ program_of 0 (tree_of r.program.items) };
 }
 
 impl Rule {
@@ -91,36 +87,37 @@ impl Rule {
     pub fn parse(header: &[u8]) -> Rule
         ensures { IsRuleOf expression_limit header.now result }
     {
-        let mut nodes = [Node::COUNT; EXPRESSION_LIMIT];
-        let parsed = Rule::parse_into(header, &mut nodes);
+        let mut room = [Instruction::COUNT; EXPRESSION_LIMIT];
+        let parsed = Rule::parse_into(header, &mut room);
+        let mut program = ArrayVec::from(room);
+        program.truncate(parsed.instruction_count as usize);
         Rule {
             source: parsed.source,
             nplurals: parsed.nplurals,
-            node_count: parsed.node_count,
-            nodes,
+            program,
         }
     }
 
-    /// The same with the nodes at the beginning of `room`, as [`evaluate`] takes them. What stands
-    /// after them is overwritten too.
+    /// The same with the program at the beginning of `room`, as [`evaluate`] takes it.
     #[inline(never)]
-    pub fn parse_into(header: &[u8], room: &mut [Node; EXPRESSION_LIMIT]) -> ParsedRule
+    pub fn parse_into(header: &[u8], room: &mut [Instruction; EXPRESSION_LIMIT]) -> ParsedRule
         ensures rule { IsRuleOf expression_limit header.now (rule_in result room.new) }
-        ensures post_order { nodes_in result room.new ≡ post_order 0 (rule_in result room.new).tree }
-        ensures limit { result.node_count ≤ expression_limit }
+        ensures program { program_in result room.new ≡ program_of 0 (rule_in result room.new).tree }
+        ensures limit { result.instruction_count ≤ expression_limit }
     {
-        match read(header, room) {
-            Ok((nplurals, node_count)) => ParsedRule {
+        let mut len = 0;
+        match read(header, room, &mut len) {
+            Ok(nplurals) => ParsedRule {
                 source: Source::Header,
                 nplurals,
-                node_count: node_count as u32,
+                instruction_count: len as u32,
             },
             Err(reason) => {
                 write_default(room);
                 ParsedRule {
                     source: Source::Default(reason),
                     nplurals: 2,
-                    node_count: 3,
+                    instruction_count: 3,
                 }
             }
         }
@@ -146,7 +143,7 @@ impl Rule {
         ensures limit { result ≤ expression_limit }
         ensures some { 1 ≤ result }
     {
-        self.table().len() as u32
+        node_count(self.program())
     }
 
     /// The value of the expression at a count, or `None` where it divides by 0, and how many nodes
@@ -156,27 +153,39 @@ impl Rule {
         ensures steps { result.1 ≡ visited self.now.tree count }
         ensures bound { result.1 ≤ nodes self.now.tree }
     {
-        evaluate(self.table(), count)
+        evaluate(self.program(), count)
     }
 
-    /// The nodes of the expression, as [`evaluate`] takes them: each one after its operands, so the
-    /// node of the whole expression is last.
-    pub fn table(&self) -> &[Node]
-        ensures post_order { result.now ≡ post_order 0 self.now.tree }
+    /// The program of the expression, as [`evaluate`] takes it.
+    pub fn program(&self) -> &[Instruction]
+        ensures program { result.now ≡ program_of 0 self.now.tree }
         ensures tree { tree_of result.now ≡ self.now.tree }
         ensures limit { length result.now ≤ expression_limit }
     {
-        &self.nodes[..self.node_count as usize]
+        self.program.as_slice()
     }
 }
 
-/// Reads the number of plural forms of a header, and its expression to the beginning of `room`: the
-/// number, and how many nodes the expression has.
-fn read(header: &[u8], room: &mut [Node; EXPRESSION_LIMIT]) -> Result<(u64, usize), Reason>
+/// How many nodes the expression of a program has.
+fn node_count(instructions: &[Instruction]) -> u32
+    requires program { instructions.now ≡ program_of 0 (tree_of instructions.now) }
+    requires limit { length instructions.now ≤ expression_limit }
+    ensures { result ≡ nodes (tree_of instructions.now) }
+{
+    let mut count = 0;
+    for instruction in instructions {
+        count += instruction.begins() as u32;
+    }
+    count
+}
+
+/// Reads the number of plural forms of a header, and the program of its expression to the first
+/// `len` instructions of `room`.
+fn read(header: &[u8], room: &mut Room, len: &mut usize) -> Result<u64, Reason>
     ensures rule { MatchResult result
-        (λ read. HoldsRule expression_limit header.now read.0 (take read.1 room.new))
+        (λ nplurals. HoldsRule expression_limit header.now nplurals (take len.new room.new))
         (λ reason. IsReason expression_limit header.now reason) }
-    ensures limit { IfOk result (λ read. read.1 ≤ expression_limit) }
+    ensures limit { OnOk result (len.new ≤ expression_limit) }
 {
     let digits = header::nplurals_digits(header).ok_or(Reason::NoNumber)?;
     let text = header::expression(header).ok_or(Reason::NoExpression)?;
@@ -184,17 +193,21 @@ fn read(header: &[u8], room: &mut [Node; EXPRESSION_LIMIT]) -> Result<(u64, usiz
         return Err(Reason::TooLong);
     }
     let nplurals = lexer::decimal_value(digits).ok_or(Reason::Unreadable)?;
-    match parser::parse(text, room) {
-        Some(node_count) => Ok((nplurals, node_count)),
-        None => Err(Reason::Unreadable),
+    if parser::parse(text, room, len) {
+        Ok(nplurals)
+    } else {
+        Err(Reason::Unreadable)
     }
 }
 
-/// Writes the three nodes of `n != 1`.
-fn write_default(room: &mut [Node; EXPRESSION_LIMIT])
-    ensures { take 3 room.new ≡ post_order 0 default_tree }
+/// Writes the program of `n != 1`.
+fn write_default(room: &mut Room)
+    ensures { take 3 room.new ≡ program_of 0 default_tree }
 {
-    room[0] = Node::COUNT;
-    room[1] = Node::numeral(1);
-    room[2] = Node::binary(Operator::NotEqual, 0, 1);
+    room[0] = Instruction {
+        count: 2,
+        ..Instruction::COUNT
+    };
+    room[1] = Instruction::number(1);
+    room[2] = Instruction::binary(Operator::NotEqual);
 }

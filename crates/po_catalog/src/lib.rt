@@ -1,24 +1,19 @@
-//! Catalogues of PO entries: their duplicates, their statistics, and the list that several of them
-//! join to (GNU gettext manual, "The Format of PO Files" and "Invoking the msgfmt Program").
+//! Catalogues of PO entries under one name: the types, the reader, the writer, duplicates, the
+//! joined list and statistics, each re-exported from the crate that has it (GNU gettext manual, "The
+//! Format of PO Files" and "Invoking the msgfmt Program").
 //!
-//! [`joined`] lists the entries of several inputs, [`duplicates`] finds the first message that
-//! stands twice, [`grouped`] numbers the messages of keys, and [`statistics`] counts what is
-//! translated. The types, the reader and the writer are re-exported from the crates below.
-//!
-//! The modules in reading order: `joining`, `message_index`, `duplicate`, `stats`, `laws`.
+//! The crates below the tools name what they need, and none waits for this one. What is its own is
+//! in `laws`: what is written reads back.
 
 #![tactic(auto)]
 
-mod duplicate;
-mod joining;
 pub mod laws;
-mod message_index;
-mod stats;
 
-pub use crate::duplicate::{JoinError, duplicates, joined_duplicates};
-pub use crate::joining::{InputEntry, is_live, is_live_header, joined};
-pub use crate::message_index::{MessageKey, Repeat, first_repeat, grouped, message_key};
-pub use crate::stats::{Stats, entry_statistics, has_translation, statistics};
 pub use po_entry::{Catalogue, Entry, Fields, Previous};
+pub use po_messages::{
+    InputEntry, JoinError, MessageKey, Repeat, Stats, duplicates, entry_statistics, first_repeat,
+    grouped, has_translation, is_live, is_live_header, joined, joined_duplicates, message_key,
+    statistics,
+};
 pub use po_reader::read;
 pub use po_writer::write;

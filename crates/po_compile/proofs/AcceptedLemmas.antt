@@ -6,12 +6,13 @@ use Rattle.po_syntax.specs.declared.fault.PoError.{PoError}
 use Rattle.po_syntax.specs.declared.fault.PoFault.{PoFault}
 use Rattle.po_entry.specs.TextEntry.{TextEntry}
 use Rattle.po_entry.specs.ReadsText.{ReadsText}
-use Rattle.po_reader.specs.Faults.{IsReadFault}
-use Rattle.po_catalog.specs.Joined.{InputEntry, in_input, joined, joined_entries, entries_of}
-use Rattle.po_catalog.specs.Duplicate.{HasNoDuplicate, IsFirstDuplicate, join_out_of_memory}
-use Rattle.po_catalog.specs.declared.duplicate.JoinError.{JoinError}
-use Rattle.po_catalog.proofs.DuplicateLemmas.{entries_of_input}
-use Rattle.po_compile.specs.Accepted.{ReadsDistinct, AreRead, AreAccepted, IsTextFault, IsFaultOfInput, HasJoinedDuplicate, IsTooLarge, IsCompileFault}
+use Rattle.po_entry.specs.Faults.{IsReadFault}
+use Rattle.po_messages.specs.Joined.{InputEntry, in_input, joined, joined_entries, entries_of}
+use Rattle.po_messages.specs.Duplicate.{HasNoDuplicate, IsFirstDuplicate, join_out_of_memory}
+use Rattle.po_messages.specs.declared.duplicate.JoinError.{JoinError}
+use Rattle.po_messages.proofs.DuplicateLemmas.{entries_of_input}
+use Rattle.po_messages.specs.DistinctText.{ReadsDistinct, IsTextFault}
+use Rattle.po_compile.specs.Accepted.{AreRead, AreAccepted, IsFaultOfInput, HasJoinedDuplicate, IsTooLarge, IsCompileFault}
 use Rattle.po_compile.specs.CompiledList.{compiled_list}
 use Rattle.po_compile.specs.CompiledMessages.{AreMessagesOf}
 use Rattle.po_compile.specs.Headline.{MessagesAreOne}

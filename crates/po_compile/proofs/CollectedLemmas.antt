@@ -2,7 +2,7 @@
 use Rattle.std.proofs.Common.{◌≡◌, Bool, true, false, cond, List, [], ◌∷◌, ◌++◌, filter, map, refl, ap, ◌∙◌}
 use Rattle.std.specs.List.{flat_map}
 use Rattle.po_entry.specs.TextEntry.{TextEntry}
-use Rattle.po_catalog.specs.Joined.{is_live}
+use Rattle.po_messages.specs.Joined.{is_live}
 use Rattle.po_reader.specs.KeptComments.{without_comments}
 use Rattle.po_compile.specs.declared.collecting.Collected.{Collected}
 use Rattle.po_compile.specs.Collected.{HoldsLive, message_bytes, lengths_of}

@@ -1,7 +1,7 @@
 -- The rows that are compiled, in the order of the joined list.
 use Rattle.std.proofs.Common.{◌≡◌, Bool, true, false, refl, ap, ◌∙◌, cond, List, [], ◌∷◌, map, filter}
-use Rattle.po_catalog.specs.Joined.{InputEntry, is_live, joined}
-use Rattle.po_catalog.specs.Duplicate.{live_entries}
+use Rattle.po_messages.specs.Joined.{InputEntry, is_live, joined}
+use Rattle.po_messages.specs.Duplicate.{live_entries}
 use Rattle.po_compile.specs.CompiledInputs.{CompiledView, compiled_inputs, compiled_message, compiled_view, is_compiled_message, view_of_message}
 use Rattle.po_compile.specs.CompiledList.{is_compiled}
 use Rattle.po_compile.specs.JoinedRows.{AreJoinedRows, OfAllInputs, input_message, input_view}

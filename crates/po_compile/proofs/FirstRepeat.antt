@@ -9,13 +9,13 @@ use Rattle.std.proofs.lemmas.List.Sorted.{All-permutation, IsPermutation-map}
 use Rattle.std.proofs.lemmas.Map.Keys.{IsDistinct-IsPermutation}
 use Rattle.std.proofs.lemmas.Map.Made.{AllPairs-from_IsDistinct, IsDistinct-from_AllPairs}
 use Rattle.std.proofs.lemmas.Slice.Eq.{bytes_eq-Decides}
-use Rattle.po_catalog.specs.declared.duplicate.JoinError.{JoinError}
+use Rattle.po_messages.specs.declared.duplicate.JoinError.{JoinError}
 use Rattle.po_syntax.specs.declared.fault.PoFault.TheVariants.{Duplicate}
 use Rattle.po_entry.specs.TextEntry.{TextEntry}
 use Rattle.po_entry.specs.Validity.{IsCatalogueEntry}
-use Rattle.po_catalog.specs.Joined.{InputEntry, is_live, entries_of}
-use Rattle.po_catalog.specs.Duplicate.{AllDiffer, IsDuplicateFault, live_entries}
-use Rattle.po_catalog.proofs.DuplicateLemmas.{split_at}
+use Rattle.po_messages.specs.Joined.{InputEntry, is_live, entries_of}
+use Rattle.po_messages.specs.Duplicate.{AllDiffer, IsDuplicateFault, live_entries}
+use Rattle.po_messages.proofs.DuplicateLemmas.{split_at}
 use Rattle.po_compile.specs.Collected.{LiveMessage, live_message, row_view}
 use Rattle.po_compile.specs.JoinedRows.{AreJoinedRows, InputMessage, input_message, input_view, row_fault}
 use Rattle.po_compile.specs.Repeats.{ArePlaced, AreSorted, IsEarliestRepeat}

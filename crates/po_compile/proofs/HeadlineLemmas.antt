@@ -8,10 +8,10 @@ use Rattle.mo_file.specs.Laws.{LayoutIsMoFile}
 use Rattle.po_entry.specs.TextEntry.{TextEntry}
 use Rattle.po_entry.specs.ReadsText.{ReadsText}
 use Rattle.po_entry.specs.Validity.{IsCatalogueEntry}
-use Rattle.po_catalog.specs.Joined.{InputEntry, in_input, is_live_header, kept_entries, joined_from, joined_entries, entries_of}
-use Rattle.po_catalog.proofs.JoiningLemmas.{kept_valid}
-use Rattle.po_catalog.proofs.DuplicateLemmas.{entries_of_input}
-use Rattle.po_compile.specs.Accepted.{ReadsDistinct}
+use Rattle.po_messages.specs.Joined.{InputEntry, in_input, is_live_header, kept_entries, joined_from, joined_entries, entries_of}
+use Rattle.po_messages.proofs.JoiningLemmas.{kept_valid}
+use Rattle.po_messages.proofs.DuplicateLemmas.{entries_of_input}
+use Rattle.po_messages.specs.DistinctText.{ReadsDistinct}
 use Rattle.po_compile.specs.CompiledList.{compiled_list}
 use Rattle.po_compile.specs.Headline.{LookUpMeansEntries, MessagesAreOne, MessagesMeanEntries}
 use Rattle.po_compile.proofs.SortLemmas.{compiled_valid}

@@ -10,12 +10,13 @@ use Rattle.po_syntax.specs.declared.fault.PoFault.TheVariants.{OutOfMemory}
 use Rattle.po_entry.specs.TextEntry.{TextEntry}
 use Rattle.po_entry.specs.ReadsText.{ReadsText}
 use Rattle.po_entry.specs.Validity.{IsCatalogueEntry, out_of_memory}
-use Rattle.po_reader.specs.Faults.{IsReadFault}
+use Rattle.po_entry.specs.Faults.{IsReadFault}
 use Rattle.po_reader.specs.PieceRead.{IsFaultOf}
-use Rattle.po_catalog.specs.Joined.{InputEntry, in_input, joined, joined_entries}
-use Rattle.po_catalog.specs.Duplicate.{HasNoDuplicate, IsDuplicateFault, IsFirstDuplicate, duplicate_fault, join_out_of_memory}
-use Rattle.po_catalog.specs.declared.duplicate.JoinError.{JoinError}
-use Rattle.po_compile.specs.Accepted.{AreRead, IsCompileFault, IsReadingFault, IsTextFault, ReadsDistinct, fault_input, fault_of_input, fault_of_only_input}
+use Rattle.po_messages.specs.Joined.{InputEntry, in_input, joined, joined_entries}
+use Rattle.po_messages.specs.Duplicate.{HasNoDuplicate, IsDuplicateFault, IsFirstDuplicate, duplicate_fault, join_out_of_memory}
+use Rattle.po_messages.specs.declared.duplicate.JoinError.{JoinError}
+use Rattle.po_messages.specs.DistinctText.{IsTextFault, ReadsDistinct}
+use Rattle.po_compile.specs.Accepted.{AreRead, IsCompileFault, IsReadingFault, fault_input, fault_of_input, fault_of_only_input}
 use Rattle.po_compile.specs.Collected.{HoldsEntries, ReadsLive}
 use Rattle.po_compile.specs.CompiledInputs.{AreCollected}
 use Rattle.po_compile.specs.JoinedRows.{AreDistinct, AreSortedRows, HasOneHeader, IsLargeList, IsRepeatFault, IsRepeatInInput, OfAllInputs}
@@ -155,13 +156,6 @@ fault_of_kind text error kind is h =
 
 pub text_fault : (text : List ℕ) (error : PoError) → IsFaultOf (IsReadFault text) error → (error ≡ out_of_memory) ⊎ ((error.kind ≢ OutOfMemory) × IsTextFault text error)
 text_fault text error h = fault_of_kind text error error.kind refl h
-
--- two lists, with one more of each
-pub zip_more : {A B : Type 0} (R : A → B → Type 0) (xs : List A) (ys : List B) (x : A) (y : B) → AllZip R xs ys → R x y → AllZip R (xs ++ x ∷ []) (ys ++ y ∷ [])
-zip_more R [] [] x y each one = (one, tt)
-zip_more R [] (b ∷ ys) x y each one = absurd each
-zip_more R (a ∷ xs) [] x y each one = absurd each
-zip_more R (a ∷ xs) (b ∷ ys) x y each one = (each.0, zip_more R xs ys x y each.1 one)
 
 -- what inputs without duplicates are compiled to, and why others aren't
 pub read_distinct : (texts : List (List ℕ)) (catalogues : List (List TextEntry)) → AllZip ReadsText texts catalogues → AreDistinct catalogues → AreRead texts catalogues

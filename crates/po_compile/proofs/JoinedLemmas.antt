@@ -10,10 +10,10 @@ use Rattle.mo_file.specs.Key.{query_key}
 use Rattle.po_entry.specs.TextEntry.{TextEntry}
 use Rattle.po_entry.specs.Header.{is_header}
 use Rattle.po_entry.specs.Validity.{IsCatalogueEntry}
-use Rattle.po_catalog.specs.Joined.{InputEntry, entries_of, in_input, is_live, is_live_header, joined, joined_entries, joined_from, kept_entries}
-use Rattle.po_catalog.specs.Duplicate.{live_entries}
-use Rattle.po_catalog.proofs.JoiningLemmas.{kept_valid}
-use Rattle.po_catalog.proofs.DuplicateLemmas.{entries_of_input}
+use Rattle.po_messages.specs.Joined.{InputEntry, entries_of, in_input, is_live, is_live_header, joined, joined_entries, joined_from, kept_entries}
+use Rattle.po_messages.specs.Duplicate.{live_entries}
+use Rattle.po_messages.proofs.JoiningLemmas.{kept_valid}
+use Rattle.po_messages.proofs.DuplicateLemmas.{entries_of_input}
 use Rattle.po_compile.specs.Collected.{HoldsEntries, LiveMessage, lengths_of, live_message, row_view}
 use Rattle.po_compile.specs.JoinedRows.{AddsRows, AreJoinedRows, InputMessage, in_input_message, input_message, input_view, is_joined}
 use Rattle.po_compile.specs.declared.collecting.Collected.{Collected}

@@ -19,7 +19,7 @@ use Rattle.po_entry.specs.Bytes.{Lacks}
 use Rattle.po_entry.specs.Halves.{All-left, All-right}
 use Rattle.po_entry.specs.Header.{first_form}
 use Rattle.po_entry.specs.Validity.{IsEntry}
-use Rattle.po_catalog.specs.Duplicate.{is_of_message}
+use Rattle.po_messages.specs.Duplicate.{is_of_message}
 use Rattle.po_syntax.specs.ItemContents.{IsText}
 use Rattle.po_compile.specs.CompiledMessages.{original_of, translation_of, message_of, messages_of_entries, AreMessagesOf}
 use Rattle.po_compile.specs.Meaning.{header_of}

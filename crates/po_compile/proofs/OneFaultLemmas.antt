@@ -4,11 +4,12 @@ use Rattle.std.specs.List.{AllZip}
 use Rattle.po_syntax.specs.declared.fault.PoError.{PoError}
 use Rattle.po_syntax.specs.declared.fault.PoFault.{PoFault}
 use Rattle.po_entry.specs.TextEntry.{TextEntry}
-use Rattle.po_reader.specs.Faults.{IsReadFault}
-use Rattle.po_catalog.specs.Joined.{InputEntry, in_input, joined}
-use Rattle.po_catalog.specs.Duplicate.{IsFirstDuplicate, duplicate_fault}
-use Rattle.po_catalog.specs.declared.duplicate.JoinError.{JoinError}
-use Rattle.po_compile.specs.Accepted.{ReadsDistinct, IsTextFault, IsFaultOfInput, HasJoinedDuplicate}
+use Rattle.po_entry.specs.Faults.{IsReadFault}
+use Rattle.po_messages.specs.Joined.{InputEntry, in_input, joined}
+use Rattle.po_messages.specs.Duplicate.{IsFirstDuplicate, duplicate_fault}
+use Rattle.po_messages.specs.declared.duplicate.JoinError.{JoinError}
+use Rattle.po_messages.specs.DistinctText.{ReadsDistinct, IsTextFault}
+use Rattle.po_compile.specs.Accepted.{IsFaultOfInput, HasJoinedDuplicate}
 use Rattle.po_compile.specs.Headline.{OneCompileFault}
 use Rattle.po_compile.proofs.AcceptedLemmas.{OneReading, NoReadFault, NoFirstDuplicate, same_catalogues, text_faultless, input_faultless, joined_faultless}
 

@@ -10,9 +10,9 @@ use Rattle.std.proofs.lemmas.List.Sums.{length-filter}
 use Rattle.mo_file.specs.Key.{query_key}
 use Rattle.po_entry.specs.TextEntry.{TextEntry}
 use Rattle.po_entry.specs.Header.{is_header}
-use Rattle.po_catalog.specs.Joined.{InputEntry, entries_of, in_input, is_live, is_live_header, joined_entries, joined_from, kept_entries}
-use Rattle.po_catalog.specs.Duplicate.{AllDiffer, HasNoDuplicate, IsSameMessage}
-use Rattle.po_catalog.proofs.DuplicateLemmas.{entries_of_input}
+use Rattle.po_messages.specs.Joined.{InputEntry, entries_of, in_input, is_live, is_live_header, joined_entries, joined_from, kept_entries}
+use Rattle.po_messages.specs.Duplicate.{AllDiffer, HasNoDuplicate, IsSameMessage}
+use Rattle.po_messages.proofs.DuplicateLemmas.{entries_of_input}
 use Rattle.po_compile.specs.Collected.{HoldsEntries, lengths_of}
 use Rattle.po_compile.specs.JoinedRows.{HasOneHeader}
 use Rattle.po_compile.specs.declared.collecting.Collected.{Collected}

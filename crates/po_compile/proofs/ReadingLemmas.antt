@@ -8,11 +8,12 @@ use Rattle.po_syntax.specs.declared.fault.PoError.{PoError}
 use Rattle.po_syntax.specs.declared.fault.PoFault.{PoFault}
 use Rattle.po_syntax.specs.declared.fault.PoFault.TheVariants.{NotUtf8, BadToken, UnterminatedString, BadEscape, ForbiddenByte, BadOrder, BadPluralIndex, MixedObsolete, Duplicate, ForeignCharset, TooLarge, OutOfMemory}
 use Rattle.po_entry.specs.TextEntry.{TextEntry, slice_texts}
-use Rattle.po_catalog.specs.Joined.{joined_entries, entries_of, in_input}
-use Rattle.po_catalog.specs.Duplicate.{HasNoDuplicate}
+use Rattle.po_messages.specs.Joined.{joined_entries, entries_of, in_input}
+use Rattle.po_messages.specs.Duplicate.{HasNoDuplicate}
 use Rattle.po_entry.specs.Validity.{out_of_memory}
-use Rattle.po_catalog.proofs.DuplicateLemmas.{entries_of_input}
-use Rattle.po_compile.specs.Accepted.{ReadsDistinct, AreRead, IsTextFault, IsReadingFault, fault_input, fault_of_input}
+use Rattle.po_messages.proofs.DuplicateLemmas.{entries_of_input}
+use Rattle.po_messages.specs.DistinctText.{ReadsDistinct, IsTextFault}
+use Rattle.po_compile.specs.Accepted.{AreRead, IsReadingFault, fault_input, fault_of_input}
 
 input_of_fault : (input : ℕ) (kind : PoFault) → kind ≢ OutOfMemory → fault_input input kind ≡ input
 input_of_fault input NotUtf8 other = refl

@@ -16,13 +16,13 @@ use Rattle.mo_file.specs.Key.{AreRising, key_at, key_cmp, key_of, keys, query_ke
 use Rattle.mo_file.specs.Message.{Message}
 use Rattle.po_entry.specs.TextEntry.{TextEntry}
 use Rattle.po_entry.specs.Validity.{IsCatalogueEntry}
-use Rattle.po_catalog.specs.Joined.{is_live}
-use Rattle.po_catalog.specs.Duplicate.{AllDiffer, HasNoDuplicate, IsSameMessage}
+use Rattle.po_messages.specs.Joined.{is_live}
+use Rattle.po_messages.specs.Duplicate.{AllDiffer, HasNoDuplicate, IsSameMessage}
 use Rattle.mo_lookup.proofs.RisingLemmas.{less_is_other}
 use Rattle.po_compile.specs.Collected.{LiveMessage, live_message, row_view, IsSortedOf}
 use Rattle.po_compile.specs.JoinedRows.{counts_of}
 use Rattle.std.proofs.lemmas.List.Sums.{length-filter}
-use Rattle.po_catalog.specs.Statistics.{stats_of, is_translated, is_fuzzy, is_untranslated}
+use Rattle.po_messages.specs.Statistics.{stats_of, is_translated, is_fuzzy, is_untranslated}
 use Rattle.po_compile.specs.declared.row.Row.{Row}
 use Rattle.po_compile.specs.CompiledList.{is_compiled, compiled_list}
 use Rattle.po_compile.specs.CompiledMessages.{AreMessagesOf, message_of, messages_of_entries}

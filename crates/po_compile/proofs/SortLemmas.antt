@@ -12,9 +12,9 @@ use Rattle.mo_file.specs.Layout.{layout, header, table, terminated, originals_of
 use Rattle.mo_file.specs.declared.byte_order.Order.{Order}
 use Rattle.po_entry.specs.Header.{is_header}
 use Rattle.po_entry.specs.Validity.{IsEntry, IsCatalogueEntry}
-use Rattle.po_catalog.specs.Statistics.{has_translation}
-use Rattle.po_catalog.specs.Joined.{is_live}
-use Rattle.po_catalog.specs.Duplicate.{IsSameMessage, AllDiffer, HasNoDuplicate}
+use Rattle.po_messages.specs.Statistics.{has_translation}
+use Rattle.po_messages.specs.Joined.{is_live}
+use Rattle.po_messages.specs.Duplicate.{IsSameMessage, AllDiffer, HasNoDuplicate}
 use Rattle.po_compile.specs.CompiledList.{is_compiled, compiled_list}
 use Rattle.po_compile.specs.CompiledMessages.{original_of}
 use Rattle.po_compile.proofs.TextLemmas.{query_key_is_one}

@@ -10,7 +10,7 @@ use Rattle.std.specs.Ordering.{ordering_reverse}
 use Rattle.mo_file.specs.Message.{Message}
 use Rattle.mo_file.specs.Key.{key_at, key_cmp, key_of, keys}
 use Rattle.po_entry.specs.TextEntry.{TextEntry}
-use Rattle.po_catalog.specs.Duplicate.{AllDiffer}
+use Rattle.po_messages.specs.Duplicate.{AllDiffer}
 use Rattle.po_compile.specs.CompiledMessages.{original_of, message_of, messages_of_entries, AreMessagesOf}
 use Rattle.po_compile.proofs.MeaningLemmas.{LacksSeparators}
 use Rattle.po_compile.proofs.OneListLemmas.{IsBelow}

@@ -1,6 +1,6 @@
 -- Which texts are accepted, and which fault is reported of those that aren't (manual, "The Format
 -- of PO Files" and "Invoking the msgfmt Program").
-use Rattle.std.specs.Prelude.{◌≡◌, ◌⊎◌, ◌^◌, ◌<◌, ℕ, List, ◌∷◌, ◌++◌, map, length}
+use Rattle.std.specs.Prelude.{◌≡◌, ◌⊎◌, ◌^◌, ◌<◌, ℕ, List, ◌∷◌, ◌++◌, length}
 use Rattle.std.specs.List.{AllZip}
 use Rattle.mo_file.specs.Message.{Message}
 use Rattle.mo_file.specs.Layout.{layout}
@@ -8,21 +8,15 @@ use Rattle.po_syntax.specs.declared.fault.PoError.{PoError}
 use Rattle.po_syntax.specs.declared.fault.PoFault.{PoFault}
 use Rattle.po_syntax.specs.declared.fault.PoFault.TheVariants.{OutOfMemory}
 use Rattle.po_entry.specs.TextEntry.{TextEntry}
-use Rattle.po_entry.specs.ReadsText.{ReadsText}
-use Rattle.po_reader.specs.Faults.{IsReadFault}
-use Rattle.po_catalog.specs.Joined.{InputEntry, in_input, joined, joined_entries}
-use Rattle.po_catalog.specs.Duplicate.{HasNoDuplicate, IsFirstDuplicate, duplicate_fault, join_out_of_memory}
-use Rattle.po_catalog.specs.declared.duplicate.JoinError.{JoinError}
+use Rattle.po_messages.specs.Joined.{InputEntry, joined, joined_entries}
+use Rattle.po_messages.specs.Duplicate.{HasNoDuplicate, IsFirstDuplicate, duplicate_fault, join_out_of_memory}
+use Rattle.po_messages.specs.DistinctText.{IsTextFault, ReadsDistinct}
+use Rattle.po_messages.specs.declared.duplicate.JoinError.{JoinError}
 use Rattle.po_compile.specs.CompiledList.{compiled_list}
 use Rattle.po_compile.specs.CompiledMessages.{AreMessagesOf}
 use Rattle.po_compile.specs.Compiling.{IsCompilation, HasLargeLayout, layout_fault}
 use Rattle.po_compile.specs.declared.options.Options.{Options}
 use Rattle.po_compile.specs.declared.options.Compiled.{Compiled}
-
--- the text reads as these entries, no two live ones of which are of one message
-pub record ReadsDistinct (text : List ℕ) (entries : List TextEntry) : Type 0 where
-  pub reads : ReadsText text entries
-  pub distinct : HasNoDuplicate entries
 
 -- the texts read as these catalogues, in each of which and in whose joined list no two live entries
 -- are of one message
@@ -46,19 +40,6 @@ pub record AreCompiled (options : Options) (texts : List (List ℕ)) (compiled :
   pub catalogues : List (List TextEntry)
   pub read : AreRead texts catalogues
   pub is_compiled : IsCompilation options (joined_entries catalogues) compiled
-
--- the first duplicate of a text that reads as entries
-pub record HasDuplicate (text : List ℕ) (error : PoError) : Type 0 where
-  pub entries : List TextEntry
-  pub reads : ReadsText text entries
-  pub first : InputEntry
-  pub later : InputEntry
-  pub duplicate : IsFirstDuplicate (map (in_input 0) entries) first later
-  pub error_is : error ≡ (duplicate_fault first later).error
-
--- the first fault of a text: why it doesn't read, or its first duplicate
-abbrev pub IsTextFault : List ℕ → PoError → Type 0
-IsTextFault text error = IsReadFault text error.kind error.line ⊎ HasDuplicate text error
 
 -- the input of a fault: out of memory is of no input
 abbrev pub fault_input : ℕ → PoFault → ℕ

@@ -7,9 +7,9 @@ use Rattle.mo_file.specs.Key.{query_key}
 use Rattle.po_entry.specs.TextEntry.{TextEntry}
 use Rattle.po_entry.specs.ReadsText.{ReadsText}
 use Rattle.po_entry.specs.Validity.{IsCatalogueEntry}
-use Rattle.po_catalog.specs.Joined.{is_live}
-use Rattle.po_catalog.specs.Duplicate.{HasNoDuplicate}
-use Rattle.po_catalog.specs.Statistics.{is_translated, is_fuzzy, is_untranslated}
+use Rattle.po_messages.specs.Joined.{is_live}
+use Rattle.po_messages.specs.Duplicate.{HasNoDuplicate}
+use Rattle.po_messages.specs.Statistics.{is_translated, is_fuzzy, is_untranslated}
 use Rattle.po_compile.specs.CompiledList.{is_compiled, compiled_list}
 use Rattle.po_compile.specs.CompiledMessages.{original_of, translation_of, message_of, AreMessagesOf}
 use Rattle.po_compile.specs.declared.collecting.Collected.{Collected}

@@ -3,8 +3,8 @@
 use Rattle.std.specs.Prelude.{Bool, not, ◌&&◌, ◌||◌, List, filter}
 use Rattle.po_entry.specs.TextEntry.{TextEntry}
 use Rattle.po_entry.specs.Header.{is_header}
-use Rattle.po_catalog.specs.Joined.{is_live}
-use Rattle.po_catalog.specs.Statistics.{has_translation}
+use Rattle.po_messages.specs.Joined.{is_live}
+use Rattle.po_messages.specs.Statistics.{has_translation}
 
 -- A live entry whose first form isn't empty, and that isn't fuzzy, unless fuzzy entries are asked
 -- for. A header's flag `fuzzy` is ignored.

@@ -4,13 +4,13 @@ use Rattle.std.specs.Prelude.{◌≡◌, ◌⊎◌, ◌≤◌, ℕ, Bool, not, �
 use Rattle.std.specs.Prelude.{All}
 use Rattle.std.specs.List.{AllZip, flat_map}
 use Rattle.po_entry.specs.TextEntry.{TextEntry}
-use Rattle.po_catalog.specs.Joined.{InputEntry, in_input, joined, joined_entries}
-use Rattle.po_catalog.specs.Duplicate.{HasNoDuplicate, IsDuplicateFault, IsFirstDuplicate, duplicate_fault}
-use Rattle.po_catalog.specs.Duplicate.{join_out_of_memory, live_entries}
-use Rattle.po_catalog.specs.Statistics.{stats_of}
-use Rattle.po_catalog.specs.declared.stats.Stats.{Stats}
+use Rattle.po_messages.specs.Joined.{InputEntry, in_input, joined, joined_entries}
+use Rattle.po_messages.specs.Duplicate.{HasNoDuplicate, IsDuplicateFault, IsFirstDuplicate, duplicate_fault}
+use Rattle.po_messages.specs.Duplicate.{join_out_of_memory, live_entries}
+use Rattle.po_messages.specs.Statistics.{stats_of}
+use Rattle.po_messages.specs.declared.stats.Stats.{Stats}
 use Rattle.po_syntax.specs.declared.fault.PoFault.TheVariants.{Duplicate}
-use Rattle.po_catalog.specs.declared.duplicate.JoinError.{JoinError}
+use Rattle.po_messages.specs.declared.duplicate.JoinError.{JoinError}
 use Rattle.po_compile.specs.Compiling.{HasLargeLayout, layout_fault}
 use Rattle.po_compile.specs.declared.options.Options.{Options}
 use Rattle.po_compile.specs.Collected.{HoldsEntries, IsSortedOf, LiveMessage, compiled_of, lengths_of, live_message}

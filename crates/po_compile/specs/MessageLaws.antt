@@ -6,9 +6,10 @@ use Rattle.mo_file.specs.Message.{Message}
 use Rattle.mo_lookup.specs.CatalogView.{forms}
 use Rattle.po_entry.specs.TextEntry.{TextEntry}
 use Rattle.po_entry.specs.Validity.{IsEntry, IsCatalogueEntry}
-use Rattle.po_catalog.specs.Joined.{joined_entries}
-use Rattle.po_catalog.specs.Duplicate.{AllDiffer}
-use Rattle.po_compile.specs.Accepted.{AreRead, ReadsDistinct}
+use Rattle.po_messages.specs.Joined.{joined_entries}
+use Rattle.po_messages.specs.Duplicate.{AllDiffer}
+use Rattle.po_messages.specs.DistinctText.{ReadsDistinct}
+use Rattle.po_compile.specs.Accepted.{AreRead}
 use Rattle.po_compile.specs.CompiledMessages.{original_of, translation_of, AreMessagesOf}
 
 -- an original has the key and the plural of its entry, and a translation has its forms

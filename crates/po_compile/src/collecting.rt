@@ -7,8 +7,8 @@ ghost use Rattle.po_compile.specs.CompiledList.{is_compiled};
 ghost use Rattle.po_compile.specs.CompiledMessages.{plural_part, translation_of};
 ghost use Rattle.po_compile.specs.Collected.{message_bytes, lengths_of, status_of, HoldsLive, ReadsLive};
 
-use po_catalog::has_translation;
 use po_entry::Entry;
+use po_messages::has_translation;
 use po_reader::{PIECE, next_messages};
 use po_syntax::{Pieces, PoError};
 use std::alloc::{AllocError, Global};

@@ -1,7 +1,7 @@
 ghost use Rattle.std.specs.Prelude.{◌≡◌, ◌≢◌, ◌⊎◌, ◌<◌, ◌^◌, ℕ, [], ◌∷◌, List, length, IfOk, IfErr, MatchResult};
 ghost use Rattle.std.specs.List.{AllZip};
 ghost use Rattle.po_entry.specs.TextEntry.{TextEntry, slice_texts};
-ghost use Rattle.po_catalog.specs.Joined.{joined_entries};
+ghost use Rattle.po_messages.specs.Joined.{joined_entries};
 ghost use Rattle.po_compile.specs.Collected.{HoldsEntries};
 ghost use Rattle.po_compile.specs.JoinedRows.{AreDistinct, IsLargeList, IsRepeatFault};
 ghost use Rattle.po_compile.specs.Accepted.{AreCompiled, AreRead, IsCompileFault, fault_of_only_input};
@@ -15,8 +15,8 @@ use crate::options::{Compiled, Options};
 use crate::rows::compiled_pairs;
 use crate::sorting::statistics_of;
 use mo_file::{BuildError, build_sorted, layout_is_mo_file};
-use po_catalog::JoinError;
-use po_catalog::laws::no_first_duplicate_where_none;
+use po_messages::JoinError;
+use po_messages::laws::no_first_duplicate_where_none;
 use po_syntax::{PoError, PoFault};
 use std::alloc::Global;
 

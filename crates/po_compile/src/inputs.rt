@@ -1,7 +1,7 @@
 ghost use Rattle.std.specs.Prelude.{◌≡◌, ◌==◌, ◌⊎◌, ◌<◌, ◌^◌, true, count_by, length, All, IfOk, IfErr, OnOk};
 ghost use Rattle.std.specs.List.{AllZip};
-ghost use Rattle.po_catalog.specs.Duplicate.{HasNoDuplicate, join_out_of_memory};
-ghost use Rattle.po_catalog.specs.Joined.{joined_entries};
+ghost use Rattle.po_messages.specs.Duplicate.{HasNoDuplicate, join_out_of_memory};
+ghost use Rattle.po_messages.specs.Joined.{joined_entries};
 ghost use Rattle.po_entry.specs.TextEntry.{slice_texts};
 ghost use Rattle.po_compile.specs.Accepted.{IsReadingFault, fault_of_input};
 ghost use Rattle.po_compile.specs.Collected.{HoldsEntries, HoldsLive};
@@ -12,8 +12,8 @@ ghost use Rattle.po_compile.specs.declared.collecting.Lengths.{Lengths as Length
 use crate::collecting::{Collected, Lengths, add_messages, collect};
 use crate::row::Row;
 use crate::sorting::sorted_rows;
-use po_catalog::JoinError;
 use po_entry::{Catalogue, Entry};
+use po_messages::JoinError;
 use po_reader::laws::entries_can_stand;
 use po_syntax::{PoError, PoFault};
 use std::alloc::{AllocError, Global};

@@ -6,7 +6,9 @@ ghost use Rattle.po_compile.specs.Headline.{AcceptedOrFault, CataloguesAreOne, L
 ghost use Rattle.po_compile.specs.MessageLaws.{JoinedEntriesCanStand, MessagesDiffer, MessagesHaveParts, OneTextIsRead};
 
 use mo_file::layout_is_mo_file;
-use po_catalog::laws::{no_duplicate_or_first, no_first_duplicate_where_none, one_first_duplicate};
+use po_messages::laws::{
+    no_duplicate_or_first, no_first_duplicate_where_none, one_first_duplicate,
+};
 use po_reader::laws::{
     entries_can_stand, entries_or_fault, no_fault_is_memory, no_fault_where_entries, one_fault,
     one_reading,

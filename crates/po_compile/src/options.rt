@@ -1,5 +1,5 @@
 use mo_file::Order;
-use po_catalog::Stats;
+use po_messages::Stats;
 
 /// How catalogues are compiled.
 #[derive(Clone, Copy, Debug)]

@@ -2,7 +2,7 @@ ghost use Rattle.std.specs.Prelude.{◌≡◌, ◌==◌, ◌<◌, ◌^◌, ◌++
 ghost use Rattle.std.specs.List.{list_any};
 ghost use Rattle.mo_file.specs.Key.{AreRising};
 ghost use Rattle.mo_file.specs.Pairs.{messages_of_borrowed};
-ghost use Rattle.po_catalog.specs.Joined.{joined};
+ghost use Rattle.po_messages.specs.Joined.{joined};
 ghost use Rattle.po_compile.specs.declared.collecting.Lengths.{Lengths as LengthsSeen};
 ghost use Rattle.po_compile.specs.Collected.{row_view, compiled_of};
 ghost use Rattle.po_compile.specs.JoinedRows.{is_joined, AddsRows, AreJoinedRows, OfAllInputs};

@@ -1,13 +1,13 @@
 ghost use Rattle.std.specs.Prelude.{◌≡◌, ◌<◌, ◌^◌, count_by, length, IfOk, IfErr};
-ghost use Rattle.po_catalog.specs.Duplicate.{IsDuplicateFault};
-ghost use Rattle.po_catalog.specs.Joined.{joined, joined_entries};
+ghost use Rattle.po_messages.specs.Duplicate.{IsDuplicateFault};
+ghost use Rattle.po_messages.specs.Joined.{joined, joined_entries};
 ghost use Rattle.po_compile.specs.JoinedRows.{AreSortedRows, OfAllInputs, counts_of, row_fault};
 ghost use Rattle.po_compile.specs.declared.row.Row.{Row as RowSeen};
 
 use crate::collecting::Collected;
 use crate::row::Row;
 use crate::rows::{earliest_repeat, joined_rows, sort_rows};
-use po_catalog::{JoinError, Stats};
+use po_messages::{JoinError, Stats};
 use po_syntax::{PoError, PoFault};
 use std::alloc::Global;
 

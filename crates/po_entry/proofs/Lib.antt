@@ -5,6 +5,8 @@ pub mod Headers
 pub mod SameTexts
 pub mod CharsetNames
 pub mod ListedElements
+pub mod FuzzyFlags
 pub mod JoinedPieces
 pub mod TextsFaults
 pub mod Settled
+pub mod SeenTexts

@@ -26,3 +26,12 @@ pub data NamesCharset : List ℕ → List ℕ → Type 0 where
   named : {text name : List ℕ} (before rest : List ℕ) → IsAround text before (name ++ rest)
       → ((other more : List ℕ) → IsAround text other more → length before ≤ length other)
       → All (λ b. EndsName b → ⊥) name → IsAfterName rest → NamesCharset text name
+
+-- the charsets that are admitted, by their names in lowercase; a template's header has `CHARSET`
+pub data NamesAdmitted : List ℕ → Type 0 where
+  no_name : NamesAdmitted []
+  utf_8 : NamesAdmitted (codes "utf-8")
+  utf8 : NamesAdmitted (codes "utf8")
+  us_ascii : NamesAdmitted (codes "us-ascii")
+  ascii : NamesAdmitted (codes "ascii")
+  template : NamesAdmitted (codes "charset")

@@ -10,5 +10,8 @@ pub mod Comments
 pub mod Listed
 pub mod Spelling
 pub mod ReadsText
+pub mod Viable
+pub mod Faults
+pub mod SeenTexts
 pub mod Equality
 pub mod EqualityLaws

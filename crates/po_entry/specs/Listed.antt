@@ -2,7 +2,9 @@
 -- "The Format of PO Files").
 use Rattle.std.specs.Prelude.{◌≡◌, ◌≢◌, ℕ, List, [], ◌∷◌, ◌++◌, All, Contains, codes}
 use Rattle.po_syntax.specs.Spelling.{IsBlank}
+use Rattle.po_syntax.specs.declared.item.CommentKind.TheVariants.{Flags}
 use Rattle.po_entry.specs.Bytes.{Lacks}
+use Rattle.po_entry.specs.Parts.{CommentText}
 
 -- a reference ends before this text, which is empty or begins with a blank
 abbrev pub EndsReference : List ℕ → Type 0
@@ -48,3 +50,10 @@ pub data KeepsFlags : List (List ℕ) → List (List ℕ) → Type 0 where
   fuzzy : {named kept : List (List ℕ)} → KeepsFlags named kept → KeepsFlags (named ++ codes "fuzzy" ∷ []) kept
   repeated : {named kept : List (List ℕ)} {flag : List ℕ} → KeepsFlags named kept → Contains named flag
       → KeepsFlags (named ++ flag ∷ []) kept
+
+-- one of the comments lists flags, and among them `fuzzy`, wherever it stands
+pub data HaveFuzzyFlag : List CommentText → Type 0 where
+  here : {text : List ℕ} {flags : List (List ℕ)} {after : List CommentText} → ListsFlags text flags
+      → Contains flags (codes "fuzzy")
+      → HaveFuzzyFlag (record { kind = Flags; text = text } ∷ after)
+  later : {first : CommentText} {after : List CommentText} → HaveFuzzyFlag after → HaveFuzzyFlag (first ∷ after)

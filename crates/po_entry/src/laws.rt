@@ -1,15 +1,16 @@
 //! Laws of entries, each the contract of a function that does nothing: a call brings the law into a
 //! proof.
-ghost use Rattle.std.specs.Prelude.{◌≡◌, ◌↔◌, ◌++◌, ℕ, List, Decides};
+ghost use Rattle.std.specs.Char.{to_ascii_lowercase};
+ghost use Rattle.std.specs.Prelude.{map, ◌≡◌, ◌↔◌, ◌++◌, ℕ, List, Decides};
 ghost use Rattle.po_syntax.specs.Piece.{EndsInString};
 ghost use Rattle.po_syntax.specs.TextItem.{TextItem};
 ghost use Rattle.po_entry.specs.TextEntry.{TextEntry, SameButLine};
-ghost use Rattle.po_entry.specs.Charset.{NamesCharset};
+ghost use Rattle.po_entry.specs.Charset.{NamesAdmitted, NamesCharset};
 ghost use Rattle.po_entry.specs.Equality.{entry_eq};
 ghost use Rattle.po_entry.specs.Parts.{CommentText};
-ghost use Rattle.po_entry.specs.Header.{charset_of};
-ghost use Rattle.po_entry.specs.Listed.{KeepsFlags, ListsFlags, ListsReferences};
-ghost use Rattle.po_entry.specs.Comments.{listed_flags, all_listed_flags, flags_of, listed_references};
+ghost use Rattle.po_entry.specs.Header.{charset_of, IsAdmittedName};
+ghost use Rattle.po_entry.specs.Listed.{HaveFuzzyFlag, KeepsFlags, ListsFlags, ListsReferences};
+ghost use Rattle.po_entry.specs.Comments.{listed_flags, all_listed_flags, flags_of, fuzzy_of, listed_references};
 ghost use Rattle.po_entry.specs.Spelling.{SpellsEntries};
 
 /// Entries are equal exactly where they are the same but for their lines.
@@ -21,6 +22,17 @@ pub fn equal_but_line()
 /// `charset=`, up to a space, TAB, CR, LF or semicolon or the text's end; none without `charset=`.
 pub fn charset_is_named()
     ensures { (text name : List ℕ) → (name ≡ charset_of text) ↔ NamesCharset text name }
+{}
+
+/// The admitted charsets are none, UTF-8, ASCII and the `CHARSET` of a template, by their names,
+/// whatever the case of its letters.
+pub fn charsets_are_admitted()
+    ensures { (name : List ℕ) → IsAdmittedName name ↔ NamesAdmitted (map to_ascii_lowercase name) }
+{}
+
+/// An entry is fuzzy exactly if one of its comments lists the flag `fuzzy`, wherever it stands.
+pub fn fuzzy_where_flagged()
+    ensures { (comment_texts : List CommentText) → Decides (fuzzy_of comment_texts) (HaveFuzzyFlag comment_texts) }
 {}
 
 /// The references that are found in the text of a comment are those that it lists, between blanks.

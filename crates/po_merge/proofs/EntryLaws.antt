@@ -12,7 +12,7 @@ use Rattle.std.proofs.lemmas.List.Sums.{fold_push}
 use Rattle.po_syntax.specs.declared.item.CommentKind.{CommentKind}
 use Rattle.po_syntax.specs.declared.item.CommentKind.TheVariants.{Translator, Extracted, Reference, Flags}
 use Rattle.po_entry.specs.TextEntry.{TextEntry}
-use Rattle.po_catalog.specs.Joined.{is_live}
+use Rattle.po_messages.specs.Joined.{is_live}
 use Rattle.po_merge.specs.declared.input.MergeOptions.{MergeOptions}
 use Rattle.po_merge.specs.Inputs.{NamedEntry}
 use Rattle.po_merge.specs.MergedEntry.{collected, comment_of, ended, first_of, first_with, form_count, has_plural, has_previous, joined_form, joined_forms, marked, merged_entry, first_translated, texts_of, translations, with_others}
@@ -21,7 +21,7 @@ use Rattle.po_merge.specs.EntryLaws.{FormsAreJoined, JoinedIsFuzzy, KeptByCount,
 use Rattle.po_merge.proofs.Sets.{has_others}
 
 -- the texts of one kind of a merged entry
-texts_merged : (o : MergeOptions) (kind : CommentKind) (ds : List NamedEntry) → texts_of kind (merged_entry o ds) ≡ comment_of o kind ds
+pub texts_merged : (o : MergeOptions) (kind : CommentKind) (ds : List NamedEntry) → texts_of kind (merged_entry o ds) ≡ comment_of o kind ds
 texts_merged o Translator ds = refl
 texts_merged o Extracted ds = refl
 texts_merged o Reference ds = refl
@@ -83,7 +83,7 @@ first_found has (b ∷ before) d after none is = found (has b.entry) none (first
   found true e more = cc
   found false e more = more e is
 
-first_is : (has : TextEntry → Bool) (before : List NamedEntry) (d : NamedEntry) (after : List NamedEntry) → list_any (λ b. has b.entry) before ≡ false → has d.entry ≡ true → first_with has (before ++ d ∷ after) ≡ d.entry
+pub first_is : (has : TextEntry → Bool) (before : List NamedEntry) (d : NamedEntry) (after : List NamedEntry) → list_any (λ b. has b.entry) before ≡ false → has d.entry ≡ true → first_with has (before ++ d ∷ after) ≡ d.entry
 first_is has before d after none is = ap (λ (r : Option NamedEntry). option_map_or (λ (x : NamedEntry). x.entry) r (first_of (before ++ d ∷ after))) (first_found has before d after none is)
 
 pub previous_of_first : (o : MergeOptions) (before : List NamedEntry) (d : NamedEntry) (after : List NamedEntry) → PreviousOfFirst o before d after

@@ -9,7 +9,7 @@ use Rattle.std.proofs.lemmas.List.Elements.{filter-append}
 use Rattle.std.proofs.lemmas.Bool.{or_parts}
 use Rattle.std.proofs.Math.Bool.{or-false}
 use Rattle.std.proofs.lemmas.List.Sums.{fold_push}
-use Rattle.po_catalog.proofs.FirstOnes.{any_alike, any_first_ones}
+use Rattle.po_messages.proofs.FirstOnes.{any_alike, any_first_ones}
 use Rattle.po_merge.specs.Groups.{with_new, first_ones}
 
 -- no two elements are alike

@@ -2,12 +2,12 @@
 use Rattle.std.proofs.Common.{◌≡◌, ◌≢◌, ℕ, ◌+◌, Bool, true, false, ◌<◌, ◌≤◌, List, [], ◌∷◌, ◌++◌, refl, sym, ap, ap₂, ◌∙◌, length, length-append, take, get_or, arith}
 use Rattle.std.specs.List.{list_any, position_or_len}
 use Rattle.std.proofs.lemmas.List.{map-append, length-map, take_all, take_more, get_or-map}
-use Rattle.po_catalog.specs.FirstOnes.{first_ones}
-use Rattle.po_catalog.specs.Message.{Message, entry_message, same_message}
-use Rattle.po_catalog.specs.MessageView.{message_of, messages}
-use Rattle.po_catalog.specs.declared.message_index.MessageKey.{MessageKey}
-use Rattle.po_catalog.proofs.MessageIndex.{same_message_laws}
-use Rattle.po_catalog.proofs.FirstOnes.{found_within, unfound}
+use Rattle.po_messages.specs.FirstOnes.{first_ones}
+use Rattle.po_messages.specs.Message.{Message, entry_message, same_message}
+use Rattle.po_messages.specs.MessageView.{message_of, messages}
+use Rattle.po_messages.specs.declared.message_index.MessageKey.{MessageKey}
+use Rattle.po_messages.proofs.MessageIndex.{same_message_laws}
+use Rattle.po_messages.proofs.FirstOnes.{found_within, unfound}
 use Rattle.po_merge.specs.declared.definition.NamedEntry.{NamedEntry as BorrowedEntry}
 use Rattle.po_merge.specs.Inputs.{NamedEntry}
 use Rattle.po_merge.specs.InputsView.{named_entry, named_entries}

@@ -13,8 +13,8 @@ use Rattle.po_entry.specs.Halves.{All-left, All-right}
 use Rattle.po_entry.specs.Header.{HasAdmittedCharset}
 use Rattle.po_entry.specs.TextEntry.{TextEntry}
 use Rattle.po_entry.specs.Validity.{IsRefusedEntry}
-use Rattle.po_catalog.specs.Joined.{is_live}
-use Rattle.po_catalog.proofs.FirstOnes.{any_first_ones}
+use Rattle.po_messages.specs.Joined.{is_live}
+use Rattle.po_messages.proofs.FirstOnes.{any_first_ones}
 use Rattle.po_merge.specs.declared.definition.NamedEntry.{NamedEntry as BorrowedEntry}
 use Rattle.po_merge.specs.declared.input.MergeOptions.{MergeOptions}
 use Rattle.po_merge.specs.Inputs.{NamedEntry}

@@ -15,3 +15,4 @@ pub mod SameInput
 pub mod NumberedGroups
 pub mod Lines
 pub mod EntryLaws
+pub mod TranslationLaws

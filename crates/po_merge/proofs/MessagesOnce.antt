@@ -9,10 +9,10 @@ use Rattle.std.proofs.lemmas.List.Folds.{list_any-append, list_any_at}
 use Rattle.std.proofs.lemmas.List.Kept.{AllPairs-cons}
 use Rattle.std.proofs.lemmas.List.Elements.{All-head, All-tail, All-filter, All-map, All-weaker, filter_agree, filter_passes}
 use Rattle.po_entry.specs.TextEntry.{TextEntry, plain_entry}
-use Rattle.po_catalog.specs.Joined.{is_live}
-use Rattle.po_catalog.specs.Duplicate.{IsSameMessage, AllDiffer, is_of_message}
-use Rattle.po_catalog.proofs.FirstOnes.{any_first_ones}
-use Rattle.po_catalog.proofs.MessageIndex.{contexts_are}
+use Rattle.po_messages.specs.Joined.{is_live}
+use Rattle.po_messages.specs.Duplicate.{IsSameMessage, AllDiffer, is_of_message}
+use Rattle.po_messages.proofs.FirstOnes.{any_first_ones}
+use Rattle.po_messages.proofs.MessageIndex.{contexts_are}
 use Rattle.po_merge.specs.declared.input.MergeOptions.{MergeOptions}
 use Rattle.po_merge.specs.Inputs.{Named, NamedEntry, named, all_entries}
 use Rattle.po_merge.specs.Groups.{same_message, first_ones, definitions}

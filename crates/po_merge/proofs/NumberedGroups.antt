@@ -10,8 +10,8 @@ use Rattle.std.proofs.lemmas.List.Folds.{list_any_at}
 use Rattle.std.proofs.lemmas.List.Elements.{filter_agree}
 use Rattle.std.specs.Cmp.{IsEquivalence}
 use Rattle.po_merge.specs.Inputs.{NamedEntry}
-use Rattle.po_catalog.specs.FirstOnes.{first_ones as firsts_of}
-use Rattle.po_catalog.specs.Message.{Message, entry_message, same_message as one_message}
+use Rattle.po_messages.specs.FirstOnes.{first_ones as firsts_of}
+use Rattle.po_messages.specs.Message.{Message, entry_message, same_message as one_message}
 use Rattle.po_merge.specs.declared.definition.NamedEntry.{NamedEntry as BorrowedEntry}
 use Rattle.po_merge.specs.InputsView.{named_entries, named_entry}
 use Rattle.po_merge.specs.Grouping.{group_entries, message_numbers, named_messages}

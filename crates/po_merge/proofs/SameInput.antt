@@ -13,9 +13,9 @@ use Rattle.po_syntax.specs.declared.item.CommentKind.TheVariants.{Translator, Ex
 use Rattle.po_entry.specs.TextEntry.{TextEntry}
 use Rattle.po_entry.specs.Header.{is_header}
 use Rattle.po_entry.specs.Equality.{texts_eq}
-use Rattle.po_catalog.specs.Joined.{is_live}
-use Rattle.po_catalog.specs.Duplicate.{IsSameMessage, AllDiffer}
-use Rattle.po_catalog.specs.Statistics.{has_translation}
+use Rattle.po_messages.specs.Joined.{is_live}
+use Rattle.po_messages.specs.Duplicate.{IsSameMessage, AllDiffer}
+use Rattle.po_messages.specs.Statistics.{has_translation}
 use Rattle.po_merge.specs.declared.input.MergeOptions.{MergeOptions}
 use Rattle.po_merge.specs.Inputs.{Named, NamedEntry, named}
 use Rattle.po_merge.specs.Groups.{with_new, first_ones, same_message, definitions}

@@ -14,8 +14,8 @@ use Rattle.std.proofs.lemmas.Slice.Eq.{bytes_eq-Decides}
 use Rattle.std.proofs.Math.Bool.{or-false}
 use Rattle.po_entry.specs.TextEntry.{texts}
 use Rattle.po_entry.specs.Equality.{texts_eq}
-use Rattle.po_reader.specs.SeenTexts.{HoldsTexts}
-use Rattle.po_reader.proofs.SeenTexts.{cond_or}
+use Rattle.po_entry.specs.SeenTexts.{HoldsTexts}
+use Rattle.po_entry.proofs.SeenTexts.{cond_or}
 use Rattle.po_merge.specs.Inputs.{NamedEntry}
 use Rattle.po_merge.specs.MergedEntry.{with_others}
 use Rattle.po_merge.specs.Sets.{HasForms}

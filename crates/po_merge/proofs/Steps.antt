@@ -9,7 +9,7 @@ use Rattle.std.proofs.lemmas.List.Elements.{filter-append}
 use Rattle.std.proofs.lemmas.Bool.{ltb-false}
 use Rattle.std.proofs.lemmas.List.Sums.{fold_push}
 use Rattle.po_entry.specs.TextEntry.{TextEntry, texts}
-use Rattle.po_catalog.specs.Statistics.{has_translation}
+use Rattle.po_messages.specs.Statistics.{has_translation}
 use Rattle.po_merge.specs.declared.definition.NamedEntry.{NamedEntry as BorrowedEntry}
 use Rattle.po_merge.specs.Inputs.{NamedEntry}
 use Rattle.po_merge.specs.InputsView.{named_entry, named_entries}

@@ -18,7 +18,7 @@ use Rattle.po_entry.specs.Halves.{All-left, All-right}
 use Rattle.po_entry.specs.TextEntry.{TextEntry, previous_texts}
 use Rattle.po_syntax.specs.ItemContents.{IsText, IsComment}
 use Rattle.po_entry.specs.Validity.{IsEntry, IsTranslatorComment, IsReference, IsFlag}
-use Rattle.po_catalog.specs.Statistics.{has_translation}
+use Rattle.po_messages.specs.Statistics.{has_translation}
 use Rattle.po_merge.specs.declared.input.MergeOptions.{MergeOptions}
 use Rattle.po_merge.specs.Inputs.{NamedEntry}
 use Rattle.po_merge.specs.Groups.{with_new}
@@ -176,7 +176,7 @@ translations_all P ds h = first_ones_from P same_forms [] (filter (λ d. has_tra
 
 -- how many forms
 
-at_least : (n : ℕ) (ts : List NamedEntry) → n ≤ fold (λ count t. max count (length t.entry.forms)) n ts
+pub at_least : (n : ℕ) (ts : List NamedEntry) → n ≤ fold (λ count t. max count (length t.entry.forms)) n ts
 at_least n [] = omega arith
 at_least n (t ∷ ts) = let more = at_least (max n (length t.entry.forms)) ts in omega (arith, more)
 

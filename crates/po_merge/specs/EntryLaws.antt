@@ -6,7 +6,7 @@ use Rattle.std.specs.List.{AllZip, list_any}
 use Rattle.po_syntax.specs.declared.item.CommentKind.{CommentKind}
 use Rattle.po_entry.specs.TextEntry.{TextEntry, SameButLine}
 use Rattle.po_entry.specs.Header.{is_header}
-use Rattle.po_catalog.specs.Joined.{is_live}
+use Rattle.po_messages.specs.Joined.{is_live}
 use Rattle.po_merge.specs.declared.input.MergeOptions.{MergeOptions}
 use Rattle.po_merge.specs.Inputs.{NamedEntry}
 use Rattle.po_merge.specs.Groups.{definitions}

@@ -1,7 +1,7 @@
 -- Internal: the parts that a merged entry takes from the first definition that has them.
 use Rattle.std.specs.Prelude.{Bool}
 use Rattle.po_entry.specs.TextEntry.{TextEntry}
-use Rattle.po_catalog.specs.Statistics.{has_translation}
+use Rattle.po_messages.specs.Statistics.{has_translation}
 use Rattle.po_merge.specs.declared.definition.Part.{Part}
 use Rattle.po_merge.specs.declared.definition.Part.TheVariants.{Translation, Previous, Plural}
 use Rattle.po_merge.specs.MergedEntry.{has_previous, has_plural}

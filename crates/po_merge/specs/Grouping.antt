@@ -1,8 +1,8 @@
 -- Internal: entries that are grouped by their messages.
 use Rattle.std.specs.Prelude.{ℕ, ◌<◌, All, length, List, map, IsUtf8}
 use Rattle.std.specs.Global.{Vec}
-use Rattle.po_catalog.specs.FirstOnes.{group_numbers}
-use Rattle.po_catalog.specs.Message.{Message, entry_message, same_message}
+use Rattle.po_messages.specs.FirstOnes.{group_numbers}
+use Rattle.po_messages.specs.Message.{Message, entry_message, same_message}
 use Rattle.po_entry.specs.Bytes.{Lacks}
 use Rattle.po_entry.specs.Validity.{IsEntry}
 use Rattle.po_merge.specs.declared.definition.NamedEntry.{NamedEntry as BorrowedEntry}

@@ -1,9 +1,9 @@
 -- Entries grouped by their messages (manual, "Invoking the msgcat Program").
-pub use Rattle.po_catalog.specs.FirstOnes.{with_new, first_ones}
+pub use Rattle.po_messages.specs.FirstOnes.{with_new, first_ones}
 use Rattle.std.specs.Prelude.{Bool, ℕ, ◌==◌, List, [], ◌∷◌, map, filter, if◌then◌else◌}
 use Rattle.std.specs.List.{list_any, range_with_len}
-use Rattle.po_catalog.specs.Joined.{is_live}
-use Rattle.po_catalog.specs.Message.{entry_message, same_message as one_message}
+use Rattle.po_messages.specs.Joined.{is_live}
+use Rattle.po_messages.specs.Message.{entry_message, same_message as one_message}
 use Rattle.po_merge.specs.Inputs.{NamedEntry}
 
 -- entries of one message have the same context, or both none, and the same msgid

@@ -8,3 +8,4 @@ pub mod Sets
 pub mod FirstParts
 pub mod MergeLaws
 pub mod EntryLaws
+pub mod TranslationLaws

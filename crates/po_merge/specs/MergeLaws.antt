@@ -6,8 +6,8 @@ use Rattle.po_entry.specs.TextEntry.{TextEntry}
 use Rattle.po_entry.specs.Header.{HasAdmittedCharset}
 use Rattle.po_syntax.specs.ItemContents.{IsText}
 use Rattle.po_entry.specs.Validity.{IsEntry, IsCatalogueEntry}
-use Rattle.po_catalog.specs.Duplicate.{AllDiffer, is_of_message}
-use Rattle.po_catalog.specs.Message.{same_message as one_message}
+use Rattle.po_messages.specs.Duplicate.{AllDiffer, is_of_message}
+use Rattle.po_messages.specs.Message.{same_message as one_message}
 use Rattle.po_merge.specs.declared.input.MergeOptions.{MergeOptions}
 use Rattle.po_merge.specs.Inputs.{Named, NamedEntry, all_entries}
 use Rattle.po_merge.specs.Grouping.{message_numbers, named_messages}

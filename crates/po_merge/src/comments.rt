@@ -1,13 +1,12 @@
 ghost use Rattle.std.specs.Prelude.{◌≡◌, ◌<◌, ◌++◌, ℕ, List, length, IfOk, OnOk};
 ghost use Rattle.po_entry.specs.TextEntry.{texts};
-ghost use Rattle.po_reader.specs.SeenTexts.{HoldsTexts};
+ghost use Rattle.po_entry.specs.SeenTexts.{HoldsTexts};
 ghost use Rattle.po_merge.specs.InputsView.{named_entries};
 ghost use Rattle.po_merge.specs.MergedEntry.{collected, comment_of, texts_of, with_others};
 
 use crate::definition::{NamedEntry, Part, first_with};
 use crate::input::MergeOptions;
-use po_catalog::Entry;
-use po_entry::copy_texts;
+use po_entry::{Entry, copy_texts};
 use po_syntax::CommentKind;
 use std::alloc::{AllocError, Global};
 use std::collections::BTreeSet;

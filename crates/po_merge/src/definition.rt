@@ -1,6 +1,6 @@
 ghost use Rattle.std.specs.Prelude.{◌≡◌, ◌<◌, ◌||◌, length, is_some, filter, IfOk};
 ghost use Rattle.std.specs.List.{list_any};
-ghost use Rattle.po_catalog.specs.Joined.{is_live};
+ghost use Rattle.po_messages.specs.Joined.{is_live};
 ghost use Rattle.po_entry.specs.Header.{is_header};
 ghost use Rattle.po_merge.specs.InputsView.{named_entries};
 ghost use Rattle.po_merge.specs.Merged.{is_kept, is_wanted};
@@ -8,7 +8,8 @@ ghost use Rattle.po_merge.specs.MergedEntry.{first_with};
 ghost use Rattle.po_merge.specs.FirstParts.{has_part};
 
 use crate::input::MergeOptions;
-use po_catalog::{Entry, Previous, has_translation, is_live};
+use po_entry::{Entry, Previous};
+use po_messages::{has_translation, is_live};
 use std::alloc::{AllocError, Global};
 
 /// An entry of one of several inputs, with that input's name.

@@ -1,7 +1,7 @@
 ghost use Rattle.std.specs.Prelude.{◌≡◌, ◌++◌, ◌∷◌, [], All, IfOk, IsUtf8, List, OnOk, length, map};
-ghost use Rattle.po_catalog.specs.FirstOnes.{first_ones, group_numbers};
-ghost use Rattle.po_catalog.specs.Message.{Message, same_message};
-ghost use Rattle.po_catalog.specs.MessageView.{messages};
+ghost use Rattle.po_messages.specs.FirstOnes.{first_ones, group_numbers};
+ghost use Rattle.po_messages.specs.Message.{Message, same_message};
+ghost use Rattle.po_messages.specs.MessageView.{messages};
 ghost use Rattle.po_entry.specs.Bytes.{Lacks};
 ghost use Rattle.po_merge.specs.Grouping.{IsDefinition, group_entries, named_messages};
 ghost use Rattle.po_merge.specs.Groups.{by_number, groups};
@@ -10,8 +10,9 @@ ghost use Rattle.po_merge.specs.InputsView.{inputs_view, named_entries};
 
 use crate::definition::NamedEntry;
 use crate::input::Named;
-use po_catalog::laws::messages_are_numbered_in_order;
-use po_catalog::{Entry, MessageKey, message_key};
+use po_entry::Entry;
+use po_messages::laws::messages_are_numbered_in_order;
+use po_messages::{MessageKey, message_key};
 use std::alloc::{AllocError, Global};
 
 /// Appends the entries of an input of this name.
@@ -103,6 +104,6 @@ pub(crate) fn grouped<'a>(
 {
     let entries = all_entries(alloc, inputs)?;
     let keys = keys_of(alloc, &entries)?;
-    let numbers = po_catalog::grouped(alloc, &keys)?;
+    let numbers = po_messages::grouped(alloc, &keys)?;
     groups_of(alloc, &entries, &numbers)
 }

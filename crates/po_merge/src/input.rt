@@ -1,4 +1,4 @@
-use po_catalog::Catalogue;
+use po_entry::Catalogue;
 
 /// A catalogue that is merged with others.
 #[derive(Debug, Drop)]

@@ -5,7 +5,7 @@ ghost use Rattle.po_merge.specs.Sets.{with_form};
 ghost use Rattle.po_merge.specs.MergedEntry.{ended, form_count, joined_form, joined_forms, marked, translations};
 
 use crate::definition::NamedEntry;
-use po_catalog::has_translation;
+use po_messages::has_translation;
 use std::alloc::{AllocError, Global};
 use std::collections::BTreeSet;
 

@@ -6,6 +6,7 @@ ghost use Rattle.po_merge.specs.Inputs.{Named, NamedEntry};
 ghost use Rattle.po_entry.specs.TextEntry.{TextEntry};
 ghost use Rattle.po_merge.specs.MergeLaws.{FormsAreOfOne, GroupsByNumber, KeptMessagesStand, MergedAreEntries, MergedCanStand, MessagesStandOnce, OneDefinitionStays, OneInputStays, WithItself};
 ghost use Rattle.po_merge.specs.EntryLaws.{FormsAreJoined, JoinedIsFuzzy, KeptByCount, LinesAreNotMerged, ObsoleteWhereNoneIsLive, PluralOfFirst, PreviousOfFirst, TextsInOrder, TextsOfAll};
+ghost use Rattle.po_merge.specs.TranslationLaws.{CommentsOfFirst, FormsOfFirst, HeadersAreKept, JoinedAsLongest, JoinedWhereTheyDiffer};
 ghost use Rattle.po_syntax.specs.declared.item.CommentKind.{CommentKind};
 
 /// A message with one definition is merged to the entry of that definition.
@@ -61,6 +62,24 @@ pub fn translations_are_joined()
     ensures forms { (options : MergeOptions) (definitions : List NamedEntry) → FormsAreJoined options definitions }
 {}
 
+/// Different translations are joined exactly if `use_first` isn't given and two definitions with a
+/// translation differ in it. The joined entry has as many forms as the translation with the most.
+pub fn joined_where_translations_differ()
+    ensures exactly { (options : MergeOptions) (definitions : List NamedEntry)
+        → JoinedWhereTheyDiffer options definitions }
+    ensures longest { (options : MergeOptions) (definitions : List NamedEntry) → JoinedAsLongest options definitions }
+{}
+
+/// Where different translations aren't joined, the forms and the mark of a fuzzy entry are those of
+/// the first definition with a translation, or of the first of all where none has one. So are the
+/// comments of each kind with `use_first`.
+pub fn first_translated_definition()
+    ensures forms { (options : MergeOptions) (definitions : List NamedEntry) (definition : NamedEntry)
+        → FormsOfFirst options definitions definition }
+    ensures comments { (options : MergeOptions) (kind : CommentKind) (definitions : List NamedEntry)
+        (definition : NamedEntry) → CommentsOfFirst options kind definitions definition }
+{}
+
 /// Previous texts and the plural are those of the first definition that has some.
 pub fn first_definition_with_a_part()
     ensures previous { (options : MergeOptions) (before : List NamedEntry) (definition : NamedEntry)
@@ -78,6 +97,11 @@ pub fn obsolete_where_none_is_live()
 /// fewer than `less_than`, and one alone with `unique`.
 pub fn kept_by_count()
     ensures { (options : MergeOptions) (definitions : List NamedEntry) → KeptByCount options definitions }
+{}
+
+/// A header's message is kept, however many definitions it has.
+pub fn headers_are_kept()
+    ensures { (options : MergeOptions) (definitions : List NamedEntry) → HeadersAreKept options definitions }
 {}
 
 /// The groups of entries are those of the numbers of their messages.

@@ -12,8 +12,7 @@ use crate::definition::{NamedEntry, Part, first_with, has_live, is_kept, live};
 use crate::grouping::grouped;
 use crate::input::{MergeOptions, Named};
 use crate::joined_translations::{joined_forms, translations};
-use po_catalog::{Catalogue, Entry};
-use po_entry::{copy_optional, copy_texts};
+use po_entry::{Catalogue, Entry, copy_optional, copy_texts};
 use po_syntax::{CommentKind, PoError, PoFault};
 use std::alloc::{AllocError, Global};
 

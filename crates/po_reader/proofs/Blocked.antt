@@ -13,7 +13,7 @@ use Rattle.po_reader.specs.Steps.Body.{begins_form}
 use Rattle.po_reader.specs.Steps.Head as head
 use Rattle.po_entry.specs.Spelling.{SpellsEntries}
 use Rattle.po_reader.specs.Steps.Stops.{line_at}
-use Rattle.po_reader.specs.Viable.{IsViable}
+use Rattle.po_entry.specs.Viable.{IsViable}
 use Rattle.po_reader.proofs.Cuts.{Cut}
 
 -- what is wanted at a place: a string under these marks, a keyword of an entry's own lines, or more of a head

@@ -9,7 +9,7 @@ use Rattle.po_entry.specs.Spelling.{SpellsEntries}
 use Rattle.po_entry.specs.Parts.{CommentText, PreviousText, rank}
 use Rattle.po_reader.proofs.Spelt.{reads_spelt}
 use Rattle.po_reader.specs.Steps.Stops as stop
-use Rattle.po_reader.specs.Viable.{IsViable}
+use Rattle.po_entry.specs.Viable.{IsViable}
 use Rattle.po_reader.proofs.OneReading.{spelt_or_stop}
 use Rattle.po_reader.proofs.Looks.{FormsEnd, forms_end, head_look, reads_look, body_starts, stop_starts}
 use Rattle.po_reader.proofs.Cuts.{followed, extended, comment_cut, previous_cut, strings_cut, body_cut, head_cut}

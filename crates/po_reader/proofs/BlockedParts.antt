@@ -11,7 +11,7 @@ use Rattle.po_reader.specs.Steps.Strings as string
 use Rattle.po_reader.specs.Steps.Keywords as word
 use Rattle.po_reader.specs.Steps.Body as body
 use Rattle.po_reader.specs.Steps.Stops as stop
-use Rattle.po_reader.specs.Viable.{IsViable}
+use Rattle.po_entry.specs.Viable.{IsViable}
 use Rattle.po_reader.proofs.Looks.{strings_look, keyword_text_look, keyword_text_wanted, forms_look, translation_look}
 use Rattle.po_reader.proofs.Cuts.{followed, extended, string_cut, keyword_cut, context_cut, id_cut, strings_cut, keyword_text_cut}
 use Rattle.po_reader.proofs.Blocked.{Blocked, Context, Longer, AtString, AtKeyword, shorter, as_long, lifted, deeper}

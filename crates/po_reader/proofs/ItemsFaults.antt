@@ -4,7 +4,7 @@ use Rattle.po_syntax.specs.declared.fault.PoFault.{PoFault}
 use Rattle.po_syntax.specs.TextItem.{TextItem, line_of}
 use Rattle.po_entry.specs.TextEntry.{TextEntry}
 use Rattle.po_entry.specs.Spelling.{SpellsEntries}
-use Rattle.po_reader.specs.Viable.{IsViable, Misfit, index, mixed, order, ItemsFault, at, at_end, last_line}
+use Rattle.po_entry.specs.Viable.{IsViable, Misfit, index, mixed, order, ItemsFault, at, at_end, last_line}
 use Rattle.po_reader.proofs.Blocked.{shorter}
 
 -- what reads is viable up to each of its items

@@ -7,7 +7,7 @@ use Rattle.po_entry.specs.Header.{HasAdmittedCharset}
 use Rattle.po_entry.specs.Validity.{HasTexts, TextsFault}
 use Rattle.po_entry.specs.Validity as validity
 use Rattle.po_reader.specs.KeptComments.{kept_entry, without_comments}
-use Rattle.po_reader.specs.Faults as faults
+use Rattle.po_entry.specs.Faults as faults
 use Rattle.po_reader.proofs.Kept.{all_kept, sound_without_comments, texts_without_comments, admitted_without_comments}
 use Rattle.po_reader.proofs.SoundCatalogue.{SoundEntry}
 

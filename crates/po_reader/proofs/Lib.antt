@@ -32,7 +32,6 @@ pub mod TextEnds
 pub mod NoMemory
 pub mod RestFaults
 pub mod PieceReading
-pub mod SeenTexts
 pub mod SeenFlags
 pub mod Kept
 pub mod KeptEntries

@@ -16,7 +16,7 @@ use Rattle.po_entry.specs.Parts.{rank}
 use Rattle.po_reader.specs.Steps.Strings as string
 use Rattle.po_reader.specs.Steps.Keywords as word
 use Rattle.po_reader.specs.Steps.Head as head
-use Rattle.po_reader.specs.Viable.{IsViable, IsOwn, IsWrongIndex, IsMixed, with_obsolete, Misfit, index, mixed, order}
+use Rattle.po_entry.specs.Viable.{IsViable, IsOwn, IsWrongIndex, IsMixed, with_obsolete, Misfit, index, mixed, order}
 use Rattle.po_reader.proofs.Steps.{keyword_reported, head_reported}
 use Rattle.po_reader.proofs.Blocked.{Point, AtString, AtKeyword, AtHead, Refuses, Accepts, Alike}
 

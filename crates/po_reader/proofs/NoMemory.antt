@@ -6,8 +6,8 @@ use Rattle.po_syntax.specs.TextItem.{TextItem}
 use Rattle.po_syntax.specs.PoText.{TextFault}
 use Rattle.po_entry.specs.TextEntry.{TextEntry}
 use Rattle.po_entry.proofs.TextsFaults.{texts_fault_reported}
-use Rattle.po_reader.specs.Faults as fault
-use Rattle.po_reader.specs.Viable.{Misfit, index, mixed, order, ItemsFault, at, at_end}
+use Rattle.po_entry.specs.Faults as fault
+use Rattle.po_entry.specs.Viable.{Misfit, index, mixed, order, ItemsFault, at, at_end}
 
 misfit_reported : {prefix : List TextItem} {item : TextItem} {kind : PoFault} → Misfit prefix item kind → kind ≢ OutOfMemory
 misfit_reported (index wrong) = λ same. cc

@@ -7,8 +7,8 @@ use Rattle.po_syntax.specs.PoText.{SpellsText, TextFault}
 use Rattle.po_entry.specs.TextEntry.{TextEntry}
 use Rattle.po_entry.specs.Validity.{HasTexts}
 use Rattle.po_entry.specs.Spelling.{SpellsEntries}
-use Rattle.po_reader.specs.Faults as fault
-use Rattle.po_reader.specs.Viable.{ItemsFault}
+use Rattle.po_entry.specs.Faults as fault
+use Rattle.po_entry.specs.Viable.{ItemsFault}
 use Rattle.po_entry.proofs.TextsFaults.{no_texts_fault, one_texts_fault}
 use Rattle.po_reader.proofs.ItemsFaults.{fault_unread, items_fault_once}
 use Rattle.po_reader.proofs.OneReading.{spelt_once, texts_go_on}

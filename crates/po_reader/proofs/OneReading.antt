@@ -21,7 +21,7 @@ use Rattle.po_entry.specs.Parts.{CommentText, PreviousText, Body}
 use Rattle.po_entry.proofs.TextsFaults.{no_texts_fault}
 use Rattle.po_reader.proofs.SpeltReads.{spelt_reads}
 use Rattle.po_reader.specs.Steps.Stops as stop
-use Rattle.po_reader.specs.Faults as fault
+use Rattle.po_entry.specs.Faults as fault
 use Rattle.po_reader.proofs.ItemsFaults.{fault_unread}
 use Rattle.po_reader.proofs.Once.{head_once, head_or_stop, body_once, body_or_stop}
 

@@ -16,8 +16,8 @@ use Rattle.po_entry.specs.Spelling as spelling
 use Rattle.po_entry.proofs.JoinedPieces.{entries_joined}
 use Rattle.po_reader.proofs.Looks.{IsApart}
 use Rattle.po_reader.proofs.RestFaults.{items_stop_after, no_entries, nothing_stops}
-use Rattle.po_reader.specs.Faults.{IsReadFault}
-use Rattle.po_reader.specs.Faults as faults
+use Rattle.po_entry.specs.Faults.{IsReadFault}
+use Rattle.po_entry.specs.Faults as faults
 use Rattle.po_reader.specs.ItemsRead.{ReadsItems, ItemsStop}
 use Rattle.po_reader.specs.ItemsRead as stops
 use Rattle.po_reader.specs.PieceRead.{SpellsOn, ReadsOn, KeepsReading, KeepsItems, StopsStay, FaultsStay, IsLeftFault}

@@ -7,7 +7,7 @@ use Rattle.po_entry.specs.TextEntry.{TextEntry}
 use Rattle.po_entry.specs.Header.{HasAdmittedCharset}
 use Rattle.po_entry.specs.Validity.{HasTexts}
 use Rattle.po_entry.proofs.Settled.{texts_or_fault, charset_settled}
-use Rattle.po_reader.specs.Faults as fault
+use Rattle.po_entry.specs.Faults as fault
 
 pub texts_end : (entries : List TextEntry) → All HasTexts entries ⊎ ((kind : PoFault) × (line : ℕ) × fault.TextsStop entries kind line)
 texts_end [] = inl (All-nil HasTexts)

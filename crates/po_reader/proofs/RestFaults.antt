@@ -18,12 +18,12 @@ use Rattle.po_reader.proofs.Spelt.{reads_spelt}
 use Rattle.po_reader.proofs.SpeltReads.{spelt_reads}
 use Rattle.po_reader.proofs.StopFaults.{items_fault}
 use Rattle.po_reader.proofs.Totality.{entries_end}
-use Rattle.po_reader.specs.Faults as faults
+use Rattle.po_entry.specs.Faults as faults
 use Rattle.po_reader.specs.ItemsRead.{ReadsItems, ItemsStop}
 use Rattle.po_reader.specs.ItemsRead as items
 use Rattle.po_reader.specs.Steps.Stops.{EntriesStop}
 use Rattle.po_reader.specs.Steps.Stops as stop
-use Rattle.po_reader.specs.Viable.{ItemsFault, last_line}
+use Rattle.po_entry.specs.Viable.{ItemsFault, last_line}
 use Rattle.po_reader.proofs.Cuts.{head_cut, body_cut}
 use Rattle.po_reader.proofs.Looks.{IsApart, body_starts, forms_end, reads_look}
 use Rattle.po_reader.proofs.OneReading.{reads_or_stop, spelt_once, texts_go_on, charsets_go_on}

@@ -9,7 +9,7 @@ use Rattle.po_reader.specs.Steps.Keywords as word
 use Rattle.po_reader.specs.Steps.Head as head
 use Rattle.po_entry.specs.Spelling.{SpellsEntries}
 use Rattle.po_reader.specs.Steps.Stops.{EntriesStop, line_at}
-use Rattle.po_reader.specs.Viable.{IsViable, ItemsFault, at, at_end, last_line}
+use Rattle.po_entry.specs.Viable.{IsViable, ItemsFault, at, at_end, last_line}
 use Rattle.po_reader.proofs.Steps.{string_item, keyword_item, head_item, HeadDoes}
 use Rattle.po_reader.proofs.Blocked.{Point, AtString, AtKeyword, AtHead, Refuses, Accepts, Alike, IsUnread, first_alike, shorter}
 use Rattle.po_reader.proofs.BlockedEntries.{items_blocked}

@@ -7,8 +7,8 @@ use Rattle.po_syntax.specs.PoText.{SpellsText, TextFault}
 use Rattle.po_entry.specs.TextEntry.{TextEntry}
 use Rattle.po_entry.specs.ReadsText.{ReadsText}
 use Rattle.po_reader.proofs.Spelt.{reads_spelt}
-use Rattle.po_reader.specs.Faults as fault
-use Rattle.po_reader.specs.Viable.{last_line}
+use Rattle.po_entry.specs.Faults as fault
+use Rattle.po_entry.specs.Viable.{last_line}
 use Rattle.po_reader.proofs.StopFaults.{items_fault}
 use Rattle.po_reader.proofs.Readable.{texts_end, charsets_end}
 use Rattle.po_reader.proofs.Totality.{entries_end}

@@ -8,8 +8,8 @@ use Rattle.po_entry.specs.TextEntry.{TextEntry}
 use Rattle.po_entry.specs.Header.{HasAdmittedCharset}
 use Rattle.po_entry.specs.Validity.{HasTexts}
 use Rattle.po_entry.specs.Spelling.{SpellsEntries}
-use Rattle.po_reader.specs.Faults.{TextsStop, CharsetStops}
-use Rattle.po_reader.specs.Viable.{ItemsFault}
+use Rattle.po_entry.specs.Faults.{TextsStop, CharsetStops}
+use Rattle.po_entry.specs.Viable.{ItemsFault}
 
 -- the items read as these entries
 pub record ReadsItems (items : List TextItem) (entries : List TextEntry) : Type 0 where

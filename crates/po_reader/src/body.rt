@@ -2,7 +2,7 @@ ghost use Rattle.std.specs.Prelude.{◌≡◌, ◌≢◌, ◌<◌, length, IfOk,
 ghost use Rattle.po_reader.specs.Steps.Body.{begins_form, body_start, IsForms, IsTranslation, IsBody};
 ghost use Rattle.po_reader.specs.Steps.Body as spec;
 ghost use Rattle.po_entry.specs.TextEntry.{texts, optional_text};
-ghost use Rattle.po_reader.specs.Faults.{IsStop};
+ghost use Rattle.po_entry.specs.Faults.{IsStop};
 ghost use Rattle.po_reader.specs.Steps.Stops.{FormsStop, TranslationStops, BodyStops};
 ghost use Rattle.po_reader.specs.Steps.ReaderView.{start_view, body_view};
 

@@ -8,7 +8,7 @@ ghost use Rattle.po_entry.specs.TextEntry.{TextEntry};
 ghost use Rattle.po_reader.specs.KeptComments.{kept_entry};
 ghost use Rattle.po_reader.specs.Steps.HeadView.{HoldsHead};
 ghost use Rattle.po_reader.specs.Steps.ReaderView.{body_view};
-ghost use Rattle.po_reader.specs.Faults.{IsStop};
+ghost use Rattle.po_entry.specs.Faults.{IsStop};
 ghost use Rattle.po_reader.specs.Steps.Stops.{EntriesStop};
 
 use crate::body::{Body, Original, Translation, take_body};

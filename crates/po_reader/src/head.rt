@@ -5,7 +5,7 @@ ghost use Rattle.po_reader.specs.Steps.Head as spec;
 ghost use Rattle.po_entry.specs.Comments.{same_kind, with_previous};
 ghost use Rattle.po_syntax.specs.declared.item.CommentKind.TheVariants.{Flags};
 ghost use Rattle.po_reader.specs.KeptComments.{kept_comments};
-ghost use Rattle.po_reader.specs.Faults.{IsStop};
+ghost use Rattle.po_entry.specs.Faults.{IsStop};
 ghost use Rattle.po_reader.specs.Steps.Stops.{HeadStops};
 ghost use Rattle.po_reader.specs.Steps.ReaderView.{head_view};
 ghost use Rattle.po_reader.specs.Steps.HeadView.{HoldsHead, HoldsComments};

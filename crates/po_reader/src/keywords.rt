@@ -3,7 +3,7 @@ ghost use Rattle.po_syntax.specs.TextItem.{TextItem};
 ghost use Rattle.po_reader.specs.Steps.Keywords.{IsKeywordText, next_keyword, keyword_step, is_wanted, is_wrong_form};
 ghost use Rattle.po_reader.specs.Steps.Keywords as spec;
 ghost use Rattle.po_reader.specs.Steps.ReaderView.{wanted_view};
-ghost use Rattle.po_reader.specs.Faults.{IsStop};
+ghost use Rattle.po_entry.specs.Faults.{IsStop};
 ghost use Rattle.po_reader.specs.Steps.Stops.{KeywordTextStops};
 
 use crate::rest::Rest;

@@ -7,7 +7,7 @@ ghost use Rattle.po_entry.specs.TextEntry.{TextEntry};
 ghost use Rattle.po_entry.specs.ReadsText.{ReadsText};
 ghost use Rattle.po_entry.specs.Validity.{IsCatalogueEntry};
 ghost use Rattle.po_entry.specs.Spelling.{SpellsEntries};
-ghost use Rattle.po_reader.specs.Faults.{IsReadFault};
+ghost use Rattle.po_entry.specs.Faults.{IsReadFault};
 ghost use Rattle.po_reader.specs.Reads.{Reads};
 
 use po_syntax::laws as syntax;

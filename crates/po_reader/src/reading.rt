@@ -1,6 +1,6 @@
 ghost use Rattle.std.specs.Prelude.{◌≡◌, ◌≢◌, IfOk, IfErr};
 ghost use Rattle.po_entry.specs.ReadsText.{ReadsText};
-ghost use Rattle.po_reader.specs.Faults.{IsReadFault};
+ghost use Rattle.po_entry.specs.Faults.{IsReadFault};
 
 use crate::piecewise::next_catalogue;
 use po_entry::Catalogue;

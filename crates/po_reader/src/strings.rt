@@ -2,7 +2,7 @@ ghost use Rattle.std.specs.Prelude.{◌≡◌, ◌≢◌, ◌<◌, length, IfOk,
 ghost use Rattle.po_reader.specs.Steps.Strings.{IsStrings, string_step, begins_string};
 ghost use Rattle.po_entry.specs.Spelling.{own_marks};
 ghost use Rattle.po_reader.specs.Steps.Strings as spec;
-ghost use Rattle.po_reader.specs.Faults.{IsStop};
+ghost use Rattle.po_entry.specs.Faults.{IsStop};
 ghost use Rattle.po_reader.specs.Steps.Stops.{StringsStop};
 
 use crate::rest::Rest;

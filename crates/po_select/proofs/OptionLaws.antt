@@ -5,8 +5,8 @@ use Rattle.std.proofs.lemmas.List.{length-map}
 use Rattle.std.proofs.lemmas.List.Elements.{All-nil, All-cons, All-weaker, filter_passes}
 use Rattle.po_entry.specs.TextEntry.{TextEntry}
 use Rattle.po_entry.specs.Header.{is_header, first_form}
-use Rattle.po_catalog.specs.Joined.{is_live_header}
-use Rattle.po_catalog.specs.Statistics.{has_translation}
+use Rattle.po_messages.specs.Joined.{is_live_header}
+use Rattle.po_messages.specs.Statistics.{has_translation}
 use Rattle.po_select.specs.declared.selection.Selection.{Selection}
 use Rattle.po_select.specs.Selected.{fuzzy_after, if_given, is_kept, meets}
 use Rattle.po_select.specs.SelectionLaws.{AllButHeader, ClearsFuzzy, ClearsObsolete, ClearsPrevious, Empties, FormsStay, IsUnwanted, KeepsFuzzy, KeepsObsolete, KeepsTranslated, KeepsUntranslated, MarksStay, RemovesFuzzy, RemovesObsolete, RestStays, SetsFuzzy, SetsObsolete, kept}

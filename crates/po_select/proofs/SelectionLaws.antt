@@ -7,7 +7,7 @@ use Rattle.po_entry.specs.TextEntry.{TextEntry, no_previous}
 use Rattle.po_entry.specs.Header.{is_header}
 use Rattle.po_entry.specs.Validity.{IsEntry, IsCatalogueEntry}
 use Rattle.po_entry.proofs.Changes.{IsEntry-emptied, IsEntry-without_previous}
-use Rattle.po_catalog.specs.Joined.{is_live_header}
+use Rattle.po_messages.specs.Joined.{is_live_header}
 use Rattle.po_select.specs.declared.selection.Selection.{Selection}
 use Rattle.po_select.specs.Selected.{ChangesNothing, changed, every_entry, fuzzy_after, is_emptied, is_kept, obsolete_after, selected}
 

@@ -4,8 +4,8 @@
 use Rattle.std.specs.Prelude.{◌≡◌, Bool, false, not, ◌&&◌, ◌||◌, List, [], map, filter, if◌then◌else◌}
 use Rattle.po_entry.specs.TextEntry.{TextEntry, no_previous}
 use Rattle.po_entry.specs.Header.{is_header}
-use Rattle.po_catalog.specs.Joined.{is_live, is_live_header}
-use Rattle.po_catalog.specs.Statistics.{has_translation}
+use Rattle.po_messages.specs.Joined.{is_live, is_live_header}
+use Rattle.po_messages.specs.Statistics.{has_translation}
 use Rattle.po_select.specs.declared.selection.Selection.{Selection}
 
 -- the condition holds, if its option is given

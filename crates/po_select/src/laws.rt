@@ -1,7 +1,7 @@
 //! Laws of selecting, each the contract of a function that does nothing: a call brings the law into
 //! a proof.
 ghost use Rattle.std.specs.Prelude.{◌≡◌, List, All, true, false};
-ghost use Rattle.po_catalog.specs.Joined.{is_live_header};
+ghost use Rattle.po_messages.specs.Joined.{is_live_header};
 ghost use Rattle.po_entry.specs.TextEntry.{TextEntry};
 ghost use Rattle.po_entry.specs.Validity.{IsCatalogueEntry};
 ghost use Rattle.po_select.specs.declared.selection.Selection.{Selection};

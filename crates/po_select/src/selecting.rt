@@ -3,7 +3,7 @@ ghost use Rattle.po_entry.specs.Validity.{IsCatalogueEntry};
 ghost use Rattle.po_select.specs.Selected.{changed, is_kept, selected};
 
 use crate::selection::Selection;
-use po_catalog::{Catalogue, Entry};
+use po_entry::{Catalogue, Entry};
 use po_syntax::PoError;
 
 /// The entries of a catalogue that are selected, each changed as the selection says (GNU gettext

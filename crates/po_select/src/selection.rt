@@ -1,10 +1,10 @@
 ghost use Rattle.std.specs.Prelude.{◌≡◌};
-ghost use Rattle.po_catalog.specs.Joined.{is_live_header};
+ghost use Rattle.po_messages.specs.Joined.{is_live_header};
 ghost use Rattle.po_entry.specs.Validity.{IsCatalogueEntry};
 ghost use Rattle.po_select.specs.Selected.{changed, fuzzy_after, is_emptied, is_kept, meets, obsolete_after};
 
-use po_catalog::{has_translation, is_live_header};
 use po_entry::Entry;
+use po_messages::{has_translation, is_live_header};
 
 /// Which entries of a catalogue are kept, and how those that are kept are changed: the options of
 /// msgattrib (GNU gettext manual, "Invoking the msgattrib Program"). `--fuzzy` stands for

@@ -1,68 +1,22 @@
 -- Each reference is read where it is spelt, and what is read as one is spelt.
 use Rattle.std.proofs.Common.{◌≡◌, inl, inr, refl, sym, ap, ◌∙◌, subst, ℕ, suc, ◌+◌, ◌≤◌, true, ◌||◌, ◌&&◌, eqb, List, [], ◌∷◌, ◌++◌, length, drop, All, Option, Some, None, arith}
 use Rattle.std.specs.List.{list_all}
-use Rattle.std.specs.Int.{is_in_range}
 use Rattle.std.proofs.lemmas.Bool.{and_parts, and_from, or_cases, or_left, or_right, cond_both, eqb-true, leb-true, le-leb, ltb-true, lt-ltb, both_ways, false_from_ne_true, false≢true}
 use Rattle.std.proofs.lemmas.List.{drop_at, drop-drop}
 use Rattle.std.proofs.lemmas.List.Elements.{All-nil, All-cons, All-head, All-tail}
 use Rattle.std.proofs.lemmas.List.Sums.{take_while-cons}
 use Rattle.po_shell.specs.References.{Reference, is_letter, is_name_byte, is_name, name_prefix, begins_with, bare_reference, braced_reference, reference_after}
 use Rattle.po_shell.specs.Holding.{is_begun_name}
-use Rattle.po_shell.specs.Replacing.{BeginsName, upper, lower, underscore, IsInName, begins, digit, IsName, NoNameGoesOn, SpellsReference, bare, braced}
+use Rattle.po_shell.specs.Replacing.{IsInName, IsName, NoNameGoesOn, SpellsReference, bare, braced}
 use Rattle.po_shell.proofs.ReferenceLemmas.{ends, closes, ending-some, after-closed, letter-name_byte}
-
-range_says : (low high b : ℕ) → is_in_range low high b ≡ true → (low ≤ b) × (b ≤ high)
-range_says low high b e = let p = and_parts _ _ e in (leb-true low b p.0, leb-true b high p.1)
-
-range_passes : (low high b : ℕ) → low ≤ b → b ≤ high → is_in_range low high b ≡ true
-range_passes low high b least most = and_from _ _ (le-leb low b least) (le-leb b high most)
-
-letter_says : (b : ℕ) → is_letter b ≡ true → BeginsName b
-unfolding is_letter
-letter_says b e =
-    elim (or_cases (is_in_range 65 90 b || is_in_range 97 122 b) (eqb b 95) e) [
-      | inl letter ↦ elim (or_cases (is_in_range 65 90 b) (is_in_range 97 122 b) letter) [
-        | inl h ↦ upper (range_says 65 90 b h).0 (range_says 65 90 b h).1
-        | inr h ↦ lower (range_says 97 122 b h).0 (range_says 97 122 b h).1
-      ]
-      | inr h ↦ subst BeginsName (sym (eqb-true b 95 h)) underscore
-    ]
-
-letter_passes : {b : ℕ} → BeginsName b → is_letter b ≡ true
-unfolding is_letter
-letter_passes (upper {b = b} least most) = or_left _ _ (or_left _ _ (range_passes 65 90 b least most))
-letter_passes (lower {b = b} least most) = or_left _ _ (or_right _ _ (range_passes 97 122 b least most))
-letter_passes underscore = refl
-
-pub byte_says : (b : ℕ) → is_name_byte b ≡ true → IsInName b
-unfolding is_name_byte
-byte_says b e =
-    elim (or_cases ((is_in_range 48 57 b || is_in_range 65 90 b) || is_in_range 97 122 b) (eqb b 95) e) [
-      | inl h ↦ elim (or_cases (is_in_range 48 57 b || is_in_range 65 90 b) (is_in_range 97 122 b) h) [
-        | inl more ↦ elim (or_cases (is_in_range 48 57 b) (is_in_range 65 90 b) more) [
-          | inl one ↦ digit (range_says 48 57 b one).0 (range_says 48 57 b one).1
-          | inr one ↦ begins (upper (range_says 65 90 b one).0 (range_says 65 90 b one).1)
-        ]
-        | inr one ↦ begins (lower (range_says 97 122 b one).0 (range_says 97 122 b one).1)
-      ]
-      | inr h ↦ begins (subst BeginsName (sym (eqb-true b 95 h)) underscore)
-    ]
-
-digit_passes : (b : ℕ) → 48 ≤ b → b ≤ 57 → is_name_byte b ≡ true
-unfolding is_name_byte
-digit_passes b least most = or_left _ _ (or_left _ _ (or_left _ _ (range_passes 48 57 b least most)))
-
-pub byte_passes : {b : ℕ} → IsInName b → is_name_byte b ≡ true
-byte_passes (begins {b = b} h) = letter-name_byte b (letter_passes h)
-byte_passes (digit {b = b} least most) = digit_passes b least most
 
 all_say : (bytes : List ℕ) → list_all is_name_byte bytes ≡ true → All IsInName bytes
 all_say [] h = All-nil IsInName
-all_say (b ∷ bytes) h = let p = and_parts (is_name_byte b) (list_all is_name_byte bytes) h in All-cons IsInName b bytes (byte_says b p.0) (all_say bytes p.1)
+all_say (b ∷ bytes) h = let p = and_parts (is_name_byte b) (list_all is_name_byte bytes) h in All-cons IsInName b bytes p.0 (all_say bytes p.1)
 
 all_pass : (bytes : List ℕ) → All IsInName bytes → list_all is_name_byte bytes ≡ true
 all_pass [] h = refl
-all_pass (b ∷ bytes) h = and_from _ _ (byte_passes (All-head IsInName b bytes h)) (all_pass bytes (All-tail IsInName b bytes h))
+all_pass (b ∷ bytes) h = and_from _ _ (All-head IsInName b bytes h) (all_pass bytes (All-tail IsInName b bytes h))
 
 name_says : (name : List ℕ) → is_name name ≡ true → list_all is_name_byte name ≡ true → IsName name
 unfolding is_name
@@ -70,13 +24,13 @@ name_says [] h all = absurd (false≢true h)
 name_says (b ∷ bytes) h all =
     let p = and_parts (is_letter b) _ h in
     let q = and_parts (is_name_byte b) (list_all is_name_byte bytes) all in
-    (letter_says b p.0, all_say bytes q.1, ltb-true (length bytes) 255 p.1)
+    (p.0, all_say bytes q.1, ltb-true (length bytes) 255 p.1)
 
 name_begun : (name : List ℕ) → IsName name → is_begun_name name ≡ true
 unfolding is_name
 name_begun [] h = absurd h
 name_begun (b ∷ bytes) h =
-    and_from _ _ (and_from _ _ (letter_passes h.0) (lt-ltb (length bytes) 255 (h.2))) (and_from _ _ (byte_passes (begins h.0)) (all_pass bytes h.1))
+    and_from _ _ (and_from _ _ h.0 (lt-ltb (length bytes) 255 (h.2))) (and_from _ _ (letter-name_byte b h.0) (all_pass bytes h.1))
 
 name_some : (name : List ℕ) → IsName name → name ≡ [] → ⊥
 name_some [] h none = h
@@ -92,7 +46,7 @@ pub record IsRead (text name rest : List ℕ) : Type 0 where
 
 bare_read : (name rest : List ℕ) → IsName name → NoNameGoesOn rest → reference_after (name ++ rest) ≡ Some (record { name = name; size = length name })
 bare_read name [] h ended = ending-some name (name_begun name h) (name_some name h)
-bare_read name (b ∷ rest) h ended = ends name b rest (name_begun name h) (name_some name h) (false_from_ne_true (is_name_byte b) (λ passes. ended (byte_says b passes)))
+bare_read name (b ∷ rest) h ended = ends name b rest (name_begun name h) (name_some name h) (false_from_ne_true (is_name_byte b) (λ passes. ended passes))
 
 pub reference_read : {text name rest : List ℕ} → SpellsReference text name rest → IsRead text name rest
 reference_read (bare {name = name} {rest = rest} h ended) = record {
@@ -121,7 +75,7 @@ run_at (b ∷ bytes) =
     subst (RunAt (b ∷ bytes)) (sym (take_while-cons is_name_byte b bytes))
     (cond_both (is_name_byte b) (b ∷ name_prefix bytes) [] (RunAt (b ∷ bytes))
     (λ passes. (and_from _ _ passes later.0, later.1, ap (λ l. b ∷ l) later.2))
-    (λ fails. (refl, λ h. both_ways (is_name_byte b) fails (byte_passes h), refl)))
+    (λ fails. (refl, λ h. both_ways (is_name_byte b) fails h, refl)))
 
 -- what is read as a reference is spelt
 abbrev Says : List ℕ → Option Reference → Type 0

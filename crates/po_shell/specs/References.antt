@@ -1,7 +1,7 @@
 -- Names and references in a text ("Invoking the envsubst program" of the GNU gettext manual).
-use Rattle.std.specs.Prelude.{ℕ, ◌+◌, Bool, false, ◌&&◌, ◌||◌, ◌==◌, nat_lt, if◌then◌else◌, List, [], ◌∷◌, ◌++◌, length}
+use Rattle.std.specs.Prelude.{◌≡◌, refl, filter, codes, ℕ, ◌+◌, Bool, false, ◌&&◌, ◌||◌, ◌==◌, nat_lt, if◌then◌else◌, List, [], ◌∷◌, ◌++◌, length}
 use Rattle.std.specs.Prelude.{drop, take_while, Option, Some, None}
-use Rattle.std.specs.List.{cons_option, flat_map}
+use Rattle.std.specs.List.{cons_option, flat_map, range_with_len}
 use Rattle.std.specs.Char.{is_ascii_alphabetic, is_ascii_alphanumeric}
 use Rattle.std.specs.Option.{option_map}
 
@@ -12,6 +12,16 @@ is_letter b = is_ascii_alphabetic b || b == 95
 -- what a name goes on with: a letter, `_` or a digit
 unfoldable pub is_name_byte : ℕ → Bool
 is_name_byte b = is_ascii_alphanumeric b || b == 95
+
+-- of all bytes, those with which a name begins, and those with which it goes on
+pub letters_are : filter is_letter (range_with_len 0 256) ≡ codes "ABCDEFGHIJKLMNOPQRSTUVWXYZ_abcdefghijklmnopqrstuvwxyz"
+unfolding is_letter
+letters_are = refl
+
+pub name_bytes_are : filter is_name_byte (range_with_len 0 256)
+    ≡ codes "0123456789ABCDEFGHIJKLMNOPQRSTUVWXYZ_abcdefghijklmnopqrstuvwxyz"
+unfolding is_name_byte
+name_bytes_are = refl
 
 -- a run of name bytes is a name where it begins with a letter and has at most 255 bytes
 unfoldable pub is_name : List ℕ → Bool

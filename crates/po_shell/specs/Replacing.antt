@@ -1,18 +1,16 @@
 -- What spells a reference, and a text with its references replaced, with a case each ("Invoking the
 -- envsubst program" of the GNU gettext manual).
-use Rattle.std.specs.Prelude.{◌≡◌, ℕ, ◌≤◌, List, [], ◌∷◌, ◌++◌, length, All, Option, Some, ◌≢◌, None, Contains}
+use Rattle.std.specs.Prelude.{◌≡◌, ℕ, ◌≤◌, List, [], ◌∷◌, ◌++◌, length, All, Option, Some, ◌≢◌, None, Contains, IsTrue}
+use Rattle.po_shell.specs.References.{is_letter, is_name_byte}
 use Rattle.po_shell.specs.Substitution.{Values}
 
 -- what a name begins with: an ASCII letter or `_`
-pub data BeginsName : ℕ → Type 0 where
-  upper : {b : ℕ} → 65 ≤ b → b ≤ 90 → BeginsName b
-  lower : {b : ℕ} → 97 ≤ b → b ≤ 122 → BeginsName b
-  underscore : BeginsName 95
+abbrev pub BeginsName : ℕ → Type 0
+BeginsName b = IsTrue (is_letter b)
 
 -- what a name goes on with: also a digit
-pub data IsInName : ℕ → Type 0 where
-  begins : {b : ℕ} → BeginsName b → IsInName b
-  digit : {b : ℕ} → 48 ≤ b → b ≤ 57 → IsInName b
+abbrev pub IsInName : ℕ → Type 0
+IsInName b = IsTrue (is_name_byte b)
 
 -- a name has at most 255 bytes
 abbrev pub IsName : List ℕ → Type 0

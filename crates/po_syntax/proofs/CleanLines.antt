@@ -19,7 +19,7 @@ is_feed b = b == 10
 before_first_passes : (p : ℕ → Bool) (text : List ℕ) (k d : ℕ) → k < position_or_len p text → p (get_or text k d) ≡ false
 before_first_passes p text k d less = not-true _ (prefix_len_passes (λ b. not (p b)) text k d less)
 
-lacks_before : (byte : ℕ) (text : List ℕ) (n : ℕ) → n ≤ position_or_len (λ b. b == byte) text → All (λ b. b ≢ byte) (take n text)
+pub lacks_before : (byte : ℕ) (text : List ℕ) (n : ℕ) → n ≤ position_or_len (λ b. b == byte) text → All (λ b. b ≢ byte) (take n text)
 lacks_before byte text n h = λ k d inside.
     let less : k < n = omega (arith, length-take n text) in
     rw (get_or-take n text k d less) (eqb-false _ _ (before_first_passes (λ b. b == byte) text k d (omega arith)))
@@ -56,7 +56,7 @@ after_mark : (P : ℕ → Type 0) (text : List ℕ) (marked : Bool) → All P te
 after_mark P text true h = All-drop P 3 text h
 after_mark P text false h = h
 
-no_nul_all : (text : List ℕ) → HasNoNul text → All (λ b. b ≢ 0) text
+pub no_nul_all : (text : List ℕ) → HasNoNul text → All (λ b. b ≢ 0) text
 no_nul_all text h =
     elim (cases_lt (position_or_len (λ b. b == 0) text) (length text)) [
       | inl inside ↦ absurd (let found = cond-true _ (Some (position_or_len (λ b. b == 0) text)) None (lt-ltb _ _ inside) in cc)

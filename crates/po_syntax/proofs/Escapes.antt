@@ -1,5 +1,5 @@
 -- Each step inside a quoted string reads what spells its byte, or stops at a fault.
-use Rattle.std.proofs.Common.{◌≡◌, ◌==◌, ◌⊎◌, inl, inr, refl, sym, subst, ℕ, zero, suc, ◌+◌, ◌<◌, ◌≤◌, Bool, true, false, cond, if◌then◌else◌, nat_lt, List, [], ◌∷◌, ◌++◌, length, take, drop, Option, arith}
+use Rattle.std.proofs.Common.{◌≡◌, ◌==◌, ◌⊎◌, inl, inr, refl, sym, subst, ℕ, zero, suc, ◌+◌, ◌<◌, ◌≤◌, Bool, true, false, cond, if◌then◌else◌, nat_lt, List, [], ◌∷◌, ◌++◌, length, length-append, take, drop, Option, arith}
 use Rattle.std.specs.Char.{digit_value, is_digit}
 use Rattle.std.specs.Str.Parse.{AllDigits, digits_value}
 use Rattle.std.proofs.lemmas.List.{take-append-drop, length-take}
@@ -39,7 +39,7 @@ all_digits base [] = (tt, omega arith, tt)
 all_digits base (b ∷ text) = all_step base b text (digit_count base text) (1 + digit_count base text) (is_digit b base) (omega arith) refl (all_digits base text)
 
 -- what a step after a backslash says of the text
-abbrev EscapeSays : List ℕ → Step → Type 0
+abbrev pub EscapeSays : List ℕ → Step → Type 0
 EscapeSays text (End rest) = ⊥
 EscapeSays text (Byte b rest) = SpellsEscape text b rest
 EscapeSays text (Stop fault) = EscapeFault text fault
@@ -119,7 +119,7 @@ letter_says b text no_octal no_x =
     if_letter b text (b == 92) _ _ (λ e. rw (eqb-true b 92 e) backslash) (λ n92.
     if_letter b text (b == 34) _ _ (λ e. rw (eqb-true b 34 e) quote) (λ n34. no_escape (no_start b no_octal no_x n97 n98 n102 n110 n114 n116 n118 n92 n34))))))))))
 
-escape_says : (text : List ℕ) → EscapeSays text (escape_at text)
+pub escape_says : (text : List ℕ) → EscapeSays text (escape_at text)
 unfolding escape_at
 escape_says [] = at_end
 escape_says (b ∷ text) =
@@ -130,10 +130,16 @@ escape_says (b ∷ text) =
     (if_escape (120 ∷ text) (digit_count 16 text == 0) (Stop BadEscape) _ (no_digit_says text) (hexadecimal_says text)))
     (letter_says b text no_octal))
 
+-- what stands after an escape is shorter
+pub escape_shorter : {text rest : List ℕ} {b : ℕ} → SpellsEscape text b rest → length rest < length text
+escape_shorter (octal digits {rest = rest} numeral few ends byte) = omega (arith, numeral.0, length-append digits rest)
+escape_shorter (hexadecimal digits {rest = rest} numeral ends byte) = omega (arith, length-append digits rest)
+escape_shorter _ = omega arith
+
 -- what a step inside a quoted string says of the text
-abbrev StepSays : List ℕ → Step → Type 0
+abbrev pub StepSays : List ℕ → Step → Type 0
 StepSays text (End rest) = SpellsString text [] rest
-StepSays text (Byte b next) = ((bytes rest : List ℕ) → SpellsString next bytes rest → SpellsString text (b ∷ bytes) rest) × ((fault : PoFault) → StringFault next fault → StringFault text fault)
+StepSays text (Byte b next) = ((bytes rest : List ℕ) → SpellsString next bytes rest → SpellsString text (b ∷ bytes) rest) × ((fault : PoFault) → StringFault next fault → StringFault text fault) × (length next < length text)
 StepSays text (Stop fault) = StringFault text fault
 
 if_step : (text : List ℕ) (test : Bool) (s t : Step) → (test ≡ true → StepSays text s) → (test ≡ false → StepSays text t) → StepSays text (if test then s else t)
@@ -142,15 +148,15 @@ if_step text false s t p q = q refl
 
 after_backslash : (text : List ℕ) (step : Step) → EscapeSays text step → StepSays (92 ∷ text) step
 after_backslash text (End rest) h = absurd h
-after_backslash text (Byte b next) h = (λ bytes rest more. escape h more, λ fault more. after_escape h more)
+after_backslash text (Byte b next) h = (λ bytes rest more. escape h more, λ fault more. after_escape h more, omega (arith, escape_shorter h))
 after_backslash text (Stop fault) h = in_escape h
 
-step_says : (text : List ℕ) → StepSays text (step_at text)
+pub step_says : (text : List ℕ) → StepSays text (step_at text)
 unfolding step_at
 step_says [] = not_closed
 step_says (b ∷ text) =
     if_step (b ∷ text) (b == 34) (End text) _ (λ is. subst (λ x. SpellsString (x ∷ text) [] text) (sym (eqb-true b 34 is)) closed) (λ inside.
-    if_step (b ∷ text) (b == 92) _ (Byte b text) (λ is. subst (λ x. StepSays (x ∷ text) (escape_at text)) (sym (eqb-true b 92 is)) (after_backslash text (escape_at text) (escape_says text))) (λ raw. (λ bytes rest more. plain (eqb-false b 34 inside) (eqb-false b 92 raw) more, λ fault more. after_plain (eqb-false b 34 inside) (eqb-false b 92 raw) more)))
+    if_step (b ∷ text) (b == 92) _ (Byte b text) (λ is. subst (λ x. StepSays (x ∷ text) (escape_at text)) (sym (eqb-true b 92 is)) (after_backslash text (escape_at text) (escape_says text))) (λ raw. (λ bytes rest more. plain (eqb-false b 34 inside) (eqb-false b 92 raw) more, λ fault more. after_plain (eqb-false b 34 inside) (eqb-false b 92 raw) more, omega arith)))
 
 pub quoted_spelt : {text bytes rest : List ℕ} → IsQuoted text bytes rest → SpellsString text bytes rest
 quoted_spelt (ended {text = text} e) = subst (StepSays text) e (step_says text)
@@ -160,3 +166,9 @@ quoted_spelt (spelt {text = text} {bytes = bytes} {rest = rest} e h) =
 pub string_fault : {text : List ℕ} {fault : PoFault} → QuotedStops text fault → StringFault text fault
 string_fault (here {text = text} e) = subst (StepSays text) e (step_says text)
 string_fault (later {text = text} {fault = fault} e h) = let says = subst (StepSays text) e (step_says text) in says.1 fault (string_fault h)
+
+-- what stands after a quoted string is shorter
+pub string_shorter : {text bytes rest : List ℕ} → SpellsString text bytes rest → length rest < length text
+string_shorter closed = omega arith
+string_shorter (plain p q s) = omega (arith, string_shorter s)
+string_shorter (escape e s) = omega (arith, escape_shorter e, string_shorter s)

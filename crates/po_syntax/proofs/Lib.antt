@@ -17,5 +17,7 @@ pub mod Escapes
 pub mod SpeltEscapes
 pub mod SpeltKeywords
 pub mod SpeltLines
+pub mod WrittenForms
+pub mod LineNumbers
 pub mod FaultyLines
 pub mod PieceLemmas

@@ -1,13 +1,12 @@
 -- A run of bytes that stand for themselves inside a quoted string.
 use Rattle.std.proofs.Common.{◌≡◌, ◌==◌, ◌⊎◌, inl, inr, ℕ, zero, suc, ◌<◌, ◌≤◌, Bool, true, false, if◌then◌else◌, nat_lt, List, [], ◌∷◌, ◌++◌, length, get_or, take, drop, Option, Some, None, unwrap_or, refl, subst, arith}
-use Rattle.std.specs.Char.{is_digit}
-use Rattle.std.specs.Str.Parse.{digits_value}
-use Rattle.po_syntax.proofs.Rests.{IsRest, whole_rest, rest-drop, rest-tail, rest-le}
+use Rattle.po_syntax.specs.Escapes.{SpellsEscape}
+use Rattle.po_syntax.proofs.Escapes.{EscapeSays, escape_says, escape_shorter, StepSays, step_says, quoted_spelt, string_shorter}
 use Rattle.std.proofs.lemmas.Bool.{or_parts, false_from_ne_true}
 use Rattle.memchr.specs.Find.{IsFirstByte, is_byte2}
 use Rattle.po_syntax.specs.declared.fault.PoFault.{PoFault}
-use Rattle.po_syntax.specs.declared.fault.PoFault.TheVariants.{UnterminatedString, BadEscape}
-use Rattle.po_syntax.specs.QuotedString.{Step, End, Byte, Stop, digit_count, number_step, letter_value, letter_step, escape_at, step_at, IsQuoted, spelt, ended, QuotedStops, here, later}
+use Rattle.po_syntax.specs.declared.fault.PoFault.TheVariants.{UnterminatedString}
+use Rattle.po_syntax.specs.QuotedString.{End, Byte, escape_at, step_at, IsQuoted, spelt, QuotedStops, here, later}
 
 -- a byte that is neither a quote nor a backslash stands for itself
 plain_step : (b : ℕ) (text : List ℕ) → is_byte2 34 92 b ≡ false → step_at (b ∷ text) ≡ Byte b text
@@ -50,62 +49,12 @@ unfolding step_at
 stops_at_end [] e = here refl
 stops_at_end (b ∷ text) e = absurd (omega arith)
 
--- a step leaves a rest of this text
-abbrev Within : List ℕ → Step → Type 0
-Within text (End rest) = IsRest rest text
-Within text (Byte b rest) = IsRest rest text
-Within text (Stop fault) = Unit {0}
-
-if_within : (text : List ℕ) (test : Bool) (s t : Step) → Within text s → Within text t → Within text (if test then s else t)
-if_within text true s t p q = p
-if_within text false s t p q = q
-
-number_step_within : (base count : ℕ) (rest text : List ℕ) → IsRest rest text → Within text (number_step base count rest)
-number_step_within base count rest text h =
-    let number = digits_value base (take count rest) in
-    if_within text (number == 0) _ _ tt (if_within text (nat_lt number 256) (Byte number (drop count rest)) (Stop BadEscape) (rest-drop count text h) tt)
-
-letter_step_within : (value : Option ℕ) (rest text : List ℕ) → IsRest rest text → Within text (letter_step value rest)
-letter_step_within None rest text h = tt
-letter_step_within (Some b) rest text h = h
-
-escape_within : (rest text : List ℕ) → IsRest rest text → Within text (escape_at rest)
-unfolding escape_at
-escape_within [] text h = tt
-escape_within (b ∷ rest) text h =
-    let inside = rest-tail b text h in
-    let count = digit_count 16 rest in
-    if_within text (is_digit b 8) _ _ (number_step_within 8 (digit_count 8 (take 3 (b ∷ rest))) (b ∷ rest) text h) (if_within text (b == 120) _ _ (if_within text (count == 0) _ _ tt (number_step_within 16 count rest text inside)) (letter_step_within (letter_value b) rest text inside))
-
-step_within : (b : ℕ) (text : List ℕ) → Within text (step_at (b ∷ text))
-unfolding step_at
-step_within b text =
-    let all = whole_rest text in
-    if_within text (b == 34) (End text) _ all (if_within text (b == 92) _ (Byte b text) (escape_within text text all) all)
-
 pub escape-rest : (text : List ℕ) {b : ℕ} {next : List ℕ} → escape_at text ≡ Byte b next → length next ≤ length text
-escape-rest text {next = next} e =
-    let within : IsRest next text = subst (Within text) e (escape_within text text (whole_rest text)) in
-    rest-le text within
-
--- a step leaves the text without its first byte, or less
-pub byte-rest : (b : ℕ) (text : List ℕ) {byte : ℕ} {next : List ℕ} → step_at (b ∷ text) ≡ Byte byte next → IsRest next text
-byte-rest b text e = subst (Within text) e (step_within b text)
-
-pub end-rest : (b : ℕ) (text : List ℕ) {rest : List ℕ} → step_at (b ∷ text) ≡ End rest → IsRest rest text
-end-rest b text e = subst (Within text) e (step_within b text)
+escape-rest text {b = b} {next = next} e = let spelt : SpellsEscape text b next = subst (EscapeSays text) e (escape_says text) in omega (arith, escape_shorter spelt)
 
 pub byte-shorter : (text : List ℕ) {b : ℕ} {next : List ℕ} → step_at text ≡ Byte b next → length next < length text
-unfolding step_at
-byte-shorter [] e = cc
-byte-shorter (b ∷ text) e = omega (arith, rest-le text (byte-rest b text e))
-
-end-shorter : (text : List ℕ) {rest : List ℕ} → step_at text ≡ End rest → length rest < length text
-unfolding step_at
-end-shorter [] e = cc
-end-shorter (b ∷ text) e = omega (arith, rest-le text (end-rest b text e))
+byte-shorter text e = let says = subst (StepSays text) e (step_says text) in says.2
 
 -- what stands after a quoted string is shorter than the text after its opening quote
 pub quoted-shorter : {text bytes rest : List ℕ} → IsQuoted text bytes rest → length rest < length text
-quoted-shorter (ended {text = text} e) = end-shorter text e
-quoted-shorter (spelt {text = text} {next = next} e h) = omega (arith, byte-shorter text e, quoted-shorter h)
+quoted-shorter h = string_shorter (quoted_spelt h)

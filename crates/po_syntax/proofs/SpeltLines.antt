@@ -88,7 +88,7 @@ trimmed text =
       none_left = λ before is. eqb-false 13 13 (parts.fails before 13 is) refl;
     }
 
-is_trimmed : (text kept : List ℕ) → IsWithoutReturns text kept → kept ≡ trim_returns text
+pub is_trimmed : (text kept : List ℕ) → IsWithoutReturns text kept → kept ≡ trim_returns text
 is_trimmed text kept h =
     sym (ap trim_returns h.whole ∙ kept_is (λ b. b == 13) kept (λ before b is. ne_eqb b 13 (λ same. h.none_left before (is ∙ ap (λ a. before ++ a ∷ []) same))) h.returns (return_passes h.returns h.are_returns))
 

@@ -13,3 +13,5 @@ pub mod CleanLine
 pub mod LinesLeft
 pub mod Piece
 pub mod QuotedForm
+pub mod WrittenForm
+pub mod LineNumbers

@@ -6,6 +6,7 @@ ghost use Rattle.po_syntax.specs.Escapes.{SpellsString};
 ghost use Rattle.po_syntax.specs.ItemContents.{HoldsText};
 ghost use Rattle.po_syntax.specs.Line.{LineStops, SpellsLine};
 ghost use Rattle.po_syntax.specs.LineFaults.{LineFault};
+ghost use Rattle.po_syntax.specs.LineNumbers.{HasFaultOnLine, ItemsAreOnTheirLines, MarkIsOmitted};
 ghost use Rattle.po_syntax.specs.LinesLeft.{LinesLeft, SpellsLeft, LeftStops};
 ghost use Rattle.po_syntax.specs.Piece.{IsPiece, EndsInString, LeftAnew};
 ghost use Rattle.po_syntax.specs.PoText.{SpellsText, TextFault};
@@ -14,6 +15,7 @@ ghost use Rattle.po_syntax.specs.QuotedString.{IsQuoted};
 ghost use Rattle.po_syntax.specs.Spelling.{HoldsItems};
 ghost use Rattle.po_syntax.specs.TextItem.{TextItem};
 ghost use Rattle.po_syntax.specs.Token.{OpeningQuote, token_at};
+ghost use Rattle.po_syntax.specs.WrittenForm.{WritesQuoted};
 
 /// A text spells at most one list of items.
 pub fn one_reading()
@@ -73,6 +75,25 @@ pub fn lines_are_spelt()
 /// holds items.
 pub fn line_faults_are_first()
     ensures { (text : List ℕ) (fault : PoFault) → LineStops text fault ↔ LineFault text fault }
+{}
+
+/// The line of an item is one more than the LFs before it, and that line holds the item. So is the
+/// line of a fault, which is 0 only for a text that is too long.
+pub fn lines_are_numbered()
+    ensures items { (text : List ℕ) (items : List TextItem) → ItemsAreOnTheirLines text items }
+    ensures fault { (text : List ℕ) (fault : PoFault) (line : ℕ)
+        → TextFault text fault line → HasFaultOnLine text fault line }
+{}
+
+/// A text after the bytes EF BB BF spells the items of the text, if it is within the limit and
+/// doesn't begin with these bytes itself.
+pub fn byte_order_mark_is_omitted()
+    ensures { (text : List ℕ) (items : List TextItem) → MarkIsOmitted text items }
+{}
+
+/// The quoted form of bytes is a quote, what is written for each byte, and a quote.
+pub fn quoted_form_is_written()
+    ensures { (bytes : List ℕ) → WritesQuoted bytes (quoted bytes) }
 {}
 
 /// The quoted form of bytes without NUL spells just these bytes, and its last byte is the closing

@@ -8,9 +8,9 @@ use Rattle.po_syntax.specs.declared.fault.PoFault.TheVariants.{Duplicate}
 use Rattle.po_entry.specs.TextEntry.{TextEntry}
 use Rattle.po_entry.specs.ReadsText.{ReadsText}
 use Rattle.po_entry.specs.Header.{HasAdmittedCharset}
-use Rattle.po_catalog.specs.Joined.{InputEntry, in_input, entries_of}
-use Rattle.po_catalog.specs.Duplicate.{HasNoDuplicate, IsFirstDuplicate}
-use Rattle.po_compile.specs.Accepted.{IsTextFault}
+use Rattle.po_messages.specs.Joined.{InputEntry, in_input, entries_of}
+use Rattle.po_messages.specs.Duplicate.{HasNoDuplicate, IsFirstDuplicate}
+use Rattle.po_messages.specs.DistinctText.{IsTextFault}
 use Rattle.po_compile.specs.Headline.{OneTextFault, NoFaultWhereDistinct}
 use Rattle.po_merge.specs.Inputs.{Named}
 use Rattle.po_merge.specs.Merged.{merged}
@@ -21,7 +21,7 @@ use Rattle.text_tools.specs.Msgattrib.{error_line}
 use Rattle.text_tools.specs.Msgcat.{AreReadAs, IsFileFault, msgcat_line}
 use Rattle.mo_tools.specs.Msgunfmt.{unformat_line, unformatted_run}
 use Rattle.tool_runs.specs.NamedFile.{NamedFile}
-use Rattle.po_catalog.proofs.DuplicateLemmas.{entries_of_input}
+use Rattle.po_messages.proofs.DuplicateLemmas.{entries_of_input}
 use Rattle.po_tools.specs.RunLaws.{OneMsgattribRun, OneMsgcatRun, OneMsgunfmtRun}
 use Rattle.tool_runs.specs.Run.{refusal}
 use Rattle.text_tools.specs.TextRuns.{written_run}

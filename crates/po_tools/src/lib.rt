@@ -21,9 +21,9 @@ pub use mo_tools::{
     CheckFault, MsgfmtOptions, first_profile_fault, msgfmt_options_of, plan_msgfmt,
     plan_msgfmt_before, plan_msgfmt_of, plan_msgunfmt, profile_check, run_msgfmt, run_msgunfmt,
 };
-pub use po_catalog::JoinError;
 pub use po_compile::{Compiled, Options, compile, compile_all, laws};
 pub use po_merge::{MergeOptions, Named, merge};
+pub use po_messages::JoinError;
 pub use po_select::{Selection, select};
 pub use po_unformat::{UnformatError, laws as unformat_laws, unformat};
 pub use run_laws::{
@@ -36,6 +36,6 @@ pub use text_tools::{
 };
 pub use tool_runs::{
     Arguments, EnvsubstArguments, FileKind, GettextArguments, Input, InputFault, InputSource,
-    Inputs, NgettextArguments, NotMade, OutputFault, OutputFiles, ProgramFault, Run, STANDARD,
-    STDIN_NAME, deliver, read_one, read_whole, report_fault, shown_name, write_run,
+    Inputs, NgettextArguments, NotMade, OutputFault, OutputFiles, Owner, ProgramFault, Rights, Run,
+    STANDARD, STDIN_NAME, deliver, read_one, read_whole, report_fault, shown_name, write_run,
 };

@@ -4,11 +4,12 @@ ghost use Rattle.po_tools.specs.RunLaws.{OneGettextRun, OneMsgattribRun, OneMsgc
 
 use mo_file::{no_fault_of_mo_file, one_first_fault, one_message_list};
 use mo_lookup::one_rule;
-use po_catalog::laws::{no_first_duplicate_where_none, one_first_duplicate, one_reading};
 use po_compile::laws::{
     catalogues_are_one, messages_are_one, no_fault_where_accepted, no_fault_where_distinct,
     one_compile_fault, one_text_fault,
 };
+use po_messages::laws::{no_first_duplicate_where_none, one_first_duplicate};
+use po_reader::laws::one_reading;
 use po_unformat::laws::{no_fault_where_unformatted, one_text, one_unformat_fault};
 
 /// Inputs and options of `msgfmt` have one run: its output, messages and status are functions of them.

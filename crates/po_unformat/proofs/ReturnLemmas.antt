@@ -20,10 +20,10 @@ use Rattle.po_entry.specs.ReadsText.{ReadsText}
 use Rattle.po_entry.specs.Validity.{IsCatalogueEntry, IsEntry, IsFlag, IsReference, IsTranslatorComment}
 use Rattle.po_syntax.specs.ItemContents.{IsComment, IsText}
 use Rattle.po_writer.specs.WrittenText.{arranged, written_text}
-use Rattle.po_catalog.specs.Duplicate.{AllDiffer, HasNoDuplicate}
-use Rattle.po_catalog.specs.Joined.{is_live, joined_entries}
-use Rattle.po_catalog.specs.Statistics.{has_translation}
-use Rattle.po_compile.specs.Accepted.{ReadsDistinct}
+use Rattle.po_messages.specs.Duplicate.{AllDiffer, HasNoDuplicate}
+use Rattle.po_messages.specs.Joined.{is_live, joined_entries}
+use Rattle.po_messages.specs.Statistics.{has_translation}
+use Rattle.po_messages.specs.DistinctText.{ReadsDistinct}
 use Rattle.po_compile.specs.CompiledList.{compiled_list, is_compiled}
 use Rattle.po_compile.specs.CompiledMessages.{AreMessagesOf, message_of, messages_of_entries, original_of, translation_of}
 use Rattle.po_compile.specs.Compiling.{IsCompilation}

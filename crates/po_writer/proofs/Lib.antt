@@ -14,3 +14,4 @@ pub mod Texts
 pub mod Rewritten
 pub mod Parted
 pub mod CutLines
+pub mod EntryLines

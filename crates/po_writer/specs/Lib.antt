@@ -2,3 +2,4 @@ pub mod WrittenText
 pub mod Separated
 pub mod TextParts
 pub mod TextLines
+pub mod EntryLines

@@ -4,10 +4,11 @@ ghost use Rattle.std.specs.Prelude.{◌≡◌, ℕ, List, [], All, false, map};
 ghost use Rattle.std.specs.List.{concat};
 ghost use Rattle.po_syntax.specs.PoText.{IsSmall};
 ghost use Rattle.po_entry.specs.TextEntry.{TextEntry, with_line};
-ghost use Rattle.po_entry.specs.Validity.{IsCatalogueEntry};
+ghost use Rattle.po_entry.specs.Validity.{IsCatalogueEntry, IsEntry};
 ghost use Rattle.po_entry.specs.ReadsText.{ReadsText};
+ghost use Rattle.po_writer.specs.EntryLines.{IsArranged, StandInOrder, WritesEntry};
 ghost use Rattle.po_writer.specs.TextLines.{EachEndsInItsOnlyFeed, TextsAreWritten};
-ghost use Rattle.po_writer.specs.WrittenText.{arranged, lines_with_ends, written_text};
+ghost use Rattle.po_writer.specs.WrittenText.{arranged, entry_lines, in_order, lines_with_ends, written_text};
 
 use po_syntax::laws::quoted_form_spells;
 
@@ -22,6 +23,20 @@ pub fn lines_are_cut_after_feeds()
 /// empty string, and then line by line.
 pub fn texts_are_written()
     ensures { TextsAreWritten }
+{}
+
+/// An entry is written line by line: each comment after `#` and each extracted one after `#.`; in one
+/// line the references, with one space between two; in one the flags, `fuzzy` first; the previous
+/// texts; and the context, the msgid, the plural and the forms, each after its keyword.
+pub fn entries_are_written()
+    ensures { (entry : TextEntry) → IsEntry entry → WritesEntry entry (entry_lines entry) }
+{}
+
+/// The entries are written live ones first, then obsolete ones, each kind in its order, with an empty
+/// line between two.
+pub fn live_before_obsolete()
+    ensures arranged { (entries : List TextEntry) → IsArranged entries (arranged entries) }
+    ensures in_order { (entries : List TextEntry) → StandInOrder entries (in_order entries) }
 {}
 
 /// The written text of a catalogue's entries, if it is within the limit of a text, reads as the

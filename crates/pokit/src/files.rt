@@ -1,19 +1,21 @@
 //! Inputs by their names, and outputs.
 use po_shell::Counted;
 use std::alloc::Global;
-use std::fs::{self, File, OpenFile, OpenOptions, Permissions};
-use std::io::{self, ErrorKind, Input, Print, Write};
-use std::os::unix::fs::{MetadataExt, OpenOptionsExt, PermissionsExt};
-use std::rt::Files;
+use std::fs::{self, File, Metadata, OpenFile, OpenOptions, Permissions};
+use std::io::{self, ErrorKind, Input, Write};
+use std::os::unix::fs::{MetadataExt, OpenOptionsExt, PermissionsExt, fchown};
+use std::random::RandomSource;
+use std::rt::{Files, Stderr, Stdout};
 use tool_runs::{
-    FileKind, InputFault, InputSource, NotMade, OutputFault, OutputFiles, ProgramFault, Run,
-    read_whole,
+    FileKind, InputFault, InputSource, NotMade, OutputFault, OutputFiles, Owner, ProgramFault,
+    Rights, Run, read_whole,
 };
 
 /// The length of an input where it isn't known.
 const UNKNOWN_LEN: u64 = 0;
 
-/// The bits of a mode that say who may do what with a file.
+/// The bits of a mode that say who may do what with a file, set-user-id, set-group-id and sticky among
+/// them.
 const PERMISSION_BITS: u32 = 0o7777;
 
 /// Where the inputs of the program are read from.
@@ -65,24 +67,51 @@ pub(crate) fn read_named(
     }
 }
 
+/// A file that is open to be written, or a standard stream.
+#[derive(Drop)]
+enum Opened {
+    File(File),
+    Output(Stdout),
+    Errors(Stderr),
+}
+
+impl Write for Opened {
+    fn write(&mut self, bytes: &[u8]) -> io::Result<usize> {
+        match self {
+            Opened::File(file) => file.write(bytes),
+            Opened::Output(stdout) => stdout.write(bytes),
+            Opened::Errors(stderr) => stderr.write(bytes),
+        }
+    }
+
+    fn flush(&mut self) -> io::Result<()> {
+        Ok(())
+    }
+}
+
 /// The files of the system, as outputs are made.
 #[derive(Drop)]
-struct SystemFiles<'r, R>(&'r R);
+struct SystemFiles<'r> {
+    rt: &'r HostRuntime,
+    alloc: Global,
+    // How often the system had no random number.
+    lacking: u32,
+}
 
 // No contract can say what a file of the system holds, so the log of the calls isn't known.
-impl<'r, R: Files<File = File>> OutputFiles for SystemFiles<'r, R> {
+impl<'r> OutputFiles for SystemFiles<'r> {
     ghost use Rattle.std.specs.Prelude.{◌≡◌, ◌∷◌, [], None};
     ghost use Rattle.po_shell.specs.Counted.{counted_failures};
     ghost use Rattle.tool_runs.specs.FileCalls.{closes, logged};
 
-    type File = File;
+    type File = Opened;
 
     ghost log = { λ _. None };
 
     fn kind(&mut self, path: &str) -> FileKind {
-        match fs::metadata(self.0, path) {
+        match fs::metadata(self.rt, path) {
             Ok(found) if found.is_file() && found.nlink() > 0 => {
-                FileKind::Regular(Some(found.mode() & PERMISSION_BITS))
+                FileKind::Regular(Some(rights_of(&found)))
             }
             Ok(_) => FileKind::Special,
             Err(error) if error.kind() == ErrorKind::NotFound => FileKind::Regular(None),
@@ -91,7 +120,7 @@ impl<'r, R: Files<File = File>> OutputFiles for SystemFiles<'r, R> {
     }
 
     fn link(&mut self, alloc: Global, path: &str) -> Result<Option<String>, OutputFault> {
-        match self.0.read_link(alloc, path) {
+        match self.rt.read_link(alloc, path) {
             Ok(target) => Ok(Some(target.into_string())),
             Err(error) => match error.kind() {
                 ErrorKind::InvalidInput | ErrorKind::NotFound => Ok(None),
@@ -101,29 +130,72 @@ impl<'r, R: Files<File = File>> OutputFiles for SystemFiles<'r, R> {
         }
     }
 
-    fn create_new(&mut self, path: &str, mode: u32) -> Result<File, NotMade> {
+    fn number(&mut self) -> u32 {
+        let mut bytes = [0; 4];
+        if self.rt.fill_bytes(&mut bytes).is_err() {
+            self.lacking = self.lacking.wrapping_add(1);
+            return self.lacking;
+        }
+        u32::from_ne_bytes(bytes)
+    }
+
+    fn create_new(&mut self, path: &str, mode: u32) -> Result<Opened, NotMade> {
         let mut options = OpenOptions::new();
         options.write(true).create_new(true).mode(mode);
-        options
-            .open(self.0, path)
-            .map_err(|error| match error.kind() {
+        match options.open(self.rt, path) {
+            Ok(file) => Ok(Opened::File(file)),
+            Err(error) => Err(match error.kind() {
                 ErrorKind::AlreadyExists => NotMade::Exists,
                 ErrorKind::PermissionDenied | ErrorKind::ReadOnlyFilesystem => NotMade::Forbidden,
                 _ => NotMade::Failed,
-            })
+            }),
+        }
     }
 
-    fn set_mode(&mut self, file: &File, mode: u32) -> bool {
-        file.set_permissions(Permissions::from_mode(mode)).is_ok()
+    fn set_owner(&mut self, file: &Opened, owner: Owner) -> Option<Owner> {
+        let Opened::File(file) = file else {
+            return None;
+        };
+        let now = owner_of(file)?;
+        if now == owner {
+            return Some(now);
+        }
+        // Where the user can't be given, the group may.
+        if fchown(file, Some(owner.user), Some(owner.group)).is_err() {
+            let _ = fchown(file, None, Some(owner.group));
+        }
+        owner_of(file)
     }
 
-    fn open(&mut self, path: &str) -> Option<File> {
+    fn set_mode(&mut self, file: &Opened, mode: u32) -> bool {
+        match file {
+            Opened::File(file) => file.set_permissions(Permissions::from_mode(mode)).is_ok(),
+            Opened::Output(_) | Opened::Errors(_) => false,
+        }
+    }
+
+    fn open(&mut self, path: &str) -> Option<Opened> {
         let mut options = OpenOptions::new();
         options.write(true).truncate(true);
-        options.open(self.0, path).ok()
+        match options.open(self.rt, path) {
+            Ok(file) => Some(Opened::File(file)),
+            Err(_) => None,
+        }
     }
 
-    fn close(&mut self, file: Counted<File>) -> bool
+    fn stream(&mut self, number: u32) -> Option<Opened> {
+        match number {
+            0 => None,
+            1 => Some(Opened::Output(self.rt.stdout())),
+            2 => Some(Opened::Errors(self.rt.stderr())),
+            _ => match append_to(self.alloc, self.rt, number) {
+                Some(file) => Some(Opened::File(file)),
+                None => None,
+            },
+        }
+    }
+
+    fn close(&mut self, file: Counted<Opened>) -> bool
         ensures { None ≡ logged (closes None (counted_failures file) result ∷ []) None }
     {
         drop(file.into_inner());
@@ -131,27 +203,72 @@ impl<'r, R: Files<File = File>> OutputFiles for SystemFiles<'r, R> {
     }
 
     fn rename(&mut self, from: &str, to: &str) -> bool {
-        self.0.rename(from, to).is_ok()
+        self.rt.rename(from, to).is_ok()
     }
 
     fn remove(&mut self, path: &str) {
-        let _ = self.0.remove_file(path);
+        let _ = self.rt.remove_file(path);
     }
 }
 
+/// Who may do what with a file.
+fn rights_of(found: &Metadata) -> Rights {
+    Rights {
+        mode: found.mode() & PERMISSION_BITS,
+        owner: Owner {
+            user: found.uid(),
+            group: found.gid(),
+        },
+    }
+}
+
+/// Whose an open file is, where the system says so.
+fn owner_of(file: &File) -> Option<Owner> {
+    match file.metadata() {
+        Ok(found) => Some(rights_of(&found).owner),
+        Err(_) => None,
+    }
+}
+
+/// The open stream of a number above those of the standard streams, opened anew to be written at its end,
+/// where it is open to be written. The library reaches no descriptor by its number.
+fn append_to(alloc: Global, rt: &HostRuntime, number: u32) -> Option<File> {
+    let info = format!(in alloc; "/proc/self/fdinfo/{number}").ok()?;
+    let bytes = read_named(alloc, rt, &info).ok()?;
+    if !is_for_writing(&bytes) {
+        return None;
+    }
+    let path = format!(in alloc; "/proc/self/fd/{number}").ok()?;
+    let mut options = OpenOptions::new();
+    options.append(true);
+    options.open(rt, path.as_str()).ok()
+}
+
+/// Whether a descriptor is open to be written, by what the system tells of it: the last digit of its
+/// flags, which are octal, is 1 or 2.
+fn is_for_writing(info: &[u8]) -> bool {
+    info.split(|byte| *byte == b'\n')
+        .find(|line| line.starts_with(b"flags:"))
+        .is_some_and(|flags| flags.ends_with(b"1") || flags.ends_with(b"2"))
+}
+
 /// Writes the output and the messages of a run, and returns its status.
-pub(crate) fn write_run<'a, R: Files<File = File> + Print, E: Write + Drop>(
+pub(crate) fn write_run<'a>(
     alloc: Global,
-    rt: &R,
-    errors: E,
+    rt: &HostRuntime,
     run: &Run,
     file: &'a str,
 ) -> Result<u8, ProgramFault<'a>> {
+    let mut files = SystemFiles {
+        rt,
+        alloc,
+        lacking: 0,
+    };
     tool_runs::write_run(
         alloc,
-        &mut SystemFiles(rt),
-        &mut Counted::new(io::writer(rt)),
-        &mut Counted::new(errors),
+        &mut files,
+        &mut Counted::new(rt.stdout()),
+        &mut Counted::new(rt.stderr()),
         run,
         file,
     )

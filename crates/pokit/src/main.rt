@@ -88,12 +88,12 @@ fn run_tool(rt: &HostRuntime, matches: &ArgMatches<'_>) -> Ending {
     };
     let given = Options(matches);
     let outcome = match tool {
-        Tool::Msgfmt => tools::msgfmt::run(rt.alloc(), rt, rt.stderr(), &given),
-        Tool::Msgunfmt => tools::msgunfmt::run(rt.alloc(), rt, rt.stderr(), &given),
-        Tool::Msgattrib => tools::msgattrib::run(rt.alloc(), rt, rt.stderr(), &given),
-        Tool::Msgcat => tools::msgcat::run(rt.alloc(), rt, rt.stderr(), &given),
-        Tool::Gettext => tools::gettext::run(rt.alloc(), rt, rt.stderr(), &given),
-        Tool::Ngettext => tools::ngettext::run(rt.alloc(), rt, rt.stderr(), &given),
+        Tool::Msgfmt => tools::msgfmt::run(rt.alloc(), rt, &given),
+        Tool::Msgunfmt => tools::msgunfmt::run(rt.alloc(), rt, &given),
+        Tool::Msgattrib => tools::msgattrib::run(rt.alloc(), rt, &given),
+        Tool::Msgcat => tools::msgcat::run(rt.alloc(), rt, &given),
+        Tool::Gettext => tools::gettext::run(rt.alloc(), rt, &given),
+        Tool::Ngettext => tools::ngettext::run(rt.alloc(), rt, &given),
         Tool::Envsubst => tools::envsubst::run(rt.alloc(), rt, &given),
     };
     match outcome {

@@ -1,32 +1,37 @@
 //! The names of the locales whose catalogues are looked for.
 
-ghost use Rattle.std.specs.Prelude.{◌≡◌, ◌^◌, ◌-◌, ◌<◌, ◌≤◌, ◌++◌, ℕ, List, None, Some, drop, length, slice_get};
+ghost use Rattle.std.specs.Prelude.{◌≡◌, ◌^◌, ◌-◌, ◌<◌, ◌≤◌, ◌++◌, ◌∷◌, [], ℕ, List, drop, length};
 ghost use Rattle.locale_names.specs.Names.{candidates};
+ghost use Rattle.locale_names.specs.Candidate.{names_from};
 
-use locale_names::candidate;
+use locale_names::{Position, candidate_at};
 
-/// The length of the candidate with an index, counted from 0, of a locale and LANGUAGE, of which no
-/// bytes are an unset one ("Specifying a Priority List of Languages"); or 2^64 - 1 where there is
-/// no such candidate. The candidate is written to the beginning of `name` where it fits; else `name`
-/// stays as it was. An empty candidate, which a locale without a language has, has the length 0.
+/// The length of the candidate at a position of a locale and LANGUAGE, of which no bytes are an
+/// unset one ("Specifying a Priority List of Languages"), and `position` is then that of the next
+/// one; or 2^64 - 1 where there is no candidate more. The candidate is written to the beginning of
+/// `name` where it fits; else `name` stays as it was. An empty candidate, which a locale without a
+/// language has, has the length 0.
 #[unsafe(no_mangle)]
 pub extern "C" fn pokit_candidate(
     locale: &[u8],
     language: &[u8],
-    index: u32,
+    position: &mut Position,
     name: &mut [u8],
 ) -> usize
-    ensures found { (text : List ℕ) → slice_get (candidates locale.now language.now) index ≡ Some text
-        → (result ≡ length text) × (result < 2 ^ 64 - 1) }
-    ensures text { (text : List ℕ) → slice_get (candidates locale.now language.now) index ≡ Some text
+    ensures start { position.old.offset ≡ 0 → position.old.given ≡ 0
+        → names_from locale.now language.now position.old ≡ candidates locale.now language.now }
+    ensures found { (text : List ℕ) (later : List (List ℕ)) → names_from locale.now language.now position.old ≡ text ∷ later
+        → (result ≡ length text) × (result < 2 ^ 64 - 1) × (names_from locale.now language.now position.new ≡ later) }
+    ensures text { (text : List ℕ) (later : List (List ℕ)) → names_from locale.now language.now position.old ≡ text ∷ later
         → length text ≤ length name.old → name.new ≡ text ++ drop (length text) name.old }
     ensures small { length name.old < result → name.new ≡ name.old }
-    ensures end { slice_get (candidates locale.now language.now) index ≡ None
-        → (result ≡ 2 ^ 64 - 1) × (name.new ≡ name.old) }
+    ensures end { names_from locale.now language.now position.old ≡ []
+        → (result ≡ 2 ^ 64 - 1) × (name.new ≡ name.old) × (position.new ≡ position.old) }
 {
-    let Some(candidate) = candidate(locale, language, index) else {
+    let Some((candidate, next)) = candidate_at(locale, language, *position) else {
         return usize::MAX;
     };
+    *position = next;
     let prefix_len = candidate.prefix.len();
     let len = prefix_len + candidate.rest.len();
     if len <= name.len() {

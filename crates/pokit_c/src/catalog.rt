@@ -2,11 +2,11 @@
 
 ghost use Rattle.std.specs.Prelude.{◌≡◌, ◌≤◌, length};
 ghost use Rattle.plural_rule.specs.PluralRule.{expression_limit};
-ghost use Rattle.plural_rule.specs.PostOrder.{post_order, tree_of};
+ghost use Rattle.plural_rule.specs.Program.{program as program_of, tree_of};
 ghost use Rattle.mo_lookup.specs.CatalogView.{CatalogView};
 ghost use Rattle.pokit_c.specs.Opened.{IsOpened};
 
-use plural_rule::Node;
+use plural_rule::Instruction;
 
 /// A catalogue that [`pokit_catalog_open`](crate::opening::pokit_catalog_open) has opened. It is
 /// never changed afterwards, and neither are its bytes, which outlive it.
@@ -17,22 +17,22 @@ pub struct PokitCatalog<'a> {
     pub bytes: &'a [u8],
     /// The number of plural forms that the header entry names.
     pub nplurals: u64,
-    /// How many nodes the plural expression has. The functions of include/pokit.h take a catalogue
-    /// with 0 nodes as one that isn't open.
-    pub node_count: u32,
-    /// The nodes of the plural expression, and after them nodes that aren't read.
-    pub nodes: [Node; 4096],
+    /// How many instructions the program of the plural expression has. The functions of
+    /// include/pokit.h take a catalogue with 0 instructions as one that isn't open.
+    pub instruction_count: u32,
+    /// The program of the plural expression, and after it instructions that aren't read.
+    pub instructions: [Instruction; 4096],
 }
 
 impl PokitCatalog<'_> {
-    /// The nodes of the plural expression, as plural_rule's `evaluate` takes them.
+    /// The program of the plural expression, as plural_rule's `evaluate` takes it.
     #[inline(always)]
-    pub(crate) fn table(&self) -> &[Node]
+    pub(crate) fn program(&self) -> &[Instruction]
         requires { (view : CatalogView) × IsOpened self.now view }
-        ensures post_order { result.now ≡ post_order 0 (tree_of result.now) }
+        ensures program { result.now ≡ program_of 0 (tree_of result.now) }
         ensures limit { length result.now ≤ expression_limit }
         ensures tree { (view : CatalogView) → IsOpened self.now view → tree_of result.now ≡ view.rule.tree }
     {
-        &self.nodes[..self.node_count as usize]
+        &self.instructions[..self.instruction_count as usize]
     }
 }

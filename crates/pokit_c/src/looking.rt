@@ -45,7 +45,7 @@ pub extern "C" fn pokit_catalog_look(
             meter: &mut meter,
         },
         catalog.nplurals,
-        catalog.table(),
+        catalog.program(),
         query.context(),
         query.id,
         query.plural(),

@@ -1,6 +1,6 @@
 //! Opening a catalogue.
 
-ghost use Rattle.std.specs.Prelude.{◌≡◌, ◌<◌, List, length};
+ghost use Rattle.std.specs.Prelude.{◌≡◌, ◌<◌, ◌≤◌, List, length};
 ghost use Rattle.mo_file.specs.declared.byte_order.Order.{Order};
 ghost use Rattle.mo_file.specs.declared.fault.MoError.{MoError};
 ghost use Rattle.mo_file.specs.MoFile.{IsMoFile};
@@ -33,11 +33,11 @@ pub extern "C" fn pokit_catalog_open<'a>(
     ensures only { (order : Order) (messages : List Message) → IsMoFile order bytes.now messages → result ≡ 0 }
 {
     let mut meter = Meter::new();
-    match open_into(bytes, &mut meter, &mut catalog.nodes) {
+    match open_into(bytes, &mut meter, &mut catalog.instructions) {
         Ok((_, rule)) => {
             catalog.bytes = bytes;
             catalog.nplurals = rule.nplurals;
-            catalog.node_count = rule.node_count;
+            catalog.instruction_count = rule.instruction_count;
             *message = 0;
             0
         }

@@ -6,10 +6,10 @@ use Rattle.po_entry.specs.Bytes.{Lacks}
 use Rattle.po_entry.specs.Header.{is_header}
 use Rattle.po_entry.specs.TextEntry.{TextEntry}
 use Rattle.po_entry.specs.Validity.{IsCatalogueEntry}
-use Rattle.po_catalog.specs.Joined.{is_live}
+use Rattle.po_messages.specs.Joined.{is_live}
 use Rattle.po_merge.specs.Inputs.{NamedEntry, named}
 use Rattle.po_writer.specs.TextParts.{separated}
-use Rattle.po_compile.proofs.InputLemmas.{zip_more}
+use Rattle.po_messages.specs.Facts.Zips.{zip_more}
 use Rattle.text_tools.specs.Entries.{AreRows, IsRow, unnamed}
 use Rattle.text_tools.specs.declared.entries.Row.{Row}
 

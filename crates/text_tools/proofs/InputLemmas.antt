@@ -11,13 +11,13 @@ use Rattle.po_syntax.specs.declared.fault.PoFault.TheVariants.{Duplicate}
 use Rattle.po_entry.specs.Halves.{All-left, All-right}
 use Rattle.po_entry.specs.ReadsText.{ReadsText}
 use Rattle.po_entry.specs.TextEntry.{TextEntry}
-use Rattle.po_catalog.specs.Duplicate.{HasNoDuplicate}
-use Rattle.po_catalog.specs.FirstOnes.{group_numbers}
-use Rattle.po_catalog.specs.Joined.{is_live}
-use Rattle.po_catalog.specs.Message.{entry_message, same_message}
+use Rattle.po_messages.specs.Duplicate.{HasNoDuplicate}
+use Rattle.po_messages.specs.FirstOnes.{group_numbers}
+use Rattle.po_messages.specs.Joined.{is_live}
+use Rattle.po_messages.specs.Message.{entry_message, same_message}
 use Rattle.po_merge.specs.Grouping.{message_numbers}
 use Rattle.po_merge.specs.Inputs.{Named, NamedEntry, all_entries, named}
-use Rattle.po_compile.proofs.InputLemmas.{zip_more}
+use Rattle.po_messages.specs.Facts.Zips.{zip_at, zip_length, zip_more, zip_split}
 use Rattle.text_tools.specs.Entries.{HoldEntries, unnamed}
 use Rattle.text_tools.specs.Inputs.{AddsEntries, AreReadUpTo, IsFaultOfFirst, IsFirstRepeating, IsReadInput, IsTextOf}
 use Rattle.text_tools.specs.Msgcat.{AreReadAs, IsFileFault}
@@ -29,32 +29,6 @@ use Rattle.text_tools.specs.declared.inputs.ReadInputs.{ReadInputs}
 use Rattle.text_tools.proofs.RepeatLemmas.{AreAmong, all_among, numbers_differ}
 use Rattle.text_tools.proofs.SelectedLemmas.{number_in, numbers_are, own_of, repeats_in}
 use Rattle.tool_runs.specs.NamedFile.{NamedFile}
-
--- lists that go with one another element by element
-module _ {X Y : Type 0} (R : X → Y → Type 0) where
-  pub zip_length : (xs : List X) (ys : List Y) → AllZip R xs ys → length xs ≡ length ys
-  zip_length [] [] h = refl
-  zip_length [] (y ∷ ys) h = absurd h
-  zip_length (x ∷ xs) [] h = absurd h
-  zip_length (x ∷ xs) (y ∷ ys) h = let same = zip_length xs ys h.1 in omega (arith, same)
-
-  pub zip_at : (xs : List X) (ys : List Y) (i : ℕ) (y : Y) → AllZip R xs ys → i < length ys → y ≡ get_or ys i y → (x : X) × R x y × (take (i + 1) xs ≡ take i xs ++ x ∷ []) × (drop i xs ≡ x ∷ drop (i + 1) xs)
-  zip_at [] [] i y h inside here = absurd (omega (arith, inside))
-  zip_at [] (b ∷ ys) i y h inside here = absurd h
-  zip_at (a ∷ xs) [] i y h inside here = absurd h
-  zip_at (a ∷ xs) (b ∷ ys) zero y h inside here = (a, subst (R a) (sym here) h.0, refl, refl)
-  zip_at (a ∷ xs) (b ∷ ys) (suc i) y h inside here =
-      let less : i < length ys = omega (arith, inside) in
-      let later = zip_at xs ys i y h.1 less here in
-      (later.0, later.1, rw add-one (rw add-one at (ap (λ l. a ∷ l) later.2)), rw add-one (rw add-one at later.3))
-
-  pub zip_split : (xs : List X) (before : List Y) (y : Y) (after : List Y) → AllZip R xs (before ++ y ∷ after) → (front : List X) × (x : X) × (back : List X) × (xs ≡ front ++ x ∷ back) × AllZip R front before × R x y
-  zip_split [] [] y after h = absurd h
-  zip_split [] (b ∷ before) y after h = absurd h
-  zip_split (x ∷ xs) [] y after h = ([], x, xs, refl, tt, h.0)
-  zip_split (x ∷ xs) (b ∷ before) y after h =
-      let more = zip_split xs before y after h.1 in
-      (x ∷ more.0, more.1, more.2, ap (λ l. x ∷ l) more.3, (h.0, more.4), more.5)
 
 pub unnamed_named : (name : List ℕ) (entries : List TextEntry) → unnamed (map (named name) entries) ≡ entries
 unnamed_named name [] = refl

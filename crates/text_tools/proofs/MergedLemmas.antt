@@ -13,8 +13,8 @@ use Rattle.po_entry.specs.Header.{HasAdmittedCharset, is_header}
 use Rattle.po_entry.specs.ReadsText.{ReadsText}
 use Rattle.po_entry.specs.TextEntry.{TextEntry, SameButLine, with_line}
 use Rattle.po_entry.specs.Validity.{IsCatalogueEntry}
-use Rattle.po_catalog.specs.Joined.{is_live}
-use Rattle.po_catalog.specs.Message.{same_message}
+use Rattle.po_messages.specs.Joined.{is_live}
+use Rattle.po_messages.specs.Message.{same_message}
 use Rattle.po_merge.specs.declared.definition.NamedEntry.{NamedEntry as BorrowedEntry}
 use Rattle.po_merge.specs.declared.input.MergeOptions.{MergeOptions}
 use Rattle.po_merge.specs.EntryLaws.{IsSameButLine}
@@ -29,11 +29,10 @@ use Rattle.po_merge.proofs.GroupsMerged.{groups_valid, messages_append}
 use Rattle.po_writer.specs.TextParts.{AreParts, AreSeparated, separated}
 use Rattle.po_writer.specs.WrittenText.{arranged, entry_lines, in_order, written_text}
 use Rattle.po_writer.specs.declared.parts.TextParts.{TextParts}
-use Rattle.po_compile.proofs.InputLemmas.{zip_more}
 use Rattle.text_tools.specs.Entries.{AreRows, IsRow}
 use Rattle.text_tools.specs.MergedText.{AreGroups, AreReadBack, AreWritten, IsOnly}
 use Rattle.text_tools.specs.declared.entries.Row.{Row}
-use Rattle.text_tools.proofs.InputLemmas.{zip_length}
+use Rattle.po_messages.specs.Facts.Zips.{zip_all, zip_get, zip_length, zip_more}
 
 -- rows and their entries pass the same tests
 module _ (text : List ℕ) (p : NamedEntry → Bool) (q : Row → Bool) (same : (e : NamedEntry) (r : Row) → IsRow text e r → q r ≡ p e) where
@@ -87,19 +86,6 @@ none_obsolete entries none = found (list_any (λ e. is_live e.entry) entries) wh
   found : (b : Bool) → (if b then filter (λ e. is_live e.entry) entries else entries) ≡ entries
   found true = all_live entries none
   found false = refl
-
--- rows by index
-pub zip_get : {X Y : Type 0} (R : X → Y → Type 0) (xs : List X) (ys : List Y) (i : ℕ) (d : X) (e : Y) → AllZip R xs ys → i < length ys → R (get_or xs i d) (get_or ys i e)
-zip_get R [] [] i d e h inside = absurd (omega (arith, inside))
-zip_get R [] (y ∷ ys) i d e h inside = absurd h
-zip_get R (x ∷ xs) [] i d e h inside = absurd h
-zip_get R (x ∷ xs) (y ∷ ys) zero d e h inside = h.0
-zip_get R (x ∷ xs) (y ∷ ys) (suc i) d e h inside = let less : i < length ys = omega (arith, inside) in zip_get R xs ys i d e h.1 less
-
-pub zip_all : {X Y : Type 0} (R : X → Y → Type 0) (P : X → Type 0) → ((x : X) (y : Y) → R x y → P x) → (xs : List X) (ys : List Y) → AllZip R xs ys → All P xs
-zip_all R P f [] ys h = All-nil P
-zip_all R P f (x ∷ xs) [] h = absurd h
-zip_all R P f (x ∷ xs) (y ∷ ys) h = All-cons P x xs (f x y h.0) (zip_all R P f xs ys h.1)
 
 -- an entry's text
 pub arranged_one : (e : TextEntry) → arranged (e ∷ []) ≡ e ∷ []

@@ -7,11 +7,11 @@ use Rattle.std.proofs.lemmas.List.Elements.{All-nil, All-cons, All-append, All-h
 use Rattle.std.proofs.lemmas.List.Quantifiers.{all_pairs_push}
 use Rattle.std.proofs.Math.Seq.{drop-cons}
 use Rattle.po_entry.specs.TextEntry.{TextEntry}
-use Rattle.po_catalog.specs.Duplicate.{AllDiffer, IsFirstDuplicate, live_entries}
-use Rattle.po_catalog.specs.Joined.{InputEntry, entries_of, in_input, is_live}
+use Rattle.po_messages.specs.Duplicate.{AllDiffer, IsFirstDuplicate, live_entries}
+use Rattle.po_messages.specs.Joined.{InputEntry, entries_of, in_input, is_live}
 use Rattle.po_entry.specs.Halves.{All-left, All-right}
-use Rattle.po_catalog.specs.Message.{Message, entry_message}
-use Rattle.po_catalog.proofs.DuplicateLemmas.{entries_of_input, message_is}
+use Rattle.po_messages.specs.Message.{Message, entry_message}
+use Rattle.po_messages.proofs.DuplicateLemmas.{entries_of_input, message_is}
 use Rattle.text_tools.specs.Repeats.{IsFirstRepeat, IsUnseen, NumbersDiffer, line_seen, numbered}
 use Rattle.text_tools.specs.declared.repeats.Numbered.{Numbered}
 use Rattle.text_tools.specs.declared.repeats.Seen.{Seen}

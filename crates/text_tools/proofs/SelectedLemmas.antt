@@ -8,19 +8,19 @@ use Rattle.std.proofs.lemmas.List.Elements.{All-filter, All-map, filter-append}
 use Rattle.po_syntax.specs.declared.fault.PoError.{PoError}
 use Rattle.po_syntax.specs.declared.fault.PoFault.TheVariants.{Duplicate, OutOfMemory}
 use Rattle.po_entry.specs.TextEntry.{TextEntry}
-use Rattle.po_catalog.specs.Duplicate.{HasNoDuplicate}
-use Rattle.po_catalog.specs.Joined.{in_input, is_live}
+use Rattle.po_messages.specs.Duplicate.{HasNoDuplicate}
+use Rattle.po_messages.specs.Joined.{in_input, is_live}
 use Rattle.po_select.specs.declared.selection.Selection.{Selection}
 use Rattle.po_select.specs.Selected.{changed, is_kept, obsolete_after, selected}
-use Rattle.po_catalog.specs.FirstOnes.{first_ones, group_numbers}
-use Rattle.po_catalog.specs.Message.{Message, entry_message, same_message}
+use Rattle.po_messages.specs.FirstOnes.{first_ones, group_numbers}
+use Rattle.po_messages.specs.Message.{Message, entry_message, same_message}
 use Rattle.text_tools.specs.Msgattrib.{IsMsgattribRun, error_line}
 use Rattle.text_tools.specs.Repeats.{IsFirstRepeat, NumbersDiffer, are_numbered, numbered}
 use Rattle.text_tools.specs.SelectedText.{IsSelectionFault, Repeats, RepeatsSelected, stays_live}
 use Rattle.std.proofs.lemmas.List.Folds.{list_any_at}
 use Rattle.std.proofs.lemmas.List.Sums.{passes_at_first}
-use Rattle.po_catalog.proofs.FirstOnes.{any_first_ones, found_within}
-use Rattle.po_catalog.proofs.MessageIndex.{messages_are, same_message_laws}
+use Rattle.po_messages.proofs.FirstOnes.{any_first_ones, found_within}
+use Rattle.po_messages.proofs.MessageIndex.{messages_are, same_message_laws}
 use Rattle.text_tools.proofs.RepeatLemmas.{AreAmong, AreOwn, all_among, duplicate_of, numbers_differ}
 use Rattle.tool_runs.specs.Run.{refusal, run_view}
 use Rattle.tool_runs.specs.declared.run.Run.{Run}

@@ -3,7 +3,7 @@ use Rattle.std.specs.Prelude.{◌≡◌, ℕ, List, [], ◌∷◌, ◌++◌, len
 use Rattle.std.specs.List.{AllZip}
 use Rattle.po_entry.specs.Header.{HasAdmittedCharset, is_header}
 use Rattle.po_entry.specs.TextEntry.{TextEntry}
-use Rattle.po_catalog.specs.Joined.{is_live}
+use Rattle.po_messages.specs.Joined.{is_live}
 use Rattle.po_merge.specs.Grouping.{IsDefinition}
 use Rattle.po_merge.specs.Inputs.{NamedEntry}
 use Rattle.po_writer.specs.TextParts.{separated}

@@ -3,9 +3,9 @@ use Rattle.std.specs.Prelude.{◌≡◌, ℕ, All, List, [], ◌∷◌, ◌++◌
 use Rattle.std.specs.List.{AllZip}
 use Rattle.po_entry.specs.ReadsText.{ReadsText}
 use Rattle.po_entry.specs.TextEntry.{TextEntry}
-use Rattle.po_reader.specs.Faults.{IsReadFault}
-use Rattle.po_catalog.specs.Duplicate.{HasNoDuplicate}
-use Rattle.po_catalog.specs.Joined.{is_live}
+use Rattle.po_entry.specs.Faults.{IsReadFault}
+use Rattle.po_messages.specs.Duplicate.{HasNoDuplicate}
+use Rattle.po_messages.specs.Joined.{is_live}
 use Rattle.po_merge.specs.Grouping.{message_numbers}
 use Rattle.po_merge.specs.Inputs.{Named, NamedEntry, all_entries, named}
 use Rattle.text_tools.specs.Entries.{AreRows, HoldEntries}

@@ -3,9 +3,9 @@ use Rattle.std.specs.Prelude.{◌≡◌, ◌≢◌, ◌⊎◌, ℕ, List, map, c
 use Rattle.po_syntax.specs.declared.fault.PoError.{PoError}
 use Rattle.po_syntax.specs.declared.fault.PoFault.TheVariants.{Duplicate, OutOfMemory}
 use Rattle.po_entry.specs.TextEntry.{TextEntry}
-use Rattle.po_catalog.specs.Joined.{InputEntry, in_input}
-use Rattle.po_catalog.specs.Duplicate.{HasNoDuplicate, IsFirstDuplicate}
-use Rattle.po_compile.specs.Accepted.{IsTextFault, ReadsDistinct}
+use Rattle.po_messages.specs.Joined.{InputEntry, in_input}
+use Rattle.po_messages.specs.Duplicate.{HasNoDuplicate, IsFirstDuplicate}
+use Rattle.po_messages.specs.DistinctText.{IsTextFault, ReadsDistinct}
 use Rattle.po_select.specs.declared.selection.Selection.{Selection}
 use Rattle.po_select.specs.Selected.{selected}
 use Rattle.tool_runs.specs.FaultText.{text_line}

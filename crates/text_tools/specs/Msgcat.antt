@@ -5,7 +5,7 @@ use Rattle.po_syntax.specs.declared.fault.PoError.{PoError}
 use Rattle.po_syntax.specs.declared.fault.PoFault.TheVariants.{ForeignCharset, OutOfMemory as NoMemory}
 use Rattle.po_entry.specs.Bytes.{Lacks}
 use Rattle.po_entry.specs.Header.{HasAdmittedCharset}
-use Rattle.po_compile.specs.Accepted.{ReadsDistinct, IsTextFault}
+use Rattle.po_messages.specs.DistinctText.{ReadsDistinct, IsTextFault}
 use Rattle.po_merge.specs.Inputs.{Named}
 use Rattle.po_merge.specs.Merged.{merged}
 use Rattle.po_merge.specs.declared.input.MergeOptions.{MergeOptions}

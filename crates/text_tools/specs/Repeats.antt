@@ -2,7 +2,7 @@
 use Rattle.std.specs.Prelude.{◌≡◌, ◌≢◌, ◌==◌, ℕ, Bool, List, ◌∷◌, ◌++◌, AllPairs, Option, None, Some, get_or, map}
 use Rattle.std.specs.Prelude.{if◌then◌else◌}
 use Rattle.po_entry.specs.TextEntry.{TextEntry}
-use Rattle.po_catalog.specs.Message.{Message, entry_message}
+use Rattle.po_messages.specs.Message.{Message, entry_message}
 use Rattle.text_tools.specs.declared.repeats.Numbered.{Numbered}
 use Rattle.text_tools.specs.declared.repeats.Place.{Place}
 use Rattle.text_tools.specs.declared.repeats.Seen.{Seen}

@@ -4,9 +4,9 @@ use Rattle.po_syntax.specs.declared.fault.PoError.{PoError}
 use Rattle.po_syntax.specs.declared.fault.PoFault.TheVariants.{Duplicate, OutOfMemory}
 use Rattle.po_entry.specs.ReadsText.{ReadsText}
 use Rattle.po_entry.specs.TextEntry.{TextEntry}
-use Rattle.po_catalog.specs.Duplicate.{HasNoDuplicate, IsFirstDuplicate, duplicate_fault}
-use Rattle.po_catalog.specs.Joined.{InputEntry, in_input, is_live}
-use Rattle.po_compile.specs.Accepted.{IsTextFault}
+use Rattle.po_messages.specs.Duplicate.{HasNoDuplicate, IsFirstDuplicate, duplicate_fault}
+use Rattle.po_messages.specs.Joined.{InputEntry, in_input, is_live}
+use Rattle.po_messages.specs.DistinctText.{IsTextFault}
 use Rattle.po_select.specs.declared.selection.Selection.{Selection}
 use Rattle.po_select.specs.Selected.{is_kept, obsolete_after, selected}
 use Rattle.po_writer.specs.TextParts.{AreParts}

@@ -7,7 +7,8 @@ ghost use Rattle.po_merge.specs.Inputs.{NamedEntry, named};
 ghost use Rattle.text_tools.specs.Entries.{HoldEntries};
 
 use crate::keys::Keys;
-use po_catalog::{Entry, is_live};
+use po_entry::Entry;
+use po_messages::is_live;
 use po_writer::append_separated;
 use std::alloc::{AllocError, Global};
 

@@ -3,8 +3,8 @@
 //! tells which entries are of one message.
 ghost use Rattle.std.specs.Prelude.{◌≡◌, ◌≢◌, ◌⊎◌, ◌++◌, All, IfErr, IfOk, List, MatchOption, OnOk, length, map};
 ghost use Rattle.std.specs.List.{AllZip};
-ghost use Rattle.po_catalog.specs.Duplicate.{HasNoDuplicate};
-ghost use Rattle.po_catalog.specs.Joined.{is_live};
+ghost use Rattle.po_messages.specs.Duplicate.{HasNoDuplicate};
+ghost use Rattle.po_messages.specs.Joined.{is_live};
 ghost use Rattle.po_entry.specs.Bytes.{Lacks};
 ghost use Rattle.po_entry.specs.ReadsText.{ReadsText};
 ghost use Rattle.po_entry.specs.TextEntry.{TextEntry};
@@ -20,7 +20,8 @@ ghost use Rattle.tool_runs.specs.NamedFile.{named_files};
 use crate::entries::{Entries, Row};
 use crate::keys::split_at_most;
 use crate::repeats::{Place, duplicate, repeated_lines};
-use po_catalog::{Catalogue, Entry, is_live};
+use po_entry::{Catalogue, Entry};
+use po_messages::is_live;
 use po_reader::{PIECE, next_catalogue};
 use po_syntax::{Pieces, PoError, PoFault};
 use std::alloc::{AllocError, Global};

@@ -5,11 +5,12 @@ ghost use Rattle.std.specs.Prelude.{◌≡◌, ◌++◌, ◌∷◌, ℕ, [], IfO
 ghost use Rattle.std.specs.Option.{option_copied};
 ghost use Rattle.po_entry.specs.TextEntry.{TextEntry};
 ghost use Rattle.text_tools.specs.Keys.{HoldKeys, key_bytes, key_lengths};
-ghost use Rattle.po_catalog.specs.FirstOnes.{group_numbers};
-ghost use Rattle.po_catalog.specs.Message.{entry_message, same_message};
-ghost use Rattle.po_catalog.specs.MessageView.{message_of, messages};
+ghost use Rattle.po_messages.specs.FirstOnes.{group_numbers};
+ghost use Rattle.po_messages.specs.Message.{entry_message, same_message};
+ghost use Rattle.po_messages.specs.MessageView.{message_of, messages};
 
-use po_catalog::{Entry, MessageKey, grouped};
+use po_entry::Entry;
+use po_messages::{MessageKey, grouped};
 use std::alloc::{AllocError, Global};
 
 /// How long the context of a message is, where it has one, and its msgid.

@@ -20,9 +20,10 @@ ghost use Rattle.text_tools.specs.MergedText.{AreGroups, AreReadBack, AreWritten
 use crate::entries::{Row, between};
 use crate::inputs::Inputs;
 use po_catalog::laws::what_is_written_reads_back;
-use po_catalog::{Catalogue, read};
+use po_entry::Catalogue;
 use po_merge::laws::{groups_are_numbered, lines_are_not_merged, one_definition_stays};
 use po_merge::{MergeOptions, NamedEntry, groups_of, is_wanted, merge_definitions};
+use po_reader::read;
 use po_syntax::PoError;
 use po_writer::TextParts;
 use std::alloc::{AllocError, Global};

@@ -2,7 +2,7 @@
 
 ghost use Rattle.std.specs.Prelude.{◌≡◌, ◌≢◌, ◌<◌, ℕ, Bool, IfOk, List, MatchOption, OnOk, Some, filter, length, map};
 ghost use Rattle.po_entry.specs.TextEntry.{TextEntry};
-ghost use Rattle.po_catalog.specs.Message.{Message};
+ghost use Rattle.po_messages.specs.Message.{Message};
 ghost use Rattle.po_syntax.specs.declared.fault.PoFault.{PoFault};
 ghost use Rattle.text_tools.specs.Repeats.{IsFirstRepeat, IsUnseen, NumbersDiffer, are_numbered, are_placed, line_seen, numbered};
 

@@ -11,7 +11,8 @@ ghost use Rattle.text_tools.specs.SelectedText.{AreDistinct, AreSelected, HoldRo
 
 use crate::keys::Keys;
 use crate::repeats::{Place, duplicate, repeated_lines};
-use po_catalog::{Catalogue, Entry, is_live};
+use po_entry::{Catalogue, Entry};
+use po_messages::is_live;
 use po_reader::{PIECE, next_catalogue};
 use po_select::{Selection, select};
 use po_syntax::{Pieces, PoError};

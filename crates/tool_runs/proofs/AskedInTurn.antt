@@ -6,13 +6,13 @@ use Rattle.tool_runs.specs.AskedLaw.{HaveFiles, no_argument, another_file, stand
 use Rattle.tool_runs.specs.Inputs.{Asked, standard_input, file_of, asked_by, asked_for}
 use Rattle.tool_runs.specs.Run.{is_standard}
 
-is_dash : (argument : List ℕ) → is_standard argument ≡ true → argument ≡ codes "-"
+pub is_dash : (argument : List ℕ) → is_standard argument ≡ true → argument ≡ codes "-"
 is_dash argument is = (bytes_eq-Decides argument (codes "-")).0 is
 
-no_dash : (argument : List ℕ) → is_standard argument ≡ false → argument ≢ codes "-"
+pub no_dash : (argument : List ℕ) → is_standard argument ≡ false → argument ≢ codes "-"
 no_dash argument is same = absurd (grind (arith, sym is ∙ (bytes_eq-Decides argument (codes "-")).1 same))
 
-other : (argument : List ℕ) → argument ≢ codes "-" → is_standard argument ≡ false
+pub other : (argument : List ℕ) → argument ≢ codes "-" → is_standard argument ≡ false
 other argument is = elim (cases_Bool (is_standard argument)) [
   | inl e ↦ absurd (is (is_dash argument e))
   | inr e ↦ e

@@ -1,6 +1,6 @@
 -- The path of a new file is another than that of the file beside which it is made: their last
 -- components differ in length.
-use Rattle.std.proofs.Common.{◌≡◌, ◌≢◌, ◌≤◌, ℕ, ◌+◌, ◌<◌, Bool, true, false, not, cond, ◌||◌, ◌==◌, List, [], ◌∷◌, ◌++◌, length, length-append, length-drop, get_or, get_or-drop, filter, Option, Some, None, zero, suc, drop, take, nat_lt, inl, inr, refl, sym, ap, ap₂, subst, ◌∙◌, codes, decimal, arith}
+use Rattle.std.proofs.Common.{◌≡◌, ◌≢◌, ◌≤◌, ℕ, ◌+◌, ◌^◌, ◌<◌, Bool, true, false, not, cond, ◌||◌, ◌==◌, List, [], ◌∷◌, ◌++◌, length, length-append, length-drop, get_or, get_or-drop, filter, Option, Some, None, zero, suc, drop, take, nat_lt, inl, inr, refl, sym, ap, ap₂, subst, ◌∙◌, codes, decimal, arith}
 use Rattle.std.specs.List.{All}
 use Rattle.std.specs.Option.{IfSome, is_some, option_map, option_flatten, unwrap_or}
 use Rattle.std.specs.Path.{slash, cur_dir, later_pieces, is_name, path_names, path_components, path_join, split_last_component, parent_and_last, rsplit_once, rfind_below, trim_trailing, first_piece, is_dot_at, normal_name, path_parent, path_file_name, without_file_name, path_with_file_name}
@@ -14,7 +14,7 @@ use Rattle.std.proofs.lemmas.List.Elements.{All-nil, All-cons, All-append, All-f
 use Rattle.std.proofs.lemmas.Paths.{path_components_file_name, path_components_join, path_join_relative}
 use Rattle.std.proofs.lemmas.Slice.Eq.{bytes_eq-Decides}
 use Rattle.std.proofs.lemmas.Str.Parse.{digit_from_value}
-use Rattle.tool_runs.specs.OutputFiles.{beside, new_name, own_name}
+use Rattle.tool_runs.specs.OutputPaths.{beside, new_name, own_name}
 
 -- no byte is a slash
 abbrev LacksSlash : List ℕ → Type 0
@@ -105,9 +105,9 @@ output_lacks_slash : LacksSlash (codes "output")
 output_lacks_slash = λ i d inside same. false≢true (list_any_at (λ b. b == slash) (codes "output") i d inside (eq-eqb _ slash same))
 
 -- the name of a new file, of the name that it is made from
-module _ (number : ℕ) (few : number ≤ 999) where
-  digits_are_few : length (decimal number) ≤ 3
-  digits_are_few = length-decimal-le 3 number (omega arith) (omega (arith, few)) (omega (arith, few))
+module _ (number : ℕ) (few : number < 2 ^ 32) where
+  digits_are_few : length (decimal number) ≤ 10
+  digits_are_few = length-decimal-le 10 number (omega arith) (omega (arith, few)) (omega (arith, few))
 
   name_lacks_slash : (own : List ℕ) → LacksSlash own → LacksSlash (46 ∷ own ++ 46 ∷ decimal number)
   name_lacks_slash own lacks =

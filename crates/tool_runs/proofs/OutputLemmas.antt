@@ -1,113 +1,101 @@
 -- How the calls of a function join to those of its caller.
-use Rattle.std.proofs.Common.{◌≡◌, ◌+◌, ◌<◌, ℕ, true, false, List, [], ◌∷◌, ◌++◌, Option, Some, None, Result, Ok, Err, OnOk, OnErr, is_ok, refl, sym, ap, ◌∙◌, subst, append_assoc, append-nil, arith, rules}
+use Rattle.std.proofs.Common.{◌≡◌, ◌+◌, ◌<◌, ◌^◌, true, false, ℕ, List, [], ◌∷◌, ◌++◌, Option, Some, None, Result, Ok, Err, OnOk, OnErr, is_ok, refl, sym, ap, ◌∙◌, subst, append_assoc, append-nil}
 use Rattle.std.specs.Io.KnownBytes.{Appends}
 use Rattle.po_shell.specs.Device.{AppendsPrefix}
 use Rattle.po_shell.specs.declared.fault.ToolFault.{ToolFault}
+use Rattle.tool_runs.specs.declared.output_files.OutputFault.{OutputFault}
 use Rattle.tool_runs.specs.declared.output_files.FileKind.TheVariants.{Regular}
 use Rattle.tool_runs.specs.declared.output_files.NotMade.{NotMade}
-use Rattle.tool_runs.specs.declared.output_files.NotMade.TheVariants.{Exists, Forbidden}
-use Rattle.tool_runs.specs.declared.output_files.OutputFault.{OutputFault}
-use Rattle.tool_runs.specs.declared.output_files.OutputFault.TheVariants.{CannotCreate}
-use Rattle.tool_runs.specs.FileCalls.{FileCall, FileLog, Calls, logged, sets_mode, makes, fails_to_make, asks, reads_link}
-use Rattle.tool_runs.specs.OutputFiles.{IsWritten, GivesMode, mode_calls, whole, cut, late, beside, new_mode, Fills, WritesInPlace, Replaces, GivesUp, made, taken, forbidden, unmade, WritesFile, follows, link_target, names_stream}
+use Rattle.tool_runs.specs.declared.output_files.NotMade.TheVariants.{Exists}
+use Rattle.tool_runs.specs.declared.output_files.Rights.{Rights}
+use Rattle.tool_runs.specs.FileCalls.{FileCall, FileLog, Course, done, fails, ◌▸◌, calls_of, logged, Runs, asks, reads_link, numbers, makes, fails_to_make, closes}
+use Rattle.tool_runs.specs.FileRights.{first_mode}
+use Rattle.tool_runs.specs.OutputFiles.{Closes, whole, cut, late, Fills, Replaces, made, taken, WritesFile, follows}
+use Rattle.tool_runs.specs.OutputPaths.{NamesNoStream, link_target, beside}
 
 pub logged-twice : (first rest : List FileCall) (log : FileLog) → logged rest (logged first log) ≡ logged (first ++ rest) log
 logged-twice first rest None = refl
 logged-twice first rest (Some before) = ap Some (append_assoc before first rest)
 
-pub logged-none : (log : FileLog) → log ≡ logged [] log
+logged-none : (log : FileLog) → log ≡ logged [] log
 logged-none None = refl
 logged-none (Some before) = ap Some (sym (append-nil before))
 
-pub logged-after : (old : FileLog) {mid new : FileLog} (first rest : List FileCall) → mid ≡ logged first old → new ≡ logged rest mid → new ≡ logged (first ++ rest) old
-logged-after old first rest began went = went ∙ ap (logged rest) began ∙ logged-twice first rest old
+-- nothing more is done
+pub is-done : {log : FileLog} {Is : Course → Type 0} → Is done → Runs log log None Is
+is-done {log} is = record { course = done; log = logged-none log; fault_is = refl; is = is }
 
--- these calls are all
-pub ends : {old new : FileLog} {P : List FileCall → Type 0} (calls : List FileCall) → new ≡ logged calls old → P calls → Calls old new P
-ends calls log are = record { calls = calls; log = log; are = are }
+pub is-fault : {log : FileLog} {why : OutputFault} {Is : Course → Type 0} → Is (fails why) → Runs log log (Some why) Is
+is-fault {log} {why} is = record { course = fails why; log = logged-none log; fault_is = refl; is = is }
 
--- there is none
-pub ends-at-once : {old : FileLog} {P : List FileCall → Type 0} → P [] → Calls old old P
-ends-at-once {old} are = record { calls = []; log = logged-none old; are = are }
-
--- after these calls come those of a callee
-pub goes-on : {old mid new : FileLog} {P Q : List FileCall → Type 0} (first : List FileCall) → mid ≡ logged first old
-    → ((rest : List FileCall) → P rest → Q (first ++ rest)) → Calls mid new P → Calls old new Q
-goes-on first began joins rest = record {
-  calls = first ++ rest.calls;
-  log = logged-after _ first rest.calls began rest.log;
-  are = joins rest.calls rest.are;
+-- after one call comes the rest
+pub after-call : {before mid end : FileLog} {fault : Option OutputFault} {Is : Course → Type 0} (call : FileCall)
+    → mid ≡ logged (call ∷ []) before → Runs mid end fault (λ rest. Is (call ▸ rest)) → Runs before end fault Is
+after-call {before} call began rest = record {
+  course = call ▸ rest.course;
+  log = rest.log ∙ ap (logged (calls_of rest.course)) began ∙ logged-twice (call ∷ []) (calls_of rest.course) before;
+  fault_is = rest.fault_is;
+  is = rest.is;
 }
+
+-- what a callee does is done for its caller
+pub done-for : {before end : FileLog} {fault : Option OutputFault} {P Q : Course → Type 0} → ((course : Course) → P course → Q course)
+    → Runs before end fault P → Runs before end fault Q
+done-for for it = record { course = it.course; log = it.log; fault_is = it.fault_is; is = for it.course it.is }
 
 -- what was put into a file that is closed with all that was written
 pub put-closed : {T : Type 0} (result : Result T ToolFault) {output : List ℕ} {before after : Option (List ℕ)} {old new : ℕ}
     → old ≡ 0 → OnOk result (Appends before after output) → OnErr result (AppendsPrefix before after output)
-    → OnOk result (new ≡ old) → OnErr result (new ≡ old + 1) → IsWritten output before after new true (is_ok result)
+    → OnOk result (new ≡ old) → OnErr result (new ≡ old + 1) → Closes output before (closes after new true) (is_ok result)
 put-closed (Ok _) none all part same more = rw (same, none) (whole all)
 put-closed (Err _) none all part same more = rw (more, none) (cut part)
 
 -- what was put into a file that the system took in part
 pub put-unclosed : {T : Type 0} (result : Result T ToolFault) {output : List ℕ} {before after : Option (List ℕ)} {old new : ℕ}
     → old ≡ 0 → OnOk result (Appends before after output) → OnErr result (AppendsPrefix before after output)
-    → OnOk result (new ≡ old) → OnErr result (new ≡ old + 1) → IsWritten output before after new false false
+    → OnOk result (new ≡ old) → OnErr result (new ≡ old + 1) → Closes output before (closes after new false) false
 put-unclosed (Ok _) none all part same more = rw (same, none) (late all)
 put-unclosed (Err _) none all part same more = rw (more, none) (cut part)
 
--- the calls by which a mode was given
-pub mode-given : (mode : Option ℕ) (old : FileLog) {new : FileLog} → GivesMode mode old new true → new ≡ logged (mode_calls mode) old
-mode-given None old given = given.0 ∙ logged-none old
-mode-given (Some bits) old given = given
-
--- a mode that wasn't given is that of a file
-pub mode-lost : (mode : Option ℕ) (old : FileLog) {new : FileLog} → GivesMode mode old new false
-    → (bits : ℕ) × (mode ≡ Some bits) × (new ≡ logged (sets_mode bits false ∷ []) old)
-mode-lost None old given = absurd (grind (arith, given.1))
-mode-lost (Some bits) old given = (bits, refl, given)
-
-module _ {output path : List ℕ} {mode : Option ℕ} {number : ℕ} {old mid new : FileLog} {bits : ℕ} {outcome : Option OutputFault} where
+module _ {output path : List ℕ} {old : Option Rights} {tries bits : ℕ} (number : ℕ) {before named tried end : FileLog} {fault : Option OutputFault} where
   -- a new file is filled once it is made
-  pub after-made : {made-path filled : List ℕ} {before : Option (List ℕ)} → made-path ≡ beside path number → filled ≡ beside path number
-      → bits ≡ new_mode mode → mid ≡ logged (makes made-path bits before ∷ []) old
-      → Calls mid new (λ calls. Fills output path filled mode before calls outcome)
-      → Calls old new (λ calls. Replaces output path mode number calls outcome)
-  after-made {before} made-is filled-is bits-is log fills =
-      goes-on (makes (beside path number) (new_mode mode) before ∷ []) (rw (made-is, bits-is) at log) (λ calls are. made are) (rw filled-is at fills)
+  pub after-made : {new filled : List ℕ} {its : Option (List ℕ)} → number < 2 ^ 32 → new ≡ beside path number → filled ≡ beside path number
+      → bits ≡ first_mode old → named ≡ logged (numbers number ∷ []) before → tried ≡ logged (makes new bits its ∷ []) named
+      → Runs tried end fault (Fills output (record { path = filled; target = path; made = its }) old)
+      → Runs before end fault (Replaces output path old tries)
+  after-made {its} few new-is filled-is bits-is first second fills =
+      after-call (numbers number) first
+      (after-call (makes (beside path number) (first_mode old) its) (rw (new-is, bits-is) at second)
+      (done-for (λ course are. made few are) (rw filled-is at fills)))
 
-  -- the next number is tried where a name is taken
-  pub after-taken : {tried : List ℕ} {why : NotMade} → tried ≡ beside path number → bits ≡ new_mode mode → why ≡ Exists → number < 999
-      → mid ≡ logged (fails_to_make tried bits why ∷ []) old
-      → Calls mid new (λ calls. Replaces output path mode (number + 1) calls outcome)
-      → Calls old new (λ calls. Replaces output path mode number calls outcome)
-  after-taken tried-is bits-is why-is below log rest =
-      goes-on (fails_to_make (beside path number) (new_mode mode) Exists ∷ []) (rw (tried-is, bits-is, why-is) at log) (λ calls are. taken below are) rest
+  -- another name is tried where one is taken
+  pub after-taken : (less : ℕ) {new : List ℕ} → less + 1 ≡ tries → new ≡ beside path number → bits ≡ first_mode old
+      → named ≡ logged (numbers number ∷ []) before → tried ≡ logged (fails_to_make new bits Exists ∷ []) named
+      → Runs tried end fault (Replaces output path old less)
+      → Runs before end fault (Replaces output path old tries)
+  after-taken less more new-is bits-is first second rest =
+      subst (λ n. Runs before end fault (Replaces output path old n)) more
+      (after-call (numbers number) first
+      (after-call (fails_to_make (beside path number) (first_mode old) Exists) (rw (new-is, bits-is) at second)
+      (done-for (λ course are. taken are) rest)))
 
-  -- a file in a folder in which none may be made is written in place
-  pub after-forbidden : {tried : List ℕ} {why : NotMade} {its : ℕ} → tried ≡ beside path number → bits ≡ new_mode mode → why ≡ Forbidden
-      → mode ≡ Some its → mid ≡ logged (fails_to_make tried bits why ∷ []) old
-      → Calls mid new (λ calls. WritesInPlace output path calls outcome)
-      → Calls old new (λ calls. Replaces output path mode number calls outcome)
-  after-forbidden tried-is bits-is why-is mode-is log rest =
-      goes-on (fails_to_make (beside path number) (new_mode mode) Forbidden ∷ []) (rw (tried-is, bits-is, why-is) at log) (λ calls are. forbidden mode-is are) rest
-
--- else that is the end
-pub after-unmade : {output path : List ℕ} {mode : Option ℕ} {number : ℕ} {old mid : FileLog} {bits : ℕ} {tried : List ℕ} (why : NotMade)
-    → tried ≡ beside path number → bits ≡ new_mode mode → GivesUp why mode number
-    → mid ≡ logged (fails_to_make tried bits why ∷ []) old
-    → Calls old mid (λ calls. Replaces output path mode number calls (Some CannotCreate))
-after-unmade {path} {mode} {number} why tried-is bits-is gives-up log =
-    ends (fails_to_make (beside path number) (new_mode mode) why ∷ []) (rw (tried-is, bits-is) at log) (unmade gives-up)
+  -- none can be made
+  pub after-unmade : {new : List ℕ} (why : NotMade) → new ≡ beside path number → bits ≡ first_mode old
+      → named ≡ logged (numbers number ∷ []) before → tried ≡ logged (fails_to_make new bits why ∷ []) named
+      → Runs tried end fault (λ rest. Replaces output path old tries (numbers number ▸ fails_to_make (beside path number) (first_mode old) why ▸ rest))
+      → Runs before end fault (Replaces output path old tries)
+  after-unmade why new-is bits-is first second rest =
+      after-call (numbers number) first
+      (after-call (fails_to_make (beside path number) (first_mode old) why) (rw (new-is, bits-is) at second) rest)
 
 -- what a link leads to is written next
-pub after-link : (mode : Option ℕ) {output path text copy target : List ℕ} {links less : ℕ} {old there new : FileLog} {outcome : Option OutputFault}
-    → names_stream path ≡ false → less + 1 ≡ links → copy ≡ text → target ≡ link_target path copy
-    → there ≡ logged (asks path (Regular mode) ∷ reads_link path (Some text) ∷ []) old
-    → Calls there new (λ calls. WritesFile output less target calls outcome)
-    → Calls old new (λ calls. WritesFile output links path calls outcome)
-after-link mode {output} {path} {text} {less} {outcome} no-stream is copy-is target-is log rest =
-    goes-on (asks path (Regular mode) ∷ reads_link path (Some text) ∷ []) log
-    (λ calls are. subst (λ n. WritesFile output n path (asks path (Regular mode) ∷ reads_link path (Some text) ∷ calls) outcome) is
-    (follows no-stream (subst (λ p. WritesFile output less p calls outcome) (target-is ∙ ap (link_target path) copy-is) are))) rest
-
--- where nothing is to be replaced, no file is written in place
-pub gives-up-alone : (mode : Option ℕ) (number : ℕ) → mode ≡ None → GivesUp Forbidden mode number
-gives-up-alone mode number is = rw is (grind rules)
+pub after-link : (old : Option Rights) {output path text copy target : List ℕ} {links less : ℕ} {before asked read end : FileLog} {fault : Option OutputFault}
+    → NamesNoStream path → less + 1 ≡ links → copy ≡ text → target ≡ link_target path copy
+    → asked ≡ logged (asks path (Regular old) ∷ []) before → read ≡ logged (reads_link path (Some text) ∷ []) asked
+    → Runs read end fault (WritesFile output less target)
+    → Runs before end fault (WritesFile output links path)
+after-link old {output} {path} {text} {less} {before} {end} {fault} none more copy-is target-is first second rest =
+    subst (λ n. Runs before end fault (WritesFile output n path)) more
+    (after-call (asks path (Regular old)) first
+    (after-call (reads_link path (Some text)) second
+    (done-for (λ course are. follows none (subst (λ p. WritesFile output less p course) (target-is ∙ ap (link_target path) copy-is) are)) rest)))

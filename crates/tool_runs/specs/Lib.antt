@@ -3,8 +3,12 @@ pub mod ProgramFaults
 pub mod FaultText
 pub mod Inputs
 pub mod AskedLaw
+pub mod InputsLaw
 pub mod NamedFile
 pub mod FileCalls
+pub mod FileRights
+pub mod RightsLaw
+pub mod OutputPaths
 pub mod OutputFiles
 pub mod OutputLaw
 pub mod Outputs

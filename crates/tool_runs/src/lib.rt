@@ -2,7 +2,7 @@
 //! options and arguments, and the lines of faults.
 //!
 //! The modules in reading order: `run`, `program_fault`, `fault_text`, `inputs`, `output_files`,
-//! `output_paths`, `output_writing`, `outputs`, `laws`, `arguments`, `positional`, `substitution`, `ending`.
+//! `output_paths`, `output_rights`, `output_writing`, `outputs`, `laws`, `arguments`, `positional`, `substitution`, `ending`.
 
 #![tactic(auto)]
 
@@ -13,6 +13,7 @@ mod inputs;
 pub mod laws;
 mod output_files;
 mod output_paths;
+mod output_rights;
 mod output_writing;
 mod outputs;
 mod positional;
@@ -24,7 +25,7 @@ pub use arguments::{Arguments, input_of, inputs_of, output_of, text_or};
 pub use ending::Ending;
 pub use fault_text::{push_location, push_mo_text, push_numbered, push_po_text};
 pub use inputs::{Input, InputFault, InputSource, Inputs, read_one, read_whole};
-pub use output_files::{FileKind, NotMade, OutputFault, OutputFiles};
+pub use output_files::{FileKind, NotMade, OutputFault, OutputFiles, Owner, Rights};
 pub use outputs::write_run;
 pub use positional::{EnvsubstArguments, GettextArguments, NgettextArguments};
 pub use program_fault::{ProgramFault, report_fault};

@@ -1,12 +1,17 @@
-//! The paths at which an output file is made.
-ghost use Rattle.std.specs.Prelude.{◌≡◌, IfOk};
+//! The paths at which an output is made.
+ghost use Rattle.std.specs.Prelude.{◌≡◌, ◌≢◌, ◌^◌, ◌<◌, ℕ, IfOk, MatchOption, decimal};
 ghost use Rattle.std.specs.Option.{option_copied};
 ghost use Rattle.std.specs.String.{string_bytes};
-ghost use Rattle.tool_runs.specs.OutputFiles.{beside, link_target, names_stream, own_name};
+ghost use Rattle.tool_runs.specs.OutputPaths.{NamesNoStream, NamesStream, beside, link_target, own_name};
 
 use itoa::Buffer;
 use std::alloc::{AllocError, Global};
 use std::path::Path;
+
+/// The number of standard output among the descriptors of a process, and that of standard error.
+const STDOUT_NUMBER: u32 = 1;
+
+const STDERR_NUMBER: u32 = 2;
 
 /// What a new file is called where the file that it replaces has no name, or too long a one.
 const OTHER_NAME: &str = "output";
@@ -34,15 +39,34 @@ pub(crate) fn link_target(alloc: Global, path: &str, text: &str) -> Result<Strin
     Ok(Path::new(path).with_file_name(alloc, text)?.into_string())
 }
 
-/// Whether the path names an open stream of the process that looks it up, and not a file of its own.
-pub(crate) fn names_stream(path: &str) -> bool
-    ensures { result ≡ names_stream path.now }
+/// The number of the open stream that the path names, of the process that looks it up. `None` where the
+/// path is one of the file system.
+pub(crate) fn stream_named(path: &str) -> Option<u32>
+    ensures { MatchOption result (NamesNoStream path.now) (λ number. NamesStream path.now number) }
 {
-    let bytes = path.as_bytes();
-    path == "/dev/stdout"
-        || path == "/dev/stderr"
-        || bytes.starts_with(b"/dev/fd/")
-        || bytes.starts_with(b"/proc/self/fd/")
+    if path == "/dev/stdout" {
+        return Some(STDOUT_NUMBER);
+    }
+    if path == "/dev/stderr" {
+        return Some(STDERR_NUMBER);
+    }
+    if let Some(digits) = path.strip_prefix("/dev/fd/") {
+        return number_of(digits);
+    }
+    number_of(path.strip_prefix("/proc/self/fd/")?)
+}
+
+/// The number that these digits are, as it is written.
+fn number_of(digits: &str) -> Option<u32>
+    ensures { MatchOption result ((n : ℕ) → n < 2 ^ 32 → digits.now ≢ decimal n)
+        (λ number. (number < 2 ^ 32) × (digits.now ≡ decimal number)) }
+{
+    let number = digits.parse::<u32>().ok()?;
+    if Buffer::new().format(number) == digits {
+        Some(number)
+    } else {
+        None
+    }
 }
 
 /// The name that a new file's begins with.

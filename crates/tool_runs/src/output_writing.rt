@@ -1,22 +1,20 @@
-//! How an output file is made: whole in a new file beside it, which is then renamed over it.
+//! How an output is made: whole in a new file beside the one that it replaces, which then gets its path.
 ghost use Rattle.std.specs.Prelude.{◌≡◌};
-ghost use Rattle.tool_runs.specs.FileCalls.{Calls};
-ghost use Rattle.tool_runs.specs.OutputFiles.{Closes, Fills, GivesMode, Replaces, WritesFile, WritesInPlace, fault_of};
+ghost use Rattle.tool_runs.specs.FileCalls.{Call, Runs, fault_in};
+ghost use Rattle.tool_runs.specs.OutputFiles.{Closes, Fills, Finishes, Puts, Replaces, WritesFile, WritesInPlace, WritesStream};
 
-use crate::output_files::{FileKind, NotMade, OutputFault, OutputFiles};
-use crate::output_paths::{beside, link_target, names_stream};
+use crate::output_files::{FileKind, NotMade, OutputFault, OutputFiles, Rights};
+use crate::output_paths::{beside, link_target, stream_named};
+use crate::output_rights::{first_mode, kept_mode};
 use po_shell::{Counted, put_all};
 use std::alloc::Global;
 
-/// The mode of a file that replaces none, of which the system takes the umask.
-const NEW_MODE: u32 = 0o666;
-
-/// The number of the last new file that is tried.
-const LAST_NUMBER: u32 = 999;
+/// How many further names are tried for a new file, where one is taken.
+const FURTHER_NAMES: u32 = 999;
 
 /// Writes an output to the file that the path leads to, through at most so many links. Where that is a
-/// regular file or isn't there, it is replaced; else, and where the path names an open stream, it is
-/// written in place.
+/// regular file or isn't there, it is replaced; an open stream is written where it stands, and anything
+/// else in place.
 pub(crate) fn write_file<T: OutputFiles>(
     alloc: Global,
     files: &mut T,
@@ -24,20 +22,19 @@ pub(crate) fn write_file<T: OutputFiles>(
     output: &[u8],
     links: u32,
 ) -> Result<(), OutputFault>
-    ensures { Calls (T.log files.old) (T.log files.new) (λ calls.
-        WritesFile output.now links path.now calls (fault_of result)) }
+    ensures { Runs (T.log files.old) (T.log files.new) (fault_in result) (WritesFile output.now links path.now) }
 {
-    if names_stream(path) {
-        return write_in_place(files, path, output);
+    if let Some(number) = stream_named(path) {
+        return write_stream(files, number, output);
     }
-    let mode = match files.kind(path) {
-        FileKind::Regular(mode) => mode,
+    let old = match files.kind(path) {
+        FileKind::Regular(old) => old,
         FileKind::Special => return write_in_place(files, path, output),
         FileKind::Unknown => return Err(OutputFault::CannotCreate),
     };
     match files.link(alloc, path) {
         Err(why) => Err(why),
-        Ok(None) => replace(alloc, files, path, mode, output, 0),
+        Ok(None) => replace(alloc, files, path, old, output, FURTHER_NAMES),
         Ok(Some(text)) => {
             if links == 0 {
                 return Err(OutputFault::CannotCreate);
@@ -50,31 +47,32 @@ pub(crate) fn write_file<T: OutputFiles>(
     }
 }
 
-/// Replaces the file at the path, which has this mode or isn't there, by a new file. Its number is the
-/// first that is free.
+/// Replaces the file at the path, which has these rights or isn't there, by a new file. Where the name
+/// of that is taken another is tried, at most so often.
 fn replace<T: OutputFiles>(
     alloc: Global,
     files: &mut T,
     path: &str,
-    mode: Option<u32>,
+    old: Option<Rights>,
     output: &[u8],
-    number: u32,
+    tries: u32,
 ) -> Result<(), OutputFault>
-    ensures { Calls (T.log files.old) (T.log files.new) (λ calls.
-        Replaces output.now path.now mode number calls (fault_of result)) }
+    ensures { Runs (T.log files.old) (T.log files.new) (fault_in result)
+        (Replaces output.now path.now old tries) }
 {
+    let number = files.number();
     let Ok(new) = beside(alloc, path, number) else {
         return Err(OutputFault::OutOfMemory);
     };
-    match files.create_new(&new, mode.unwrap_or(NEW_MODE)) {
-        Ok(file) => fill(files, file, path, &new, mode, output),
+    match files.create_new(&new, first_mode(old)) {
+        Ok(file) => fill(files, file, path, &new, old, output),
         Err(NotMade::Exists) => {
-            if number >= LAST_NUMBER {
+            if tries == 0 {
                 return Err(OutputFault::CannotCreate);
             }
-            replace(alloc, files, path, mode, output, number + 1)
+            replace(alloc, files, path, old, output, tries - 1)
         }
-        Err(NotMade::Forbidden) => match mode {
+        Err(NotMade::Forbidden) => match old {
             Some(_) => write_in_place(files, path, output),
             None => Err(OutputFault::CannotCreate),
         },
@@ -82,23 +80,41 @@ fn replace<T: OutputFiles>(
     }
 }
 
-/// Gives a new file the mode of the one that it replaces, all of the output, and then the path. Where
-/// that fails the new file is removed.
+/// Gives a new file the owner of the one that it replaces, as far as the system lets the run do that, and
+/// what is kept of its mode, and then all of the output and the path. Where that fails it is removed.
 fn fill<T: OutputFiles>(
     files: &mut T,
     file: T::File,
     path: &str,
     new: &str,
-    mode: Option<u32>,
+    old: Option<Rights>,
     output: &[u8],
 ) -> Result<(), OutputFault>
-    ensures { Calls (T.log files.old) (T.log files.new) (λ calls.
-        Fills output.now path.now new.now mode (T.File.contents file) calls (fault_of result)) }
+    ensures { Runs (T.log files.old) (T.log files.new) (fault_in result)
+        (Fills output.now (record { path = new.now; target = path.now; made = T.File.contents file }) old) }
 {
-    if !give_mode(files, &file, mode) {
+    let Some(old) = old else {
+        return finish(files, file, path, new, output);
+    };
+    let owner = files.set_owner(&file, old.owner);
+    if !files.set_mode(&file, kept_mode(old, owner)) {
         files.remove(new);
         return Err(OutputFault::CannotCreate);
     }
+    finish(files, file, path, new, output)
+}
+
+/// Gives a new file all of the output, and then the path. Where that fails it is removed.
+fn finish<T: OutputFiles>(
+    files: &mut T,
+    file: T::File,
+    path: &str,
+    new: &str,
+    output: &[u8],
+) -> Result<(), OutputFault>
+    ensures { Runs (T.log files.old) (T.log files.new) (fault_in result)
+        (Finishes output.now (record { path = new.now; target = path.now; made = T.File.contents file })) }
+{
     if !put_and_close(files, file, output) {
         files.remove(new);
         return Err(OutputFault::WriteFault);
@@ -110,28 +126,38 @@ fn fill<T: OutputFiles>(
     Ok(())
 }
 
-/// Gives a file the mode of the one that it replaces, where there is one.
-fn give_mode<T: OutputFiles>(files: &mut T, file: &T::File, mode: Option<u32>) -> bool
-    ensures { GivesMode mode (T.log files.old) (T.log files.new) result }
-{
-    match mode {
-        None => true,
-        Some(mode) => files.set_mode(file, mode),
-    }
-}
-
 /// Writes an output to the file at the path itself.
 fn write_in_place<T: OutputFiles>(
     files: &mut T,
     path: &str,
     output: &[u8],
 ) -> Result<(), OutputFault>
-    ensures { Calls (T.log files.old) (T.log files.new) (λ calls.
-        WritesInPlace output.now path.now calls (fault_of result)) }
+    ensures { Runs (T.log files.old) (T.log files.new) (fault_in result) (WritesInPlace output.now path.now) }
 {
-    let Some(file) = files.open(path) else {
-        return Err(OutputFault::CannotCreate);
-    };
+    match files.open(path) {
+        Some(file) => put(files, file, output),
+        None => Err(OutputFault::CannotCreate),
+    }
+}
+
+/// Writes an output to the open stream of this number, where it stands.
+fn write_stream<T: OutputFiles>(
+    files: &mut T,
+    number: u32,
+    output: &[u8],
+) -> Result<(), OutputFault>
+    ensures { Runs (T.log files.old) (T.log files.new) (fault_in result) (WritesStream output.now number) }
+{
+    match files.stream(number) {
+        Some(stream) => put(files, stream, output),
+        None => Err(OutputFault::CannotCreate),
+    }
+}
+
+/// Writes an output to what is open, and closes it.
+fn put<T: OutputFiles>(files: &mut T, file: T::File, output: &[u8]) -> Result<(), OutputFault>
+    ensures { Runs (T.log files.old) (T.log files.new) (fault_in result) (Puts output.now (T.File.contents file)) }
+{
     if put_and_close(files, file, output) {
         Ok(())
     } else {
@@ -139,9 +165,9 @@ fn write_in_place<T: OutputFiles>(
     }
 }
 
-/// Writes all of an output to an open file, and closes it. Returns whether the file has all of it.
+/// Writes all of an output to what is open, and closes it. Returns whether all of it was taken.
 fn put_and_close<T: OutputFiles>(files: &mut T, file: T::File, output: &[u8]) -> bool
-    ensures { Closes output.now (T.File.contents file) (T.log files.old) (T.log files.new) result }
+    ensures { Call (T.log files.old) (T.log files.new) (λ close. Closes output.now (T.File.contents file) close result) }
 {
     let mut file = Counted::new(file);
     let is_put = put_all(&mut file, output).is_ok();

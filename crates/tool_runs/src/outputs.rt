@@ -1,7 +1,7 @@
 //! Where a run is written: to its output file, or to standard output, and then to standard error.
 ghost use Rattle.std.specs.Prelude.{◌≡◌, ◌^◌, ◌<◌, None, IfErr, IfOk};
-ghost use Rattle.tool_runs.specs.OutputFiles.{fault_of};
-ghost use Rattle.tool_runs.specs.Outputs.{IsOutputFault, MakesFile, WritesRun};
+ghost use Rattle.tool_runs.specs.FileCalls.{fault_in};
+ghost use Rattle.tool_runs.specs.Outputs.{IsOutputFault, MakesFile, WriterView, WritesRun, system, writer};
 ghost use Rattle.tool_runs.specs.ProgramFaults.{program_text};
 ghost use Rattle.tool_runs.specs.Run.{run_view, output_file};
 
@@ -28,15 +28,19 @@ pub fn write_run<'a, T: OutputFiles, O: ByteOut, E: ByteOut>(
 ) -> Result<u8, ProgramFault<'a>>
     requires out { O.failures out.old < 2 ^ 63 }
     requires err { E.failures err.old < 2 ^ 63 }
-    ensures written { IfOk result (λ _. WritesRun (run_view run.now) (T.log files.old) (T.log files.new)
-        (O.contents out.old, O.failures out.old) (O.contents out.new, O.failures out.new)
-        (E.contents err.old, E.failures err.old) (E.contents err.new, E.failures err.new)
+    ensures written { IfOk result (λ _. WritesRun (run_view run.now)
+        (system (T.log files.old) (writer (O.contents out.old) (O.failures out.old))
+        (writer (E.contents err.old) (E.failures err.old)))
+        (system (T.log files.new) (writer (O.contents out.new) (O.failures out.new))
+        (writer (E.contents err.new) (E.failures err.new)))
         (output_file (run_view run.now) argument.now) None) }
     ensures status { IfOk result (λ status. status ≡ (run_view run.now).status) }
     ensures fault { IfErr result (λ reported. IsOutputFault
-        (WritesRun (run_view run.now) (T.log files.old) (T.log files.new)
-        (O.contents out.old, O.failures out.old) (O.contents out.new, O.failures out.new)
-        (E.contents err.old, E.failures err.old) (E.contents err.new, E.failures err.new)
+        (WritesRun (run_view run.now)
+        (system (T.log files.old) (writer (O.contents out.old) (O.failures out.old))
+        (writer (E.contents err.old) (E.failures err.old)))
+        (system (T.log files.new) (writer (O.contents out.new) (O.failures out.new))
+        (writer (E.contents err.new) (E.failures err.new)))
         (output_file (run_view run.now) argument.now)) argument.now (program_text reported)) }
 {
     match write_output(alloc, files, out, err, run, argument) {
@@ -58,10 +62,12 @@ fn write_output<T: OutputFiles, O: ByteOut, E: ByteOut>(
 ) -> Result<(), OutputFault>
     requires out { O.failures out.old < 2 ^ 63 }
     requires err { E.failures err.old < 2 ^ 63 }
-    ensures { WritesRun (run_view run.now) (T.log files.old) (T.log files.new)
-        (O.contents out.old, O.failures out.old) (O.contents out.new, O.failures out.new)
-        (E.contents err.old, E.failures err.old) (E.contents err.new, E.failures err.new)
-        (output_file (run_view run.now) argument.now) (fault_of result) }
+    ensures { WritesRun (run_view run.now)
+        (system (T.log files.old) (writer (O.contents out.old) (O.failures out.old))
+        (writer (E.contents err.old) (E.failures err.old)))
+        (system (T.log files.new) (writer (O.contents out.new) (O.failures out.new))
+        (writer (E.contents err.new) (E.failures err.new)))
+        (output_file (run_view run.now) argument.now) (fault_in result) }
 {
     match run.output_file(argument) {
         Some(name) => make_file(alloc, files, err, run, name),
@@ -81,8 +87,10 @@ fn make_file<T: OutputFiles, E: ByteOut>(
     name: &str,
 ) -> Result<(), OutputFault>
     requires { E.failures err.old < 2 ^ 63 }
-    ensures { MakesFile (run_view run.now) (T.log files.old) (T.log files.new)
-        (E.contents err.old, E.failures err.old) (E.contents err.new, E.failures err.new) name.now (fault_of result) }
+    ensures { (out : WriterView) → MakesFile (run_view run.now) name.now
+        (system (T.log files.old) out (writer (E.contents err.old) (E.failures err.old)))
+        (system (T.log files.new) out (writer (E.contents err.new) (E.failures err.new)))
+        (fault_in result) }
 {
     match write_file(alloc, files, name, &run.output, LINK_LIMIT) {
         Ok(()) => match put_all(err, &run.messages) {

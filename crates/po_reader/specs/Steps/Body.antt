@@ -10,14 +10,8 @@ use Rattle.po_reader.specs.Steps.Keywords.{Id, Translation, Form, IsKeywordText}
 
 -- a `msgstr[i]` stands first, and not on a line of previous texts
 abbrev pub begins_form : List TextItem → Bool
-begins_form [] = false
-begins_form (Comment kind text line ∷ rest) = false
 begins_form (Word (MsgStrAt index) marks line ∷ rest) = not marks.previous
-begins_form (Word MsgCtxt marks line ∷ rest) = false
-begins_form (Word MsgId marks line ∷ rest) = false
-begins_form (Word MsgIdPlural marks line ∷ rest) = false
-begins_form (Word MsgStr marks line ∷ rest) = false
-begins_form (Str bytes marks line ∷ rest) = false
+begins_form _ = false
 
 -- these items begin with the plural forms from this index on, all that follow each other, and go on with the rest
 pub data IsForms (obsolete : Bool) : ℕ → List TextItem → List (List ℕ) → List TextItem → Type 0 where
@@ -47,14 +41,9 @@ pub data Start : Type 0 where
   NoStart : Start
 
 abbrev pub body_start : List TextItem → Start
-body_start [] = NoStart
-body_start (Comment kind text line ∷ rest) = NoStart
 body_start (Word MsgCtxt marks line ∷ rest) = if marks.previous then NoStart else WithContext marks.obsolete rest
 body_start (Word MsgId marks line ∷ rest) = if marks.previous then NoStart else WithoutContext marks.obsolete line rest
-body_start (Word MsgIdPlural marks line ∷ rest) = NoStart
-body_start (Word MsgStr marks line ∷ rest) = NoStart
-body_start (Word (MsgStrAt index) marks line ∷ rest) = NoStart
-body_start (Str bytes marks line ∷ rest) = NoStart
+body_start _ = NoStart
 
 -- these items begin with an entry's own lines, and go on with the rest
 pub data IsBody : List TextItem → Body → List TextItem → Type 0 where

@@ -14,9 +14,7 @@ use Rattle.po_reader.specs.Steps.Strings.{IsStrings}
 abbrev pub begins_body : Keyword → Bool
 begins_body MsgCtxt = true
 begins_body MsgId = true
-begins_body MsgIdPlural = false
-begins_body MsgStr = false
-begins_body (MsgStrAt index) = false
+begins_body _ = false
 
 -- What stands before an entry's own lines, after a previous text of this rank, or of rank 0 where
 -- there is none yet: a comment; a previous text's keyword with its marks; nothing more, as the own

@@ -18,31 +18,16 @@ pub data Wanted : Type 0 where
   Form : ℕ → Wanted
 
 abbrev pub is_wanted : Wanted → Keyword → Bool
-is_wanted Id MsgCtxt = false
 is_wanted Id MsgId = true
-is_wanted Id MsgIdPlural = false
-is_wanted Id MsgStr = false
-is_wanted Id (MsgStrAt index) = false
-is_wanted Translation MsgCtxt = false
-is_wanted Translation MsgId = false
 is_wanted Translation MsgIdPlural = true
 is_wanted Translation MsgStr = true
-is_wanted Translation (MsgStrAt index) = false
-is_wanted (Form wanted) MsgCtxt = false
-is_wanted (Form wanted) MsgId = false
-is_wanted (Form wanted) MsgIdPlural = false
-is_wanted (Form wanted) MsgStr = false
 is_wanted (Form wanted) (MsgStrAt index) = index == wanted
+is_wanted _ _ = false
 
 -- a plural form is wanted, and the keyword is one
 abbrev pub is_wrong_form : Wanted → Keyword → Bool
 is_wrong_form (Form wanted) (MsgStrAt index) = true
-is_wrong_form (Form wanted) MsgCtxt = false
-is_wrong_form (Form wanted) MsgId = false
-is_wrong_form (Form wanted) MsgIdPlural = false
-is_wrong_form (Form wanted) MsgStr = false
-is_wrong_form Id keyword = false
-is_wrong_form Translation keyword = false
+is_wrong_form _ _ = false
 
 -- What stands where a keyword is wanted: the keyword with its line and the items after it, or a fault.
 pub data KeywordStep : Type 0 where
@@ -60,10 +45,8 @@ keyword_step wanted obsolete keyword marks line rest =
     else Refuse BadOrder
 
 abbrev pub next_keyword : Wanted → Bool → List TextItem → KeywordStep
-next_keyword wanted obsolete [] = Refuse BadOrder
-next_keyword wanted obsolete (Comment kind text line ∷ rest) = Refuse BadOrder
 next_keyword wanted obsolete (Word keyword marks line ∷ rest) = keyword_step wanted obsolete keyword marks line rest
-next_keyword wanted obsolete (Str bytes marks line ∷ rest) = Refuse BadOrder
+next_keyword wanted obsolete _ = Refuse BadOrder
 
 -- these items begin with a wanted keyword, which has this line and text, and go on with the rest
 pub data IsKeywordText (wanted : Wanted) (obsolete : Bool) : List TextItem → Keyword → ℕ → List ℕ → List TextItem

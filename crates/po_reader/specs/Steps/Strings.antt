@@ -21,17 +21,13 @@ abbrev pub stray_string : Marks → Marks → PoFault
 stray_string wanted found = if wanted.previous || found.previous then BadOrder else MixedObsolete
 
 abbrev pub string_step : Marks → List TextItem → StringStep
-string_step wanted [] = Refuse BadOrder
-string_step wanted (Comment kind text line ∷ rest) = Refuse BadOrder
-string_step wanted (Word keyword marks line ∷ rest) = Refuse BadOrder
 string_step wanted (Str bytes marks line ∷ rest) =
     if same_marks wanted marks then Take bytes rest else Refuse (stray_string wanted marks)
+string_step wanted _ = Refuse BadOrder
 
 abbrev pub begins_string : List TextItem → Bool
-begins_string [] = false
-begins_string (Comment kind text line ∷ rest) = false
-begins_string (Word keyword marks line ∷ rest) = false
 begins_string (Str bytes marks line ∷ rest) = true
+begins_string _ = false
 
 -- these items begin with the strings of a text under these marks, all that follow each other, and go on with the rest
 pub data IsStrings (marks : Marks) : List TextItem → List ℕ → List TextItem → Type 0 where

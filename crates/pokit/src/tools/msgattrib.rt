@@ -2,21 +2,17 @@
 use crate::files::{read_one, write_run};
 use crate::options::Options;
 use std::alloc::Global;
-use std::fs::File;
-use std::io::{Input, Print, Write};
-use std::rt::Files;
 use text_tools::{plan_msgattrib, selection_of};
 use tool_runs::{ProgramFault, input_of, output_of, shown_name};
 
 /// Runs `pokit msgattrib` and gives its status.
-pub(crate) fn run<'a, R: Files<File = File> + Input + Print, E: Write + Drop>(
+pub(crate) fn run<'a>(
     alloc: Global,
-    rt: &R,
-    errors: E,
+    rt: &HostRuntime,
     given: &'a Options<'_, '_>,
 ) -> Result<u8, ProgramFault<'a>> {
     let file = input_of(given);
     let text = read_one(alloc, rt, file)?;
     let run = plan_msgattrib(alloc, &text, shown_name(file), &selection_of(given))?;
-    write_run(alloc, rt, errors, &run, output_of(given))
+    write_run(alloc, rt, &run, output_of(given))
 }

@@ -2,20 +2,16 @@
 use crate::files::{System, write_run};
 use crate::options::Options;
 use std::alloc::Global;
-use std::fs::File;
-use std::io::{Input, Print, Write};
-use std::rt::Files;
 use text_tools::{merge_options_of, plan_msgcat_of};
 use tool_runs::{Inputs, ProgramFault, inputs_of, output_of};
 
 /// Runs `pokit msgcat` and gives its status.
-pub(crate) fn run<'a, R: Files<File = File> + Input + Print, E: Write + Drop>(
+pub(crate) fn run<'a>(
     alloc: Global,
-    rt: &R,
-    errors: E,
+    rt: &HostRuntime,
     given: &'a Options<'_, '_>,
 ) -> Result<u8, ProgramFault<'a>> {
     let inputs = Inputs::read(alloc, &mut System(rt), inputs_of(given))?;
     let run = plan_msgcat_of(alloc, &inputs, &merge_options_of(given))?;
-    write_run(alloc, rt, errors, &run, output_of(given))
+    write_run(alloc, rt, &run, output_of(given))
 }

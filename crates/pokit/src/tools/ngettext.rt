@@ -3,17 +3,12 @@ use crate::files::{System, write_run};
 use crate::options::Options;
 use look_up_tools::{borrowed_catalogues, find_domain, ngettext_options_of, plan_ngettext};
 use std::alloc::Global;
-use std::env::Env;
-use std::fs::File;
-use std::io::{Input, Print, Write};
-use std::rt::Files;
 use tool_runs::{NgettextArguments, ProgramFault, STANDARD};
 
 /// Runs `pokit ngettext` and gives its status.
-pub(crate) fn run<'a, R: Files<File = File> + Env + Input + Print, E: Write + Drop>(
+pub(crate) fn run<'a>(
     alloc: Global,
-    rt: &R,
-    errors: E,
+    rt: &HostRuntime,
     given: &'a Options<'_, '_>,
 ) -> Result<u8, ProgramFault<'a>> {
     let arguments = NgettextArguments::given(given)?;
@@ -21,5 +16,5 @@ pub(crate) fn run<'a, R: Files<File = File> + Env + Input + Print, E: Write + Dr
     let borrowed = borrowed_catalogues(alloc, found.as_slice())?;
     let options = ngettext_options_of(given, arguments);
     let run = plan_ngettext(alloc, borrowed.as_slice(), &options)?;
-    write_run(alloc, rt, errors, &run, STANDARD)
+    write_run(alloc, rt, &run, STANDARD)
 }

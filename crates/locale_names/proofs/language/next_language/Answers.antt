@@ -1,6 +1,8 @@
-use Rattle.std.proofs.Common.{sym, ◌∙◌}
-use Rattle.locale_names.proofs.PartLemmas.{parts-empty}
+use Rattle.std.proofs.Common.{sym, ap, ◌∙◌, arith}
+use Rattle.std.proofs.lemmas.List.{drop_all}
+use Rattle.locale_names.specs.Names.{language_parts}
+use Rattle.locale_names.proofs.PartLemmas.{parts-none}
 use Rattle.locale_names.proofs.language.next_language.Goals as goal
 
-pub returns : goal.returns
-returns c = sym c.loop-rest.invariant ∙ parts-empty c.loop-rest.rest.now (sym c.is_empty.ensures ∙ c.loop-rest-test.false)
+pub returns-clause-parts : goal.returns-clause-parts
+returns-clause-parts c = sym c.loop-at.invariant.1 ∙ ap language_parts (drop_all c.loop-at.at c.args.languages.now (omega arith)) ∙ parts-none

@@ -4,7 +4,7 @@ use Rattle.mo_file.specs.FileView.{IsStringAt}
 use Rattle.mo_lookup.specs.CatalogView.{forms}
 use Rattle.mo_lookup.specs.Answer.{translated}
 use Rattle.mo_lookup.specs.Query.{given}
-use Rattle.plural_rule.specs.PostOrder.{tree_of}
+use Rattle.plural_rule.specs.Program.{tree_of}
 use Rattle.mo_lookup.proofs.PlaceLemmas.{form-in-file}
 use Rattle.mo_lookup.proofs.looking.translated_place.Goals as goal
 
@@ -24,5 +24,5 @@ returns-clause-text c source translation id at =
     let form = form-in-file _ _ _ _ _ _ _ there (c.answered_form-steps.ensures.text source) in
     sym form.text
     ∙ ap
-    (λ t. (translated (forms t) (record { source = source; nplurals = c.args.nplurals; tree = tree_of c.args.table.now }) (given c.args.plural)).text)
+    (λ t. (translated (forms t) (record { source = source; nplurals = c.args.nplurals; tree = tree_of c.args.program.now }) (given c.args.plural)).text)
     (sym at.text)

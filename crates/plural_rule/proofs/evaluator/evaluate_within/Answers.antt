@@ -1,26 +1,79 @@
-use Rattle.std.proofs.Common.{◌≡◌, ◌-◌, length, refl, ap, ◌∙◌, arith}
-use Rattle.plural_rule.specs.Expression.{nodes}
-use Rattle.plural_rule.specs.PostOrder.{tree_of}
-use Rattle.plural_rule.specs.Evaluation.{subtree, remaining, least_steps}
-use Rattle.plural_rule.proofs.ParserSteps.{length-post_order}
-use Rattle.plural_rule.proofs.Subtrees.{nodes-positive, subtree-last}
+use Rattle.std.proofs.Common.{◌≡◌, ◌∙◌, ℕ, List, [], ◌∷◌, Option, None, Some, MatchOption, refl, ap, arith}
+use Rattle.plural_rule.specs.Instruction.{count_instruction}
+use Rattle.plural_rule.specs.Program.{tree_of}
+use Rattle.plural_rule.specs.Run.{Outcome, newest_value}
+use Rattle.plural_rule.proofs.Programs.{starts, goes-on, goes-on-pair, stops, stops-pair, ends}
+use Rattle.plural_rule.proofs.Uniqueness.{visited-le-nodes}
 use Rattle.plural_rule.proofs.evaluator.evaluate_within.Goals as goal
 
-pub overflow_sub-index : goal.overflow_sub-index
-overflow_sub-index g c =
-    let whole = tree_of c.args.table.now in
-    omega (arith, ap length c.requires.post_order, length-post_order whole 0, nodes-positive whole)
-
-pub visits-init : goal.visits-init
-visits-init g c =
-    let whole = tree_of c.args.table.now in
-    let count : length c.args.table.now ≡ nodes whole = ap length c.requires.post_order ∙ length-post_order whole 0 in
-    let last : subtree whole (length c.args.table.now - 1) ≡ whole = ap (λ n. subtree whole (n - 1)) count ∙ subtree-last whole in
-    let positive = nodes-positive whole in
+pub loop-index-init : goal.loop-index-init
+loop-index-init g c =
+    let none = c.new-values.ensures in
     record {
-      outcome = rw (last, c.new-frames.ensures) refl;
-      remaining = omega (arith, ap nodes last, ap (remaining whole) c.new-frames.ensures);
-      least = omega (arith, ap least_steps c.new-frames.ensures);
-      index = omega arith;
-      frames = rw c.new-frames.ensures tt;
+      runs = starts c.args.count c.args.instructions.now (tree_of c.args.instructions.now) c.new-values.result c.requires.program none;
+      few = rw none (omega arith);
+      bound = omega arith;
     }
+
+pub loop-index-preserved : goal.loop-index-preserved
+loop-index-preserved g c =
+    let inside = c.loop-index-test.true in
+    record {
+      runs = goes-on c.args.count c.args.instructions.now c.loop-index.index _ c.action-action.result c.loop-index.values c.act.new.values c.loop-index.steps c.act.new.steps c.in-Some-act.skip _ inside c.loop-index.invariant.runs c.action-action.ensures c.in-Some-act.ensures.leads;
+      few = omega (arith, c.in-Some-act.ensures.few, c.loop-index.invariant.few);
+      bound = omega (arith, c.act.ensures.bound, c.loop-index.invariant.bound);
+    }
+
+pub returns-in_default-act-clause-value : goal.returns-in_default-act-clause-value
+returns-in_default-act-clause-value g c =
+    let stopped = stops c.args.count c.args.instructions.now c.loop-index.index _ c.action-action.result c.loop-index.values c.act.new.values c.loop-index.steps c.act.new.steps _ c.loop-index-test.true c.loop-index.invariant.runs c.action-action.ensures c.in_default-act.ensures.leads in
+    ap (λ (o : Outcome). o.value) stopped
+
+pub returns-in_default-act-clause-steps : goal.returns-in_default-act-clause-steps
+returns-in_default-act-clause-steps g c =
+    let stopped = stops c.args.count c.args.instructions.now c.loop-index.index _ c.action-action.result c.loop-index.values c.act.new.values c.loop-index.steps c.act.new.steps _ c.loop-index-test.true c.loop-index.invariant.runs c.action-action.ensures c.in_default-act.ensures.leads in
+    ap (λ (o : Outcome). o.steps) stopped
+
+pub returns-in_default-act-clause-bound : goal.returns-in_default-act-clause-bound
+returns-in_default-act-clause-bound g c =
+    omega (arith, returns-in_default-act-clause-steps g c, visited-le-nodes (tree_of c.args.instructions.now) c.args.count)
+
+pub loop-index-preserved-in-loop-index : goal.loop-index-preserved-in-loop-index
+loop-index-preserved-in-loop-index g c =
+    let at = c.in-Some-operator_at.ensures in
+    let applied = c.in-Some-apply.ensures in
+    record {
+      runs = goes-on-pair c.args.count c.args.instructions.now c.loop-index.index _ (count_instruction 1) c.action-action.result c.in-Some-operator_at.operator c.in-Some.operand c.in-Some.begins c.loop-index.values c.apply.new.values c.loop-index.steps c.in-Some-apply.skip _ at.0 c.loop-index.invariant.runs c.action-action.ensures c.in-Some.ensures.next (at.1 (count_instruction 1)) (applied.leads c.args.count);
+      few = omega (arith, applied.few, c.loop-index.invariant.few);
+      bound = omega (arith, c.loop-index.invariant.bound, c.in-Some.ensures.fits);
+    }
+
+pub returns-in_default-clause-value : goal.returns-in_default-clause-value
+returns-in_default-clause-value g c =
+    let at = c.in-Some-operator_at.ensures in
+    let stopped = stops-pair c.args.count c.args.instructions.now c.loop-index.index _ (count_instruction 1) c.action-action.result c.in-Some-operator_at.operator c.in-Some.operand c.in-Some.begins c.loop-index.values c.apply.new.values c.loop-index.steps _ at.0 c.loop-index.invariant.runs c.action-action.ensures c.in-Some.ensures.next (at.1 (count_instruction 1)) (c.in_default.ensures.leads c.args.count) in
+    ap (λ (o : Outcome). o.value) stopped
+
+pub returns-in_default-clause-steps : goal.returns-in_default-clause-steps
+returns-in_default-clause-steps g c =
+    let at = c.in-Some-operator_at.ensures in
+    let stopped = stops-pair c.args.count c.args.instructions.now c.loop-index.index _ (count_instruction 1) c.action-action.result c.in-Some-operator_at.operator c.in-Some.operand c.in-Some.begins c.loop-index.values c.apply.new.values c.loop-index.steps _ at.0 c.loop-index.invariant.runs c.action-action.ensures c.in-Some.ensures.next (at.1 (count_instruction 1)) (c.in_default.ensures.leads c.args.count) in
+    ap (λ (o : Outcome). o.steps) stopped
+
+pub returns-in_default-clause-bound : goal.returns-in_default-clause-bound
+returns-in_default-clause-bound g c =
+    omega (arith, returns-in_default-clause-steps g c, visited-le-nodes (tree_of c.args.instructions.now) c.args.count)
+
+popped : (values new : List ℕ) (v : Option ℕ) → MatchOption v (values ≡ []) (λ value. values ≡ value ∷ new) → v ≡ newest_value values
+popped values new None h = rw h refl
+popped values new (Some v) h = rw h refl
+
+pub returns-clause-value : goal.returns-clause-value
+returns-clause-value g c =
+    let ended = ends c.args.count c.args.instructions.now c.loop-index.index c.loop-index.values c.loop-index.steps _ c.loop-index-test.false c.loop-index.invariant.runs in
+    popped c.loop-index.values c.pop.new.self c.pop.result c.pop.ensures ∙ ap (λ (o : Outcome). o.value) ended
+
+pub returns-clause-bound : goal.returns-clause-bound
+returns-clause-bound g c =
+    let ended = ends c.args.count c.args.instructions.now c.loop-index.index c.loop-index.values c.loop-index.steps _ c.loop-index-test.false c.loop-index.invariant.runs in
+    omega (arith, ap (λ (o : Outcome). o.steps) ended, visited-le-nodes (tree_of c.args.instructions.now) c.args.count)

@@ -4,7 +4,7 @@ use Rattle.std.proofs.lemmas.List.Sorted.{length_permutation}
 use Rattle.mo_file.specs.Layout.{layout}
 use Rattle.mo_file.specs.MoFile.{IsMoFile}
 use Rattle.mo_file.specs.Pairs.{borrowed_message, messages_of_borrowed}
-use Rattle.po_catalog.specs.Joined.{joined_entries}
+use Rattle.po_messages.specs.Joined.{joined_entries}
 use Rattle.po_compile.specs.Collected.{compiled_of, row_view}
 use Rattle.po_compile.specs.CompiledList.{compiled_list}
 use Rattle.po_compile.specs.CompiledMessages.{AreMessagesOf, message_of, messages_of_entries}

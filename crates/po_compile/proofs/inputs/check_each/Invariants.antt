@@ -1,5 +1,5 @@
 use Rattle.std.proofs.Common.{All, take}
-use Rattle.po_catalog.specs.Duplicate.{HasNoDuplicate}
+use Rattle.po_messages.specs.Duplicate.{HasNoDuplicate}
 use Rattle.po_compile.specs.JoinedRows.{OfAllInputs}
 use Rattle.po_compile.proofs.inputs.check_each.Given as goal
 

@@ -3,7 +3,7 @@ use Rattle.std.specs.List.{AllZip}
 use Rattle.std.proofs.lemmas.List.{take_more}
 use Rattle.po_entry.specs.Validity.{IsCatalogueEntry}
 use Rattle.po_compile.specs.Collected.{HoldsEntries, HoldsLive}
-use Rattle.po_compile.proofs.InputLemmas.{zip_more}
+use Rattle.po_messages.specs.Facts.Zips.{zip_more}
 use Rattle.po_compile.proofs.inputs.collect_catalogues.Goals as goal
 
 pub loop-catalogue-preserved : goal.loop-catalogue-preserved

@@ -1,5 +1,5 @@
 use Rattle.std.proofs.Common.{refl, map}
-use Rattle.po_catalog.specs.Joined.{joined, joined_entries}
+use Rattle.po_messages.specs.Joined.{joined, joined_entries}
 use Rattle.po_compile.specs.Collected.{compiled_of, row_view}
 use Rattle.po_compile.proofs.FirstRepeat.{repeat_fault}
 use Rattle.po_compile.proofs.JoinedLemmas.{all_valid, made_alone}

@@ -1,8 +1,8 @@
 use Rattle.std.proofs.Common.{sym, ap, ◌∙◌, ◌++◌, ◌∷◌, [], append_assoc, append-nil, subst, take}
 use Rattle.std.proofs.lemmas.List.{take_all}
 use Rattle.po_entry.specs.TextEntry.{texts}
-use Rattle.po_reader.specs.SeenTexts.{HoldsTexts}
-use Rattle.po_reader.proofs.SeenTexts.{one_text_more}
+use Rattle.po_entry.specs.SeenTexts.{HoldsTexts}
+use Rattle.po_entry.proofs.SeenTexts.{one_text_more}
 use Rattle.po_merge.proofs.Steps.{texts_more}
 use Rattle.po_merge.proofs.comments.add_seen.Goals as goal
 

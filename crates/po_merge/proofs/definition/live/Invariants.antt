@@ -1,5 +1,5 @@
 use Rattle.std.proofs.Common.{◌≡◌, take, filter}
-use Rattle.po_catalog.specs.Joined.{is_live}
+use Rattle.po_messages.specs.Joined.{is_live}
 use Rattle.po_merge.specs.InputsView.{named_entries}
 use Rattle.po_merge.proofs.definition.live.Given as goal
 

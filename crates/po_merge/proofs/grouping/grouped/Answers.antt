@@ -1,8 +1,8 @@
 use Rattle.std.proofs.Common.{◌≡◌, ap, sym, ◌∙◌}
 use Rattle.std.proofs.lemmas.Result.{IfOk-weaker}
-use Rattle.po_catalog.specs.FirstOnes.{group_numbers}
-use Rattle.po_catalog.specs.Message.{same_message}
-use Rattle.po_catalog.specs.MessageView.{messages}
+use Rattle.po_messages.specs.FirstOnes.{group_numbers}
+use Rattle.po_messages.specs.Message.{same_message}
+use Rattle.po_messages.specs.MessageView.{messages}
 use Rattle.po_merge.specs.Grouping.{message_numbers, named_messages}
 use Rattle.po_merge.specs.Groups.{groups}
 use Rattle.po_merge.specs.InputsView.{named_entries}

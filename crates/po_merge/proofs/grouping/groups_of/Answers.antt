@@ -1,7 +1,7 @@
 use Rattle.std.proofs.Common.{◌≡◌, ◌<◌, ◌+◌, ◌++◌, ◌∷◌, [], None, ap, arith, get_or, length, length-append, length-set, length-take, ◌≤◌, sym, take, ◌∙◌}
 use Rattle.std.proofs.lemmas.List.{length-map, take_all, take_more}
-use Rattle.po_catalog.specs.FirstOnes.{first_ones}
-use Rattle.po_catalog.specs.Message.{Message, same_message}
+use Rattle.po_messages.specs.FirstOnes.{first_ones}
+use Rattle.po_messages.specs.Message.{Message, same_message}
 use Rattle.po_merge.proofs.Grouped.{count_first, count_later}
 use Rattle.po_merge.proofs.Numbered.{all_in, first_in, later_in}
 use Rattle.po_merge.proofs.grouping.groups_of.Goals as goal

@@ -1,6 +1,6 @@
 use Rattle.std.proofs.Common.{◌≡◌, List, length, map, take}
-use Rattle.po_catalog.specs.FirstOnes.{first_ones, group_numbers}
-use Rattle.po_catalog.specs.Message.{Message, same_message}
+use Rattle.po_messages.specs.FirstOnes.{first_ones, group_numbers}
+use Rattle.po_messages.specs.Message.{Message, same_message}
 use Rattle.po_merge.proofs.Numbered.{AreGrouped}
 use Rattle.po_merge.proofs.grouping.groups_of.Given as goal
 

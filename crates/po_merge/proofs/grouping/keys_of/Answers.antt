@@ -1,5 +1,5 @@
 use Rattle.std.proofs.Common.{ap, ◌∙◌}
-use Rattle.po_catalog.specs.MessageView.{messages}
+use Rattle.po_messages.specs.MessageView.{messages}
 use Rattle.po_merge.specs.Grouping.{named_messages}
 use Rattle.po_merge.proofs.Grouped.{key_more, all_taken}
 use Rattle.po_merge.proofs.grouping.keys_of.Goals as goal

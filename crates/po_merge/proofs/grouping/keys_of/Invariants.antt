@@ -1,5 +1,5 @@
 use Rattle.std.proofs.Common.{◌≡◌, take}
-use Rattle.po_catalog.specs.MessageView.{messages}
+use Rattle.po_messages.specs.MessageView.{messages}
 use Rattle.po_merge.specs.Grouping.{named_messages}
 use Rattle.po_merge.specs.InputsView.{named_entries}
 use Rattle.po_merge.proofs.grouping.keys_of.Given as goal

@@ -6,7 +6,7 @@ use Rattle.std.proofs.lemmas.Iterator.Adapters.{YieldsList-from_vec}
 use Rattle.po_syntax.specs.declared.fault.PoError.{PoError}
 use Rattle.po_entry.specs.EntryView.{entry_view}
 use Rattle.po_entry.specs.Header.{HasAdmittedCharset}
-use Rattle.po_reader.specs.Faults.CharsetStops.{here, later}
+use Rattle.po_entry.specs.Faults.CharsetStops.{here, later}
 use Rattle.po_reader.proofs.Loops.{drop_here, take_here, asked_more, asked_all}
 use Rattle.po_reader.proofs.items.catalogue_of.Goals as goal
 

@@ -2,7 +2,7 @@ use Rattle.std.proofs.Common.{◌≡◌, ℕ, drop, take, map, length}
 use Rattle.std.specs.Prelude.{All}
 use Rattle.po_entry.specs.EntryView.{entry_view}
 use Rattle.po_entry.specs.Header.{HasAdmittedCharset}
-use Rattle.po_reader.specs.Faults.{CharsetStops}
+use Rattle.po_entry.specs.Faults.{CharsetStops}
 use Rattle.po_reader.proofs.items.catalogue_of.Given as goal
 
 abbrev pub invariant-loop-draft : goal.invariant-loop-draft

@@ -3,7 +3,7 @@ use Rattle.std.specs.Prelude.{All}
 use Rattle.po_syntax.specs.declared.fault.PoFault.{PoFault}
 use Rattle.po_entry.specs.EntryView.{entry_view}
 use Rattle.po_entry.specs.Validity.{HasTexts}
-use Rattle.po_reader.specs.Faults.{TextsStop}
+use Rattle.po_entry.specs.Faults.{TextsStop}
 use Rattle.po_reader.proofs.items.check_drafts.Given as goal
 
 abbrev pub invariant-loop-draft : goal.invariant-loop-draft

@@ -2,7 +2,7 @@ use Rattle.std.proofs.Common.{List, [], ◌++◌, append-nil, append_assoc, subs
 use Rattle.std.proofs.lemmas.Result.{err_from_is_err_and}
 use Rattle.po_entry.specs.ReadsText.{ReadsText}
 use Rattle.po_entry.specs.TextEntry.{TextEntry}
-use Rattle.po_reader.specs.Faults.IsReadFault.{in_text}
+use Rattle.po_entry.specs.Faults.IsReadFault.{in_text}
 use Rattle.po_reader.proofs.PieceReading.{fault_of_text, left_over, whole_left}
 use Rattle.po_reader.proofs.reading.read.Goals as goal
 

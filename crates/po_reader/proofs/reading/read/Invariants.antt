@@ -2,7 +2,7 @@ use Rattle.std.proofs.Common.{ℕ, List, ◌++◌, length}
 use Rattle.po_syntax.specs.declared.fault.PoFault.{PoFault}
 use Rattle.po_entry.specs.TextEntry.{TextEntry}
 use Rattle.po_entry.specs.ReadsText.{ReadsLeft, ReadsText}
-use Rattle.po_reader.specs.Faults.{IsReadFault}
+use Rattle.po_entry.specs.Faults.{IsReadFault}
 use Rattle.po_reader.specs.PieceRead.{IsLeftFault}
 use Rattle.po_reader.proofs.reading.read.Given as goal
 

@@ -5,7 +5,7 @@ pub returns-clause-answered : goal.returns-clause-answered
 returns-clause-answered c view opened =
     let messages = c.reopen-view.ensures.messages opened.file.0 view.messages opened.file.1 in
     let bytes = c.reopen-view.ensures.bytes in
-    let tree = c.table.ensures.tree view opened in
+    let tree = c.program.ensures.tree view opened in
     let place = rw (bytes, c.plural.ensures) at c.locate-found.ensures.place in
     let answered = c.locate-found.ensures.answered view.rule.source in
     c.of.ensures.answered c.args.catalog.now.bytes.now c.args.query.now place
@@ -30,4 +30,4 @@ returns-clause-comparisons c view opened =
 pub returns-clause-nodes : goal.returns-clause-nodes
 returns-clause-nodes c view opened =
     let steps = c.locate-found.ensures.nodes in
-    rw c.of.ensures.steps (rw (c.table.ensures.tree view opened) at steps)
+    rw c.of.ensures.steps (rw (c.program.ensures.tree view opened) at steps)

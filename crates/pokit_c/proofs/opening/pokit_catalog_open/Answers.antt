@@ -10,6 +10,6 @@ returns-in-Ok-clause-opened c zero = (
     rule = rw c.in-Ok.rule-is c.in-Ok.ensures.view;
     nplurals = refl;
     few = rw c.in-Ok.rule-is c.in-Ok.ensures.limit;
-    nodes = rw c.in-Ok.rule-is c.in-Ok.ensures.post_order;
+    program_is = rw c.in-Ok.rule-is c.in-Ok.ensures.program;
   },
 )

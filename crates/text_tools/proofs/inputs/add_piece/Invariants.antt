@@ -1,5 +1,5 @@
 use Rattle.std.proofs.Common.{◌≡◌, ◌++◌, take}
-use Rattle.po_catalog.specs.Joined.{is_live}
+use Rattle.po_messages.specs.Joined.{is_live}
 use Rattle.text_tools.specs.Inputs.{AddsEntries}
 use Rattle.text_tools.specs.Repeats.{are_placed}
 use Rattle.text_tools.proofs.inputs.add_piece.Given as goal

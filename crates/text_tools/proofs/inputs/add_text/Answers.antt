@@ -1,8 +1,8 @@
 use Rattle.std.proofs.Common.{[], ◌++◌, ◌∙◌, ap, append-nil, append_assoc, sym}
 use Rattle.std.proofs.lemmas.List.{map-append}
 use Rattle.std.proofs.lemmas.Result.{err_from_is_err_and}
-use Rattle.po_catalog.specs.Joined.{is_live}
-use Rattle.po_reader.specs.Faults.IsReadFault.{in_text}
+use Rattle.po_messages.specs.Joined.{is_live}
+use Rattle.po_entry.specs.Faults.IsReadFault.{in_text}
 use Rattle.po_reader.proofs.PieceReading.{fault_of_text, left_over, whole_left}
 use Rattle.text_tools.specs.Repeats.{are_placed, place_of}
 use Rattle.text_tools.proofs.InputLemmas.{adds_more, adds_none}

@@ -2,9 +2,9 @@ use Rattle.std.proofs.Common.{◌≡◌, ℕ, List, ◌++◌, length}
 use Rattle.po_syntax.specs.declared.fault.PoFault.{PoFault}
 use Rattle.po_entry.specs.TextEntry.{TextEntry}
 use Rattle.po_entry.specs.ReadsText.{ReadsLeft, ReadsText}
-use Rattle.po_reader.specs.Faults.{IsReadFault}
+use Rattle.po_entry.specs.Faults.{IsReadFault}
 use Rattle.po_reader.specs.PieceRead.{IsLeftFault}
-use Rattle.po_catalog.specs.Joined.{is_live}
+use Rattle.po_messages.specs.Joined.{is_live}
 use Rattle.text_tools.specs.Inputs.{AddsEntries}
 use Rattle.text_tools.specs.Repeats.{are_placed}
 use Rattle.text_tools.proofs.inputs.add_text.Given as goal

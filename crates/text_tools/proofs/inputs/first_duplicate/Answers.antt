@@ -1,6 +1,6 @@
 use Rattle.std.proofs.Common.{◌++◌, ◌+◌, ◌∙◌, ap, arith, drop, filter, length, map, refl, subst, sym, take}
 use Rattle.std.specs.Prelude.{MatchOption}
-use Rattle.po_catalog.specs.Joined.{is_live}
+use Rattle.po_messages.specs.Joined.{is_live}
 use Rattle.po_merge.specs.Inputs.{all_entries}
 use Rattle.text_tools.specs.Entries.{unnamed}
 use Rattle.text_tools.specs.Repeats.{IsFirstRepeat, NumbersDiffer, numbered}

@@ -1,7 +1,7 @@
 use Rattle.std.proofs.Common.{◌≡◌, ◌++◌, ◌∙◌, [], ap, inr, subst, sym}
 use Rattle.std.specs.Prelude.{All, MatchOption}
 use Rattle.std.specs.List.{AllZip}
-use Rattle.po_catalog.specs.Duplicate.{HasNoDuplicate}
+use Rattle.po_messages.specs.Duplicate.{HasNoDuplicate}
 use Rattle.po_merge.specs.Grouping.{message_numbers}
 use Rattle.po_merge.specs.Inputs.{all_entries}
 use Rattle.text_tools.specs.Entries.{AreRows, unnamed}

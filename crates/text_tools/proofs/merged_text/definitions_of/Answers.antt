@@ -7,7 +7,7 @@ use Rattle.po_merge.specs.Inputs.{NamedEntry}
 use Rattle.po_merge.specs.InputsView.{named_entries}
 use Rattle.text_tools.specs.Entries.{IsRow}
 use Rattle.text_tools.specs.declared.entries.Row.{Row}
-use Rattle.text_tools.proofs.InputLemmas.{zip_length}
+use Rattle.po_messages.specs.Facts.Zips.{zip_length}
 use Rattle.text_tools.proofs.MergedLemmas.{definition_more}
 use Rattle.text_tools.proofs.merged_text.definitions_of.Goals as goal
 

@@ -4,8 +4,8 @@ use Rattle.std.proofs.lemmas.List.Elements.{All-nil}
 use Rattle.po_entry.specs.Header.{HasAdmittedCharset}
 use Rattle.text_tools.specs.Entries.{AreRows}
 use Rattle.text_tools.specs.MergedText.{AreWritten, IsGroupOf}
-use Rattle.text_tools.proofs.InputLemmas.{zip_length}
-use Rattle.text_tools.proofs.MergedLemmas.{fault_within, of_groups, of_groups_more, zip_get}
+use Rattle.po_messages.specs.Facts.Zips.{zip_get, zip_length}
+use Rattle.text_tools.proofs.MergedLemmas.{fault_within, of_groups, of_groups_more}
 use Rattle.text_tools.proofs.merged_text.merge_groups.Goals as goal
 
 pub loop-group-init : goal.loop-group-init

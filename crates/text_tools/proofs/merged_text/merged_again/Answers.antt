@@ -9,7 +9,7 @@ use Rattle.po_merge.specs.MergedEntry.{merged_entry}
 use Rattle.std.specs.List.{AllZip}
 use Rattle.std.proofs.Common.{subst}
 use Rattle.text_tools.specs.Entries.{IsRow}
-use Rattle.text_tools.proofs.InputLemmas.{zip_length}
+use Rattle.po_messages.specs.Facts.Zips.{zip_length}
 use Rattle.text_tools.proofs.MergedLemmas.{fault_unlined}
 use Rattle.text_tools.proofs.merged_text.merged_again.Goals as goal
 

@@ -1,11 +1,11 @@
 use Rattle.std.proofs.Common.{◌∙◌, ap, length, sym}
 use Rattle.std.proofs.lemmas.List.{length-map}
-use Rattle.po_catalog.specs.Message.{entry_message}
+use Rattle.po_messages.specs.Message.{entry_message}
 use Rattle.po_merge.specs.Grouping.{named_messages}
 use Rattle.po_merge.specs.Groups.{groups}
 use Rattle.po_merge.specs.Inputs.{NamedEntry}
 use Rattle.text_tools.specs.Entries.{IsRow}
-use Rattle.text_tools.proofs.InputLemmas.{zip_length}
+use Rattle.po_messages.specs.Facts.Zips.{zip_length}
 use Rattle.text_tools.proofs.MergedLemmas.{groups_hold}
 use Rattle.text_tools.proofs.merged_text.merged_text.Goals as goal
 

@@ -1,7 +1,7 @@
 use Rattle.std.proofs.Common.{◌++◌, ◌∷◌, [], ◌∙◌, ap, arith, filter, length, subst, sym}
 use Rattle.std.specs.List.{list_any}
 use Rattle.std.proofs.lemmas.Result.{IfErr-weaker, on_ok_weaker}
-use Rattle.po_catalog.specs.Joined.{is_live}
+use Rattle.po_messages.specs.Joined.{is_live}
 use Rattle.po_merge.specs.Merged.{IsMergeFault, merged_messages}
 use Rattle.po_merge.proofs.GroupsMerged.{some_passes}
 use Rattle.text_tools.specs.Entries.{AreRows}

@@ -2,11 +2,9 @@ use Rattle.std.proofs.Common.{◌≡◌, ◌++◌, ◌∷◌, [], ◌+◌, ◌<�
 use Rattle.std.proofs.lemmas.List.{take_all, take_more}
 use Rattle.po_entry.specs.TextEntry.{SameButLine, TextEntry, plain_entry}
 use Rattle.po_merge.specs.Inputs.{NamedEntry}
-use Rattle.po_compile.proofs.InputLemmas.{zip_more}
+use Rattle.po_messages.specs.Facts.Zips.{zip_get, zip_length, zip_more}
 use Rattle.text_tools.specs.Entries.{IsRow}
 use Rattle.text_tools.specs.MergedText.{AreReadBack}
-use Rattle.text_tools.proofs.InputLemmas.{zip_length}
-use Rattle.text_tools.proofs.MergedLemmas.{zip_get}
 use Rattle.text_tools.proofs.merged_text.read_all_again.Goals as goal
 
 none : NamedEntry

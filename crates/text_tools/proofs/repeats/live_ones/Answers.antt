@@ -1,7 +1,7 @@
 use Rattle.std.proofs.Common.{◌≡◌, ◌≤◌, ℕ, true, false, ap, ap₂, sym, ◌∙◌, ◌++◌, ◌∷◌, [], append-nil, arith, filter, get_or, length, map, take}
 use Rattle.std.proofs.lemmas.List.{length-map, take_all}
 use Rattle.std.proofs.lemmas.Bool.{not-false, not-true}
-use Rattle.po_catalog.specs.Message.{entry_message}
+use Rattle.po_messages.specs.Message.{entry_message}
 use Rattle.text_tools.specs.Repeats.{numbered, place_of}
 use Rattle.text_tools.specs.declared.repeats.Place.{Place}
 use Rattle.text_tools.proofs.KeyLemmas.{element_at, filtered_more}

@@ -1,6 +1,6 @@
 use Rattle.std.proofs.Common.{◌≡◌, ℕ, Bool, List, filter, map, take}
 use Rattle.po_entry.specs.TextEntry.{TextEntry}
-use Rattle.po_catalog.specs.Message.{Message}
+use Rattle.po_messages.specs.Message.{Message}
 use Rattle.text_tools.specs.Repeats.{are_numbered, are_placed, numbered}
 use Rattle.text_tools.proofs.repeats.live_ones.Given as goal
 

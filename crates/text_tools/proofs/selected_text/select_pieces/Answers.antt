@@ -1,6 +1,6 @@
 use Rattle.std.proofs.Common.{[], ◌++◌, append-nil, append_assoc}
 use Rattle.std.proofs.lemmas.Result.{err_from_is_err_and}
-use Rattle.po_reader.specs.Faults.IsReadFault.{in_text}
+use Rattle.po_entry.specs.Faults.IsReadFault.{in_text}
 use Rattle.po_reader.proofs.PieceReading.{fault_of_text, left_over, whole_left}
 use Rattle.text_tools.proofs.selected_text.select_pieces.Goals as goal
 

@@ -1,31 +1,18 @@
-use Rattle.tool_runs.specs.OutputFiles.{modeless, replaced, unmoved, unwritten}
-use Rattle.tool_runs.proofs.OutputLemmas.{ends, logged-after, mode-given, mode-lost}
+use Rattle.tool_runs.specs.OutputFiles.{replaces_none, with_rights, without_rights}
+use Rattle.tool_runs.proofs.OutputLemmas.{after-call, done-for, is-fault}
 use Rattle.tool_runs.proofs.output_writing.fill.Goals as goal
 
-pub returns-then-not-give_mode : goal.returns-then-not-give_mode
-returns-then-not-give_mode g c =
-    let old = g.T.OutputFiles.log c.args.files.now in
-    let lost = mode-lost c.args.mode old c.if-not-give_mode.ensures in
-    ends _ (logged-after old _ _ lost.2 c.remove.ensures) (modeless lost.1)
+pub returns-in_default : goal.returns-in_default
+returns-in_default g c = rw c.in_default.is (done-for (λ course finishing. replaces_none finishing) c.finish.ensures)
 
-pub returns-then-not-put_and_close : goal.returns-then-not-put_and_close
-returns-then-not-put_and_close g c =
-    let old = g.T.OutputFiles.log c.args.files.now in
-    let given = mode-given c.args.mode old c.if-not-give_mode.ensures in
-    let closed = c.if-not-put_and_close.ensures in
-    ends _ (logged-after old _ _ given (logged-after _ _ _ closed.log c.remove-then-not-put_and_close.ensures)) (unwritten closed.written)
-
-pub returns-then-not-rename : goal.returns-then-not-rename
-returns-then-not-rename g c =
-    let old = g.T.OutputFiles.log c.args.files.now in
-    let given = mode-given c.args.mode old c.if-not-give_mode.ensures in
-    let closed = c.if-not-put_and_close.ensures in
-    let renamed = logged-after _ _ _ closed.log c.if-not-rename.ensures in
-    ends _ (logged-after old _ _ given (logged-after _ _ _ renamed c.remove-then-not-rename.ensures)) (unmoved closed.written)
+pub returns-then-not-set_mode : goal.returns-then-not-set_mode
+returns-then-not-set_mode g c =
+    rw c.in-Some.is
+    (after-call _ c.set_owner-owner.ensures
+    (after-call _ (rw c.kept_mode.ensures at c.if-not-set_mode.ensures) (after-call _ c.remove.ensures (is-fault without_rights))))
 
 pub returns : goal.returns
 returns g c =
-    let old = g.T.OutputFiles.log c.args.files.now in
-    let given = mode-given c.args.mode old c.if-not-give_mode.ensures in
-    let closed = c.if-not-put_and_close.ensures in
-    ends _ (logged-after old _ _ given (logged-after _ _ _ closed.log c.if-not-rename.ensures)) (replaced closed.written)
+    rw c.in-Some.is
+    (after-call _ c.set_owner-owner.ensures
+    (after-call _ (rw c.kept_mode.ensures at c.if-not-set_mode.ensures) (done-for (λ course finishing. with_rights finishing) c.finish-2.ensures)))

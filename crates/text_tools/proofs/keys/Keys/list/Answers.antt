@@ -2,8 +2,8 @@ use Rattle.std.proofs.Common.{None, ap, ap₂, sym, ◌∙◌, ◌+◌, ◌++◌
 use Rattle.std.specs.List.{flat_map}
 use Rattle.std.proofs.lemmas.List.{map_push}
 use Rattle.text_tools.specs.Keys.{key_bytes, key_lengths}
-use Rattle.po_catalog.specs.Message.{entry_message}
-use Rattle.po_catalog.specs.MessageView.{message_of, messages}
+use Rattle.po_messages.specs.Message.{entry_message}
+use Rattle.po_messages.specs.MessageView.{message_of, messages}
 use Rattle.text_tools.specs.declared.keys.KeyLengths.{KeyLengths}
 use Rattle.text_tools.proofs.KeyLemmas.{element_at}
 use Rattle.text_tools.proofs.keys.Keys.list.Goals as goal

@@ -2,8 +2,8 @@ use Rattle.std.proofs.Common.{◌≡◌, List, drop, map, take}
 use Rattle.std.specs.List.{flat_map}
 use Rattle.po_entry.specs.TextEntry.{TextEntry}
 use Rattle.text_tools.specs.Keys.{HoldKeys, key_bytes}
-use Rattle.po_catalog.specs.Message.{entry_message}
-use Rattle.po_catalog.specs.MessageView.{messages}
+use Rattle.po_messages.specs.Message.{entry_message}
+use Rattle.po_messages.specs.MessageView.{messages}
 use Rattle.text_tools.proofs.keys.Keys.list.Given as goal
 
 abbrev pub invariant-loop-lengths : goal.invariant-loop-lengths

@@ -1,6 +1,6 @@
 use Rattle.std.proofs.Common.{◌≡◌, subst, ◌∙◌, inl, inr, map, filter}
 use Rattle.std.specs.Prelude.{MatchOption}
-use Rattle.po_catalog.specs.Joined.{is_live}
+use Rattle.po_messages.specs.Joined.{is_live}
 use Rattle.text_tools.specs.Repeats.{IsFirstRepeat, NumbersDiffer, are_numbered, numbered}
 use Rattle.text_tools.specs.SelectedText.{stays_live}
 use Rattle.text_tools.proofs.RepeatLemmas.{numbers_differ}

@@ -1,0 +1,30 @@
+use Rattle.std.proofs.Common.{inl, inr, sym}
+use Rattle.locale_names.proofs.CandidateLemmas.{barred-from, from-language, from-locale, from-start, matched-left}
+use Rattle.locale_names.proofs.position.candidate_at.Goals as goal
+use Rattle.locale_names.proofs.position.candidate_at.Goals.{then-is_untranslated-via-then-is_untranslated, then-is_untranslated-via-else-is_untranslated+then-not-is_path_part}
+
+pub returns-then-is_untranslated-clause-start : goal.returns-then-is_untranslated-clause-start
+returns-then-is_untranslated-clause-start c = from-start c.args.locale.now c.args.language.now c.args.position
+
+pub returns-then-is_untranslated-clause-next : goal.returns-then-is_untranslated-clause-next
+returns-then-is_untranslated-clause-next c =
+    barred-from c.args.locale.now c.args.language.now c.args.position (elim c.then-is_untranslated.branch [
+      | then-is_untranslated-via-then-is_untranslated w ↦ inl (sym w.if-is_untranslated.ensures)
+      | then-is_untranslated-via-else-is_untranslated+then-not-is_path_part w ↦ inr (sym w.if-not-is_path_part.ensures)
+    ])
+
+pub returns-then-is_empty-clause-start : goal.returns-then-is_empty-clause-start
+returns-then-is_empty-clause-start c = from-start c.args.locale.now c.args.language.now c.args.position
+
+pub returns-then-is_empty-clause-next : goal.returns-then-is_empty-clause-next
+returns-then-is_empty-clause-next c =
+    matched-left _ _ (from-locale c.args.locale.now c.args.language.now (sym c.if-is_untranslated.ensures) (sym c.if-not-is_path_part.ensures) (sym c.if-is_empty.ensures))
+    c.args.position c.of_locale.result c.of_locale.ensures
+
+pub returns-clause-start : goal.returns-clause-start
+returns-clause-start c = from-start c.args.locale.now c.args.language.now c.args.position
+
+pub returns-clause-next : goal.returns-clause-next
+returns-clause-next c =
+    matched-left _ _ (from-language c.args.locale.now c.args.language.now (sym c.if-is_untranslated.ensures) (sym c.if-not-is_path_part.ensures) (sym c.if-is_empty.ensures))
+    c.args.position c.of_language.result c.of_language.ensures

@@ -1,0 +1,92 @@
+//! The candidates by their positions, for callers that keep numbers alone.
+
+ghost use Rattle.std.specs.Prelude.{◌≡◌, ◌≤◌, [], ◌∷◌, ◌++◌, drop, length, MatchOption};
+ghost use Rattle.std.specs.List.{flat_map};
+ghost use Rattle.locale_names.specs.Names.{candidates, candidates_of_name, language_parts};
+ghost use Rattle.locale_names.specs.Candidate.{names_from, names_left, text_of};
+
+use crate::language::next_language;
+use crate::name::{Candidate, candidate_of_name, is_path_part, is_untranslated};
+
+/// Where a walk over the candidates of a locale and LANGUAGE is. All zeros are its beginning.
+#[repr(C)]
+#[derive(Clone, Copy, Debug)]
+pub struct Position {
+    /// How many bytes of LANGUAGE it has passed.
+    pub offset: usize,
+    /// How many candidates of the next language were given.
+    pub given: u32,
+}
+
+/// The first candidate of LANGUAGE from an offset on, and the position after it.
+fn first_from(language: &[u8], offset: usize) -> Option<(Candidate<'_>, Position)>
+    requires { offset ≤ length language.now }
+    ensures { MatchOption result (flat_map candidates_of_name (language_parts (drop offset language.now)) ≡ [])
+        (λ next. flat_map candidates_of_name (language_parts (drop offset language.now))
+        ≡ text_of next.0 ∷ names_left next.1.given (language_parts (drop next.1.offset language.now))) }
+{
+    let Some((name, _)) = next_language(&language[offset..]) else {
+        return None;
+    };
+    Some((candidate_of_name(name, 0), Position { offset, given: 1 }))
+}
+
+/// The candidate of LANGUAGE at a position, where there is one, and the position after it.
+fn of_language(language: &[u8], position: Position) -> Option<(Candidate<'_>, Position)>
+    ensures { MatchOption result (names_left position.given (language_parts (drop position.offset language.now)) ≡ [])
+        (λ next. names_left position.given (language_parts (drop position.offset language.now))
+        ≡ text_of next.0 ∷ names_left next.1.given (language_parts (drop next.1.offset language.now))) }
+{
+    if position.offset > language.len() {
+        return None;
+    }
+    let Some((name, len)) = next_language(&language[position.offset..]) else {
+        return None;
+    };
+    if position.given >= 5 {
+        return first_from(language, position.offset + len);
+    }
+    let next = Position {
+        offset: position.offset,
+        given: position.given + 1,
+    };
+    Some((candidate_of_name(name, position.given), next))
+}
+
+/// The candidate of a locale at a position, where there is one, and the position after it.
+fn of_locale(locale: &[u8], position: Position) -> Option<(Candidate<'_>, Position)>
+    ensures { MatchOption result (names_left position.given (locale.now ∷ []) ≡ [])
+        (λ next. names_left position.given (locale.now ∷ [])
+        ≡ text_of next.0 ∷ names_left next.1.given (locale.now ∷ [])) }
+{
+    if position.given >= 5 {
+        return None;
+    }
+    let next = Position {
+        offset: position.offset,
+        given: position.given + 1,
+    };
+    Some((candidate_of_name(locale, position.given), next))
+}
+
+/// The candidate at a position, where there is one, and the position after it: the candidates of
+/// [`Candidates::new`](crate::Candidates::new), one after the other.
+pub fn candidate_at<'a>(
+    locale: &'a [u8],
+    language: &'a [u8],
+    position: Position,
+) -> Option<(Candidate<'a>, Position)>
+    ensures start { position.offset ≡ 0 → position.given ≡ 0
+        → names_from locale.now language.now position ≡ candidates locale.now language.now }
+    ensures next { MatchOption result (names_from locale.now language.now position ≡ [])
+        (λ next. names_from locale.now language.now position
+        ≡ text_of next.0 ∷ names_from locale.now language.now next.1) }
+{
+    if is_untranslated(locale) || !is_path_part(locale) {
+        return None;
+    }
+    if language.is_empty() {
+        return of_locale(locale, position);
+    }
+    of_language(language, position)
+}

@@ -1,0 +1,60 @@
+use Rattle.std.proofs.Common.{◌≡◌, ◌≢◌, ℕ, ◌<◌, ◌≤◌, ◌+◌, ◌-◌, List, [], ◌∷◌, length, take, drop, length-drop, refl, ap, arith, rules}
+use Rattle.std.proofs.lemmas.List.{take_all}
+use Rattle.plural_rule.specs.ParserState.{held, weight, most_added}
+use Rattle.plural_rule.proofs.ParserRun.{Reached, reached-start, reached-token, reached-end, no-token, no-index, most-added}
+use Rattle.plural_rule.proofs.parser.parse_within.Goals as goal
+
+nonempty : (text : List ℕ) → 0 < length text → text ≢ []
+nonempty text h e = absurd (omega (arith, ap length e))
+
+empty : (text : List ℕ) → length text ≡ 0 → text ≡ []
+empty [] h = refl
+empty (c ∷ text) h = absurd (omega arith)
+
+pub loop-rest-init : goal.loop-rest-init
+loop-rest-init g c =
+    record {
+      reached = rw (c.without_blanks-rest.ensures.value, c.new-parts.ensures.waiting, c.new-parts.ensures.start) (reached-start c.args.text.now);
+      weight = rw c.new-parts.ensures.waiting (omega (arith, c.without_blanks-rest.ensures.shorter));
+      count = rw c.new-parts.ensures.waiting (omega (arith, c.without_blanks-rest.ensures.shorter));
+    }
+
+pub returns-in_default-clause-expression : goal.returns-in_default-clause-expression
+returns-in_default-clause-expression g c =
+    let r = c.loop-rest.invariant.reached in
+    let some : 0 < length c.loop-rest.rest.now = search rules in
+    no-token c.args.text.now c.loop-rest.rest.now _ _ r (nonempty c.loop-rest.rest.now some) c.in_default.ensures
+
+pub take-requires : goal.take-requires
+take-requires g c =
+    let at = c.in-Some.ensures in
+    let weight : c.loop-rest.len + weight c.loop-rest.parts.waiting.items + most_added c.in-Some.token ≤ 4096 = omega (arith, most-added c.loop-rest.rest.now c.in-Some.token c.in-Some.token_len at, at.within, c.loop-rest.invariant.weight, c.requires.room, c.requires.limit) in
+    (search rules, (weight, omega (arith, at.some, at.within, c.loop-rest.invariant.count, c.requires.room)))
+
+pub returns-in_default-take-clause-expression : goal.returns-in_default-take-clause-expression
+returns-in_default-take-clause-expression g c =
+    let r = c.loop-rest.invariant.reached in
+    no-index c.args.text.now c.loop-rest.rest.now c.in-Some.token c.in-Some.token_len _ _ _ r c.in-Some.ensures (c.in_default-take.ensures.step r.state r.represents)
+
+pub loop-rest-preserved : goal.loop-rest-preserved
+loop-rest-preserved g c =
+    let r = c.loop-rest.invariant.reached in
+    let n = c.in-Some.token_len in
+    let at = c.in-Some.ensures in
+    let after = c.without_blanks-rest-in-loop-rest.ensures in
+    let took = c.in-Some-take.ensures in
+    let part : take (length c.loop-rest.rest.now - n) (drop n c.loop-rest.rest.now) ≡ drop n c.loop-rest.rest.now =
+    take_all _ _ (omega (arith, length-drop n c.loop-rest.rest.now)) in
+    record {
+      reached =
+          rw (after.value, part)
+          (reached-token c.args.text.now c.loop-rest.rest.now c.in-Some.token n _ _ _ _ r at (took.step r.state r.represents));
+      weight = omega (arith, took.weight, c.loop-rest.invariant.weight, most-added c.loop-rest.rest.now c.in-Some.token n at, at.within, after.shorter, ap length part, length-drop n c.loop-rest.rest.now);
+      count = omega (arith, took.count, c.loop-rest.invariant.count, at.some, at.within, after.shorter, ap length part, length-drop n c.loop-rest.rest.now);
+    }
+
+pub returns-clause-expression : goal.returns-clause-expression
+returns-clause-expression g c =
+    let none : c.loop-rest.rest.now ≡ [] = empty c.loop-rest.rest.now (search rules) in
+    let r : Reached c.args.text.now [] (held (take c.loop-rest.len c.loop-rest.room) c.loop-rest.parts) c.loop-rest.complete = rw none at c.loop-rest.invariant.reached in
+    reached-end c.args.text.now _ _ _ c.finish.result r (c.finish.ensures.tree r.state r.represents)

@@ -1,7 +1,0 @@
-use Rattle.po_catalog.specs.Message.{same_message}
-use Rattle.po_catalog.proofs.FirstOnes.{number_at}
-use Rattle.po_catalog.proofs.MessageIndex.{same_message_laws}
-use Rattle.po_catalog.proofs.laws.messages_are_numbered_in_order.Goals as goal
-
-pub returns : goal.returns
-returns c = number_at same_message same_message_laws

@@ -1,5 +1,0 @@
-use Rattle.po_catalog.proofs.FirstDuplicates.{first_once}
-use Rattle.po_catalog.proofs.laws.one_first_duplicate.Goals as goal
-
-pub returns : goal.returns
-returns c = first_once

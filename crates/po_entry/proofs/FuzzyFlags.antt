@@ -1,0 +1,92 @@
+-- Where an entry's comments make it fuzzy, and which charsets are admitted.
+use Rattle.std.proofs.Common.{◌≡◌, ◌↔◌, ℕ, ◌<◌, Bool, true, false, ◌||◌, List, [], ◌∷◌, refl, sym, ap, ◌∙◌, subst, map, suc, zero, get_or, codes, arith}
+use Rattle.std.specs.Prelude.{All, Contains, Decides}
+use Rattle.std.specs.List.{list_any}
+use Rattle.std.specs.Char.{to_ascii_lowercase}
+use Rattle.std.proofs.lemmas.Bool.{false≢true, or_left, or_right}
+use Rattle.std.proofs.lemmas.List.Folds.{list_any-append}
+use Rattle.std.proofs.lemmas.List.Elements.{All-nil, All-cons, All-contains, All-weaker}
+use Rattle.std.proofs.lemmas.Slice.Eq.{bytes_eq-Decides}
+use Rattle.po_syntax.specs.declared.item.CommentKind.{CommentKind}
+use Rattle.po_syntax.specs.declared.item.CommentKind.TheVariants.{Translator, Extracted, Reference, Flags}
+use Rattle.po_entry.specs.Parts.{CommentText}
+use Rattle.po_entry.specs.Charset.{NamesAdmitted, no_name, utf_8, utf8, us_ascii, ascii, template}
+use Rattle.po_entry.specs.Comments.{all_listed_flags, fuzzy_of, is_fuzzy_flag, listed_flags, texts_of}
+use Rattle.po_entry.specs.Header.{IsAdmittedName, admitted_names}
+use Rattle.po_entry.specs.Listed.{ListsFlags, HaveFuzzyFlag, here, later}
+use Rattle.po_entry.proofs.ListedElements.{flags_listed}
+
+module _ {X : Type 0} (p : X → Bool) where
+  -- where an element passes a test, some element does
+  pub any_passing : (xs : List X) → All (λ y. p y ≡ true → list_any p xs ≡ true) xs
+  any_passing [] = All-nil (λ y. p y ≡ true → false ≡ true)
+  any_passing (x ∷ xs) = All-cons (λ y. p y ≡ true → (p x || list_any p xs) ≡ true) x xs (λ h. or_left (p x) (list_any p xs) h)
+      (All-weaker (λ y. p y ≡ true → list_any p xs ≡ true) (λ y. p y ≡ true → (p x || list_any p xs) ≡ true) (λ y c h. or_right (p x) (list_any p xs) (c h)) xs (any_passing xs))
+
+fuzzy_among : (flags : List (List ℕ)) → list_any is_fuzzy_flag flags ≡ true → Contains flags (codes "fuzzy")
+fuzzy_among [] h = absurd (false≢true h)
+fuzzy_among (flag ∷ flags) h = found (is_fuzzy_flag flag) refl h (fuzzy_among flags) where
+  found : (b : Bool) → is_fuzzy_flag flag ≡ b → (b || list_any is_fuzzy_flag flags) ≡ true → (list_any is_fuzzy_flag flags ≡ true → Contains flags (codes "fuzzy"))
+      → Contains (flag ∷ flags) (codes "fuzzy")
+  found true e g more = (0, omega arith, (bytes_eq-Decides flag (codes "fuzzy")).0 e)
+  found false e g more = let among = more g in let less = among.1 in (suc among.0, omega (arith, less), among.2)
+
+among_fuzzy : (flags : List (List ℕ)) → Contains flags (codes "fuzzy") → list_any is_fuzzy_flag flags ≡ true
+among_fuzzy flags h = All-contains (λ y. is_fuzzy_flag y ≡ true → list_any is_fuzzy_flag flags ≡ true) flags (codes "fuzzy") (any_passing is_fuzzy_flag flags) h refl
+
+-- the texts of the flag lines, where the first comment is of this kind
+abbrev with_kind : CommentKind → List ℕ → List CommentText → List (List ℕ)
+with_kind kind text after = texts_of Flags (record { kind = kind; text = text } ∷ after)
+
+lists : (text : List ℕ) → ListsFlags text (listed_flags text)
+lists text = (flags_listed text (listed_flags text)).0 refl
+
+flags_first : (text : List ℕ) (after : List CommentText) → fuzzy_of (record { kind = Flags; text = text } ∷ after) ≡ (list_any is_fuzzy_flag (listed_flags text) || fuzzy_of after)
+flags_first text after = list_any-append is_fuzzy_flag (listed_flags text) (all_listed_flags after)
+
+fuzzy_flagged : (comment_texts : List CommentText) → fuzzy_of comment_texts ≡ true → HaveFuzzyFlag comment_texts
+fuzzy_flagged [] h = absurd (false≢true h)
+fuzzy_flagged (first ∷ after) h = by first.kind first.text h (fuzzy_flagged after) where
+  by : (kind : CommentKind) (text : List ℕ) → fuzzy_of (record { kind = kind; text = text } ∷ after) ≡ true → (fuzzy_of after ≡ true → HaveFuzzyFlag after)
+      → HaveFuzzyFlag (record { kind = kind; text = text } ∷ after)
+  by Translator text g more = later (more g)
+  by Extracted text g more = later (more g)
+  by Reference text g more = later (more g)
+  by Flags text g more = found (list_any is_fuzzy_flag (listed_flags text)) refl (sym (flags_first text after) ∙ g) where
+    found : (b : Bool) → list_any is_fuzzy_flag (listed_flags text) ≡ b → (b || fuzzy_of after) ≡ true → HaveFuzzyFlag (record { kind = Flags; text = text } ∷ after)
+    found true e there = here (lists text) (fuzzy_among (listed_flags text) e)
+    found false e there = later (more there)
+
+flagged_fuzzy : {comment_texts : List CommentText} → HaveFuzzyFlag comment_texts → fuzzy_of comment_texts ≡ true
+flagged_fuzzy (here {text = text} {flags = flags} {after = after} listed among) =
+    flags_first text after ∙ ap (λ (b : Bool). b || fuzzy_of after) (subst (λ l. list_any is_fuzzy_flag l ≡ true) ((flags_listed text flags).1 listed) (among_fuzzy flags among))
+flagged_fuzzy (later {first = first} {after = after} h) = by first.kind first.text (flagged_fuzzy h) where
+  by : (kind : CommentKind) (text : List ℕ) → fuzzy_of after ≡ true → fuzzy_of (record { kind = kind; text = text } ∷ after) ≡ true
+  by Translator text g = g
+  by Extracted text g = g
+  by Reference text g = g
+  by Flags text g = flags_first text after ∙ or_right (list_any is_fuzzy_flag (listed_flags text)) (fuzzy_of after) g
+
+pub fuzzy_where_flagged : (comment_texts : List CommentText) → Decides (fuzzy_of comment_texts) (HaveFuzzyFlag comment_texts)
+fuzzy_where_flagged comment_texts = (fuzzy_flagged comment_texts, flagged_fuzzy)
+
+-- the admitted name at each place of the list
+name_at : (k : ℕ) (name : List ℕ) → k < 6 → get_or admitted_names k name ≡ name → NamesAdmitted name
+name_at zero name less e = subst NamesAdmitted e no_name
+name_at (suc zero) name less e = subst NamesAdmitted e utf_8
+name_at (suc (suc zero)) name less e = subst NamesAdmitted e utf8
+name_at (suc (suc (suc zero))) name less e = subst NamesAdmitted e us_ascii
+name_at (suc (suc (suc (suc zero)))) name less e = subst NamesAdmitted e ascii
+name_at (suc (suc (suc (suc (suc zero))))) name less e = subst NamesAdmitted e template
+name_at (suc (suc (suc (suc (suc (suc k)))))) name less e = absurd (omega (arith, less))
+
+is_listed : {name : List ℕ} → NamesAdmitted name → Contains admitted_names name
+is_listed no_name = (0, omega arith, refl)
+is_listed utf_8 = (1, omega arith, refl)
+is_listed utf8 = (2, omega arith, refl)
+is_listed us_ascii = (3, omega arith, refl)
+is_listed ascii = (4, omega arith, refl)
+is_listed template = (5, omega arith, refl)
+
+pub admitted : (name : List ℕ) → IsAdmittedName name ↔ NamesAdmitted (map to_ascii_lowercase name)
+admitted name = (λ h. name_at h.0 (map to_ascii_lowercase name) h.1 h.2, is_listed)

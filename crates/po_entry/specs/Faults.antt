@@ -1,0 +1,44 @@
+-- Why a text does not read as entries: the first fault, with its line, in the order in which faults
+-- are reported (manual, "The Format of PO Files").
+use Rattle.std.specs.Prelude.{◌≡◌, ◌≢◌, ℕ, List, ◌∷◌, All}
+use Rattle.po_syntax.specs.declared.fault.PoError.{PoError}
+use Rattle.po_syntax.specs.declared.fault.PoFault.{PoFault}
+use Rattle.po_syntax.specs.declared.fault.PoFault.TheVariants.{ForeignCharset, OutOfMemory}
+use Rattle.po_syntax.specs.TextItem.{TextItem}
+use Rattle.po_syntax.specs.PoText.{SpellsText, TextFault}
+use Rattle.po_entry.specs.TextEntry.{TextEntry}
+use Rattle.po_entry.specs.Header.{HasAdmittedCharset}
+use Rattle.po_entry.specs.Validity.{HasTexts, TextsFault}
+use Rattle.po_entry.specs.Spelling.{SpellsEntries}
+use Rattle.po_entry.specs.Viable.{ItemsFault}
+
+-- an error other than out of memory is such a stop
+abbrev pub IsStop : (PoFault → ℕ → Type 0) → PoError → Type 0
+IsStop Stops error = error.kind ≢ OutOfMemory → Stops error.kind error.line
+
+-- the first entry that can't have its texts has this fault and this line
+pub data TextsStop : List TextEntry → PoFault → ℕ → Type 0 where
+  here : {entry : TextEntry} {entries : List TextEntry} {fault : PoFault} {line : ℕ} → TextsFault entry fault
+      → line ≡ entry.line → TextsStop (entry ∷ entries) fault line
+  later : {entry : TextEntry} {entries : List TextEntry} {fault : PoFault} {line : ℕ} → HasTexts entry
+      → TextsStop entries fault line → TextsStop (entry ∷ entries) fault line
+
+-- the first header whose charset is not admitted has this line
+pub data CharsetStops : List TextEntry → ℕ → Type 0 where
+  here : {entry : TextEntry} {entries : List TextEntry} {line : ℕ} → (HasAdmittedCharset entry → ⊥) → line ≡ entry.line
+      → CharsetStops (entry ∷ entries) line
+  later : {entry : TextEntry} {entries : List TextEntry} {line : ℕ} → HasAdmittedCharset entry
+      → CharsetStops entries line → CharsetStops (entry ∷ entries) line
+
+-- The first fault of a text, with its line: a fault of the text or of one of its lines; the fault
+-- of items that spell no entries; the first entry that can't have its texts; the first header whose
+-- charset is not admitted.
+pub data IsReadFault (text : List ℕ) : PoFault → ℕ → Type 0 where
+  in_text : {fault : PoFault} {line : ℕ} → TextFault text fault line → IsReadFault text fault line
+  in_items : {items : List TextItem} {fault : PoFault} {line : ℕ} → SpellsText text items → ItemsFault items fault line
+      → IsReadFault text fault line
+  in_texts : {items : List TextItem} {entries : List TextEntry} {fault : PoFault} {line : ℕ} → SpellsText text items
+      → SpellsEntries items entries → TextsStop entries fault line → IsReadFault text fault line
+  in_charset : {items : List TextItem} {entries : List TextEntry} {line : ℕ} → SpellsText text items
+      → SpellsEntries items entries → All HasTexts entries → CharsetStops entries line
+      → IsReadFault text ForeignCharset line

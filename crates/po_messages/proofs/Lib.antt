@@ -1,0 +1,10 @@
+pub mod StatisticsLemmas
+pub mod DuplicateLemmas
+pub mod JoiningLemmas
+pub mod FirstDuplicates
+pub mod OmittedHeaders
+pub mod FirstOnes
+pub mod MessageIndex
+pub mod CountedOnce
+pub mod WrittenCounts
+pub mod EarlierNamed

@@ -1,0 +1,167 @@
+-- The index of messages: its keys are the first ones of those so far.
+use Rattle.std.proofs.Common.{◌≡◌, ◌≢◌, ◌↔◌, ℕ, ◌+◌, ◌<◌, Bool, true, false, ◌&&◌, cond, not, List, [], ◌∷◌, ◌++◌, Option, Some, None, refl, sym, ap, ap₂, ◌∙◌, subst, length, take, get_or, AllPairs, arith, length-take, true≢false, get_or-take}
+use Rattle.std.specs.Borrow.{Bor}
+use Rattle.std.specs.Option.{option_eq, option_copied}
+use Rattle.std.specs.Str.{bytes_eq}
+use Rattle.std.specs.List.{list_any, position_or_len}
+use Rattle.std.specs.Cmp.{IsEquivalence, and_equiv, on_equiv}
+use Rattle.std.specs.Cmp.Lexicographic.{options_equiv, nat_list_eq_equiv}
+use Rattle.std.proofs.lemmas.List.{map-append, take_more, length-map, get_or-map, get_or_default, take-map}
+use Rattle.std.proofs.lemmas.List.Quantifiers.{all_pairs_push}
+use Rattle.std.proofs.lemmas.List.Folds.{list_any_at}
+use Rattle.std.proofs.lemmas.List.Sums.{passes_at_first}
+use Rattle.std.proofs.lemmas.Slice.Eq.{bytes_eq-Decides}
+use Rattle.std.proofs.lemmas.Bool.{and_parts}
+use Rattle.indexmap.specs.IndexSet.{insert_key}
+use Rattle.po_messages.specs.declared.message_index.MessageKey.{MessageKey}
+use Rattle.po_messages.specs.FirstOnes.{with_new, first_ones, group_numbers}
+use Rattle.po_messages.specs.Message.{Message, IsFirstRepeat, same_message}
+use Rattle.po_messages.specs.MessageView.{message_of, messages}
+use Rattle.po_messages.proofs.FirstOnes.{firsts_push, found_within, numbers_push, one_number}
+
+-- whether two keys are equal
+abbrev pub same_key : MessageKey → MessageKey → Bool
+same_key a b = option_eq (λ x y. bytes_eq x.now y.now) a.context b.context && bytes_eq a.id.now b.id.now
+
+pub same_message_laws : IsEquivalence same_message
+same_message_laws = and_equiv (on_equiv (λ (m : Message). m.context) (options_equiv nat_list_eq_equiv)) (on_equiv (λ (m : Message). m.id) nat_list_eq_equiv)
+
+same_contexts : (a b : Option (Bor (List ℕ))) → option_eq bytes_eq (option_copied a) (option_copied b) ≡ option_eq (λ x y. bytes_eq x.now y.now) a b
+same_contexts None None = refl
+same_contexts None (Some y) = refl
+same_contexts (Some x) None = refl
+same_contexts (Some x) (Some y) = refl
+
+-- keys are equal where their messages are the same
+pub keys_tie : (a b : MessageKey) → same_message (message_of a) (message_of b) ≡ same_key a b
+keys_tie a b = ap (λ (t : Bool). t && bytes_eq a.id.now b.id.now) (same_contexts a.context b.context)
+
+pub any_key : (key : MessageKey) (keys : List MessageKey) → list_any (same_message (message_of key)) (messages keys) ≡ list_any (same_key key) keys
+any_key key [] = refl
+any_key key (k ∷ keys) = rw (keys_tie key k, any_key key keys) refl
+
+pub place_of_key : (key : MessageKey) (keys : List MessageKey) → position_or_len (same_message (message_of key)) (messages keys) ≡ position_or_len (same_key key) keys
+place_of_key key [] = refl
+place_of_key key (k ∷ keys) = ap₂ (λ (b : Bool) (n : ℕ). cond (not b) (1 + n) 0) (keys_tie key k) (place_of_key key keys)
+
+inserted : (key : MessageKey) (keys : List MessageKey) → messages (insert_key same_key keys key) ≡ with_new same_message (messages keys) (message_of key)
+inserted key keys = by (list_any (same_key key) keys) refl where
+  by : (b : Bool) → list_any (same_key key) keys ≡ b → messages (cond b keys (keys ++ key ∷ [])) ≡ cond (list_any (same_message (message_of key)) (messages keys)) (messages keys) (messages keys ++ message_of key ∷ [])
+  by true e = rw (any_key key keys, e) refl
+  by false e = map-append message_of keys (key ∷ []) ∙ sym (ap (λ (t : Bool). cond t (messages keys) (messages keys ++ message_of key ∷ [])) (any_key key keys ∙ e))
+
+-- the index and the numbers of these keys
+pub record AreNumbered (keys index : List MessageKey) (numbers : List ℕ) : Type 0 where
+  pub firsts : messages index ≡ first_ones same_message (messages keys)
+  pub numbers_are : numbers ≡ group_numbers same_message (messages keys)
+
+pub messages_more : (keys : List MessageKey) (i : ℕ) (key d : MessageKey) → i < length keys → key ≡ get_or keys i d → messages (take (i + 1) keys) ≡ messages (take i keys) ++ message_of key ∷ []
+messages_more keys i key d inside here = ap messages (take_more keys i d inside) ∙ map-append message_of (take i keys) (get_or keys i d ∷ []) ∙ ap (λ (k : MessageKey). messages (take i keys) ++ message_of k ∷ []) (sym here)
+
+module _ (keys index new : List MessageKey) (i : ℕ) (key d : MessageKey) (inside : i < length keys) (here : key ≡ get_or keys i d) (so_far : messages index ≡ first_ones same_message (messages (take i keys)))
+    (is_new : new ≡ insert_key same_key index key) where
+  pub firsts_more : messages new ≡ first_ones same_message (messages (take (i + 1) keys))
+  firsts_more =
+      ap messages is_new ∙ inserted key index ∙ ap (λ (l : List Message). with_new same_message l (message_of key)) so_far
+      ∙ sym (ap (first_ones same_message) (messages_more keys i key d inside here) ∙ firsts_push same_message same_message_laws (messages (take i keys)) (message_of key))
+
+  pub numbers_more : (numbers : List ℕ) (number : ℕ) → numbers ≡ group_numbers same_message (messages (take i keys)) → number ≡ position_or_len (same_key key) index
+      → numbers ++ number ∷ [] ≡ group_numbers same_message (messages (take (i + 1) keys))
+  numbers_more numbers number are is =
+      ap₂ (λ (ns : List ℕ) (n : ℕ). ns ++ n ∷ []) are (is ∙ sym (place_of_key key index) ∙ ap (λ (l : List Message). position_or_len (same_message (message_of key)) l) so_far)
+      ∙ sym (ap (group_numbers same_message) (messages_more keys i key d inside here) ∙ numbers_push same_message same_message_laws (messages (take i keys)) (message_of key))
+
+pub contexts_are : (a b : Option (List ℕ)) → option_eq bytes_eq a b ≡ true → a ≡ b
+contexts_are None None h = refl
+contexts_are None (Some y) h = cc
+contexts_are (Some x) None h = cc
+contexts_are (Some x) (Some y) h = ap (λ (t : List ℕ). Some t) ((bytes_eq-Decides x y).0 h)
+
+pub messages_are : (a b : Message) → same_message a b ≡ true → a ≡ b
+messages_are a b h =
+    let parts = and_parts (option_eq bytes_eq a.context b.context) (bytes_eq a.id b.id) h in
+    let contexts : a.context ≡ b.context = contexts_are a.context b.context parts.0 in
+    let ids : a.id ≡ b.id = (bytes_eq-Decides a.id b.id).0 parts.1 in
+    ap₂ make contexts ids where
+      make : Option (List ℕ) → List ℕ → Message
+      make c i = record { context = c; id = i }
+
+abbrev Apart : List Message → Type 0
+Apart ms = AllPairs (λ a b. a ≢ b) ms
+
+pub none_apart : Apart []
+none_apart = λ i j d below inside. absurd (omega (arith, inside))
+
+module _ (ms : List Message) (i : ℕ) (m e : Message) (inside : i < length ms) (here : m ≡ get_or ms i e) (apart : Apart (take i ms)) where
+  short : length (take i ms) ≡ i
+  short = omega (arith, length-take i ms, inside)
+
+  -- a message that is none of those before it
+  pub still_apart : list_any (same_message m) (take i ms) ≡ false → Apart (take (i + 1) ms)
+  still_apart none =
+      subst Apart (ap (λ (x : Message). take i ms ++ x ∷ []) here ∙ sym (take_more ms i e inside))
+      (all_pairs_push (λ a b. a ≢ b) (take i ms) m apart (λ k d below same.
+      let met = list_any_at (same_message m) (take i ms) k d below (ap (same_message m) same ∙ same_message_laws.refl m) in
+      true≢false (sym met ∙ none)))
+
+  -- a message that is one of those before it
+  pub repeats : list_any (same_message m) (take i ms) ≡ true → (first : ℕ) → first ≡ position_or_len (same_message m) (take i ms) → IsFirstRepeat ms first i
+  repeats met first is =
+      let within = found_within (same_message m) (take i ms) met in
+      let before : first < i = omega (arith, within, is, short) in record {
+        earlier = before;
+        within = inside;
+        same = λ d.
+            let passes = passes_at_first (same_message m) (take i ms) d within in
+            let equal : m ≡ get_or (take i ms) (position_or_len (same_message m) (take i ms)) d = messages_are m _ passes in
+            let there : get_or (take i ms) first d ≡ get_or ms first d = get_or-take i ms first d before in
+            sym there ∙ ap (λ n. get_or (take i ms) n d) is ∙ sym equal ∙ here ∙ get_or_default ms i e d inside;
+        apart = apart;
+      }
+
+-- the index has these keys, no two of which are equal
+pub record AreDifferent (keys index : List MessageKey) : Type 0 where
+  pub all : messages index ≡ messages keys
+  pub apart : Apart (messages keys)
+
+module _ (keys index new : List MessageKey) (i : ℕ) (key d : MessageKey) (inside : i < length keys) (here : key ≡ get_or keys i d) (so_far : AreDifferent (take i keys) index) (is_new : Bool)
+    (added : is_new ≡ not (list_any (same_key key) index)) where
+  long : i < length (messages keys)
+  long = omega (arith, inside, length-map keys message_of)
+
+  at : message_of key ≡ get_or (messages keys) i (message_of key)
+  at = ap message_of here ∙ sym (get_or-map message_of keys i d (message_of key) inside)
+
+  seen : list_any (same_message (message_of key)) (take i (messages keys)) ≡ not is_new
+  seen =
+      ap (list_any (same_message (message_of key))) (take-map message_of i keys ∙ sym so_far.all) ∙ any_key key index ∙ sym (ap not added ∙ twice (list_any (same_key key) index)) where
+        twice : (b : Bool) → not (not b) ≡ b
+        twice true = refl
+        twice false = refl
+
+  apart_before : Apart (take i (messages keys))
+  apart_before = subst Apart (sym (take-map message_of i keys)) so_far.apart
+
+  pub different_more : is_new ≡ true → new ≡ insert_key same_key index key → AreDifferent (take (i + 1) keys) new
+  different_more is_true inserts =
+      let none : list_any (same_key key) index ≡ false = sym (any_key key index) ∙ ap (list_any (same_message (message_of key))) (so_far.all ∙ sym (take-map message_of i keys)) ∙ seen ∙ ap not is_true in
+      record {
+        all = ap messages (inserts ∙ ap (λ (b : Bool). cond b index (index ++ key ∷ [])) none) ∙ map-append message_of index (key ∷ []) ∙ ap (λ (l : List Message). l ++ message_of key ∷ []) so_far.all
+            ∙ sym (messages_more keys i key d inside here);
+        apart = subst Apart (take-map message_of (i + 1) keys) (still_apart (messages keys) i (message_of key) (message_of key) long at apart_before (seen ∙ ap not is_true));
+      }
+
+  pub key_repeats : is_new ≡ false → (first : ℕ) → first ≡ position_or_len (same_key key) index → IsFirstRepeat (messages keys) first i
+  key_repeats is_false first is =
+      repeats (messages keys) i (message_of key) (message_of key) long at apart_before (seen ∙ ap not is_false) first
+      (is ∙ sym (place_of_key key index) ∙ ap (λ (l : List Message). position_or_len (same_message (message_of key)) l) (so_far.all ∙ sym (take-map message_of i keys)))
+
+-- messages have one number exactly where they are the same
+pub numbers_tell : (ms : List Message) (i j : ℕ) (d : Message) → i < length ms → j < length ms
+    → (get_or (group_numbers same_message ms) i 0 ≡ get_or (group_numbers same_message ms) j 0) ↔ (get_or ms i d ≡ get_or ms j d)
+numbers_tell ms i j d a b = (
+  λ same. messages_are (get_or ms i d) (get_or ms j d) (one_number same_message same_message_laws ms i j d a b same),
+  λ same.
+      let number : Message → ℕ = λ m. position_or_len (same_message m) (first_ones same_message ms) in
+      get_or-map number ms i d 0 a ∙ ap number same ∙ sym (get_or-map number ms j d 0 b),
+)

@@ -1,0 +1,63 @@
+-- Live entries with one context and msgid (manual, "The Format of PO Files": a msgid may appear
+-- twice only under another context).
+use Rattle.std.specs.Prelude.{◌≡◌, ◌⊎◌, ℕ, Bool, ◌&&◌, List, ◌∷◌, ◌++◌, map, filter, AllPairs, Option}
+use Rattle.std.specs.Option.{option_eq}
+use Rattle.std.specs.Str.{bytes_eq}
+use Rattle.po_entry.specs.TextEntry.{TextEntry}
+use Rattle.po_entry.specs.Validity.{out_of_memory}
+use Rattle.po_syntax.specs.declared.fault.PoFault.TheVariants.{Duplicate}
+use Rattle.po_syntax.specs.declared.fault.PoError.{PoError}
+use Rattle.po_messages.specs.declared.duplicate.JoinError.{JoinError}
+use Rattle.po_messages.specs.Joined.{InputEntry, is_live, in_input, entries_of}
+
+-- the entry is of the message with this context and msgid
+abbrev pub is_of_message : Option (List ℕ) → List ℕ → TextEntry → Bool
+is_of_message context id entry = option_eq bytes_eq entry.context context && bytes_eq entry.id id
+
+abbrev pub IsSameMessage : TextEntry → TextEntry → Type 0
+IsSameMessage a b = (a.context ≡ b.context) × (a.id ≡ b.id)
+
+-- no two of the entries have the same context and msgid
+abbrev pub AllDiffer : List TextEntry → Type 0
+AllDiffer entries = AllPairs (λ a b. ¬ IsSameMessage a b) entries
+
+-- no live entry has the context and msgid of another
+abbrev pub HasNoDuplicate : List TextEntry → Type 0
+HasNoDuplicate entries = AllDiffer (filter is_live entries)
+
+abbrev pub live_entries : List InputEntry → List InputEntry
+live_entries entries = filter (λ e. is_live e.entry) entries
+
+-- `later` is the earliest live entry that repeats an earlier live one, and `first` is that one
+pub record IsFirstDuplicate (entries : List InputEntry) (first later : InputEntry) : Type 0 where
+  pub before : List InputEntry
+  pub between : List InputEntry
+  pub after : List InputEntry
+  pub order : live_entries entries ≡ (before ++ first ∷ between) ++ later ∷ after
+  pub same : IsSameMessage first.entry later.entry
+  pub differ : AllDiffer (entries_of (before ++ first ∷ between))
+
+-- what is reported of a duplicate: where the later entry stands, and where the first
+abbrev pub duplicate_fault : InputEntry → InputEntry → JoinError
+duplicate_fault first later = record {
+  input = later.input;
+  first_input = first.input;
+  error = record { kind = Duplicate first.entry.line; line = later.entry.line };
+}
+
+-- out of memory, which has no line and no input
+abbrev pub join_out_of_memory : JoinError
+join_out_of_memory = record { input = 0; first_input = 0; error = out_of_memory }
+
+-- why a joined list is refused: its first duplicate, or out of memory
+abbrev pub IsDuplicateFault : List InputEntry → JoinError → Type 0
+IsDuplicateFault entries error =
+    (error ≡ join_out_of_memory)
+    ⊎ ((first later : InputEntry) × IsFirstDuplicate entries first later × (error ≡ duplicate_fault first later))
+
+-- why the entries of one catalogue are refused
+abbrev pub IsDuplicateFaultOf : List TextEntry → PoError → Type 0
+IsDuplicateFaultOf entries error =
+    (error ≡ out_of_memory)
+    ⊎ ((first later : InputEntry) × IsFirstDuplicate (map (in_input 0) entries) first later
+    × (error ≡ (duplicate_fault first later).error))

@@ -1,0 +1,2 @@
+-- Facts of lists that every crate may cite, over any relation.
+pub mod Zips

@@ -1,0 +1,13 @@
+pub mod Facts
+pub mod Joined
+pub mod Omitted
+pub mod JoinedView
+pub mod Duplicate
+pub mod DuplicateLaws
+pub mod DistinctText
+pub mod Statistics
+pub mod FirstOnes
+pub mod Message
+pub mod MessageView
+pub mod Hashing
+pub mod StatisticsLaws

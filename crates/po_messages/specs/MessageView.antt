@@ -1,0 +1,11 @@
+-- What contracts see of the keys of messages, which the code borrows.
+use Rattle.std.specs.Prelude.{List, map}
+use Rattle.std.specs.Option.{option_copied}
+use Rattle.po_messages.specs.declared.message_index.MessageKey.{MessageKey}
+use Rattle.po_messages.specs.Message.{Message}
+
+abbrev pub message_of : MessageKey → Message
+message_of key = record { context = option_copied key.context; id = key.id.now }
+
+abbrev pub messages : List MessageKey → List Message
+messages keys = map message_of keys

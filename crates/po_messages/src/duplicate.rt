@@ -1,0 +1,133 @@
+ghost use Rattle.std.specs.Prelude.{◌≡◌, ◌<◌, ◌^◌, length, IfOk, MatchResult, IsOkUnless};
+ghost use Rattle.po_messages.specs.JoinedView.{input_entry, input_entries};
+ghost use Rattle.po_messages.specs.Joined.{joined, joined_entries, entries_of};
+ghost use Rattle.po_messages.specs.Duplicate.{HasNoDuplicate, IsDuplicateFault, IsDuplicateFaultOf, duplicate_fault, join_out_of_memory, live_entries};
+ghost use Rattle.po_messages.specs.Message.{entry_messages};
+ghost use Rattle.po_messages.specs.MessageView.{messages};
+ghost use Rattle.po_entry.specs.Validity.{out_of_memory};
+
+use crate::joining::{InputEntry, add_entries, is_live, joined};
+use crate::message_index::{MessageKey, first_repeat, message_key};
+use po_entry::Catalogue;
+use po_syntax::{PoError, PoFault};
+use std::alloc::{AllocError, AllocFailed, Global};
+use thiserror::Error;
+
+/// A fault of one of several inputs.
+#[derive(Clone, Copy, Debug, PartialEq, Eq, Error)]
+#[error("input {input}: {error}")]
+pub struct JoinError {
+    /// The input with the fault, counted from 0; 0 where the fault is of no input.
+    pub input: u32,
+    /// For a duplicate the input of the earlier entry, else `input`.
+    pub first_input: u32,
+    /// The fault, on the line of the later entry.
+    pub error: PoError,
+}
+
+impl From<AllocError> for JoinError {
+    ghost from_gives = { λ _ e. e ≡ join_out_of_memory };
+
+    fn from(error: AllocError) -> JoinError {
+        JoinError {
+            input: 0,
+            first_input: 0,
+            error: error.into(),
+        }
+    }
+}
+
+impl<T: Drop> From<AllocFailed<T>> for JoinError {
+    ghost from_gives = { λ _ e. e ≡ join_out_of_memory };
+
+    fn from(error: AllocFailed<T>) -> JoinError {
+        JoinError {
+            input: 0,
+            first_input: 0,
+            error: error.into(),
+        }
+    }
+}
+
+/// Whether no live entry of a catalogue repeats an earlier live one, by context and msgid. Refused
+/// with `Duplicate`, which names the line of the earlier entry, at the line of the earliest entry
+/// that repeats one; and where an allocation failed.
+pub fn duplicates(alloc: Global, catalogue: &Catalogue) -> Result<(), PoError>
+    ensures exact { MatchResult result (λ _. HasNoDuplicate catalogue.now) (IsDuplicateFaultOf catalogue.now) }
+    ensures only { HasNoDuplicate catalogue.now → IsOkUnless result out_of_memory }
+{
+    let mut entries = Vec::new(alloc);
+    add_entries(&mut entries, catalogue.entries(), 0, false)?;
+    match first_duplicate(alloc, &entries) {
+        Ok(()) => Ok(()),
+        Err(error) => Err(error.error),
+    }
+}
+
+/// Whether no live entry of the joined list repeats an earlier live one, by context and msgid.
+/// Refused with `Duplicate`, which names the input and the line of the earlier entry, at the input
+/// and the line of the earliest entry that repeats one; and where an allocation failed.
+pub fn joined_duplicates(alloc: Global, catalogues: &[Catalogue]) -> Result<(), JoinError>
+    requires { length catalogues.now < 2 ^ 32 }
+    ensures exact { MatchResult result (λ _. HasNoDuplicate (joined_entries catalogues.now))
+        (IsDuplicateFault (joined catalogues.now)) }
+    ensures only { HasNoDuplicate (joined_entries catalogues.now) → IsOkUnless result join_out_of_memory }
+{
+    let entries = joined(alloc, catalogues)?;
+    first_duplicate(alloc, &entries)
+}
+
+/// Looks for the earliest live entry that repeats an earlier live one.
+fn first_duplicate(alloc: Global, entries: &[InputEntry<'_>]) -> Result<(), JoinError>
+    ensures exact { MatchResult result (λ _. HasNoDuplicate (entries_of (input_entries entries.now)))
+        (IsDuplicateFault (input_entries entries.now)) }
+{
+    let live = live_entries(alloc, entries)?;
+    let keys = keys_of(alloc, &live)?;
+    match first_repeat(alloc, &keys)? {
+        Some(repeat) => Err(duplicate(&live[repeat.first], &live[repeat.later])),
+        None => Ok(()),
+    }
+}
+
+/// The live ones of the entries.
+fn live_entries<'a>(
+    alloc: Global,
+    entries: &[InputEntry<'a>],
+) -> Result<Vec<InputEntry<'a>>, AllocError>
+    ensures { IfOk result (λ live. input_entries live.items ≡ live_entries (input_entries entries.now)) }
+{
+    let mut live = Vec::with_capacity(alloc, entries.len())?;
+    for entry in entries {
+        if !is_live(entry.entry) {
+            continue;
+        }
+        live.push(*entry)?;
+    }
+    Ok(live)
+}
+
+/// The keys of the entries' messages.
+fn keys_of<'a>(alloc: Global, entries: &[InputEntry<'a>]) -> Result<Vec<MessageKey<'a>>, AllocError>
+    ensures { IfOk result (λ keys. messages keys.items ≡ entry_messages (entries_of (input_entries entries.now))) }
+{
+    let mut keys = Vec::with_capacity(alloc, entries.len())?;
+    for entry in entries {
+        keys.push(message_key(entry.entry))?;
+    }
+    Ok(keys)
+}
+
+/// What is reported of an entry that repeats an earlier one.
+fn duplicate(first: &InputEntry<'_>, later: &InputEntry<'_>) -> JoinError
+    ensures { result ≡ duplicate_fault (input_entry first.now) (input_entry later.now) }
+{
+    JoinError {
+        input: later.input,
+        first_input: first.input,
+        error: PoError {
+            kind: PoFault::Duplicate(first.entry.line()),
+            line: later.entry.line(),
+        },
+    }
+}

@@ -1,0 +1,22 @@
+//! The messages of PO entries: which entries are of one message, which live ones repeat an earlier
+//! one, the list that several inputs join to, and what the statistics count (GNU gettext manual,
+//! "The Format of PO Files" and "Invoking the msgfmt Program").
+//!
+//! [`joined`] lists the entries of several inputs, [`duplicates`] finds the first message that
+//! stands twice, [`grouped`] numbers the messages of keys, and [`statistics`] counts what is
+//! translated.
+//!
+//! The modules in reading order: `joining`, `message_index`, `duplicate`, `stats`, `laws`.
+
+#![tactic(auto)]
+
+mod duplicate;
+mod joining;
+pub mod laws;
+mod message_index;
+mod stats;
+
+pub use crate::duplicate::{JoinError, duplicates, joined_duplicates};
+pub use crate::joining::{InputEntry, is_live, is_live_header, joined};
+pub use crate::message_index::{MessageKey, Repeat, first_repeat, grouped, message_key};
+pub use crate::stats::{Stats, entry_statistics, has_translation, statistics};

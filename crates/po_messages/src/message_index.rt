@@ -1,0 +1,123 @@
+ghost use Rattle.std.specs.Prelude.{◌≡◌, ◌≢◌, [], AllPairs, IfNone, IfOk, IfSome};
+ghost use Rattle.po_messages.specs.FirstOnes.{group_numbers};
+ghost use Rattle.po_messages.specs.Message.{IsFirstRepeat, entry_message, same_message};
+ghost use Rattle.po_messages.specs.MessageView.{message_of, messages};
+
+use indexmap::IndexSet;
+use po_entry::Entry;
+use std::alloc::{AllocError, Global};
+use std::hash::{BuildHasher, DefaultHasher, Hash, Hasher};
+
+/// What a message is known by: its context, if it has one, and its msgid (GNU gettext manual, "The
+/// Format of PO Files").
+#[derive(Clone, Copy, Debug, PartialEq, Eq)]
+pub struct MessageKey<'a> {
+    /// What stands in `msgctxt`, where the message has one.
+    pub context: Option<&'a [u8]>,
+    /// What stands in `msgid`.
+    pub id: &'a [u8],
+}
+
+impl Hash for MessageKey<'_> {
+    ghost use Rattle.po_messages.specs.Hashing.{key_writes, equal_keys_write_alike};
+
+    ghost hash_input = { key_writes };
+
+    ghost respects_eq = { equal_keys_write_alike };
+
+    fn hash<H: Hasher>(&self, state: &mut H) {
+        state.write_usize(self.id.len());
+        state.write(self.id);
+        if let Some(context) = self.context {
+            state.write(context);
+        }
+    }
+}
+
+/// The key of an entry's message.
+pub fn message_key(entry: &Entry) -> MessageKey<'_>
+    ensures { message_of result ≡ entry_message entry.now }
+{
+    MessageKey {
+        context: entry.context(),
+        id: entry.id(),
+    }
+}
+
+/// Begins each hash with a digest of all keys, so that no choice of msgids makes an index slow: who
+/// changes a msgid changes the digest, and with it all hashes.
+#[derive(Clone, Copy)]
+struct Seeded {
+    start: DefaultHasher,
+}
+
+impl BuildHasher for Seeded {
+    type Hasher = DefaultHasher;
+
+    ghost build_hasher = { λ s. s.start };
+
+    fn build_hasher(&self) -> DefaultHasher {
+        self.start
+    }
+}
+
+/// The hasher of an index of these keys.
+fn hasher_of(keys: &[MessageKey<'_>]) -> Seeded {
+    let mut digest = DefaultHasher::new();
+    for key in keys {
+        key.hash(&mut digest);
+    }
+    let mut start = DefaultHasher::new();
+    start.write_u64(digest.finish());
+    Seeded { start }
+}
+
+/// An empty index with room for as many messages as there are keys.
+fn empty_index<'a>(
+    alloc: Global,
+    keys: &[MessageKey<'a>],
+) -> Result<IndexSet<MessageKey<'a>, Seeded>, AllocError>
+    ensures { IfOk result (λ index. index.keys ≡ []) }
+{
+    IndexSet::with_capacity_and_hasher(alloc, keys.len(), hasher_of(keys))
+}
+
+/// For each key the number of its message. The messages are numbered from 0, in the order in which
+/// they first appear. Refused only where an allocation failed.
+pub fn grouped(alloc: Global, keys: &[MessageKey<'_>]) -> Result<Vec<usize>, AllocError>
+    ensures { IfOk result (λ numbers. numbers.items ≡ group_numbers same_message (messages keys.now)) }
+{
+    let mut index = empty_index(alloc, keys)?;
+    let mut numbers = Vec::with_capacity(alloc, keys.len())?;
+    for key in keys {
+        let (number, _) = index.insert_full(*key)?;
+        numbers.push(number)?;
+    }
+    Ok(numbers)
+}
+
+/// A key that repeats an earlier one.
+#[derive(Clone, Copy, Debug, PartialEq, Eq)]
+pub struct Repeat {
+    /// The index of the earlier key.
+    pub first: usize,
+    /// The index of the key that repeats it.
+    pub later: usize,
+}
+
+/// The earliest key that repeats an earlier one, if there is one. Refused only where an allocation
+/// failed.
+pub fn first_repeat(alloc: Global, keys: &[MessageKey<'_>]) -> Result<Option<Repeat>, AllocError>
+    ensures none { IfOk result (λ found. IfNone found (AllPairs (λ a b. a ≢ b) (messages keys.now))) }
+    ensures repeat { IfOk result (λ found. IfSome found
+        (λ r. IsFirstRepeat (messages keys.now) r.first r.later)) }
+{
+    let mut index = empty_index(alloc, keys)?;
+    for (later, key) in keys.iter().enumerate() {
+        let (first, is_new) = index.insert_full(*key)?;
+        if !is_new {
+            return Ok(Some(Repeat { first, later }));
+        }
+    }
+    Ok(None)
+}
