@@ -1,13 +1,13 @@
 -- The first occurrence of a name in a text.
-use Rattle.std.proofs.Common.{◌≡◌, ℕ, zero, suc, ◌+◌, ◌-◌, ◌<◌, Bool, true, not, nat_eq, inl, inr, List, [], ◌∷◌, length, take, drop, Some, None, refl, ap, ◌∙◌, arith, length-append, length-drop}
+use Rattle.std.proofs.Common.{◌≡◌, ℕ, zero, suc, ◌+◌, ◌-◌, ◌<◌, ◌≤◌, Bool, true, not, nat_eq, inl, inr, List, [], ◌∷◌, length, take, drop, slice_index, Some, None, refl, sym, ap, subst, ◌∙◌, arith, length-append, length-drop, length-take}
 use Rattle.std.specs.List.{starts_with, before_first}
 use Rattle.std.proofs.Math.Seq.{take-append_seam}
-use Rattle.std.proofs.lemmas.Bool.{cases_Bool, false_from_ne_true}
+use Rattle.std.proofs.lemmas.Bool.{cases_Bool, cases_lt, false_from_ne_true}
 use Rattle.std.proofs.lemmas.Bool.Decides.{Decides-eqb}
 use Rattle.std.proofs.lemmas.Slice.Eq.{starts_is}
-use Rattle.std.proofs.lemmas.List.{take_all}
+use Rattle.std.proofs.lemmas.List.{take_all, get_or-drop, get_or-take}
 use Rattle.std.proofs.lemmas.List.Sums.{prefix_len_is}
-use Rattle.memchr.specs.Find.{OccursAt, IsFirstByte, is_byte2}
+use Rattle.memchr.specs.Find.{OccursAt, IsFirstByte, Nowhere, Passes, is_byte, is_byte2}
 use Rattle.memchr.proofs.lemmas.MatchLemmas.{OccursAt-part, OccursAt-from_part, OccursAt-split}
 use Rattle.plural_rule.specs.Header.{after_first, is_end}
 
@@ -57,6 +57,44 @@ after_first-some name (c ∷ rest) (suc k) some h none =
 -- the part of a text from an index on
 pub rest_from : (text : List ℕ) (n : ℕ) → take (length text - n) (drop n text) ≡ drop n text
 rest_from text n = take_all _ _ (omega (arith, length-drop n text))
+
+-- an occurrence that ends after `end` shows the last byte of the name to a search from there on
+last-passes : (name text : List ℕ) (end j : ℕ) → 0 < length name → OccursAt text name j → end < j + length name → Passes (is_byte (slice_index name (length name - 1))) (take (length text - end) (drop end text)) (j + length name - 1 - end)
+last-passes name text end j some h after =
+    let place : end + (j + length name - 1 - end) ≡ j + (length name - 1) = omega arith in
+    let read : slice_index (drop end text) (j + length name - 1 - end) ≡ slice_index name (length name - 1) =
+    get_or-drop end text (j + length name - 1 - end) 0 ∙ ap (slice_index text) place ∙ h.reads (length name - 1) (omega arith) in
+    rw (rest_from text end) ((Decides-eqb _ _).1 read)
+
+-- where no name ends up to `end`, none ends before the last byte of the name stands there again
+pub none-before : (name text : List ℕ) (end before : ℕ) → 0 < length name → ((j : ℕ) → j + length name ≤ end → OccursAt text name j → ⊥) → Nowhere (Passes (is_byte (slice_index name (length name - 1))) (take (length text - end) (drop end text))) 0 before → (j : ℕ) → j + length name ≤ end + before → OccursAt text name j → ⊥
+none-before name text end before some none nowhere j at h =
+    elim (cases_lt end (j + length name)) [
+      | inl after ↦ nowhere _ (omega arith) (omega arith) (last-passes name text end j some h after)
+      | inr up ↦ none j up h
+    ]
+
+-- a name that ends where a part of the text does
+pub ends-text : (name text : List ℕ) (end : ℕ) → end ≤ length text → length name ≤ length (take end text) → OccursAt (take end text) name (length (take end text) - length name) → OccursAt text name (end - length name)
+ends-text name text end inside fits h =
+    let whole : length (take end text) ≡ end = omega (arith, length-take end text) in
+    let part = subst (λ n. OccursAt (take end text) name (n - length name)) whole h in
+    record {
+      fits = omega (arith, fits, whole);
+      reads = λ j l. sym (get_or-take end text (end - length name + j) 0 (omega (arith, fits, whole))) ∙ part.reads j l;
+    }
+
+pub ends-part : (name text : List ℕ) (end j : ℕ) → end ≤ length text → j + length name ≡ end → OccursAt text name j → OccursAt (take end text) name (length (take end text) - length name)
+ends-part name text end j inside at h =
+    let whole : length (take end text) - length name ≡ j = omega (arith, length-take end text) in
+    rw whole (record {
+      fits = omega (arith, length-take end text);
+      reads = λ i l. get_or-take end text (j + i) 0 (omega arith) ∙ h.reads i l;
+    })
+
+-- what is found in the rest of a text ends inside of the text
+pub found-within : (text : List ℕ) (end before : ℕ) → before < length (take (length text - end) (drop end text)) → end + (before + 1) ≤ length text
+found-within text end before high = omega (arith, high, length-take (length text - end) (drop end text), length-drop end text)
 
 goes-on : (b : Bool) → (b ≡ true → ⊥) → not b ≡ true
 goes-on b h = ap not (false_from_ne_true b h)
