@@ -2,6 +2,20 @@
 PREFIX ?= /usr/local
 export DESTDIR PREFIX LIBDIR
 
+# With TARGET=aarch64-linux-gnu: the libraries alone, for that processor, in build/aarch64-linux-gnu. They are proved as
+# those of this one are; the C is compiled by a cross compiler, TARGET-gcc.
+ifdef TARGET
+all:
+	@scripts/needs-rt
+	@scripts/build --target $(TARGET)
+	@CC="$(TARGET)-gcc" scripts/shared build/$(TARGET)/libpokit.a build/$(TARGET)
+	@CC="$(TARGET)-gcc" AR="$(TARGET)-ar" scripts/intl build/$(TARGET)/libpokit.a build/$(TARGET)
+
+# Their tests, where qemu-user is there to run them.
+test: all
+	@tests/cross/run $(TARGET) build/$(TARGET)/libpokit.a build/pokit $(ROOT)
+else
+
 all: proved
 	@$(MAKE) --no-print-directory libraries
 
@@ -27,6 +41,7 @@ demo: all
 # The gate, and then the runs of the program that it built.
 test:
 	@tests/run
+endif
 
 # The mutants of all crates, which the gate tries too.
 mutants:
