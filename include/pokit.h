@@ -24,8 +24,8 @@
  * Threads. A look-up changes nothing but the answer, so any number of threads may ask one catalogue at a time, once
  * the call of pokit_open has returned. pokit_open writes the catalogue and is called by one thread.
  *
- * Stack. pokit_open takes less than 1.4 KB of the stack where the plural expression has at most 240 bytes, and up to
- * 17 KB where it has more. A look-up takes less than 1.4 KB where the program of the expression has at most 128
+ * Stack. pokit_open takes less than 1 KB of the stack where the plural expression has at most 240 bytes, and up to
+ * 9 KB where it has more. A look-up takes less than 1.4 KB where the program of the expression has at most 128
  * instructions, which is more than any language needs, and up to 33 KB where it has more.
  *
  * Charsets. A text is the bytes of the file: nothing is converted. pokit_charset answers the charset that the header

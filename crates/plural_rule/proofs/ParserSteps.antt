@@ -1,18 +1,19 @@
 -- The parser's instructions and stack after one step.
-use Rattle.std.proofs.Common.{◌≡◌, ℕ, zero, suc, ◌+◌, ◌-◌, ◌/◌, ◌%◌, ◌^◌, ◌<◌, ◌≤◌, true, false, nat_lt, inl, inr, List, [], ◌∷◌, ◌++◌, length, take, slice_set, slice_index_or, Some, None, refl, sym, ap, ◌∙◌, append_assoc, arith, subst, length-append}
+use Rattle.std.proofs.Common.{◌≡◌, ℕ, zero, suc, ◌+◌, ◌-◌, ◌/◌, ◌%◌, ◌^◌, ◌<◌, ◌≤◌, true, false, nat_lt, inl, inr, List, [], ◌∷◌, ◌++◌, map, length, take, slice_set, slice_index_or, Some, None, refl, sym, ap, ◌∙◌, append_assoc, arith, subst, length-append}
 use Rattle.std.proofs.Math.Seq.{set-append_seam, get_or-append_seam, take-set-lt}
-use Rattle.std.proofs.lemmas.List.{length-take, length-take-le, get_or-take}
+use Rattle.std.proofs.lemmas.List.{length-take, length-take-le, get_or-take, map-append}
 use Rattle.std.proofs.lemmas.Bool.{cases_Bool}
 use Rattle.std.proofs.lemmas.Bool.Decides.{nat_tests}
 use Rattle.plural_rule.specs.declared.operator.Operator.{Operator}
 use Rattle.plural_rule.specs.declared.instruction.Instruction.{Instruction}
-use Rattle.plural_rule.specs.declared.parts.Pending.{Pending}
-use Rattle.plural_rule.specs.declared.parts.Pending.TheVariants.{Open as OpenPending, Binary as BinaryPending, Question as QuestionPending, Colon as ColonPending}
+use Rattle.plural_rule.specs.declared.pending.Pending.{Pending}
+use Rattle.plural_rule.specs.declared.pending.Pending.TheVariants.{Open as OpenPending, Not as NotPending, Binary as BinaryPending, Question as QuestionPending, Colon as ColonPending}
 use Rattle.plural_rule.specs.Expression.{Tree, Count, Number, Not, Binary, Conditional}
 use Rattle.plural_rule.specs.Instruction.{count_instruction, number_instruction, wide_instruction, low_instruction, not_instruction, binary_instruction, branch_instruction, choose_instruction, jump_instruction}
 use Rattle.plural_rule.specs.Program.{program, size, length-program, is_lazy, branch_program}
 use Rattle.plural_rule.specs.ShiftReduce.{Waiting, WaitNot, WaitOpen, WaitBinary, WaitQuestion, WaitColon, Operand, completed, reduce, reduce_by, at_colon, at_close, alone}
-use Rattle.plural_rule.specs.ParserState.{waiting_program, pending, pendings, Held, IsWaiting, IsOperand, Answers, counted, edited, begun, with_skip, skipping, binds, completed_program, first_of, weight_of, weight, HoldsTree}
+use Rattle.plural_rule.specs.ParserState.{waiting_program, pending, pendings, Held, IsWaiting, IsOperand, Answers, counted, edited, begun, with_skip, skipping, completed_program, first_of, HoldsTree}
+use Rattle.plural_rule.specs.Pending.{binds, pending_of, within, weight_of, weight}
 
 -- two lists with one more item each at their ends
 pub snoc-same : {A : Type 0} (xs ys : List A) (x y : A) → xs ++ x ∷ [] ≡ ys ++ y ∷ [] → (xs ≡ ys) × (x ≡ y)
@@ -291,21 +292,39 @@ weight-append : (xs : List Pending) (p : Pending) → weight (xs ++ p ∷ []) �
 weight-append [] p = omega arith
 weight-append (x ∷ xs) p = omega (arith, weight-append xs p)
 
-pub weight_push : (old new : List Pending) (p : Pending) → new ≡ old ++ p ∷ [] → weight new ≡ weight old + weight_of p
-weight_push old new p e = ap weight e ∙ weight-append old p
+-- with one number more
+pub weight-more : (codes new : List ℕ) (code : ℕ) → new ≡ codes ++ code ∷ [] → weight (map pending_of new) ≡ weight (map pending_of codes) + weight_of (pending_of code)
+weight-more codes new code e =
+    ap (λ cs. weight (map pending_of cs)) e ∙ ap weight (map-append pending_of codes (code ∷ []))
+    ∙ weight-append (map pending_of codes) (pending_of code)
+
+pub weight-within : (p : Pending) → weight_of (within p) ≡ weight_of p
+weight-within NotPending = refl
+weight-within OpenPending = refl
+weight-within (BinaryPending op first) = refl
+weight-within (QuestionPending first) = refl
+weight-within (ColonPending first) = refl
+
+-- where an operand begins, below 4,096
+small-start : (code : List Instruction) (start : ℕ) (entries : List Pending) (stack : List Waiting) (t : Tree) → IsOperand (record { code = code; entries = entries; start = start }) stack t → length code ≤ 4096 → start % 4096 ≡ length (waiting_program stack)
+small-start code start entries stack t h short =
+    let f = first-of 0 t in
+    let inside : start < 4096 =
+    omega (arith, ap length h.code_is, length-append (waiting_program stack) (program 0 t), ap length f.is, h.start_is, short) in
+    grind (arith, inside, h.start_is)
 
 -- an operator after an operand
-pub waits-binary : (op : Operator) (start after : ℕ) (code code' : List Instruction) (entries entries' : List Pending) (stack : List Waiting) (t : Tree) → IsOperand (record { code = code; entries = entries; start = start }) stack t → length code ≤ 4096 → code' ≡ begun start code ++ branch_program op 0 → entries' ≡ entries ++ BinaryPending op start ∷ [] → IsWaiting (record { code = code'; entries = entries'; start = after }) (WaitBinary op t ∷ stack)
+pub waits-binary : (op : Operator) (start after : ℕ) (code code' : List Instruction) (entries entries' : List Pending) (stack : List Waiting) (t : Tree) → IsOperand (record { code = code; entries = entries; start = start }) stack t → length code ≤ 4096 → code' ≡ begun start code ++ branch_program op 0 → entries' ≡ entries ++ BinaryPending op (start % 4096) ∷ [] → IsWaiting (record { code = code'; entries = entries'; start = after }) (WaitBinary op t ∷ stack)
 waits-binary op start after code code' entries entries' stack t h short c e =
     record {
       code_is = c ∙ ap (λ p. p ++ branch_program op 0) (begun-operand (waiting_program stack) t code start h.code_is h.start_is short) ∙ append_assoc (waiting_program stack) (program 1 t) (branch_program op 0);
-      entries_are = e ∙ ap (λ es. es ++ BinaryPending op start ∷ []) h.entries_are ∙ ap (λ i. pendings stack ++ BinaryPending op i ∷ []) h.start_is;
+      entries_are = e ∙ ap (λ es. es ++ BinaryPending op (start % 4096) ∷ []) h.entries_are ∙ ap (λ i. pendings stack ++ BinaryPending op i ∷ []) (small-start code start entries stack t h short);
     }
 
 -- `?` after an operand
-pub waits-question : (start after : ℕ) (code code' : List Instruction) (entries entries' : List Pending) (stack : List Waiting) (t : Tree) → IsOperand (record { code = code; entries = entries; start = start }) stack t → length code ≤ 4096 → code' ≡ begun start code ++ choose_instruction 0 ∷ [] → entries' ≡ entries ++ QuestionPending start ∷ [] → IsWaiting (record { code = code'; entries = entries'; start = after }) (WaitQuestion t ∷ stack)
+pub waits-question : (start after : ℕ) (code code' : List Instruction) (entries entries' : List Pending) (stack : List Waiting) (t : Tree) → IsOperand (record { code = code; entries = entries; start = start }) stack t → length code ≤ 4096 → code' ≡ begun start code ++ choose_instruction 0 ∷ [] → entries' ≡ entries ++ QuestionPending (start % 4096) ∷ [] → IsWaiting (record { code = code'; entries = entries'; start = after }) (WaitQuestion t ∷ stack)
 waits-question start after code code' entries entries' stack t h short c e =
     record {
       code_is = c ∙ ap (λ p. p ++ choose_instruction 0 ∷ []) (begun-operand (waiting_program stack) t code start h.code_is h.start_is short) ∙ append_assoc (waiting_program stack) (program 1 t) (choose_instruction 0 ∷ []);
-      entries_are = e ∙ ap (λ es. es ++ QuestionPending start ∷ []) h.entries_are ∙ ap (λ i. pendings stack ++ QuestionPending i ∷ []) h.start_is;
+      entries_are = e ∙ ap (λ es. es ++ QuestionPending (start % 4096) ∷ []) h.entries_are ∙ ap (λ i. pendings stack ++ QuestionPending i ∷ []) (small-start code start entries stack t h short);
     }

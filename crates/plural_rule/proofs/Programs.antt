@@ -26,7 +26,7 @@ abbrev resumed : ℕ → List Instruction → List ℕ → Option ℕ → ℕ �
 resumed n rest values None steps = record { value = None; steps = steps }
 resumed n rest values (Some v) steps = run n rest 0 (v ∷ values) steps
 
-abbrev nothing : ℕ → Outcome
+abbrev pub nothing : ℕ → Outcome
 nothing steps = record { value = None; steps = steps }
 
 none-later : (s later : ℕ) → later ≡ s → nothing s ≡ nothing later
@@ -220,7 +220,7 @@ stops n p i d action values new steps new_steps o inside runs is leads =
     ∙ sym (at-index n p i d values steps inside) ∙ runs
 
 -- an operand and the operator that takes it
-begun-pair : (n : ℕ) (p : List Instruction) (i : ℕ) (d : Instruction) (action : Action) (y begun : ℕ) (values : List ℕ) (steps : ℕ) (o : Outcome) → i + 1 < length p → run n (drop i p) 0 values steps ≡ o → action ≡ action_of (get_or p i d) → ((low : ℕ) (vs : List ℕ) → act n action low vs ≡ Go 0 (y ∷ vs) begun) → run n (drop (i + 1) p) 0 (y ∷ values) (steps + begun) ≡ o
+pub begun-pair : (n : ℕ) (p : List Instruction) (i : ℕ) (d : Instruction) (action : Action) (y begun : ℕ) (values : List ℕ) (steps : ℕ) (o : Outcome) → i < length p → run n (drop i p) 0 values steps ≡ o → action ≡ action_of (get_or p i d) → ((low : ℕ) (vs : List ℕ) → act n action low vs ≡ Go 0 (y ∷ vs) begun) → run n (drop (i + 1) p) 0 (y ∷ values) (steps + begun) ≡ o
 begun-pair n p i d action y begun values steps o inside runs is leaf =
     let here : i + 1 ≡ i + 1 + 0 = omega arith in
     ap (λ k. run n (drop k p) 0 (y ∷ values) (steps + begun)) here
@@ -232,12 +232,12 @@ goes-on-pair n p i d d' action op y begun values new steps skip o inside runs is
     let there : i + 1 + (1 + skip) ≡ i + 1 + 1 + skip = omega arith in
     ap (λ k. run n (drop k p) 0 new (steps + begun)) there
     ∙ goes-on n p (i + 1) d' (BinaryAction op) (y ∷ values) new (steps + begun) (steps + begun) skip o inside
-    (begun-pair n p i d action y begun values steps o inside runs is leaf) is' (leads (low_of (drop (i + 1 + 1) p)) (steps + begun))
+    (begun-pair n p i d action y begun values steps o (omega (arith, inside)) runs is leaf) is' (leads (low_of (drop (i + 1 + 1) p)) (steps + begun))
 
 pub stops-pair : (n : ℕ) (p : List Instruction) (i : ℕ) (d d' : Instruction) (action : Action) (op : Operator) (y begun : ℕ) (values new : List ℕ) (steps : ℕ) (o : Outcome) → i + 1 < length p → run n (drop i p) 0 values steps ≡ o → action ≡ action_of (get_or p i d) → ((low : ℕ) (vs : List ℕ) → act n action low vs ≡ Go 0 (y ∷ vs) begun) → BinaryAction op ≡ action_of (get_or p (i + 1) d') → ((low s : ℕ) → Leads (act n (BinaryAction op) low (y ∷ values)) None new s s) → nothing (steps + begun) ≡ o
 stops-pair n p i d d' action op y begun values new steps o inside runs is leaf is' leads =
     stops n p (i + 1) d' (BinaryAction op) (y ∷ values) new (steps + begun) (steps + begun) o inside
-    (begun-pair n p i d action y begun values steps o inside runs is leaf) is' (leads (low_of (drop (i + 1 + 1) p)) (steps + begun))
+    (begun-pair n p i d action y begun values steps o (omega (arith, inside)) runs is leaf) is' (leads (low_of (drop (i + 1 + 1) p)) (steps + begun))
 
 abbrev finished : List ℕ → ℕ → Outcome
 finished values steps = record { value = newest_value values; steps = steps }

@@ -9,5 +9,6 @@ pub mod Program
 pub mod Run
 pub mod ShiftReduce
 pub mod Levels
+pub mod Pending
 pub mod ParserState
 pub mod Scanner

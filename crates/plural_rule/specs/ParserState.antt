@@ -1,16 +1,16 @@
 -- Internal: how the parser's program and stack stand for what waits and for a complete operand.
-use Rattle.std.specs.Prelude.{◌≡◌, ℕ, ◌+◌, ◌-◌, ◌%◌, ◌^◌, nat_le, nat_lt, ◌==◌, Bool, true, false, List, [], ◌∷◌, ◌++◌, length, Option, Some}
+use Rattle.std.specs.Prelude.{◌≡◌, ℕ, ◌+◌, ◌-◌, ◌%◌, ◌^◌, nat_lt, Bool, true, false, List, [], ◌∷◌, ◌++◌, length, Option, Some}
 use Rattle.std.specs.Prelude.{None, if◌then◌else◌, slice_set, slice_index_or}
 use Rattle.plural_rule.specs.declared.instruction.Instruction.{Instruction}
 use Rattle.plural_rule.specs.declared.parts.Parts.{Parts}
-use Rattle.plural_rule.specs.declared.parts.Pending.{Pending}
-use Rattle.plural_rule.specs.declared.parts.Pending.TheVariants.{Not as NotPending, Open as OpenPending}
-use Rattle.plural_rule.specs.declared.parts.Pending.TheVariants.{Binary as BinaryPending, Question as QuestionPending}
-use Rattle.plural_rule.specs.declared.parts.Pending.TheVariants.{Colon as ColonPending}
+use Rattle.plural_rule.specs.declared.pending.Pending.{Pending}
+use Rattle.plural_rule.specs.declared.pending.Pending.TheVariants.{Not as NotPending, Open as OpenPending}
+use Rattle.plural_rule.specs.declared.pending.Pending.TheVariants.{Binary as BinaryPending, Question as QuestionPending}
+use Rattle.plural_rule.specs.declared.pending.Pending.TheVariants.{Colon as ColonPending}
 use Rattle.plural_rule.specs.declared.token.Token.{Token}
 use Rattle.plural_rule.specs.declared.token.Token.TheVariants.{Number as NumberToken, Binary as BinaryToken}
 use Rattle.plural_rule.specs.Expression.{Tree}
-use Rattle.plural_rule.specs.Grammar.{level, Spelt}
+use Rattle.plural_rule.specs.Grammar.{Spelt}
 use Rattle.plural_rule.specs.Instruction.{count_instruction, not_instruction, binary_instruction, choose_instruction}
 use Rattle.plural_rule.specs.Instruction.{jump_instruction}
 use Rattle.plural_rule.specs.PluralRule.{IsReadable}
@@ -48,7 +48,7 @@ pub record Held : Type 0 where
   pub start : ℕ
 
 abbrev pub held : {N : ℕ} → List Instruction → Parts N → Held
-held {N} code parts = record { code = code; entries = parts.waiting.items; start = parts.start }
+held {N} code parts = record { code = code; entries = parts.waiting; start = parts.start }
 
 -- that stands for what waits
 pub record IsWaiting (parser : Held) (stack : List Waiting) : Type 0 where
@@ -91,14 +91,6 @@ with_skip skip i = record { kind = i.kind; operator = i.operator; count = skip; 
 abbrev pub skipping : ℕ → ℕ → List Instruction → List Instruction
 skipping index skip code = edited (with_skip skip) index code
 
--- the operand completes what waits, where an operator of this level follows it
-abbrev pub binds : ℕ → Pending → Bool
-binds k NotPending = true
-binds k OpenPending = false
-binds k (BinaryPending op first) = nat_le k (level op)
-binds k (QuestionPending first) = false
-binds k (ColonPending first) = k == 0
-
 -- the instructions once it has, and where the new operand begins
 abbrev pub completed_program : Pending → ℕ → List Instruction → List Instruction
 completed_program NotPending start code = begun start code ++ not_instruction ∷ []
@@ -114,16 +106,6 @@ first_of OpenPending start = start
 first_of (BinaryPending op first) start = first
 first_of (QuestionPending first) start = first
 first_of (ColonPending first) start = first
-
--- how many instructions are added for what waits once it is complete
-abbrev pub weight_of : Pending → ℕ
-weight_of NotPending = 1
-weight_of (BinaryPending op first) = 1
-weight_of _ = 0
-
-abbrev pub weight : List Pending → ℕ
-weight [] = 0
-weight (p ∷ entries) = weight_of p + weight entries
 
 -- how many instructions a token adds at most
 abbrev pub most_added : Token → ℕ

@@ -1,6 +1,6 @@
 //! The value of an expression at a count, by its program: one instruction after the other, with
 //! jumps that go forward only.
-ghost use Rattle.std.specs.Prelude.{◌≡◌, ℕ, ◌+◌, ◌*◌, ◌^◌, ◌<◌, ◌≤◌, List, ◌∷◌, length, drop, slice_index_or, ⊤, MatchOption, IfSome, OnSome};
+ghost use Rattle.std.specs.Prelude.{◌≡◌, ℕ, ◌+◌, ◌*◌, ◌^◌, ◌<◌, ◌≤◌, List, ◌∷◌, length, drop, slice_index_or, ⊤, MatchOption, OnSome};
 ghost use Rattle.plural_rule.specs.declared.instruction.Instruction.{Instruction};
 ghost use Rattle.plural_rule.specs.declared.instruction.Action.TheVariants.{Binary};
 ghost use Rattle.plural_rule.specs.Instruction.{action_of};
@@ -58,18 +58,21 @@ fn evaluate_within<const N: usize>(instructions: &[Instruction], count: u64) -> 
     let mut steps = 0;
     let mut index = 0;
     while index < instructions.len() {
-        let action = instructions[index].action();
+        let instruction = instructions[index];
         index += 1;
-        if let Some((operand, begins)) = leaf(action, count)
-            && let Some(operator) = operator_at(instructions, index)
-        {
-            steps += begins as u32;
+        if let Some(operand) = leaf(instruction, count) {
+            steps += instruction.count as u32;
+            let Some(operator) = operator_at(instructions, index) else {
+                values.push(operand);
+                continue;
+            };
             let Some(skip) = apply(operator, operand, &mut values) else {
                 return (None, steps);
             };
             index += 1 + skip as usize;
             continue;
         }
+        let action = instruction.action();
         let Some(skip) = act(action, instructions, index, count, &mut values, &mut steps) else {
             return (None, steps);
         };
@@ -90,17 +93,19 @@ fn low_at(instructions: &[Instruction], index: usize) -> u32
     }
 }
 
-/// The value of `n` or of a numeral below 2^32, and how many nodes begin with it.
+/// The value of `n` or of a numeral below 2^32.
 #[inline(always)]
-fn leaf(action: Action, count: u64) -> Option<(u64, u16)>
-    ensures next { MatchOption result ⊤ (λ r. (low : ℕ) (values : List ℕ) →
-        act count action low values ≡ Go 0 (r.0 ∷ values) r.1) }
-    ensures fits { IfSome result (λ r. r.1 < 2 ^ 16) }
+fn leaf(instruction: Instruction, count: u64) -> Option<u64>
+    ensures next { MatchOption result ⊤ (λ operand. (low : ℕ) (values : List ℕ) →
+        act count (action_of instruction) low values ≡ Go 0 (operand ∷ values) instruction.count) }
+    ensures fits { instruction.count < 2 ^ 16 }
 {
-    match action {
-        Action::Count(begins) => Some((count, begins)),
-        Action::Number(begins, number) => Some((number as u64, begins)),
-        _ => None,
+    if instruction.kind == 0 {
+        Some(count)
+    } else if instruction.kind == 1 {
+        Some(instruction.number as u64)
+    } else {
+        None
     }
 }
 

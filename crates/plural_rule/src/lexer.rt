@@ -74,6 +74,7 @@ pub(crate) fn decimal_value(digits: &[u8]) -> Option<u64>
 /// The token at the beginning of a text, the longest that fits, and how many bytes it has.
 ///
 /// `None` where no token begins the text, or only a numeral of 2^64 or more.
+#[inline(always)]
 pub(crate) fn token(text: &[u8]) -> Option<(Token, usize)>
     requires { 0 < length text.now }
     ensures { MatchOption result (HasNoToken text.now) (λ r. IsTokenAt text.now r.0 r.1) }
@@ -92,6 +93,7 @@ pub(crate) fn token(text: &[u8]) -> Option<(Token, usize)>
 }
 
 /// The numeral at the beginning of a text that begins with a digit.
+#[inline(always)]
 fn numeral(text: &[u8]) -> Option<(Token, usize)>
     requires some { 0 < length text.now }
     requires digit { is_ascii_digit (slice_index text.now 0) ≡ true }

@@ -8,8 +8,8 @@
 //! [`Rule::parse`] reads a rule, [`Rule::parse_into`] into memory of the caller, and [`evaluate`]
 //! computes its value at a count.
 //!
-//! The modules in reading order: `operator`, `token`, `lexer`, `instruction`, `parts`, `parser`,
-//! `values`, `evaluator`, `header`, `rule`, `laws`.
+//! The modules in reading order: `operator`, `token`, `lexer`, `instruction`, `pending`, `parts`,
+//! `parser`, `values`, `evaluator`, `header`, `rule`, `laws`.
 
 #![tactic(auto)]
 
@@ -21,6 +21,7 @@ mod lexer;
 mod operator;
 mod parser;
 mod parts;
+mod pending;
 mod rule;
 mod token;
 mod values;

@@ -17,40 +17,40 @@
 //! The instructions stand in memory of the caller, and what waits for an operand in an array of fixed
 //! size, so the machine's stack doesn't grow with the expression.
 ghost use Rattle.std.specs.Prelude.{◌≡◌, ◌+◌, ◌<◌, ◌≤◌, List, ◌∷◌, Some, None, true, false, length, take, MatchBool, OnSome};
-ghost use Rattle.arrayvec.specs.ArrayVec.{array_vec_len};
 ghost use Rattle.plural_rule.specs.Expression.{Tree};
 ghost use Rattle.plural_rule.specs.ShiftReduce.{Waiting, WaitBinary, WaitQuestion, State, reduce, want_step, have_step, step, finish, at_colon};
 ghost use Rattle.plural_rule.specs.declared.token.Token.TheVariants.{Binary as BinaryToken};
-ghost use Rattle.plural_rule.specs.ParserState.{held, IsWaiting, IsOperand, Represents, Answers, HoldsTree, HoldsExpression, weight, most_added};
+ghost use Rattle.plural_rule.specs.ParserState.{held, IsWaiting, IsOperand, Represents, Answers, HoldsTree, HoldsExpression, most_added};
+ghost use Rattle.plural_rule.specs.Pending.{weight};
 ghost use Rattle.plural_rule.specs.Grammar.{Spelt};
 ghost use Rattle.plural_rule.specs.PluralRule.{expression_limit};
 
 use crate::instruction::Instruction;
 use crate::lexer;
 use crate::operator::Operator;
-use crate::parts::{
-    Parts, Pending, Room, begin, complete, push, push_branch, push_numeral, skip_operand,
-};
+use crate::parts::{Parts, Room, begin, complete, push, push_branch, push_numeral, skip_operand};
+use crate::pending::Pending;
 use crate::token::Token;
 
 /// The most bytes of a text that is read with the smaller stack: the larger one takes longer to set up.
 const SHORT: usize = 240;
 
 /// Completes what waits for the last operand and binds at least as tight as `next_level`.
+#[inline(always)]
 fn reduce<const N: usize>(room: &mut Room, len: &mut usize, parts: &mut Parts<N>, next_level: u8)
-    requires count { array_vec_len parts.old.waiting ≤ N }
-    requires weight { len.old + weight parts.old.waiting.items ≤ expression_limit }
+    requires count { length parts.old.waiting ≤ N }
+    requires weight { len.old + weight parts.old.waiting ≤ expression_limit }
     ensures reduced { (waiting : List Waiting) (tree : Tree) →
         IsOperand (held (take len.old room.old) parts.old) waiting tree →
         IsOperand (held (take len.new room.new) parts.new)
         (reduce next_level waiting tree).stack (reduce next_level waiting tree).tree }
-    ensures weight { len.new + weight parts.new.waiting.items
-        ≤ len.old + weight parts.old.waiting.items }
-    ensures count { array_vec_len parts.new.waiting ≤ array_vec_len parts.old.waiting }
+    ensures weight { len.new + weight parts.new.waiting
+        ≤ len.old + weight parts.old.waiting }
+    ensures count { length parts.new.waiting ≤ length parts.old.waiting }
 {
-    while let Some(top) = parts.pop() {
+    while let Some(top) = parts.waiting.pop() {
         if !top.binds(next_level) {
-            parts.push(top);
+            parts.waiting.push(top);
             return;
         }
         parts.start = complete(room, len, parts.start, top);
@@ -65,14 +65,14 @@ fn take_operand<const N: usize>(
     parts: &mut Parts<N>,
     token: Token,
 ) -> Option<bool>
-    requires weight { len.old + weight parts.old.waiting.items + most_added token ≤ expression_limit }
-    requires count { array_vec_len parts.old.waiting < N }
+    requires weight { len.old + weight parts.old.waiting + most_added token ≤ expression_limit }
+    requires count { length parts.old.waiting < N }
     ensures step { (waiting : List Waiting) →
         IsWaiting (held (take len.old room.old) parts.old) waiting →
         Answers (want_step waiting token) result (held (take len.new room.new) parts.new) }
-    ensures weight { OnSome result (len.new + weight parts.new.waiting.items
-        ≤ len.old + weight parts.old.waiting.items + most_added token) }
-    ensures count { OnSome result (array_vec_len parts.new.waiting ≤ array_vec_len parts.old.waiting + 1) }
+    ensures weight { OnSome result (len.new + weight parts.new.waiting
+        ≤ len.old + weight parts.old.waiting + most_added token) }
+    ensures count { OnSome result (length parts.new.waiting ≤ length parts.old.waiting + 1) }
 {
     match token {
         Token::Count => {
@@ -86,11 +86,11 @@ fn take_operand<const N: usize>(
             Some(true)
         }
         Token::Not => {
-            parts.push(Pending::Not);
+            parts.waiting.push(Pending::Not);
             Some(false)
         }
         Token::Open => {
-            parts.push(Pending::Open);
+            parts.waiting.push(Pending::Open);
             Some(false)
         }
         _ => None,
@@ -104,54 +104,54 @@ fn wait_binary<const N: usize>(
     parts: &mut Parts<N>,
     operator: Operator,
 )
-    requires weight { len.old + weight parts.old.waiting.items + most_added (BinaryToken operator) ≤ expression_limit }
-    requires count { array_vec_len parts.old.waiting < N }
+    requires weight { len.old + weight parts.old.waiting + most_added (BinaryToken operator) ≤ expression_limit }
+    requires count { length parts.old.waiting < N }
     ensures step { (waiting : List Waiting) (tree : Tree) →
         IsOperand (held (take len.old room.old) parts.old) waiting tree →
         IsWaiting (held (take len.new room.new) parts.new) (WaitBinary operator tree ∷ waiting) }
-    ensures weight { len.new + weight parts.new.waiting.items
-        ≤ len.old + weight parts.old.waiting.items + most_added (BinaryToken operator) }
-    ensures count { array_vec_len parts.new.waiting ≤ array_vec_len parts.old.waiting + 1 }
+    ensures weight { len.new + weight parts.new.waiting
+        ≤ len.old + weight parts.old.waiting + most_added (BinaryToken operator) }
+    ensures count { length parts.new.waiting ≤ length parts.old.waiting + 1 }
 {
     begin(room, *len, parts.start);
     push_branch(room, len, operator);
-    parts.push(Pending::Binary(operator, parts.start));
+    parts.waiting.push(Pending::Binary(operator, parts.start));
 }
 
 /// Goes on with `?` after a condition.
 fn wait_question<const N: usize>(room: &mut Room, len: &mut usize, parts: &mut Parts<N>)
-    requires weight { len.old + weight parts.old.waiting.items < expression_limit }
-    requires count { array_vec_len parts.old.waiting < N }
+    requires weight { len.old + weight parts.old.waiting < expression_limit }
+    requires count { length parts.old.waiting < N }
     ensures step { (waiting : List Waiting) (tree : Tree) →
         IsOperand (held (take len.old room.old) parts.old) waiting tree →
         IsWaiting (held (take len.new room.new) parts.new) (WaitQuestion tree ∷ waiting) }
-    ensures weight { len.new + weight parts.new.waiting.items
-        ≤ len.old + weight parts.old.waiting.items + 1 }
-    ensures count { array_vec_len parts.new.waiting ≤ array_vec_len parts.old.waiting + 1 }
+    ensures weight { len.new + weight parts.new.waiting
+        ≤ len.old + weight parts.old.waiting + 1 }
+    ensures count { length parts.new.waiting ≤ length parts.old.waiting + 1 }
 {
     begin(room, *len, parts.start);
     push(room, len, Instruction::choose());
-    parts.push(Pending::Question(parts.start));
+    parts.waiting.push(Pending::Question(parts.start));
 }
 
 /// Goes on with `:` after the second operand, or says that no `?` waits for it.
 fn wait_colon<const N: usize>(room: &mut Room, len: &mut usize, parts: &mut Parts<N>) -> bool
-    requires count { array_vec_len parts.old.waiting ≤ N }
-    requires weight { len.old + weight parts.old.waiting.items < expression_limit }
+    requires count { length parts.old.waiting ≤ N }
+    requires weight { len.old + weight parts.old.waiting < expression_limit }
     ensures step { (waiting : List Waiting) (tree : Tree) →
         IsOperand (held (take len.old room.old) parts.old) waiting tree →
         MatchBool result (Answers (at_colon waiting tree) (Some false) (held (take len.new room.new) parts.new))
         (at_colon waiting tree ≡ None) }
-    ensures weight { len.new + weight parts.new.waiting.items
-        ≤ len.old + weight parts.old.waiting.items + 1 }
-    ensures count { array_vec_len parts.new.waiting ≤ array_vec_len parts.old.waiting }
+    ensures weight { len.new + weight parts.new.waiting
+        ≤ len.old + weight parts.old.waiting + 1 }
+    ensures count { length parts.new.waiting ≤ length parts.old.waiting }
 {
-    let Some(Pending::Question(first)) = parts.pop() else {
+    let Some(Pending::Question(first)) = parts.waiting.pop() else {
         return false;
     };
     skip_operand(room, *len, parts.start, 1);
     push(room, len, Instruction::jump());
-    parts.push(Pending::Colon(first));
+    parts.waiting.push(Pending::Colon(first));
     true
 }
 
@@ -163,14 +163,14 @@ fn take_operator<const N: usize>(
     parts: &mut Parts<N>,
     token: Token,
 ) -> Option<bool>
-    requires weight { len.old + weight parts.old.waiting.items + most_added token ≤ expression_limit }
-    requires count { array_vec_len parts.old.waiting < N }
+    requires weight { len.old + weight parts.old.waiting + most_added token ≤ expression_limit }
+    requires count { length parts.old.waiting < N }
     ensures step { (waiting : List Waiting) (tree : Tree) →
         IsOperand (held (take len.old room.old) parts.old) waiting tree →
         Answers (have_step waiting tree token) result (held (take len.new room.new) parts.new) }
-    ensures weight { OnSome result (len.new + weight parts.new.waiting.items
-        ≤ len.old + weight parts.old.waiting.items + most_added token) }
-    ensures count { OnSome result (array_vec_len parts.new.waiting ≤ array_vec_len parts.old.waiting + 1) }
+    ensures weight { OnSome result (len.new + weight parts.new.waiting
+        ≤ len.old + weight parts.old.waiting + most_added token) }
+    ensures count { OnSome result (length parts.new.waiting ≤ length parts.old.waiting + 1) }
 {
     match token {
         Token::Binary(operator) => {
@@ -193,7 +193,7 @@ fn take_operator<const N: usize>(
         }
         Token::Close => {
             reduce(room, len, parts, 0);
-            let Some(Pending::Open) = parts.pop() else {
+            let Some(Pending::Open) = parts.waiting.pop() else {
                 return None;
             };
             Some(true)
@@ -211,14 +211,14 @@ fn take<const N: usize>(
     complete: bool,
     token: Token,
 ) -> Option<bool>
-    requires weight { len.old + weight parts.old.waiting.items + most_added token ≤ expression_limit }
-    requires count { array_vec_len parts.old.waiting < N }
+    requires weight { len.old + weight parts.old.waiting + most_added token ≤ expression_limit }
+    requires count { length parts.old.waiting < N }
     ensures step { (state : State) →
         Represents (held (take len.old room.old) parts.old) complete state →
         Answers (step state token) result (held (take len.new room.new) parts.new) }
-    ensures weight { OnSome result (len.new + weight parts.new.waiting.items
-        ≤ len.old + weight parts.old.waiting.items + most_added token) }
-    ensures count { OnSome result (array_vec_len parts.new.waiting ≤ array_vec_len parts.old.waiting + 1) }
+    ensures weight { OnSome result (len.new + weight parts.new.waiting
+        ≤ len.old + weight parts.old.waiting + most_added token) }
+    ensures count { OnSome result (length parts.new.waiting ≤ length parts.old.waiting + 1) }
 {
     if complete {
         take_operator(room, len, parts, token)
@@ -234,8 +234,8 @@ fn finish<const N: usize>(
     parts: &mut Parts<N>,
     complete: bool,
 ) -> bool
-    requires count { array_vec_len parts.old.waiting ≤ N }
-    requires weight { len.old + weight parts.old.waiting.items ≤ expression_limit }
+    requires count { length parts.old.waiting ≤ N }
+    requires weight { len.old + weight parts.old.waiting ≤ expression_limit }
     ensures tree { (state : State) →
         Represents (held (take len.old room.old) parts.old) complete state →
         MatchBool result (HoldsTree (finish state) (take len.new room.new)) (finish state ≡ None) }
@@ -271,7 +271,8 @@ fn parse_within<const N: usize>(text: &[u8], room: &mut Room, len: &mut usize) -
         ((tree : Tree) → Spelt tree text.now → ⊥) }
     ensures limit { result ≡ true → len.new ≤ expression_limit }
 {
-    *len = 0;
+    // A count of its own stays in a register.
+    let mut count = 0;
     let mut parts: Parts<N> = Parts::new();
     let mut complete = false;
     let mut rest = lexer::without_blanks(text);
@@ -279,11 +280,13 @@ fn parse_within<const N: usize>(text: &[u8], room: &mut Room, len: &mut usize) -
         let Some((token, token_len)) = lexer::token(rest) else {
             return false;
         };
-        let Some(taken) = take(room, len, &mut parts, complete, token) else {
+        let Some(taken) = take(room, &mut count, &mut parts, complete, token) else {
             return false;
         };
         complete = taken;
         rest = lexer::without_blanks(&rest[token_len..]);
     }
-    finish(room, len, &mut parts, complete)
+    let whole = finish(room, &mut count, &mut parts, complete);
+    *len = count;
+    whole
 }

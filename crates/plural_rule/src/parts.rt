@@ -1,94 +1,35 @@
 //! What the parser holds: the instructions so far, and what waits for an operand.
-ghost use Rattle.std.specs.Prelude.{◌≡◌, ◌+◌, ◌-◌, ◌<◌, ◌≤◌, [], ◌∷◌, ◌++◌, length, take, MatchOption, IfSome, IfNone, OnSome};
-ghost use Rattle.arrayvec.specs.ArrayVec.{array_vec_len};
-ghost use Rattle.plural_rule.specs.ParserState.{begun, skipping, binds, completed_program, first_of, weight_of, weight};
+ghost use Rattle.std.specs.Prelude.{◌≡◌, ◌+◌, ◌-◌, ◌<◌, ◌≤◌, [], ◌∷◌, ◌++◌, length, take};
+ghost use Rattle.plural_rule.specs.ParserState.{begun, skipping, completed_program, first_of};
+ghost use Rattle.plural_rule.specs.Pending.{weight_of};
 ghost use Rattle.plural_rule.specs.PluralRule.{expression_limit};
 ghost use Rattle.plural_rule.specs.Program.{numeral_program, branch_program};
 
 use crate::instruction::Instruction;
 use crate::operator::Operator;
+use crate::pending::{Pending, Stack};
 use crate::rule::EXPRESSION_LIMIT;
-use arrayvec::ArrayVec;
 
 /// The memory of the caller, whose first instructions are the program.
 pub(crate) type Room = [Instruction; EXPRESSION_LIMIT];
 
-/// What waits for its last operand, with the index at which its instructions begin.
-#[derive(Clone, Copy, Drop)]
-pub(crate) enum Pending {
-    /// `(`
-    Open,
-    /// `!`
-    Not,
-    /// `a` and an operator
-    Binary(Operator, u16),
-    /// `a ?`
-    Question(u16),
-    /// `a ? b :`
-    Colon(u16),
-}
-
-impl Default for Pending {
-    fn default() -> Pending {
-        Pending::Open
-    }
-}
-
-impl Pending {
-    /// Whether an operand completes it, where an operator of level `next_level` follows.
-    pub(crate) fn binds(self, next_level: u8) -> bool
-        ensures { result ≡ binds next_level self }
-    {
-        match self {
-            Pending::Not => true,
-            Pending::Binary(operator, _) => next_level <= operator.level(),
-            Pending::Colon(_) => next_level == 0,
-            Pending::Open | Pending::Question(_) => false,
-        }
-    }
-}
-
-/// What waits, `N` at most and the newest last, and where the last complete operand begins.
+/// What waits, and where the last complete operand begins.
 #[derive(Drop)]
 pub(crate) struct Parts<const N: usize> {
-    pub(crate) waiting: ArrayVec<Pending, N>,
+    pub(crate) waiting: Stack<N>,
     pub(crate) start: u16,
 }
 
 impl<const N: usize> Parts<N> {
     /// Nothing waits.
     pub(crate) fn new() -> Self
-        requires { N ≤ expression_limit }
-        ensures waiting { result.waiting.items ≡ [] }
+        ensures waiting { result.waiting ≡ [] }
         ensures start { result.start ≡ 0 }
     {
         Parts {
-            waiting: ArrayVec::new(),
+            waiting: Stack::new(),
             start: 0,
         }
-    }
-
-    /// Adds to what waits.
-    pub(crate) fn push(&mut self, pending: Pending)
-        requires { array_vec_len self.old.waiting < N }
-        ensures items { self.new.waiting.items ≡ self.old.waiting.items ++ pending ∷ [] }
-        ensures weight { weight self.new.waiting.items ≡ weight self.old.waiting.items + weight_of pending }
-        ensures count { array_vec_len self.new.waiting ≡ array_vec_len self.old.waiting + 1 }
-        ensures start { self.new.start ≡ self.old.start }
-    {
-        self.waiting.push(pending);
-    }
-
-    /// Takes the newest of what waits.
-    pub(crate) fn pop(&mut self) -> Option<Pending>
-        ensures items { MatchOption result (self.old.waiting.items ≡ [])
-            (λ top. self.old.waiting.items ≡ self.new.waiting.items ++ top ∷ []) }
-        ensures weight { IfSome result (λ top. weight self.old.waiting.items ≡ weight self.new.waiting.items + weight_of top) }
-        ensures count { OnSome result (array_vec_len self.old.waiting ≡ array_vec_len self.new.waiting + 1) }
-        ensures none { IfNone result (self.new ≡ self.old) }
-        ensures start { self.new.start ≡ self.old.start }
-    {
-        self.waiting.pop()
     }
 }
 
@@ -163,6 +104,7 @@ pub(crate) fn push_numeral(room: &mut Room, len: &mut usize, value: u64)
 }
 
 /// Completes what waits for the last operand, which begins at `start`: where the new one begins.
+#[inline(always)]
 pub(crate) fn complete(room: &mut Room, len: &mut usize, start: u16, top: Pending) -> u16
     requires { len.old + weight_of top ≤ expression_limit }
     ensures items { take len.new room.new ≡ completed_program top start (take len.old room.old) }

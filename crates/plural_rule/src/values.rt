@@ -6,20 +6,22 @@ use std::marker::Model;
 
 /// The values of complete operands, `N` at most, the newest first.
 ///
-/// The array is borrowed, so that the count stays in a register.
+/// The array is borrowed, so that the newest value and the count stay in registers. It holds the
+/// values before the newest, after a first one that isn't read.
 #[derive(Drop)]
 pub(crate) struct Values<'v, const N: usize> {
     stack: &'v mut [u64; N],
     count: usize,
+    newest: u64,
 }
 
 impl<'v, const N: usize> Model for Values<'v, N> {
-    ghost use Rattle.std.specs.Prelude.{◌≡◌, ◌≤◌, ℕ, List, length, take, reverse};
+    ghost use Rattle.std.specs.Prelude.{◌≡◌, ◌≤◌, ℕ, List, ◌∷◌, length, take, reverse};
     ghost use Rattle.plural_rule.specs.PluralRule.{expression_limit};
 
     ghost Value = { List ℕ };
 
-    ghost view = { λ v. reverse (take v.count v.stack.now) };
+    ghost view = { λ v. take v.count (v.newest ∷ reverse (take v.count v.stack.now)) };
 
     ghost invariant = { λ v. (v.count ≤ N) × (length v.stack.now ≡ N) × (N ≤ expression_limit) };
 }
@@ -31,7 +33,11 @@ impl<'v, const N: usize> Values<'v, N> {
         requires { N ≤ expression_limit }
         ensures { result ≡ [] }
     {
-        Values { stack, count: 0 }
+        Values {
+            stack,
+            count: 0,
+            newest: 0,
+        }
     }
 
     /// Adds a value.
@@ -40,7 +46,8 @@ impl<'v, const N: usize> Values<'v, N> {
         requires { length self.old < N }
         ensures { self.new ≡ value ∷ self.old }
     {
-        self.stack[self.count] = value;
+        self.stack[self.count] = self.newest;
+        self.newest = value;
         self.count += 1;
     }
 
@@ -52,7 +59,9 @@ impl<'v, const N: usize> Values<'v, N> {
         if self.count == 0 {
             return None;
         }
+        let value = self.newest;
         self.count -= 1;
-        Some(self.stack[self.count])
+        self.newest = self.stack[self.count];
+        Some(value)
     }
 }

@@ -1,17 +1,21 @@
-use Rattle.std.proofs.Common.{◌≡◌, ◌∙◌, ℕ, List, [], ◌∷◌, Option, None, Some, MatchOption, refl, ap, arith}
-use Rattle.plural_rule.specs.Instruction.{count_instruction}
+use Rattle.std.proofs.Common.{◌≡◌, ◌∙◌, get_or, ℕ, List, [], ◌∷◌, Option, None, Some, MatchOption, refl, ap, arith}
+use Rattle.plural_rule.specs.Instruction.{action_of}
 use Rattle.plural_rule.specs.Program.{tree_of}
 use Rattle.plural_rule.specs.Run.{Outcome, newest_value}
-use Rattle.plural_rule.proofs.Programs.{starts, goes-on, goes-on-pair, stops, stops-pair, ends}
+use Rattle.plural_rule.specs.declared.instruction.Instruction.{Instruction}
+use Rattle.plural_rule.proofs.Programs.{starts, begun-pair, goes-on, goes-on-pair, stops, stops-pair, ends}
 use Rattle.plural_rule.proofs.Uniqueness.{visited-le-nodes}
 use Rattle.plural_rule.proofs.evaluator.evaluate_within.Goals as goal
 
+abbrev none : Instruction
+none = record { kind = 0; operator = 0; count = 0; number = 0 }
+
 pub loop-index-init : goal.loop-index-init
 loop-index-init g c =
-    let none = c.new-values.ensures in
+    let empty = c.new-values.ensures in
     record {
-      runs = starts c.args.count c.args.instructions.now (tree_of c.args.instructions.now) c.new-values.result c.requires.program none;
-      few = rw none (omega arith);
+      runs = starts c.args.count c.args.instructions.now (tree_of c.args.instructions.now) c.new-values.result c.requires.program empty;
+      few = rw empty (omega arith);
       bound = omega arith;
     }
 
@@ -38,31 +42,48 @@ pub returns-in_default-act-clause-bound : goal.returns-in_default-act-clause-bou
 returns-in_default-act-clause-bound g c =
     omega (arith, returns-in_default-act-clause-steps g c, visited-le-nodes (tree_of c.args.instructions.now) c.args.count)
 
-pub loop-index-preserved-in-loop-index : goal.loop-index-preserved-in-loop-index
-loop-index-preserved-in-loop-index g c =
+pub loop-index-preserved-in_default-operator_at : goal.loop-index-preserved-in_default-operator_at
+loop-index-preserved-in_default-operator_at g c =
+    let code = c.args.instructions.now in
+    let i = c.loop-index.index in
+    let values = c.loop-index.values in
+    record {
+      runs = rw c.push.ensures (begun-pair c.args.count code i _ (action_of (get_or code i none)) c.in-Some.operand _ values c.loop-index.steps _ c.loop-index-test.true c.loop-index.invariant.runs refl c.in-Some.ensures.next);
+      few = rw c.push.ensures (omega (arith, c.loop-index.invariant.few));
+      bound = omega (arith, c.loop-index.invariant.bound, c.leaf.ensures.fits);
+    }
+
+pub loop-index-preserved-in-Some : goal.loop-index-preserved-in-Some
+loop-index-preserved-in-Some g c =
+    let code = c.args.instructions.now in
+    let i = c.loop-index.index in
     let at = c.in-Some-operator_at.ensures in
     let applied = c.in-Some-apply.ensures in
     record {
-      runs = goes-on-pair c.args.count c.args.instructions.now c.loop-index.index _ (count_instruction 1) c.action-action.result c.in-Some-operator_at.operator c.in-Some.operand c.in-Some.begins c.loop-index.values c.apply.new.values c.loop-index.steps c.in-Some-apply.skip _ at.0 c.loop-index.invariant.runs c.action-action.ensures c.in-Some.ensures.next (at.1 (count_instruction 1)) (applied.leads c.args.count);
+      runs = goes-on-pair c.args.count code i none none (action_of (get_or code i none)) c.in-Some-operator_at.operator c.in-Some.operand _ c.loop-index.values c.apply.new.values c.loop-index.steps c.in-Some-apply.skip _ at.0 c.loop-index.invariant.runs refl c.in-Some.ensures.next (at.1 none) (applied.leads c.args.count);
       few = omega (arith, applied.few, c.loop-index.invariant.few);
-      bound = omega (arith, c.loop-index.invariant.bound, c.in-Some.ensures.fits);
+      bound = omega (arith, c.loop-index.invariant.bound, c.leaf.ensures.fits);
     }
 
-pub returns-in_default-clause-value : goal.returns-in_default-clause-value
-returns-in_default-clause-value g c =
+pub returns-in_default-apply-clause-value : goal.returns-in_default-apply-clause-value
+returns-in_default-apply-clause-value g c =
+    let code = c.args.instructions.now in
+    let i = c.loop-index.index in
     let at = c.in-Some-operator_at.ensures in
-    let stopped = stops-pair c.args.count c.args.instructions.now c.loop-index.index _ (count_instruction 1) c.action-action.result c.in-Some-operator_at.operator c.in-Some.operand c.in-Some.begins c.loop-index.values c.apply.new.values c.loop-index.steps _ at.0 c.loop-index.invariant.runs c.action-action.ensures c.in-Some.ensures.next (at.1 (count_instruction 1)) (c.in_default.ensures.leads c.args.count) in
+    let stopped = stops-pair c.args.count code i none none (action_of (get_or code i none)) c.in-Some-operator_at.operator c.in-Some.operand _ c.loop-index.values c.apply.new.values c.loop-index.steps _ at.0 c.loop-index.invariant.runs refl c.in-Some.ensures.next (at.1 none) (c.in_default-apply.ensures.leads c.args.count) in
     ap (λ (o : Outcome). o.value) stopped
 
-pub returns-in_default-clause-steps : goal.returns-in_default-clause-steps
-returns-in_default-clause-steps g c =
+pub returns-in_default-apply-clause-steps : goal.returns-in_default-apply-clause-steps
+returns-in_default-apply-clause-steps g c =
+    let code = c.args.instructions.now in
+    let i = c.loop-index.index in
     let at = c.in-Some-operator_at.ensures in
-    let stopped = stops-pair c.args.count c.args.instructions.now c.loop-index.index _ (count_instruction 1) c.action-action.result c.in-Some-operator_at.operator c.in-Some.operand c.in-Some.begins c.loop-index.values c.apply.new.values c.loop-index.steps _ at.0 c.loop-index.invariant.runs c.action-action.ensures c.in-Some.ensures.next (at.1 (count_instruction 1)) (c.in_default.ensures.leads c.args.count) in
+    let stopped = stops-pair c.args.count code i none none (action_of (get_or code i none)) c.in-Some-operator_at.operator c.in-Some.operand _ c.loop-index.values c.apply.new.values c.loop-index.steps _ at.0 c.loop-index.invariant.runs refl c.in-Some.ensures.next (at.1 none) (c.in_default-apply.ensures.leads c.args.count) in
     ap (λ (o : Outcome). o.steps) stopped
 
-pub returns-in_default-clause-bound : goal.returns-in_default-clause-bound
-returns-in_default-clause-bound g c =
-    omega (arith, returns-in_default-clause-steps g c, visited-le-nodes (tree_of c.args.instructions.now) c.args.count)
+pub returns-in_default-apply-clause-bound : goal.returns-in_default-apply-clause-bound
+returns-in_default-apply-clause-bound g c =
+    omega (arith, returns-in_default-apply-clause-steps g c, visited-le-nodes (tree_of c.args.instructions.now) c.args.count)
 
 popped : (values new : List ℕ) (v : Option ℕ) → MatchOption v (values ≡ []) (λ value. values ≡ value ∷ new) → v ≡ newest_value values
 popped values new None h = rw h refl

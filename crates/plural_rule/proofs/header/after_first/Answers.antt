@@ -1,4 +1,4 @@
-use Rattle.std.proofs.Common.{◌≡◌, ◌+◌, ◌-◌, ◌<◌, ◌≤◌, Some, length, take, drop, ap, ◌∙◌, sym, rules, arith, inl, inr, length-take, length-drop}
+use Rattle.std.proofs.Common.{◌≡◌, ◌+◌, ◌-◌, ◌≤◌, Some, length, take, drop, ap, ◌∙◌, sym, rules, arith, inl, inr, length-take, length-drop}
 use Rattle.std.proofs.lemmas.Bool.{cases_lt, true≢false}
 use Rattle.memchr.specs.Find.{OccursAt}
 use Rattle.plural_rule.proofs.Searches.{none-before, ends-text, ends-part, found-within, after_first-none, after_first-some, rest_from}

@@ -1,6 +1,7 @@
 use Rattle.std.proofs.Common.{◌≡◌, ◌≢◌, ℕ, ◌<◌, ◌≤◌, ◌+◌, ◌-◌, List, [], ◌∷◌, length, take, drop, length-drop, refl, ap, arith, rules}
 use Rattle.std.proofs.lemmas.List.{take_all}
-use Rattle.plural_rule.specs.ParserState.{held, weight, most_added}
+use Rattle.plural_rule.specs.ParserState.{held, most_added}
+use Rattle.plural_rule.specs.Pending.{weight}
 use Rattle.plural_rule.proofs.ParserRun.{Reached, reached-start, reached-token, reached-end, no-token, no-index, most-added}
 use Rattle.plural_rule.proofs.parser.parse_within.Goals as goal
 
@@ -28,7 +29,7 @@ returns-in_default-clause-expression g c =
 pub take-requires : goal.take-requires
 take-requires g c =
     let at = c.in-Some.ensures in
-    let weight : c.loop-rest.len + weight c.loop-rest.parts.waiting.items + most_added c.in-Some.token ≤ 4096 = omega (arith, most-added c.loop-rest.rest.now c.in-Some.token c.in-Some.token_len at, at.within, c.loop-rest.invariant.weight, c.requires.room, c.requires.limit) in
+    let weight : c.loop-rest.count + weight c.loop-rest.parts.waiting + most_added c.in-Some.token ≤ 4096 = omega (arith, most-added c.loop-rest.rest.now c.in-Some.token c.in-Some.token_len at, at.within, c.loop-rest.invariant.weight, c.requires.room, c.requires.limit) in
     (search rules, (weight, omega (arith, at.some, at.within, c.loop-rest.invariant.count, c.requires.room)))
 
 pub returns-in_default-take-clause-expression : goal.returns-in_default-take-clause-expression
@@ -56,5 +57,5 @@ loop-rest-preserved g c =
 pub returns-clause-expression : goal.returns-clause-expression
 returns-clause-expression g c =
     let none : c.loop-rest.rest.now ≡ [] = empty c.loop-rest.rest.now (search rules) in
-    let r : Reached c.args.text.now [] (held (take c.loop-rest.len c.loop-rest.room) c.loop-rest.parts) c.loop-rest.complete = rw none at c.loop-rest.invariant.reached in
-    reached-end c.args.text.now _ _ _ c.finish.result r (c.finish.ensures.tree r.state r.represents)
+    let r : Reached c.args.text.now [] (held (take c.loop-rest.count c.loop-rest.room) c.loop-rest.parts) c.loop-rest.complete = rw none at c.loop-rest.invariant.reached in
+    reached-end c.args.text.now _ _ _ c.finish-whole.result r (c.finish-whole.ensures.tree r.state r.represents)

@@ -1,13 +1,14 @@
 use Rattle.std.proofs.Common.{take, ◌+◌, ◌≤◌, length}
-use Rattle.plural_rule.specs.ParserState.{held, weight}
+use Rattle.plural_rule.specs.ParserState.{held}
+use Rattle.plural_rule.specs.Pending.{weight}
 use Rattle.plural_rule.proofs.ParserRun.{Reached}
 use Rattle.plural_rule.proofs.parser.parse_within.Given as goal
 
 abbrev pub invariant-loop-rest : goal.invariant-loop-rest
 invariant-loop-rest g l = record {
-  reached : Reached l.fn.text l.rest (held (take l.len l.room) l.parts) l.complete;
-  weight : l.len + weight l.parts.waiting.items + length l.rest ≤ length l.fn.text;
-  count : length l.parts.waiting.items + length l.rest ≤ length l.fn.text;
+  reached : Reached l.fn.text l.rest (held (take l.count l.room) l.parts) l.complete;
+  weight : l.count + weight l.parts.waiting + length l.rest ≤ length l.fn.text;
+  count : length l.parts.waiting + length l.rest ≤ length l.fn.text;
 }
 
 abbrev pub decreases-loop-rest : goal.decreases-loop-rest

@@ -12,20 +12,20 @@ loop-top-preserved g c =
       weight = omega (arith, popped.weight, done.len, c.loop-top.invariant.weight);
       count = omega (arith, popped.count, c.loop-top.invariant.count);
       reduces = λ waiting tree h.
-          rw (done.items, done.start, popped.start)
-          (Reduces-more c.args.next_level c.loop-top.parts.start (take c.loop-top.len c.loop-top.room) c.loop-top.parts.waiting.items c.pop.new.self.waiting.items c.in-Some.top (reduce c.args.next_level waiting tree)
-          (c.loop-top.invariant.reduces waiting tree h) popped.items (take-short c.loop-top.len c.loop-top.room (omega (arith, c.loop-top.invariant.weight, c.requires.weight))) (sym c.binds.ensures ∙ c.if-not-binds.false));
+          rw (done.items, done.start)
+          (Reduces-more c.args.next_level c.loop-top.parts.start (take c.loop-top.len c.loop-top.room) c.loop-top.parts.waiting c.pop.new.self c.in-Some.top (reduce c.args.next_level waiting tree)
+          (c.loop-top.invariant.reduces waiting tree h) popped.items.0 (take-short c.loop-top.len c.loop-top.room (omega (arith, c.loop-top.invariant.weight, c.requires.weight))) (sym c.binds.ensures ∙ c.if-not-binds.false));
     }
 
 pub returns-then-not-binds-clause-reduced : goal.returns-then-not-binds-clause-reduced
 returns-then-not-binds-clause-reduced g c waiting tree h =
     let popped = c.in-Some.ensures in
-    let stops = Reduces-stop c.args.next_level (held (take c.loop-top.len c.loop-top.room) c.loop-top.parts) c.pop.new.self.waiting.items c.in-Some.top (reduce c.args.next_level waiting tree)
-    (c.loop-top.invariant.reduces waiting tree h) popped.items (sym c.binds.ensures ∙ c.if-not-binds.true) in
-    rw (c.push.ensures.items, c.push.ensures.start, popped.start, ← popped.items) stops
+    let stops = Reduces-stop c.args.next_level (held (take c.loop-top.len c.loop-top.room) c.loop-top.parts) c.pop.new.self c.in-Some.top (reduce c.args.next_level waiting tree)
+    (c.loop-top.invariant.reduces waiting tree h) popped.items.0 (sym c.binds.ensures ∙ c.if-not-binds.true) in
+    rw (c.push.ensures.items, popped.items.1, ← popped.items.0) stops
 
 pub returns-clause-reduced : goal.returns-clause-reduced
 returns-clause-reduced g c waiting tree h =
-    rw c.in_default.ensures.none
-    (Reduces-end c.args.next_level (held (take c.loop-top.len c.loop-top.room) c.loop-top.parts) (reduce c.args.next_level waiting tree) c.in_default.ensures.items
+    rw (c.in_default.ensures.items.1 ∙ sym c.in_default.ensures.items.0)
+    (Reduces-end c.args.next_level (held (take c.loop-top.len c.loop-top.room) c.loop-top.parts) (reduce c.args.next_level waiting tree) c.in_default.ensures.items.0
     (c.loop-top.invariant.reduces waiting tree h))

@@ -7,5 +7,5 @@ pub returns-clause-step : goal.returns-clause-step
 returns-clause-step g c waiting tree h =
     let code = (take c.args.len.now c.args.room.now) in
     let start = c.args.parts.now.start in
-    waits-question start _ code _ c.args.parts.now.waiting.items _ waiting tree h (take-short c.args.len.now c.args.room.now (omega arith))
+    waits-question start _ code _ c.args.parts.now.waiting _ waiting tree h (take-short c.args.len.now c.args.room.now (omega arith))
     (c.push.ensures.items ∙ ap (λ p. p ++ c.choose.result ∷ []) c.begin.ensures ∙ ap (λ i. begun start code ++ i ∷ []) c.choose.ensures) c.push-2.ensures.items

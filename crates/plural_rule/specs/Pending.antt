@@ -1,0 +1,45 @@
+-- Internal: what waits in the parser's stack for an operand.
+use Rattle.std.specs.Prelude.{ℕ, ◌+◌, ◌-◌, ◌/◌, ◌%◌, nat_le, ◌==◌, Bool, true, false, List, [], ◌∷◌, if◌then◌else◌}
+use Rattle.plural_rule.specs.declared.pending.Pending.{Pending}
+use Rattle.plural_rule.specs.declared.pending.Pending.TheVariants.{Not as NotPending, Open as OpenPending}
+use Rattle.plural_rule.specs.declared.pending.Pending.TheVariants.{Binary as BinaryPending, Question as QuestionPending}
+use Rattle.plural_rule.specs.declared.pending.Pending.TheVariants.{Colon as ColonPending}
+use Rattle.plural_rule.specs.Grammar.{level}
+use Rattle.plural_rule.specs.Instruction.{operator_of}
+
+-- what a number of 16 bits stands for: 12 bits are the index
+abbrev pub pending_by : ℕ → ℕ → Pending
+pending_by kind first =
+    if kind == 0 then (if first == 0 then OpenPending else NotPending)
+    else if kind == 1 then QuestionPending first
+    else if kind == 2 then ColonPending first
+    else BinaryPending (operator_of (kind - 3)) first
+
+abbrev pub pending_of : ℕ → Pending
+pending_of code = pending_by (code / 4096) (code % 4096)
+
+-- the same with an index below 4,096
+abbrev pub within : Pending → Pending
+within NotPending = NotPending
+within OpenPending = OpenPending
+within (BinaryPending op first) = BinaryPending op (first % 4096)
+within (QuestionPending first) = QuestionPending (first % 4096)
+within (ColonPending first) = ColonPending (first % 4096)
+
+-- the operand completes what waits, where an operator of this level follows it
+abbrev pub binds : ℕ → Pending → Bool
+binds k NotPending = true
+binds k OpenPending = false
+binds k (BinaryPending op first) = nat_le k (level op)
+binds k (QuestionPending first) = false
+binds k (ColonPending first) = k == 0
+
+-- how many instructions are added for what waits once it is complete
+abbrev pub weight_of : Pending → ℕ
+weight_of NotPending = 1
+weight_of (BinaryPending op first) = 1
+weight_of _ = 0
+
+abbrev pub weight : List Pending → ℕ
+weight [] = 0
+weight (p ∷ entries) = weight_of p + weight entries

@@ -1,0 +1,126 @@
+//! What waits for its last operand while an expression is read.
+ghost use Rattle.std.specs.Prelude.{◌≡◌, ◌+◌, ◌<◌, [], ◌∷◌, ◌++◌, length, ◌==◌, MatchOption, IfSome, OnSome};
+ghost use Rattle.plural_rule.specs.Pending.{binds, pending_of, within, weight, weight_of};
+
+use crate::operator::Operator;
+use arrayvec::ArrayVec;
+use std::marker::Model;
+
+/// What waits for its last operand, with the index at which its instructions begin.
+#[derive(Clone, Copy, Drop)]
+pub(crate) enum Pending {
+    /// `(`
+    Open,
+    /// `!`
+    Not,
+    /// `a` and an operator
+    Binary(Operator, u16),
+    /// `a ?`
+    Question(u16),
+    /// `a ? b :`
+    Colon(u16),
+}
+
+impl Pending {
+    /// Whether an operand completes it, where an operator of level `next_level` follows.
+    pub(crate) fn binds(self, next_level: u8) -> bool
+        ensures { result ≡ binds next_level self }
+    {
+        match self {
+            Pending::Not => true,
+            Pending::Binary(operator, _) => next_level <= operator.level(),
+            Pending::Colon(_) => next_level == 0,
+            Pending::Open | Pending::Question(_) => false,
+        }
+    }
+
+    /// The number that stands for it: 12 bits for the index, and 4 for the rest.
+    #[inline(always)]
+    fn code(self) -> u16
+        ensures { pending_of result ≡ within self }
+    {
+        match self {
+            Pending::Open => 0,
+            Pending::Not => 1,
+            Pending::Question(first) => 4096 + first % 4096,
+            Pending::Colon(first) => 8192 + first % 4096,
+            Pending::Binary(operator, first) => {
+                12288 + 4096 * operator.code() as u16 + first % 4096
+            }
+        }
+    }
+
+    /// That for which a number stands.
+    #[inline(always)]
+    fn of_code(code: u16) -> Pending
+        ensures { result ≡ pending_of code }
+    {
+        let first = code % 4096;
+        match code / 4096 {
+            0 if first == 0 => Pending::Open,
+            0 => Pending::Not,
+            1 => Pending::Question(first),
+            2 => Pending::Colon(first),
+            kind => Pending::Binary(Operator::of_code((kind - 3) as u8), first),
+        }
+    }
+}
+
+/// What waits, `N` at most and the newest last, in two bytes each.
+#[derive(Drop)]
+pub(crate) struct Stack<const N: usize> {
+    codes: ArrayVec<u16, N>,
+}
+
+impl<const N: usize> Model for Stack<N> {
+    ghost use Rattle.std.specs.Prelude.{List, map};
+    ghost use Rattle.plural_rule.specs.declared.pending.Pending.{Pending as Entry};
+    ghost use Rattle.plural_rule.specs.Pending.{pending_of};
+
+    ghost Value = { List Entry };
+
+    ghost view = { λ s. map pending_of s.codes.items };
+}
+
+impl<const N: usize> Stack<N> {
+    /// Nothing waits.
+    pub(crate) fn new() -> Self
+        ensures { result ≡ [] }
+    {
+        Stack {
+            codes: ArrayVec::new(),
+        }
+    }
+
+    /// Whether nothing waits.
+    pub(crate) fn is_empty(&self) -> bool
+        ensures { result ≡ (length self.now == 0) }
+    {
+        self.codes.is_empty()
+    }
+
+    /// Adds to what waits, with an index below 4,096.
+    #[inline(always)]
+    pub(crate) fn push(&mut self, pending: Pending)
+        requires { length self.old < N }
+        ensures items { self.new ≡ self.old ++ within pending ∷ [] }
+        ensures weight { weight self.new ≡ weight self.old + weight_of pending }
+        ensures count { length self.new ≡ length self.old + 1 }
+    {
+        self.codes.push(pending.code());
+    }
+
+    /// Takes the newest of what waits.
+    #[inline(always)]
+    pub(crate) fn pop(&mut self) -> Option<Pending>
+        ensures items { MatchOption result ((self.old ≡ []) × (self.new ≡ []))
+            (λ top. (self.old ≡ self.new ++ top ∷ []) × (within top ≡ top)) }
+        ensures weight { IfSome result (λ top. weight self.old ≡ weight self.new + weight_of top) }
+        ensures count { OnSome result (length self.old ≡ length self.new + 1) }
+    {
+        match self.codes.pop() {
+            Some(code) => Some(Pending::of_code(code)),
+            None => None,
+        }
+    }
+}
