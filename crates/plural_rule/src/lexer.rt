@@ -107,6 +107,7 @@ fn numeral(text: &[u8]) -> Option<(Token, usize)>
 }
 
 /// The operator that the first two bytes of a text spell.
+#[inline(always)]
 fn double_at(text: &[u8]) -> Option<Operator>
     ensures { MatchOption result (HasNoDouble text.now) (λ op. BeginsWithDouble text.now op) }
 {
@@ -118,6 +119,7 @@ fn double_at(text: &[u8]) -> Option<Operator>
 }
 
 /// The operator that two bytes spell.
+#[inline(always)]
 fn double(first: u8, second: u8) -> Option<Operator>
     ensures { MatchOption result ((op : Operator) → operator_bytes op ≡ first ∷ second ∷ [] → ⊥)
         (λ op. operator_bytes op ≡ first ∷ second ∷ []) }
@@ -134,6 +136,7 @@ fn double(first: u8, second: u8) -> Option<Operator>
 }
 
 /// The token that one byte spells, which isn't a digit.
+#[inline(always)]
 fn single(byte: u8) -> Option<Token>
     requires { is_ascii_digit byte ≡ false }
     ensures { MatchOption result ((t : Token) → IsSpelling t (byte ∷ []) → ⊥) (λ t. IsSpelling t (byte ∷ [])) }

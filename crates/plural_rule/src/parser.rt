@@ -37,7 +37,12 @@ const SHORT: usize = 240;
 
 /// Completes what waits for the last operand and binds at least as tight as `next_level`.
 #[inline(always)]
-fn reduce<const N: usize>(room: &mut Room, len: &mut usize, parts: &mut Parts<N>, next_level: u8)
+fn reduce<const N: usize>(
+    room: &mut Room,
+    len: &mut usize,
+    parts: &mut Parts<'_, N>,
+    next_level: u8,
+)
     requires count { length parts.old.waiting ≤ N }
     requires weight { len.old + weight parts.old.waiting ≤ expression_limit }
     ensures reduced { (waiting : List Waiting) (tree : Tree) →
@@ -62,7 +67,7 @@ fn reduce<const N: usize>(room: &mut Room, len: &mut usize, parts: &mut Parts<N>
 fn take_operand<const N: usize>(
     room: &mut Room,
     len: &mut usize,
-    parts: &mut Parts<N>,
+    parts: &mut Parts<'_, N>,
     token: Token,
 ) -> Option<bool>
     requires weight { len.old + weight parts.old.waiting + most_added token ≤ expression_limit }
@@ -101,7 +106,7 @@ fn take_operand<const N: usize>(
 fn wait_binary<const N: usize>(
     room: &mut Room,
     len: &mut usize,
-    parts: &mut Parts<N>,
+    parts: &mut Parts<'_, N>,
     operator: Operator,
 )
     requires weight { len.old + weight parts.old.waiting + most_added (BinaryToken operator) ≤ expression_limit }
@@ -119,7 +124,7 @@ fn wait_binary<const N: usize>(
 }
 
 /// Goes on with `?` after a condition.
-fn wait_question<const N: usize>(room: &mut Room, len: &mut usize, parts: &mut Parts<N>)
+fn wait_question<const N: usize>(room: &mut Room, len: &mut usize, parts: &mut Parts<'_, N>)
     requires weight { len.old + weight parts.old.waiting < expression_limit }
     requires count { length parts.old.waiting < N }
     ensures step { (waiting : List Waiting) (tree : Tree) →
@@ -135,7 +140,7 @@ fn wait_question<const N: usize>(room: &mut Room, len: &mut usize, parts: &mut P
 }
 
 /// Goes on with `:` after the second operand, or says that no `?` waits for it.
-fn wait_colon<const N: usize>(room: &mut Room, len: &mut usize, parts: &mut Parts<N>) -> bool
+fn wait_colon<const N: usize>(room: &mut Room, len: &mut usize, parts: &mut Parts<'_, N>) -> bool
     requires count { length parts.old.waiting ≤ N }
     requires weight { len.old + weight parts.old.waiting < expression_limit }
     ensures step { (waiting : List Waiting) (tree : Tree) →
@@ -160,7 +165,7 @@ fn wait_colon<const N: usize>(room: &mut Room, len: &mut usize, parts: &mut Part
 fn take_operator<const N: usize>(
     room: &mut Room,
     len: &mut usize,
-    parts: &mut Parts<N>,
+    parts: &mut Parts<'_, N>,
     token: Token,
 ) -> Option<bool>
     requires weight { len.old + weight parts.old.waiting + most_added token ≤ expression_limit }
@@ -207,7 +212,7 @@ fn take_operator<const N: usize>(
 fn take<const N: usize>(
     room: &mut Room,
     len: &mut usize,
-    parts: &mut Parts<N>,
+    parts: &mut Parts<'_, N>,
     complete: bool,
     token: Token,
 ) -> Option<bool>
@@ -231,7 +236,7 @@ fn take<const N: usize>(
 fn finish<const N: usize>(
     room: &mut Room,
     len: &mut usize,
-    parts: &mut Parts<N>,
+    parts: &mut Parts<'_, N>,
     complete: bool,
 ) -> bool
     requires count { length parts.old.waiting ≤ N }
@@ -273,7 +278,8 @@ fn parse_within<const N: usize>(text: &[u8], room: &mut Room, len: &mut usize) -
 {
     // A count of its own stays in a register.
     let mut count = 0;
-    let mut parts: Parts<N> = Parts::new();
+    let mut codes = [0; N];
+    let mut parts = Parts::new(&mut codes);
     let mut complete = false;
     let mut rest = lexer::without_blanks(text);
     while !rest.is_empty() {

@@ -15,19 +15,21 @@ pub(crate) type Room = [Instruction; EXPRESSION_LIMIT];
 
 /// What waits, and where the last complete operand begins.
 #[derive(Drop)]
-pub(crate) struct Parts<const N: usize> {
-    pub(crate) waiting: Stack<N>,
+pub(crate) struct Parts<'s, const N: usize> {
+    pub(crate) waiting: Stack<'s, N>,
     pub(crate) start: u16,
 }
 
-impl<const N: usize> Parts<N> {
+impl<'s, const N: usize> Parts<'s, N> {
     /// Nothing waits.
-    pub(crate) fn new() -> Self
+    #[inline(always)]
+    pub(crate) fn new(codes: &'s mut [u16; N]) -> Self
+        requires { N ≤ expression_limit }
         ensures waiting { result.waiting ≡ [] }
         ensures start { result.start ≡ 0 }
     {
         Parts {
-            waiting: Stack::new(),
+            waiting: Stack::new(codes),
             start: 0,
         }
     }

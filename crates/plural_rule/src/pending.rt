@@ -1,9 +1,9 @@
 //! What waits for its last operand while an expression is read.
-ghost use Rattle.std.specs.Prelude.{◌≡◌, ◌+◌, ◌<◌, [], ◌∷◌, ◌++◌, length, ◌==◌, MatchOption, IfSome, OnSome};
+ghost use Rattle.std.specs.Prelude.{◌≡◌, ◌+◌, ◌<◌, ◌≤◌, [], ◌∷◌, ◌++◌, length, ◌==◌, MatchOption, IfSome, OnSome};
+ghost use Rattle.plural_rule.specs.PluralRule.{expression_limit};
 ghost use Rattle.plural_rule.specs.Pending.{binds, pending_of, within, weight, weight_of};
 
 use crate::operator::Operator;
-use arrayvec::ArrayVec;
 use std::marker::Model;
 
 /// What waits for its last operand, with the index at which its instructions begin.
@@ -67,36 +67,42 @@ impl Pending {
 }
 
 /// What waits, `N` at most and the newest last, in two bytes each.
+///
+/// The array is borrowed, so that the count stays in a register.
 #[derive(Drop)]
-pub(crate) struct Stack<const N: usize> {
-    codes: ArrayVec<u16, N>,
+pub(crate) struct Stack<'s, const N: usize> {
+    codes: &'s mut [u16; N],
+    count: usize,
 }
 
-impl<const N: usize> Model for Stack<N> {
-    ghost use Rattle.std.specs.Prelude.{List, map};
+impl<'s, const N: usize> Model for Stack<'s, N> {
+    ghost use Rattle.std.specs.Prelude.{◌≡◌, ◌≤◌, List, length, map, take};
     ghost use Rattle.plural_rule.specs.declared.pending.Pending.{Pending as Entry};
     ghost use Rattle.plural_rule.specs.Pending.{pending_of};
+    ghost use Rattle.plural_rule.specs.PluralRule.{expression_limit};
 
     ghost Value = { List Entry };
 
-    ghost view = { λ s. map pending_of s.codes.items };
+    ghost view = { λ s. map pending_of (take s.count s.codes.now) };
+
+    ghost invariant = { λ s. (s.count ≤ N) × (length s.codes.now ≡ N) × (N ≤ expression_limit) };
 }
 
-impl<const N: usize> Stack<N> {
+impl<'s, const N: usize> Stack<'s, N> {
     /// Nothing waits.
-    pub(crate) fn new() -> Self
+    #[inline(always)]
+    pub(crate) fn new(codes: &'s mut [u16; N]) -> Self
+        requires { N ≤ expression_limit }
         ensures { result ≡ [] }
     {
-        Stack {
-            codes: ArrayVec::new(),
-        }
+        Stack { codes, count: 0 }
     }
 
     /// Whether nothing waits.
     pub(crate) fn is_empty(&self) -> bool
         ensures { result ≡ (length self.now == 0) }
     {
-        self.codes.is_empty()
+        self.count == 0
     }
 
     /// Adds to what waits, with an index below 4,096.
@@ -107,7 +113,8 @@ impl<const N: usize> Stack<N> {
         ensures weight { weight self.new ≡ weight self.old + weight_of pending }
         ensures count { length self.new ≡ length self.old + 1 }
     {
-        self.codes.push(pending.code());
+        self.codes[self.count] = pending.code();
+        self.count += 1;
     }
 
     /// Takes the newest of what waits.
@@ -118,9 +125,10 @@ impl<const N: usize> Stack<N> {
         ensures weight { IfSome result (λ top. weight self.old ≡ weight self.new + weight_of top) }
         ensures count { OnSome result (length self.old ≡ length self.new + 1) }
     {
-        match self.codes.pop() {
-            Some(code) => Some(Pending::of_code(code)),
-            None => None,
+        if self.count == 0 {
+            return None;
         }
+        self.count -= 1;
+        Some(Pending::of_code(self.codes[self.count]))
     }
 }
