@@ -1,4 +1,5 @@
 -- The translation under a key, by the index of the key among rising keys.
+use Rattle.std.specs.Prelude.{MatchOption}
 use Rattle.std.proofs.Common.{◌≡◌, ◌≢◌, ℕ, ◌<◌, true, false, List, [], ◌∷◌, Option, None, Some, length, subst, get_or, slice_get, sym, ◌∙◌, ap, inl, inr, arith}
 use Rattle.std.specs.declared.cmp.Ordering.TheVariants.{Less, Equal}
 use Rattle.std.specs.List.{position_or_len}
@@ -81,6 +82,17 @@ pub under-listed : (listed : List (List ℕ)) (messages : List Message) (key : L
     AreRising listed → IsIndexOf listed key index →
     translation_under key messages ≡ option_and_then (slice_get (translations messages)) index
 under-listed listed messages key index are rising is = under-searched messages key index (rw are at rising) (rw are at is)
+
+-- and the index is that of a message
+pub index-listed : (listed : List (List ℕ)) (messages : List Message) (key : List ℕ) (index : Option ℕ) → listed ≡ keys messages →
+    AreRising listed → IsIndexOf listed key index →
+    MatchOption index (translation_under key messages ≡ None)
+    (λ i. (i < length messages) × (translation_under key messages ≡ slice_get (translations messages) i))
+index-listed listed messages key None are rising is = under-listed listed messages key None are rising is
+index-listed listed messages key (Some i) are rising is = (
+  omega (arith, is.0, ap length are, length-map messages (λ m. key_of m.original)),
+  under-listed listed messages key (Some i) are rising is,
+)
 
 not_below_empty : (x : List ℕ) → key_cmp x [] ≢ Less
 not_below_empty [] less = (cc)

@@ -1,6 +1,7 @@
 //! Looking up a message, by the number of plural forms and the program of the plural rule.
 
-ghost use Rattle.std.specs.Prelude.{◌≡◌, ◌+◌, ◌^◌, ◌<◌, ◌≤◌, ℕ, List, None, Some, length, false, true, MatchOption};
+ghost use Rattle.std.specs.Prelude.{◌≡◌, ◌+◌, ◌^◌, ◌<◌, ◌≤◌, ℕ, List, None, Some, length, slice_get, false, true, MatchOption};
+ghost use Rattle.mo_file.specs.Message.{translations};
 ghost use Rattle.std.specs.Option.{option_copied};
 ghost use Rattle.plural_rule.specs.declared.rule.Source.{Source};
 ghost use Rattle.plural_rule.specs.Expression.{nodes};
@@ -19,7 +20,7 @@ use crate::answer::Answer;
 use crate::forms::{first_form, selected_form};
 use crate::messages::Messages;
 use crate::place::{Located, Place};
-use crate::query::{can_be_key, untranslated_place};
+use crate::query::{can_be_key, untranslated_place, untranslated_text};
 use crate::search::find;
 use plural_rule::Instruction;
 use std::ops::Range;
@@ -54,13 +55,25 @@ where
     ensures nodes { result.steps ≤ nodes (tree_of program.now) }
     ensures same_counter { M.counter messages.new ≡ M.counter messages.old }
 {
-    let bytes = messages.bytes();
-    let located = locate(messages, nplurals, program, context, id, plural);
+    let start = messages.count();
+    let translation = if can_be_key(context, id) {
+        translation(messages, context, id)
+    } else {
+        None
+    };
+    let comparisons = (messages.count() - start) as u32;
+    let (text, steps) = match translation {
+        Some(translation) => {
+            let (form, steps) = answered_form(nplurals, program, translation, plural);
+            (&translation[form], steps)
+        }
+        None => (untranslated_text(id, plural), 0),
+    };
     Answer {
-        text: text_at(bytes, id, plural, located.place),
-        found: is_translation(located.place),
-        comparisons: located.comparisons,
-        steps: located.steps,
+        text,
+        found: translation.is_some(),
+        comparisons,
+        steps,
     }
 }
 
@@ -93,16 +106,19 @@ pub fn locate<'a, M: Messages<'a>>(
     ensures nodes { result.steps ≤ nodes (tree_of program.now) }
     ensures same_counter { M.counter messages.new ≡ M.counter messages.old }
 {
-    let bytes = messages.bytes();
     let before = messages.count();
-    let translation = if can_be_key(context, id) {
-        translation_range(messages, context, id)
+    let index = if can_be_key(context, id) {
+        index_of(messages, context, id)
     } else {
         None
     };
     let comparisons = (messages.count() - before) as u32;
-    let (place, steps) = match translation {
-        Some(range) => translated_place(nplurals, program, bytes, range, plural),
+    let (place, steps) = match index {
+        Some(index) => {
+            let translation = messages.translation(index);
+            let range = messages.translation_range(index);
+            translated_place(nplurals, program, translation, range, plural)
+        }
         None => (untranslated_place(plural), 0),
     };
     Located {
@@ -110,33 +126,6 @@ pub fn locate<'a, M: Messages<'a>>(
         comparisons,
         steps,
     }
-}
-
-/// The text at a place.
-fn text_at<'q>(
-    bytes: &'q [u8],
-    id: &'q [u8],
-    plural: Option<(&'q [u8], u64)>,
-    place: Place,
-) -> &'q [u8]
-    requires { IsPlace bytes.now (given plural) place }
-    ensures { result.now ≡ text_at bytes.now id.now (given plural.entry) place }
-{
-    match place {
-        Place::Translation { start, end } => &bytes[start..end],
-        Place::Id => id,
-        Place::Plural => match plural {
-            Some((plural, _)) => plural,
-            None => id,
-        },
-    }
-}
-
-/// Whether a place is in the file.
-fn is_translation(place: Place) -> bool
-    ensures { result ≡ is_translation place }
-{
-    matches!(place, Place::Translation { .. })
 }
 
 /// The translation under the key of a context and a msgid, or None where no message has that key.
@@ -158,25 +147,21 @@ pub(crate) fn translation<'a, M: Messages<'a>>(
     ensures at_most_32 { M.counted messages.new ≤ M.counted messages.old + 32 }
     ensures same_counter { M.counter messages.new ≡ M.counter messages.old }
 {
-    let bytes = messages.bytes();
-    let range = translation_range(messages, context, id)?;
-    Some(&bytes[range.start..range.end])
+    let index = index_of(messages, context, id)?;
+    Some(messages.translation(index))
 }
 
-/// Where the translation under the key of a context and a msgid stands in the file, or None where
-/// no message has that key.
-fn translation_range<'a, M: Messages<'a>>(
-    messages: &mut M,
-    context: Option<&[u8]>,
-    id: &[u8],
-) -> Option<Range<usize>>
+/// The index of the message with the key of a context and a msgid, or None where no message has that
+/// key.
+fn index_of<'a, M: Messages<'a>>(messages: &mut M, context: Option<&[u8]>, id: &[u8]) -> Option<u32>
     requires keys { M.listed messages.old ≡ keys (M.file messages.old).messages }
     requires room { M.counted messages.old < 2 ^ 63 }
     ensures found { let key = query_key (option_copied context.entry) id.now in
         MatchOption result (translation_under key (M.file messages.old).messages ≡ None)
-        (λ range. (translation : List ℕ)
-        × (translation_under key (M.file messages.old).messages ≡ Some translation)
-        × IsStringAt (M.file messages.old).bytes range.start range.end translation) }
+        (λ index. (index < length (M.file messages.old).messages)
+        × (translation_under key (M.file messages.old).messages
+        ≡ slice_get (translations (M.file messages.old).messages) index)) }
+    ensures same_file { M.file messages.new ≡ M.file messages.old }
     ensures comparisons { M.counted messages.new
         ≡ M.counted messages.old
         + comparisons (keys (M.file messages.old).messages) (query_key (option_copied context.entry) id.now) }
@@ -188,8 +173,7 @@ fn translation_range<'a, M: Messages<'a>>(
 {
     // Called for its clause that the keys rise.
     let _rising = messages.len();
-    let index = find(messages, context, id)?;
-    Some(messages.translation_range(index))
+    find(messages, context, id)
 }
 
 /// The place of the form that is the answer, for a translation that stands at `range` in the file.
@@ -197,30 +181,27 @@ fn translation_range<'a, M: Messages<'a>>(
 fn translated_place(
     nplurals: u64,
     program: &[Instruction],
-    bytes: &[u8],
+    translation: &[u8],
     range: Range<usize>,
     plural: Option<(&[u8], u64)>,
 ) -> (Place, u32)
     requires program { program.now ≡ program_of 0 (tree_of program.now) }
     requires limit { length program.now ≤ expression_limit }
-    requires there { (translation : List ℕ) × IsStringAt bytes.now range.start range.end translation }
+    requires there { (bytes : List ℕ) × IsStringAt bytes range.start range.end translation.now }
     ensures translation { is_translation result.0 ≡ true }
-    ensures place { IsPlace bytes.now (given plural.entry) result.0 }
-    ensures text { (source : Source) (translation id : List ℕ)
-        → IsStringAt bytes.now range.start range.end translation
-        → text_at bytes.now id (given plural.entry) result.0
-        ≡ (translated (forms translation)
+    ensures place { (bytes : List ℕ) → IsStringAt bytes range.start range.end translation.now
+        → IsPlace bytes (given plural.entry) result.0 }
+    ensures text { (source : Source) (bytes id : List ℕ) → IsStringAt bytes range.start range.end translation.now
+        → text_at bytes id (given plural.entry) result.0
+        ≡ (translated (forms translation.now)
         (record { source = source; nplurals = nplurals; tree = tree_of program.now })
         (given plural.entry)).text }
-    ensures steps { (source : Source) (translation : List ℕ)
-        → IsStringAt bytes.now range.start range.end translation
-        → result.1
-        ≡ (translated (forms translation)
+    ensures steps { (source : Source) → result.1
+        ≡ (translated (forms translation.now)
         (record { source = source; nplurals = nplurals; tree = tree_of program.now })
         (given plural.entry)).steps }
     ensures nodes { result.1 ≤ nodes (tree_of program.now) }
 {
-    let translation = &bytes[range.start..range.end];
     let (form, steps) = answered_form(nplurals, program, translation, plural);
     let place = Place::Translation {
         start: range.start + form.start,

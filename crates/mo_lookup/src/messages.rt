@@ -1,15 +1,17 @@
 //! Messages as a look-up sees them.
 
-ghost use Rattle.std.specs.Prelude.{◌≡◌, ◌<◌, length};
+ghost use Rattle.std.specs.Prelude.{◌≡◌, ◌<◌, Some, length, slice_get};
 ghost use Rattle.mo_file.specs.FileView.{IsTranslationAt};
 ghost use Rattle.mo_file.specs.Key.{keys};
+ghost use Rattle.mo_file.specs.Message.{translations};
 
 use crate::search::Keys;
 use mo_file::{Meter, MoView};
 use std::cmp::Ordering;
 use std::ops::Range;
 
-/// Messages whose keys are only compared, each comparison counted, and the translation of each.
+/// Messages whose keys are only compared, each comparison counted, and the translation of each. No
+/// other byte of their file is given out, so no key is read but by what counts.
 pub trait Messages<'a>: Keys {
     /// Where the translation of message `i` stands, in bytes from the start of the file: its forms
     /// with a NUL between them, and a NUL after it.
@@ -17,9 +19,10 @@ pub trait Messages<'a>: Keys {
         requires { i < length (Self.file self.now).messages }
         ensures { IsTranslationAt (Self.file self.now) i result.start result.end };
 
-    /// The bytes of the file.
-    fn bytes(&self) -> &'a [u8]
-        ensures { result.now ≡ (Self.file self.now).bytes };
+    /// The translation of message `i`: its forms with a NUL between them.
+    fn translation(&self, i: u32) -> &'a [u8]
+        requires { i < length (Self.file self.now).messages }
+        ensures { slice_get (translations (Self.file self.now).messages) i ≡ Some result.now };
 }
 
 /// The messages of a file, and the meter that counts each comparison.
@@ -59,7 +62,7 @@ impl<'a> Messages<'a> for ViewMessages<'_, 'a, '_> {
         self.view.translation_range(i)
     }
 
-    fn bytes(&self) -> &'a [u8] {
-        self.view.bytes()
+    fn translation(&self, i: u32) -> &'a [u8] {
+        self.view.translation(i)
     }
 }

@@ -32,8 +32,7 @@ fn header_text<'a, M: Messages<'a>>(messages: &mut M) -> &'a [u8]
     }
     match messages.compare(0, None, b"") {
         Ordering::Equal => {
-            let range = messages.translation_range(0);
-            let translation = &messages.bytes()[range.start..range.end];
+            let translation = messages.translation(0);
             &translation[first_form(translation, 0)]
         }
         _ => b"",
