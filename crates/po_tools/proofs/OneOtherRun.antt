@@ -19,7 +19,7 @@ use Rattle.po_unformat.specs.declared.fault.UnformatError.{UnformatError}
 use Rattle.po_unformat.specs.RoundTrip.{NoFaultWhereUnformatted, OneText, OneUnformatFault}
 use Rattle.text_tools.specs.Msgattrib.{error_line}
 use Rattle.text_tools.specs.Msgcat.{AreReadAs, IsFileFault, msgcat_line}
-use Rattle.mo_tools.specs.Msgunfmt.{unformat_line, unformatted_run}
+use Rattle.msgunfmt.specs.Msgunfmt.{unformat_line, unformatted_run}
 use Rattle.tool_runs.specs.NamedFile.{NamedFile}
 use Rattle.po_messages.proofs.DuplicateLemmas.{entries_of_input}
 use Rattle.po_tools.specs.RunLaws.{OneMsgattribRun, OneMsgcatRun, OneMsgunfmtRun}

@@ -15,15 +15,15 @@ use Rattle.po_compile.specs.CompiledList.{compiled_list}
 use Rattle.po_compile.specs.Compiling.{IsCompilation}
 use Rattle.po_compile.specs.Headline.{CataloguesAreOne, MessagesAreOne, NoFaultWhereAccepted, OneCompileFault}
 use Rattle.po_compile.specs.declared.options.Compiled.{Compiled}
-use Rattle.mo_tools.specs.declared.msgfmt.MsgfmtOptions.{MsgfmtOptions}
-use Rattle.mo_tools.specs.declared.profile.CheckFault.TheVariants.{NoHeader}
+use Rattle.msgfmt.specs.declared.options.MsgfmtOptions.{MsgfmtOptions}
+use Rattle.msgfmt.specs.declared.profile.CheckFault.TheVariants.{NoHeader}
 use Rattle.tool_runs.specs.FaultText.{fault_line, mo_text}
 use Rattle.look_up_tools.specs.Gettext.{GettextRequest, NgettextRequest, IsGettextRun, IsNgettextRun, Opens, answered, gettext_output, ngettext_output}
 use Rattle.look_up_tools.specs.Gettext.Opens.{none, opened, refused}
 use Rattle.po_compile.specs.CompiledInputs.{compiled_inputs}
-use Rattle.mo_tools.specs.Msgfmt.{AreChecked, IsRefused, check_line, compile_options, compiled_run, input_texts, join_line}
+use Rattle.msgfmt.specs.Msgfmt.{AreChecked, IsRefused, check_line, compile_options, compiled_run, input_texts, join_line}
 use Rattle.tool_runs.specs.NamedFile.{NamedFile}
-use Rattle.mo_tools.specs.Profile.{Reported, first_fault, is_header_entry}
+use Rattle.msgfmt.specs.Profile.{Reported, first_fault, is_header_entry}
 use Rattle.po_tools.specs.RunLaws.{OneMsgfmtRun}
 use Rattle.tool_runs.specs.Run.{RunView, refusal}
 

@@ -1,13 +1,13 @@
 -- What a tool writes and reports, and its exit status, are functions of its inputs: it has one run.
 use Rattle.std.specs.Prelude.{◌≡◌, ℕ, List}
-use Rattle.mo_tools.specs.declared.msgfmt.MsgfmtOptions.{MsgfmtOptions}
+use Rattle.msgfmt.specs.declared.options.MsgfmtOptions.{MsgfmtOptions}
 use Rattle.look_up_tools.specs.Gettext.{GettextRequest, NgettextRequest, IsGettextRun, IsNgettextRun}
 use Rattle.po_merge.specs.declared.input.MergeOptions.{MergeOptions}
 use Rattle.po_select.specs.declared.selection.Selection.{Selection}
 use Rattle.text_tools.specs.Msgattrib.{IsMsgattribRun}
 use Rattle.text_tools.specs.Msgcat.{IsMsgcatRun}
-use Rattle.mo_tools.specs.Msgfmt.{IsMsgfmtRun}
-use Rattle.mo_tools.specs.Msgunfmt.{IsMsgunfmtRun}
+use Rattle.msgfmt.specs.Msgfmt.{IsMsgfmtRun}
+use Rattle.msgunfmt.specs.Msgunfmt.{IsMsgunfmtRun}
 use Rattle.tool_runs.specs.NamedFile.{NamedFile}
 use Rattle.tool_runs.specs.Run.{RunView}
 

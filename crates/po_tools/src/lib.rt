@@ -5,22 +5,25 @@
 //! messages and the status. [`deliver`] writes it. `run_msgfmt` and its like read one input, plan
 //! and deliver.
 //!
-//! The tools are in crates of their own, by what they read and write: `mo_tools`, `text_tools` and
-//! `look_up_tools`, over `tool_runs`. Here are all of them under one name, with the laws of their
-//! runs (`run_laws`).
+//! The tools are in crates of their own, `msgfmt`, `msgunfmt`, `text_tools` and `look_up_tools`, over
+//! `tool_runs`. Here are all of them under one name, with the calls that read one input (`one_input`)
+//! and the laws of their runs (`run_laws`).
 
 #![tactic(auto)]
 
+mod one_input;
 mod run_laws;
 
 pub use look_up_tools::{
     CatalogueFile, GettextOptions, NgettextOptions, borrowed_catalogues, find_catalogues,
     ngettext_options_of, plan_gettext, plan_ngettext, read_catalogues,
 };
-pub use mo_tools::{
-    CheckFault, MsgfmtOptions, first_profile_fault, msgfmt_options_of, plan_msgfmt,
-    plan_msgfmt_before, plan_msgfmt_of, plan_msgunfmt, profile_check, run_msgfmt, run_msgunfmt,
+pub use msgfmt::{
+    CheckFault, MsgfmtOptions, first_profile_fault, msgfmt_options_of, msgfmt_output_of,
+    plan_msgfmt, plan_msgfmt_before, plan_msgfmt_of, profile_check,
 };
+pub use msgunfmt::plan_msgunfmt;
+pub use one_input::{run_msgfmt, run_msgunfmt};
 pub use po_compile::{Compiled, Options, compile, compile_all, laws};
 pub use po_merge::{MergeOptions, Named, merge};
 pub use po_messages::JoinError;

@@ -1,7 +1,7 @@
 //! `pokit`: the GNU gettext catalogue tools in one program, a subcommand for each.
 //!
 //! Only this crate touches arguments, files, streams and the environment. What the command line is,
-//! is in command_line, and what a tool does in tool_runs, mo_tools, text_tools and look_up_tools.
+//! is in command_line, and what a tool does in the crates that po_tools has under one name.
 //! The modules in reading order: `streams`, `environment`, `options`, `files`, `tools`.
 
 #![tactic(auto)]

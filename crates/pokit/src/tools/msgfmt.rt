@@ -1,7 +1,7 @@
 //! Compiles PO texts.
 use crate::files::{System, write_run};
 use crate::options::Options;
-use mo_tools::{msgfmt_options_of, msgfmt_output_of, plan_msgfmt_of};
+use po_tools::{msgfmt_options_of, msgfmt_output_of, plan_msgfmt_of};
 use std::alloc::Global;
 use tool_runs::{Inputs, ProgramFault, inputs_of};
 

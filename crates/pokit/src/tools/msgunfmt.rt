@@ -1,7 +1,7 @@
 //! Writes the PO text of an MO file.
 use crate::files::{read_one, write_run};
 use crate::options::Options;
-use mo_tools::plan_msgunfmt;
+use po_tools::plan_msgunfmt;
 use std::alloc::Global;
 use tool_runs::{ProgramFault, input_of, output_of, shown_name};
 

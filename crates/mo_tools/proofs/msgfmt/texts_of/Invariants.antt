@@ -1,8 +1,0 @@
-use Rattle.std.proofs.Common.{◌≡◌, take}
-use Rattle.po_entry.specs.TextEntry.{slice_texts}
-use Rattle.tool_runs.specs.NamedFile.{named_files}
-use Rattle.mo_tools.specs.Msgfmt.{input_texts}
-use Rattle.mo_tools.proofs.msgfmt.texts_of.Given as goal
-
-abbrev pub invariant-loop-text : goal.invariant-loop-text
-invariant-loop-text l = slice_texts l.texts.items ≡ input_texts (named_files (take l.text-index l.inputs))

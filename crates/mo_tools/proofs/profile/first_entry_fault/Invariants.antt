@@ -1,9 +1,0 @@
-use Rattle.std.proofs.Common.{◌≡◌, drop}
-use Rattle.mo_tools.specs.Profile.{checked_messages, entry_fault, first_some}
-use Rattle.mo_tools.proofs.profile.first_entry_fault.Given as goal
-
--- the messages that are left decide
-abbrev pub invariant-loop-message : goal.invariant-loop-message
-invariant-loop-message l =
-    first_some (entry_fault l.nplurals) (checked_messages (drop l.message-index l.messages))
-    ≡ first_some (entry_fault l.nplurals) (checked_messages l.messages)

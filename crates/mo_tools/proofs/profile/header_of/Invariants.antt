@@ -1,7 +1,0 @@
-use Rattle.std.proofs.Common.{◌≡◌, drop, find}
-use Rattle.mo_tools.specs.Profile.{checked_messages, is_header_entry}
-use Rattle.mo_tools.proofs.profile.header_of.Given as goal
-
--- the messages that are left decide
-abbrev pub invariant-loop-message : goal.invariant-loop-message
-invariant-loop-message l = find is_header_entry (checked_messages (drop l.message-index l.messages)) ≡ find is_header_entry (checked_messages l.messages)

@@ -1,5 +1,0 @@
-pub mod Msgfmt
-pub mod Msgunfmt
-pub mod Profile
-pub mod ProfileFaults
-pub mod Options

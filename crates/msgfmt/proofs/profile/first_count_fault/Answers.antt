@@ -1,0 +1,14 @@
+use Rattle.std.proofs.Common.{◌≡◌, ◌-◌, None, refl, sym, ◌∙◌, arith}
+use Rattle.msgfmt.specs.Profile.{count_fault, counts_below}
+use Rattle.msgfmt.proofs.Profiles.{first_some-range}
+use Rattle.msgfmt.proofs.profile.first_count_fault.Goals as goal
+
+pub loop-count-init : goal.loop-count-init
+unfolding counts_below
+loop-count-init c = let all : c.args.end - 0 ≡ c.args.end = omega arith in rw all refl
+
+pub loop-count-preserved : goal.loop-count-preserved
+loop-count-preserved c =
+    let none : count_fault c.args.rule.now c.loop-count.count ≡ None = sym c.in_default.ensures in
+    let range = first_some-range (count_fault c.args.rule.now) c.loop-count.count c.args.end c.loop-count-test.true in
+    sym (rw none at range) ∙ c.loop-count.invariant

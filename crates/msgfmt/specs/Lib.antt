@@ -1,0 +1,4 @@
+pub mod Msgfmt
+pub mod Profile
+pub mod ProfileFaults
+pub mod Options

@@ -1,0 +1,133 @@
+-- What msgfmt writes and reports (manual, "Invoking the msgfmt Program").
+use Rattle.std.specs.Prelude.{◌≡◌, ◌≢◌, ◌⊎◌, ◌^◌, ◌≤◌, length, nat_lt, ◌==◌, ℕ, Bool, true, List, [], ◌∷◌, map}
+use Rattle.std.specs.Prelude.{slice_get, Option, None, Some, codes, decimal, ◌++◌, if◌then◌else◌}
+use Rattle.std.specs.Option.{option_map_or}
+use Rattle.po_syntax.specs.declared.fault.PoFault.{PoFault}
+use Rattle.po_syntax.specs.declared.fault.PoFault.TheVariants.{Duplicate, OutOfMemory as NoMemory}
+use Rattle.po_entry.specs.TextEntry.{TextEntry}
+use Rattle.po_messages.specs.Joined.{joined, joined_entries}
+use Rattle.po_messages.specs.Statistics.{stats_line}
+use Rattle.po_messages.specs.declared.duplicate.JoinError.{JoinError}
+use Rattle.po_compile.specs.Accepted.{AreCompiled, AreRead, IsCompileFault}
+use Rattle.po_compile.specs.CompiledInputs.{compiled_inputs}
+use Rattle.po_compile.specs.Compiling.{IsCompilation}
+use Rattle.po_compile.specs.declared.options.Compiled.{Compiled}
+use Rattle.po_compile.specs.declared.options.Options.{Options}
+use Rattle.msgfmt.specs.declared.options.MsgfmtOptions.{MsgfmtOptions}
+use Rattle.msgfmt.specs.declared.profile.CheckFault.{CheckFault}
+use Rattle.msgfmt.specs.declared.profile.CheckFault.TheVariants.{NoHeader, NoRule, FormCount, LeadingNewline}
+use Rattle.msgfmt.specs.declared.profile.CheckFault.TheVariants.{TrailingNewline, Undefined, IndexOutside}
+use Rattle.msgfmt.specs.declared.profile.CheckFault.TheVariants.{OutOfMemory}
+use Rattle.tool_runs.specs.FaultText.{po_text, duplicate_text, fault_line}
+use Rattle.tool_runs.specs.NamedFile.{NamedFile}
+use Rattle.msgfmt.specs.Profile.{IsChecked, Reported}
+use Rattle.tool_runs.specs.Run.{RunView, refusal}
+
+-- the options with which inputs are compiled
+abbrev pub compile_options : MsgfmtOptions → Options
+compile_options o = record { use_fuzzy = o.use_fuzzy; order = o.order }
+
+-- the texts of the inputs
+abbrev pub input_texts : List NamedFile → List (List ℕ)
+input_texts inputs = map (λ file. file.bytes) inputs
+
+-- the name of the input of this index
+abbrev pub input_name : List NamedFile → ℕ → List ℕ
+input_name inputs i = option_map_or (λ file. file.name) (slice_get inputs i) []
+
+-- what is wrong, where a duplicate is of a message of this other file
+abbrev pub across_text : List ℕ → PoFault → List ℕ
+across_text file (Duplicate line) = duplicate_text file line
+across_text file fault = po_text fault
+
+-- what is wrong with the inputs
+abbrev pub join_text : List NamedFile → JoinError → List ℕ
+join_text inputs error =
+    if error.first_input == error.input then po_text error.error.kind
+    else across_text (input_name inputs error.first_input) error.error.kind
+
+-- the line that says why the inputs aren't compiled
+abbrev pub join_line : List NamedFile → JoinError → List ℕ
+join_line inputs error =
+    fault_line (codes "msgfmt") (input_name inputs error.input) error.error.line (join_text inputs error)
+
+-- the line at which a fault of the check is reported; 0 is none
+abbrev pub line_of_fault : CheckFault → ℕ
+line_of_fault (NoRule line reason) = line
+line_of_fault (FormCount line) = line
+line_of_fault (LeadingNewline line) = line
+line_of_fault (TrailingNewline line) = line
+line_of_fault fault = 0
+
+-- what is wrong with the messages that are compiled
+abbrev pub check_text : CheckFault → List ℕ
+check_text NoHeader = codes "no header"
+check_text (NoRule line reason) = codes "no readable plural rule"
+check_text (FormCount line) = codes "wrong number of plural forms"
+check_text (LeadingNewline line) = codes "first newline differs"
+check_text (TrailingNewline line) = codes "last newline differs"
+check_text (Undefined count) = codes "plural rule undefined for " ++ decimal count
+check_text (IndexOutside count) = codes "plural rule too large for " ++ decimal count
+check_text OutOfMemory = codes "out of memory"
+
+-- the line that reports a fault of the check
+abbrev pub check_line : List NamedFile → Reported → List ℕ
+check_line inputs reported =
+    fault_line (codes "msgfmt") (input_name inputs reported.0) (line_of_fault reported.1) (check_text reported.1)
+
+-- the check of catalogues: its first fault, or none
+abbrev pub AreChecked : Bool → List (List TextEntry) → Option Reported → Type 0
+AreChecked use_fuzzy catalogues fault = IsChecked (compiled_inputs use_fuzzy (joined catalogues)) fault
+
+-- the file where there is a message, and the statistics where they are asked for
+abbrev pub compiled_run : MsgfmtOptions → Compiled → RunView
+compiled_run o compiled = record {
+  output = if nat_lt 0 compiled.n then compiled.bytes.items else [];
+  create = nat_lt 0 compiled.n;
+  messages = if o.statistics then stats_line compiled.stats else [];
+  status = 0;
+}
+
+-- the inputs aren't compiled, which is reported before any fault of the check
+pub record IsRefused (inputs : List NamedFile) (o : MsgfmtOptions) (run : RunView) : Type 0 where
+  pub error : JoinError
+  pub fault : IsCompileFault (compile_options o) (input_texts inputs) error
+  pub not_memory : error.error.kind ≢ NoMemory
+  pub run_is : run ≡ refusal (join_line inputs error)
+
+-- the inputs are compiled, and the check that is asked for reports a fault
+pub record FailsCheck (inputs : List NamedFile) (o : MsgfmtOptions) (run : RunView) : Type 0 where
+  pub catalogues : List (List TextEntry)
+  pub read : AreRead (input_texts inputs) catalogues
+  pub compiled : Compiled
+  pub is_compiled : IsCompilation (compile_options o) (joined_entries catalogues) compiled
+  pub asked : o.profile_check ≡ true
+  pub fault : Reported
+  pub checked : AreChecked o.use_fuzzy catalogues (Some fault)
+  pub run_is : run ≡ refusal (check_line inputs fault)
+
+-- the inputs are compiled, and where the check is asked for it reports no fault
+pub record IsDone (inputs : List NamedFile) (o : MsgfmtOptions) (run : RunView) : Type 0 where
+  pub catalogues : List (List TextEntry)
+  pub read : AreRead (input_texts inputs) catalogues
+  pub compiled : Compiled
+  pub is_compiled : IsCompilation (compile_options o) (joined_entries catalogues) compiled
+  pub checked : o.profile_check ≡ true → AreChecked o.use_fuzzy catalogues None
+  pub run_is : run ≡ compiled_run o compiled
+
+-- what a run of msgfmt comes to
+abbrev pub IsMsgfmtRun : List NamedFile → MsgfmtOptions → RunView → Type 0
+IsMsgfmtRun inputs o run = IsRefused inputs o run ⊎ FailsCheck inputs o run ⊎ IsDone inputs o run
+
+-- no input is refused: there is none, or they are compiled
+abbrev pub NoneRefused : List NamedFile → MsgfmtOptions → Type 0
+NoneRefused inputs o =
+    (inputs ≡ []) ⊎ ((compiled : Compiled) × AreCompiled (compile_options o) (input_texts inputs) compiled)
+
+-- the inputs are none, or 2^32 and more: no command line of msgfmt names so many
+abbrev pub AreNoneOrTooMany : List NamedFile → Type 0
+AreNoneOrTooMany inputs = (inputs ≡ []) ⊎ (2 ^ 32 ≤ length inputs)
+
+-- what a run of msgfmt on one input with this name comes to
+abbrev pub IsMsgfmtRunOf : List ℕ → MsgfmtOptions → List ℕ → RunView → Type 0
+IsMsgfmtRunOf name o text run = IsMsgfmtRun (record { name = name; bytes = text } ∷ []) o run

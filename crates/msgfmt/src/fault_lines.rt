@@ -1,0 +1,149 @@
+//! Why inputs aren't compiled, and what the check finds, as the line that reports it, and as the run
+//! of it.
+ghost use Rattle.std.specs.Prelude.{◌≡◌, ◌≢◌, ◌++◌, ◌∷◌, decimal, IfOk, OnOk};
+ghost use Rattle.tool_runs.specs.FaultText.{duplicate_text};
+ghost use Rattle.tool_runs.specs.NamedFile.{named_files};
+ghost use Rattle.tool_runs.specs.Run.{refusal, run_view};
+ghost use Rattle.msgfmt.specs.Msgfmt as Spec;
+
+use crate::profile::CheckFault;
+use po_messages::JoinError;
+use po_syntax::PoFault;
+use std::alloc::{AllocError, Global};
+use tool_runs::{Run, push_location, push_numbered, push_po_text, refused};
+
+/// The name of an input.
+fn input_name<'a>(inputs: &[(&'a str, &[u8])], input: u32) -> &'a str
+    ensures { result.now ≡ Spec.input_name (named_files inputs.now) input }
+{
+    match inputs.get(input as usize) {
+        Some((name, _)) => name,
+        None => "",
+    }
+}
+
+/// Appends a line of a file: `FILE:LINE`.
+fn push_file_line(out: &mut Vec<u8>, file: &str, line: u32) -> Result<(), AllocError>
+    ensures { OnOk result (out.new.items ≡ out.old.items ++ (file.now ++ 58 ∷ decimal line)) }
+{
+    out.extend_from_slice(file.as_bytes())?;
+    push_numbered(out, ":", line.into(), "")
+}
+
+/// Appends what is wrong with a duplicate of a message of another file.
+fn push_duplicate(out: &mut Vec<u8>, file: &str, line: u32) -> Result<(), AllocError>
+    ensures { OnOk result (out.new.items ≡ out.old.items ++ duplicate_text file.now line) }
+{
+    out.extend_from_slice(b"duplicate of the message at ")?;
+    push_file_line(out, file, line)?;
+    Ok(())
+}
+
+/// Appends what is wrong, where a duplicate is of a message of another file.
+fn push_across_text(out: &mut Vec<u8>, file: &str, fault: PoFault) -> Result<(), AllocError>
+    ensures { OnOk result (out.new.items ≡ out.old.items ++ Spec.across_text file.now fault) }
+{
+    match fault {
+        PoFault::Duplicate(line) => push_duplicate(out, file, line),
+        fault => push_po_text(out, fault),
+    }
+}
+
+/// Appends why the inputs aren't compiled.
+fn push_join_text(
+    out: &mut Vec<u8>,
+    inputs: &[(&str, &[u8])],
+    error: JoinError,
+) -> Result<(), AllocError>
+    ensures { OnOk result (out.new.items ≡ out.old.items ++ Spec.join_text (named_files inputs.now) error) }
+{
+    if error.first_input == error.input {
+        push_po_text(out, error.error.kind)
+    } else {
+        let file = input_name(inputs, error.first_input);
+        push_across_text(out, file, error.error.kind)
+    }
+}
+
+/// The line at which a fault of the check is reported; 0 is none.
+fn line_of_fault(fault: CheckFault) -> u32
+    ensures { result ≡ Spec.line_of_fault fault }
+{
+    match fault {
+        CheckFault::NoRule(line, _)
+        | CheckFault::FormCount(line)
+        | CheckFault::LeadingNewline(line)
+        | CheckFault::TrailingNewline(line) => line,
+        _ => 0,
+    }
+}
+
+/// Appends what is wrong with the messages that are compiled.
+fn push_check_text(out: &mut Vec<u8>, fault: CheckFault) -> Result<(), AllocError>
+    ensures { OnOk result (out.new.items ≡ out.old.items ++ Spec.check_text fault) }
+{
+    let text = match fault {
+        CheckFault::NoHeader => "no header",
+        CheckFault::NoRule(..) => "no readable plural rule",
+        CheckFault::FormCount(_) => "wrong number of plural forms",
+        CheckFault::LeadingNewline(_) => "first newline differs",
+        CheckFault::TrailingNewline(_) => "last newline differs",
+        CheckFault::Undefined(count) => {
+            return push_numbered(out, "plural rule undefined for ", count, "");
+        }
+        CheckFault::IndexOutside(count) => {
+            return push_numbered(out, "plural rule too large for ", count, "");
+        }
+        CheckFault::OutOfMemory => "out of memory",
+    };
+    out.extend_from_slice(text.as_bytes())
+}
+
+/// The run of inputs that aren't compiled.
+pub(crate) fn refused_run(
+    alloc: Global,
+    inputs: &[(&str, &[u8])],
+    error: JoinError,
+) -> Result<Run, AllocError>
+    ensures { IfOk result (λ run. (error.error.kind ≢ PoFault.OutOfMemory)
+        × (run_view run ≡ refusal (Spec.join_line (named_files inputs.now) error))) }
+{
+    if error.error.kind == PoFault::OutOfMemory {
+        return Err(AllocError);
+    }
+    let mut messages = Vec::new(alloc);
+    push_location(
+        &mut messages,
+        "msgfmt",
+        input_name(inputs, error.input),
+        error.error.line,
+    )?;
+    push_join_text(&mut messages, inputs, error)?;
+    messages.extend_from_slice(b"\n")?;
+    Ok(refused(alloc, messages))
+}
+
+/// The run of inputs that the check refuses.
+pub(crate) fn failed_check_run(
+    alloc: Global,
+    inputs: &[(&str, &[u8])],
+    input: u32,
+    fault: CheckFault,
+) -> Result<Run, AllocError>
+    ensures { IfOk result (λ run. (fault ≢ CheckFault.OutOfMemory)
+        × (run_view run ≡ refusal (Spec.check_line (named_files inputs.now) (input, fault)))) }
+{
+    if fault == CheckFault::OutOfMemory {
+        return Err(AllocError);
+    }
+    let mut messages = Vec::new(alloc);
+    push_location(
+        &mut messages,
+        "msgfmt",
+        input_name(inputs, input),
+        line_of_fault(fault),
+    )?;
+    push_check_text(&mut messages, fault)?;
+    messages.extend_from_slice(b"\n")?;
+    Ok(refused(alloc, messages))
+}

@@ -1,0 +1,53 @@
+//! What the options of a command line mean for msgfmt.
+ghost use Rattle.std.specs.Prelude.{◌≡◌, codes};
+ghost use Rattle.std.specs.Option.{option_copied};
+ghost use Rattle.msgfmt.specs.Options.{AreMsgfmtOptions, order_of};
+ghost use Rattle.tool_runs.specs.Given.{IsTextOr};
+
+use mo_file::Order;
+use tool_runs::{Arguments, text_or};
+
+/// The MO file that msgfmt writes where the arguments name none.
+const DEFAULT_OUTPUT: &str = "messages.mo";
+
+/// What `msgfmt` is asked for, besides its inputs.
+#[derive(Clone, Copy)]
+pub struct MsgfmtOptions {
+    /// `-f`: fuzzy entries are compiled too.
+    pub use_fuzzy: bool,
+    /// `--endianness`: the byte order of the words of the file.
+    pub order: Order,
+    /// `--statistics`: the statistics are reported on standard error.
+    pub statistics: bool,
+    /// `--profile-check`: the messages that are compiled are checked.
+    pub profile_check: bool,
+}
+
+/// What `msgfmt` is asked for.
+pub fn msgfmt_options_of<A: Arguments>(arguments: &A) -> MsgfmtOptions
+    ensures { AreMsgfmtOptions (A.flag arguments.now) (A.text arguments.now) result }
+{
+    MsgfmtOptions {
+        use_fuzzy: arguments.is_given("use-fuzzy"),
+        order: order_of(arguments.text_of("endianness")),
+        statistics: arguments.is_given("statistics"),
+        profile_check: arguments.is_given("profile-check"),
+    }
+}
+
+/// The argument for the output of `msgfmt`: that of `-o`, or `messages.mo`.
+pub fn msgfmt_output_of<A: Arguments>(arguments: &A) -> &str
+    ensures { IsTextOr (A.text arguments.now) (codes "output-file") (codes "messages.mo") result.now }
+{
+    text_or(arguments, "output-file", DEFAULT_OUTPUT)
+}
+
+/// The byte order by its name, little-endian where none is given.
+fn order_of(name: Option<&str>) -> Order
+    ensures { result ≡ order_of (option_copied name.entry) }
+{
+    match name {
+        Some(name) if name == "big" => Order::Big,
+        _ => Order::Little,
+    }
+}

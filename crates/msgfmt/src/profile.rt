@@ -1,0 +1,274 @@
+//! What `--profile-check` finds wrong with the messages that are compiled.
+ghost use Rattle.std.specs.Prelude.{◌≡◌, find, length, option_map};
+ghost use Rattle.std.specs.List.{list_any};
+ghost use Rattle.mo_lookup.specs.CatalogView.{forms};
+ghost use Rattle.po_entry.specs.Header.{first_form};
+ghost use Rattle.plural_rule.specs.PluralRule.{IsRuleOf, expression_limit};
+ghost use Rattle.msgfmt.specs.Profile as Spec;
+
+use plural_rule::{Reason, Rule, Source};
+use po_compile::CompiledMessage;
+use po_unformat::{key_parts, original_parts, split_form};
+use thiserror::Error;
+
+/// What `--profile-check` finds wrong with the messages that are compiled.
+#[derive(Clone, Copy, Debug, PartialEq, Eq, Error)]
+pub enum CheckFault {
+    /// There is no header.
+    #[error("no header")]
+    NoHeader,
+    /// The message at this line has a plural, and the header has no readable rule, for this reason.
+    #[error("no readable plural rule")]
+    NoRule(u32, Reason),
+    /// The message at this line has another number of plural forms than the rule.
+    #[error("wrong number of plural forms")]
+    FormCount(u32),
+    /// At this line the plural or a form begins with a newline where the msgid doesn't, or the other way round.
+    #[error("first newline differs")]
+    LeadingNewline(u32),
+    /// At this line the plural or a form ends with a newline where the msgid doesn't, or the other way round.
+    #[error("last newline differs")]
+    TrailingNewline(u32),
+    /// The rule divides by 0 at this count.
+    #[error("plural rule undefined for {0}")]
+    Undefined(u64),
+    /// The rule's value at this count is no index of a plural form.
+    #[error("plural rule too large for {0}")]
+    IndexOutside(u64),
+    /// An allocation failed.
+    #[error("out of memory")]
+    OutOfMemory,
+}
+
+/// At how many counts, from 0 on, a rule's values are checked.
+const CHECKED_COUNTS: u64 = 1001;
+
+/// Whether the entry of a message has a plural.
+fn is_plural(message: &CompiledMessage<'_>) -> bool
+    ensures { result ≡ Spec.is_plural (Spec.checked_message message.now) }
+{
+    let (_, plural) = original_parts(message.original);
+    plural.is_some()
+}
+
+/// Whether the entry of a message is the header.
+fn is_header(message: &CompiledMessage<'_>) -> bool
+    ensures { result ≡ Spec.is_header_entry (Spec.checked_message message.now) }
+{
+    let (key, _) = original_parts(message.original);
+    let (context, id) = key_parts(key);
+    context.is_none() && id.is_empty()
+}
+
+/// How many forms a translation has.
+fn form_count(translation: &[u8]) -> usize
+    ensures { result ≡ length (forms translation.now) }
+{
+    let mut count = 1;
+    let mut last = translation;
+    while let Some((_, rest)) = split_form(last) {
+        count += 1;
+        last = rest;
+    }
+    count
+}
+
+/// An end of a text.
+#[derive(Clone, Copy)]
+pub(crate) enum End {
+    /// Where the text begins.
+    Beginning,
+    /// Where the text ends.
+    Ending,
+}
+
+/// The byte at this end of a text, where it has one.
+fn end_byte(end: End, text: &[u8]) -> Option<u8>
+    ensures { result ≡ Spec.end_byte end text.now }
+{
+    match end {
+        End::Beginning => text.first().copied(),
+        End::Ending => text.last().copied(),
+    }
+}
+
+/// Whether a text has a newline at this end.
+fn has_newline(end: End, text: &[u8]) -> bool
+    ensures { result ≡ Spec.has_newline end text.now }
+{
+    match end_byte(end, text) {
+        Some(byte) => byte == b'\n',
+        None => false,
+    }
+}
+
+/// Whether a form has a newline at this end where none is wanted, or lacks one that is wanted.
+fn any_differs(end: End, wanted: bool, translation: &[u8]) -> bool
+    ensures { result ≡ list_any (λ text. Spec.differ wanted (Spec.has_newline end text)) (forms translation.now) }
+{
+    let mut last = translation;
+    while let Some((form, rest)) = split_form(last) {
+        if has_newline(end, form) != wanted {
+            return true;
+        }
+        last = rest;
+    }
+    has_newline(end, last) != wanted
+}
+
+/// Whether the plural or a form differs from the msgid in having a newline at this end.
+fn differs_from_msgid(end: End, message: &CompiledMessage<'_>) -> bool
+    ensures { result ≡ Spec.differs_from_msgid end (Spec.checked_message message.now).entry }
+{
+    let (key, plural) = original_parts(message.original);
+    let (_, id) = key_parts(key);
+    let wanted = has_newline(end, id);
+    let plural_differs = match plural {
+        Some(plural) => has_newline(end, plural) != wanted,
+        None => false,
+    };
+    plural_differs || any_differs(end, wanted, message.translation)
+}
+
+/// What is wrong with a message but the header's, with its input.
+fn entry_fault(nplurals: u64, message: &CompiledMessage<'_>) -> Option<(u32, CheckFault)>
+    ensures { result ≡ Spec.entry_fault nplurals (Spec.checked_message message.now) }
+{
+    let line = message.line;
+    let fault = if is_header(message) {
+        return None;
+    } else if is_plural(message) && form_count(message.translation) as u64 != nplurals {
+        CheckFault::FormCount(line)
+    } else if differs_from_msgid(End::Beginning, message) {
+        CheckFault::LeadingNewline(line)
+    } else if differs_from_msgid(End::Ending, message) {
+        CheckFault::TrailingNewline(line)
+    } else {
+        return None;
+    };
+    Some((message.input, fault))
+}
+
+/// What is wrong with a rule's value at a count.
+fn count_fault(rule: &Rule, count: u64) -> Option<(u32, CheckFault)>
+    ensures { result ≡ Spec.count_fault rule.now count }
+{
+    match rule.eval(count).0 {
+        None => Some((0, CheckFault::Undefined(count))),
+        Some(index) if index < rule.nplurals() => None,
+        Some(_) => Some((0, CheckFault::IndexOutside(count))),
+    }
+}
+
+/// The fault of the first message with one, but for the header's.
+fn first_entry_fault(nplurals: u64, messages: &[CompiledMessage<'_>]) -> Option<(u32, CheckFault)>
+    ensures { result ≡ Spec.first_some (Spec.entry_fault nplurals) (Spec.checked_messages messages.now) }
+{
+    for message in messages {
+        if let Some(fault) = entry_fault(nplurals, message) {
+            return Some(fault);
+        }
+    }
+    None
+}
+
+/// The fault of the first count below `end` at which a rule has no value, or one that is no index
+/// of a form.
+fn first_count_fault(rule: &Rule, end: u64) -> Option<(u32, CheckFault)>
+    ensures { result ≡ Spec.first_some (Spec.count_fault rule.now) (Spec.counts_below end) }
+{
+    for count in 0..end {
+        if let Some(fault) = count_fault(rule, count) {
+            return Some(fault);
+        }
+    }
+    None
+}
+
+/// The first form of a translation.
+fn first_form(translation: &[u8]) -> &[u8]
+    ensures { result.now ≡ first_form (forms translation.now) }
+{
+    match split_form(translation) {
+        Some((form, _)) => form,
+        None => translation,
+    }
+}
+
+/// The message of the first header.
+fn header_of<'m, 'b>(messages: &'m [CompiledMessage<'b>]) -> Option<&'m CompiledMessage<'b>>
+    ensures { option_map (λ m. Spec.checked_message m.now) result
+        ≡ find Spec.is_header_entry (Spec.checked_messages messages.now) }
+{
+    for message in messages {
+        if is_header(message) {
+            return Some(message);
+        }
+    }
+    None
+}
+
+/// The first message of an entry with a plural.
+fn first_plural<'m, 'b>(messages: &'m [CompiledMessage<'b>]) -> Option<&'m CompiledMessage<'b>>
+    ensures { option_map (λ m. Spec.checked_message m.now) result
+        ≡ find Spec.is_plural (Spec.checked_messages messages.now) }
+{
+    for message in messages {
+        if is_plural(message) {
+            return Some(message);
+        }
+    }
+    None
+}
+
+/// A header without a readable rule is a fault for the first message with a plural, if there is one.
+fn rule_fault(source: Source, plural: Option<&CompiledMessage<'_>>) -> Option<(u32, CheckFault)>
+    ensures { result ≡ Spec.rule_fault source (option_map (λ m. Spec.checked_message m.now) plural.entry) }
+{
+    match (source, plural) {
+        (Source::Default(reason), Some(plural)) => {
+            Some((plural.input, CheckFault::NoRule(plural.line, reason)))
+        }
+        _ => None,
+    }
+}
+
+/// The first fault of messages with a header, by its rule.
+#[inline(never)]
+fn first_fault(rule: Rule, messages: &[CompiledMessage<'_>]) -> Option<(u32, CheckFault)>
+    ensures { result ≡ Spec.first_fault (Spec.checked_messages messages.now) rule }
+{
+    let plural = first_plural(messages);
+    if let Some(fault) = rule_fault(rule.source(), plural) {
+        return Some(fault);
+    }
+    if let Some(fault) = first_entry_fault(rule.nplurals(), messages) {
+        return Some(fault);
+    }
+    match plural {
+        Some(_) => first_count_fault(&rule, CHECKED_COUNTS),
+        None => None,
+    }
+}
+
+/// The rule of a header text. What reading it takes of the stack is given back before the rule is used.
+#[inline(never)]
+fn rule_of(header: &[u8]) -> Rule
+    ensures { IsRuleOf expression_limit header.now result }
+{
+    Rule::parse(header)
+}
+
+/// Asks of the messages that are compiled, in text order: that there is a header; that it has a readable plural
+/// rule where an entry has a plural; that each entry but the header has as many forms as the rule, and newlines
+/// at its ends where its msgid has them; and that the rule's values at the counts from 0 to 1,000 are indices of
+/// forms, where an entry has a plural. The first fault is reported, with the input of its line, or input 0.
+#[inline(never)]
+pub(crate) fn check_messages(messages: &[CompiledMessage<'_>]) -> Option<(u32, CheckFault)>
+    ensures { Spec.IsChecked (Spec.checked_messages messages.now) result }
+{
+    let Some(header) = header_of(messages) else {
+        return Some((0, CheckFault::NoHeader));
+    };
+    first_fault(rule_of(first_form(header.translation)), messages)
+}

@@ -1,0 +1,71 @@
+//! What msgunfmt writes and reports: the PO text of an MO file.
+ghost use Rattle.std.specs.Prelude.{◌≡◌, ◌≢◌, ◌++◌, ℕ, List, IfOk, OnOk, OnErr, Err};
+ghost use Rattle.po_unformat.specs.UnformattedText.{IsUnformatted};
+ghost use Rattle.msgunfmt.specs.Msgunfmt.{IsMsgunfmtRun, unformat_line, unformat_text, unformatted_run};
+ghost use Rattle.tool_runs.specs.Run.{refusal, run_view};
+
+use po_shell::ToolFault;
+use po_unformat::laws::empty_text;
+use po_unformat::{UnformatError, unformat};
+use std::alloc::{AllocError, Global};
+use tool_runs::{Run, push_location, push_mo_text, push_numbered, refused};
+
+/// Appends why a file has no PO text.
+fn push_unformat_text(out: &mut Vec<u8>, error: UnformatError) -> Result<(), AllocError>
+    ensures { OnOk result (out.new.items ≡ out.old.items ++ unformat_text error) }
+{
+    let text = match error {
+        UnformatError::Mo(fault) => return push_mo_text(out, fault),
+        UnformatError::NotUtf8(i) => {
+            return push_numbered(out, "string ", i.into(), " is not UTF-8");
+        }
+        UnformatError::ForbiddenByte(i) => {
+            return push_numbered(out, "string ", i.into(), " has a forbidden byte");
+        }
+        UnformatError::ForeignCharset => "charset is not UTF-8",
+        UnformatError::OutOfMemory => "out of memory",
+    };
+    out.extend_from_slice(text.as_bytes())
+}
+
+/// The run of a file that has no text.
+fn refused_run(alloc: Global, name: &str, error: UnformatError) -> Result<Run, AllocError>
+    ensures { IfOk result (λ run. (error ≢ UnformatError.OutOfMemory)
+        × (run_view run ≡ refusal (unformat_line name.now error))) }
+{
+    if error == UnformatError::OutOfMemory {
+        return Err(AllocError);
+    }
+    let mut messages = Vec::new(alloc);
+    push_location(&mut messages, "msgunfmt", name, 0)?;
+    push_unformat_text(&mut messages, error)?;
+    messages.extend_from_slice(b"\n")?;
+    Ok(refused(alloc, messages))
+}
+
+/// The run of a file that has a text.
+fn unformatted_run(alloc: Global, text: Vec<u8>) -> Run
+    ensures { (bytes : List ℕ) (file : IsUnformatted bytes text.items)
+        → run_view result ≡ unformatted_run file.messages text.items }
+{
+    empty_text();
+    let create = text.len() > 0;
+    Run {
+        output: text,
+        create,
+        messages: Vec::new(alloc),
+        status: 0,
+    }
+}
+
+/// What `msgunfmt` writes and reports of a file with this name: its PO text, where it has a message. A file that has no
+/// text is reported by one line, with status 1. Refused only where an allocation failed.
+pub fn plan_msgunfmt(alloc: Global, bytes: &[u8], name: &str) -> Result<Run, ToolFault>
+    ensures run { IfOk result (λ run. IsMsgunfmtRun (record { name = name.now; bytes = bytes.now }) (run_view run)) }
+    ensures memory { OnErr result (result ≡ Err ToolFault.OutOfMemory) }
+{
+    match unformat(alloc, bytes) {
+        Ok(text) => Ok(unformatted_run(alloc, text)),
+        Err(error) => Ok(refused_run(alloc, name, error)?),
+    }
+}
