@@ -17,14 +17,14 @@ use Rattle.po_merge.specs.Merged.{merged}
 use Rattle.po_select.specs.Selected.{selected}
 use Rattle.po_unformat.specs.declared.fault.UnformatError.{UnformatError}
 use Rattle.po_unformat.specs.RoundTrip.{NoFaultWhereUnformatted, OneText, OneUnformatFault}
-use Rattle.text_tools.specs.Msgattrib.{error_line}
-use Rattle.text_tools.specs.Msgcat.{AreReadAs, IsFileFault, msgcat_line}
+use Rattle.msgattrib.specs.Msgattrib.{error_line}
+use Rattle.msgcat.specs.Msgcat.{AreReadAs, IsFileFault, msgcat_line}
 use Rattle.msgunfmt.specs.Msgunfmt.{unformat_line, unformatted_run}
 use Rattle.tool_runs.specs.NamedFile.{NamedFile}
 use Rattle.po_messages.proofs.DuplicateLemmas.{entries_of_input}
 use Rattle.po_tools.specs.RunLaws.{OneMsgattribRun, OneMsgcatRun, OneMsgunfmtRun}
 use Rattle.tool_runs.specs.Run.{refusal}
-use Rattle.text_tools.specs.TextRuns.{written_run}
+use Rattle.text_runs.specs.TextRuns.{written_run}
 
 abbrev OneReading : Type 0
 OneReading = (text : List ℕ) (entries others : List TextEntry) → ReadsText text entries → ReadsText text others → entries ≡ others

@@ -4,8 +4,8 @@ use Rattle.msgfmt.specs.declared.options.MsgfmtOptions.{MsgfmtOptions}
 use Rattle.look_up_tools.specs.Gettext.{GettextRequest, NgettextRequest, IsGettextRun, IsNgettextRun}
 use Rattle.po_merge.specs.declared.input.MergeOptions.{MergeOptions}
 use Rattle.po_select.specs.declared.selection.Selection.{Selection}
-use Rattle.text_tools.specs.Msgattrib.{IsMsgattribRun}
-use Rattle.text_tools.specs.Msgcat.{IsMsgcatRun}
+use Rattle.msgattrib.specs.Msgattrib.{IsMsgattribRun}
+use Rattle.msgcat.specs.Msgcat.{IsMsgcatRun}
 use Rattle.msgfmt.specs.Msgfmt.{IsMsgfmtRun}
 use Rattle.msgunfmt.specs.Msgunfmt.{IsMsgunfmtRun}
 use Rattle.tool_runs.specs.NamedFile.{NamedFile}

@@ -5,9 +5,9 @@
 //! messages and the status. [`deliver`] writes it. `run_msgfmt` and its like read one input, plan
 //! and deliver.
 //!
-//! The tools are in crates of their own, `msgfmt`, `msgunfmt`, `text_tools` and `look_up_tools`, over
-//! `tool_runs`. Here are all of them under one name, with the calls that read one input (`one_input`)
-//! and the laws of their runs (`run_laws`).
+//! The tools are in crates of their own: `msgfmt`, `msgunfmt`, `msgattrib`, `msgcat` and
+//! `look_up_tools`, over `tool_runs`. Here are all of them under one name, with the calls that read
+//! one input (`one_input`) and the laws of their runs (`run_laws`).
 
 #![tactic(auto)]
 
@@ -18,12 +18,14 @@ pub use look_up_tools::{
     CatalogueFile, GettextOptions, NgettextOptions, borrowed_catalogues, find_catalogues,
     ngettext_options_of, plan_gettext, plan_ngettext, read_catalogues,
 };
+pub use msgattrib::{plan_msgattrib, selection_of};
+pub use msgcat::{merge_options_of, plan_msgcat, plan_msgcat_before, plan_msgcat_of};
 pub use msgfmt::{
     CheckFault, MsgfmtOptions, first_profile_fault, msgfmt_options_of, msgfmt_output_of,
     plan_msgfmt, plan_msgfmt_before, plan_msgfmt_of, profile_check,
 };
 pub use msgunfmt::plan_msgunfmt;
-pub use one_input::{run_msgfmt, run_msgunfmt};
+pub use one_input::{run_msgattrib, run_msgfmt, run_msgunfmt};
 pub use po_compile::{Compiled, Options, compile, compile_all, laws};
 pub use po_merge::{MergeOptions, Named, merge};
 pub use po_messages::JoinError;
@@ -32,10 +34,6 @@ pub use po_unformat::{UnformatError, laws as unformat_laws, unformat};
 pub use run_laws::{
     one_gettext_run, one_msgattrib_run, one_msgcat_run, one_msgfmt_run, one_msgunfmt_run,
     one_ngettext_run,
-};
-pub use text_tools::{
-    merge_options_of, plan_msgattrib, plan_msgcat, plan_msgcat_before, plan_msgcat_of,
-    run_msgattrib, selection_of,
 };
 pub use tool_runs::{
     Arguments, EnvsubstArguments, FileKind, GettextArguments, Input, InputFault, InputSource,

@@ -1,8 +1,8 @@
 //! Selects entries of a PO text and changes them.
 use crate::files::{read_one, write_run};
 use crate::options::Options;
+use po_tools::{plan_msgattrib, selection_of};
 use std::alloc::Global;
-use text_tools::{plan_msgattrib, selection_of};
 use tool_runs::{ProgramFault, input_of, output_of, shown_name};
 
 /// Runs `pokit msgattrib` and gives its status.

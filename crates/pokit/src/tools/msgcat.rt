@@ -1,8 +1,8 @@
 //! Merges PO texts.
 use crate::files::{System, write_run};
 use crate::options::Options;
+use po_tools::{merge_options_of, plan_msgcat_of};
 use std::alloc::Global;
-use text_tools::{merge_options_of, plan_msgcat_of};
 use tool_runs::{Inputs, ProgramFault, inputs_of, output_of};
 
 /// Runs `pokit msgcat` and gives its status.

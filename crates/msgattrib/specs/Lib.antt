@@ -1,0 +1,3 @@
+pub mod Msgattrib
+pub mod SelectedText
+pub mod Options

@@ -1,0 +1,72 @@
+-- A text whose entries are selected piece by piece. Internal to this crate.
+use Rattle.std.specs.Prelude.{◌≡◌, ◌⊎◌, ◌&&◌, ℕ, Bool, List, map, not}
+use Rattle.po_syntax.specs.declared.fault.PoError.{PoError}
+use Rattle.po_syntax.specs.declared.fault.PoFault.TheVariants.{Duplicate, OutOfMemory}
+use Rattle.po_entry.specs.ReadsText.{ReadsText}
+use Rattle.po_entry.specs.TextEntry.{TextEntry}
+use Rattle.po_messages.specs.Duplicate.{HasNoDuplicate, IsFirstDuplicate}
+use Rattle.po_messages.specs.Joined.{InputEntry, in_input, is_live}
+use Rattle.po_messages.specs.DistinctText.{IsTextFault}
+use Rattle.po_select.specs.declared.selection.Selection.{Selection}
+use Rattle.po_select.specs.Selected.{is_kept, obsolete_after, selected}
+use Rattle.po_writer.specs.TextParts.{AreParts}
+use Rattle.po_writer.specs.WrittenText.{written_text}
+use Rattle.text_runs.specs.Keys.{HoldKeys}
+use Rattle.text_runs.specs.Repeats.{Repeats, are_placed}
+use Rattle.msgattrib.specs.declared.selected_text.Rows.{Rows}
+use Rattle.msgattrib.specs.declared.selected_text.SelectedSoFar.{SelectedSoFar}
+
+-- the entry is kept, and live once it is changed
+abbrev pub stays_live : Selection → TextEntry → Bool
+stays_live s entry = is_kept s entry && not (obsolete_after s entry)
+
+-- these are the rows of the entries
+pub record HoldRows (s : Selection) (entries : List TextEntry) (rows : Rows) : Type 0 where
+  pub keys : HoldKeys entries rows.keys
+  pub read : rows.read.items ≡ are_placed is_live entries
+  pub kept : rows.kept.items ≡ are_placed (stays_live s) entries
+
+-- those of these entries that are selected are written, and these are the rows of all
+pub record AreSelected (s : Selection) (entries : List TextEntry) (so_far : SelectedSoFar) : Type 0 where
+  pub parts : AreParts (selected s entries) so_far.parts
+  pub rows : HoldRows s entries so_far.rows
+
+-- and they are all entries of the text
+pub record IsSelectedWhole (s : Selection) (text : List ℕ) (so_far : SelectedSoFar) : Type 0 where
+  pub entries : List TextEntry
+  pub reads : ReadsText text entries
+  pub have : AreSelected s entries so_far
+
+-- neither the entries nor those that are selected have a duplicate
+pub record AreDistinct (s : Selection) (entries : List TextEntry) : Type 0 where
+  pub read : HasNoDuplicate entries
+  pub kept : HasNoDuplicate (selected s entries)
+
+-- the first duplicate of the selected ones of entries that have none, without its line
+pub record RepeatsSelected (s : Selection) (entries : List TextEntry) (error : PoError) : Type 0 where
+  pub distinct : HasNoDuplicate entries
+  pub first : InputEntry
+  pub later : InputEntry
+  pub duplicate : IsFirstDuplicate (map (in_input 0) (selected s entries)) first later
+  pub error_is : error ≡ record { kind = Duplicate first.entry.line; line = 0 }
+
+-- why entries are refused
+abbrev pub IsRowsFault : Selection → List TextEntry → PoError → Type 0
+IsRowsFault s entries error = Repeats entries error ⊎ RepeatsSelected s entries error
+
+-- the text reads as entries without a duplicate, and those that are selected, which have none, are written
+pub record IsSelectedText (s : Selection) (text written : List ℕ) : Type 0 where
+  pub entries : List TextEntry
+  pub reads : ReadsText text entries
+  pub distinct : AreDistinct s entries
+  pub text_is : written ≡ written_text (selected s entries)
+
+-- the text reads as entries, of which the selected ones have a duplicate
+pub record IsRepeatingText (s : Selection) (text : List ℕ) (error : PoError) : Type 0 where
+  pub entries : List TextEntry
+  pub reads : ReadsText text entries
+  pub repeats : RepeatsSelected s entries error
+
+-- why nothing is written: an allocation failed, the text has a fault, or what is selected has a duplicate
+abbrev pub IsSelectionFault : Selection → List ℕ → PoError → Type 0
+IsSelectionFault s text error = (error.kind ≡ OutOfMemory) ⊎ (IsTextFault text error ⊎ IsRepeatingText s text error)

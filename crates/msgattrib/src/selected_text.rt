@@ -1,0 +1,149 @@
+//! Selecting the entries of a text in one pass: a piece is read, its entries are selected, changed
+//! and written, and the piece is dropped before the next one is read. What is kept of each entry is
+//! its message and where it stands.
+
+ghost use Rattle.std.specs.Prelude.{◌≡◌, ◌⊎◌, ◌++◌, ◌∷◌, [], IfErr, IfOk, List, MatchResult, OnOk};
+ghost use Rattle.po_entry.specs.TextEntry.{TextEntry};
+ghost use Rattle.po_reader.specs.PieceRead.{IsTextError};
+ghost use Rattle.po_select.specs.declared.selection.Selection.{Selection};
+ghost use Rattle.po_syntax.specs.declared.fault.PoFault.{PoFault};
+ghost use Rattle.msgattrib.specs.SelectedText.{AreDistinct, AreSelected, HoldRows, IsRowsFault, IsSelectedText, IsSelectedWhole, IsSelectionFault, stays_live};
+
+use po_entry::{Catalogue, Entry};
+use po_messages::is_live;
+use po_reader::{PIECE, next_catalogue};
+use po_select::{Selection, select};
+use po_syntax::{Pieces, PoError};
+use po_writer::TextParts;
+use std::alloc::{AllocError, Global};
+use text_runs::{Keys, Place, duplicate, repeated_lines};
+
+/// What is kept of the entries that have been read.
+#[derive(Drop)]
+pub(crate) struct Rows {
+    /// Their messages.
+    pub(crate) keys: Keys,
+    /// Where they stand, and which of them are live.
+    pub(crate) read: Vec<Place>,
+    /// The same of them after they are selected: one that isn't kept is not live.
+    pub(crate) kept: Vec<Place>,
+}
+
+/// Entries that have been read, and what is written of those that are selected.
+#[derive(Drop)]
+pub(crate) struct SelectedSoFar {
+    pub(crate) parts: TextParts,
+    pub(crate) rows: Rows,
+}
+
+/// Whether an entry is kept and live once it is changed.
+fn stays_live(selection: &Selection, entry: &Entry) -> bool
+    ensures { result ≡ stays_live selection.now entry.now }
+{
+    selection.keeps(entry) && !selection.obsolete_after(entry)
+}
+
+impl Rows {
+    /// Adds an entry.
+    fn add(&mut self, entry: &Entry, selection: &Selection) -> Result<(), AllocError>
+        ensures { OnOk result ((before : List TextEntry) → HoldRows selection.now before self.old
+            → HoldRows selection.now (before ++ entry.now ∷ []) self.new) }
+    {
+        let line = entry.line();
+        self.keys.add(entry)?;
+        self.read.push(Place {
+            line,
+            is_live: is_live(entry),
+        })?;
+        self.kept.push(Place {
+            line,
+            is_live: stays_live(selection, entry),
+        })?;
+        Ok(())
+    }
+
+    /// Adds entries.
+    fn add_all(&mut self, entries: &[Entry], selection: &Selection) -> Result<(), AllocError>
+        ensures { OnOk result ((before : List TextEntry) → HoldRows selection.now before self.old
+            → HoldRows selection.now (before ++ entries.now) self.new) }
+    {
+        for entry in entries {
+            self.add(entry, selection)?;
+        }
+        Ok(())
+    }
+
+    /// Looks for duplicates, first among the entries as they are read, and then among those that are
+    /// selected, whose fault has no line.
+    fn check(&self, alloc: Global) -> Result<(), PoError>
+        requires { (selection : Selection) × (entries : List TextEntry) × HoldRows selection entries self.now }
+        ensures { (selection : Selection) (entries : List TextEntry) → HoldRows selection entries self.now
+            → MatchResult result (λ _. AreDistinct selection entries)
+            (λ error. (error.kind ≡ PoFault.OutOfMemory) ⊎ IsRowsFault selection entries error) }
+    {
+        let numbers = self.keys.numbers(alloc)?;
+        let mut seen = Vec::new(alloc);
+        if let Some((first, later)) = repeated_lines(alloc, &mut seen, 1, &numbers, &self.read)? {
+            return Err(duplicate(first, later));
+        }
+        match repeated_lines(alloc, &mut seen, 2, &numbers, &self.kept)? {
+            Some((first, _)) => Err(duplicate(first, 0)),
+            None => Ok(()),
+        }
+    }
+}
+
+/// Selects the entries of a piece, and writes them.
+fn select_piece(
+    so_far: &mut SelectedSoFar,
+    piece: Catalogue,
+    selection: &Selection,
+) -> Result<(), AllocError>
+    ensures { OnOk result ((before : List TextEntry) → AreSelected selection.now before so_far.old
+        → AreSelected selection.now (before ++ piece) so_far.new) }
+{
+    so_far.rows.add_all(piece.entries(), selection)?;
+    let selected = select(piece, selection).unwrap();
+    so_far.parts.add(selected.entries())
+}
+
+/// Selects the entries of a text, piece by piece.
+fn select_pieces(
+    alloc: Global,
+    text: &[u8],
+    selection: &Selection,
+) -> Result<SelectedSoFar, PoError>
+    ensures found { IfOk result (IsSelectedWhole selection.now text.now) }
+    ensures fault { IfErr result (IsTextError text.now) }
+{
+    let mut pieces = Pieces::of(text)?;
+    let mut so_far = SelectedSoFar {
+        parts: TextParts::with_capacity(alloc, text.len())?,
+        rows: Rows {
+            keys: Keys::new(alloc),
+            read: Vec::new(alloc),
+            kept: Vec::new(alloc),
+        },
+    };
+    while !pieces.are_over() {
+        let piece = next_catalogue(alloc, &mut pieces, PIECE)?;
+        select_piece(&mut so_far, piece, selection)?;
+    }
+    Ok(so_far)
+}
+
+/// What is written of the selected entries of a text. Refused with the text's first fault; with the
+/// first duplicate of the selected entries, without its line; and where an allocation failed.
+pub(crate) fn selected_text(
+    alloc: Global,
+    text: &[u8],
+    selection: &Selection,
+) -> Result<Vec<u8>, PoError>
+    ensures { MatchResult result (λ written. IsSelectedText selection.now text.now written.items)
+        (IsSelectionFault selection.now text.now) }
+{
+    let SelectedSoFar { parts, rows } = select_pieces(alloc, text, selection)?;
+    rows.check(alloc)?;
+    drop(rows);
+    Ok(parts.join()?)
+}

@@ -1,0 +1,199 @@
+-- Inputs that are read, and the first duplicate in one of them.
+use Rattle.std.proofs.Common.{◌≡◌, refl, sym, ap, ap₂, ◌∙◌, subst, ℕ, zero, suc, ◌+◌, ◌<◌, ◌≤◌, filter, List, [], ◌∷◌, ◌++◌, append-nil, append_assoc, add-one, arith, length, get_or, take, drop, map, inl, inr}
+use Rattle.std.specs.Prelude.{All, Contains}
+use Rattle.std.specs.List.{AllZip}
+use Rattle.std.proofs.Math.Seq.{take-append_seam, drop-append_seam}
+use Rattle.std.proofs.lemmas.Grind.{flat_map-append}
+use Rattle.std.proofs.lemmas.List.{length-map, map-append, take-append-drop, take_all, take_more}
+use Rattle.std.proofs.lemmas.List.Elements.{All-filter, All-head, All-nil, All-push, All-tail}
+use Rattle.std.proofs.lemmas.Simd.{map-map}
+use Rattle.po_syntax.specs.declared.fault.PoFault.TheVariants.{Duplicate}
+use Rattle.po_entry.specs.Halves.{All-left, All-right}
+use Rattle.po_entry.specs.ReadsText.{ReadsText}
+use Rattle.po_entry.specs.TextEntry.{TextEntry}
+use Rattle.po_messages.specs.Duplicate.{HasNoDuplicate}
+use Rattle.po_messages.specs.FirstOnes.{group_numbers}
+use Rattle.po_messages.specs.Joined.{is_live}
+use Rattle.po_messages.specs.Message.{entry_message, same_message}
+use Rattle.po_merge.specs.Grouping.{message_numbers}
+use Rattle.po_merge.specs.Inputs.{Named, NamedEntry, all_entries, named}
+use Rattle.po_messages.specs.Facts.Zips.{zip_at, zip_length, zip_more, zip_split}
+use Rattle.msgcat.specs.Entries.{HoldEntries, unnamed}
+use Rattle.msgcat.specs.Inputs.{AddsEntries, AreReadUpTo, IsFaultOfFirst, IsFirstRepeating, IsReadInput, IsTextOf}
+use Rattle.msgcat.specs.Msgcat.{AreReadAs, IsFileFault}
+use Rattle.text_runs.specs.Repeats.{IsFirstRepeat, NumbersDiffer, are_numbered, are_placed, numbered, place_of}
+use Rattle.msgcat.specs.declared.entries.Entries.{Entries}
+use Rattle.msgcat.specs.declared.inputs.FileFault.{FileFault}
+use Rattle.msgcat.specs.declared.inputs.ReadInput.{ReadInput}
+use Rattle.msgcat.specs.declared.inputs.ReadInputs.{ReadInputs}
+use Rattle.text_runs.proofs.RepeatLemmas.{AreAmong, all_among, numbers_differ}
+use Rattle.text_runs.proofs.NumberLemmas.{number_in, numbers_are, own_of, repeats_in}
+use Rattle.tool_runs.specs.NamedFile.{NamedFile}
+
+pub unnamed_named : (name : List ℕ) (entries : List TextEntry) → unnamed (map (named name) entries) ≡ entries
+unnamed_named name [] = refl
+unnamed_named name (e ∷ entries) = ap (λ l. e ∷ l) (unnamed_named name entries)
+
+-- the entries of an input, and those after them
+entries_first : (input : Named) (rest : List Named) (partial : List NamedEntry) → unnamed (all_entries (input ∷ rest) ++ partial) ≡ input.entries ++ unnamed (all_entries rest ++ partial)
+entries_first input rest partial =
+    let own = map (named input.name) input.entries in
+    ap unnamed (append_assoc own (all_entries rest) partial) ∙ map-append (λ (e : NamedEntry). e.entry) own (all_entries rest ++ partial) ∙ ap (λ l. l ++ unnamed (all_entries rest ++ partial)) (unnamed_named input.name input.entries)
+
+-- what is left of the inputs, the first of which have no duplicate
+pub record AreLeft (read : List Named) (partial : List NamedEntry) (i : ℕ) (rest : List ℕ) : Type 0 where
+  pub distinct : All (λ input. HasNoDuplicate input.entries) (take i read)
+  pub rest_is : rest ≡ are_numbered (number_in (unnamed (all_entries read ++ partial))) (unnamed (all_entries (drop i read) ++ partial))
+
+pub numbers_of : (entries : List NamedEntry) (numbers : List ℕ) → numbers ≡ message_numbers entries → numbers ≡ are_numbered (number_in (unnamed entries)) (unnamed entries)
+numbers_of entries numbers is = numbers_are (unnamed entries) numbers (is ∙ ap (group_numbers same_message) (sym (map-map entry_message (λ (e : NamedEntry). e.entry) entries)))
+
+pub message_numbers_of : (entries : List NamedEntry) (numbers : List ℕ) → numbers ≡ group_numbers same_message (map entry_message (unnamed entries)) → numbers ≡ message_numbers entries
+message_numbers_of entries numbers is = is ∙ ap (group_numbers same_message) (map-map entry_message (λ (e : NamedEntry). e.entry) entries)
+
+pub all_left : (read : List Named) (partial : List NamedEntry) (numbers : List ℕ) → numbers ≡ message_numbers (all_entries read ++ partial) → AreLeft read partial 0 numbers
+all_left read partial numbers is = record { distinct = All-nil (λ input. HasNoDuplicate input.entries); rest_is = numbers_of (all_entries read ++ partial) numbers is }
+
+pub none_left : (read : List Named) (partial : List NamedEntry) (inputs : List ReadInput) (i : ℕ) (rest : List ℕ) → AllZip IsReadInput read inputs → length inputs ≤ i → AreLeft read partial i rest
+    → All (λ input. HasNoDuplicate input.entries) read
+none_left read partial inputs i rest known past left = subst (All (λ input. HasNoDuplicate input.entries)) (take_all i read (omega (arith, past, zip_length IsReadInput read inputs known))) left.distinct
+
+module _ (read : List Named) (partial : List NamedEntry) (inputs : List ReadInput) (i : ℕ) (input : ReadInput) (rest : List ℕ) (known : AllZip IsReadInput read inputs) (inside : i < length inputs) (here : input ≡ get_or inputs i input) (left : AreLeft read partial i rest) where
+  abbrev all : List TextEntry
+  all = unnamed (all_entries read ++ partial)
+
+  abbrev at : (r : Named) × IsReadInput r input × (take (i + 1) read ≡ take i read ++ r ∷ []) × (drop i read ≡ r ∷ drop (i + 1) read)
+  at = zip_at IsReadInput read inputs i input known inside here
+
+  abbrev pub own : List TextEntry
+  own = at.0.entries
+
+  abbrev others : List TextEntry
+  others = unnamed (all_entries (drop (i + 1) read) ++ partial)
+
+  split : unnamed (all_entries (drop i read) ++ partial) ≡ own ++ others
+  split = ap (λ l. unnamed (all_entries l ++ partial)) at.3 ∙ entries_first at.0 (drop (i + 1) read) partial
+
+  pub places_are : input.places.items ≡ are_placed is_live own
+  places_are = at.1.places
+
+  count : length input.places.items ≡ length (are_numbered (number_in all) own)
+  count = ap length places_are ∙ length-map own (place_of is_live) ∙ sym (length-map own (λ e. number_in all (entry_message e)))
+
+  parts : rest ≡ are_numbered (number_in all) own ++ are_numbered (number_in all) others
+  parts = left.rest_is ∙ ap (are_numbered (number_in all)) split ∙ map-append (λ e. number_in all (entry_message e)) own others
+
+  pub own_numbers : take (length input.places.items) rest ≡ are_numbered (number_in all) own
+  own_numbers = ap₂ (λ n l. take n l) count parts ∙ take-append_seam (are_numbered (number_in all) own) (are_numbered (number_in all) others)
+
+  other_numbers : drop (length input.places.items) rest ≡ are_numbered (number_in all) others
+  other_numbers = ap₂ (λ n l. drop n l) count parts ∙ drop-append_seam (are_numbered (number_in all) own) (are_numbered (number_in all) others)
+
+  pub own_count : length (take (length input.places.items) rest) ≡ length input.places.items
+  own_count = ap length own_numbers ∙ sym count
+
+  -- an input without a duplicate
+  pub left_after : NumbersDiffer (map (numbered (number_in all)) (filter is_live own)) → AreLeft read partial (i + 1) (drop (length input.places.items) rest)
+  left_after differ = record {
+    distinct =
+        subst (All (λ input. HasNoDuplicate input.entries)) (sym at.2)
+        (All-push (λ input. HasNoDuplicate input.entries) (take i read) at.0 left.distinct (numbers_differ (number_in all) (filter is_live own) differ));
+    rest_is = other_numbers;
+  }
+
+  own_among : AreAmong (map entry_message all) own
+  own_among =
+      let Known : TextEntry → Type 0 = λ e. Contains (map entry_message all) (entry_message e) in
+      let front = unnamed (all_entries (take i read)) in
+      let whole : all ≡ front ++ (own ++ others) =
+      ap (λ l. unnamed (all_entries l ++ partial)) (sym (take-append-drop i read)) ∙ ap (λ l. unnamed (l ++ partial)) (flat_map-append (λ (n : Named). map (named n.name) n.entries) (take i read) (drop i read))
+      ∙ ap unnamed (append_assoc (all_entries (take i read)) (all_entries (drop i read)) partial) ∙ map-append (λ (e : NamedEntry). e.entry) (all_entries (take i read)) (all_entries (drop i read) ++ partial)
+      ∙ ap (λ l. front ++ l) split in
+      All-left Known own others (All-right Known front (own ++ others) (subst (All Known) whole (all_among all)))
+
+  -- one with a duplicate
+  pub repeating : (lines : ℕ × ℕ) (fault : FileFault) → IsFirstRepeat (map (numbered (number_in all)) (filter is_live own)) lines → fault.name.now ≡ input.name.now
+      → fault.error ≡ record { kind = Duplicate lines.0; line = lines.1 } → IsFirstRepeating read fault
+  repeating lines fault found name_is error_is = record {
+    before = take i read;
+    input = at.0;
+    after = drop (i + 1) read;
+    order = sym (take-append-drop i read) ∙ ap (λ l. take i read ++ l) at.3;
+    distinct = left.distinct;
+    name = name_is ∙ at.1.name;
+    repeats =
+        repeats_in (map entry_message all) (number_in all) own lines fault.error (own_of all) (All-filter is_live (λ e. Contains (map entry_message all) (entry_message e)) own own_among) found error_is;
+  }
+
+-- files whose texts have no duplicate
+read_as : (files : List NamedFile) (inputs : List Named) → AllZip IsTextOf files inputs → All (λ input. HasNoDuplicate input.entries) inputs → AreReadAs files inputs
+read_as [] [] h distinct = tt
+read_as [] (i ∷ inputs) h distinct = absurd h
+read_as (f ∷ files) [] h distinct = absurd h
+read_as (f ∷ files) (i ∷ inputs) h distinct = (
+  record { name = h.0.name; reads = record { reads = h.0.reads; distinct = All-head (λ input. HasNoDuplicate input.entries) i inputs distinct } },
+  read_as files inputs h.1 (All-tail (λ input. HasNoDuplicate input.entries) i inputs distinct),
+)
+
+-- the fault of a duplicate
+pub repeating_fault : (files : List NamedFile) (read : ReadInputs) (up_to : AreReadUpTo files read) (fault : FileFault) → IsFirstRepeating up_to.inputs fault → IsFileFault files fault.name.now fault.error
+repeating_fault files read up_to fault found =
+    let texts = subst (AllZip IsTextOf up_to.before) found.order up_to.texts in
+    let at = zip_split IsTextOf up_to.before found.before found.input found.after texts in
+    record {
+      before = at.0;
+      file = at.1;
+      after = at.2 ++ up_to.rest;
+      order = up_to.order ∙ ap (λ l. l ++ up_to.rest) at.3 ∙ append_assoc at.0 (at.1 ∷ at.2) up_to.rest;
+      inputs = found.before;
+      read = read_as at.0 found.before at.4 found.distinct;
+      name_is = found.name ∙ at.5.name;
+      fault = inr (record { entries = found.input.entries; reads = at.5.reads; first = found.repeats.0; later = found.repeats.1; duplicate = found.repeats.2; error_is = found.repeats.3 });
+    }
+
+-- the fault of a text
+pub text_fault : (files : List NamedFile) (read : ReadInputs) (up_to : AreReadUpTo files read) (fault : FileFault) → All (λ input. HasNoDuplicate input.entries) up_to.inputs → IsFaultOfFirst up_to.rest fault
+    → IsFileFault files fault.name.now fault.error
+text_fault files read up_to fault distinct first = record {
+  before = up_to.before;
+  file = first.file;
+  after = first.after;
+  order = up_to.order ∙ ap (λ l. up_to.before ++ l) first.first;
+  inputs = up_to.inputs;
+  read = read_as up_to.before up_to.inputs up_to.texts distinct;
+  name_is = first.name;
+  fault = inl first.fault_is;
+}
+
+-- all are read
+pub all_read : (files : List NamedFile) (read : ReadInputs) (up_to : AreReadUpTo files read) → All (λ input. HasNoDuplicate input.entries) up_to.inputs → up_to.rest ≡ [] → AreReadAs files up_to.inputs
+all_read files read up_to distinct none =
+    subst (λ l. AreReadAs l up_to.inputs) (sym (up_to.order ∙ ap (λ l. up_to.before ++ l) none ∙ append-nil up_to.before)) (read_as up_to.before up_to.inputs up_to.texts distinct)
+
+pub no_partial : (inputs : List Named) (partial : List NamedEntry) → partial ≡ [] → all_entries inputs ++ partial ≡ all_entries inputs
+no_partial inputs partial none = ap (λ l. all_entries inputs ++ l) none ∙ append-nil (all_entries inputs)
+
+-- further entries of an input
+pub adds_more : (name : List ℕ) (read more : List TextEntry) (old mid new : Entries) → AddsEntries name read old mid → AddsEntries name more mid new → AddsEntries name (read ++ more) old new
+adds_more name read more old mid new first later before have =
+    subst (λ l. HoldEntries l new) (append_assoc before (map (named name) read) (map (named name) more) ∙ ap (λ l. before ++ l) (sym (map-append (named name) read more)))
+    (later (before ++ map (named name) read) (first before have))
+
+pub adds_none : (name : List ℕ) (entries : Entries) → AddsEntries name [] entries entries
+adds_none name entries before have = subst (λ l. HoldEntries l entries) (sym (append-nil before)) have
+
+-- one more input
+pub text_more : (files : List NamedFile) (i : ℕ) (d : NamedFile) (inputs : List Named) (name : List ℕ) (entries : List TextEntry) → i < length files → AllZip IsTextOf (take i files) inputs → (get_or files i d).name ≡ name → ReadsText (get_or files i d).bytes entries
+    → AllZip IsTextOf (take (i + 1) files) (inputs ++ record { name = name; entries = entries } ∷ [])
+text_more files i d inputs name entries inside texts name_is reads =
+    subst (λ l. AllZip IsTextOf l (inputs ++ record { name = name; entries = entries } ∷ [])) (sym (take_more files i d inside))
+    (zip_more IsTextOf (take i files) inputs (get_or files i d) (record { name = name; entries = entries }) texts (record { name = sym name_is; reads = reads }))
+
+pub entries_more : (inputs : List Named) (name : List ℕ) (entries : List TextEntry) → all_entries inputs ++ map (named name) entries ≡ all_entries (inputs ++ record { name = name; entries = entries } ∷ [])
+entries_more inputs name entries =
+    let one : Named = record { name = name; entries = entries } in
+    sym (flat_map-append (λ (n : Named). map (named n.name) n.entries) inputs (one ∷ []) ∙ ap (λ l. all_entries inputs ++ l) (append-nil (map (named name) entries)))
+
+pub known_more : (inputs : List Named) (read : List ReadInput) (name : List ℕ) (entries : List TextEntry) (input : ReadInput) → AllZip IsReadInput inputs read → input.name.now ≡ name → input.places.items ≡ are_placed is_live entries
+    → AllZip IsReadInput (inputs ++ record { name = name; entries = entries } ∷ []) (read ++ input ∷ [])
+known_more inputs read name entries input known name_is places = zip_more IsReadInput inputs read (record { name = name; entries = entries }) input known (record { name = name_is; places = places })

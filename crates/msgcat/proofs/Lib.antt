@@ -1,0 +1,5 @@
+pub mod MsgcatLemmas
+pub mod NulNames
+pub mod EntryLemmas
+pub mod InputLemmas
+pub mod MergedLemmas

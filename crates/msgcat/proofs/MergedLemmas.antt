@@ -1,0 +1,310 @@
+-- Groups of rows, and what is written of them.
+use Rattle.std.proofs.Common.{◌≡◌, refl, sym, ap, ap₂, ◌∙◌, subst, ℕ, zero, suc, ◌+◌, ◌<◌, ◌==◌, Bool, true, false, cond, not, ◌||◌, ◌&&◌, filter, List, [], ◌∷◌, ◌++◌, append-nil, arith, length, get_or, take, map, inl, inr}
+use Rattle.std.specs.Prelude.{All, IsUtf8, if◌then◌else◌}
+use Rattle.std.specs.Global.{Vec}
+use Rattle.std.specs.List.{AllZip, flat_map, list_any, range_with_len}
+use Rattle.std.proofs.lemmas.List.{map-append, take_more}
+use Rattle.std.proofs.lemmas.List.Elements.{All-cons, All-nil, All-push}
+use Rattle.po_syntax.specs.declared.fault.PoError.{PoError}
+use Rattle.po_syntax.specs.PoText.{IsSmall}
+use Rattle.po_entry.specs.Bytes.{Lacks}
+use Rattle.po_entry.specs.Halves.{All-left, All-right}
+use Rattle.po_entry.specs.Header.{HasAdmittedCharset, is_header}
+use Rattle.po_entry.specs.ReadsText.{ReadsText}
+use Rattle.po_entry.specs.TextEntry.{TextEntry, SameButLine, with_line}
+use Rattle.po_entry.specs.Validity.{IsCatalogueEntry}
+use Rattle.po_messages.specs.Joined.{is_live}
+use Rattle.po_messages.specs.Message.{same_message}
+use Rattle.po_merge.specs.declared.definition.NamedEntry.{NamedEntry as BorrowedEntry}
+use Rattle.po_merge.specs.declared.input.MergeOptions.{MergeOptions}
+use Rattle.po_merge.specs.EntryLaws.{IsSameButLine}
+use Rattle.po_merge.specs.Grouping.{IsDefinition, IsGroup, message_numbers, named_messages}
+use Rattle.po_merge.specs.Groups.{by_number, definitions, first_ones, groups, with_number}
+use Rattle.po_merge.specs.Inputs.{NamedEntry}
+use Rattle.po_merge.specs.InputsView.{named_entries, named_entry}
+use Rattle.po_merge.specs.Merged.{IsMergeFault, is_kept, is_wanted, merged_messages}
+use Rattle.po_merge.specs.MergeLaws.{GroupsByNumber}
+use Rattle.po_merge.specs.MergedEntry.{merged_entry}
+use Rattle.po_merge.proofs.GroupsMerged.{groups_valid, messages_append}
+use Rattle.po_writer.specs.TextParts.{AreParts, AreSeparated, separated}
+use Rattle.po_writer.specs.WrittenText.{arranged, entry_lines, in_order, written_text}
+use Rattle.po_writer.specs.declared.parts.TextParts.{TextParts}
+use Rattle.msgcat.specs.Entries.{AreRows, IsRow}
+use Rattle.msgcat.specs.MergedText.{AreGroups, AreReadBack, AreWritten, IsOnly}
+use Rattle.msgcat.specs.declared.entries.Row.{Row}
+use Rattle.po_messages.specs.Facts.Zips.{zip_all, zip_get, zip_length, zip_more}
+
+-- rows and their entries pass the same tests
+module _ (text : List ℕ) (p : NamedEntry → Bool) (q : Row → Bool) (same : (e : NamedEntry) (r : Row) → IsRow text e r → q r ≡ p e) where
+  pub any_row : (entries : List NamedEntry) (rows : List Row) → AreRows text entries rows → list_any q rows ≡ list_any p entries
+  any_row [] [] h = refl
+  any_row [] (r ∷ rows) h = absurd h
+  any_row (e ∷ entries) [] h = absurd h
+  any_row (e ∷ entries) (r ∷ rows) h = ap₂ (λ (a b : Bool). a || b) (same e r h.0) (any_row entries rows h.1)
+
+  pub filter_rows : (entries : List NamedEntry) (rows : List Row) → AreRows text entries rows → AreRows text (filter p entries) (filter q rows)
+  filter_rows [] [] h = tt
+  filter_rows [] (r ∷ rows) h = absurd h
+  filter_rows (e ∷ entries) [] h = absurd h
+  filter_rows (e ∷ entries) (r ∷ rows) h = subst (λ b. AreRows text (filter p (e ∷ entries)) (cond b (r ∷ filter q rows) (filter q rows))) (sym (same e r h.0)) (found (p e) h.0 (filter_rows entries rows h.1)) where
+    found : (b : Bool) → IsRow text e r → AreRows text (filter p entries) (filter q rows) → AreRows text (cond b (e ∷ filter p entries) (filter p entries)) (cond b (r ∷ filter q rows) (filter q rows))
+    found true one more = (one, more)
+    found false one more = more
+
+pub any_live : (text : List ℕ) (entries : List NamedEntry) (rows : List Row) → AreRows text entries rows → list_any (λ r. r.is_live) rows ≡ list_any (λ e. is_live e.entry) entries
+any_live text = any_row text (λ e. is_live e.entry) (λ r. r.is_live) (λ e r h. h.live)
+
+pub any_obsolete : (text : List ℕ) (entries : List NamedEntry) (rows : List Row) → AreRows text entries rows → list_any (λ r. not r.is_live) rows ≡ list_any (λ e. not (is_live e.entry)) entries
+any_obsolete text = any_row text (λ e. not (is_live e.entry)) (λ r. not r.is_live) (λ e r h. ap not h.live)
+
+any_header : (text : List ℕ) (entries : List NamedEntry) (rows : List Row) → AreRows text entries rows → list_any (λ r. r.is_header) rows ≡ list_any (λ e. is_header e.entry) entries
+any_header text = any_row text (λ e. is_header e.entry) (λ r. r.is_header) (λ e r h. h.header)
+
+pub live_rows : (text : List ℕ) (entries : List NamedEntry) (rows : List Row) → AreRows text entries rows → AreRows text (filter (λ e. is_live e.entry) entries) (filter (λ r. r.is_live) rows)
+live_rows text = filter_rows text (λ e. is_live e.entry) (λ r. r.is_live) (λ e r h. h.live)
+
+pub kept_rows : (o : MergeOptions) (text : List ℕ) (entries : List NamedEntry) (rows : List Row) → AreRows text entries rows → (list_any (λ r. r.is_header) rows || is_wanted o (length rows)) ≡ is_kept o entries
+kept_rows o text entries rows h = ap₂ (λ (b : Bool) (n : ℕ). b || is_wanted o n) (any_header text entries rows h) (sym (zip_length (IsRow text) entries rows h))
+
+-- what defines a message, where its entries are mixed and where they aren't
+pub mixed : (entries : List NamedEntry) → list_any (λ e. is_live e.entry) entries ≡ true → definitions entries ≡ filter (λ e. is_live e.entry) entries
+mixed entries some = ap (λ (b : Bool). if b then filter (λ e. is_live e.entry) entries else entries) some
+
+pub none_live : (entries : List NamedEntry) → list_any (λ e. is_live e.entry) entries ≡ false → definitions entries ≡ entries
+none_live entries none = ap (λ (b : Bool). if b then filter (λ e. is_live e.entry) entries else entries) none
+
+all_live : (entries : List NamedEntry) → list_any (λ e. not (is_live e.entry)) entries ≡ false → filter (λ e. is_live e.entry) entries ≡ entries
+all_live [] none = refl
+all_live (e ∷ entries) none = found (is_live e.entry) refl none (all_live entries) where
+  found : (b : Bool) → is_live e.entry ≡ b → (not b || list_any (λ x. not (is_live x.entry)) entries) ≡ false
+      → (list_any (λ x. not (is_live x.entry)) entries ≡ false → filter (λ x. is_live x.entry) entries ≡ entries) → filter (λ x. is_live x.entry) (e ∷ entries) ≡ e ∷ entries
+  found true is rest more = ap (λ b. cond b (e ∷ filter (λ x. is_live x.entry) entries) (filter (λ x. is_live x.entry) entries)) is ∙ ap (λ l. e ∷ l) (more rest)
+  found false is rest more = cc
+
+pub none_obsolete : (entries : List NamedEntry) → list_any (λ e. not (is_live e.entry)) entries ≡ false → definitions entries ≡ entries
+none_obsolete entries none = found (list_any (λ e. is_live e.entry) entries) where
+  found : (b : Bool) → (if b then filter (λ e. is_live e.entry) entries else entries) ≡ entries
+  found true = all_live entries none
+  found false = refl
+
+-- an entry's text
+pub arranged_one : (e : TextEntry) → arranged (e ∷ []) ≡ e ∷ []
+arranged_one e = found e.obsolete where
+  found : (b : Bool) → cond (not b) (e ∷ []) [] ++ cond b (e ∷ []) [] ≡ e ∷ []
+  found true = refl
+  found false = refl
+
+pub written_one : (e : TextEntry) → written_text (e ∷ []) ≡ entry_lines e
+written_one e = ap in_order (arranged_one e) ∙ append-nil (entry_lines e)
+
+-- an entry that is read back is that entry, but for its line
+abbrev pub ReadsBack : Type 0
+ReadsBack = (entries read : List TextEntry) → All IsCatalogueEntry entries → IsSmall (written_text entries) → ReadsText (written_text entries) read → map (with_line 0) read ≡ map (with_line 0) (arranged entries)
+
+only_one : (e : TextEntry) (read : List TextEntry) → map (with_line 0) read ≡ with_line 0 e ∷ [] → IsOnly e read
+only_one e [] is = absurd (cc)
+only_one e (x ∷ []) is = record { only = x; entries_are = refl; same = cc }
+only_one e (x ∷ y ∷ read) is = absurd (let long : length (map (with_line 0) (x ∷ y ∷ read)) ≡ 1 = ap length is in omega (arith, long))
+
+pub read_back : ReadsBack → (text : List ℕ) (e : NamedEntry) (own : List ℕ) (read : List TextEntry) → IsDefinition e → HasAdmittedCharset e.entry → own ≡ entry_lines e.entry → ReadsText own read → IsOnly e.entry read
+read_back law text e own read valid charset own_is reads =
+    let again : ReadsText (written_text (e.entry ∷ [])) read = subst (λ l. ReadsText l read) (own_is ∙ sym (written_one e.entry)) reads in
+    let all = All-cons IsCatalogueEntry e.entry [] (record { valid = valid.valid; charset = charset }) (All-nil IsCatalogueEntry) in
+    only_one e.entry read (law (e.entry ∷ []) read all again.spelt.small again ∙ ap (map (with_line 0)) (arranged_one e.entry))
+
+pub separated_one : (e : TextEntry) → separated (e ∷ []) ≡ 10 ∷ entry_lines e
+separated_one e = append-nil (10 ∷ entry_lines e)
+
+-- the text of one entry, in two parts
+pub live_text : (e : TextEntry) (own : List ℕ) → is_live e ≡ true → own ≡ separated (e ∷ []) → AreSeparated (e ∷ []) own []
+live_text e own live is = found e.obsolete refl live where
+  found : (b : Bool) → e.obsolete ≡ b → not b ≡ true → AreSeparated (e ∷ []) own []
+  found true obsolete h = absurd (cc)
+  found false obsolete h = record {
+    live_is = is ∙ ap (λ (b : Bool). separated (cond (not b) (e ∷ []) [])) (sym obsolete);
+    obsolete_is = ap (λ (b : Bool). separated (cond b (e ∷ []) [])) (sym obsolete);
+  }
+
+pub obsolete_text : (e : TextEntry) (own : List ℕ) → is_live e ≡ false → own ≡ separated (e ∷ []) → AreSeparated (e ∷ []) [] own
+obsolete_text e own dead is = found e.obsolete refl dead where
+  found : (b : Bool) → e.obsolete ≡ b → not b ≡ false → AreSeparated (e ∷ []) [] own
+  found false obsolete h = absurd (cc)
+  found true obsolete h = record {
+    live_is = ap (λ (b : Bool). separated (cond (not b) (e ∷ []) [])) (sym obsolete);
+    obsolete_is = is ∙ ap (λ (b : Bool). separated (cond b (e ∷ []) [])) (sym obsolete);
+  }
+
+-- the lines of entries aren't written
+further_unlined : (es : List TextEntry) → flat_map (λ e. (10 ∷ []) ++ entry_lines e) (map (with_line 0) es) ≡ flat_map (λ e. (10 ∷ []) ++ entry_lines e) es
+further_unlined [] = refl
+further_unlined (e ∷ es) = ap (λ l. ((10 ∷ []) ++ entry_lines e) ++ l) (further_unlined es)
+
+order_unlined : (es : List TextEntry) → in_order (map (with_line 0) es) ≡ in_order es
+order_unlined [] = refl
+order_unlined (e ∷ es) = ap (λ l. entry_lines e ++ l) (further_unlined es)
+
+module _ (p : Bool → Bool) where
+  filter_unlined : (es : List TextEntry) → filter (λ e. p e.obsolete) (map (with_line 0) es) ≡ map (with_line 0) (filter (λ e. p e.obsolete) es)
+  filter_unlined [] = refl
+  filter_unlined (e ∷ es) = ap (λ l. cond (p e.obsolete) (with_line 0 e ∷ l) l) (filter_unlined es) ∙ found (p e.obsolete) where
+    found : (b : Bool) → cond b (with_line 0 e ∷ map (with_line 0) (filter (λ x. p x.obsolete) es)) (map (with_line 0) (filter (λ x. p x.obsolete) es)) ≡ map (with_line 0) (cond b (e ∷ filter (λ x. p x.obsolete) es) (filter (λ x. p x.obsolete) es))
+    found true = refl
+    found false = refl
+
+  part_unlined : (es fs : List TextEntry) → map (with_line 0) es ≡ map (with_line 0) fs → in_order (filter (λ e. p e.obsolete) es) ≡ in_order (filter (λ e. p e.obsolete) fs)
+  part_unlined es fs same =
+      sym (order_unlined (filter (λ e. p e.obsolete) es)) ∙ ap in_order (sym (filter_unlined es)) ∙ ap (λ l. in_order (filter (λ e. p e.obsolete) l)) same
+      ∙ ap in_order (filter_unlined fs) ∙ order_unlined (filter (λ e. p e.obsolete) fs)
+
+-- the last entry, but for its line
+pub last_unlined : (before : List TextEntry) (a b : TextEntry) (parts : TextParts) → SameButLine a b → AreParts (before ++ a ∷ []) parts → AreParts (before ++ b ∷ []) parts
+last_unlined before a b parts same are =
+    let all : map (with_line 0) (before ++ a ∷ []) ≡ map (with_line 0) (before ++ b ∷ []) =
+    map-append (with_line 0) before (a ∷ []) ∙ ap (λ e. map (with_line 0) before ++ e ∷ []) same ∙ sym (map-append (with_line 0) before (b ∷ [])) in
+    record {
+      live = are.live ∙ part_unlined not (before ++ a ∷ []) (before ++ b ∷ []) all;
+      obsolete = are.obsolete ∙ part_unlined (λ o. o) (before ++ a ∷ []) (before ++ b ∷ []) all;
+    }
+
+pub charset_unlined : (a b : TextEntry) → SameButLine a b → HasAdmittedCharset a → HasAdmittedCharset b
+charset_unlined a b same h = subst HasAdmittedCharset same h
+
+-- what is written, with one more entry
+pub written_more : (before : List TextEntry) (a b : TextEntry) (parts : TextParts) → SameButLine a b → AreParts (before ++ a ∷ []) parts → All HasAdmittedCharset before → HasAdmittedCharset a → AreWritten (before ++ b ∷ []) parts
+written_more before a b parts same are admitted one = record { parts_are = last_unlined before a b parts same are; admitted = All-push HasAdmittedCharset before b admitted (charset_unlined a b same one) }
+
+pub fault_unlined : (a b : TextEntry) (error : PoError) → SameButLine a b → IsMergeFault (a ∷ []) error → IsMergeFault (b ∷ []) error
+fault_unlined a b error same (inl memory) = inl memory
+fault_unlined a b error same (inr foreign) =
+    inr ((λ all. foreign.0 (All-cons HasAdmittedCharset a [] (charset_unlined b a (sym same) (all 0 b (omega arith))) (All-nil HasAdmittedCharset))), foreign.1)
+
+pub kept : (o : MergeOptions) (ds : List NamedEntry) → is_kept o ds ≡ true → merged_messages o (ds ∷ []) ≡ merged_entry o ds ∷ []
+kept o ds some = ap (λ (b : Bool). map (merged_entry o) (cond b (ds ∷ []) [])) some
+
+pub only_row : (text : List ℕ) (ds : List NamedEntry) (row : Row) → AreRows text ds (row ∷ []) → (d : NamedEntry) × (ds ≡ d ∷ []) × IsRow text d row
+only_row text [] row h = absurd h
+only_row text (d ∷ []) row h = (d, refl, h.0)
+only_row text (d ∷ e ∷ ds) row h = absurd h.1
+
+abbrev pub of_groups : MergeOptions → List (List NamedEntry) → List TextEntry
+of_groups o all = merged_messages o (map definitions all)
+
+pub of_groups_more : (o : MergeOptions) (all : List (List NamedEntry)) (i : ℕ) (d : List NamedEntry) → i < length all → of_groups o (take i all) ++ merged_messages o (definitions (get_or all i d) ∷ []) ≡ of_groups o (take (i + 1) all)
+of_groups_more o all i d inside =
+    sym (ap (of_groups o) (take_more all i d inside) ∙ ap (merged_messages o) (map-append definitions (take i all) (get_or all i d ∷ [])) ∙ messages_append o (map definitions (take i all)) (definitions (get_or all i d) ∷ []))
+
+within : (o : MergeOptions) (all : List (List NamedEntry)) (i : ℕ) (d : List NamedEntry) → i < length all → All HasAdmittedCharset (of_groups o all) → All HasAdmittedCharset (merged_messages o (definitions (get_or all i d) ∷ []))
+within o [] i d inside admitted = absurd (omega (arith, inside))
+within o (g ∷ all) zero d inside admitted =
+    All-left HasAdmittedCharset (merged_messages o (definitions g ∷ [])) (of_groups o all) (subst (All HasAdmittedCharset) (messages_append o (definitions g ∷ []) (map definitions all)) admitted)
+within o (g ∷ all) (suc i) d inside admitted =
+    let less : i < length all = omega (arith, inside) in
+    within o all i d less (All-right HasAdmittedCharset (merged_messages o (definitions g ∷ [])) (of_groups o all) (subst (All HasAdmittedCharset) (messages_append o (definitions g ∷ []) (map definitions all)) admitted))
+
+pub fault_within : (o : MergeOptions) (all : List (List NamedEntry)) (i : ℕ) (d : List NamedEntry) (error : PoError) → i < length all → IsMergeFault (merged_messages o (definitions (get_or all i d) ∷ [])) error → IsMergeFault (of_groups o all) error
+fault_within o all i d error inside (inl memory) = inl memory
+fault_within o all i d error inside (inr foreign) = inr (λ admitted. foreign.0 (within o all i d inside admitted), foreign.1)
+
+-- groups by numbers
+module _ (text : List ℕ) where
+  numbered_rows : (n : ℕ) (ns : List ℕ) (entries : List NamedEntry) (rows : List Row) → AreRows text entries rows → AreRows text (with_number n ns entries) (with_number n ns rows)
+  numbered_rows n [] entries rows h = tt
+  numbered_rows n (k ∷ ns) [] [] h = tt
+  numbered_rows n (k ∷ ns) [] (r ∷ rows) h = absurd h
+  numbered_rows n (k ∷ ns) (e ∷ entries) [] h = absurd h
+  numbered_rows n (k ∷ ns) (e ∷ entries) (r ∷ rows) h = found (k == n) (numbered_rows n ns entries rows h.1) where
+    found : (b : Bool) → AreRows text (with_number n ns entries) (with_number n ns rows)
+        → AreRows text (if b then e ∷ with_number n ns entries else with_number n ns entries) (if b then r ∷ with_number n ns rows else with_number n ns rows)
+    found true more = (h.0, more)
+    found false more = more
+
+  rows_from : (ns : List ℕ) (entries : List NamedEntry) (rows : List Row) (indices : List ℕ) → AreRows text entries rows → AllZip (AreRows text) (map (λ n. with_number n ns entries) indices) (map (λ n. with_number n ns rows) indices)
+  rows_from ns entries rows [] h = tt
+  rows_from ns entries rows (n ∷ indices) h = (numbered_rows n ns entries rows h, rows_from ns entries rows indices h)
+
+  in_vectors : (all : List (List NamedEntry)) (groups : List (Vec Row)) → AllZip (AreRows text) all (map (λ g. g.items) groups) → All IsGroup all → AreGroups text all groups
+  in_vectors [] [] h valid = tt
+  in_vectors [] (g ∷ groups) h valid = absurd h
+  in_vectors (es ∷ all) [] h valid = absurd h
+  in_vectors (es ∷ all) (g ∷ groups) h valid =
+      let some = (valid 0 es (omega arith)).some in
+      let long = zip_length (IsRow text) es g.items h.0 in
+      (record { some = omega (arith, some, long); rows = h.0 }, in_vectors all groups h.1 (λ k d below. valid (suc k) d (omega (arith, below))))
+
+  groups_are : (count : ℕ) (ns : List ℕ) (entries : List NamedEntry) (rows : List Row) (groups : List (Vec Row)) (all : List (List NamedEntry)) → AreRows text entries rows → map (λ g. g.items) groups ≡ by_number count ns rows
+      → by_number count ns entries ≡ all → All IsGroup all → AreGroups text all groups
+  groups_are count ns entries rows groups all have of_rows of_entries valid =
+      in_vectors all groups
+      (subst (λ l. AllZip (AreRows text) l (map (λ (g : Vec Row). g.items) groups)) of_entries
+      (subst (AllZip (AreRows text) (by_number count ns entries)) (sym of_rows) (rows_from ns entries rows (range_with_len 0 count) have))) valid
+
+all_valid : (text : List ℕ) (entries : List NamedEntry) (rows : List Row) → AreRows text entries rows → All IsDefinition entries
+all_valid text = zip_all (IsRow text) IsDefinition (λ e r h. h.can.valid)
+
+pub mixed_rows : (text : List ℕ) (entries : List NamedEntry) (rows : List Row) → AreRows text entries rows
+    → (list_any (λ r. r.is_live) rows && list_any (λ r. not r.is_live) rows) ≡ (list_any (λ e. is_live e.entry) entries && list_any (λ e. not (is_live e.entry)) entries)
+mixed_rows text entries rows h = ap₂ (λ (a b : Bool). a && b) (any_live text entries rows h) (any_obsolete text entries rows h)
+
+pub some_live : (a b : Bool) → (a && b) ≡ true → a ≡ true
+some_live true b h = refl
+some_live false b h = h
+
+pub unmixed : (entries : List NamedEntry) → (list_any (λ e. is_live e.entry) entries && list_any (λ e. not (is_live e.entry)) entries) ≡ false → definitions entries ≡ entries
+unmixed entries h = found (list_any (λ e. is_live e.entry) entries) refl h where
+  found : (b : Bool) → list_any (λ e. is_live e.entry) entries ≡ b → (b && list_any (λ e. not (is_live e.entry)) entries) ≡ false → definitions entries ≡ entries
+  found true some none = none_obsolete entries none
+  found false none h = none_live entries none
+
+-- one more definition that is read again
+pub definition_more : (text : List ℕ) (definitions : List NamedEntry) (rows : List Row) (es : List TextEntry) (i : ℕ) (r : TextEntry) (row : Row) (found new : List BorrowedEntry) (x : BorrowedEntry) → i < length rows → AreRows text definitions rows
+    → AreReadBack definitions es → All IsCatalogueEntry es → r ≡ get_or es i r → new ≡ found ++ x ∷ [] → x.name.now ≡ (get_or rows i row).name.now → x.entry.now ≡ r
+    → AllZip IsSameButLine (take i definitions) (named_entries found) × All IsDefinition (named_entries found) → AllZip IsSameButLine (take (i + 1) definitions) (named_entries new) × All IsDefinition (named_entries new)
+definition_more text definitions rows es i r row found new x below h back valid here pushed name entry so_far =
+    let none : NamedEntry = record { name = []; entry = r } in
+    let d = get_or definitions i none in
+    let at : IsRow text d (get_or rows i row) = zip_get (IsRow text) definitions rows i none row h below in
+    let long : length definitions ≡ length rows = zip_length (IsRow text) definitions rows h in
+    let count : length definitions ≡ length es = zip_length (λ (e : NamedEntry) (y : TextEntry). SameButLine e.entry y) definitions es back in
+    let inside : i < length definitions = omega (arith, below, long) in
+    let read : i < length es = omega (arith, inside, count) in
+    let same : SameButLine d.entry x.entry.now =
+    subst (SameButLine d.entry) (sym (entry ∙ here)) (zip_get (λ (e : NamedEntry) (y : TextEntry). SameButLine e.entry y) definitions es i none r back read) in
+    let good : IsCatalogueEntry x.entry.now = subst IsCatalogueEntry (sym (entry ∙ here)) (valid i r read) in
+    let name_is : x.name.now ≡ d.name = name ∙ at.name in
+    let more : named_entries new ≡ named_entries found ++ named_entry x ∷ [] = ap named_entries pushed ∙ map-append named_entry found (x ∷ []) in (
+      subst (AllZip IsSameButLine (take (i + 1) definitions)) (sym more)
+          (subst (λ l. AllZip IsSameButLine l (named_entries found ++ named_entry x ∷ [])) (sym (take_more definitions i none inside))
+          (zip_more IsSameButLine (take i definitions) (named_entries found) d (named_entry x) so_far.0 (record { name = sym name_is; entry = same }))),
+      subst (All IsDefinition) (sym more)
+          (All-push IsDefinition (named_entries found) (named_entry x) so_far.1
+          (record { valid = good.valid; utf8 = subst IsUtf8 (sym name_is) at.can.valid.utf8; no_nul = subst (λ l. Lacks 0 l) (sym name_is) at.can.valid.no_nul })),
+    )
+
+-- one more message
+pub message_copied : (o : MergeOptions) (text : List ℕ) (ds : List NamedEntry) (row : Row) (before : List TextEntry) (parts : TextParts) → ((d : NamedEntry) → merged_entry o (d ∷ []) ≡ d.entry) → AreRows text ds (row ∷ []) → is_kept o ds ≡ true
+    → ((d : NamedEntry) → IsRow text d row → AreWritten (before ++ d.entry ∷ []) parts) → AreWritten (before ++ merged_messages o (ds ∷ [])) parts
+message_copied o text ds row before parts law h keeps copied =
+    let only = only_row text ds row h in
+    let is : merged_messages o (ds ∷ []) ≡ only.0.entry ∷ [] = kept o ds keeps ∙ ap (λ l. merged_entry o l ∷ []) only.1 ∙ ap (λ e. e ∷ []) (law only.0) in
+    subst (λ l. AreWritten (before ++ l) parts) (sym is) (copied only.0 only.2)
+
+pub message_merged : (o : MergeOptions) (ds : List NamedEntry) (before merged : List TextEntry) (parts : TextParts) → is_kept o ds ≡ true → IsOnly (merged_entry o ds) merged → All IsCatalogueEntry merged → AreParts (before ++ merged) parts → All HasAdmittedCharset before
+    → AreWritten (before ++ merged_messages o (ds ∷ [])) parts
+message_merged o ds before merged parts keeps only valid are admitted =
+    let one : IsCatalogueEntry only.only = (subst (All IsCatalogueEntry) only.entries_are valid) 0 only.only (omega arith) in
+    subst (λ l. AreWritten (before ++ l) parts) (sym (kept o ds keeps))
+    (written_more before only.only (merged_entry o ds) parts only.same (subst (λ l. AreParts (before ++ l) parts) only.entries_are are) admitted one.charset)
+
+-- a list of one
+pub one_of : (rows : List Row) (d : Row) → 0 < length rows → length rows < 2 → rows ≡ get_or rows 0 d ∷ []
+one_of [] d some few = absurd (omega (arith, some))
+one_of (r ∷ []) d some few = refl
+one_of (r ∷ s ∷ rows) d some few = absurd (omega (arith, few))
+
+-- the groups of rows by the numbers of their messages
+pub groups_hold : (text now : List ℕ) (es : List NamedEntry) (rows list : List Row) (found items : List (Vec Row)) (ns : List ℕ) → AreRows text es rows → now ≡ text → list ≡ rows → items ≡ found → ns ≡ message_numbers es
+    → map (λ g. g.items) found ≡ by_number (length (first_ones same_message (named_messages es))) ns list → GroupsByNumber es → AreGroups now (groups es) items
+groups_hold text now es rows list found items ns h now_is list_is items_are numbers of_rows law =
+    let held : AreRows now es list = subst (λ t. AreRows t es list) (sym now_is) (subst (AreRows text es) (sym list_is) h) in
+    let count = length (first_ones same_message (named_messages es)) in
+    subst (AreGroups now (groups es)) (sym items_are) (groups_are now count ns es list found (groups es) held of_rows (ap (λ (l : List ℕ). by_number count l es) numbers ∙ law) (groups_valid es (all_valid now es list held)))

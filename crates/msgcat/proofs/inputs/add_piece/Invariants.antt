@@ -1,0 +1,12 @@
+use Rattle.std.proofs.Common.{◌≡◌, ◌++◌, take}
+use Rattle.po_messages.specs.Joined.{is_live}
+use Rattle.msgcat.specs.Inputs.{AddsEntries}
+use Rattle.text_runs.specs.Repeats.{are_placed}
+use Rattle.msgcat.proofs.inputs.add_piece.Given as goal
+
+-- the entries so far are added
+abbrev pub invariant-loop-entry : goal.invariant-loop-entry
+invariant-loop-entry l = record {
+  entries : AddsEntries l.name (take l.entry-index l.entry-items) l.fn.entries l.entries;
+  places : l.places.items ≡ l.fn.places.items ++ are_placed is_live (take l.entry-index l.entry-items);
+}

@@ -1,0 +1,16 @@
+use Rattle.std.proofs.Common.{List, take}
+use Rattle.std.specs.List.{AllZip}
+use Rattle.po_merge.specs.Inputs.{Named, all_entries}
+use Rattle.msgcat.specs.Entries.{HoldEntries}
+use Rattle.msgcat.specs.Inputs.{IsReadInput, IsTextOf}
+use Rattle.tool_runs.specs.NamedFile.{named_files}
+use Rattle.msgcat.proofs.inputs.read_each.Given as goal
+
+-- the inputs so far are read
+abbrev pub invariant-loop-name : goal.invariant-loop-name
+invariant-loop-name l = record {
+  inputs : List Named;
+  texts : AllZip IsTextOf (take l.name-index (named_files l.inputs)) inputs;
+  holds : HoldEntries (all_entries inputs) l.entries;
+  known : AllZip IsReadInput inputs l.read.items;
+}

@@ -1,0 +1,41 @@
+-- The entries of inputs, kept by their texts and messages. Internal to this crate.
+use Rattle.std.specs.Prelude.{◌≡◌, ℕ, List, [], ◌∷◌, ◌++◌, length, map}
+use Rattle.std.specs.List.{AllZip}
+use Rattle.po_entry.specs.Header.{HasAdmittedCharset, is_header}
+use Rattle.po_entry.specs.TextEntry.{TextEntry}
+use Rattle.po_messages.specs.Joined.{is_live}
+use Rattle.po_merge.specs.Grouping.{IsDefinition}
+use Rattle.po_merge.specs.Inputs.{NamedEntry}
+use Rattle.po_writer.specs.TextParts.{separated}
+use Rattle.text_runs.specs.Keys.{HoldKeys}
+use Rattle.msgcat.specs.declared.entries.Entries.{Entries}
+use Rattle.msgcat.specs.declared.entries.Row.{Row}
+
+-- the entry can stand in a catalogue, and can be merged under its input's name
+pub record CanBeMerged (entry : NamedEntry) : Type 0 where
+  pub valid : IsDefinition entry
+  pub charset : HasAdmittedCharset entry.entry
+
+-- the row says where the text of the entry stands, after an empty line, and what is known of the entry
+pub record IsRow (text : List ℕ) (entry : NamedEntry) (row : Row) : Type 0 where
+  pub before : List ℕ
+  pub after : List ℕ
+  pub text_is : text ≡ before ++ (separated (entry.entry ∷ []) ++ after)
+  pub start : row.start ≡ length before
+  pub end : row.end ≡ length (before ++ separated (entry.entry ∷ []))
+  pub name : row.name.now ≡ entry.name
+  pub live : row.is_live ≡ is_live entry.entry
+  pub header : row.is_header ≡ is_header entry.entry
+  pub can : CanBeMerged entry
+
+abbrev pub AreRows : List ℕ → List NamedEntry → List Row → Type 0
+AreRows text entries rows = AllZip (IsRow text) entries rows
+
+-- the entries without their inputs' names
+abbrev pub unnamed : List NamedEntry → List TextEntry
+unnamed entries = map (λ e. e.entry) entries
+
+-- these are the entries that are kept
+pub record HoldEntries (entries : List NamedEntry) (kept : Entries) : Type 0 where
+  pub rows : AreRows kept.text.items entries kept.rows.items
+  pub keys : HoldKeys (unnamed entries) kept.keys

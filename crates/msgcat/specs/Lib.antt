@@ -1,0 +1,5 @@
+pub mod Msgcat
+pub mod Options
+pub mod Entries
+pub mod Inputs
+pub mod MergedText

@@ -1,0 +1,77 @@
+//! The entries of inputs, kept by their texts, which are written one behind the other, and by their
+//! messages.
+ghost use Rattle.std.specs.Prelude.{◌≡◌, ◌++◌, ◌∷◌, [], IfOk, List, OnOk, length, map};
+ghost use Rattle.po_entry.specs.Bytes.{Lacks};
+ghost use Rattle.po_entry.specs.Validity.{IsCatalogueEntry};
+ghost use Rattle.po_merge.specs.Inputs.{NamedEntry, named};
+ghost use Rattle.msgcat.specs.Entries.{HoldEntries};
+
+use po_entry::Entry;
+use po_messages::is_live;
+use po_writer::append_separated;
+use std::alloc::{AllocError, Global};
+use text_runs::Keys;
+
+/// Where the text of an entry stands, and what is known of the entry.
+#[derive(Clone, Copy)]
+pub(crate) struct Row<'a> {
+    /// The name of its input.
+    pub(crate) name: &'a str,
+    /// Where its text begins, with the empty line before it.
+    pub(crate) start: usize,
+    /// Where its text ends.
+    pub(crate) end: usize,
+    /// Whether it is live.
+    pub(crate) is_live: bool,
+    /// Whether it is a header.
+    pub(crate) is_header: bool,
+}
+
+/// Entries of inputs, in their order.
+#[derive(Drop)]
+pub(crate) struct Entries<'a> {
+    /// Their texts, each after an empty line.
+    pub(crate) text: Vec<u8>,
+    /// A row for each.
+    pub(crate) rows: Vec<Row<'a>>,
+    /// Their messages.
+    pub(crate) keys: Keys,
+}
+
+/// What stands from one index to another.
+pub(crate) fn between<T>(items: &[T], start: usize, end: usize) -> &[T]
+    ensures { (before own after : List T) → items.now ≡ before ++ (own ++ after) → start ≡ length before
+        → end ≡ length (before ++ own) → result.now ≡ own }
+{
+    items.get(start..end).unwrap_or(&[])
+}
+
+impl<'a> Entries<'a> {
+    /// No entries, with room for so many bytes of text.
+    pub(crate) fn with_capacity(alloc: Global, room: usize) -> Result<Entries<'a>, AllocError>
+        ensures { IfOk result (HoldEntries []) }
+    {
+        Ok(Entries {
+            text: Vec::with_capacity(alloc, room)?,
+            rows: Vec::new(alloc),
+            keys: Keys::new(alloc),
+        })
+    }
+
+    /// Adds an entry of an input of this name.
+    pub(crate) fn add(&mut self, name: &'a str, entry: &Entry) -> Result<(), AllocError>
+        ensures { OnOk result ((before : List NamedEntry) → Lacks 0 name.now → IsCatalogueEntry entry.now
+            → HoldEntries before self.old → HoldEntries (before ++ named name.now entry.now ∷ []) self.new) }
+    {
+        let start = self.text.len();
+        append_separated(&mut self.text, entry)?;
+        self.rows.push(Row {
+            name,
+            start,
+            end: self.text.len(),
+            is_live: is_live(entry),
+            is_header: entry.is_header(),
+        })?;
+        self.keys.add(entry)
+    }
+}

@@ -1,0 +1,228 @@
+//! Reading inputs: a piece is read, its entries are written and kept by their messages, and the
+//! piece is dropped before the next one is read. After the last input an index of all messages
+//! tells which entries are of one message.
+ghost use Rattle.std.specs.Prelude.{◌≡◌, ◌≢◌, ◌⊎◌, ◌++◌, All, IfErr, IfOk, List, MatchOption, OnOk, length, map};
+ghost use Rattle.std.specs.List.{AllZip};
+ghost use Rattle.po_messages.specs.Duplicate.{HasNoDuplicate};
+ghost use Rattle.po_messages.specs.Joined.{is_live};
+ghost use Rattle.po_entry.specs.Bytes.{Lacks};
+ghost use Rattle.po_entry.specs.ReadsText.{ReadsText};
+ghost use Rattle.po_entry.specs.TextEntry.{TextEntry};
+ghost use Rattle.po_entry.specs.Validity.{out_of_memory};
+ghost use Rattle.po_merge.specs.Grouping.{message_numbers};
+ghost use Rattle.po_merge.specs.Inputs as merge;
+ghost use Rattle.po_reader.specs.PieceRead.{IsTextError};
+ghost use Rattle.msgcat.specs.Inputs.{AddsEntries, AreReadUpTo, HoldInputs, IsFirstRepeating, IsReadInput};
+ghost use Rattle.msgcat.specs.Msgcat.{AreReadAs, IsFileFault};
+ghost use Rattle.text_runs.specs.Repeats.{are_placed, place_of};
+ghost use Rattle.tool_runs.specs.NamedFile.{named_files};
+
+use crate::entries::{Entries, Row};
+use po_entry::{Catalogue, Entry};
+use po_messages::is_live;
+use po_reader::{PIECE, next_catalogue};
+use po_syntax::{Pieces, PoError, PoFault};
+use std::alloc::{AllocError, Global};
+use text_runs::{Place, duplicate, repeated_lines, split_at_most};
+
+/// Why an input isn't read.
+#[derive(Clone, Copy)]
+pub(crate) struct FileFault<'a> {
+    /// The input's name.
+    pub(crate) name: &'a str,
+    /// The first fault of its text; without a line where an allocation failed.
+    pub(crate) error: PoError,
+}
+
+impl From<AllocError> for FileFault<'_> {
+    ghost from_gives = { λ _ fault. fault.error ≡ out_of_memory };
+
+    fn from(error: AllocError) -> Self {
+        FileFault {
+            name: "",
+            error: error.into(),
+        }
+    }
+}
+
+/// An input that is read, before duplicates are looked for in it.
+#[derive(Drop)]
+pub(crate) struct ReadInput<'a> {
+    /// Its name.
+    pub(crate) name: &'a str,
+    /// Where its entries stand, and which of them are live.
+    pub(crate) places: Vec<Place>,
+}
+
+/// Inputs that are read, up to the first that has a fault.
+#[derive(Drop)]
+pub(crate) struct ReadInputs<'a> {
+    /// Their entries, and then those that come before the fault.
+    pub(crate) entries: Entries<'a>,
+    /// The inputs.
+    pub(crate) inputs: Vec<ReadInput<'a>>,
+    /// The fault of the input after these.
+    pub(crate) fault: Option<FileFault<'a>>,
+}
+
+/// Inputs in none of which a live entry repeats an earlier one.
+#[derive(Drop)]
+pub(crate) struct Inputs<'a> {
+    /// The texts of their entries, each after an empty line.
+    pub(crate) text: Vec<u8>,
+    /// A row for each entry.
+    pub(crate) rows: Vec<Row<'a>>,
+    /// For each entry the number of its message.
+    pub(crate) numbers: Vec<usize>,
+}
+
+/// Where an entry stands.
+fn place_of(entry: &Entry) -> Place
+    ensures { result ≡ place_of is_live entry.now }
+{
+    Place {
+        line: entry.line(),
+        is_live: is_live(entry),
+    }
+}
+
+/// Adds the entries of a piece of an input of this name.
+fn add_piece<'a>(
+    entries: &mut Entries<'a>,
+    places: &mut Vec<Place>,
+    name: &'a str,
+    piece: &Catalogue,
+) -> Result<(), AllocError>
+    requires { Lacks 0 name.now }
+    ensures entries { OnOk result (AddsEntries name.now piece.now entries.old entries.new) }
+    ensures places { OnOk result (places.new.items ≡ places.old.items ++ are_placed is_live piece.now) }
+{
+    for entry in piece.entries() {
+        places.push(place_of(entry))?;
+        entries.add(name, entry)?;
+    }
+    Ok(())
+}
+
+/// Adds the entries of the text of an input of this name, up to its fault.
+fn add_text<'a>(
+    alloc: Global,
+    entries: &mut Entries<'a>,
+    places: &mut Vec<Place>,
+    name: &'a str,
+    text: &[u8],
+) -> Result<(), PoError>
+    requires { Lacks 0 name.now }
+    ensures read { OnOk result ((read : List TextEntry) × ReadsText text.now read
+        × AddsEntries name.now read entries.old entries.new
+        × (places.new.items ≡ places.old.items ++ are_placed is_live read)) }
+    ensures fault { IfErr result (IsTextError text.now) }
+    ensures partial { IfErr result (λ error. error.kind ≢ PoFault.OutOfMemory
+        → (read : List TextEntry) × AddsEntries name.now read entries.old entries.new) }
+{
+    let mut pieces = Pieces::of(text)?;
+    while !pieces.are_over() {
+        let piece = next_catalogue(alloc, &mut pieces, PIECE)?;
+        add_piece(entries, places, name, &piece)?;
+    }
+    Ok(())
+}
+
+/// How many bytes the texts have, with an empty line before each.
+fn total_len(inputs: &[(&str, &[u8])]) -> usize {
+    inputs.iter().fold(0, |total, (_, text)| {
+        total.saturating_add(text.len()).saturating_add(1)
+    })
+}
+
+/// Reads inputs, up to the first that has a fault.
+fn read_each<'a>(alloc: Global, inputs: &[(&'a str, &[u8])]) -> Result<ReadInputs<'a>, AllocError>
+    requires { All (λ file. Lacks 0 file.name) (named_files inputs.now) }
+    ensures { IfOk result (AreReadUpTo (named_files inputs.now)) }
+{
+    let mut entries = Entries::with_capacity(alloc, total_len(inputs))?;
+    let mut read = Vec::new(alloc);
+    for (name, text) in inputs {
+        let mut places = Vec::new(alloc);
+        match add_text(alloc, &mut entries, &mut places, name, text) {
+            Ok(()) => {}
+            Err(error) => {
+                if error.kind == PoFault::OutOfMemory {
+                    return Err(AllocError);
+                }
+                return Ok(ReadInputs {
+                    entries,
+                    inputs: read,
+                    fault: Some(FileFault { name, error }),
+                });
+            }
+        }
+        read.push(ReadInput { name, places })?;
+    }
+    Ok(ReadInputs {
+        entries,
+        inputs: read,
+        fault: None,
+    })
+}
+
+/// Looks for duplicates, input by input: the first duplicate of the first input that has one. The
+/// numbers are those of the entries' messages, also of entries after the last input.
+fn first_duplicate<'a>(
+    alloc: Global,
+    inputs: &[ReadInput<'a>],
+    numbers: &[usize],
+) -> Result<Option<FileFault<'a>>, AllocError>
+    requires { (read : List merge.Named) × (partial : List merge.NamedEntry) × AllZip IsReadInput read inputs.now
+        × (numbers.now ≡ message_numbers (merge.all_entries read ++ partial)) }
+    ensures { IfOk result (λ found. (read : List merge.Named) (partial : List merge.NamedEntry)
+        → AllZip IsReadInput read inputs.now → numbers.now ≡ message_numbers (merge.all_entries read ++ partial)
+        → MatchOption found (All (λ i. HasNoDuplicate i.entries) read) (IsFirstRepeating read)) }
+{
+    let mut seen = Vec::new(alloc);
+    let mut rest = numbers;
+    for (index, input) in inputs.iter().enumerate() {
+        let (own, after) = split_at_most(rest, input.places.len());
+        let found = repeated_lines(alloc, &mut seen, index + 1, own, &input.places)?;
+        if let Some((first, later)) = found {
+            return Ok(Some(FileFault {
+                name: input.name,
+                error: duplicate(first, later),
+            }));
+        }
+        rest = after;
+    }
+    Ok(None)
+}
+
+/// Reads inputs. Refused with the first fault of the first input that has one: its text's, or its
+/// first duplicate; and where an allocation failed.
+pub(crate) fn read_inputs<'a>(
+    alloc: Global,
+    inputs: &[(&'a str, &[u8])],
+) -> Result<Inputs<'a>, FileFault<'a>>
+    requires { All (λ file. Lacks 0 file.name) (named_files inputs.now) }
+    ensures read { IfOk result (λ kept. (read : List merge.Named) × AreReadAs (named_files inputs.now) read
+        × HoldInputs (merge.all_entries read) kept) }
+    ensures fault { IfErr result (λ fault. (fault.error ≡ out_of_memory)
+        ⊎ IsFileFault (named_files inputs.now) fault.name.now fault.error) }
+{
+    let ReadInputs {
+        entries,
+        inputs: read,
+        fault,
+    } = read_each(alloc, inputs)?;
+    let Entries { text, rows, keys } = entries;
+    let numbers = keys.numbers(alloc)?;
+    if let Some(fault) = first_duplicate(alloc, &read, &numbers)? {
+        return Err(fault);
+    }
+    match fault {
+        Some(fault) => Err(fault),
+        None => Ok(Inputs {
+            text,
+            rows,
+            numbers,
+        }),
+    }
+}

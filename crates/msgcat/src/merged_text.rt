@@ -1,0 +1,268 @@
+//! Merging the entries of inputs, message by message: the text of a message's only definition is
+//! copied, and several are read again from their texts.
+ghost use Rattle.std.specs.Prelude.{◌≡◌, ◌<◌, ◌&&◌, ◌++◌, ◌∷◌, ℕ, [], All, IfErr, IfOk, List, MatchResult, OnOk, filter, length, map, not};
+ghost use Rattle.std.specs.List.{AllZip, list_any};
+ghost use Rattle.po_entry.specs.Header.{HasAdmittedCharset};
+ghost use Rattle.po_entry.specs.TextEntry.{TextEntry};
+ghost use Rattle.po_merge.specs.EntryLaws.{IsSameButLine};
+ghost use Rattle.po_merge.specs.Grouping.{IsDefinition};
+ghost use Rattle.po_merge.specs.Groups.{definitions, groups};
+ghost use Rattle.po_merge.specs.Inputs as merge;
+ghost use Rattle.po_merge.specs.InputsView.{named_entries};
+ghost use Rattle.po_merge.specs.Merged.{IsMergeFault, is_kept, merged_messages};
+ghost use Rattle.po_merge.specs.MergedEntry.{merged_entry};
+ghost use Rattle.po_writer.specs.TextParts.{separated};
+ghost use Rattle.po_writer.specs.WrittenText.{written_text};
+ghost use Rattle.msgcat.specs.Entries.{AreRows, IsRow};
+ghost use Rattle.msgcat.specs.Inputs.{HoldInputs};
+ghost use Rattle.msgcat.specs.MergedText.{AreGroups, AreReadBack, AreWritten, IsOnly, IsTextOfMerged};
+
+use crate::entries::{Row, between};
+use crate::inputs::Inputs;
+use po_catalog::laws::what_is_written_reads_back;
+use po_entry::Catalogue;
+use po_merge::laws::{groups_are_numbered, lines_are_not_merged, one_definition_stays};
+use po_merge::{MergeOptions, NamedEntry, groups_of, is_wanted, merge_definitions};
+use po_reader::read;
+use po_syntax::PoError;
+use po_writer::TextParts;
+use std::alloc::{AllocError, Global};
+
+/// The text of an entry, after an empty line.
+fn text_of<'t>(text: &'t [u8], row: &Row<'_>) -> &'t [u8]
+    ensures { (entry : merge.NamedEntry) → IsRow text.now entry row.now
+        → result.now ≡ separated (entry.entry ∷ []) }
+{
+    between(text, row.start, row.end)
+}
+
+/// An entry that is read again from its text. Refused where that is larger than a text can be, and
+/// where an allocation failed.
+fn read_again(alloc: Global, text: &[u8], row: &Row<'_>) -> Result<Catalogue, AllocError>
+    ensures { IfOk result (λ read. (entry : merge.NamedEntry) → IsRow text.now entry row.now
+        → IsOnly entry.entry read) }
+{
+    what_is_written_reads_back();
+    let Some((_, own)) = text_of(text, row).split_first() else {
+        return Err(AllocError);
+    };
+    match read(alloc, own) {
+        Ok(catalogue) => Ok(catalogue),
+        Err(_) => Err(AllocError),
+    }
+}
+
+/// Entries that are read again from their texts.
+fn read_all_again(alloc: Global, text: &[u8], rows: &[Row<'_>]) -> Result<Catalogue, AllocError>
+    ensures { IfOk result (λ read. (entries : List merge.NamedEntry) → AreRows text.now entries rows.now
+        → AreReadBack entries read) }
+{
+    let mut all = Catalogue::new(alloc);
+    for row in rows {
+        all.append(read_again(alloc, text, row)?)?;
+    }
+    Ok(all)
+}
+
+/// The entries of these rows, as they are read again, with the names of their inputs.
+fn definitions_of<'a, 'b: 'a>(
+    alloc: Global,
+    rows: &[Row<'b>],
+    entries: &'a Catalogue,
+) -> Result<Vec<NamedEntry<'a>>, AllocError>
+    requires { length rows.now ≡ length entries.now }
+    ensures { IfOk result (λ found. (text : List ℕ) (definitions : List merge.NamedEntry)
+        → AreRows text definitions rows.now → AreReadBack definitions entries.now
+        → AllZip IsSameButLine definitions (named_entries found.items)
+        × All IsDefinition (named_entries found.items)) }
+{
+    let mut found = Vec::with_capacity(alloc, rows.len())?;
+    let entries = entries.entries();
+    for (index, row) in rows.iter().enumerate() {
+        found.push(NamedEntry {
+            name: row.name,
+            entry: &entries[index],
+        })?;
+    }
+    Ok(found)
+}
+
+/// What the definitions of one message are merged to.
+fn merged_again(
+    alloc: Global,
+    text: &[u8],
+    options: &MergeOptions,
+    rows: &[Row<'_>],
+) -> Result<Catalogue, PoError>
+    requires some { 0 < length rows.now }
+    requires rows { (definitions : List merge.NamedEntry) × AreRows text.now definitions rows.now }
+    ensures merged { IfOk result (λ merged. (definitions : List merge.NamedEntry)
+        → AreRows text.now definitions rows.now → IsOnly (merged_entry options.now definitions) merged) }
+    ensures fault { IfErr result (λ error. (definitions : List merge.NamedEntry)
+        → AreRows text.now definitions rows.now
+        → IsMergeFault (merged_entry options.now definitions ∷ []) error) }
+{
+    lines_are_not_merged();
+    let entries = read_all_again(alloc, text, rows)?;
+    let definitions = definitions_of(alloc, rows, &entries)?;
+    merge_definitions(alloc, options, &definitions)
+}
+
+/// Adds the text of an entry.
+fn push_copy(parts: &mut TextParts, text: &[u8], row: &Row<'_>) -> Result<(), AllocError>
+    ensures { OnOk result ((entry : merge.NamedEntry) (before : List TextEntry) → IsRow text.now entry row.now
+        → AreWritten before parts.old → AreWritten (before ++ entry.entry ∷ []) parts.new) }
+{
+    let own = text_of(text, row);
+    if row.is_live {
+        parts.add_texts(own, b"")
+    } else {
+        parts.add_texts(b"", own)
+    }
+}
+
+/// Whether one of the definitions is a header.
+fn has_header(rows: &[Row<'_>]) -> bool
+    ensures { result ≡ list_any (λ row. row.is_header) rows.now }
+{
+    rows.iter().any(|row| row.is_header)
+}
+
+/// Whether the message of these definitions is kept.
+fn is_kept(rows: &[Row<'_>], options: &MergeOptions) -> bool
+    ensures { (text : List ℕ) (definitions : List merge.NamedEntry) → AreRows text definitions rows.now
+        → result ≡ is_kept options.now definitions }
+{
+    has_header(rows) || is_wanted(options, rows.len())
+}
+
+/// Adds what the definitions of one message are merged to, where the message is kept.
+fn push_message(
+    alloc: Global,
+    parts: &mut TextParts,
+    text: &[u8],
+    options: &MergeOptions,
+    rows: &[Row<'_>],
+) -> Result<(), PoError>
+    requires some { 0 < length rows.now }
+    requires rows { (definitions : List merge.NamedEntry) × AreRows text.now definitions rows.now }
+    ensures pushed { OnOk result ((definitions : List merge.NamedEntry) (before : List TextEntry)
+        → AreRows text.now definitions rows.now → AreWritten before parts.old
+        → AreWritten (before ++ merged_messages options.now (definitions ∷ [])) parts.new) }
+    ensures fault { IfErr result (λ error. (definitions : List merge.NamedEntry)
+        → AreRows text.now definitions rows.now
+        → IsMergeFault (merged_messages options.now (definitions ∷ [])) error) }
+{
+    one_definition_stays();
+    if !is_kept(rows, options) {
+        return Ok(());
+    }
+    if rows.len() < 2 {
+        return Ok(push_copy(parts, text, &rows[0])?);
+    }
+    let merged = match merged_again(alloc, text, options, rows) {
+        Ok(merged) => merged,
+        Err(error) => return Err(error),
+    };
+    Ok(parts.add(merged.entries())?)
+}
+
+/// Whether one of the entries is live.
+fn has_live(group: &[Row<'_>]) -> bool
+    ensures { result ≡ list_any (λ row. row.is_live) group.now }
+{
+    group.iter().any(|row| row.is_live)
+}
+
+/// Whether one of the entries is obsolete.
+fn has_obsolete(group: &[Row<'_>]) -> bool
+    ensures { result ≡ list_any (λ row. not row.is_live) group.now }
+{
+    group.iter().any(|row| !row.is_live)
+}
+
+/// Whether some of the entries are live and others obsolete.
+fn are_mixed(group: &[Row<'_>]) -> bool
+    ensures { result ≡ (list_any (λ row. row.is_live) group.now && list_any (λ row. not row.is_live) group.now) }
+{
+    has_live(group) && has_obsolete(group)
+}
+
+/// The live ones of the entries.
+fn live<'a>(alloc: Global, group: &[Row<'a>]) -> Result<Vec<Row<'a>>, AllocError>
+    ensures { IfOk result (λ found. found.items ≡ filter (λ row. row.is_live) group.now) }
+{
+    let mut found = Vec::with_capacity(alloc, group.len())?;
+    for row in group {
+        if row.is_live {
+            found.push(*row)?;
+        }
+    }
+    Ok(found)
+}
+
+/// Adds what the entries of one message are merged to, where the message is kept.
+fn push_group(
+    alloc: Global,
+    parts: &mut TextParts,
+    text: &[u8],
+    options: &MergeOptions,
+    group: &[Row<'_>],
+) -> Result<(), PoError>
+    requires some { 0 < length group.now }
+    requires rows { (entries : List merge.NamedEntry) × AreRows text.now entries group.now }
+    ensures pushed { OnOk result ((entries : List merge.NamedEntry) (before : List TextEntry)
+        → AreRows text.now entries group.now → AreWritten before parts.old
+        → AreWritten (before ++ merged_messages options.now (definitions entries ∷ [])) parts.new) }
+    ensures fault { IfErr result (λ error. (entries : List merge.NamedEntry)
+        → AreRows text.now entries group.now
+        → IsMergeFault (merged_messages options.now (definitions entries ∷ [])) error) }
+{
+    if are_mixed(group) {
+        let live = live(alloc, group)?;
+        return push_message(alloc, parts, text, options, &live);
+    }
+    push_message(alloc, parts, text, options, group)
+}
+
+/// What the groups of entries are merged to.
+fn merge_groups(
+    alloc: Global,
+    text: &[u8],
+    groups: &[Vec<Row<'_>>],
+    options: &MergeOptions,
+) -> Result<TextParts, PoError>
+    requires { (all : List (List merge.NamedEntry)) × AreGroups text.now all groups.now }
+    ensures { (all : List (List merge.NamedEntry)) → AreGroups text.now all groups.now
+        → MatchResult result (AreWritten (merged_messages options.now (map definitions all)))
+        (IsMergeFault (merged_messages options.now (map definitions all))) }
+{
+    let mut parts = TextParts::with_capacity(alloc, text.len())?;
+    for group in groups {
+        match push_group(alloc, &mut parts, text, options, group) {
+            Ok(()) => {}
+            Err(error) => return Err(error),
+        }
+    }
+    Ok(parts)
+}
+
+/// The text of what inputs are merged to. Refused, without a line, with `ForeignCharset` for a
+/// header whose charset isn't admitted, and where an allocation failed.
+pub(crate) fn merged_text(
+    alloc: Global,
+    inputs: &Inputs<'_>,
+    options: &MergeOptions,
+) -> Result<Vec<u8>, PoError>
+    requires { (entries : List merge.NamedEntry) × HoldInputs entries inputs.now }
+    ensures { (entries : List merge.NamedEntry) → HoldInputs entries inputs.now
+        → MatchResult result (λ text. IsTextOfMerged (merged_messages options.now (map definitions (groups entries))) text.items)
+        (IsMergeFault (merged_messages options.now (map definitions (groups entries)))) }
+{
+    groups_are_numbered();
+    let groups = groups_of(alloc, &inputs.rows, &inputs.numbers)?;
+    match merge_groups(alloc, &inputs.text, &groups, options) {
+        Ok(parts) => Ok(parts.join()?),
+        Err(error) => Err(error),
+    }
+}

@@ -1,0 +1,69 @@
+//! What msgcat writes and reports: the text of the catalogue that PO texts are merged to.
+ghost use Rattle.std.specs.Prelude.{◌≡◌, ◌⊎◌, All, Err, IfErr, IfOk, List, OnErr};
+ghost use Rattle.po_entry.specs.Bytes.{Lacks};
+ghost use Rattle.po_merge.specs.Inputs.{Named};
+ghost use Rattle.msgcat.specs.Msgcat.{AreReadAs, IsMsgcatRun, IsUnread, first_name};
+ghost use Rattle.tool_runs.specs.NamedFile.{named_files};
+ghost use Rattle.tool_runs.specs.Run.{run_view};
+
+use crate::inputs::read_inputs;
+use crate::merged_text::merged_text;
+use po_merge::MergeOptions;
+use po_shell::ToolFault;
+use std::alloc::Global;
+use text_runs::{refused_text, text_run};
+use tool_runs::{ProgramFault, Run};
+
+/// The name of the first file.
+fn first_name<'a>(files: &[(&'a str, &[u8])]) -> &'a str
+    ensures { result.now ≡ first_name (named_files files.now) }
+{
+    match files {
+        [(name, _), ..] => name,
+        [] => "",
+    }
+}
+
+/// What `msgcat` writes and reports of its inputs, each with its name: the text of the catalogue
+/// that they are merged to, where it has an entry. The first input that isn't read is reported by
+/// one line, with status 1; else a merged header whose charset isn't admitted is, with the first
+/// input's name. Refused only where an allocation failed.
+pub fn plan_msgcat(
+    alloc: Global,
+    inputs: &[(&str, &[u8])],
+    options: &MergeOptions,
+) -> Result<Run, ToolFault>
+    requires { All (λ file. Lacks 0 file.name) (named_files inputs.now) }
+    ensures run { IfOk result (λ run. IsMsgcatRun (named_files inputs.now) options.now (run_view run)) }
+    ensures memory { OnErr result (result ≡ Err ToolFault.OutOfMemory) }
+{
+    let read = match read_inputs(alloc, inputs) {
+        Ok(read) => read,
+        Err(fault) => return Ok(refused_text(alloc, "msgcat", fault.name, fault.error)?),
+    };
+    match merged_text(alloc, &read, options) {
+        Ok(output) => Ok(text_run(alloc, output)),
+        Err(error) => Ok(refused_text(alloc, "msgcat", first_name(inputs), error)?),
+    }
+}
+
+/// What `msgcat` comes to where the input after these can't be read: the refusal of these, or,
+/// where they are read, that input's fault. `OutOfMemory` may come in place of any result.
+pub fn plan_msgcat_before<'a>(
+    alloc: Global,
+    inputs: &[(&str, &[u8])],
+    fault: ProgramFault<'a>,
+) -> Result<Run, ProgramFault<'a>>
+    requires { All (λ file. Lacks 0 file.name) (named_files inputs.now) }
+    ensures refused { IfOk result (λ run. IsUnread (named_files inputs.now) (run_view run)) }
+    ensures fault { IfErr result (λ reported. (reported ≡ ProgramFault.OutOfMemory)
+        ⊎ ((reported ≡ fault.entry) × ((read : List Named) × AreReadAs (named_files inputs.now) read))) }
+{
+    match read_inputs(alloc, inputs) {
+        Ok(_) => Err(fault),
+        Err(unread) => match refused_text(alloc, "msgcat", unread.name, unread.error) {
+            Ok(run) => Ok(run),
+            Err(_) => Err(ProgramFault::OutOfMemory),
+        },
+    }
+}

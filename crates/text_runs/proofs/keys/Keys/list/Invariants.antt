@@ -1,0 +1,12 @@
+use Rattle.std.proofs.Common.{◌≡◌, List, drop, map, take}
+use Rattle.std.specs.List.{flat_map}
+use Rattle.po_entry.specs.TextEntry.{TextEntry}
+use Rattle.text_runs.specs.Keys.{HoldKeys, key_bytes}
+use Rattle.po_messages.specs.Message.{entry_message}
+use Rattle.po_messages.specs.MessageView.{messages}
+use Rattle.text_runs.proofs.keys.Keys.list.Given as goal
+
+abbrev pub invariant-loop-lengths : goal.invariant-loop-lengths
+invariant-loop-lengths l =
+    (entries : List TextEntry) → HoldKeys entries l.self
+    → (messages l.keys.items ≡ map entry_message (take l.lengths-index entries)) × (l.rest ≡ flat_map key_bytes (drop l.lengths-index entries))

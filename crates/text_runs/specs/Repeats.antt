@@ -1,0 +1,58 @@
+-- Live entries that repeat an earlier one, by the numbers of their messages.
+use Rattle.std.specs.Prelude.{◌≡◌, ◌≢◌, ◌==◌, ℕ, Bool, List, ◌∷◌, ◌++◌, AllPairs, Option, None, Some, get_or, map}
+use Rattle.std.specs.Prelude.{if◌then◌else◌}
+use Rattle.po_syntax.specs.declared.fault.PoError.{PoError}
+use Rattle.po_entry.specs.TextEntry.{TextEntry}
+use Rattle.po_messages.specs.Duplicate.{IsFirstDuplicate, duplicate_fault}
+use Rattle.po_messages.specs.Joined.{InputEntry, in_input}
+use Rattle.po_messages.specs.Message.{Message, entry_message}
+use Rattle.text_runs.specs.declared.repeats.Numbered.{Numbered}
+use Rattle.text_runs.specs.declared.repeats.Place.{Place}
+use Rattle.text_runs.specs.declared.repeats.Seen.{Seen}
+
+-- the numbers of the entries' messages
+abbrev pub are_numbered : (Message → ℕ) → List TextEntry → List ℕ
+are_numbered number_of entries = map (λ e. number_of (entry_message e)) entries
+
+-- where the entries stand, and which of them are looked at
+abbrev pub place_of : (TextEntry → Bool) → TextEntry → Place
+place_of is_there entry = record { line = entry.line; is_live = is_there entry }
+
+abbrev pub are_placed : (TextEntry → Bool) → List TextEntry → List Place
+are_placed is_there entries = map (place_of is_there) entries
+
+abbrev pub numbered : (Message → ℕ) → TextEntry → Numbered
+numbered number_of entry = record { number = number_of (entry_message entry); line = entry.line }
+
+-- no two have one number
+abbrev pub NumbersDiffer : List Numbered → Type 0
+NumbersDiffer entries = AllPairs (λ a b. a.number ≢ b.number) entries
+
+-- the lines of the earliest that has the number of an earlier one: that of the earlier one, and its own
+pub record IsFirstRepeat (entries : List Numbered) (lines : ℕ × ℕ) : Type 0 where
+  pub before : List Numbered
+  pub first : Numbered
+  pub between : List Numbered
+  pub later : Numbered
+  pub after : List Numbered
+  pub order : entries ≡ (before ++ first ∷ between) ++ later ∷ after
+  pub same : first.number ≡ later.number
+  pub differ : NumbersDiffer (before ++ first ∷ between)
+  pub lines_are : lines ≡ (first.line, later.line)
+
+-- the line that was kept of a number in this round
+abbrev pub line_of_round : ℕ → Seen → Option ℕ
+line_of_round round seen = if seen.round == round then Some seen.line else None
+
+abbrev pub line_seen : ℕ → List Seen → ℕ → Option ℕ
+line_seen round seen number = line_of_round round (get_or seen number (record { round = 0; line = 0 }))
+
+-- no line was kept in this round
+abbrev pub IsUnseen : ℕ → List Seen → Type 0
+IsUnseen round seen = (number : ℕ) → line_seen round seen number ≡ None
+
+-- the first duplicate of the entries
+abbrev pub Repeats : List TextEntry → PoError → Type 0
+Repeats entries error =
+    (first later : InputEntry) × IsFirstDuplicate (map (in_input 0) entries) first later
+    × (error ≡ (duplicate_fault first later).error)
