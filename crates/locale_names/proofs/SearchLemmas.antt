@@ -1,7 +1,7 @@
 -- Lemmas on the first index of a byte in a text.
-use Rattle.std.proofs.Common.{◌≡◌, ℕ, suc, ◌+◌, true, false, not, cond, eqb, List, ◌∷◌, length, Option, Some, None, unwrap_or, sym, ap, ◌∙◌, arith}
+use Rattle.std.proofs.Common.{◌≡◌, refl, ℕ, suc, ◌+◌, ◌<◌, true, false, not, cond, eqb, inl, inr, List, [], ◌∷◌, length, drop, Option, Some, None, unwrap_or, sym, ap, subst, ◌∙◌, arith}
 use Rattle.std.specs.List.{position_or_len}
-use Rattle.std.proofs.lemmas.Bool.{false_from_ne_true}
+use Rattle.std.proofs.lemmas.Bool.{both_ways, cases_Bool, eqb-true, false_from_ne_true}
 use Rattle.std.proofs.lemmas.List.Sums.{position_or_len_is}
 use Rattle.memchr.specs.Find.{IsFirstByte, is_byte}
 
@@ -17,3 +17,27 @@ byte-here a b bs e = ap (λ t. cond (not t) (1 + position_or_len (is_byte a) bs)
 
 pub byte-later : (a b : ℕ) (bs : List ℕ) → eqb b a ≡ false → position_or_len (is_byte a) (b ∷ bs) ≡ suc (position_or_len (is_byte a) bs)
 byte-later a b bs e = ap (λ t. cond (not t) (1 + position_or_len (is_byte a) bs) 0) e ∙ omega arith
+
+next-suc : (n : ℕ) → suc (n + 1) ≡ suc n + 1
+next-suc n = omega arith
+
+-- at its first index the byte stands
+pub byte-next : (a : ℕ) (bs : List ℕ) → position_or_len (is_byte a) bs < length bs → drop (position_or_len (is_byte a) bs) bs ≡ a ∷ drop (position_or_len (is_byte a) bs + 1) bs
+byte-next a [] l = absurd (omega arith)
+byte-next a (b ∷ bs) l = elim (cases_Bool (eqb b a)) [
+  | inl e ↦ subst (λ n. drop n (b ∷ bs) ≡ a ∷ drop (n + 1) (b ∷ bs)) (sym (byte-here a b bs e)) (ap (λ c. c ∷ bs) (eqb-true b a e))
+  | inr e ↦ subst (λ n. drop n (b ∷ bs) ≡ a ∷ drop (n + 1) (b ∷ bs)) (sym (byte-later a b bs e))
+      (byte-next a bs (omega (arith, byte-later a b bs e)) ∙ ap (λ (n : ℕ). a ∷ drop n (b ∷ bs)) (next-suc (position_or_len (is_byte a) bs)))
+]
+
+-- the index as a number of its own
+pub byte-at : (a : ℕ) (bs : List ℕ) (n : ℕ) → n ≡ position_or_len (is_byte a) bs → n < length bs → drop n bs ≡ a ∷ drop (n + 1) bs
+byte-at a bs n index l = subst (λ m. drop m bs ≡ a ∷ drop (m + 1) bs) (sym index) (byte-next a bs (omega (arith, index)))
+
+-- a text is empty just where its length is 0
+pub nil-from_length : (bs : List ℕ) → eqb (length bs) 0 ≡ true → bs ≡ []
+nil-from_length [] h = refl
+nil-from_length (b ∷ bs) h = absurd (omega (arith, eqb-true (length (b ∷ bs)) 0 h))
+
+pub some-from_length : (bs : List ℕ) → eqb (length bs) 0 ≡ false → bs ≡ [] → ⊥
+some-from_length bs h none = both_ways (eqb (length bs) 0) h (ap (λ l. eqb (length l) 0) none)

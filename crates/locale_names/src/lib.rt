@@ -15,5 +15,5 @@ mod name;
 mod position;
 
 pub use candidates::Candidates;
-pub use name::{Candidate, is_path_part};
+pub use name::{Candidate, is_path_part, len_before};
 pub use position::{Position, candidate_at};

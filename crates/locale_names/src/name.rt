@@ -18,7 +18,7 @@ pub struct Candidate<'a> {
 }
 
 /// How many bytes stand before the first `byte`: all, where there is none.
-pub(crate) fn len_before(byte: u8, text: &[u8]) -> usize
+pub fn len_before(byte: u8, text: &[u8]) -> usize
     ensures index { result ≡ position_or_len (is_byte byte) text.now }
     ensures bound { result ≤ length text.now }
 {

@@ -16,8 +16,8 @@ use Rattle.text_runs.specs.Repeats.{IsFirstRepeat, NumbersDiffer, numbered}
 use Rattle.msgattrib.specs.SelectedText.{IsSelectionFault, RepeatsSelected, stays_live}
 use Rattle.text_runs.proofs.RepeatLemmas.{AreAmong, all_among, duplicate_of, numbers_differ}
 use Rattle.text_runs.proofs.NumberLemmas.{number_in, own_of}
-use Rattle.tool_runs.specs.Run.{refusal, run_view}
-use Rattle.tool_runs.specs.declared.run.Run.{Run}
+use Rattle.runs.specs.Run.{refusal, run_view}
+use Rattle.runs.specs.declared.run.Run.{Run}
 
 -- entries are selected one by one
 pub selected_joined : (s : Selection) (before entries : List TextEntry) → selected s before ++ selected s entries ≡ selected s (before ++ entries)

@@ -8,8 +8,8 @@ use Rattle.po_messages.specs.Duplicate.{HasNoDuplicate, IsFirstDuplicate}
 use Rattle.po_messages.specs.DistinctText.{IsTextFault, ReadsDistinct}
 use Rattle.po_select.specs.declared.selection.Selection.{Selection}
 use Rattle.po_select.specs.Selected.{selected}
-use Rattle.tool_runs.specs.FaultText.{text_line}
-use Rattle.tool_runs.specs.Run.{RunView, refusal}
+use Rattle.runs.specs.FaultText.{text_line}
+use Rattle.runs.specs.Run.{RunView, refusal}
 use Rattle.text_runs.specs.TextRuns.{written_run}
 
 -- the line that reports a fault of a file

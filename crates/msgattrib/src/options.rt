@@ -3,7 +3,7 @@ ghost use Rattle.std.specs.Prelude.{◌≡◌, ◌||◌};
 ghost use Rattle.msgattrib.specs.Options.{IsSelection};
 
 use po_select::Selection;
-use tool_runs::Arguments;
+use runs::Arguments;
 
 /// What `msgattrib` is asked for.
 pub fn selection_of<A: Arguments>(arguments: &A) -> Selection

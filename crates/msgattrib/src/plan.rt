@@ -1,14 +1,14 @@
 //! What msgattrib writes and reports: the selected entries of a PO text.
 ghost use Rattle.std.specs.Prelude.{◌≡◌, IfOk, OnErr, Err};
 ghost use Rattle.msgattrib.specs.Msgattrib.{IsMsgattribRun};
-ghost use Rattle.tool_runs.specs.Run.{run_view};
+ghost use Rattle.runs.specs.Run.{run_view};
 
 use crate::selected_text::selected_text;
+use devices::ToolFault;
 use po_select::Selection;
-use po_shell::ToolFault;
+use runs::Run;
 use std::alloc::Global;
 use text_runs::{refused_text, text_run};
-use tool_runs::Run;
 
 /// What `msgattrib` writes and reports of a text with its name: the selected entries, changed as
 /// the selection says. A file is made where an entry is selected. A text that is refused is

@@ -25,7 +25,7 @@ pub(crate) struct Rows {
     pub(crate) keys: Keys,
     /// Where they stand, and which of them are live.
     pub(crate) read: Vec<Place>,
-    /// The same of them after they are selected: one that isn't kept is not live.
+    /// Where they stand, and which of them are live once they are selected: one that isn't kept is not.
     pub(crate) kept: Vec<Place>,
 }
 

@@ -28,7 +28,7 @@ use Rattle.msgcat.specs.declared.inputs.ReadInput.{ReadInput}
 use Rattle.msgcat.specs.declared.inputs.ReadInputs.{ReadInputs}
 use Rattle.text_runs.proofs.RepeatLemmas.{AreAmong, all_among, numbers_differ}
 use Rattle.text_runs.proofs.NumberLemmas.{number_in, numbers_are, own_of, repeats_in}
-use Rattle.tool_runs.specs.NamedFile.{NamedFile}
+use Rattle.runs.specs.NamedFile.{NamedFile}
 
 pub unnamed_named : (name : List ℕ) (entries : List TextEntry) → unnamed (map (named name) entries) ≡ entries
 unnamed_named name [] = refl

@@ -5,7 +5,7 @@ use Rattle.po_entry.specs.Bytes.{Lacks}
 use Rattle.std.specs.Borrow.{Bor}
 use Rattle.std.proofs.Math.ListN.{get_or-map}
 use Rattle.std.proofs.lemmas.List.{get_or_default, length-map}
-use Rattle.tool_runs.specs.NamedFile.{NamedFile, named_file, named_files}
+use Rattle.runs.specs.NamedFile.{NamedFile, named_file, named_files}
 
 abbrev Files : Type 0
 Files = List (Bor (List ℕ) × Bor (List ℕ))

@@ -7,8 +7,8 @@ use Rattle.std.proofs.lemmas.Bool.{cases_Bool, eqb-true, eqb-false, or_parts}
 use Rattle.std.proofs.lemmas.List.{length-map}
 use Rattle.std.proofs.lemmas.List.Elements.{All-nil, All-cons, All-head, All-tail}
 use Rattle.po_entry.specs.Bytes.{Lacks}
-use Rattle.tool_runs.specs.declared.inputs.Input.{Input}
-use Rattle.tool_runs.specs.Inputs.{named_input, named_inputs}
+use Rattle.runs.specs.declared.inputs.Input.{Input}
+use Rattle.runs.specs.Inputs.{named_input, named_inputs}
 
 pub lacks : (name : List ℕ) → list_any (λ b. b == 0) name ≡ false → Lacks 0 name
 lacks [] h = All-nil (λ b. b ≡ 0 → ⊥)

@@ -15,7 +15,7 @@ use Rattle.msgcat.specs.declared.inputs.FileFault.{FileFault}
 use Rattle.msgcat.specs.declared.inputs.Inputs.{Inputs}
 use Rattle.msgcat.specs.declared.inputs.ReadInput.{ReadInput}
 use Rattle.msgcat.specs.declared.inputs.ReadInputs.{ReadInputs}
-use Rattle.tool_runs.specs.NamedFile.{NamedFile}
+use Rattle.runs.specs.NamedFile.{NamedFile}
 
 -- these entries of an input of this name were added
 abbrev pub AddsEntries : List ℕ → List TextEntry → Entries → Entries → Type 0

@@ -9,11 +9,11 @@ use Rattle.po_messages.specs.DistinctText.{ReadsDistinct, IsTextFault}
 use Rattle.po_merge.specs.Inputs.{Named}
 use Rattle.po_merge.specs.Merged.{merged}
 use Rattle.po_merge.specs.declared.input.MergeOptions.{MergeOptions}
-use Rattle.tool_runs.specs.declared.inputs.InputFault.TheVariants.{CannotOpen}
-use Rattle.tool_runs.specs.FaultText.{text_line}
-use Rattle.tool_runs.specs.Inputs.{input_fault_text}
-use Rattle.tool_runs.specs.NamedFile.{NamedFile}
-use Rattle.tool_runs.specs.Run.{RunView, refusal}
+use Rattle.runs.specs.declared.inputs.InputFault.TheVariants.{CannotOpen}
+use Rattle.runs.specs.FaultText.{text_line}
+use Rattle.runs.specs.Inputs.{input_fault_text}
+use Rattle.runs.specs.NamedFile.{NamedFile}
+use Rattle.runs.specs.Run.{RunView, refusal}
 use Rattle.text_runs.specs.TextRuns.{written_run}
 
 -- a file is read as the catalogue of an input, in which no live entry repeats an earlier one

@@ -15,7 +15,7 @@ ghost use Rattle.po_reader.specs.PieceRead.{IsTextError};
 ghost use Rattle.msgcat.specs.Inputs.{AddsEntries, AreReadUpTo, HoldInputs, IsFirstRepeating, IsReadInput};
 ghost use Rattle.msgcat.specs.Msgcat.{AreReadAs, IsFileFault};
 ghost use Rattle.text_runs.specs.Repeats.{are_placed, place_of};
-ghost use Rattle.tool_runs.specs.NamedFile.{named_files};
+ghost use Rattle.runs.specs.NamedFile.{named_files};
 
 use crate::entries::{Entries, Row};
 use po_entry::{Catalogue, Entry};

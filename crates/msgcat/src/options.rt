@@ -2,7 +2,7 @@
 ghost use Rattle.msgcat.specs.Options.{AreMergeOptions};
 
 use po_merge::MergeOptions;
-use tool_runs::Arguments;
+use runs::Arguments;
 
 /// What `msgcat` is asked for.
 pub fn merge_options_of<A: Arguments>(arguments: &A) -> MergeOptions

@@ -3,16 +3,16 @@ ghost use Rattle.std.specs.Prelude.{◌≡◌, ◌⊎◌, All, Err, IfErr, IfOk,
 ghost use Rattle.po_entry.specs.Bytes.{Lacks};
 ghost use Rattle.po_merge.specs.Inputs.{Named};
 ghost use Rattle.msgcat.specs.Msgcat.{AreReadAs, IsMsgcatRun, IsUnread, first_name};
-ghost use Rattle.tool_runs.specs.NamedFile.{named_files};
-ghost use Rattle.tool_runs.specs.Run.{run_view};
+ghost use Rattle.runs.specs.NamedFile.{named_files};
+ghost use Rattle.runs.specs.Run.{run_view};
 
 use crate::inputs::read_inputs;
 use crate::merged_text::merged_text;
+use devices::ToolFault;
 use po_merge::MergeOptions;
-use po_shell::ToolFault;
+use runs::{ProgramFault, Run};
 use std::alloc::Global;
 use text_runs::{refused_text, text_run};
-use tool_runs::{ProgramFault, Run};
 
 /// The name of the first file.
 fn first_name<'a>(files: &[(&'a str, &[u8])]) -> &'a str

@@ -4,15 +4,15 @@ ghost use Rattle.std.specs.List.{list_any};
 ghost use Rattle.po_entry.specs.Bytes.{Lacks};
 ghost use Rattle.po_merge.specs.Inputs as merge;
 ghost use Rattle.msgcat.specs.Msgcat.{AreReadAs, HasNulName, IsMsgcatRun, IsUnread};
-ghost use Rattle.tool_runs.specs.Inputs.{named_inputs};
-ghost use Rattle.tool_runs.specs.NamedFile.{named_files};
-ghost use Rattle.tool_runs.specs.ProgramFaults.{program_text};
-ghost use Rattle.tool_runs.specs.Run.{run_view};
+ghost use Rattle.runs.specs.Inputs.{named_inputs};
+ghost use Rattle.runs.specs.NamedFile.{named_files};
+ghost use Rattle.runs.specs.ProgramFaults.{program_text};
+ghost use Rattle.runs.specs.Run.{run_view};
 
 use crate::plan::{plan_msgcat, plan_msgcat_before};
 use po_merge::MergeOptions;
+use runs::{Input, Inputs, ProgramFault, Run};
 use std::alloc::Global;
-use tool_runs::{Input, Inputs, ProgramFault, Run};
 
 /// What `msgcat` comes to with the inputs that a command line names: the plan of all of them, or,
 /// where one can't be read, what `plan_msgcat_before` says of those before it. A file whose name

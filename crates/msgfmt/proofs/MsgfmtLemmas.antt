@@ -18,13 +18,13 @@ use Rattle.po_compile.specs.declared.options.Compiled.{Compiled}
 use Rattle.po_compile.specs.declared.options.Options.{Options}
 use Rattle.msgfmt.specs.declared.options.MsgfmtOptions.{MsgfmtOptions}
 use Rattle.msgfmt.specs.declared.profile.CheckFault.TheVariants.{OutOfMemory}
-use Rattle.tool_runs.specs.declared.program_fault.ProgramFault.{ProgramFault}
-use Rattle.tool_runs.specs.declared.program_fault.ProgramFault.TheVariants.{OutOfMemory as OutOfMemory', WrongArguments}
-use Rattle.tool_runs.specs.declared.run.Run.{Run}
+use Rattle.runs.specs.declared.program_fault.ProgramFault.{ProgramFault}
+use Rattle.runs.specs.declared.program_fault.ProgramFault.TheVariants.{OutOfMemory as OutOfMemory', WrongArguments}
+use Rattle.runs.specs.declared.run.Run.{Run}
 use Rattle.msgfmt.specs.Msgfmt.{AreChecked, NoneRefused, IsMsgfmtRun, AreNoneOrTooMany, IsRefused, check_line, compile_options, compiled_run, input_texts, join_line}
-use Rattle.tool_runs.specs.NamedFile.{NamedFile, named_file, named_files}
+use Rattle.runs.specs.NamedFile.{NamedFile, named_file, named_files}
 use Rattle.msgfmt.specs.Profile.{Reported}
-use Rattle.tool_runs.specs.Run.{RunView, refusal, run_view}
+use Rattle.runs.specs.Run.{RunView, refusal, run_view}
 
 -- each input is collected
 pub collected-count : (use_fuzzy : Bool) (inputs : List (Bor (List ℕ) × Bor (List ℕ))) (collected : List Collected) → AreCollected use_fuzzy (input_texts (named_files inputs)) collected

@@ -18,10 +18,10 @@ use Rattle.msgfmt.specs.declared.profile.CheckFault.{CheckFault}
 use Rattle.msgfmt.specs.declared.profile.CheckFault.TheVariants.{NoHeader, NoRule, FormCount, LeadingNewline}
 use Rattle.msgfmt.specs.declared.profile.CheckFault.TheVariants.{TrailingNewline, Undefined, IndexOutside}
 use Rattle.msgfmt.specs.declared.profile.CheckFault.TheVariants.{OutOfMemory}
-use Rattle.tool_runs.specs.FaultText.{po_text, duplicate_text, fault_line}
-use Rattle.tool_runs.specs.NamedFile.{NamedFile}
+use Rattle.runs.specs.FaultText.{po_text, duplicate_text, fault_line}
+use Rattle.runs.specs.NamedFile.{NamedFile}
 use Rattle.msgfmt.specs.Profile.{IsChecked, Reported}
-use Rattle.tool_runs.specs.Run.{RunView, refusal}
+use Rattle.runs.specs.Run.{RunView, refusal}
 
 -- the options with which inputs are compiled
 abbrev pub compile_options : MsgfmtOptions → Options

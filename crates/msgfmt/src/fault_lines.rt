@@ -1,16 +1,16 @@
 //! Why inputs aren't compiled, and what the check finds, as the line that reports it, and as the run
 //! of it.
 ghost use Rattle.std.specs.Prelude.{◌≡◌, ◌≢◌, ◌++◌, ◌∷◌, decimal, IfOk, OnOk};
-ghost use Rattle.tool_runs.specs.FaultText.{duplicate_text};
-ghost use Rattle.tool_runs.specs.NamedFile.{named_files};
-ghost use Rattle.tool_runs.specs.Run.{refusal, run_view};
+ghost use Rattle.runs.specs.FaultText.{duplicate_text};
+ghost use Rattle.runs.specs.NamedFile.{named_files};
+ghost use Rattle.runs.specs.Run.{refusal, run_view};
 ghost use Rattle.msgfmt.specs.Msgfmt as Spec;
 
 use crate::profile::CheckFault;
 use po_messages::JoinError;
 use po_syntax::PoFault;
+use runs::{Run, push_location, push_numbered, push_po_text, refused};
 use std::alloc::{AllocError, Global};
-use tool_runs::{Run, push_location, push_numbered, push_po_text, refused};
 
 /// The name of an input.
 fn input_name<'a>(inputs: &[(&'a str, &[u8])], input: u32) -> &'a str

@@ -2,10 +2,10 @@
 ghost use Rattle.std.specs.Prelude.{◌≡◌, codes};
 ghost use Rattle.std.specs.Option.{option_copied};
 ghost use Rattle.msgfmt.specs.Options.{AreMsgfmtOptions, order_of};
-ghost use Rattle.tool_runs.specs.Given.{IsTextOr};
+ghost use Rattle.runs.specs.Given.{IsTextOr};
 
 use mo_file::Order;
-use tool_runs::{Arguments, text_or};
+use runs::{Arguments, text_or};
 
 /// The MO file that msgfmt writes where the arguments name none.
 const DEFAULT_OUTPUT: &str = "messages.mo";

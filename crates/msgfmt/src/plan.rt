@@ -2,17 +2,17 @@
 ghost use Rattle.std.specs.Prelude.{◌≡◌, ◌^◌, ◌<◌, length, IfOk, OnErr, Err};
 ghost use Rattle.po_entry.specs.TextEntry.{slice_texts};
 ghost use Rattle.po_compile.specs.CompiledInputs.{AreCollected};
-ghost use Rattle.tool_runs.specs.NamedFile.{named_files};
+ghost use Rattle.runs.specs.NamedFile.{named_files};
 ghost use Rattle.msgfmt.specs.Msgfmt as Spec;
-ghost use Rattle.tool_runs.specs.Run.{run_view};
+ghost use Rattle.runs.specs.Run.{run_view};
 
 use crate::check::checked;
 use crate::fault_lines::{failed_check_run, refused_run};
 use crate::options::MsgfmtOptions;
+use devices::ToolFault;
 use po_compile::{Collected, Compiled, Options, collect_all, compile_collected};
-use po_shell::ToolFault;
+use runs::Run;
 use std::alloc::{AllocError, Global};
-use tool_runs::Run;
 
 /// The texts of the inputs.
 fn texts_of<'a>(alloc: Global, inputs: &[(&str, &'a [u8])]) -> Result<Vec<&'a [u8]>, AllocError>

@@ -1,14 +1,14 @@
 //! What msgfmt comes to with the inputs of a command line, also where one can't be read.
 ghost use Rattle.std.specs.Prelude.{◌≡◌, ◌≢◌, ◌⊎◌, ◌^◌, ◌<◌, [], None, Some, length, IfOk, IfErr};
 ghost use Rattle.msgfmt.specs.Msgfmt.{NoneRefused, AreNoneOrTooMany, IsMsgfmtRun, IsRefused};
-ghost use Rattle.tool_runs.specs.Inputs.{named_inputs};
-ghost use Rattle.tool_runs.specs.NamedFile.{named_files};
-ghost use Rattle.tool_runs.specs.Run.{run_view};
+ghost use Rattle.runs.specs.Inputs.{named_inputs};
+ghost use Rattle.runs.specs.NamedFile.{named_files};
+ghost use Rattle.runs.specs.Run.{run_view};
 
 use crate::options::MsgfmtOptions;
 use crate::plan::plan_msgfmt;
+use runs::{Inputs, ProgramFault, Run};
 use std::alloc::Global;
-use tool_runs::{Inputs, ProgramFault, Run};
 
 /// What `msgfmt` comes to where the input after these can't be read: the refusal of these, or,
 /// where they are accepted, that input's fault. The check of `--profile-check` is of all inputs

@@ -5,9 +5,9 @@ use Rattle.po_unformat.specs.UnformattedText.{IsUnformatted, IsUnformatFault}
 use Rattle.po_unformat.specs.declared.fault.UnformatError.{UnformatError}
 use Rattle.po_unformat.specs.declared.fault.UnformatError.TheVariants.{Mo, NotUtf8, ForbiddenByte, ForeignCharset}
 use Rattle.po_unformat.specs.declared.fault.UnformatError.TheVariants.{OutOfMemory}
-use Rattle.tool_runs.specs.FaultText.{fault_line, mo_text}
-use Rattle.tool_runs.specs.NamedFile.{NamedFile}
-use Rattle.tool_runs.specs.Run.{RunView, refusal}
+use Rattle.runs.specs.FaultText.{fault_line, mo_text}
+use Rattle.runs.specs.NamedFile.{NamedFile}
+use Rattle.runs.specs.Run.{RunView, refusal}
 
 -- why a file has no PO text
 abbrev pub unformat_text : UnformatError → List ℕ

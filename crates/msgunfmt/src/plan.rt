@@ -2,13 +2,13 @@
 ghost use Rattle.std.specs.Prelude.{◌≡◌, ◌≢◌, ◌++◌, ℕ, List, IfOk, OnOk, OnErr, Err};
 ghost use Rattle.po_unformat.specs.UnformattedText.{IsUnformatted};
 ghost use Rattle.msgunfmt.specs.Msgunfmt.{IsMsgunfmtRun, unformat_line, unformat_text, unformatted_run};
-ghost use Rattle.tool_runs.specs.Run.{refusal, run_view};
+ghost use Rattle.runs.specs.Run.{refusal, run_view};
 
-use po_shell::ToolFault;
+use devices::ToolFault;
 use po_unformat::laws::empty_text;
 use po_unformat::{UnformatError, unformat};
+use runs::{Run, push_location, push_mo_text, push_numbered, refused};
 use std::alloc::{AllocError, Global};
-use tool_runs::{Run, push_location, push_mo_text, push_numbered, refused};
 
 /// Appends why a file has no PO text.
 fn push_unformat_text(out: &mut Vec<u8>, error: UnformatError) -> Result<(), AllocError>

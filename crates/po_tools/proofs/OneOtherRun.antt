@@ -20,10 +20,10 @@ use Rattle.po_unformat.specs.RoundTrip.{NoFaultWhereUnformatted, OneText, OneUnf
 use Rattle.msgattrib.specs.Msgattrib.{error_line}
 use Rattle.msgcat.specs.Msgcat.{AreReadAs, IsFileFault, msgcat_line}
 use Rattle.msgunfmt.specs.Msgunfmt.{unformat_line, unformatted_run}
-use Rattle.tool_runs.specs.NamedFile.{NamedFile}
+use Rattle.runs.specs.NamedFile.{NamedFile}
 use Rattle.po_messages.proofs.DuplicateLemmas.{entries_of_input}
 use Rattle.po_tools.specs.RunLaws.{OneMsgattribRun, OneMsgcatRun, OneMsgunfmtRun}
-use Rattle.tool_runs.specs.Run.{refusal}
+use Rattle.runs.specs.Run.{refusal}
 use Rattle.text_runs.specs.TextRuns.{written_run}
 
 abbrev OneReading : Type 0

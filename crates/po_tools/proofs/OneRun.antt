@@ -17,15 +17,15 @@ use Rattle.po_compile.specs.Headline.{CataloguesAreOne, MessagesAreOne, NoFaultW
 use Rattle.po_compile.specs.declared.options.Compiled.{Compiled}
 use Rattle.msgfmt.specs.declared.options.MsgfmtOptions.{MsgfmtOptions}
 use Rattle.msgfmt.specs.declared.profile.CheckFault.TheVariants.{NoHeader}
-use Rattle.tool_runs.specs.FaultText.{fault_line, mo_text}
-use Rattle.look_up_tools.specs.Gettext.{GettextRequest, NgettextRequest, IsGettextRun, IsNgettextRun, Opens, answered, gettext_output, ngettext_output}
-use Rattle.look_up_tools.specs.Gettext.Opens.{none, opened, refused}
+use Rattle.runs.specs.FaultText.{fault_line, mo_text}
+use Rattle.gettext.specs.Gettext.{GettextRequest, NgettextRequest, IsGettextRun, IsNgettextRun, Opens, answered, gettext_output, ngettext_output}
+use Rattle.gettext.specs.Gettext.Opens.{none, opened, refused}
 use Rattle.po_compile.specs.CompiledInputs.{compiled_inputs}
 use Rattle.msgfmt.specs.Msgfmt.{AreChecked, IsRefused, check_line, compile_options, compiled_run, input_texts, join_line}
-use Rattle.tool_runs.specs.NamedFile.{NamedFile}
+use Rattle.runs.specs.NamedFile.{NamedFile}
 use Rattle.msgfmt.specs.Profile.{Reported, first_fault, is_header_entry}
 use Rattle.po_tools.specs.RunLaws.{OneMsgfmtRun}
-use Rattle.tool_runs.specs.Run.{RunView, refusal}
+use Rattle.runs.specs.Run.{RunView, refusal}
 
 abbrev OneRule : Type 0
 OneRule = (limit : ℕ) (header : List ℕ) (rule other : RuleView) → IsRuleOf limit header rule → IsRuleOf limit header other → rule ≡ other

@@ -1,15 +1,15 @@
 -- What a tool writes and reports, and its exit status, are functions of its inputs: it has one run.
 use Rattle.std.specs.Prelude.{◌≡◌, ℕ, List}
 use Rattle.msgfmt.specs.declared.options.MsgfmtOptions.{MsgfmtOptions}
-use Rattle.look_up_tools.specs.Gettext.{GettextRequest, NgettextRequest, IsGettextRun, IsNgettextRun}
+use Rattle.gettext.specs.Gettext.{GettextRequest, NgettextRequest, IsGettextRun, IsNgettextRun}
 use Rattle.po_merge.specs.declared.input.MergeOptions.{MergeOptions}
 use Rattle.po_select.specs.declared.selection.Selection.{Selection}
 use Rattle.msgattrib.specs.Msgattrib.{IsMsgattribRun}
 use Rattle.msgcat.specs.Msgcat.{IsMsgcatRun}
 use Rattle.msgfmt.specs.Msgfmt.{IsMsgfmtRun}
 use Rattle.msgunfmt.specs.Msgunfmt.{IsMsgunfmtRun}
-use Rattle.tool_runs.specs.NamedFile.{NamedFile}
-use Rattle.tool_runs.specs.Run.{RunView}
+use Rattle.runs.specs.NamedFile.{NamedFile}
+use Rattle.runs.specs.Run.{RunView}
 
 -- msgfmt has one run of its inputs under its options
 abbrev pub OneMsgfmtRun : Type 0

@@ -5,17 +5,19 @@
 //! messages and the status. [`deliver`] writes it. `run_msgfmt` and its like read one input, plan
 //! and deliver.
 //!
-//! The tools are in crates of their own: `msgfmt`, `msgunfmt`, `msgattrib`, `msgcat` and
-//! `look_up_tools`, over `tool_runs`. Here are all of them under one name, with the calls that read
-//! one input (`one_input`) and the laws of their runs (`run_laws`).
+//! Each tool is in a crate of its own, over `runs`: `msgfmt`, `msgunfmt`, `msgattrib`, `msgcat`,
+//! `gettext` (with ngettext) and `envsubst`. Here are all of them under one name, with the calls that
+//! read one input (`one_input`) and the laws of their runs (`run_laws`).
 
 #![tactic(auto)]
 
 mod one_input;
 mod run_laws;
 
-pub use look_up_tools::{
-    CatalogueFile, GettextOptions, NgettextOptions, borrowed_catalogues, find_catalogues,
+pub use envsubst::{EntrySource, EnvsubstArguments, envsubst};
+pub use gettext::{
+    CatalogueFile, GettextArguments, GettextOptions, NgettextArguments, NgettextOptions,
+    VariableSource, borrowed_catalogues, find_catalogues, find_domain, gettext_options_of,
     ngettext_options_of, plan_gettext, plan_ngettext, read_catalogues,
 };
 pub use msgattrib::{plan_msgattrib, selection_of};
@@ -35,8 +37,8 @@ pub use run_laws::{
     one_gettext_run, one_msgattrib_run, one_msgcat_run, one_msgfmt_run, one_msgunfmt_run,
     one_ngettext_run,
 };
-pub use tool_runs::{
-    Arguments, EnvsubstArguments, FileKind, GettextArguments, Input, InputFault, InputSource,
-    Inputs, NgettextArguments, NotMade, OutputFault, OutputFiles, Owner, ProgramFault, Rights, Run,
-    STANDARD, STDIN_NAME, deliver, read_one, read_whole, report_fault, shown_name, write_run,
+pub use runs::{
+    Arguments, FileKind, Input, InputFault, InputSource, Inputs, NotMade, OutputFault, OutputFiles,
+    Owner, ProgramFault, Rights, Run, STANDARD, STDIN_NAME, deliver, read_one, read_whole,
+    report_fault, shown_name, write_run,
 };

@@ -4,15 +4,15 @@ ghost use Rattle.std.specs.Io.KnownBytes.{Keeps};
 ghost use Rattle.msgfmt.specs.Msgfmt.{IsMsgfmtRunOf};
 ghost use Rattle.msgunfmt.specs.Msgunfmt.{IsMsgunfmtRunOf};
 ghost use Rattle.msgattrib.specs.Msgattrib.{IsMsgattribRun};
-ghost use Rattle.tool_runs.specs.Delivered.{IsCut, IsDelivered};
+ghost use Rattle.runs.specs.Delivered.{IsCut, IsDelivered};
 
+use devices::{ByteIn, ByteOut, ToolFault, read_input};
 use msgattrib::plan_msgattrib;
 use msgfmt::{MsgfmtOptions, plan_msgfmt};
 use msgunfmt::plan_msgunfmt;
 use po_select::Selection;
-use po_shell::{ByteIn, ByteOut, ToolFault, read_input};
+use runs::deliver;
 use std::alloc::Global;
-use tool_runs::deliver;
 
 /// Reads one input, plans as `plan_msgfmt` does with this name, and writes the run: its output and
 /// then its messages. Returns the run's status. After a `ReadFault`, or out of memory, nothing is

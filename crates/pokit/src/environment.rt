@@ -1,11 +1,11 @@
 //! The arguments, which are text, and the environment's variables, whose values are bytes and
 //! needn't be text.
 use crate::files::{System, read_named};
-use po_shell::VariableSource;
+use po_tools::{EntrySource, VariableSource};
+use runs::{InputFault, ProgramFault};
 use std::alloc::{AllocError, Global};
 use std::env::{Env, FillError};
 use std::rt::Files;
-use tool_runs::{EntrySource, InputFault, ProgramFault};
 
 /// What is asked of the system: a variable by its name, or an entry of the environment or an
 /// argument by its index.

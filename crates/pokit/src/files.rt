@@ -1,15 +1,15 @@
 //! Inputs by their names, and outputs.
-use po_shell::Counted;
+use devices::Counted;
+use runs::{
+    FileKind, InputFault, InputSource, NotMade, OutputFault, OutputFiles, Owner, ProgramFault,
+    Rights, Run, read_whole,
+};
 use std::alloc::Global;
 use std::fs::{self, File, Metadata, OpenFile, OpenOptions, Permissions};
 use std::io::{self, ErrorKind, Input, Write};
 use std::os::unix::fs::{MetadataExt, OpenOptionsExt, PermissionsExt, fchown};
 use std::random::RandomSource;
 use std::rt::{Files, Stderr, Stdout};
-use tool_runs::{
-    FileKind, InputFault, InputSource, NotMade, OutputFault, OutputFiles, Owner, ProgramFault,
-    Rights, Run, read_whole,
-};
 
 /// The length of an input where it isn't known.
 const UNKNOWN_LEN: u64 = 0;
@@ -47,7 +47,7 @@ pub(crate) fn read_one<'a, R: Files + Input>(
     rt: &R,
     file: &'a str,
 ) -> Result<Vec<u8>, ProgramFault<'a>> {
-    tool_runs::read_one(alloc, &mut System(rt), file)
+    runs::read_one(alloc, &mut System(rt), file)
 }
 
 /// The bytes of the file of this name.
@@ -101,8 +101,8 @@ struct SystemFiles<'r> {
 // No contract can say what a file of the system holds, so the log of the calls isn't known.
 impl<'r> OutputFiles for SystemFiles<'r> {
     ghost use Rattle.std.specs.Prelude.{◌≡◌, ◌∷◌, [], None};
-    ghost use Rattle.po_shell.specs.Counted.{counted_failures};
-    ghost use Rattle.tool_runs.specs.FileCalls.{closes, logged};
+    ghost use Rattle.devices.specs.Counted.{counted_failures};
+    ghost use Rattle.runs.specs.FileCalls.{closes, logged};
 
     type File = Opened;
 
@@ -264,7 +264,7 @@ pub(crate) fn write_run<'a>(
         alloc,
         lacking: 0,
     };
-    tool_runs::write_run(
+    runs::write_run(
         alloc,
         &mut files,
         &mut Counted::new(rt.stdout()),

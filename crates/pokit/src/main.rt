@@ -15,11 +15,11 @@ mod tools;
 use clap::ArgMatches;
 use clap::error::ErrorKind;
 use command_line::Tool;
+use devices::Counted;
 use options::Options;
-use po_shell::Counted;
+use runs::{Ending, ProgramFault};
 use std::alloc::{AllocError, Global};
 use std::process::ExitCode;
-use tool_runs::{Ending, ProgramFault};
 
 fn main(rt: HostRuntime) -> ExitCode {
     if started(&rt).exit_status() == 0 {
@@ -106,6 +106,6 @@ fn run_tool(rt: &HostRuntime, matches: &ArgMatches<'_>) -> Ending {
 fn report_fault(rt: &HostRuntime, tool: Option<Tool>, fault: ProgramFault<'_>) -> Ending {
     let mut errors = Counted::new(rt.stderr());
     let name = tool.map(|tool| tool.name());
-    let _ = tool_runs::report_fault(rt.alloc(), &mut errors, name, fault);
+    let _ = runs::report_fault(rt.alloc(), &mut errors, name, fault);
     Ending::Refused
 }

@@ -1,7 +1,7 @@
 //! The options of a command line, as `clap` has parsed them.
 use clap::ArgMatches;
+use runs::Arguments;
 use std::str::FromStr;
-use tool_runs::Arguments;
 
 /// The options that a tool was given.
 #[derive(Clone, Copy)]

@@ -2,7 +2,7 @@
 use Rattle.std.specs.Prelude.{nat_lt, List, [], length}
 use Rattle.po_entry.specs.TextEntry.{TextEntry}
 use Rattle.po_writer.specs.WrittenText.{written_text}
-use Rattle.tool_runs.specs.Run.{RunView}
+use Rattle.runs.specs.Run.{RunView}
 
 -- the text of the entries, and a file where there is an entry
 abbrev pub written_run : List TextEntry → RunView

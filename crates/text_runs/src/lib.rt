@@ -1,13 +1,13 @@
 //! What msgattrib and msgcat share. Of the entries that they have read and written they keep the
 //! messages (`keys`), by whose numbers they find the live ones that repeat an earlier one
-//! (`repeats`); and a run writes the text of a catalogue, or refuses a text (`runs`).
+//! (`repeats`); and a run writes the text of a catalogue, or refuses a text (`run_of_text`).
 
 #![tactic(auto)]
 
 mod keys;
 mod repeats;
-mod runs;
+mod run_of_text;
 
 pub use keys::{KeyLengths, Keys, split_at_most};
 pub use repeats::{Numbered, Place, Seen, duplicate, repeated_lines};
-pub use runs::{refused_text, text_run};
+pub use run_of_text::{refused_text, text_run};

@@ -1,12 +1,13 @@
 //! Replaces the references to variables in a text.
 use crate::files::System;
 use crate::options::Options;
-use po_shell::Counted;
+use devices::Counted;
+use po_tools::{EnvsubstArguments, envsubst};
+use runs::ProgramFault;
 use std::alloc::Global;
 use std::env::Env;
 use std::io::{self, Input, Print};
 use std::rt::Files;
-use tool_runs::{EnvsubstArguments, ProgramFault, envsubst};
 
 /// Runs `pokit envsubst` and gives its status.
 pub(crate) fn run<'a, R: Env + Files + Input + Print>(

@@ -1,9 +1,11 @@
 //! Looks messages up.
 use crate::files::{System, write_run};
 use crate::options::Options;
-use look_up_tools::{borrowed_catalogues, find_domain, gettext_options_of, plan_gettext};
+use po_tools::{
+    GettextArguments, borrowed_catalogues, find_domain, gettext_options_of, plan_gettext,
+};
+use runs::{ProgramFault, STANDARD};
 use std::alloc::Global;
-use tool_runs::{GettextArguments, ProgramFault, STANDARD};
 
 /// Runs `pokit gettext` and gives its status.
 pub(crate) fn run<'a>(

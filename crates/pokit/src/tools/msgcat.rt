@@ -2,8 +2,8 @@
 use crate::files::{System, write_run};
 use crate::options::Options;
 use po_tools::{merge_options_of, plan_msgcat_of};
+use runs::{Inputs, ProgramFault, inputs_of, output_of};
 use std::alloc::Global;
-use tool_runs::{Inputs, ProgramFault, inputs_of, output_of};
 
 /// Runs `pokit msgcat` and gives its status.
 pub(crate) fn run<'a>(

@@ -2,8 +2,8 @@
 use crate::files::{System, write_run};
 use crate::options::Options;
 use po_tools::{msgfmt_options_of, msgfmt_output_of, plan_msgfmt_of};
+use runs::{Inputs, ProgramFault, inputs_of};
 use std::alloc::Global;
-use tool_runs::{Inputs, ProgramFault, inputs_of};
 
 /// Runs `pokit msgfmt` and gives its status.
 pub(crate) fn run<'a>(

@@ -2,8 +2,8 @@
 use crate::files::{read_one, write_run};
 use crate::options::Options;
 use po_tools::plan_msgunfmt;
+use runs::{ProgramFault, input_of, output_of, shown_name};
 use std::alloc::Global;
-use tool_runs::{ProgramFault, input_of, output_of, shown_name};
 
 /// Runs `pokit msgunfmt` and gives its status.
 pub(crate) fn run<'a>(

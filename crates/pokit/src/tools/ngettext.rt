@@ -1,9 +1,11 @@
 //! Looks up a message with a count.
 use crate::files::{System, write_run};
 use crate::options::Options;
-use look_up_tools::{borrowed_catalogues, find_domain, ngettext_options_of, plan_ngettext};
+use po_tools::{
+    NgettextArguments, borrowed_catalogues, find_domain, ngettext_options_of, plan_ngettext,
+};
+use runs::{ProgramFault, STANDARD};
 use std::alloc::Global;
-use tool_runs::{NgettextArguments, ProgramFault, STANDARD};
 
 /// Runs `pokit ngettext` and gives its status.
 pub(crate) fn run<'a>(

@@ -12,7 +12,7 @@ use Rattle.msgcat.specs.Inputs.{IsReadInput}
 use Rattle.text_runs.specs.Repeats.{are_placed}
 use Rattle.msgcat.proofs.InputLemmas.{entries_more, known_more, text_more}
 use Rattle.msgcat.proofs.MsgcatLemmas.{file_at, name_lacks}
-use Rattle.tool_runs.specs.NamedFile.{NamedFile, named_file, named_files}
+use Rattle.runs.specs.NamedFile.{NamedFile, named_file, named_files}
 use Rattle.msgcat.proofs.inputs.read_each.Goals as goal
 
 abbrev none : Bor (List ℕ) × Bor (List ℕ)

@@ -3,7 +3,7 @@ use Rattle.std.specs.List.{AllZip}
 use Rattle.po_merge.specs.Inputs.{Named, all_entries}
 use Rattle.msgcat.specs.Entries.{HoldEntries}
 use Rattle.msgcat.specs.Inputs.{IsReadInput, IsTextOf}
-use Rattle.tool_runs.specs.NamedFile.{named_files}
+use Rattle.runs.specs.NamedFile.{named_files}
 use Rattle.msgcat.proofs.inputs.read_each.Given as goal
 
 -- the inputs so far are read

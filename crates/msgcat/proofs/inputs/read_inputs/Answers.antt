@@ -7,7 +7,7 @@ use Rattle.po_merge.specs.Inputs.{all_entries}
 use Rattle.msgcat.specs.Entries.{AreRows, unnamed}
 use Rattle.msgcat.specs.Inputs.{IsFaultOfFirst, IsFirstRepeating, IsReadInput}
 use Rattle.msgcat.proofs.InputLemmas.{all_read, message_numbers_of, no_partial, repeating_fault, text_fault}
-use Rattle.tool_runs.specs.NamedFile.{named_files}
+use Rattle.runs.specs.NamedFile.{named_files}
 use Rattle.msgcat.proofs.inputs.read_inputs.Goals as goal
 
 pub first_duplicate-requires : goal.first_duplicate-requires

@@ -1,6 +1,6 @@
 use Rattle.std.proofs.Common.{refl, sym, ◌∙◌}
 use Rattle.std.proofs.lemmas.List.{take_all}
-use Rattle.tool_runs.specs.Inputs.{named_input}
+use Rattle.runs.specs.Inputs.{named_input}
 use Rattle.msgcat.proofs.NulNames.{among, holds}
 use Rattle.msgcat.proofs.plan_inputs.name_with_nul.Goals as goal
 

@@ -1,5 +1,5 @@
 use Rattle.std.proofs.Common.{inl, inr, ⊎_elim}
-use Rattle.tool_runs.specs.NamedFile.{named_files}
+use Rattle.runs.specs.NamedFile.{named_files}
 use Rattle.msgfmt.specs.Msgfmt.{input_texts}
 use Rattle.msgfmt.proofs.MsgfmtLemmas.{run-refused, run-done, run-unfit}
 use Rattle.msgfmt.proofs.plan.plan_collected.Goals as goal

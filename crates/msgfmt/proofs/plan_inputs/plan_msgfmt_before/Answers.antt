@@ -1,6 +1,6 @@
 use Rattle.std.proofs.Common.{inr, refl}
-use Rattle.tool_runs.specs.NamedFile.{named_files}
-use Rattle.tool_runs.specs.Run.{run_view}
+use Rattle.runs.specs.NamedFile.{named_files}
+use Rattle.runs.specs.Run.{run_view}
 use Rattle.msgfmt.proofs.MsgfmtLemmas.{taken, refused}
 use Rattle.msgfmt.proofs.plan_inputs.plan_msgfmt_before.Goals as goal
 

@@ -1,5 +1,5 @@
 use Rattle.std.proofs.Common.{◌≡◌, Some, ap, ◌∙◌}
-use Rattle.tool_runs.specs.NamedFile.{named_files}
+use Rattle.runs.specs.NamedFile.{named_files}
 use Rattle.msgfmt.proofs.MsgfmtLemmas.{before-reported}
 use Rattle.msgfmt.proofs.plan_inputs.plan_msgfmt_of.Goals as goal
 

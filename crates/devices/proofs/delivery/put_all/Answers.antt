@@ -1,0 +1,14 @@
+use Rattle.std.proofs.Common.{◌≤◌, ◌-◌, length, take, drop, arith, length-drop}
+use Rattle.std.proofs.lemmas.Bool.Decides.{nat_tests}
+use Rattle.std.proofs.lemmas.List.{take_rest}
+use Rattle.devices.proofs.DeviceLemmas.{Appends-rest}
+use Rattle.devices.proofs.delivery.put_all.Goals as goal
+
+pub loop-at-preserved : goal.loop-at-preserved
+loop-at-preserved g c =
+    let bound : c.in-Ok.taken ≤ length (take (length c.args.piece.now - c.loop-at.at) (drop c.loop-at.at c.args.piece.now)) = c.in-Ok.ensures.bound in
+    let fits = simp (take_rest, length-drop) at bound in record {
+      within = omega arith;
+      written = Appends-rest _ _ _ c.loop-at.at c.in-Ok.taken c.args.piece.now c.loop-at.invariant.written c.in-Ok.ensures.bytes;
+      no_failure = grind (arith, nat_tests, c.in-Ok.ensures.fails, c.in-Ok.taken-test.1);
+    }

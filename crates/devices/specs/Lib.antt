@@ -1,0 +1,3 @@
+pub mod Device
+pub mod Counted
+pub mod Failing

@@ -1,0 +1,114 @@
+//! Readers and writers that count their calls and failures.
+ghost use Rattle.std.specs.Prelude.{◌≡◌, ℕ, ◌+◌, ◌-◌, ◌^◌, ◌<◌, List};
+ghost use Rattle.std.specs.Prelude.{Option};
+ghost use Rattle.std.specs.Io.{ReadsAtMost, WritesAtMost};
+ghost use Rattle.std.specs.Io.KnownBytes.{ReadConsumes, WriteAppends};
+ghost use Rattle.devices.specs.Device.{failure_of_read, failure_of_write};
+ghost use Rattle.devices.specs.Counted.{counted_inner, counted_calls, counted_failures};
+
+use std::io::{self, Read, Write};
+
+/// A reader that counts its calls, and those that failed.
+pub trait ByteIn {
+    // The bytes that calls will give from here on, where they are known.
+    ghost remaining: { Self → Option (List ℕ) };
+
+    // How often it was called.
+    ghost calls: { Self → ℕ };
+
+    // How many of the calls failed.
+    ghost failures: { Self → ℕ };
+
+    /// Reads as `Read::read` does: `Ok(n)` gives the first n bytes of `buf`, and no byte only at
+    /// the end of the input or where `buf` is empty.
+    fn pull(&mut self, buf: &mut [u8]) -> io::Result<usize>
+        requires calls { calls self.old < 2 ^ 64 - 1 }
+        requires failures { failures self.old < 2 ^ 64 - 1 }
+        ensures bound { ReadsAtMost result buf.new }
+        ensures bytes { ReadConsumes (remaining self.old) (remaining self.new) result buf.new }
+        ensures counts { calls self.new ≡ calls self.old + 1 }
+        ensures fails { failures self.new ≡ failures self.old + failure_of_read result };
+}
+
+/// A writer that counts the calls that failed.
+pub trait ByteOut {
+    // The bytes that the writer has taken, where they are known.
+    ghost contents: { Self → Option (List ℕ) };
+
+    // How many calls failed.
+    ghost failures: { Self → ℕ };
+
+    /// Writes as `Write::write` does: `Ok(n)` took the first n bytes of `piece`. A call that takes
+    /// no byte of a piece that isn't empty counts as one that failed.
+    fn put(&mut self, piece: &[u8]) -> io::Result<usize>
+        requires { failures self.old < 2 ^ 64 - 1 }
+        ensures bound { WritesAtMost result piece.now }
+        ensures bytes { WriteAppends (contents self.old) (contents self.new) result piece.now }
+        ensures fails { failures self.new ≡ failures self.old + failure_of_write result piece.now };
+}
+
+/// A reader with counts of its calls and of those that failed, or a writer with a count of the
+/// calls that failed: a `ByteIn` over any `Read`, a `ByteOut` over any `Write`.
+#[derive(Drop)]
+pub struct Counted<D> {
+    inner: D,
+    calls: u64,
+    failures: u64,
+}
+
+impl<D> Counted<D> {
+    /// The device with no call counted yet.
+    pub fn new(inner: D) -> Self
+        ensures inner { counted_inner result ≡ inner }
+        ensures calls { counted_calls result ≡ 0 }
+        ensures failures { counted_failures result ≡ 0 }
+    {
+        Counted {
+            inner,
+            calls: 0,
+            failures: 0,
+        }
+    }
+
+    /// The device itself, as its calls have left it.
+    pub fn into_inner(self) -> D
+        ensures { result ≡ counted_inner self }
+    {
+        self.inner
+    }
+}
+
+impl<R: Read> ByteIn for Counted<R> {
+    ghost remaining = { λ r. R.remaining (counted_inner r) };
+
+    ghost calls = { λ r. counted_calls r };
+
+    ghost failures = { λ r. counted_failures r };
+
+    fn pull(&mut self, buf: &mut [u8]) -> io::Result<usize> {
+        self.calls += 1;
+        let outcome = self.inner.read(buf);
+        if outcome.is_err() {
+            self.failures += 1;
+        }
+        outcome
+    }
+}
+
+impl<W: Write> ByteOut for Counted<W> {
+    ghost contents = { λ w. W.contents (counted_inner w) };
+
+    ghost failures = { λ w. counted_failures w };
+
+    fn put(&mut self, piece: &[u8]) -> io::Result<usize> {
+        let outcome = self.inner.write(piece);
+        let failed = match &outcome {
+            Ok(taken) => *taken == 0 && !piece.is_empty(),
+            Err(_) => true,
+        };
+        if failed {
+            self.failures += 1;
+        }
+        outcome
+    }
+}

@@ -1,0 +1,133 @@
+//! Reading a whole input.
+ghost use Rattle.std.specs.Prelude.{◌≡◌, ◌≢◌, ◌+◌, ◌-◌, ◌^◌, ◌<◌, ◌≤◌, take, drop, length, vec_len, IfOk, OnOk, IfSome, IsErrOf, Err};
+ghost use Rattle.std.specs.Io.KnownBytes.{Consumes, IsAtEnd};
+ghost use Rattle.devices.specs.Device.{failure_of_read};
+
+use crate::device::ByteIn;
+use crate::fault::ToolFault;
+use std::alloc::{AllocError, Global};
+use std::io;
+
+/// How many bytes of an input are read at most: 2,147,483,648.
+pub const INPUT_LIMIT: usize = 1 << 31;
+
+/// How many bytes of room are made where it isn't known how many will come: 64 KB.
+const ROOM_LEN: usize = 1 << 16;
+
+/// The whole input, or its first `INPUT_LIMIT` bytes where it has more. A `ReadFault` comes where
+/// a call of the reader failed.
+pub fn read_input<R: ByteIn>(alloc: Global, reader: &mut R) -> Result<Vec<u8>, ToolFault>
+    requires calls { R.calls reader.old < 2 ^ 63 }
+    requires failures { R.failures reader.old < 2 ^ 63 }
+    ensures input { IfOk result (λ v. IfSome (R.remaining reader.old)
+        (λ xs. v.items ≡ take (2 ^ 31) xs)) }
+
+    // Just these bytes are gone from the reader.
+    ensures left { IfOk result (λ v. Consumes (R.remaining reader.old) (R.remaining reader.new) v.items) }
+    ensures no_failure { OnOk result (R.failures reader.new ≡ R.failures reader.old) }
+    ensures read_fault { IsErrOf result ToolFault.ReadFault
+        → R.failures reader.new ≡ R.failures reader.old + 1 }
+    ensures out_of_memory { IsErrOf result ToolFault.OutOfMemory
+        → R.failures reader.new ≡ R.failures reader.old }
+    ensures no_write_fault { result ≢ Err ToolFault.WriteFault }
+    ensures calls { R.calls reader.new ≤ R.calls reader.old + 2 ^ 32 }
+{
+    read_sized_input(alloc, reader, 0)
+}
+
+/// The whole input, or its first `INPUT_LIMIT` bytes where it has more, of one that is expected to have
+/// `expected_len` bytes, or 0 where that isn't known. There is room for all of them before the first
+/// call of the reader, which fills it in place. The input may have fewer bytes or more.
+#[inline(never)]
+pub fn read_sized_input<R: ByteIn>(
+    alloc: Global,
+    reader: &mut R,
+    expected_len: u64,
+) -> Result<Vec<u8>, ToolFault>
+    requires calls { R.calls reader.old < 2 ^ 63 }
+    requires failures { R.failures reader.old < 2 ^ 63 }
+    ensures input { IfOk result (λ v. IfSome (R.remaining reader.old)
+        (λ xs. v.items ≡ take (2 ^ 31) xs)) }
+
+    // Just these bytes are gone from the reader.
+    ensures left { IfOk result (λ v. Consumes (R.remaining reader.old) (R.remaining reader.new) v.items) }
+    ensures no_failure { OnOk result (R.failures reader.new ≡ R.failures reader.old) }
+    ensures read_fault { IsErrOf result ToolFault.ReadFault
+        → R.failures reader.new ≡ R.failures reader.old + 1 }
+    ensures out_of_memory { IsErrOf result ToolFault.OutOfMemory
+        → R.failures reader.new ≡ R.failures reader.old }
+    ensures no_write_fault { result ≢ Err ToolFault.WriteFault }
+    ensures calls { R.calls reader.new ≤ R.calls reader.old + 2 ^ 32 }
+{
+    let expected_len = expected_len.min(INPUT_LIMIT as u64) as usize;
+    let mut input = Vec::new(alloc);
+    let mut filled = 0;
+    while filled < INPUT_LIMIT {
+        make_room(&mut input, filled, expected_len)?;
+        match pull_after(reader, &mut input, filled) {
+            Ok(0) => {
+                input.truncate(filled);
+                return Ok(input);
+            }
+            Ok(count) => filled += count,
+            Err(_) => return Err(ToolFault::ReadFault),
+        }
+    }
+    input.truncate(filled);
+    Ok(input)
+}
+
+/// Makes `input` longer than `filled`: at first by one byte more than are expected, so that the end
+/// of the input is seen without further room.
+fn make_room(input: &mut Vec<u8>, filled: usize, expected_len: usize) -> Result<(), AllocError>
+    requires filled { filled ≤ vec_len input.old }
+    requires limit { filled < 2 ^ 31 }
+    requires len { vec_len input.old ≤ 2 ^ 31 }
+    ensures within { filled ≤ vec_len input.new }
+    ensures limit { vec_len input.new ≤ 2 ^ 31 }
+    ensures front { take filled input.new.items ≡ take filled input.old.items }
+    ensures room { OnOk result (filled < vec_len input.new) }
+{
+    if filled < input.len() {
+        return Ok(());
+    }
+    let room = if filled == 0 && expected_len != 0 {
+        expected_len.saturating_add(1)
+    } else {
+        ROOM_LEN
+    };
+    input.resize(filled.saturating_add(room).min(INPUT_LIMIT), 0)
+}
+
+/// One call of the reader, for what comes after the first `filled` bytes of `input`.
+fn pull_after<R: ByteIn>(reader: &mut R, input: &mut Vec<u8>, filled: usize) -> io::Result<usize>
+    requires calls { R.calls reader.old < 2 ^ 64 - 1 }
+    requires failures { R.failures reader.old < 2 ^ 64 - 1 }
+    requires room { filled < vec_len input.old }
+    ensures len { vec_len input.new ≡ vec_len input.old }
+    ensures front { take filled input.new.items ≡ take filled input.old.items }
+    ensures fits { IfOk result (λ n. filled + n ≤ vec_len input.new) }
+    ensures bytes { IfOk result (λ n. Consumes (R.remaining reader.old) (R.remaining reader.new)
+        (take n (drop filled input.new.items))) }
+    ensures end { IfOk result (λ n. n ≡ 0 → IsAtEnd (R.remaining reader.new)) }
+    ensures counts { R.calls reader.new ≡ R.calls reader.old + 1 }
+    ensures fails { R.failures reader.new ≡ R.failures reader.old + failure_of_read result }
+{
+    pull_into(reader, input.as_mut_slice(), filled)
+}
+
+/// One call of the reader, for what comes after the first `filled` bytes of `room`.
+fn pull_into<R: ByteIn>(reader: &mut R, room: &mut [u8], filled: usize) -> io::Result<usize>
+    requires calls { R.calls reader.old < 2 ^ 64 - 1 }
+    requires failures { R.failures reader.old < 2 ^ 64 - 1 }
+    requires room { filled < length room.old }
+    ensures front { take filled room.new ≡ take filled room.old }
+    ensures fits { IfOk result (λ n. filled + n ≤ length room.new) }
+    ensures bytes { IfOk result (λ n. Consumes (R.remaining reader.old) (R.remaining reader.new)
+        (take n (drop filled room.new))) }
+    ensures end { IfOk result (λ n. n ≡ 0 → IsAtEnd (R.remaining reader.new)) }
+    ensures counts { R.calls reader.new ≡ R.calls reader.old + 1 }
+    ensures fails { R.failures reader.new ≡ R.failures reader.old + failure_of_read result }
+{
+    reader.pull(&mut room[filled..])
+}

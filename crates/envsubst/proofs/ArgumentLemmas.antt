@@ -1,0 +1,21 @@
+-- What envsubst does by its arguments.
+use Rattle.std.proofs.Common.{◌≡◌, ℕ, List, Option, Result, option_map, subst}
+use Rattle.std.specs.Borrow.{Bor}
+use Rattle.devices.specs.declared.fault.ToolFault.{ToolFault}
+use Rattle.envsubst.specs.Envsubst.{EndsAs}
+use Rattle.envsubst.specs.References.{names_in}
+use Rattle.envsubst.specs.Substitution.{names_given, pairs_in, values_of, values_of_slices}
+use Rattle.envsubst.specs.Variables.{variables_of}
+use Rattle.envsubst.specs.ByArguments.{RunsEnvsubst, substituted}
+use Rattle.envsubst.specs.Usage.{replaced}
+
+-- variables are replaced, by the entries of an environment and the names in a SHELL-FORMAT
+pub replaces : (entries : List (List ℕ) → Type 0) (input left old new : Option (List ℕ)) (result : Result (Unit {0}) ToolFault)
+    (environment : List (List ℕ)) (variables : List (Bor (List ℕ) × Bor (List ℕ))) (only : Option (Bor (List (Bor (List ℕ))))) (format : Option (List ℕ))
+    → entries environment → pairs_in variables ≡ variables_of environment → names_given only ≡ option_map names_in format
+    → EndsAs (values_of_slices variables only) input left old new result
+    → RunsEnvsubst entries input left old new (replaced format) result
+replaces entries input left old new result environment variables only format are pairs names ends =
+    substituted environment are
+    (subst (λ n. EndsAs (values_of (variables_of environment) n) input left old new result) names
+    (subst (λ p. EndsAs (values_of p (names_given only)) input left old new result) pairs ends))

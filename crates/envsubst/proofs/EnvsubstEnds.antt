@@ -1,0 +1,67 @@
+-- What a run of envsubst has written is what its text becomes, or after a fault a beginning of it.
+use Rattle.std.proofs.Common.{◌≡◌, inl, inr, ℕ, List, ◌++◌, Option, Some, None, Ok, Err, refl, sym, ap, ◌∙◌, subst, take, drop, take-append-drop}
+use Rattle.std.specs.Io.KnownBytes.{Appends, Consumes}
+use Rattle.devices.specs.declared.fault.ToolFault.{ToolFault}
+use Rattle.devices.specs.declared.fault.ToolFault.TheVariants.{ReadFault, WriteFault, OutOfMemory}
+use Rattle.envsubst.specs.Envsubst.{EndsAs, StopsWithin, StopsAtEnd}
+use Rattle.envsubst.specs.EnvsubstLaw.{Took, TookAll, TookBeginning, TookBeginningOfRead}
+use Rattle.envsubst.specs.Replacing.{Replaces}
+use Rattle.envsubst.specs.Stream.{Stops}
+use Rattle.envsubst.specs.Substitution.{Values, substitution}
+use Rattle.envsubst.proofs.ReplacedReferences.{references_replaced}
+
+replaced : (values : Values) (text result : List ℕ) → result ≡ substitution values text → Replaces values text result
+replaced values text result is = (references_replaced values text result).0 is
+
+took : (written : List ℕ) (old new : Option (List ℕ)) → Appends old new written → Took written old new
+took written None new appends before is = cc
+took written (Some bytes) None appends before is = absurd appends
+took written (Some bytes) (Some more) appends before is =
+    let same : bytes ≡ before = cc in ap Some (appends ∙ ap (λ b. b ++ written) same)
+
+pub took_all : (values : Values) (text : List ℕ) (left old new : Option (List ℕ)) → EndsAs values (Some text) left old new (Ok tt) → TookAll values text old new
+took_all values text left old new ends =
+    record { result = substitution values text; replaced = replaced values text _ refl; took = took _ old new ends }
+
+stopped : (values : Values) (read other : List ℕ) (old new : Option (List ℕ)) → Stops values read old new → TookBeginning values (read ++ other) old new
+stopped values read other old new stops =
+    let more = stops.prefix other in
+    record { written = stops.written; rest = more.0; replaced = replaced values (read ++ other) _ (sym more.1); took = took _ old new stops.appends }
+
+stopped_within : (values : Values) (text : List ℕ) (left old new : Option (List ℕ)) → StopsWithin values (Some text) left old new → TookBeginningOfRead values text left old new
+stopped_within values text None old new within = absurd within.reads
+stopped_within values text (Some rest) old new within = record {
+  read = within.read;
+  reads = λ other is. let same : rest ≡ other = cc in within.reads ∙ ap (λ r. within.read ++ r) same;
+  took = λ other. stopped values within.read other old new within.stops;
+}
+
+whole : (values : Values) (text : List ℕ) (left old new : Option (List ℕ)) → StopsWithin values (Some text) left old new → TookBeginning values text old new
+whole values text None old new within = absurd within.reads
+whole values text (Some rest) old new within =
+    subst (λ t. TookBeginning values t old new) (sym within.reads) (stopped values within.read rest old new within.stops)
+
+at_end : (values : Values) (text : List ℕ) (old new : Option (List ℕ)) → StopsAtEnd values (Some text) old new → TookBeginning values text old new
+at_end values text old new ends = record {
+  written = take ends.0 (substitution values text);
+  rest = drop ends.0 (substitution values text);
+  replaced = replaced values text _ (take-append-drop ends.0 (substitution values text));
+  took = took _ old new ends.1;
+}
+
+pub took_beginning : (values : Values) (text : List ℕ) (left old new : Option (List ℕ)) (fault : ToolFault)
+    → EndsAs values (Some text) left old new (Err fault) → TookBeginning values text old new
+took_beginning values text left old new ReadFault ends = whole values text left old new ends
+took_beginning values text left old new WriteFault ends = elim ends [
+  | inl within ↦ whole values text left old new within
+  | inr end ↦ at_end values text old new end
+]
+took_beginning values text left old new OutOfMemory ends = whole values text left old new ends
+
+pub took_of_read : (values : Values) (text : List ℕ) (left old new : Option (List ℕ))
+    → EndsAs values (Some text) left old new (Err ReadFault) → TookBeginningOfRead values text left old new
+took_of_read values text left old new ends = stopped_within values text left old new ends
+
+pub took_of_read_memory : (values : Values) (text : List ℕ) (left old new : Option (List ℕ))
+    → EndsAs values (Some text) left old new (Err OutOfMemory) → TookBeginningOfRead values text left old new
+took_of_read_memory values text left old new ends = stopped_within values text left old new ends

@@ -1,0 +1,185 @@
+-- Variables and names that are sorted: the same values, found by binary search.
+use Rattle.std.proofs.Common.{◌≡◌, ◌∙◌, refl, sym, ap, ap₂, inl, inr, ℕ, zero, suc, ◌+◌, ◌<◌, ◌≤◌, Bool, true, false, not, ◌&&◌, cond, List, [], ◌∷◌, length, drop, map, filter, get_or, Option, Some, None, IsPermutation, arith}
+use Rattle.std.proofs.Math.Path.{fun_ext}
+use Rattle.std.specs.Borrow.{Bor}
+use Rattle.std.specs.List.{list_any}
+use Rattle.std.specs.List.Sorted.{IsStableBy, IsPartitionedBy, IsPartitionPoint, IsBinarySearchResult, IsSearchInRange, ties}
+use Rattle.std.specs.Ordering.{is_lt, is_eq, is_ge, ordering_index, ordering_reverse}
+use Rattle.std.specs.Result.{is_ok}
+use Rattle.std.specs.declared.result.Result.{Result}
+use Rattle.std.specs.declared.result.Result.TheVariants.{Ok, Err}
+use Rattle.std.specs.Str.{bytes_eq}
+use Rattle.std.specs.declared.cmp.Ordering.{Ordering}
+use Rattle.std.specs.declared.cmp.Ordering.TheVariants.{Less, Equal, Greater}
+use Rattle.std.proofs.lemmas.Bool.{cases_Bool, cases_lt, cond-true, cond-false}
+use Rattle.std.proofs.lemmas.Cmp.{nat_list_cmp_total}
+use Rattle.std.proofs.lemmas.List.{drop_all}
+use Rattle.std.proofs.lemmas.List.Elements.{All-from_get_or}
+use Rattle.std.proofs.lemmas.List.Folds.{list_any_at, list_any_none}
+use Rattle.std.proofs.lemmas.List.Sorted.{searchable_from_sorted, list_any-IsPermutation}
+use Rattle.std.proofs.lemmas.Map.Text.{is_eq-slice_cmp}
+use Rattle.envsubst.specs.Sorted.{name_cmp, AreNamesSorted, AreVariablesSorted}
+use Rattle.envsubst.specs.Substitution.{value_of, is_replaced, values_of, pairs_in}
+use Rattle.envsubst.proofs.VariableLemmas.{value_of-next, list_any-map}
+
+abbrev pub Name : Type 0
+Name = Bor (List ℕ)
+
+abbrev pub Variable : Type 0
+Variable = Name × Name
+
+-- how neighbours stand, by the test that a check of the order makes
+pub ge-not_lt : (o : Ordering) → true ≡ is_ge o → is_lt o ≡ false
+ge-not_lt Less e = cc
+ge-not_lt Equal e = refl
+ge-not_lt Greater e = refl
+
+lt-not_eq : (o : Ordering) → is_lt o ≡ true → is_eq o ≡ false
+lt-not_eq Less e = refl
+lt-not_eq Equal e = cc
+lt-not_eq Greater e = refl
+
+-- what stands after an ordering that is neither less nor equal
+after-not_eq : (a b : Ordering) → ordering_index a ≤ ordering_index b → is_lt a ≡ false → is_eq a ≡ false → is_eq b ≡ false
+after-not_eq Less b le e f = absurd (cc)
+after-not_eq Equal b le e f = absurd (cc)
+after-not_eq Greater Less le e f = refl
+after-not_eq Greater Equal le e f = absurd (omega arith)
+after-not_eq Greater Greater le e f = refl
+
+before-lt : (a b : Ordering) → ordering_index a ≤ ordering_index b → is_lt b ≡ true → is_lt a ≡ true
+before-lt Less b le e = refl
+before-lt Equal Less le e = absurd (omega arith)
+before-lt Equal Equal le e = cc
+before-lt Equal Greater le e = absurd (cc)
+before-lt Greater Less le e = absurd (omega arith)
+before-lt Greater Equal le e = absurd (cc)
+before-lt Greater Greater le e = cc
+
+-- names that stand below another differ from it
+below-differs : (known name : List ℕ) → is_lt (name_cmp known name) ≡ true → bytes_eq known name ≡ false
+below-differs known name below = sym (is_eq-slice_cmp known name) ∙ lt-not_eq (name_cmp known name) below
+
+abbrev pub below : List ℕ → Variable → Bool
+below name variable = is_lt (name_cmp variable.0.now name)
+
+rises : (vars : List Variable) (name : List ℕ) → AreVariablesSorted vars → (i j : ℕ) (d : Variable) → i ≤ j → j < length vars
+    → ordering_index (name_cmp (get_or vars i d).0.now name) ≤ ordering_index (name_cmp (get_or vars j d).0.now name)
+rises vars name sorted i j d le inside = searchable_from_sorted nat_list_cmp_total (λ (v : Variable). v.0.now) vars name sorted i j d le inside
+
+pub partitioned : (vars : List Variable) (name : List ℕ) → AreVariablesSorted vars → IsPartitionedBy (below name) vars
+partitioned vars name sorted i j d le inside e =
+    before-lt (name_cmp (get_or vars i d).0.now name) (name_cmp (get_or vars j d).0.now name) (rises vars name sorted i j d le inside) e
+
+-- variables of other names are passed
+passes : (vars : List Variable) (name : List ℕ) (d : Variable) (n : ℕ) → n ≤ length vars
+    → ((k : ℕ) → k < n → bytes_eq (get_or vars k d).0.now name ≡ false) → value_of (pairs_in vars) name ≡ value_of (pairs_in (drop n vars)) name
+passes vars name d zero le others = refl
+passes vars name d (suc n) le others =
+    let so_far = passes vars name d n (omega arith) (λ k lt. others k (omega arith)) in
+    let next : n + 1 ≡ suc n = omega arith in
+    so_far ∙ value_of-next vars name n d (omega arith) ∙ cond-false _ _ _ (others n (omega arith)) ∙ ap (λ m. value_of (pairs_in (drop m vars)) name) next
+
+none-left : (vars : List Variable) (name : List ℕ) (d : Variable) → ((k : ℕ) → k < length vars → bytes_eq (get_or vars k d).0.now name ≡ false) → value_of (pairs_in vars) name ≡ []
+unfolding value_of
+none-left vars name d others =
+    passes vars name d (length vars) (omega arith) others ∙ ap (λ vs. value_of (pairs_in vs) name) (drop_all (length vars) vars (omega arith))
+
+abbrev pub IsPoint : List Variable → List ℕ → ℕ → Type 0
+IsPoint vars name index = IsPartitionPoint (λ v. below name v ≡ true) (λ v. below name v ≡ false) vars index
+
+-- the variable at the point where names are no longer below the one, where it has this name
+pub value-found : (vars : List Variable) (name : List ℕ) (index : ℕ) (d : Variable) → IsPoint vars name index → index < length vars
+    → bytes_eq (get_or vars index d).0.now name ≡ true → value_of (pairs_in vars) name ≡ (get_or vars index d).1.now
+value-found vars name index d point inside same =
+    passes vars name d index (omega arith) (λ k lt. below-differs (get_or vars k d).0.now name (point.0 k d (omega arith) lt))
+    ∙ value_of-next vars name index d inside ∙ cond-true _ _ _ same
+
+-- where it has another, no variable has this name
+pub value-other : (vars : List Variable) (name : List ℕ) (index : ℕ) (d : Variable) → AreVariablesSorted vars → IsPoint vars name index → index < length vars
+    → bytes_eq (get_or vars index d).0.now name ≡ false → value_of (pairs_in vars) name ≡ []
+value-other vars name index d sorted point inside other =
+    let here = name_cmp (get_or vars index d).0.now name in
+    none-left vars name d
+    (λ k lt. elim (cases_lt k index) [
+      | inl before ↦ below-differs (get_or vars k d).0.now name (point.0 k d (omega arith) before)
+      | inr after ↦
+          sym (is_eq-slice_cmp (get_or vars k d).0.now name)
+          ∙ after-not_eq here (name_cmp (get_or vars k d).0.now name) (rises vars name sorted index k d after lt)
+          (point.1 index d (omega arith) inside) (is_eq-slice_cmp (get_or vars index d).0.now name ∙ other)
+    ])
+
+-- where all names are below the one, none has it
+pub value-none : (vars : List Variable) (name : List ℕ) (index : ℕ) (d : Variable) → IsPoint vars name index → length vars ≤ index → value_of (pairs_in vars) name ≡ []
+value-none vars name index d point end =
+    none-left vars name d (λ k lt. below-differs (get_or vars k d).0.now name (point.0 k d (omega arith) (omega arith)))
+
+-- a name is among sorted names where the search finds it
+pub searched-name : (names : List Name) (name : List ℕ) (r : Result ℕ ℕ) → AreNamesSorted names → IsSearchInRange r (length names)
+    → IsBinarySearchResult (λ y. name_cmp y.now name) names r → is_ok r ≡ list_any (λ n. bytes_eq n.now name) names
+searched-name names name (Ok i) sorted bound found =
+    let nothing : Name = record { ref_ptr = (0, 0); now = [] } in
+    sym (list_any_at (λ (n : Name). bytes_eq n.now name) names i nothing bound
+    (sym (is_eq-slice_cmp (get_or names i nothing).now name) ∙ ap is_eq (found nothing)))
+searched-name names name (Err i) sorted bound found =
+    let nothing : Name = record { ref_ptr = (0, 0); now = [] } in
+    let point = found (searchable_from_sorted nat_list_cmp_total (λ (n : Name). n.now) names name sorted) in
+    sym (list_any_none (λ (n : Name). bytes_eq n.now name) names
+    (All-from_get_or (λ (n : Name). bytes_eq n.now name ≡ false) names nothing
+    (λ k lt. sym (is_eq-slice_cmp (get_or names k nothing).now name) ∙ elim (cases_lt k i) [
+      | inl before ↦ ap is_eq (point.0 k nothing (omega arith) before)
+      | inr after ↦ ap is_eq (point.1 k nothing after lt)
+    ])))
+
+-- two names tie where they are one
+tied : (o : Ordering) → (not (is_lt (ordering_reverse o)) && not (is_lt o)) ≡ is_eq o
+tied Less = refl
+tied Equal = refl
+tied Greater = refl
+
+abbrev named : List ℕ → Variable
+named name = (record { ref_ptr = (0, 0); now = name }, record { ref_ptr = (0, 0); now = [] })
+
+abbrev pub stands_below : Variable → Variable → Bool
+stands_below a b = is_lt (name_cmp a.0.now b.0.now)
+
+tied-name : (name : List ℕ) (v : Variable) → ties stands_below (named name) v ≡ bytes_eq v.0.now name
+tied-name name v =
+    ap (λ o. not (is_lt o) && not (is_lt (name_cmp v.0.now name))) (nat_list_cmp_total.antisymm name v.0.now)
+    ∙ tied (name_cmp v.0.now name) ∙ is_eq-slice_cmp v.0.now name
+
+-- the value is that among the variables of this name
+among-ties : (vars : List Variable) (name : List ℕ) → value_of (pairs_in vars) name ≡ value_of (pairs_in (filter (ties stands_below (named name)) vars)) name
+unfolding value_of
+among-ties [] name = refl
+among-ties (v ∷ vars) name =
+    let rest = filter (ties stands_below (named name)) vars in
+    elim (cases_Bool (bytes_eq v.0.now name)) [
+      | inl e ↦ cond-true (bytes_eq v.0.now name) v.1.now (value_of (pairs_in vars) name) e
+          ∙ sym (cond-true (bytes_eq v.0.now name) v.1.now (value_of (pairs_in rest) name) e)
+          ∙ sym (ap (λ vs. value_of (pairs_in vs) name) (cond-true (ties stands_below (named name) v) (v ∷ rest) rest (tied-name name v ∙ e)))
+      | inr e ↦ cond-false (bytes_eq v.0.now name) v.1.now (value_of (pairs_in vars) name) e ∙ among-ties vars name
+          ∙ sym (ap (λ vs. value_of (pairs_in vs) name) (cond-false (ties stands_below (named name) v) (v ∷ rest) rest (tied-name name v ∙ e)))
+    ]
+
+-- so a stable sort keeps all values
+pub stable-values : (vars sorted : List Variable) → IsStableBy stands_below vars sorted → (name : List ℕ) → value_of (pairs_in sorted) name ≡ value_of (pairs_in vars) name
+stable-values vars sorted stable name =
+    among-ties sorted name ∙ ap (λ vs. value_of (pairs_in vs) name) (stable (named name)) ∙ sym (among-ties vars name)
+
+-- and any sort the names
+pub same-names : (names sorted : List Name) → IsPermutation names sorted → (name : List ℕ)
+    → is_replaced (Some (map (λ n. n.now) sorted)) name ≡ is_replaced (Some (map (λ n. n.now) names)) name
+unfolding is_replaced
+same-names names sorted moved name =
+    list_any-map (λ (n : Name). n.now) (λ n. bytes_eq n name) sorted
+    ∙ sym (list_any-IsPermutation (λ (n : Name). bytes_eq n.now name) names sorted moved)
+    ∙ sym (list_any-map (λ (n : Name). n.now) (λ n. bytes_eq n name) names)
+
+-- variables with the same values and names that replace the same make references the same
+pub same-replacements : (vars sorted : List (List ℕ × List ℕ)) (only names : Option (List (List ℕ)))
+    → ((name : List ℕ) → value_of sorted name ≡ value_of vars name) → ((name : List ℕ) → is_replaced names name ≡ is_replaced only name)
+    → values_of sorted names ≡ values_of vars only
+unfolding values_of
+same-replacements vars sorted only names values replaced =
+    fun_ext (λ name. ap₂ (λ b v. cond b (Some v) None) (replaced name) (values name))

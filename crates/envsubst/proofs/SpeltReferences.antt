@@ -1,0 +1,127 @@
+-- Each reference is read where it is spelt, and what is read as one is spelt.
+use Rattle.std.proofs.Common.{◌≡◌, inl, inr, refl, sym, ap, ◌∙◌, subst, ℕ, suc, ◌+◌, ◌≤◌, true, ◌||◌, ◌&&◌, eqb, List, [], ◌∷◌, ◌++◌, length, drop, All, Option, Some, None, arith}
+use Rattle.std.specs.List.{list_all}
+use Rattle.std.proofs.lemmas.Bool.{and_parts, and_from, or_cases, or_left, or_right, cond_both, eqb-true, leb-true, le-leb, ltb-true, lt-ltb, both_ways, false_from_ne_true, false≢true}
+use Rattle.std.proofs.lemmas.List.{drop_at, drop-drop}
+use Rattle.std.proofs.lemmas.List.Elements.{All-nil, All-cons, All-head, All-tail}
+use Rattle.std.proofs.lemmas.List.Sums.{take_while-cons}
+use Rattle.envsubst.specs.References.{Reference, is_letter, is_name_byte, is_name, name_prefix, begins_with, bare_reference, braced_reference, reference_after}
+use Rattle.envsubst.specs.Holding.{is_begun_name}
+use Rattle.envsubst.specs.Replacing.{IsInName, IsName, NoNameGoesOn, SpellsReference, bare, braced}
+use Rattle.envsubst.proofs.ReferenceLemmas.{ends, closes, ending-some, after-closed, letter-name_byte}
+
+all_say : (bytes : List ℕ) → list_all is_name_byte bytes ≡ true → All IsInName bytes
+all_say [] h = All-nil IsInName
+all_say (b ∷ bytes) h = let p = and_parts (is_name_byte b) (list_all is_name_byte bytes) h in All-cons IsInName b bytes p.0 (all_say bytes p.1)
+
+all_pass : (bytes : List ℕ) → All IsInName bytes → list_all is_name_byte bytes ≡ true
+all_pass [] h = refl
+all_pass (b ∷ bytes) h = and_from _ _ (All-head IsInName b bytes h) (all_pass bytes (All-tail IsInName b bytes h))
+
+name_says : (name : List ℕ) → is_name name ≡ true → list_all is_name_byte name ≡ true → IsName name
+unfolding is_name
+name_says [] h all = absurd (false≢true h)
+name_says (b ∷ bytes) h all =
+    let p = and_parts (is_letter b) _ h in
+    let q = and_parts (is_name_byte b) (list_all is_name_byte bytes) all in
+    (p.0, all_say bytes q.1, ltb-true (length bytes) 255 p.1)
+
+name_begun : (name : List ℕ) → IsName name → is_begun_name name ≡ true
+unfolding is_name
+name_begun [] h = absurd h
+name_begun (b ∷ bytes) h =
+    and_from _ _ (and_from _ _ h.0 (lt-ltb (length bytes) 255 (h.2))) (and_from _ _ (letter-name_byte b h.0) (all_pass bytes h.1))
+
+name_some : (name : List ℕ) → IsName name → name ≡ [] → ⊥
+name_some [] h none = h
+name_some (b ∷ bytes) h none = cc
+
+-- what is read of a spelt reference
+pub record IsRead (text name rest : List ℕ) : Type 0 where
+  pub bytes : List ℕ
+  pub size : ℕ
+  pub dollar : text ≡ 36 ∷ bytes
+  pub read : reference_after bytes ≡ Some (record { name = name; size = size })
+  pub after : drop size bytes ≡ rest
+
+bare_read : (name rest : List ℕ) → IsName name → NoNameGoesOn rest → reference_after (name ++ rest) ≡ Some (record { name = name; size = length name })
+bare_read name [] h ended = ending-some name (name_begun name h) (name_some name h)
+bare_read name (b ∷ rest) h ended = ends name b rest (name_begun name h) (name_some name h) (false_from_ne_true (is_name_byte b) (λ passes. ended passes))
+
+pub reference_read : {text name rest : List ℕ} → SpellsReference text name rest → IsRead text name rest
+reference_read (bare {name = name} {rest = rest} h ended) = record {
+  bytes = name ++ rest;
+  size = length name;
+  dollar = refl;
+  read = bare_read name rest h ended;
+  after = drop_at name rest (length name) refl;
+}
+reference_read (braced {name = name} {rest = rest} h) = record {
+  bytes = 123 ∷ (name ++ 125 ∷ rest);
+  size = length name + 2;
+  dollar = refl;
+  read = closes name rest (name_begun name h) (name_some name h);
+  after = after-closed name 125 rest;
+}
+
+-- a text is the longest run of name bytes, and a rest
+abbrev RunAt : List ℕ → List ℕ → Type 0
+RunAt bytes run = (list_all is_name_byte run ≡ true) × NoNameGoesOn (drop (length run) bytes) × (run ++ drop (length run) bytes ≡ bytes)
+
+run_at : (bytes : List ℕ) → RunAt bytes (name_prefix bytes)
+run_at [] = (refl, tt, refl)
+run_at (b ∷ bytes) =
+    let later = run_at bytes in
+    subst (RunAt (b ∷ bytes)) (sym (take_while-cons is_name_byte b bytes))
+    (cond_both (is_name_byte b) (b ∷ name_prefix bytes) [] (RunAt (b ∷ bytes))
+    (λ passes. (and_from _ _ passes later.0, later.1, ap (λ l. b ∷ l) later.2))
+    (λ fails. (refl, λ h. both_ways (is_name_byte b) fails h, refl)))
+
+-- what is read as a reference is spelt
+abbrev Says : List ℕ → Option Reference → Type 0
+Says bytes None = Unit {0}
+Says bytes (Some r) = SpellsReference (36 ∷ bytes) r.name (drop r.size bytes)
+
+bare_says : (bytes : List ℕ) → Says bytes (bare_reference bytes)
+unfolding bare_reference
+bare_says bytes =
+    let run = run_at bytes in
+    cond_both (is_name (name_prefix bytes)) _ None (Says bytes)
+    (λ named. subst (λ text. SpellsReference (36 ∷ text) (name_prefix bytes) (drop (length (name_prefix bytes)) bytes)) run.2 (bare (name_says (name_prefix bytes) named run.0) run.1))
+    (λ _. tt)
+
+closed_by : (rest : List ℕ) → begins_with 125 rest ≡ true → rest ≡ 125 ∷ drop 1 rest
+closed_by [] h = absurd (false≢true h)
+closed_by (b ∷ rest) h = ap (λ a. a ∷ rest) (eqb-true b 125 h)
+
+two_more : (n : ℕ) (b : ℕ) (bytes : List ℕ) → drop (n + 2) (b ∷ bytes) ≡ drop 1 (drop n bytes)
+two_more n b bytes =
+    let two : n + 2 ≡ suc (n + 1) = omega arith in ap (λ (k : ℕ). drop k (b ∷ bytes)) two ∙ sym (drop-drop 1 n bytes)
+
+braced_says : (bytes : List ℕ) → Says (123 ∷ bytes) (braced_reference bytes)
+unfolding braced_reference
+braced_says bytes =
+    let run = run_at bytes in
+    let name = name_prefix bytes in
+    let rest = drop (length name) bytes in
+    cond_both (is_name name && begins_with 125 rest) _ None (Says (123 ∷ bytes))
+    (λ both.
+    let p = and_parts (is_name name) (begins_with 125 rest) both in
+    let closed = closed_by rest p.1 in
+    subst (λ end. SpellsReference (36 ∷ 123 ∷ bytes) name end) (sym (two_more (length name) 123 bytes))
+    (subst (λ text. SpellsReference (36 ∷ 123 ∷ text) name (drop 1 rest)) (ap (λ l. name ++ l) (sym closed) ∙ run.2) (braced (name_says name p.0 run.0))))
+    (λ _. tt)
+
+opened_by : (bytes : List ℕ) → begins_with 123 bytes ≡ true → 123 ∷ drop 1 bytes ≡ bytes
+opened_by [] h = absurd (false≢true h)
+opened_by (b ∷ bytes) h = ap (λ a. a ∷ bytes) (sym (eqb-true b 123 h))
+
+says : (bytes : List ℕ) → Says bytes (reference_after bytes)
+unfolding reference_after
+says bytes =
+    cond_both (begins_with 123 bytes) (braced_reference (drop 1 bytes)) (bare_reference bytes) (Says bytes)
+    (λ opened. subst (λ text. Says text (braced_reference (drop 1 bytes))) (opened_by bytes opened) (braced_says (drop 1 bytes)))
+    (λ _. bare_says bytes)
+
+pub reference_spelt : (bytes : List ℕ) (r : Reference) → reference_after bytes ≡ Some r → SpellsReference (36 ∷ bytes) r.name (drop r.size bytes)
+reference_spelt bytes r e = subst (Says bytes) e (says bytes)

@@ -1,0 +1,145 @@
+-- Lemmas on texts with their references replaced.
+use Rattle.std.proofs.Common.{◌≡◌, ℕ, zero, suc, ◌+◌, Bool, true, false, eqb, ◌⊎◌, inl, inr, List, [], ◌∷◌, ◌++◌, length, drop, take, Option, Some, None, refl, sym, ap, subst, ◌∙◌, append-nil, arith}
+use Rattle.std.specs.List.{list_all, position_or_len}
+use Rattle.std.specs.Option.{option_map}
+use Rattle.std.proofs.lemmas.Bool.{and_parts, cond-false, cases_Bool, true≢false, false≢true}
+use Rattle.std.proofs.lemmas.List.{drop_at}
+use Rattle.memchr.specs.Find.{is_byte}
+use Rattle.locale_names.proofs.SearchLemmas.{byte-here, byte-later}
+use Rattle.envsubst.specs.References.{is_name_byte, reference_after}
+use Rattle.envsubst.specs.Substitution.{Values, Replacement, replacement_of, substituted, substitution_after, substitution}
+use Rattle.std.specs.Borrow.{Bor}
+use Rattle.envsubst.specs.declared.holding.Decision.TheVariants.{Ends, Closes, Copies}
+use Rattle.envsubst.specs.declared.holding.Effect.{Effect}
+use Rattle.envsubst.specs.declared.holding.Effect.TheVariants.{Held, Copied, Replaced}
+use Rattle.envsubst.specs.Holding.{is_begun_name, after_dollar, Decides, ComesOut, ReplacesName, Ending}
+use Rattle.envsubst.proofs.ReferenceLemmas.{name_byte-not, begun-bytes, dollar-no_name, ending-none, ending-some, after-closed}
+
+-- skipped bytes leave the text after them
+pub skipped : (values : Values) (n : ℕ) (bs : List ℕ) → substitution_after values n bs ≡ substitution values (drop n bs)
+unfolding substitution_after
+skipped values zero bs = refl
+skipped values (suc n) [] = refl
+skipped values (suc n) (b ∷ bs) = skipped values n bs
+
+-- a byte that is no `$` is copied
+pub plain : (values : Values) (b : ℕ) (bs : List ℕ) → eqb b 36 ≡ false → substitution values (b ∷ bs) ≡ b ∷ substitution values bs
+unfolding substitution_after
+plain values b bs other = ap (λ r. substituted b r (λ skip. substitution_after values skip bs)) (cond-false (eqb b 36) _ None other)
+
+-- a `$` that begins no replaced reference is copied
+pub not-replaced : (values : Values) (bs : List ℕ) → replacement_of values (reference_after bs) ≡ None → substitution values (36 ∷ bs) ≡ 36 ∷ substitution values bs
+unfolding substitution_after
+not-replaced values bs none = ap (λ r. substituted 36 r (λ skip. substitution_after values skip bs)) none
+
+-- a replaced reference gives its value, and the text goes on after it
+pub replaced : (values : Values) (bs : List ℕ) (r : Replacement) → replacement_of values (reference_after bs) ≡ Some r → substitution values (36 ∷ bs) ≡ r.value ++ substitution values (drop r.size bs)
+unfolding substitution_after
+replaced values bs r some =
+    ap (λ o. substituted 36 o (λ skip. substitution_after values skip bs)) some ∙ ap (λ l. r.value ++ l) (skipped values r.size bs)
+
+-- the first n bytes are copied
+abbrev CopiesPrefix : Values → ℕ → List ℕ → List ℕ → Type 0
+CopiesPrefix values n bs rest = substitution values (bs ++ rest) ≡ take n bs ++ substitution values (drop n bs ++ rest)
+
+-- the bytes before the first `$` are copied
+pub plain-prefix : (values : Values) (bs rest : List ℕ) → CopiesPrefix values (position_or_len (is_byte 36) bs) bs rest
+plain-prefix values [] rest = refl
+plain-prefix values (b ∷ bs) rest = elim (cases_Bool (eqb b 36)) [
+  | inl e ↦ subst (λ n. CopiesPrefix values n (b ∷ bs) rest) (sym (byte-here 36 b bs e)) refl
+  | inr e ↦ subst (λ n. CopiesPrefix values n (b ∷ bs) rest) (sym (byte-later 36 b bs e)) (plain values b (bs ++ rest) e ∙ ap (λ l. b ∷ l) (plain-prefix values bs rest))
+]
+
+-- bytes without a `$` are copied
+pub plain-run : (values : Values) (bs rest : List ℕ) → list_all is_name_byte bs ≡ true → substitution values (bs ++ rest) ≡ bs ++ substitution values rest
+plain-run values [] rest h = refl
+plain-run values (b ∷ bs) rest h =
+    let p = and_parts (is_name_byte b) (list_all is_name_byte bs) h in
+    plain values b (bs ++ rest) (name_byte-not 36 b dollar-no_name p.0) ∙ ap (λ l. b ∷ l) (plain-run values bs rest p.1)
+
+-- a begun reference, and what comes after it
+pub after-append : (is_braced : Bool) (name xs : List ℕ) → after_dollar is_braced name ++ xs ≡ after_dollar is_braced (name ++ xs)
+after-append true name xs = refl
+after-append false name xs = refl
+
+-- a begun reference that is none, or isn't replaced, is copied
+pub begun-copied : (values : Values) (is_braced : Bool) (name xs : List ℕ) → is_begun_name name ≡ true → replacement_of values (reference_after (after_dollar is_braced (name ++ xs))) ≡ None
+    → substitution values (36 ∷ after_dollar is_braced (name ++ xs)) ≡ (36 ∷ after_dollar is_braced name) ++ substitution values xs
+begun-copied values true name xs h none =
+    not-replaced values (123 ∷ (name ++ xs)) none ∙ ap (λ l. 36 ∷ l) (plain values 123 (name ++ xs) refl ∙ ap (λ l. 123 ∷ l) (plain-run values name xs (begun-bytes name h)))
+begun-copied values false name xs h none =
+    not-replaced values (name ++ xs) none ∙ ap (λ l. 36 ∷ l) (plain-run values name xs (begun-bytes name h))
+
+-- a reference to a name that isn't replaced
+replacement-none : (values : Values) (name : List ℕ) (size : ℕ) (bs : List ℕ) → reference_after bs ≡ Some (record { name = name; size = size }) → values name ≡ None → replacement_of values (reference_after bs) ≡ None
+unfolding replacement_of
+replacement-none values name size bs some none = ap (replacement_of values) some ∙ ap (option_map (λ v. record { value = v; size = size })) none
+
+-- a reference to a name that is
+replacement-some : (values : Values) (name value : List ℕ) (size : ℕ) (bs : List ℕ) → reference_after bs ≡ Some (record { name = name; size = size }) → values name ≡ Some value → replacement_of values (reference_after bs) ≡ Some (record { value = value; size = size })
+unfolding replacement_of
+replacement-some values name value size bs some is = ap (replacement_of values) some ∙ ap (option_map (λ v. record { value = v; size = size })) is
+
+no-replacement : (values : Values) (bs : List ℕ) → reference_after bs ≡ None → replacement_of values (reference_after bs) ≡ None
+unfolding replacement_of
+no-replacement values bs none = ap (replacement_of values) none
+
+-- held bytes of a begun reference, and what comes after them
+held-append : (is_braced : Bool) (held name xs : List ℕ) → held ≡ 36 ∷ after_dollar is_braced name → held ++ xs ≡ 36 ∷ after_dollar is_braced (name ++ xs)
+held-append is_braced held name xs e = ap (λ l. l ++ xs) e ∙ ap (λ l. 36 ∷ l) (after-append is_braced name xs)
+
+-- held bytes that are copied
+held-copied : (values : Values) (is_braced : Bool) (held name xs : List ℕ) → held ≡ 36 ∷ after_dollar is_braced name → is_begun_name name ≡ true → replacement_of values (reference_after (after_dollar is_braced (name ++ xs))) ≡ None
+    → substitution values (held ++ xs) ≡ held ++ substitution values xs
+held-copied values is_braced held name xs e h none =
+    ap (substitution values) (held-append is_braced held name xs e) ∙ begun-copied values is_braced name xs h none ∙ ap (λ l. l ++ substitution values xs) (sym e)
+
+-- held bytes that are replaced
+held-replaced : (values : Values) (is_braced : Bool) (held name xs value : List ℕ) (size : ℕ) → held ≡ 36 ∷ after_dollar is_braced name → reference_after (after_dollar is_braced (name ++ xs)) ≡ Some (record { name = name; size = size }) → values name ≡ Some value
+    → substitution values (held ++ xs) ≡ value ++ substitution values (drop size (after_dollar is_braced (name ++ xs)))
+held-replaced values is_braced held name xs value size e some is =
+    ap (substitution values) (held-append is_braced held name xs e) ∙ replaced values (after_dollar is_braced (name ++ xs)) (record { value = value; size = size }) (replacement-some values name value size _ some is)
+
+pub out-copied : (values : Values) (is_braced : Bool) (held name : List ℕ) (next : ℕ) → held ≡ 36 ∷ after_dollar is_braced name → is_begun_name name ≡ true → Decides is_braced name next Copies → ComesOut values held next Copied
+out-copied values is_braced held name next e h none = λ rest. held-copied values is_braced held name (next ∷ rest) e h (no-replacement values _ (none rest))
+
+pub out-ends : (values : Values) (is_braced : Bool) (held name : List ℕ) (next : ℕ) (o : Effect) → held ≡ 36 ∷ after_dollar is_braced name → is_begun_name name ≡ true → Decides is_braced name next Ends → ReplacesName values name 0 o → ComesOut values held next o
+out-ends values true held name next o e h ends r = absurd (true≢false ends.0)
+out-ends values false held name next Held e h ends r = absurd r
+out-ends values false held name next Copied e h ends r = λ rest. held-copied values false held name (next ∷ rest) e h (replacement-none values name (length name) _ (ends.1 rest) r)
+out-ends values false held name next (Replaced value n) e h ends r = (
+  omega (arith, r.1),
+  λ rest. held-replaced values false held name (next ∷ rest) value.now (length name) e (ends.1 rest) r.0
+      ∙ ap (λ l. value.now ++ substitution values l) (drop_at name (next ∷ rest) (length name) refl ∙ ap (λ m. drop m (next ∷ rest)) (sym r.1)),
+)
+
+pub out-closes : (values : Values) (is_braced : Bool) (held name : List ℕ) (next : ℕ) (o : Effect) → held ≡ 36 ∷ after_dollar is_braced name → is_begun_name name ≡ true → Decides is_braced name next Closes → ReplacesName values name 1 o → ComesOut values held next o
+out-closes values false held name next o e h closes r = absurd (false≢true closes.0)
+out-closes values true held name next Held e h closes r = absurd r
+out-closes values true held name next Copied e h closes r = λ rest. held-copied values true held name (next ∷ rest) e h (replacement-none values name (length name + 2) _ (closes.1 rest) r)
+out-closes values true held name next (Replaced value n) e h closes r = (
+  omega (arith, r.1),
+  λ rest. held-replaced values true held name (next ∷ rest) value.now (length name + 2) e (closes.1 rest) r.0
+      ∙ ap (λ l. value.now ++ substitution values l) (after-closed name next rest ∙ ap (λ m. drop m (next ∷ rest)) (sym r.1)),
+)
+
+-- what becomes of the bytes held where nothing follows
+pub ends-empty : (values : Values) (held : List ℕ) → held ≡ [] → substitution values held ≡ held
+unfolding substitution_after
+ends-empty values held none = ap (substitution values) none ∙ sym none
+
+pub ends-copied : (values : Values) (is_braced : Bool) (held name : List ℕ) → held ≡ 36 ∷ after_dollar is_braced name → is_begun_name name ≡ true → (is_braced ≡ true) ⊎ (name ≡ []) → substitution values held ≡ held
+ends-copied values is_braced held name e h which =
+    let whole = sym (append-nil held) in
+    let copied = held-copied values is_braced held name [] e h (no-replacement values _ (ending-none is_braced name h which)) in
+    ap (substitution values) whole ∙ copied ∙ ap (λ l. held ++ l) (ends-empty values [] refl) ∙ append-nil held
+
+pub ends-name : (values : Values) (held name : List ℕ) (o : Option (Bor (List ℕ))) → held ≡ 36 ∷ name → is_begun_name name ≡ true → (name ≡ [] → ⊥) → option_map (λ v. v.now) o ≡ values name → Ending values held o
+ends-name values held name None e h some is =
+    let whole = sym (append-nil held) in
+    let copied = held-copied values false held name [] e h (replacement-none values name (length name) _ (ending-some name h some) (sym is)) in
+    ap (substitution values) whole ∙ copied ∙ ap (λ l. held ++ l) (ends-empty values [] refl) ∙ append-nil held
+ends-name values held name (Some value) e h some is =
+    ap (substitution values) (sym (append-nil held))
+    ∙ held-replaced values false held name [] value.now (length name) e (ending-some name h some) (sym is)
+    ∙ ap (λ l. value.now ++ l) (ends-empty values _ (drop_at name [] (length name) refl) ∙ drop_at name [] (length name) refl) ∙ append-nil value.now

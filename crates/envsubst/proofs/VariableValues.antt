@@ -1,0 +1,83 @@
+-- What references to a name become is the value that the variables give it, if the name is
+-- replaced.
+use Rattle.std.proofs.Common.{◌≡◌, ◌≢◌, ◌∙◌, refl, sym, ap, subst, inl, inr, ℕ, true, List, [], ◌∷◌, ◌++◌, All, Option, Some, None}
+use Rattle.std.specs.Prelude.{◌↔◌, Contains}
+use Rattle.std.specs.Str.{bytes_eq}
+use Rattle.std.proofs.lemmas.Bool.{cases_Bool, cond-true, cond-false, both_ways, false_from_ne_true}
+use Rattle.std.proofs.lemmas.List.Elements.{All-nil, All-cons, All-head, All-tail}
+use Rattle.std.proofs.lemmas.List.Folds.{Any-from_list_any, list_any-from_Any}
+use Rattle.std.proofs.lemmas.Slice.Eq.{bytes_eq-Decides}
+use Rattle.std.proofs.lemmas.Option.{none-some}
+use Rattle.envsubst.specs.Substitution.{value_of, is_replaced, values_of}
+use Rattle.envsubst.specs.Replacing.{HasValue, unset, set, IsReplaced}
+
+abbrev Variable : Type 0
+Variable = List ℕ × List ℕ
+
+-- the value where the first variable is another
+later : (name : List ℕ) (v : Variable) (vars : List Variable) (value : List ℕ) → v.0 ≢ name → HasValue name vars value → HasValue name (v ∷ vars) value
+later name v vars value other (unset none) = unset (All-cons (λ (w : Variable). w.0 ≢ name) v vars other none)
+later name v vars value other (set before after is none) = set (v ∷ before) after (ap (λ l. v ∷ l) is) (All-cons (λ (w : Variable). w.0 ≢ name) v before other none)
+
+has_value : (name : List ℕ) (vars : List Variable) → HasValue name vars (value_of vars name)
+unfolding value_of
+has_value name [] = unset (All-nil (λ (w : Variable). w.0 ≢ name))
+has_value name (v ∷ vars) =
+    elim (cases_Bool (bytes_eq v.0 name)) [
+      | inl e ↦ let same = (bytes_eq-Decides v.0 name).0 e in
+          subst (HasValue name (v ∷ vars)) (sym (cond-true (bytes_eq v.0 name) v.1 (value_of vars name) e)) (set [] vars (ap (λ n. (n, v.1) ∷ vars) same) (All-nil (λ (w : Variable). w.0 ≢ name)))
+      | inr e ↦ subst (HasValue name (v ∷ vars)) (sym (cond-false (bytes_eq v.0 name) v.1 (value_of vars name) e))
+          (later name v vars (value_of vars name) (λ same. both_ways (bytes_eq v.0 name) e ((bytes_eq-Decides v.0 name).1 same)) (has_value name vars))
+    ]
+
+passed : (name : List ℕ) (v : Variable) (vars : List Variable) → v.0 ≢ name → value_of (v ∷ vars) name ≡ value_of vars name
+unfolding value_of
+passed name v vars other =
+    cond-false (bytes_eq v.0 name) v.1 (value_of vars name) (false_from_ne_true (bytes_eq v.0 name) (λ e. other ((bytes_eq-Decides v.0 name).0 e)))
+
+found : (name value : List ℕ) (before after : List Variable) → All (λ v. v.0 ≢ name) before → value_of (before ++ (name, value) ∷ after) name ≡ value
+unfolding value_of
+found name value [] after none = cond-true (bytes_eq name name) value (value_of after name) ((bytes_eq-Decides name name).1 refl)
+found name value (v ∷ before) after none =
+    passed name v (before ++ (name, value) ∷ after) (All-head (λ (w : Variable). w.0 ≢ name) v before none) ∙ found name value before after (All-tail (λ (w : Variable). w.0 ≢ name) v before none)
+
+not_found : (name : List ℕ) (vars : List Variable) → All (λ v. v.0 ≢ name) vars → value_of vars name ≡ []
+unfolding value_of
+not_found name [] none = refl
+not_found name (v ∷ vars) none = passed name v vars (All-head (λ (w : Variable). w.0 ≢ name) v vars none) ∙ not_found name vars (All-tail (λ (w : Variable). w.0 ≢ name) v vars none)
+
+is_value : {name value : List ℕ} {vars : List Variable} → HasValue name vars value → value_of vars name ≡ value
+is_value {name} (unset {vars = vars} none) = not_found name vars none
+is_value {name} (set {vars = vars} {value = value} before after is none) = ap (λ l. value_of l name) is ∙ found name value before after none
+
+replaced_says : (only : Option (List (List ℕ))) (name : List ℕ) → is_replaced only name ≡ true → IsReplaced only name
+unfolding is_replaced
+replaced_says None name e = tt
+replaced_says (Some names) name e =
+    let any = Any-from_list_any (λ n. bytes_eq n name) names e in
+    let same = (bytes_eq-Decides any.1 name).0 any.4 in subst (Contains names) same (any.0, any.2, any.3)
+
+replaced_passes : (only : Option (List (List ℕ))) (name : List ℕ) → IsReplaced only name → is_replaced only name ≡ true
+unfolding is_replaced
+replaced_passes None name h = refl
+replaced_passes (Some names) name h = list_any-from_Any (λ n. bytes_eq n name) names (h.0, name, h.1, h.2, (bytes_eq-Decides name name).1 refl)
+
+some_same : {X : Type 0} (x y : X) → Some x ≡ Some y → x ≡ y
+some_same x y e = cc
+
+value_says : (vars : List Variable) (only : Option (List (List ℕ))) (name value : List ℕ) → values_of vars only name ≡ Some value → IsReplaced only name × HasValue name vars value
+unfolding values_of
+value_says vars only name value e =
+    elim (cases_Bool (is_replaced only name)) [
+      | inl t ↦ let same = some_same (value_of vars name) value (sym (cond-true (is_replaced only name) (Some (value_of vars name)) None t) ∙ e) in
+          (replaced_says only name t, subst (HasValue name vars) same (has_value name vars))
+      | inr f ↦ absurd (none-some value (sym (cond-false (is_replaced only name) (Some (value_of vars name)) None f) ∙ e))
+    ]
+
+value_is : (vars : List Variable) (only : Option (List (List ℕ))) (name value : List ℕ) → IsReplaced only name → HasValue name vars value → values_of vars only name ≡ Some value
+unfolding values_of
+value_is vars only name value replaced has =
+    cond-true (is_replaced only name) (Some (value_of vars name)) None (replaced_passes only name replaced) ∙ ap Some (is_value has)
+
+pub values_are : (vars : List Variable) (only : Option (List (List ℕ))) (name value : List ℕ) → (values_of vars only name ≡ Some value) ↔ (IsReplaced only name × HasValue name vars value)
+values_are vars only name value = (λ e. value_says vars only name value e, λ h. value_is vars only name value h.0 h.1)

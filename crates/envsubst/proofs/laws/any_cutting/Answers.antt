@@ -1,0 +1,5 @@
+use Rattle.envsubst.proofs.StreamLemmas.{calls-agree}
+use Rattle.envsubst.proofs.laws.any_cutting.Goals as goal
+
+pub returns : goal.returns
+returns c = calls-agree

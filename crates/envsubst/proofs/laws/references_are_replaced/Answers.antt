@@ -1,0 +1,5 @@
+use Rattle.envsubst.proofs.ReplacedReferences.{references_replaced}
+use Rattle.envsubst.proofs.laws.references_are_replaced.Goals as goal
+
+pub returns : goal.returns
+returns c = references_replaced

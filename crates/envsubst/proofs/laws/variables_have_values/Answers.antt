@@ -1,0 +1,5 @@
+use Rattle.envsubst.proofs.VariableValues.{values_are}
+use Rattle.envsubst.proofs.laws.variables_have_values.Goals as goal
+
+pub returns : goal.returns
+returns c = values_are

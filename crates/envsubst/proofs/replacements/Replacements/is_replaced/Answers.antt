@@ -1,0 +1,27 @@
+use Rattle.std.proofs.Common.{sym, ap, ◌∙◌}
+use Rattle.std.specs.Str.{bytes_eq}
+use Rattle.envsubst.specs.Substitution.{is_replaced, names_given}
+use Rattle.envsubst.proofs.VariableLemmas.{list_any-map}
+use Rattle.envsubst.proofs.replacements.Replacements.is_replaced.Goals as goal
+
+pub returns-in-Some : goal.returns-in-Some
+unfolding is_replaced
+returns-in-Some c =
+    let name = c.args.name.now in
+    rw (← c.self.view_is)
+    (
+    c.is_in_sorted.ensures
+    ∙ sym (list_any-map (λ n. n.now) (λ n. bytes_eq n name) c.in-Some.names.now)
+    ∙ sym (ap (λ only. is_replaced (names_given only) name) c.in-Some.is)
+    )
+
+pub returns-in-Some-2 : goal.returns-in-Some-2
+unfolding is_replaced
+returns-in-Some-2 c =
+    let name = c.args.name.now in
+    rw (← c.self.view_is)
+    (
+    c.contains.ensures.value
+    ∙ sym (list_any-map (λ n. n.now) (λ n. bytes_eq n name) c.in-Some-2.names.now)
+    ∙ sym (ap (λ only. is_replaced (names_given only) name) c.in-Some-2.is)
+    )

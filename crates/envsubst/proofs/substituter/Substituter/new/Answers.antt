@@ -1,0 +1,7 @@
+use Rattle.std.proofs.Common.{ap, ◌∙◌}
+use Rattle.envsubst.specs.Holding.{is_undecided}
+use Rattle.envsubst.proofs.ReferenceLemmas.{nothing-undecided}
+use Rattle.envsubst.proofs.substituter.Substituter.new.Goals as goal
+
+pub invariant_of-result : goal.invariant_of-result
+invariant_of-result c = ap is_undecided c.new-2.ensures ∙ nothing-undecided

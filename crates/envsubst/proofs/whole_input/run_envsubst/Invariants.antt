@@ -1,0 +1,15 @@
+use Rattle.std.proofs.Common.{◌≡◌, ◌+◌, false}
+use Rattle.envsubst.specs.Substitution.{values_of, pairs_in, names_given}
+use Rattle.envsubst.proofs.EnvsubstLemmas.{HasFed}
+use Rattle.envsubst.proofs.whole_input.run_envsubst.Given as goal
+
+abbrev pub invariant-loop : goal.invariant-loop
+invariant-loop g l = record {
+  fed : HasFed (values_of (pairs_in l.fn.vars) (names_given l.fn.only)) (g.R.ByteIn.remaining l.fn.reader) (g.R.ByteIn.remaining l.reader) l.substituter.held (g.W.ByteOut.contents l.fn.writer) (g.W.ByteOut.contents l.writer);
+  vars : l.substituter.vars ≡ pairs_in l.fn.vars;
+  only : l.substituter.only ≡ names_given l.fn.only;
+  sound : l.substituter.has_failed ≡ false;
+  calls : g.R.ByteIn.calls l.reader ≡ g.R.ByteIn.calls l.fn.reader + l.counter;
+  no_read_failure : g.R.ByteIn.failures l.reader ≡ g.R.ByteIn.failures l.fn.reader;
+  no_write_failure : g.W.ByteOut.failures l.writer ≡ g.W.ByteOut.failures l.fn.writer;
+}

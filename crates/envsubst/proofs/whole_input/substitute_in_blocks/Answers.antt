@@ -1,0 +1,47 @@
+use Rattle.std.proofs.Common.{◌<◌, length, refl, ◌∙◌, arith}
+use Rattle.std.proofs.KnownBytes.{Keeps-refl}
+use Rattle.std.proofs.lemmas.Result.{err_from_is_err_and}
+use Rattle.envsubst.proofs.EnvsubstLemmas.{ends-within, fed-finish, fed-more, fed-none, fed-read_fault, fed-write_fault, same-values}
+use Rattle.envsubst.proofs.whole_input.substitute_in_blocks.Goals as goal
+
+pub loop-init : goal.loop-init
+loop-init g c = record {
+  fed = fed-none _ _ _ _ c.new-substituter.ensures.held;
+  vars = c.new-substituter.ensures.vars;
+  only = c.new-substituter.ensures.only;
+  sound = c.new-substituter.ensures.has_failed;
+  empty = c.new-block.ensures.items;
+  calls = omega arith;
+  no_read_failure = refl;
+  no_write_failure = refl;
+}
+
+pub returns-in-Ok-eq0-clause-output : goal.returns-in-Ok-eq0-clause-output
+returns-in-Ok-eq0-clause-output g c =
+    let room : 0 < length c.pull.new.buf = grind (arith, c.pull.auto.buf) in
+    fed-finish _ _ _ _ _ _ _ _ _ _ _ c.finish.result (same-values _ _ _ _ c.loop.invariant.vars c.loop.invariant.only) c.loop.invariant.fed c.in-Ok-eq0.ensures.bytes c.in-Ok-eq0.field-0-test room c.finish.ensures.ok c.finish.ensures.prefix c.finish.ensures.fault
+
+pub returns-in_err-block-in-Ok-clause-output : goal.returns-in_err-block-in-Ok-clause-output
+returns-in_err-block-in-Ok-clause-output g c =
+    let p = err_from_is_err_and c.from_residual.result c.from_residual.ensures.1 in
+    rw p.1
+    (ends-within _ _ _ _ _ p.0
+    (fed-write_fault _ _ _ _ _ _ _ _ _ _ (same-values _ _ _ _ c.loop.invariant.vars c.loop.invariant.only) c.loop.invariant.fed c.in-Ok.ensures.bytes.0 c.in_err-block-in-Ok.ensures.stops))
+
+pub returns-in-Err-clause-output : goal.returns-in-Err-clause-output
+returns-in-Err-clause-output g c = fed-read_fault _ _ _ _ _ _ _ c.loop.invariant.fed c.in-Err.ensures.bytes
+
+pub loop-preserved : goal.loop-preserved
+loop-preserved g c = record {
+  fed = fed-more _ _ _ _ _ _ _ _ _ _ _ (same-values _ _ _ _ c.loop.invariant.vars c.loop.invariant.only) c.loop.invariant.fed c.in-Ok.ensures.bytes.0 c.in_ok-block-in-Ok.ensures.ok;
+  vars = c.in_ok-block-in-Ok.ensures.vars ∙ c.loop.invariant.vars;
+  only = c.in_ok-block-in-Ok.ensures.only ∙ c.loop.invariant.only;
+  sound = c.in_ok-block-in-Ok.ensures.sound;
+  empty = c.in_ok-block-in-Ok.ensures.empty;
+  calls = omega (arith, c.in-Ok.ensures.counts);
+  no_read_failure = omega (arith, c.in-Ok.ensures.fails);
+  no_write_failure = c.in_ok-block-in-Ok.ensures.no_failure ∙ c.loop.invariant.no_write_failure;
+}
+
+pub returns-clause-output : goal.returns-clause-output
+returns-clause-output g c = fed-read_fault _ _ _ _ _ _ _ c.loop.invariant.fed (Keeps-refl _)

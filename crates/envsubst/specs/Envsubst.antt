@@ -1,0 +1,32 @@
+-- What a run of envsubst writes, by what its reader had ("Invoking the envsubst program" of the GNU
+-- gettext manual).
+use Rattle.std.specs.Prelude.{◌⊎◌, ℕ, List, Option, IfSome, Result, Ok, Err}
+use Rattle.std.specs.Io.KnownBytes.{Appends, Consumes}
+use Rattle.devices.specs.declared.fault.ToolFault.{ToolFault}
+use Rattle.devices.specs.declared.fault.ToolFault.TheVariants.{ReadFault, WriteFault, OutOfMemory}
+use Rattle.devices.specs.Device.{AppendsPrefix}
+use Rattle.envsubst.specs.Substitution.{Values, substitution}
+use Rattle.envsubst.specs.Stream.{Stops}
+
+-- the writer took what the whole input becomes
+abbrev pub Substitutes : Values → Option (List ℕ) → Option (List ℕ) → Option (List ℕ) → Type 0
+Substitutes values input old new = IfSome input (λ text. Appends old new (substitution values text))
+
+-- the writer took a prefix of what the whole input becomes
+abbrev pub StopsAtEnd : Values → Option (List ℕ) → Option (List ℕ) → Option (List ℕ) → Type 0
+StopsAtEnd values input old new = IfSome input (λ text. AppendsPrefix old new (substitution values text))
+
+-- the writer took a prefix of what these bytes of the input become, whatever comes after them
+pub record StopsWithin (values : Values) (input left old new : Option (List ℕ)) : Type 0 where
+  pub read : List ℕ
+  pub reads : Consumes input left read
+  pub stops : Stops values read old new
+
+-- what the writer took, by what is reported
+abbrev pub EndsAs : Values → Option (List ℕ) → Option (List ℕ) → Option (List ℕ) → Option (List ℕ)
+    → Result (Unit {0}) ToolFault → Type 0
+EndsAs values input left old new (Ok _) = Substitutes values input old new
+EndsAs values input left old new (Err ReadFault) = StopsWithin values input left old new
+EndsAs values input left old new (Err WriteFault) =
+    StopsWithin values input left old new ⊎ StopsAtEnd values input old new
+EndsAs values input left old new (Err OutOfMemory) = StopsWithin values input left old new

@@ -1,0 +1,16 @@
+-- What the arguments of a command line mean for envsubst.
+use Rattle.std.specs.Prelude.{◌≡◌, ℕ, Bool, List, codes, Result}
+use Rattle.envsubst.specs.declared.arguments.EnvsubstArguments.{EnvsubstArguments}
+use Rattle.runs.specs.declared.program_fault.ProgramFault.{ProgramFault}
+use Rattle.runs.specs.Given.{IsTaken}
+use Rattle.envsubst.specs.Usage.{envsubst_usage}
+use Rattle.envsubst.specs.UsageView.{envsubst_arguments}
+
+-- envsubst's arguments, with its option `-v`
+pub record AreEnvsubstArguments (flag : List ℕ → Bool → Type 0) (texts : List ℕ → List (List ℕ) → Type 0)
+    (result : Result EnvsubstArguments ProgramFault) : Type 0 where
+  pub variables : Bool
+  pub arguments : List (List ℕ)
+  pub variables_is : flag (codes "variables") variables
+  pub arguments_are : texts (codes "SHELL-FORMAT") arguments
+  pub taken : IsTaken envsubst_arguments (envsubst_usage variables arguments) result

@@ -1,0 +1,14 @@
+pub mod References
+pub mod Substitution
+pub mod Sorted
+pub mod Replacing
+pub mod Stream
+pub mod Holding
+pub mod SubstituterView
+pub mod Envsubst
+pub mod EnvsubstLaw
+pub mod Variables
+pub mod ByArguments
+pub mod Usage
+pub mod UsageView
+pub mod Given

@@ -1,0 +1,63 @@
+-- What spells a reference, and a text with its references replaced, with a case each ("Invoking the
+-- envsubst program" of the GNU gettext manual).
+use Rattle.std.specs.Prelude.{◌≡◌, ℕ, ◌≤◌, List, [], ◌∷◌, ◌++◌, length, All, Option, Some, ◌≢◌, None, Contains, IsTrue}
+use Rattle.envsubst.specs.References.{is_letter, is_name_byte}
+use Rattle.envsubst.specs.Substitution.{Values}
+
+-- what a name begins with: an ASCII letter or `_`
+abbrev pub BeginsName : ℕ → Type 0
+BeginsName b = IsTrue (is_letter b)
+
+-- what a name goes on with: also a digit
+abbrev pub IsInName : ℕ → Type 0
+IsInName b = IsTrue (is_name_byte b)
+
+-- a name has at most 255 bytes
+abbrev pub IsName : List ℕ → Type 0
+IsName [] = ⊥
+IsName (b ∷ bytes) = BeginsName b × All IsInName bytes × (length (b ∷ bytes) ≤ 255)
+
+-- no name goes on with the first byte
+abbrev pub NoNameGoesOn : List ℕ → Type 0
+NoNameGoesOn [] = Unit {0}
+NoNameGoesOn (b ∷ bytes) = IsInName b → ⊥
+
+-- the text begins with a reference to this name, `$NAME` or `${NAME}`, and the rest stands after it
+pub data SpellsReference : List ℕ → List ℕ → List ℕ → Type 0 where
+  bare : {name rest : List ℕ} → IsName name → NoNameGoesOn rest → SpellsReference (36 ∷ (name ++ rest)) name rest
+  braced : {name rest : List ℕ} → IsName name → SpellsReference (36 ∷ 123 ∷ (name ++ 125 ∷ rest)) name rest
+
+-- the text begins with no reference to a name that is replaced
+abbrev pub BeginsNoReplaced : Values → List ℕ → Type 0
+BeginsNoReplaced values text =
+    (name value rest : List ℕ) → SpellsReference text name rest → values name ≡ Some value → ⊥
+
+-- the text with its references replaced: each byte stands for itself, but for those of a reference
+-- to a name that is replaced
+pub data Replaces (values : Values) : List ℕ → List ℕ → Type 0 where
+  nothing : Replaces values [] []
+  copied : {b : ℕ} {text result : List ℕ} → BeginsNoReplaced values (b ∷ text) → Replaces values text result
+      → Replaces values (b ∷ text) (b ∷ result)
+  replaced : {text name value rest result : List ℕ} → SpellsReference text name rest → values name ≡ Some value
+      → Replaces values rest result → Replaces values text (value ++ result)
+
+-- the names of the references in a text, in order
+pub data HoldsNames : List ℕ → List (List ℕ) → Type 0 where
+  no_text : HoldsNames [] []
+  no_reference : {b : ℕ} {text : List ℕ} {names : List (List ℕ)}
+      → ((name rest : List ℕ) → SpellsReference (b ∷ text) name rest → ⊥) → HoldsNames text names
+      → HoldsNames (b ∷ text) names
+  reference : {b : ℕ} {text name rest : List ℕ} {names : List (List ℕ)} → SpellsReference (b ∷ text) name rest
+      → HoldsNames text names → HoldsNames (b ∷ text) (name ∷ names)
+
+-- among variables the value of a name: that of the first of this name, and nothing where there is
+-- none
+pub data HasValue (name : List ℕ) : List (List ℕ × List ℕ) → List ℕ → Type 0 where
+  unset : {vars : List (List ℕ × List ℕ)} → All (λ v. v.0 ≢ name) vars → HasValue name vars []
+  set : {vars : List (List ℕ × List ℕ)} {value : List ℕ} (before after : List (List ℕ × List ℕ))
+      → vars ≡ before ++ (name, value) ∷ after → All (λ v. v.0 ≢ name) before → HasValue name vars value
+
+-- with a SHELL-FORMAT only the names in it are replaced
+abbrev pub IsReplaced : Option (List (List ℕ)) → List ℕ → Type 0
+IsReplaced None name = Unit {0}
+IsReplaced (Some names) name = Contains names name

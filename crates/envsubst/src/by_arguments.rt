@@ -1,0 +1,134 @@
+//! envsubst by its arguments.
+ghost use Rattle.std.specs.Prelude.{◌≡◌, ◌+◌, ◌^◌, ◌<◌, ◌≤◌, ◌⊎◌, OnOk, OnErr, IsErrOf, IfOk, map};
+ghost use Rattle.std.specs.Option.{option_copied};
+ghost use Rattle.envsubst.specs.ByArguments.{RunsEnvsubst, WritesNames};
+ghost use Rattle.envsubst.specs.Usage.{replaced};
+ghost use Rattle.envsubst.specs.UsageView.{envsubst_arguments};
+
+use crate::arguments::EnvsubstArguments;
+use crate::reference::{name_lines, names};
+use crate::variable::variables_in;
+use crate::whole_input::run_envsubst_in_blocks;
+use devices::{ByteIn, ByteOut, ToolFault, put_all};
+use std::alloc::{AllocError, Global};
+
+/// Where the entries of an environment are read from.
+pub trait EntrySource {
+    ghost use Rattle.std.specs.Prelude.{ℕ, List};
+
+    // What the entries may be.
+    ghost entries: { Self → List (List ℕ) → Type 0 };
+
+    /// All entries, each `NAME=value`, in their order.
+    fn read_entries(&self, alloc: Global) -> Result<Vec<Vec<u8>>, AllocError>
+        ensures { IfOk result (λ found. entries self.now (map (λ entry. entry.items) found.items)) };
+}
+
+/// Does what the arguments ask for: writes the names of the variables in a SHELL-FORMAT, and reads
+/// nothing; or writes the input with its references to variables replaced, all or those to the
+/// variables that a SHELL-FORMAT refers to.
+pub fn envsubst<S: EntrySource, R: ByteIn, W: ByteOut>(
+    alloc: Global,
+    source: &S,
+    reader: &mut R,
+    writer: &mut W,
+    given: EnvsubstArguments<'_>,
+) -> Result<(), ToolFault>
+    requires calls { R.calls reader.old < 2 ^ 63 }
+    requires read_failures { R.failures reader.old < 2 ^ 63 }
+    requires write_failures { W.failures writer.old < 2 ^ 63 }
+    ensures output { RunsEnvsubst (S.entries source.now) (R.remaining reader.old) (R.remaining reader.new)
+        (W.contents writer.old) (W.contents writer.new) (envsubst_arguments given.entry) result }
+    ensures no_read_failure { OnOk result (R.failures reader.new ≡ R.failures reader.old) }
+    ensures no_write_failure { OnOk result (W.failures writer.new ≡ W.failures writer.old) }
+    ensures read_cause { IsErrOf result ToolFault.ReadFault
+        → (R.failures reader.new ≡ R.failures reader.old + 1)
+        ⊎ ((R.failures reader.new ≡ R.failures reader.old)
+        × (R.calls reader.new ≡ R.calls reader.old + 2 ^ 32)) }
+    ensures read_cause_alone { IsErrOf result ToolFault.ReadFault
+        → W.failures writer.new ≡ W.failures writer.old }
+    ensures write_cause { IsErrOf result ToolFault.WriteFault
+        → W.failures writer.new ≡ W.failures writer.old + 1 }
+    ensures write_cause_alone { IsErrOf result ToolFault.WriteFault
+        → R.failures reader.new ≡ R.failures reader.old }
+    ensures no_read_cause { IsErrOf result ToolFault.OutOfMemory
+        → R.failures reader.new ≡ R.failures reader.old }
+    ensures no_write_cause { IsErrOf result ToolFault.OutOfMemory
+        → W.failures writer.new ≡ W.failures writer.old }
+    ensures calls { R.calls reader.new ≤ R.calls reader.old + 2 ^ 32 }
+{
+    match given {
+        EnvsubstArguments::Names(format) => write_names(alloc, writer, format),
+        EnvsubstArguments::Replaced(format) => substitute(alloc, source, reader, writer, format),
+    }
+}
+
+/// Writes the names of the variables in a SHELL-FORMAT.
+fn write_names<W: ByteOut>(alloc: Global, writer: &mut W, format: &str) -> Result<(), ToolFault>
+    requires { W.failures writer.old < 2 ^ 63 }
+    ensures output { WritesNames format.now (W.contents writer.old) (W.contents writer.new) result }
+    ensures no_failure { OnOk result (W.failures writer.new ≡ W.failures writer.old) }
+    ensures cause { IsErrOf result ToolFault.WriteFault
+        → W.failures writer.new ≡ W.failures writer.old + 1 }
+    ensures no_cause { IsErrOf result ToolFault.OutOfMemory
+        → W.failures writer.new ≡ W.failures writer.old }
+{
+    match name_lines(alloc, format.as_bytes()) {
+        Ok(lines) => put_all(writer, &lines),
+        Err(_) => Err(ToolFault::OutOfMemory),
+    }
+}
+
+/// Writes the input with its references to variables replaced.
+fn substitute<S: EntrySource, R: ByteIn, W: ByteOut>(
+    alloc: Global,
+    source: &S,
+    reader: &mut R,
+    writer: &mut W,
+    format: Option<&str>,
+) -> Result<(), ToolFault>
+    requires calls { R.calls reader.old < 2 ^ 63 }
+    requires read_failures { R.failures reader.old < 2 ^ 63 }
+    requires write_failures { W.failures writer.old < 2 ^ 63 }
+    ensures output { RunsEnvsubst (S.entries source.now) (R.remaining reader.old) (R.remaining reader.new)
+        (W.contents writer.old) (W.contents writer.new) (replaced (option_copied format.entry)) result }
+    ensures no_read_failure { OnOk result (R.failures reader.new ≡ R.failures reader.old) }
+    ensures no_write_failure { OnOk result (W.failures writer.new ≡ W.failures writer.old) }
+    ensures read_cause { IsErrOf result ToolFault.ReadFault
+        → (R.failures reader.new ≡ R.failures reader.old + 1)
+        ⊎ ((R.failures reader.new ≡ R.failures reader.old)
+        × (R.calls reader.new ≡ R.calls reader.old + 2 ^ 32)) }
+    ensures read_cause_alone { IsErrOf result ToolFault.ReadFault
+        → W.failures writer.new ≡ W.failures writer.old }
+    ensures write_cause { IsErrOf result ToolFault.WriteFault
+        → W.failures writer.new ≡ W.failures writer.old + 1 }
+    ensures write_cause_alone { IsErrOf result ToolFault.WriteFault
+        → R.failures reader.new ≡ R.failures reader.old }
+    ensures no_read_cause { IsErrOf result ToolFault.OutOfMemory
+        → R.failures reader.new ≡ R.failures reader.old }
+    ensures no_write_cause { IsErrOf result ToolFault.OutOfMemory
+        → W.failures writer.new ≡ W.failures writer.old }
+    ensures calls { R.calls reader.new ≤ R.calls reader.old + 2 ^ 32 }
+{
+    let Ok(entries) = source.read_entries(alloc) else {
+        return Err(ToolFault::OutOfMemory);
+    };
+    let Ok(variables) = variables_in(alloc, entries.as_slice()) else {
+        return Err(ToolFault::OutOfMemory);
+    };
+    match format {
+        None => run_envsubst_in_blocks(alloc, reader, writer, variables.as_slice(), None),
+        Some(format) => {
+            let Ok(only) = names(alloc, format.as_bytes()) else {
+                return Err(ToolFault::OutOfMemory);
+            };
+            run_envsubst_in_blocks(
+                alloc,
+                reader,
+                writer,
+                variables.as_slice(),
+                Some(only.as_slice()),
+            )
+        }
+    }
+}

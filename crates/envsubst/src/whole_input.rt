@@ -1,0 +1,254 @@
+//! Substitution of a whole input ("Invoking the envsubst program" of the GNU gettext manual).
+ghost use Rattle.std.specs.Prelude.{◌≡◌, ◌+◌, ◌^◌, ◌<◌, ◌≤◌, ◌⊎◌, ◌≢◌, ◌++◌, [], Some, false, IfOk, OnOk, OnErr, IsErrOf, Err};
+ghost use Rattle.envsubst.specs.Envsubst.{EndsAs, Substitutes, StopsAtEnd, StopsWithin};
+ghost use Rattle.envsubst.specs.Stream.{Advances, Stops};
+ghost use Rattle.envsubst.specs.SubstituterView.{values_of_substituter};
+ghost use Rattle.envsubst.specs.Substitution.{values_of_slices};
+
+use crate::sorted::{sorted_names, sorted_variables};
+use crate::substituter::Substituter;
+use devices::{ByteIn, ByteOut, Counted, ToolFault, put_all};
+use std::alloc::Global;
+
+/// How often a run calls its reader at most, once for each piece: 4,294,967,296 times.
+pub const MOST_READS: u64 = 1 << 32;
+
+/// How many bytes a call of the reader may give: 64 KB.
+const BUFFER_LEN: usize = 1 << 16;
+
+/// How many bytes of output are gathered for a call of the writer: 64 KB.
+const BLOCK_LEN: usize = 1 << 16;
+
+/// How many bytes the parts of a piece become that are gathered at once, 1 MB or so: a part has one
+/// byte at least, which can become the longest value.
+const GATHERED_LEN: usize = 1 << 20;
+
+/// Writes the input with its references replaced, as [`Substituter`] replaces them. A `ReadFault`
+/// comes where a call of the reader failed, or `MOST_READS` calls gave no end of the input.
+#[inline(never)]
+pub fn run_envsubst<R: ByteIn, W: ByteOut>(
+    reader: &mut R,
+    writer: &mut W,
+    vars: &[(&[u8], &[u8])],
+    only: Option<&[&[u8]]>,
+) -> Result<(), ToolFault>
+    requires calls { R.calls reader.old < 2 ^ 63 }
+    requires read_failures { R.failures reader.old < 2 ^ 63 }
+    requires write_failures { W.failures writer.old < 2 ^ 63 }
+    ensures ok { OnOk result (Substitutes (values_of_slices vars.now only.entry)
+        (R.remaining reader.old) (W.contents writer.old) (W.contents writer.new)) }
+
+    // What went out is a prefix of what the bytes that were read become, whatever comes next.
+    ensures read_fault { IsErrOf result ToolFault.ReadFault
+        → StopsWithin (values_of_slices vars.now only.entry)
+        (R.remaining reader.old) (R.remaining reader.new) (W.contents writer.old) (W.contents writer.new) }
+
+    // What went out is such a prefix, or at the end of the input one of what all of it becomes.
+    ensures write_fault { IsErrOf result ToolFault.WriteFault
+        → StopsWithin (values_of_slices vars.now only.entry)
+        (R.remaining reader.old) (R.remaining reader.new) (W.contents writer.old) (W.contents writer.new)
+        ⊎ StopsAtEnd (values_of_slices vars.now only.entry)
+        (R.remaining reader.old) (W.contents writer.old) (W.contents writer.new) }
+    ensures no_read_failure { OnOk result (R.failures reader.new ≡ R.failures reader.old) }
+    ensures no_write_failure { OnOk result (W.failures writer.new ≡ W.failures writer.old) }
+    ensures read_cause { IsErrOf result ToolFault.ReadFault
+        → (R.failures reader.new ≡ R.failures reader.old + 1)
+        ⊎ ((R.failures reader.new ≡ R.failures reader.old)
+        × (R.calls reader.new ≡ R.calls reader.old + 2 ^ 32)) }
+    ensures read_cause_alone { IsErrOf result ToolFault.ReadFault
+        → W.failures writer.new ≡ W.failures writer.old }
+    ensures write_cause { IsErrOf result ToolFault.WriteFault
+        → W.failures writer.new ≡ W.failures writer.old + 1 }
+    ensures write_cause_alone { IsErrOf result ToolFault.WriteFault
+        → R.failures reader.new ≡ R.failures reader.old }
+    ensures no_memory { result ≢ Err ToolFault.OutOfMemory }
+    ensures calls { R.calls reader.new ≤ R.calls reader.old + 2 ^ 32 }
+{
+    let mut substituter = Substituter::new(vars, only);
+    let mut piece = [0; BUFFER_LEN];
+    for _ in 0..MOST_READS {
+        match reader.pull(&mut piece) {
+            Ok(0) => return substituter.finish(writer),
+            Ok(count) => substituter.feed(&piece[..count], writer)?,
+            Err(_) => return Err(ToolFault::ReadFault),
+        }
+    }
+    Err(ToolFault::ReadFault)
+}
+
+/// Writes the input with its references replaced, as `run_envsubst` does, and gathers the output in
+/// blocks, for a writer of which each call costs much. Variables and names are sorted first, so
+/// that each is found by binary search. A block ends with each piece of the input at the latest.
+pub fn run_envsubst_in_blocks<R: ByteIn, W: ByteOut>(
+    alloc: Global,
+    reader: &mut R,
+    writer: &mut W,
+    vars: &[(&[u8], &[u8])],
+    only: Option<&[&[u8]]>,
+) -> Result<(), ToolFault>
+    requires calls { R.calls reader.old < 2 ^ 63 }
+    requires read_failures { R.failures reader.old < 2 ^ 63 }
+    requires write_failures { W.failures writer.old < 2 ^ 63 }
+
+    // All of it, or after a fault a prefix, whatever comes next.
+    ensures output { EndsAs (values_of_slices vars.now only.entry) (R.remaining reader.old) (R.remaining reader.new)
+        (W.contents writer.old) (W.contents writer.new) result }
+    ensures no_read_failure { OnOk result (R.failures reader.new ≡ R.failures reader.old) }
+    ensures no_write_failure { OnOk result (W.failures writer.new ≡ W.failures writer.old) }
+    ensures read_cause { IsErrOf result ToolFault.ReadFault
+        → (R.failures reader.new ≡ R.failures reader.old + 1)
+        ⊎ ((R.failures reader.new ≡ R.failures reader.old)
+        × (R.calls reader.new ≡ R.calls reader.old + 2 ^ 32)) }
+    ensures read_cause_alone { IsErrOf result ToolFault.ReadFault
+        → W.failures writer.new ≡ W.failures writer.old }
+    ensures write_cause { IsErrOf result ToolFault.WriteFault
+        → W.failures writer.new ≡ W.failures writer.old + 1 }
+    ensures write_cause_alone { IsErrOf result ToolFault.WriteFault
+        → R.failures reader.new ≡ R.failures reader.old }
+    ensures no_read_cause { IsErrOf result ToolFault.OutOfMemory
+        → R.failures reader.new ≡ R.failures reader.old }
+    ensures no_write_cause { IsErrOf result ToolFault.OutOfMemory
+        → W.failures writer.new ≡ W.failures writer.old }
+    ensures calls { R.calls reader.new ≤ R.calls reader.old + 2 ^ 32 }
+{
+    let Ok(vars) = sorted_variables(alloc, vars) else {
+        return Err(ToolFault::OutOfMemory);
+    };
+    match only {
+        Some(names) => {
+            let Ok(names) = sorted_names(alloc, names) else {
+                return Err(ToolFault::OutOfMemory);
+            };
+            substitute_in_blocks(
+                alloc,
+                reader,
+                writer,
+                vars.as_slice(),
+                Some(names.as_slice()),
+            )
+        }
+        None => substitute_in_blocks(alloc, reader, writer, vars.as_slice(), None),
+    }
+}
+
+/// Writes the input with its references replaced, in blocks, by variables and names that are sorted.
+#[inline(never)]
+fn substitute_in_blocks<R: ByteIn, W: ByteOut>(
+    alloc: Global,
+    reader: &mut R,
+    writer: &mut W,
+    vars: &[(&[u8], &[u8])],
+    only: Option<&[&[u8]]>,
+) -> Result<(), ToolFault>
+    requires calls { R.calls reader.old < 2 ^ 63 }
+    requires read_failures { R.failures reader.old < 2 ^ 63 }
+    requires write_failures { W.failures writer.old < 2 ^ 63 }
+    ensures output { EndsAs (values_of_slices vars.now only.entry) (R.remaining reader.old) (R.remaining reader.new)
+        (W.contents writer.old) (W.contents writer.new) result }
+    ensures no_read_failure { OnOk result (R.failures reader.new ≡ R.failures reader.old) }
+    ensures no_write_failure { OnOk result (W.failures writer.new ≡ W.failures writer.old) }
+    ensures read_cause { IsErrOf result ToolFault.ReadFault
+        → (R.failures reader.new ≡ R.failures reader.old + 1)
+        ⊎ ((R.failures reader.new ≡ R.failures reader.old)
+        × (R.calls reader.new ≡ R.calls reader.old + 2 ^ 32)) }
+    ensures read_cause_alone { IsErrOf result ToolFault.ReadFault
+        → W.failures writer.new ≡ W.failures writer.old }
+    ensures write_cause { IsErrOf result ToolFault.WriteFault
+        → W.failures writer.new ≡ W.failures writer.old + 1 }
+    ensures write_cause_alone { IsErrOf result ToolFault.WriteFault
+        → R.failures reader.new ≡ R.failures reader.old }
+    ensures no_read_cause { IsErrOf result ToolFault.OutOfMemory
+        → R.failures reader.new ≡ R.failures reader.old }
+    ensures no_write_cause { IsErrOf result ToolFault.OutOfMemory
+        → W.failures writer.new ≡ W.failures writer.old }
+    ensures calls { R.calls reader.new ≤ R.calls reader.old + 2 ^ 32 }
+{
+    let part_len = part_len(vars);
+    let mut substituter = Substituter::new(vars, only);
+    let mut block = Vec::new(alloc);
+    let mut piece = [0; BUFFER_LEN];
+    for _ in 0..MOST_READS {
+        match reader.pull(&mut piece) {
+            Ok(0) => return substituter.finish(writer),
+            Ok(count) => {
+                block = feed_in_blocks(&mut substituter, block, &piece[..count], part_len, writer)?;
+            }
+            Err(_) => return Err(ToolFault::ReadFault),
+        }
+    }
+    Err(ToolFault::ReadFault)
+}
+
+/// How many bytes of a piece are fed at once, so that what they become doesn't take much memory.
+fn part_len(vars: &[(&[u8], &[u8])]) -> usize
+    ensures { 0 < result }
+{
+    let mut longest = 1;
+    for (_, value) in vars {
+        longest = value.len().max(longest);
+    }
+    (GATHERED_LEN / longest).max(1)
+}
+
+/// Takes one more piece, in parts of so many bytes. What they become is gathered in `block`, and
+/// all of it is written before the block is returned.
+fn feed_in_blocks<W: ByteOut>(
+    substituter: &mut Substituter<'_>,
+    block: Vec<u8>,
+    piece: &[u8],
+    part_len: usize,
+    writer: &mut W,
+) -> Result<Vec<u8>, ToolFault>
+    requires failures { W.failures writer.old < 2 ^ 63 }
+    requires sound { substituter.old.has_failed ≡ false }
+    requires empty { block.items ≡ [] }
+    requires some { 0 < part_len }
+    ensures ok { OnOk result (Advances (values_of_substituter substituter.old) (substituter.old.held ++ piece.now)
+        substituter.new.held (W.contents writer.old) (W.contents writer.new)) }
+    ensures stops { OnErr result (Stops (values_of_substituter substituter.old) (substituter.old.held ++ piece.now)
+        (W.contents writer.old) (W.contents writer.new)) }
+    ensures empty { IfOk result (λ block. block.items ≡ []) }
+    ensures sound { OnOk result (substituter.new.has_failed ≡ false) }
+    ensures vars { substituter.new.vars ≡ substituter.old.vars }
+    ensures only { substituter.new.only ≡ substituter.old.only }
+    ensures no_failure { OnOk result (W.failures writer.new ≡ W.failures writer.old) }
+    ensures cause { IsErrOf result ToolFault.WriteFault → W.failures writer.new ≡ W.failures writer.old + 1 }
+    ensures no_cause { IsErrOf result ToolFault.OutOfMemory → W.failures writer.new ≡ W.failures writer.old }
+    ensures no_read_fault { result ≢ Err ToolFault.ReadFault }
+{
+    let mut block = block;
+    let mut at = 0;
+    while at < piece.len() {
+        let end = at + part_len.min(piece.len() - at);
+        block = gather(substituter, block, &piece[at..end])?;
+        at = end;
+        if block.len() >= BLOCK_LEN {
+            put_all(writer, &block)?;
+            block.clear();
+        }
+    }
+    put_all(writer, &block)?;
+    block.clear();
+    Ok(block)
+}
+
+/// Takes one more part, and appends to `block` what is written of it.
+fn gather(
+    substituter: &mut Substituter<'_>,
+    block: Vec<u8>,
+    part: &[u8],
+) -> Result<Vec<u8>, ToolFault>
+    requires { substituter.old.has_failed ≡ false }
+    ensures ok { IfOk result (λ more. Advances (values_of_substituter substituter.old)
+        (substituter.old.held ++ part.now) substituter.new.held (Some block.items) (Some more.items)) }
+    ensures sound { OnOk result (substituter.new.has_failed ≡ false) }
+    ensures vars { substituter.new.vars ≡ substituter.old.vars }
+    ensures only { substituter.new.only ≡ substituter.old.only }
+    ensures memory { OnErr result (result ≡ Err ToolFault.OutOfMemory) }
+{
+    let mut gathered = Counted::new(block);
+    match substituter.feed(part, &mut gathered) {
+        Ok(()) => Ok(gathered.into_inner()),
+        Err(_) => Err(ToolFault::OutOfMemory),
+    }
+}

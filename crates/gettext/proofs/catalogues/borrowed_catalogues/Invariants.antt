@@ -1,0 +1,7 @@
+use Rattle.std.proofs.Common.{◌≡◌, take}
+use Rattle.gettext.specs.Catalogues.{catalogue_files}
+use Rattle.runs.specs.NamedFile.{named_files}
+use Rattle.gettext.proofs.catalogues.borrowed_catalogues.Given as goal
+
+abbrev pub invariant-loop-catalogue : goal.invariant-loop-catalogue
+invariant-loop-catalogue l = named_files l.borrowed.items ≡ catalogue_files (take l.catalogue-index l.catalogues)

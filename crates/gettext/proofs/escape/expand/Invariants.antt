@@ -1,0 +1,12 @@
+use Rattle.std.proofs.Common.{◌≡◌, ◌||◌, ◌++◌, length}
+use Rattle.gettext.specs.Escapes.{expansion, has_no_newline}
+use Rattle.gettext.proofs.escape.expand.Given as goal
+
+abbrev pub invariant-loop-bytes : goal.invariant-loop-bytes
+invariant-loop-bytes l = record {
+  bytes : l.bytes.items ++ expansion l.rest ≡ expansion l.text;
+  newline : (l.no_newline || has_no_newline l.rest) ≡ has_no_newline l.text;
+}
+
+abbrev pub decreases-loop-bytes : goal.decreases-loop-bytes
+decreases-loop-bytes l = length l.rest

@@ -1,0 +1,6 @@
+use Rattle.std.proofs.Common.{◌≡◌, ◌<◌, ℕ, true, get_or}
+use Rattle.gettext.specs.Escapes.{is_octal}
+use Rattle.gettext.proofs.escape.octal_prefix.Given as goal
+
+abbrev pub invariant-loop-len : goal.invariant-loop-len
+invariant-loop-len l = (k : ℕ) → k < l.len → is_octal (get_or l.prefix k 0) ≡ true

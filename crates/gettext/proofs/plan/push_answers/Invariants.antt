@@ -1,0 +1,14 @@
+use Rattle.std.proofs.Common.{◌≡◌, ◌++◌, ◌||◌, drop, map}
+use Rattle.std.specs.List.{list_any}
+use Rattle.gettext.specs.Gettext.{omits_newline, argument_answer}
+use Rattle.gettext.specs.GettextView.{gettext_view}
+use Rattle.gettext.proofs.GettextLemmas.{further}
+use Rattle.gettext.proofs.plan.push_answers.Given as goal
+
+-- the answers to the arguments that are left complete the answers so far, and those arguments may stop the line too
+abbrev pub invariant-loop-argument : goal.invariant-loop-argument
+invariant-loop-argument l =
+    (l.output.items ++ further (argument_answer l.chain (gettext_view l.options)) (drop l.argument-index l.others)
+    ≡ l.initial.output.items ++ further (argument_answer l.chain (gettext_view l.options)) l.others)
+    × ((l.omitted || list_any (omits_newline (gettext_view l.options)) (map (λ argument. argument.now) (drop l.argument-index l.others)))
+    ≡ (l.initial.omitted || list_any (omits_newline (gettext_view l.options)) (map (λ argument. argument.now) l.others)))

@@ -1,0 +1,95 @@
+-- What gettext and ngettext write (manual, "Invoking the gettext program" and "Invoking the ngettext program").
+use Rattle.std.specs.Prelude.{◌≡◌, ℕ, Bool, false, not, ◌&&◌, List, [], ◌∷◌, ◌++◌, map, Option, None, Some, codes}
+use Rattle.std.specs.Prelude.{if◌then◌else◌}
+use Rattle.std.specs.List.{join_with_byte, list_any}
+use Rattle.mo_file.specs.declared.byte_order.Order.{Order}
+use Rattle.mo_file.specs.declared.fault.MoError.{MoError}
+use Rattle.mo_file.specs.MoFile.{IsMoFile}
+use Rattle.mo_file.specs.Fault.{IsFirstFault}
+use Rattle.mo_lookup.specs.Chain.{chain_answered}
+use Rattle.mo_lookup.specs.CatalogView.{CatalogView, IsCatalogView}
+use Rattle.gettext.specs.CountArgument.{count_in}
+use Rattle.gettext.specs.Escapes.{expansion, has_no_newline}
+use Rattle.runs.specs.FaultText.{fault_line, mo_text}
+use Rattle.runs.specs.NamedFile.{NamedFile}
+use Rattle.runs.specs.Run.{RunView}
+
+-- The files that are catalogues make the chain, in order; each other one is reported by a line, in order.
+pub data Opens (tool : List ℕ) : List NamedFile → List CatalogView → List ℕ → Type 0 where
+  none : Opens tool [] [] []
+  opened : {file : NamedFile} {files : List NamedFile} {catalog : CatalogView} {chain : List CatalogView}
+      {reported : List ℕ} (order : Order)
+      → IsMoFile order file.bytes catalog.messages → IsCatalogView catalog.messages catalog.rule
+      → Opens tool files chain reported
+      → Opens tool (file ∷ files) (catalog ∷ chain) reported
+  refused : {file : NamedFile} {files : List NamedFile} {fault : MoError} {chain : List CatalogView} {reported : List ℕ}
+      → IsFirstFault file.bytes fault → Opens tool files chain reported
+      → Opens tool (file ∷ files) chain (fault_line tool file.name 0 (mo_text fault) ++ reported)
+
+-- what gettext is asked for, besides the catalogues
+pub record GettextRequest : Type 0 where
+  pub arguments : List (List ℕ)
+  pub context : Option (List ℕ)
+  pub expand : Bool
+  pub no_newline : Bool
+  pub shell : Bool
+
+-- an argument, with its escapes expanded where `-e` is given
+abbrev pub argument_text : Bool → List ℕ → List ℕ
+argument_text expand argument = if expand then expansion argument else argument
+
+-- the answer to one MSGID
+abbrev pub argument_answer : List CatalogView → GettextRequest → List ℕ → List ℕ
+argument_answer chain o argument =
+    (chain_answered chain (record { context = o.context; id = argument_text o.expand argument; plural = None })).text
+
+-- the answers, with a space between two
+abbrev pub answers : List CatalogView → GettextRequest → List ℕ
+answers chain o = join_with_byte 32 (map (argument_answer chain o) o.arguments)
+
+-- with `-e` a `\c` in an argument acts as `-n`
+abbrev pub omits_newline : GettextRequest → List ℕ → Bool
+omits_newline o argument = o.expand && has_no_newline argument
+
+-- with `-s` a newline ends the output, unless `-n` is given or an argument acts as that
+abbrev pub ends_line : GettextRequest → Bool
+ends_line o = o.shell && (not o.no_newline && not (list_any (omits_newline o) o.arguments))
+
+-- the answers, and the newline where one ends the output
+abbrev pub gettext_output : List CatalogView → GettextRequest → List ℕ
+gettext_output chain o = answers chain o ++ (if ends_line o then 10 ∷ [] else [])
+
+-- this output, and these lines about catalogues that were refused, which don't count as a failure
+abbrev pub answered : List ℕ → List ℕ → RunView
+answered output reported = record { output = output; create = false; messages = reported; status = 0 }
+
+-- what a run of gettext comes to
+pub record IsGettextRun (files : List NamedFile) (o : GettextRequest) (run : RunView) : Type 0 where
+  pub chain : List CatalogView
+  pub reported : List ℕ
+  pub opens : Opens (codes "gettext") files chain reported
+  pub run_is : run ≡ answered (gettext_output chain o) reported
+
+-- what ngettext is asked for, besides the catalogues
+pub record NgettextRequest : Type 0 where
+  pub context : Option (List ℕ)
+  pub expand : Bool
+  pub id : List ℕ
+  pub plural : List ℕ
+  pub count : List ℕ
+
+-- the answer to MSGID and MSGID-PLURAL at COUNT
+abbrev pub ngettext_output : List CatalogView → NgettextRequest → List ℕ
+ngettext_output chain o =
+    (chain_answered chain (record {
+      context = o.context;
+      id = argument_text o.expand o.id;
+      plural = Some (argument_text o.expand o.plural, count_in o.count);
+    })).text
+
+-- what a run of ngettext comes to
+pub record IsNgettextRun (files : List NamedFile) (o : NgettextRequest) (run : RunView) : Type 0 where
+  pub chain : List CatalogView
+  pub reported : List ℕ
+  pub opens : Opens (codes "ngettext") files chain reported
+  pub run_is : run ≡ answered (ngettext_output chain o) reported

@@ -1,0 +1,14 @@
+pub mod CountArgument
+pub mod Escapes
+pub mod Expanding
+pub mod Locales
+pub mod Paths
+pub mod Environments
+pub mod Gettext
+pub mod GettextView
+pub mod OpensFile
+pub mod Catalogues
+pub mod Options
+pub mod Usage
+pub mod UsageView
+pub mod Given

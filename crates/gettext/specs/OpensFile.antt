@@ -1,0 +1,15 @@
+-- Internal: a file is opened after others.
+use Rattle.std.specs.Prelude.{◌≡◌, ◌++◌, ◌∷◌, ℕ, List}
+use Rattle.mo_lookup.specs.CatalogView.{CatalogView}
+use Rattle.gettext.specs.declared.plan.Opened.{Opened}
+use Rattle.gettext.specs.Gettext.{Opens}
+use Rattle.runs.specs.NamedFile.{NamedFile}
+
+-- what it adds to the chain and to the lines goes before what further files add
+pub record OpensFile (tool : List ℕ) (file : NamedFile) (old new : Opened) : Type 0 where
+  pub chain : List CatalogView
+  pub reported : List ℕ
+  pub catalogs : new.catalogs.items ≡ old.catalogs.items ++ chain
+  pub messages : new.messages.items ≡ old.messages.items ++ reported
+  pub opens : (files : List NamedFile) (others : List CatalogView) (rest : List ℕ) → Opens tool files others rest
+      → Opens tool (file ∷ files) (chain ++ others) (reported ++ rest)

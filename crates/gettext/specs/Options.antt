@@ -1,0 +1,33 @@
+-- What the options of a command line mean (manual, "Invoking the gettext program" and "Invoking the ngettext program").
+use Rattle.std.specs.Prelude.{◌≡◌, ℕ, Bool, List, Option, codes}
+use Rattle.gettext.specs.Catalogues.{AreFound}
+use Rattle.gettext.specs.Gettext.{GettextRequest, NgettextRequest}
+use Rattle.runs.specs.Inputs.{Asked, Reading}
+use Rattle.runs.specs.NamedFile.{NamedFile}
+use Rattle.gettext.specs.Usage.{GettextUsage, NgettextUsage}
+
+-- the catalogues of the text domain that an argument or the option `-d` gives
+pub record AreFoundBy (text : List ℕ → Option (List ℕ) → Type 0) (variable : List ℕ → Option (List ℕ) → Type 0)
+    (file : List ℕ → Reading → Type 0) (before after : Option (List Asked)) (argument : Option (List ℕ))
+    (catalogues : List NamedFile) : Type 0 where
+  pub option : Option (List ℕ)
+  pub option_is : text (codes "domain") option
+  pub found : AreFound variable file before after argument option catalogues
+
+-- what gettext is asked for: its messages, and its options
+pub record IsGettextRequest (flag : List ℕ → Bool → Type 0) (text : List ℕ → Option (List ℕ) → Type 0)
+    (form : GettextUsage) (o : GettextRequest) : Type 0 where
+  pub messages : o.arguments ≡ form.messages
+  pub context : text (codes "context") o.context
+  pub expand : flag (codes "expand") o.expand
+  pub no_newline : flag (codes "no-newline") o.no_newline
+  pub shell : flag (codes "shell") o.shell
+
+-- what ngettext is asked for: its arguments, and its options
+pub record IsNgettextRequest (flag : List ℕ → Bool → Type 0) (text : List ℕ → Option (List ℕ) → Type 0)
+    (form : NgettextUsage) (o : NgettextRequest) : Type 0 where
+  pub context : text (codes "context") o.context
+  pub expand : flag (codes "expand") o.expand
+  pub id : o.id ≡ form.id
+  pub plural : o.plural ≡ form.plural
+  pub count : o.count ≡ form.count

@@ -1,0 +1,30 @@
+-- Where the catalogues of a text domain lie ("Invoking the gettext program" and "Locating Message
+-- Catalog Files" of the GNU gettext manual).
+use Rattle.std.specs.Prelude.{ℕ, if◌then◌else◌, List, [], ◌++◌, map, Option, Some, None, unwrap_or, codes}
+use Rattle.std.specs.Option.{option_or, option_copied}
+use Rattle.locale_names.specs.Names.{is_path_part}
+use Rattle.gettext.specs.Locales.{non_empty, candidates_of}
+use Rattle.gettext.specs.declared.candidates.Environment.{Environment}
+
+-- the text domain: the one among the arguments, else that of `-d`, else that of TEXTDOMAIN, each
+-- also where it is empty
+abbrev pub domain_of : Option (List ℕ) → Option (List ℕ) → Environment → Option (List ℕ)
+domain_of argument option env = option_or argument (option_or option (option_copied env.textdomain))
+
+-- the folder that the catalogues lie below: that of TEXTDOMAINDIR, where it counts
+abbrev pub folder_of : Environment → List ℕ
+folder_of env = unwrap_or (non_empty env.textdomaindir) (codes "/usr/share/locale")
+
+-- where the catalogue of a domain lies for a locale
+abbrev pub path_of : List ℕ → List ℕ → List ℕ → List ℕ
+path_of folder locale domain = ((((folder ++ codes "/") ++ locale) ++ codes "/LC_MESSAGES/") ++ domain) ++ codes ".mo"
+
+-- the paths of the catalogues of a domain; a domain that can't stand in a path has none
+abbrev pub paths_in : Environment → Option (List ℕ) → List (List ℕ)
+paths_in env None = []
+paths_in env (Some domain) =
+    if is_path_part domain then map (λ locale. path_of (folder_of env) locale domain) (candidates_of env) else []
+
+-- the paths of the catalogues to try, the first to be asked first
+abbrev pub paths_of : Option (List ℕ) → Option (List ℕ) → Environment → List (List ℕ)
+paths_of argument option env = paths_in env (domain_of argument option env)

@@ -1,0 +1,113 @@
+//! The compiled catalogues of a text domain.
+ghost use Rattle.std.specs.Prelude.{◌≡◌, ◌-◌, ◌^◌, ◌<◌, IfOk, OnOk, length, map, option_map, take};
+ghost use Rattle.std.specs.Option.{option_copied};
+ghost use Rattle.gettext.specs.Catalogues.{AreCatalogues, AreFound, AsksAt, AsksPaths, IsCatalogueAt, catalogue_file, catalogue_files};
+ghost use Rattle.runs.specs.NamedFile.{named_files};
+
+use crate::environment::{OwnedEnvironment, VariableSource};
+use crate::paths::catalogue_paths;
+use runs::{InputFault, InputSource};
+use std::alloc::{AllocError, Global};
+use std::str;
+
+/// A compiled catalogue's bytes, with the path that names it in fault lines.
+#[derive(Drop)]
+pub struct CatalogueFile {
+    /// The path of the file.
+    pub path: String,
+    /// What was read.
+    pub bytes: Vec<u8>,
+}
+
+/// Reads the catalogues of a text domain, given by an argument or by an option, in the order in which
+/// the environment asks for them: those whose files can be read. Refused only where an allocation
+/// failed.
+pub fn find_catalogues<S: InputSource + VariableSource>(
+    alloc: Global,
+    source: &mut S,
+    argument: Option<&str>,
+    option: Option<&str>,
+) -> Result<Vec<CatalogueFile>, AllocError>
+    ensures { IfOk result (λ found. AreFound (S.variable source.old) S.file
+        (S.asked source.old) (S.asked source.new) (option_copied argument.entry) (option_copied option.entry) (catalogue_files found.items)) }
+{
+    let environment = OwnedEnvironment::read(alloc, &*source)?;
+    let Ok(paths) = catalogue_paths(
+        alloc,
+        bytes_of(argument),
+        bytes_of(option),
+        &environment.borrowed(),
+    ) else {
+        return Err(AllocError);
+    };
+    read_catalogues(alloc, source, paths.as_slice())
+}
+
+/// The bytes of a text, where there is one.
+pub(crate) fn bytes_of(text: Option<&str>) -> Option<&[u8]>
+    ensures { option_copied result ≡ option_copied text.entry }
+{
+    text.map(|text| text.as_bytes())
+}
+
+/// Reads the catalogues of these paths, in order. One that can't be read is skipped and not
+/// reported, and so is a path that isn't UTF-8, which is that of no file. Refused only where an
+/// allocation failed.
+pub fn read_catalogues<S: InputSource>(
+    alloc: Global,
+    source: &mut S,
+    paths: &[Vec<u8>],
+) -> Result<Vec<CatalogueFile>, AllocError>
+    ensures catalogues { IfOk result (λ found. AreCatalogues S.file
+        (map (λ path. path.items) paths.now) (catalogue_files found.items)) }
+    ensures asked { OnOk result (AsksPaths (S.asked source.old) (map (λ path. path.items) paths.now)
+        (S.asked source.new)) }
+{
+    let mut found = Vec::new(alloc);
+    for path in paths {
+        let Some(catalogue) = read_catalogue(alloc, source, path)? else {
+            continue;
+        };
+        found.push(catalogue)?;
+    }
+    Ok(found)
+}
+
+/// The catalogue at a path, where it can be read.
+fn read_catalogue<S: InputSource>(
+    alloc: Global,
+    source: &mut S,
+    path: &[u8],
+) -> Result<Option<CatalogueFile>, AllocError>
+    ensures catalogue { IfOk result (λ found. IsCatalogueAt S.file path.now (option_map catalogue_file found)) }
+    ensures asked { AsksAt (S.asked source.old) (S.asked source.new) path.now }
+{
+    let Ok(name) = str::from_utf8(path) else {
+        return Ok(None);
+    };
+    let bytes = match source.read_file(alloc, name) {
+        Ok(bytes) => bytes,
+        Err(InputFault::OutOfMemory) => return Err(AllocError),
+        Err(InputFault::CannotOpen | InputFault::ReadFault) => return Ok(None),
+    };
+    let path = String::from_str(alloc, name)?;
+    Ok(Some(CatalogueFile { path, bytes }))
+}
+
+/// The catalogues, borrowed, with their paths for names: at most 4,294,967,295, as many as a chain
+/// can count.
+pub fn borrowed_catalogues(
+    alloc: Global,
+    catalogues: &[CatalogueFile],
+) -> Result<Vec<(&str, &[u8])>, AllocError>
+    ensures borrowed { IfOk result
+        (λ borrowed. named_files borrowed.items ≡ take (2 ^ 32 - 1) (catalogue_files catalogues.now)) }
+    ensures bound { IfOk result (λ borrowed. length borrowed.items < 2 ^ 32) }
+{
+    let mut borrowed = Vec::with_capacity(alloc, catalogues.len())?;
+    for catalogue in catalogues {
+        borrowed.push((catalogue.path.as_str(), catalogue.bytes.as_slice()))?;
+    }
+    borrowed.truncate(u32::MAX as usize);
+    Ok(borrowed)
+}

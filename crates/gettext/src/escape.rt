@@ -1,0 +1,132 @@
+//! The escapes that `gettext -e` expands ("Invoking the gettext program" of the GNU gettext
+//! manual).
+ghost use Rattle.std.specs.Prelude.{◌≡◌, ◌≤◌, length, IfSome, IfOk, OnErr, Err};
+ghost use Rattle.gettext.specs.Escapes as spec;
+
+use devices::ToolFault;
+use locale_names::len_before;
+use std::alloc::Global;
+
+/// A text with its escapes expanded.
+#[derive(Debug, Drop)]
+pub struct Expanded {
+    /// The text's bytes, each escape replaced by the byte that it gives.
+    pub bytes: Vec<u8>,
+    /// Whether a `\c` stands in the text, so that no newline is to be written after it.
+    pub no_newline: bool,
+}
+
+/// What an escape gives, which with `\c` is no byte, and how many bytes it takes after its
+/// backslash.
+#[derive(Clone, Copy)]
+struct Escape {
+    byte: Option<u8>,
+    size: usize,
+}
+
+/// Expands `\a \b \f \n \r \t \v \\`, `\` with one to three octal digits, modulo 256, and `\c`,
+/// which gives no byte. Any other backslash stays.
+pub fn expand(alloc: Global, text: &[u8]) -> Result<Expanded, ToolFault>
+    ensures bytes { IfOk result (λ expanded. expanded.bytes.items ≡ spec.expansion text.now) }
+    ensures no_newline { IfOk result (λ expanded.
+        expanded.no_newline ≡ spec.has_no_newline text.now) }
+    ensures memory { OnErr result (result ≡ Err ToolFault.OutOfMemory) }
+{
+    let mut bytes = Vec::with_capacity(alloc, text.len())?;
+    let mut no_newline = false;
+    let mut rest = text;
+    loop {
+        let plain = len_before(b'\\', rest);
+        bytes.extend_from_slice(&rest[..plain])?;
+        if plain == rest.len() {
+            return Ok(Expanded { bytes, no_newline });
+        }
+        rest = &rest[plain + 1..];
+        let Some(escape) = escape_after(rest) else {
+            bytes.push(b'\\')?;
+            continue;
+        };
+        rest = &rest[escape.size..];
+        match escape.byte {
+            Some(byte) => bytes.push(byte)?,
+            None => no_newline = true,
+        }
+    }
+}
+
+/// The escape that a backslash begins, by the bytes after it.
+fn escape_after(after: &[u8]) -> Option<Escape>
+    ensures escape { result ≡ spec.escape_after after.now }
+    ensures within { IfSome result (λ escape. escape.size ≤ length after.now) }
+{
+    if after.is_empty() {
+        return None;
+    }
+    if !is_octal(after[0]) {
+        return letter_escape(after[0]);
+    }
+    let digits = octal_prefix(after);
+    Some(Escape {
+        byte: Some(octal_value(digits)),
+        size: digits.len(),
+    })
+}
+
+/// Whether the byte is an octal digit.
+fn is_octal(byte: u8) -> bool
+    ensures { result ≡ spec.is_octal byte }
+{
+    matches!(byte, b'0'..=b'7')
+}
+
+/// The octal digits at the beginning of a text, up to three.
+fn octal_prefix(bytes: &[u8]) -> &[u8]
+    ensures run { result.now ≡ spec.octal_prefix bytes.now }
+    ensures within { length result.now ≤ length bytes.now }
+{
+    let prefix = &bytes[..bytes.len().min(3)];
+    for (len, byte) in prefix.iter().enumerate() {
+        if !is_octal(*byte) {
+            return &prefix[..len];
+        }
+    }
+    prefix
+}
+
+/// The byte that octal digits give, modulo 256.
+fn octal_value(digits: &[u8]) -> u8
+    ensures { result ≡ spec.octal_value digits.now }
+{
+    let mut value: u16 = 0;
+    for digit in digits {
+        value = (value * 8 + u16::from(digit.saturating_sub(b'0'))) % 256;
+    }
+    value as u8
+}
+
+/// An escape of one letter.
+#[tactic(auto, unfolding(crate::specs::Escapes::letter_escape))]
+fn letter_escape(letter: u8) -> Option<Escape>
+    ensures escape { result ≡ spec.letter_escape letter }
+    ensures size { IfSome result (λ escape. escape.size ≡ 1) }
+{
+    match letter {
+        b'a' => of_letter(Some(7)),
+        b'b' => of_letter(Some(8)),
+        b'f' => of_letter(Some(12)),
+        b'n' => of_letter(Some(10)),
+        b'r' => of_letter(Some(13)),
+        b't' => of_letter(Some(9)),
+        b'v' => of_letter(Some(11)),
+        b'\\' => of_letter(Some(92)),
+        b'c' => of_letter(None),
+        _ => None,
+    }
+}
+
+/// An escape of one letter that gives this byte, or none.
+fn of_letter(byte: Option<u8>) -> Option<Escape>
+    ensures { result ≡ spec.letter byte }
+{
+    Some(Escape { byte, size: 1 })
+}

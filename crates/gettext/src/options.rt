@@ -1,0 +1,61 @@
+//! What the options of a command line mean for gettext and ngettext.
+ghost use Rattle.std.specs.Prelude.{IfOk};
+ghost use Rattle.std.specs.Option.{option_copied};
+ghost use Rattle.gettext.specs.Catalogues.{catalogue_files};
+ghost use Rattle.gettext.specs.GettextView.{gettext_view, ngettext_view};
+ghost use Rattle.gettext.specs.Options.{AreFoundBy, IsGettextRequest, IsNgettextRequest};
+ghost use Rattle.gettext.specs.UsageView.{gettext_arguments, ngettext_arguments};
+
+use crate::arguments::{GettextArguments, NgettextArguments};
+use crate::catalogues::{CatalogueFile, find_catalogues};
+use crate::environment::VariableSource;
+use crate::plan::{GettextOptions, NgettextOptions};
+use runs::{Arguments, InputSource};
+use std::alloc::{AllocError, Global};
+
+/// Reads the catalogues of the text domain that an argument or the option `-d` gives.
+pub fn find_domain<S: InputSource + VariableSource, A: Arguments>(
+    alloc: Global,
+    source: &mut S,
+    arguments: &A,
+    argument: Option<&str>,
+) -> Result<Vec<CatalogueFile>, AllocError>
+    ensures { IfOk result (λ found. AreFoundBy (A.text arguments.now) (S.variable source.old) S.file
+        (S.asked source.old) (S.asked source.new) (option_copied argument.entry) (catalogue_files found.items)) }
+{
+    find_catalogues(alloc, source, argument, arguments.text_of("domain"))
+}
+
+/// What `gettext` is asked for, with its arguments.
+pub fn gettext_options_of<'a, A: Arguments>(
+    arguments: &'a A,
+    given: GettextArguments<'a, 'a>,
+) -> GettextOptions<'a>
+    ensures { IsGettextRequest (A.flag arguments.now) (A.text arguments.now)
+        (gettext_arguments given.entry) (gettext_view result) }
+{
+    GettextOptions {
+        messages: given.messages,
+        context: arguments.text_of("context"),
+        expand: arguments.is_given("expand"),
+        no_newline: arguments.is_given("no-newline"),
+        shell: arguments.is_given("shell"),
+    }
+}
+
+/// What `ngettext` is asked for, with its arguments.
+pub fn ngettext_options_of<'a, A: Arguments>(
+    arguments: &'a A,
+    given: NgettextArguments<'a>,
+) -> NgettextOptions<'a>
+    ensures { IsNgettextRequest (A.flag arguments.now) (A.text arguments.now)
+        (ngettext_arguments given.entry) (ngettext_view result) }
+{
+    NgettextOptions {
+        context: arguments.text_of("context"),
+        expand: arguments.is_given("expand"),
+        id: given.id,
+        plural: given.plural,
+        count: given.count,
+    }
+}

@@ -1,0 +1,314 @@
+//! What gettext and ngettext write: the answers of a chain of catalogues.
+ghost use Rattle.std.specs.Prelude.{◌≡◌, ◌^◌, ◌<◌, ◌≤◌, ◌++◌, None, Some, length, IfOk, OnOk, OnErr, Err};
+ghost use Rattle.std.specs.List.{list_any};
+ghost use Rattle.std.specs.Option.{option_copied};
+ghost use Rattle.mo_lookup.specs.Chain.{chain_answered};
+ghost use Rattle.mo_lookup.specs.Query.{given};
+ghost use Rattle.gettext.specs.CountArgument.{count_in};
+ghost use Rattle.gettext.specs.Escapes.{expansion, has_no_newline};
+ghost use Rattle.runs.specs.FaultText.{fault_line, mo_text};
+ghost use Rattle.runs.specs.Run.{run_view};
+ghost use Rattle.gettext.specs.Gettext as Spec;
+ghost use Rattle.gettext.specs.GettextView.{gettext_view, ngettext_view};
+ghost use Rattle.runs.specs.NamedFile.{named_files};
+ghost use Rattle.gettext.specs.OpensFile.{OpensFile};
+
+use crate::catalogues::bytes_of;
+use crate::count::count_of;
+use crate::escape::{Expanded, expand};
+use devices::ToolFault;
+use mo_file::{Meter, MoError};
+use mo_lookup::{Catalog, Chain};
+use runs::{Run, push_location, push_mo_text};
+use std::alloc::{AllocError, Global};
+
+/// What `gettext` is asked for, as its arguments were given.
+#[derive(Clone, Copy)]
+pub struct GettextOptions<'a> {
+    /// The MSGIDs: one without `shell`.
+    pub messages: &'a [&'a str],
+    /// `-c`: the context of all of them.
+    pub context: Option<&'a str>,
+    /// `-e`: escapes in the MSGIDs are expanded.
+    pub expand: bool,
+    /// `-n`: no newline ends the output of `-s`.
+    pub no_newline: bool,
+    /// `-s`: the answers are written with a space between two, and a newline.
+    pub shell: bool,
+}
+
+/// What `ngettext` is asked for, as its arguments were given.
+#[derive(Clone, Copy)]
+pub struct NgettextOptions<'a> {
+    /// `-c`: the context.
+    pub context: Option<&'a str>,
+    /// `-e`: escapes in MSGID and MSGID-PLURAL are expanded.
+    pub expand: bool,
+    /// MSGID.
+    pub id: &'a str,
+    /// MSGID-PLURAL.
+    pub plural: &'a str,
+    /// COUNT: decimal digits below 2^64; any other text is taken as 99.
+    pub count: &'a str,
+}
+
+/// The catalogues of a chain, and the lines that report those that were refused.
+#[derive(Drop)]
+struct Opened<'a> {
+    /// The catalogues, in order.
+    catalogs: Vec<Catalog<'a>>,
+    /// The lines.
+    messages: Vec<u8>,
+}
+
+/// Appends the line of a catalogue that was refused.
+fn push_refusal(
+    messages: &mut Vec<u8>,
+    tool: &str,
+    name: &str,
+    fault: MoError,
+) -> Result<(), AllocError>
+    ensures { OnOk result (messages.new.items ≡ messages.old.items ++ fault_line tool.now name.now 0 (mo_text fault)) }
+{
+    push_location(messages, tool, name, 0)?;
+    push_mo_text(messages, fault)?;
+    messages.extend_from_slice(b"\n")
+}
+
+/// Opens one more file: a catalogue joins the chain, and any other file is reported by a line. A
+/// catalogue is large: only the stack frame of this function has one.
+#[inline(never)]
+fn open_file<'a>(
+    opened: &mut Opened<'a>,
+    tool: &str,
+    name: &str,
+    bytes: &'a [u8],
+) -> Result<(), AllocError>
+    ensures { OnOk result (OpensFile tool.now (record { name = name.now; bytes = bytes.now }) opened.old opened.new) }
+{
+    match Catalog::open(bytes, &mut Meter::new()) {
+        Ok(catalog) => {
+            opened.catalogs.push(catalog)?;
+            Ok(())
+        }
+        Err(fault) => {
+            push_refusal(&mut opened.messages, tool, name, fault)?;
+            Ok(())
+        }
+    }
+}
+
+/// Opens each file, in order.
+fn open_all<'a>(
+    alloc: Global,
+    tool: &str,
+    files: &[(&str, &'a [u8])],
+) -> Result<Opened<'a>, AllocError>
+    ensures opens { IfOk result (λ opened. Spec.Opens tool.now (named_files files.now) opened.catalogs.items
+        opened.messages.items) }
+    ensures few { IfOk result (λ opened. length opened.catalogs.items ≤ length files.now) }
+{
+    let mut opened = Opened {
+        catalogs: Vec::with_capacity(alloc, files.len())?,
+        messages: Vec::new(alloc),
+    };
+    for (name, bytes) in files {
+        open_file(&mut opened, tool, name, bytes)?;
+    }
+    Ok(opened)
+}
+
+/// Appends the answer to a msgid, or to a msgid, a plural and a count where a plural form is asked for.
+fn push_text<'a, 'q>(
+    output: &mut Vec<u8>,
+    chain: &Chain<'_, 'a>,
+    context: Option<&str>,
+    id: &'q [u8],
+    plural: Option<(&'q [u8], u64)>,
+) -> Result<(), AllocError>
+where
+    'a: 'q,
+    ensures { OnOk result (output.new.items ≡ output.old.items
+        ++ (chain_answered chain.now (record {
+          context = option_copied context.entry;
+          id = id.now;
+          plural = given plural.entry;
+        })).text) }
+{
+    let answer = chain.look(bytes_of(context), id, plural, &mut Meter::new());
+    output.extend_from_slice(answer.text)
+}
+
+/// Expands the escapes of an argument.
+fn expanded(alloc: Global, argument: &str) -> Result<Expanded, AllocError>
+    ensures bytes { IfOk result (λ expanded. expanded.bytes.items ≡ expansion argument.now) }
+    ensures no_newline { IfOk result (λ expanded. expanded.no_newline ≡ has_no_newline argument.now) }
+{
+    let Ok(expanded) = expand(alloc, argument.as_bytes()) else {
+        return Err(AllocError);
+    };
+    Ok(expanded)
+}
+
+/// Appends the answer to a MSGID with its escapes expanded, and says whether a `\c` is among them.
+fn push_expanded(
+    alloc: Global,
+    output: &mut Vec<u8>,
+    chain: &Chain<'_, '_>,
+    context: Option<&str>,
+    argument: &str,
+) -> Result<bool, AllocError>
+    ensures answer { OnOk result (output.new.items ≡ output.old.items
+        ++ (chain_answered chain.now (record {
+          context = option_copied context.entry;
+          id = expansion argument.now;
+          plural = None;
+        })).text) }
+    ensures no_newline { IfOk result (λ omitted. omitted ≡ has_no_newline argument.now) }
+{
+    let expanded = expanded(alloc, argument)?;
+    push_text(output, chain, context, &expanded.bytes, None)?;
+    Ok(expanded.no_newline)
+}
+
+/// Appends the answer to a MSGID, and says whether a `\c` is expanded in it.
+fn push_answer(
+    alloc: Global,
+    output: &mut Vec<u8>,
+    chain: &Chain<'_, '_>,
+    options: &GettextOptions<'_>,
+    argument: &str,
+) -> Result<bool, AllocError>
+    ensures answer { OnOk result (output.new.items ≡ output.old.items
+        ++ Spec.argument_answer chain.now (gettext_view options.now) argument.now) }
+    ensures no_newline { IfOk result (λ omitted. omitted ≡ Spec.omits_newline (gettext_view options.now) argument.now) }
+{
+    if options.expand {
+        return push_expanded(alloc, output, chain, options.context, argument);
+    }
+    push_text(output, chain, options.context, argument.as_bytes(), None)?;
+    Ok(false)
+}
+
+/// Appends the answers to the MSGIDs, with a space between two, and says whether a `\c` is expanded in one.
+fn push_answers(
+    alloc: Global,
+    output: &mut Vec<u8>,
+    chain: &Chain<'_, '_>,
+    options: &GettextOptions<'_>,
+) -> Result<bool, AllocError>
+    ensures answers { OnOk result (output.new.items ≡ output.old.items
+        ++ Spec.answers chain.now (gettext_view options.now)) }
+    ensures no_newline { IfOk result (λ omitted. omitted
+        ≡ list_any (Spec.omits_newline (gettext_view options.now)) (gettext_view options.now).arguments) }
+{
+    let Some((first, others)) = options.messages.split_first() else {
+        return Ok(false);
+    };
+    let mut omitted = push_answer(alloc, output, chain, options, first)?;
+    for argument in others {
+        output.push(b' ')?;
+        if push_answer(alloc, output, chain, options, argument)? {
+            omitted = true;
+        }
+    }
+    Ok(omitted)
+}
+
+/// What `gettext` writes over the catalogues that could be read, in the order in which they are asked: the
+/// answers, each a translation or the MSGID itself; on standard error a line for each catalogue that is refused
+/// and so omitted. Refused only where an allocation failed.
+pub fn plan_gettext(
+    alloc: Global,
+    catalogues: &[(&str, &[u8])],
+    options: &GettextOptions<'_>,
+) -> Result<Run, ToolFault>
+    requires { length catalogues.now < 2 ^ 32 }
+    ensures run { IfOk result (λ run. Spec.IsGettextRun (named_files catalogues.now) (gettext_view options.now)
+        (run_view run)) }
+    ensures memory { OnErr result (result ≡ Err ToolFault.OutOfMemory) }
+{
+    let opened = open_all(alloc, "gettext", catalogues)?;
+    let chain = Chain::new(&opened.catalogs);
+    let mut output = Vec::new(alloc);
+    let omitted = push_answers(alloc, &mut output, &chain, options)?;
+    if options.shell && !options.no_newline && !omitted {
+        output.push(b'\n')?;
+    }
+    Ok(Run {
+        output,
+        create: false,
+        messages: opened.messages,
+        status: 0,
+    })
+}
+
+/// Appends the answer to MSGID and MSGID-PLURAL, with their escapes expanded, and COUNT.
+fn push_expanded_plural(
+    alloc: Global,
+    output: &mut Vec<u8>,
+    chain: &Chain<'_, '_>,
+    options: &NgettextOptions<'_>,
+) -> Result<(), AllocError>
+    ensures { OnOk result (let o = ngettext_view options.now in output.new.items ≡ output.old.items
+        ++ (chain_answered chain.now (record {
+          context = o.context;
+          id = expansion o.id;
+          plural = Some (expansion o.plural, count_in o.count);
+        })).text) }
+{
+    let count = count_of(options.count.as_bytes());
+    let id = expanded(alloc, options.id)?.bytes;
+    let plural = expanded(alloc, options.plural)?.bytes;
+    push_text(output, chain, options.context, &id, Some((&plural, count)))?;
+    Ok(())
+}
+
+/// Appends the answer to MSGID, MSGID-PLURAL and COUNT.
+fn push_plural_answer(
+    alloc: Global,
+    output: &mut Vec<u8>,
+    chain: &Chain<'_, '_>,
+    options: &NgettextOptions<'_>,
+) -> Result<(), AllocError>
+    ensures { OnOk result (output.new.items ≡ output.old.items
+        ++ Spec.ngettext_output chain.now (ngettext_view options.now)) }
+{
+    if options.expand {
+        return push_expanded_plural(alloc, output, chain, options);
+    }
+    let count = count_of(options.count.as_bytes());
+    let plural = Some((options.plural.as_bytes(), count));
+    push_text(
+        output,
+        chain,
+        options.context,
+        options.id.as_bytes(),
+        plural,
+    )
+}
+
+/// What `ngettext` writes over the catalogues that could be read, in the order in which they are asked: the form
+/// of the translation for the count, or MSGID for a count of 1 and MSGID-PLURAL for any other; on standard error
+/// a line for each catalogue that is refused and so omitted. Refused only where an allocation failed.
+pub fn plan_ngettext(
+    alloc: Global,
+    catalogues: &[(&str, &[u8])],
+    options: &NgettextOptions<'_>,
+) -> Result<Run, ToolFault>
+    requires { length catalogues.now < 2 ^ 32 }
+    ensures run { IfOk result (λ run. Spec.IsNgettextRun (named_files catalogues.now) (ngettext_view options.now)
+        (run_view run)) }
+    ensures memory { OnErr result (result ≡ Err ToolFault.OutOfMemory) }
+{
+    let opened = open_all(alloc, "ngettext", catalogues)?;
+    let chain = Chain::new(&opened.catalogs);
+    let mut output = Vec::new(alloc);
+    push_plural_answer(alloc, &mut output, &chain, options)?;
+    Ok(Run {
+        output,
+        create: false,
+        messages: opened.messages,
+        status: 0,
+    })
+}

@@ -1,2 +1,0 @@
-pub mod GettextLemmas
-pub mod CatalogueLemmas

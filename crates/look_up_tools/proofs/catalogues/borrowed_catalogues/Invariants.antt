@@ -1,7 +1,0 @@
-use Rattle.std.proofs.Common.{◌≡◌, take}
-use Rattle.look_up_tools.specs.Catalogues.{catalogue_files}
-use Rattle.tool_runs.specs.NamedFile.{named_files}
-use Rattle.look_up_tools.proofs.catalogues.borrowed_catalogues.Given as goal
-
-abbrev pub invariant-loop-catalogue : goal.invariant-loop-catalogue
-invariant-loop-catalogue l = named_files l.borrowed.items ≡ catalogue_files (take l.catalogue-index l.catalogues)

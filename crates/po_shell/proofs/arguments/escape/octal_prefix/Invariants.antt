@@ -1,6 +1,0 @@
-use Rattle.std.proofs.Common.{◌≡◌, ◌<◌, ℕ, true, get_or}
-use Rattle.po_shell.specs.Escapes.{is_octal}
-use Rattle.po_shell.proofs.arguments.escape.octal_prefix.Given as goal
-
-abbrev pub invariant-loop-len : goal.invariant-loop-len
-invariant-loop-len l = (k : ℕ) → k < l.len → is_octal (get_or l.prefix k 0) ≡ true

@@ -1,9 +1,0 @@
-use Rattle.std.proofs.Common.{◌≡◌, ◌<◌, take, fold}
-use Rattle.po_shell.specs.Escapes.{with_octal}
-use Rattle.po_shell.proofs.arguments.escape.octal_value.Given as goal
-
-abbrev pub invariant-loop-digit : goal.invariant-loop-digit
-invariant-loop-digit l = record {
-  value : l.value ≡ fold with_octal 0 (take l.digit-index l.digits);
-  byte : l.value < 256;
-}

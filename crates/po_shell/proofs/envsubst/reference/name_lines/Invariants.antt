@@ -1,8 +1,0 @@
-use Rattle.std.proofs.Common.{◌≡◌, [], ◌∷◌, ◌++◌, map, drop}
-use Rattle.std.specs.List.{flat_map}
-use Rattle.po_shell.proofs.envsubst.reference.name_lines.Given as goal
-
-abbrev pub invariant-loop-name : goal.invariant-loop-name
-invariant-loop-name l =
-    l.lines.items ++ flat_map (λ name. name ++ 10 ∷ []) (map (λ name. name.now) (drop l.name-index l.name-items))
-    ≡ flat_map (λ name. name ++ 10 ∷ []) (map (λ name. name.now) l.name-items)

@@ -1,6 +1,0 @@
-use Rattle.std.proofs.Common.{◌≡◌, ◌<◌, ℕ, true, get_or}
-use Rattle.po_shell.specs.References.{is_name_byte}
-use Rattle.po_shell.proofs.envsubst.reference.name_prefix.Given as goal
-
-abbrev pub invariant-loop-len : goal.invariant-loop-len
-invariant-loop-len l = (k : ℕ) → k < l.len → is_name_byte (get_or l.bytes k 0) ≡ true

@@ -1,6 +1,0 @@
-use Rattle.std.proofs.Common.{◌∙◌}
-use Rattle.po_shell.proofs.SortedLemmas.{searched-name}
-use Rattle.po_shell.proofs.envsubst.sorted.is_in_sorted.Goals as goal
-
-pub returns : goal.returns
-returns c = c.is_ok.ensures.value ∙ searched-name _ _ _ c.requires c.binary_search.ensures.bound c.binary_search.ensures.position

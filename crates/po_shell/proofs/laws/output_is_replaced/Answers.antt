@@ -1,5 +1,0 @@
-use Rattle.po_shell.proofs.EnvsubstEnds.{took_all, took_beginning, took_of_read, took_of_read_memory}
-use Rattle.po_shell.proofs.laws.output_is_replaced.Goals as goal
-
-pub returns : goal.returns
-returns c = record { whole = took_all; cut = took_beginning; read_fault = took_of_read; out_of_memory = took_of_read_memory }

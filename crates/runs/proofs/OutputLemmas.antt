@@ -1,0 +1,101 @@
+-- How the calls of a function join to those of its caller.
+use Rattle.std.proofs.Common.{◌≡◌, ◌+◌, ◌<◌, ◌^◌, true, false, ℕ, List, [], ◌∷◌, ◌++◌, Option, Some, None, Result, Ok, Err, OnOk, OnErr, is_ok, refl, sym, ap, ◌∙◌, subst, append_assoc, append-nil}
+use Rattle.std.specs.Io.KnownBytes.{Appends}
+use Rattle.devices.specs.Device.{AppendsPrefix}
+use Rattle.devices.specs.declared.fault.ToolFault.{ToolFault}
+use Rattle.runs.specs.declared.output_files.OutputFault.{OutputFault}
+use Rattle.runs.specs.declared.output_files.FileKind.TheVariants.{Regular}
+use Rattle.runs.specs.declared.output_files.NotMade.{NotMade}
+use Rattle.runs.specs.declared.output_files.NotMade.TheVariants.{Exists}
+use Rattle.runs.specs.declared.output_files.Rights.{Rights}
+use Rattle.runs.specs.FileCalls.{FileCall, FileLog, Course, done, fails, ◌▸◌, calls_of, logged, Runs, asks, reads_link, numbers, makes, fails_to_make, closes}
+use Rattle.runs.specs.FileRights.{first_mode}
+use Rattle.runs.specs.OutputFiles.{Closes, whole, cut, late, Fills, Replaces, made, taken, WritesFile, follows}
+use Rattle.runs.specs.OutputPaths.{NamesNoStream, link_target, beside}
+
+pub logged-twice : (first rest : List FileCall) (log : FileLog) → logged rest (logged first log) ≡ logged (first ++ rest) log
+logged-twice first rest None = refl
+logged-twice first rest (Some before) = ap Some (append_assoc before first rest)
+
+logged-none : (log : FileLog) → log ≡ logged [] log
+logged-none None = refl
+logged-none (Some before) = ap Some (sym (append-nil before))
+
+-- nothing more is done
+pub is-done : {log : FileLog} {Is : Course → Type 0} → Is done → Runs log log None Is
+is-done {log} is = record { course = done; log = logged-none log; fault_is = refl; is = is }
+
+pub is-fault : {log : FileLog} {why : OutputFault} {Is : Course → Type 0} → Is (fails why) → Runs log log (Some why) Is
+is-fault {log} {why} is = record { course = fails why; log = logged-none log; fault_is = refl; is = is }
+
+-- after one call comes the rest
+pub after-call : {before mid end : FileLog} {fault : Option OutputFault} {Is : Course → Type 0} (call : FileCall)
+    → mid ≡ logged (call ∷ []) before → Runs mid end fault (λ rest. Is (call ▸ rest)) → Runs before end fault Is
+after-call {before} call began rest = record {
+  course = call ▸ rest.course;
+  log = rest.log ∙ ap (logged (calls_of rest.course)) began ∙ logged-twice (call ∷ []) (calls_of rest.course) before;
+  fault_is = rest.fault_is;
+  is = rest.is;
+}
+
+-- what a callee does is done for its caller
+pub done-for : {before end : FileLog} {fault : Option OutputFault} {P Q : Course → Type 0} → ((course : Course) → P course → Q course)
+    → Runs before end fault P → Runs before end fault Q
+done-for for it = record { course = it.course; log = it.log; fault_is = it.fault_is; is = for it.course it.is }
+
+-- what was put into a file that is closed with all that was written
+pub put-closed : {T : Type 0} (result : Result T ToolFault) {output : List ℕ} {before after : Option (List ℕ)} {old new : ℕ}
+    → old ≡ 0 → OnOk result (Appends before after output) → OnErr result (AppendsPrefix before after output)
+    → OnOk result (new ≡ old) → OnErr result (new ≡ old + 1) → Closes output before (closes after new true) (is_ok result)
+put-closed (Ok _) none all part same more = rw (same, none) (whole all)
+put-closed (Err _) none all part same more = rw (more, none) (cut part)
+
+-- what was put into a file that the system took in part
+pub put-unclosed : {T : Type 0} (result : Result T ToolFault) {output : List ℕ} {before after : Option (List ℕ)} {old new : ℕ}
+    → old ≡ 0 → OnOk result (Appends before after output) → OnErr result (AppendsPrefix before after output)
+    → OnOk result (new ≡ old) → OnErr result (new ≡ old + 1) → Closes output before (closes after new false) false
+put-unclosed (Ok _) none all part same more = rw (same, none) (late all)
+put-unclosed (Err _) none all part same more = rw (more, none) (cut part)
+
+module _ {output path : List ℕ} {old : Option Rights} {tries bits : ℕ} (number : ℕ) {before named tried end : FileLog} {fault : Option OutputFault} where
+  -- a new file is filled once it is made
+  pub after-made : {new filled : List ℕ} {its : Option (List ℕ)} → number < 2 ^ 32 → new ≡ beside path number → filled ≡ beside path number
+      → bits ≡ first_mode old → named ≡ logged (numbers number ∷ []) before → tried ≡ logged (makes new bits its ∷ []) named
+      → Runs tried end fault (Fills output (record { path = filled; target = path; made = its }) old)
+      → Runs before end fault (Replaces output path old tries)
+  after-made {its} few new-is filled-is bits-is first second fills =
+      after-call (numbers number) first
+      (after-call (makes (beside path number) (first_mode old) its) (rw (new-is, bits-is) at second)
+      (done-for (λ course are. made few are) (rw filled-is at fills)))
+
+  -- another name is tried where one is taken
+  pub after-taken : (less : ℕ) {new : List ℕ} → less + 1 ≡ tries → new ≡ beside path number → bits ≡ first_mode old
+      → named ≡ logged (numbers number ∷ []) before → tried ≡ logged (fails_to_make new bits Exists ∷ []) named
+      → Runs tried end fault (Replaces output path old less)
+      → Runs before end fault (Replaces output path old tries)
+  after-taken less more new-is bits-is first second rest =
+      subst (λ n. Runs before end fault (Replaces output path old n)) more
+      (after-call (numbers number) first
+      (after-call (fails_to_make (beside path number) (first_mode old) Exists) (rw (new-is, bits-is) at second)
+      (done-for (λ course are. taken are) rest)))
+
+  -- none can be made
+  pub after-unmade : {new : List ℕ} (why : NotMade) → new ≡ beside path number → bits ≡ first_mode old
+      → named ≡ logged (numbers number ∷ []) before → tried ≡ logged (fails_to_make new bits why ∷ []) named
+      → Runs tried end fault (λ rest. Replaces output path old tries (numbers number ▸ fails_to_make (beside path number) (first_mode old) why ▸ rest))
+      → Runs before end fault (Replaces output path old tries)
+  after-unmade why new-is bits-is first second rest =
+      after-call (numbers number) first
+      (after-call (fails_to_make (beside path number) (first_mode old) why) (rw (new-is, bits-is) at second) rest)
+
+-- what a link leads to is written next
+pub after-link : (old : Option Rights) {output path text copy target : List ℕ} {links less : ℕ} {before asked read end : FileLog} {fault : Option OutputFault}
+    → NamesNoStream path → less + 1 ≡ links → copy ≡ text → target ≡ link_target path copy
+    → asked ≡ logged (asks path (Regular old) ∷ []) before → read ≡ logged (reads_link path (Some text) ∷ []) asked
+    → Runs read end fault (WritesFile output less target)
+    → Runs before end fault (WritesFile output links path)
+after-link old {output} {path} {text} {less} {before} {end} {fault} none more copy-is target-is first second rest =
+    subst (λ n. Runs before end fault (WritesFile output n path)) more
+    (after-call (asks path (Regular old)) first
+    (after-call (reads_link path (Some text)) second
+    (done-for (λ course are. follows none (subst (λ p. WritesFile output less p course) (target-is ∙ ap (link_target path) copy-is) are)) rest)))

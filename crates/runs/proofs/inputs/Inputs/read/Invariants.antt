@@ -1,0 +1,11 @@
+use Rattle.std.proofs.Common.{◌≡◌, length}
+use Rattle.runs.specs.Inputs.{named_inputs}
+use Rattle.runs.proofs.InputLemmas.{AsksBefore, Completes}
+use Rattle.runs.proofs.inputs.Inputs.read.Given as goal
+
+abbrev pub invariant-loop-argument : goal.invariant-loop-argument
+invariant-loop-argument g l = record {
+  inputs : Completes g.S.InputSource.file g.S.InputSource.standard l.arguments l.argument-index l.is_stdin_read (named_inputs l.texts.items);
+  asked : AsksBefore (g.S.InputSource.asked l.fn.source) (g.S.InputSource.asked l.source) l.arguments l.argument-index l.is_stdin_read;
+  count : length (named_inputs l.texts.items) ≡ l.argument-index;
+}

@@ -1,0 +1,5 @@
+use Rattle.runs.proofs.InputsInTurn.{inputs_in_turn}
+use Rattle.runs.proofs.laws.inputs_stand_in_turn.Goals as goal
+
+pub returns : goal.returns
+returns g c = inputs_in_turn g.S.InputSource.file g.S.InputSource.standard

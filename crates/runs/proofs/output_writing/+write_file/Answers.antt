@@ -1,0 +1,42 @@
+use Rattle.std.proofs.Common.{◌≡◌, ◌∙◌, ◌+◌, ◌-◌, arith}
+use Rattle.runs.specs.OutputFiles.{stream, stops, special, replaces, unknown, unread, no_memory, too_long}
+use Rattle.runs.proofs.OutputLemmas.{after-call, after-link, done-for, is-fault}
+use Rattle.runs.proofs.output_writing.+write_file.Goals as goal
+
+pub returns-in-Some : goal.returns-in-Some
+returns-in-Some g t c = done-for (λ course writes. stream c.in-Some.ensures writes) c.write_stream.ensures
+
+pub returns-in-Special : goal.returns-in-Special
+returns-in-Special g t c =
+    after-call _ c.in-Special.ensures (done-for (λ course writes. special c.in_default.ensures writes) c.write_in_place.ensures)
+
+pub returns-in-Unknown : goal.returns-in-Unknown
+returns-in-Unknown g t c = after-call _ c.in-Unknown.ensures (is-fault (stops c.in_default.ensures unknown))
+
+pub returns-in-Err : goal.returns-in-Err
+returns-in-Err g t c =
+    after-call _ c.in-Regular.ensures (after-call _ c.in-Err.ensures (is-fault (stops c.in_default.ensures unread)))
+
+pub returns-in-Ok-None : goal.returns-in-Ok-None
+returns-in-Ok-None g t c =
+    let read = rw c.in-Ok-None.field-0-is at c.in-Ok-None.ensures in
+    after-call _ c.in-Regular.ensures
+    (after-call _ read (done-for (λ course are. replaces c.in_default.ensures are) c.replace.ensures))
+
+pub returns-then-links-eq0 : goal.returns-then-links-eq0
+returns-then-links-eq0 g t c =
+    let read = rw c.in-Ok-Some.field-0-is at c.in-Ok-Some.ensures in
+    after-call _ c.in-Regular.ensures
+    (after-call _ read (is-fault (stops c.in_default.ensures (too_long c.if-links-eq0.true))))
+
+pub returns-in-Ok : goal.returns-in-Ok
+returns-in-Ok g t c =
+    let read = rw c.in-Ok-Some.field-0-is at c.in-Ok-Some.ensures in
+    let more : (c.args.links - 1) + 1 ≡ c.args.links = omega (arith, c.if-links-eq0.false) in
+    after-link c.in-Regular.old c.in_default.ensures more c.deref.ensures (c.deref-in-Ok.ensures ∙ c.in-Ok.ensures)
+    c.in-Regular.ensures read c.write_file.ensures
+
+pub returns : goal.returns
+returns g t c =
+    let read = rw c.in-Ok-Some.field-0-is at c.in-Ok-Some.ensures in
+    after-call _ c.in-Regular.ensures (after-call _ read (is-fault (stops c.in_default.ensures no_memory)))

@@ -1,0 +1,11 @@
+use Rattle.runs.specs.OutputFiles.{put as all_put, unput}
+use Rattle.runs.proofs.OutputLemmas.{after-call, is-done, is-fault}
+use Rattle.runs.proofs.output_writing.put.Goals as goal
+
+pub returns-then-put_and_close : goal.returns-then-put_and_close
+returns-then-put_and_close g c =
+    let closed = c.if-put_and_close.ensures in after-call closed.call closed.log (is-done (all_put closed.is))
+
+pub returns-else-put_and_close : goal.returns-else-put_and_close
+returns-else-put_and_close g c =
+    let closed = c.if-put_and_close.ensures in after-call closed.call closed.log (is-fault (unput closed.is))

@@ -1,0 +1,11 @@
+-- The exit status of the program: 0 where it did what was asked for, and 1 after any fault.
+use Rattle.std.specs.Prelude.{ℕ, zero, suc, true, false}
+use Rattle.runs.specs.declared.ending.Ending.{Ending}
+use Rattle.runs.specs.declared.ending.Ending.TheVariants.{Ran, Helped, Refused}
+
+abbrev pub exit_status : Ending → ℕ
+exit_status (Ran zero) = 0
+exit_status (Ran (suc status)) = 1
+exit_status (Helped true) = 0
+exit_status (Helped false) = 1
+exit_status Refused = 1

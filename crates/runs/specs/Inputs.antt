@@ -1,0 +1,90 @@
+-- What the tools read: the inputs that the command line names, in order, up to the first that can't
+-- be read (manual, "Invoking the msgfmt Program": "If input file is `-`, standard input is read").
+use Rattle.std.specs.Prelude.{◌≡◌, ◌+◌, ◌++◌, ◌∷◌, ◌||◌, ℕ, Bool, true, false, List, [], length, map, take, Option}
+use Rattle.std.specs.Prelude.{Some, None, codes}
+use Rattle.runs.specs.declared.inputs.Input.{Input}
+use Rattle.runs.specs.declared.inputs.InputFault.{InputFault}
+use Rattle.runs.specs.declared.inputs.InputFault.TheVariants.{CannotOpen, ReadFault, OutOfMemory}
+use Rattle.runs.specs.NamedFile.{NamedFile}
+use Rattle.runs.specs.Run.{is_standard, shown_name}
+
+-- what reading an input comes to: its bytes, or why it can't be read
+pub data Reading : Type 0 where
+  gives : List ℕ → Reading
+  refuses : InputFault → Reading
+
+-- what an argument is read as: a file; standard input, where it isn't read yet; and no bytes, where it is
+abbrev pub ReadsAs : (List ℕ → Reading → Type 0) → (Reading → Type 0) → List ℕ → Bool → Bool → Reading → Type 0
+ReadsAs file standard argument false seen reading = file argument reading
+ReadsAs file standard argument true false reading = standard reading
+ReadsAs file standard argument true true reading = reading ≡ gives []
+
+-- what is wrong with an input that can't be read
+abbrev pub input_fault_text : List ℕ → InputFault → List ℕ
+input_fault_text name CannotOpen = name ++ codes ": cannot open"
+input_fault_text name ReadFault = name ++ codes ": read fault"
+input_fault_text name OutOfMemory = codes "out of memory"
+
+-- the only input can't be read, and this is what is wrong with it
+pub record IsInputFault (file : List ℕ → Reading → Type 0) (standard : Reading → Type 0) (argument : List ℕ)
+    (text : List ℕ) : Type 0 where
+  pub why : InputFault
+  pub reads : ReadsAs file standard argument (is_standard argument) false (refuses why)
+  pub text_is : text ≡ input_fault_text (shown_name argument) why
+
+-- The inputs that arguments name, before which `-` was seen or not: each with its bytes, up to the
+-- first that can't be read and what is wrong with it.
+pub data AreInputs (file : List ℕ → Reading → Type 0) (standard : Reading → Type 0)
+    : Bool → List (List ℕ) → List NamedFile → Option (List ℕ) → Type 0 where
+  done : {seen : Bool} → AreInputs file standard seen [] [] None
+  read : {seen : Bool} {argument : List ℕ} {arguments : List (List ℕ)} {bytes : List ℕ}
+      {inputs : List NamedFile} {fault : Option (List ℕ)}
+      → ReadsAs file standard argument (is_standard argument) seen (gives bytes)
+      → AreInputs file standard (seen || is_standard argument) arguments inputs fault
+      → AreInputs file standard seen (argument ∷ arguments)
+      (record { name = shown_name argument; bytes = bytes } ∷ inputs) fault
+  unread : {seen : Bool} {argument : List ℕ} {arguments : List (List ℕ)} (why : InputFault)
+      → ReadsAs file standard argument (is_standard argument) seen (refuses why)
+      → AreInputs file standard seen (argument ∷ arguments) [] (Some (input_fault_text (shown_name argument) why))
+
+-- what is asked of a source of inputs
+pub data Asked : Type 0 where
+  standard_input : Asked
+  file_of : List ℕ → Asked
+
+-- these are asked for after what was asked for before, where that is known
+abbrev pub Asks : Option (List Asked) → Option (List Asked) → List Asked → Type 0
+Asks None after asked = Unit {0}
+Asks (Some before) None asked = ⊥
+Asks (Some before) (Some after) asked = after ≡ before ++ asked
+
+-- what an argument asks for: its file; or standard input, unless that was read before
+abbrev pub asked_for : List ℕ → Bool → Bool → List Asked
+asked_for argument false seen = file_of argument ∷ []
+asked_for argument true false = standard_input ∷ []
+asked_for argument true true = []
+
+-- what arguments ask for, in their order, before which `-` was seen or not
+abbrev pub asked_by : Bool → List (List ℕ) → List Asked
+asked_by seen [] = []
+asked_by seen (argument ∷ arguments) =
+    asked_for argument (is_standard argument) seen ++ asked_by (seen || is_standard argument) arguments
+
+-- of these the first are asked for, in their order
+pub record AsksFirst (before after : Option (List Asked)) (all : List Asked) : Type 0 where
+  pub asked : List Asked
+  pub rest : List Asked
+  pub asks : Asks before after asked
+  pub first : asked ++ rest ≡ all
+
+-- the arguments that are asked for where these inputs are read: theirs, and that of the one that can't be read
+abbrev pub asked_arguments : List (List ℕ) → List NamedFile → Option (List ℕ) → List (List ℕ)
+asked_arguments arguments inputs None = take (length inputs) arguments
+asked_arguments arguments inputs (Some fault) = take (length inputs + 1) arguments
+
+-- what contracts see of an input
+abbrev pub named_input : Input → NamedFile
+named_input input = record { name = input.name.now; bytes = input.bytes.items }
+
+abbrev pub named_inputs : List Input → List NamedFile
+named_inputs inputs = map named_input inputs

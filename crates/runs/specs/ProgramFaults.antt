@@ -1,0 +1,42 @@
+-- The lines on standard error that report the faults of the program itself: this project's own
+-- words, since the manual leaves them open.
+use Rattle.std.specs.Prelude.{ℕ, List, [], ◌∷◌, ◌++◌, Option, Some, None, codes}
+use Rattle.std.specs.Borrow.{Bor}
+use Rattle.devices.specs.declared.fault.ToolFault.{ToolFault}
+use Rattle.devices.specs.declared.fault.ToolFault.TheVariants.{ReadFault as NotRead, WriteFault as NotWritten}
+use Rattle.devices.specs.declared.fault.ToolFault.TheVariants.{OutOfMemory as NoMemory}
+use Rattle.runs.specs.declared.program_fault.ProgramFault.{ProgramFault}
+use Rattle.runs.specs.declared.program_fault.ProgramFault.TheVariants.{NotText, WrongArguments, CannotOpen}
+use Rattle.runs.specs.declared.program_fault.ProgramFault.TheVariants.{CannotCreate, ReadFault, WriteFault}
+use Rattle.runs.specs.declared.program_fault.ProgramFault.TheVariants.{OutOfMemory}
+
+-- what is wrong, after the name of the file if it is the fault of one
+abbrev pub program_text : ProgramFault → List ℕ
+program_text NotText = codes "arguments are not UTF-8"
+program_text WrongArguments = codes "wrong number of arguments"
+program_text (CannotOpen file) = file.now ++ codes ": cannot open"
+program_text (CannotCreate file) = file.now ++ codes ": cannot create"
+program_text (ReadFault file) = file.now ++ codes ": read fault"
+program_text WriteFault = codes "write fault"
+program_text OutOfMemory = codes "out of memory"
+
+-- `pokit TOOL: `, or `pokit: ` before a tool is known
+abbrev pub tool_prefix : Option (List ℕ) → List ℕ
+tool_prefix None = codes "pokit: "
+tool_prefix (Some tool) = codes "pokit " ++ tool ++ codes ": "
+
+-- the line that reports a fault
+abbrev pub program_line : Option (List ℕ) → ProgramFault → List ℕ
+program_line tool fault = tool_prefix tool ++ program_text fault ++ 10 ∷ []
+
+-- the fault of a tool that works on the input of this name
+abbrev pub input_fault : ToolFault → Bor (List ℕ) → ProgramFault
+input_fault NotRead name = ReadFault name
+input_fault NotWritten name = WriteFault
+input_fault NoMemory name = OutOfMemory
+
+-- what a tool reports that reads standard input by itself
+abbrev pub stdin_text : ToolFault → List ℕ
+stdin_text NotRead = codes "<stdin>: read fault"
+stdin_text NotWritten = codes "write fault"
+stdin_text NoMemory = codes "out of memory"

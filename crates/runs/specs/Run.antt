@@ -1,0 +1,40 @@
+-- What a run of a tool writes and reports, and its exit status.
+use Rattle.std.specs.Prelude.{ℕ, Bool, not, ◌&&◌, if◌then◌else◌, List, [], false, Option, Some, None, codes, ◌⊎◌}
+use Rattle.std.specs.Io.KnownBytes.{Appends, Keeps}
+use Rattle.std.specs.Str.{bytes_eq}
+use Rattle.devices.specs.Device.{AppendsPrefix}
+use Rattle.runs.specs.declared.run.Run.{Run}
+
+-- what contracts see of a run
+pub record RunView : Type 0 where
+  pub output : List ℕ
+  pub create : Bool
+  pub messages : List ℕ
+  pub status : ℕ
+
+abbrev pub run_view : Run → RunView
+run_view run =
+    record { output = run.output.items; create = run.create; messages = run.messages.items; status = run.status }
+
+-- nothing is written, and these messages say why
+abbrev pub refusal : List ℕ → RunView
+refusal messages = record { output = []; create = false; messages = messages; status = 1 }
+
+-- From old to new, what went out is a prefix of the output and no message, or all of the output and
+-- a prefix of the messages.
+abbrev pub DeliversPrefix : Option (List ℕ) → Option (List ℕ) → Option (List ℕ) → Option (List ℕ) → RunView → Type 0
+DeliversPrefix out out' err err' run =
+    (AppendsPrefix out out' run.output × Keeps err err')
+    ⊎ (Appends out out' run.output × AppendsPrefix err err' run.messages)
+
+-- `-` stands for standard input and for standard output
+abbrev pub is_standard : List ℕ → Bool
+is_standard argument = bytes_eq argument (codes "-")
+
+-- the name of an input in fault lines
+abbrev pub shown_name : List ℕ → List ℕ
+shown_name argument = if is_standard argument then codes "<stdin>" else argument
+
+-- the file that is made for the output
+abbrev pub output_file : RunView → List ℕ → Option (List ℕ)
+output_file run argument = if run.create && not (is_standard argument) then Some argument else None

@@ -1,0 +1,87 @@
+//! The texts of faults, and the place in a file that a fault line begins with.
+ghost use Rattle.std.specs.Prelude.{◌≡◌, ◌++◌, decimal, OnOk};
+ghost use Rattle.runs.specs.FaultText.{location, mo_text, po_text};
+
+use itoa::Buffer;
+use mo_file::MoError;
+use po_syntax::PoFault;
+use std::alloc::AllocError;
+
+/// Appends an unsigned number in decimal digits.
+fn push_number(out: &mut Vec<u8>, number: u64) -> Result<(), AllocError>
+    ensures { OnOk result (out.new.items ≡ out.old.items ++ decimal number) }
+{
+    let mut digits = Buffer::new();
+    out.extend_from_slice(digits.format(number).as_bytes())
+}
+
+/// Appends a text with a number in it.
+pub fn push_numbered(
+    out: &mut Vec<u8>,
+    before: &str,
+    number: u64,
+    after: &str,
+) -> Result<(), AllocError>
+    ensures { OnOk result (out.new.items ≡ out.old.items ++ (before.now ++ decimal number ++ after.now)) }
+{
+    out.extend_from_slice(before.as_bytes())?;
+    push_number(out, number)?;
+    out.extend_from_slice(after.as_bytes())
+}
+
+/// Appends what is wrong with a PO text.
+pub fn push_po_text(out: &mut Vec<u8>, fault: PoFault) -> Result<(), AllocError>
+    ensures { OnOk result (out.new.items ≡ out.old.items ++ po_text fault) }
+{
+    let text = match fault {
+        PoFault::NotUtf8 => "not UTF-8",
+        PoFault::BadToken => "unexpected byte or word",
+        PoFault::UnterminatedString => "string not closed",
+        PoFault::BadEscape => "bad escape",
+        PoFault::ForbiddenByte => "forbidden byte",
+        PoFault::BadOrder => "keyword or text out of order",
+        PoFault::BadPluralIndex => "wrong plural index",
+        PoFault::MixedObsolete => "live and obsolete lines mixed",
+        PoFault::Duplicate(line) => {
+            return push_numbered(out, "duplicate of the message at line ", line.into(), "");
+        }
+        PoFault::ForeignCharset => "charset is not UTF-8",
+        PoFault::TooLarge => "too large",
+        PoFault::OutOfMemory => "out of memory",
+    };
+    out.extend_from_slice(text.as_bytes())
+}
+
+/// Appends what is wrong with an MO file.
+pub fn push_mo_text(out: &mut Vec<u8>, fault: MoError) -> Result<(), AllocError>
+    ensures { OnOk result (out.new.items ≡ out.old.items ++ mo_text fault) }
+{
+    let text = match fault {
+        MoError::TooShort => "file too short",
+        MoError::BadMagic => "bad magic number",
+        MoError::BadRevision => "unknown revision",
+        MoError::TableOutside => "table outside the file",
+        MoError::StringOutside(i) => {
+            return push_numbered(out, "string ", i.into(), " outside the file");
+        }
+        MoError::NoTerminator(i) => {
+            return push_numbered(out, "string ", i.into(), " without a final NUL");
+        }
+        MoError::NotSorted(i) => return push_numbered(out, "string ", i.into(), " out of order"),
+    };
+    out.extend_from_slice(text.as_bytes())
+}
+
+/// Appends what a fault line begins with: `pokit TOOL: FILE:LINE: `, without `:LINE` for line 0.
+pub fn push_location(out: &mut Vec<u8>, tool: &str, file: &str, line: u32) -> Result<(), AllocError>
+    ensures { OnOk result (out.new.items ≡ out.old.items ++ location tool.now file.now line) }
+{
+    out.extend_from_slice(b"pokit ")?;
+    out.extend_from_slice(tool.as_bytes())?;
+    out.extend_from_slice(b": ")?;
+    out.extend_from_slice(file.as_bytes())?;
+    if line != 0 {
+        push_numbered(out, ":", line.into(), "")?;
+    }
+    out.extend_from_slice(b": ")
+}

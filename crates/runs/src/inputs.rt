@@ -1,0 +1,218 @@
+//! The inputs of a tool, read in the order of the command line.
+ghost use Rattle.std.specs.Prelude.{◌≡◌, ◌≢◌, ◌⊎◌, ◌^◌, ◌+◌, ◌<◌, ◌≤◌, ◌∷◌, [], take, Err, IfErr, IfSome, IsErrOf, OnOk, map, option_map, false, None, Some, MatchOption, MatchResult, IfOk};
+ghost use Rattle.std.specs.Io.KnownBytes.{Consumes};
+ghost use Rattle.runs.specs.Inputs.{AreInputs, Asks, AsksFirst, IsInputFault, ReadsAs, asked_arguments, asked_by, asked_for, gives, refuses, named_inputs, input_fault_text};
+ghost use Rattle.runs.specs.NamedFile.{named_files};
+ghost use Rattle.runs.specs.ProgramFaults.{program_text};
+ghost use Rattle.runs.specs.Run.{is_standard, shown_name};
+
+use crate::program_fault::ProgramFault;
+use crate::run::{STANDARD, shown_name};
+use devices::{ByteIn, ToolFault, read_sized_input};
+use std::alloc::{AllocError, Global};
+
+/// Why an input isn't read.
+#[derive(Clone, Copy, Debug, PartialEq, Eq)]
+pub enum InputFault {
+    /// The file can't be opened.
+    CannotOpen,
+    /// It was opened, and reading it failed.
+    ReadFault,
+    /// An allocation failed.
+    OutOfMemory,
+}
+
+/// Where inputs are read from: the files of a system, and its standard input.
+pub trait InputSource {
+    ghost use Rattle.std.specs.Prelude.{ℕ, List, Option};
+    ghost use Rattle.runs.specs.Inputs.{Asked, Asks, Reading, gives, refuses, file_of, standard_input};
+
+    // What reading the file of a name may come to.
+    ghost file: { List ℕ → Reading → Type 0 };
+
+    // What reading standard input may come to.
+    ghost standard: { Reading → Type 0 };
+
+    // What it was asked for so far, where that is known.
+    ghost asked: { Self → Option (List Asked) };
+
+    /// The bytes of the file of this name.
+    fn read_file(&mut self, alloc: Global, name: &str) -> Result<Vec<u8>, InputFault>
+        ensures reading { MatchResult result (λ bytes. file name.now (gives bytes.items))
+            (λ why. (why ≡ InputFault.OutOfMemory) ⊎ file name.now (refuses why)) }
+        ensures asked { Asks (asked self.old) (asked self.new) (file_of name.now ∷ []) };
+
+    /// The bytes of standard input.
+    fn read_standard(&mut self, alloc: Global) -> Result<Vec<u8>, InputFault>
+        ensures reading { MatchResult result (λ bytes. standard (gives bytes.items))
+            (λ why. (why ≡ InputFault.OutOfMemory) ⊎ standard (refuses why)) }
+        ensures asked { Asks (asked self.old) (asked self.new) (standard_input ∷ []) };
+}
+
+/// An input with its name in fault lines.
+#[derive(Drop)]
+pub struct Input<'a> {
+    /// The name: that of a file, or `<stdin>`.
+    pub name: &'a str,
+    /// What was read.
+    pub bytes: Vec<u8>,
+}
+
+/// The inputs that a command line names, up to the first that can't be read.
+#[derive(Drop)]
+pub struct Inputs<'a> {
+    /// Each input that was read, in order.
+    pub texts: Vec<Input<'a>>,
+    /// Why the next one can't be read, where one can't.
+    pub fault: Option<ProgramFault<'a>>,
+}
+
+impl<'a> Inputs<'a> {
+    /// Reads the file of each argument, or standard input for `-`, which is empty from the second time on.
+    /// The first that can't be read ends the inputs. Refused only where an allocation failed.
+    pub fn read<S: InputSource>(
+        alloc: Global,
+        source: &mut S,
+        arguments: &[&'a str],
+    ) -> Result<Inputs<'a>, AllocError>
+        ensures inputs { IfOk result (λ inputs. AreInputs S.file S.standard false
+            (map (λ argument. argument.now) arguments.now) (named_inputs inputs.texts.items)
+            (option_map program_text inputs.fault)) }
+
+        // Each is asked for in its turn, and standard input once at most.
+        ensures asked { AsksFirst (S.asked source.old) (S.asked source.new)
+            (asked_by false (map (λ argument. argument.now) arguments.now)) }
+
+        // One is asked for only after all before it were read.
+        ensures asked_read { IfOk result (λ inputs. Asks (S.asked source.old) (S.asked source.new)
+            (asked_by false (asked_arguments (map (λ argument. argument.now) arguments.now)
+            (named_inputs inputs.texts.items) (option_map program_text inputs.fault)))) }
+    {
+        let mut texts = Vec::new(alloc);
+        let mut is_stdin_read = false;
+        for argument in arguments {
+            let standard = is_standard(argument);
+            match read_argument(alloc, source, argument, standard, is_stdin_read) {
+                Ok(bytes) => texts.push(Input {
+                    name: shown_name(argument),
+                    bytes,
+                })?,
+                Err(why) => return ended(texts, argument, why),
+            }
+            is_stdin_read = is_stdin_read || standard;
+        }
+        Ok(Inputs { texts, fault: None })
+    }
+
+    /// The inputs that were read, borrowed.
+    pub fn borrowed(&self, alloc: Global) -> Result<Vec<(&str, &[u8])>, AllocError>
+        ensures { IfOk result (λ borrowed. named_files borrowed.items ≡ named_inputs self.now.texts.items) }
+    {
+        let mut borrowed = Vec::with_capacity(alloc, self.texts.len())?;
+        for input in &self.texts {
+            borrowed.push((input.name, input.bytes.as_slice()))?;
+        }
+        Ok(borrowed)
+    }
+}
+
+/// The bytes of the only input, by the argument for it.
+pub fn read_one<'a, S: InputSource>(
+    alloc: Global,
+    source: &mut S,
+    argument: &'a str,
+) -> Result<Vec<u8>, ProgramFault<'a>>
+    ensures bytes { IfOk result (λ bytes.
+        ReadsAs S.file S.standard argument.now (is_standard argument.now) false
+        (gives bytes.items)) }
+    ensures fault { IfErr result (λ reported. (reported ≡ ProgramFault.OutOfMemory)
+        ⊎ IsInputFault S.file S.standard argument.now (program_text reported)) }
+    ensures asked { Asks (S.asked source.old) (S.asked source.new)
+        (asked_for argument.now (is_standard argument.now) false) }
+{
+    read_argument(alloc, source, argument, is_standard(argument), false).map_err(|why| fault_of(
+        shown_name(argument),
+        why,
+    ).unwrap_or(ProgramFault::OutOfMemory))
+}
+
+/// The bytes that are left of an open file or of standard input, but no more than 2,147,483,648.
+/// `expected_len` is how many are expected, 0 where that isn't known. A `ReadFault` comes where a
+/// call of the reader failed.
+pub fn read_whole<R: ByteIn>(
+    alloc: Global,
+    reader: &mut R,
+    expected_len: u64,
+) -> Result<Vec<u8>, InputFault>
+    requires calls { R.calls reader.old < 2 ^ 63 }
+    requires failures { R.failures reader.old < 2 ^ 63 }
+    ensures bytes { IfOk result (λ bytes. IfSome (R.remaining reader.old) (λ all. bytes.items ≡ take (2 ^ 31) all)) }
+    ensures left { IfOk result (λ bytes. Consumes (R.remaining reader.old) (R.remaining reader.new) bytes.items) }
+    ensures no_failure { OnOk result (R.failures reader.new ≡ R.failures reader.old) }
+    ensures read_fault { IsErrOf result InputFault.ReadFault → R.failures reader.new ≡ R.failures reader.old + 1 }
+    ensures out_of_memory { IsErrOf result InputFault.OutOfMemory → R.failures reader.new ≡ R.failures reader.old }
+    ensures opened { result ≢ Err InputFault.CannotOpen }
+    ensures calls { R.calls reader.new ≤ R.calls reader.old + 2 ^ 32 }
+{
+    match read_sized_input(alloc, reader, expected_len) {
+        Ok(bytes) => Ok(bytes),
+        Err(ToolFault::OutOfMemory) => Err(InputFault::OutOfMemory),
+        Err(_) => Err(InputFault::ReadFault),
+    }
+}
+
+/// Whether the argument stands for standard input.
+fn is_standard(argument: &str) -> bool
+    ensures { result ≡ is_standard argument.now }
+{
+    argument == STANDARD
+}
+
+/// Reads what one argument stands for.
+fn read_argument<S: InputSource>(
+    alloc: Global,
+    source: &mut S,
+    argument: &str,
+    standard: bool,
+    is_stdin_read: bool,
+) -> Result<Vec<u8>, InputFault>
+    ensures reading { MatchResult result
+        (λ bytes. ReadsAs S.file S.standard argument.now standard is_stdin_read (gives bytes.items))
+        (λ why. (why ≡ InputFault.OutOfMemory)
+        ⊎ ReadsAs S.file S.standard argument.now standard is_stdin_read (refuses why)) }
+    ensures asked { Asks (S.asked source.old) (S.asked source.new)
+        (asked_for argument.now standard is_stdin_read) }
+{
+    match (standard, is_stdin_read) {
+        (false, _) => source.read_file(alloc, argument),
+        (true, false) => source.read_standard(alloc),
+        (true, true) => Ok(Vec::new(alloc)),
+    }
+}
+
+/// The inputs that end at one that can't be read.
+fn ended<'a>(
+    texts: Vec<Input<'a>>,
+    argument: &'a str,
+    why: InputFault,
+) -> Result<Inputs<'a>, AllocError>
+    ensures { IfOk result (λ inputs. (inputs.texts.items ≡ texts.entry.items)
+        × (option_map program_text inputs.fault ≡ Some (input_fault_text (shown_name argument.now) why))
+        × (why ≢ InputFault.OutOfMemory)) }
+{
+    let fault = Some(fault_of(shown_name(argument), why).ok_or(AllocError)?);
+    Ok(Inputs { texts, fault })
+}
+
+/// The fault of an input that can't be read; none for a failed allocation, which is no fault of the
+/// input.
+fn fault_of(name: &str, why: InputFault) -> Option<ProgramFault<'_>>
+    ensures { MatchOption result (why ≡ InputFault.OutOfMemory)
+        (λ fault. (why ≢ InputFault.OutOfMemory) × (program_text fault ≡ input_fault_text name.now why)) }
+{
+    match why {
+        InputFault::CannotOpen => Some(ProgramFault::CannotOpen(name)),
+        InputFault::ReadFault => Some(ProgramFault::ReadFault(name)),
+        InputFault::OutOfMemory => None,
+    }
+}

@@ -1,0 +1,79 @@
+//! Laws of inputs and outputs, each the contract of a function that does nothing: a call brings the law into a
+//! proof.
+ghost use Rattle.std.specs.Prelude.{◌≡◌, ◌↔◌, ◌⊎◌, ◌<◌, ◌^◌, ◌++◌, ℕ, List, Option, codes, decimal, false, replicate, slice_index};
+ghost use Rattle.runs.specs.AskedLaw.{AsksInTurn};
+ghost use Rattle.runs.specs.FileCalls.{Course};
+ghost use Rattle.runs.specs.FileRights.{kept_mode};
+ghost use Rattle.runs.specs.Inputs.{AreInputs, Asked, asked_by};
+ghost use Rattle.runs.specs.InputsLaw.{AreInputsInTurn};
+ghost use Rattle.runs.specs.NamedFile.{NamedFile};
+ghost use Rattle.runs.specs.OutputFiles.{WritesFile};
+ghost use Rattle.runs.specs.OutputPaths.{NamesStream, beside, link_target};
+ghost use Rattle.runs.specs.OutputLaw.{IsWholeOrAsItWasThroughout};
+ghost use Rattle.runs.specs.RightsLaw.{GivesNobodyMore, IsWhose, KeepsRights};
+ghost use Rattle.runs.specs.declared.output_files.Owner.{Owner};
+ghost use Rattle.runs.specs.declared.output_files.Rights.{Rights};
+
+use crate::inputs::InputSource;
+
+/// An output file is there whole, or as it was: at every moment the file to which the path leads
+/// holds all of the output or what it held before, where it isn't written in place; after success it
+/// holds the output, after a fault what it held, and no other path has changed. It gives nobody more
+/// than the file did that it replaces, and its mode is what is kept of that file's. An open stream
+/// takes all of the output after what it took before.
+pub fn whole_or_as_it_was()
+    ensures { (output path : List ℕ) (links : ℕ) (course : Course)
+        → WritesFile output links path course
+        → IsWholeOrAsItWasThroughout output path course }
+{}
+
+/// Standard output, standard error and the descriptors of a process are streams, by these names and by
+/// no other. A path names one stream at most.
+pub fn streams_have_names()
+    ensures exactly { (path : List ℕ) (number : ℕ) → NamesStream path number ↔
+        ((path ≡ codes "/dev/stdout") × (number ≡ 1))
+        ⊎ ((path ≡ codes "/dev/stderr") × (number ≡ 2))
+        ⊎ ((number < 2 ^ 32) × (path ≡ codes "/dev/fd/" ++ decimal number))
+        ⊎ ((number < 2 ^ 32) × (path ≡ codes "/proc/self/fd/" ++ decimal number)) }
+    ensures one_stream { (path : List ℕ) (m n : ℕ) → NamesStream path m → NamesStream path n → m ≡ n }
+{}
+
+/// A link leads from the root where its text begins there, and else from the folder in which it is.
+pub fn links_lead_from_their_folder()
+    ensures from_the_root { (path text : List ℕ) → slice_index text 0 ≡ 47 → link_target path text ≡ text }
+    ensures in_a_folder { link_target (codes "de/a.mo") (codes "b.mo") ≡ codes "de/b.mo" }
+    ensures to_another_folder { link_target (codes "/po/de/a.mo") (codes "../fr/b.mo") ≡ codes "/po/de/../fr/b.mo" }
+    ensures in_the_working_folder { link_target (codes "a.mo") (codes "b.mo") ≡ codes "b.mo" }
+{}
+
+/// A new file is beside the one that it replaces, and named for it.
+pub fn new_files_are_named()
+    ensures in_a_folder { (number : ℕ) → beside (codes "de/a.mo") number ≡ codes "de/.a.mo." ++ decimal number }
+    ensures in_the_working_folder { (number : ℕ) → beside (codes "a.mo") number ≡ codes ".a.mo." ++ decimal number }
+    ensures longest { (number : ℕ) → beside (replicate 200 97) number ≡ codes "." ++ replicate 200 97 ++ codes "." ++ decimal number }
+    ensures too_long { (number : ℕ) → beside (replicate 201 97) number ≡ codes ".output." ++ decimal number }
+    ensures unnamed { (number : ℕ) → beside (codes "de/..") number ≡ codes "de/../.output." ++ decimal number }
+{}
+
+/// What a new file keeps of a mode gives nobody more than the old file did, but the two owners; it is
+/// all that can be kept so, and all nine bits where the owner and the group are the same.
+pub fn rights_are_kept()
+    ensures nobody_gets_more { (old : Rights) (owner : Option Owner) (whose : Owner) → IsWhose owner whose
+        → GivesNobodyMore old (record { mode = kept_mode old owner; owner = whose }) }
+    ensures kept { (old : Rights) (owner : Owner) → KeepsRights old owner (kept_mode old (Some owner)) }
+{}
+
+/// The inputs of arguments are the files of their names but `-`, in their order, and standard input for
+/// the first `-`; each further `-` is an empty text.
+pub fn inputs_stand_in_turn<S: InputSource>()
+    ensures { (arguments : List (List ℕ)) (inputs : List NamedFile) (fault : Option (List ℕ))
+        → AreInputs S.file S.standard false arguments inputs fault
+        ↔ AreInputsInTurn S.file S.standard arguments inputs fault }
+{}
+
+/// Arguments ask for the file of each name but `-`, in their order, and for standard input once, in
+/// the place of the first `-`.
+pub fn inputs_are_asked_in_turn()
+    ensures { (arguments : List (List ℕ)) (asked : List Asked)
+        → (asked ≡ asked_by false arguments) ↔ AsksInTurn arguments asked }
+{}

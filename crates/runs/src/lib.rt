@@ -1,0 +1,29 @@
+//! What the tools of pokit share: what a run comes to and how it is delivered, inputs and outputs,
+//! options and arguments, and the lines of faults.
+//!
+//! The modules in reading order: `run`, `program_fault`, `fault_text`, `inputs`, `output_files`,
+//! `output_paths`, `output_rights`, `output_writing`, `outputs`, `laws`, `arguments`, `ending`.
+
+#![tactic(auto)]
+
+mod arguments;
+mod ending;
+mod fault_text;
+mod inputs;
+pub mod laws;
+mod output_files;
+mod output_paths;
+mod output_rights;
+mod output_writing;
+mod outputs;
+mod program_fault;
+mod run;
+
+pub use arguments::{Arguments, input_of, inputs_of, output_of, text_or};
+pub use ending::Ending;
+pub use fault_text::{push_location, push_mo_text, push_numbered, push_po_text};
+pub use inputs::{Input, InputFault, InputSource, Inputs, read_one, read_whole};
+pub use output_files::{FileKind, NotMade, OutputFault, OutputFiles, Owner, Rights};
+pub use outputs::write_run;
+pub use program_fault::{ProgramFault, report_fault};
+pub use run::{Run, STANDARD, STDIN_NAME, deliver, refused, shown_name};

@@ -1,7 +1,0 @@
-use Rattle.std.proofs.Common.{◌≡◌, take}
-use Rattle.tool_runs.specs.Inputs.{named_inputs}
-use Rattle.tool_runs.specs.NamedFile.{named_files}
-use Rattle.tool_runs.proofs.inputs.Inputs.borrowed.Given as goal
-
-abbrev pub invariant-loop-input : goal.invariant-loop-input
-invariant-loop-input l = named_files l.borrowed.items ≡ named_inputs (take l.input-index l.self.texts.items)

@@ -1,5 +1,0 @@
-use Rattle.tool_runs.proofs.InputsInTurn.{inputs_in_turn}
-use Rattle.tool_runs.proofs.laws.inputs_stand_in_turn.Goals as goal
-
-pub returns : goal.returns
-returns g c = inputs_in_turn g.S.InputSource.file g.S.InputSource.standard

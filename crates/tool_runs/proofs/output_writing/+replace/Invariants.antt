@@ -1,4 +1,0 @@
-use Rattle.tool_runs.proofs.output_writing.+replace.Given as goal
-
-abbrev pub decreases-replace : goal.decreases-replace
-decreases-replace g l = l.tries

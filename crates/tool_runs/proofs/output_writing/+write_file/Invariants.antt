@@ -1,4 +1,0 @@
-use Rattle.tool_runs.proofs.output_writing.+write_file.Given as goal
-
-abbrev pub decreases-write_file : goal.decreases-write_file
-decreases-write_file g l = l.links

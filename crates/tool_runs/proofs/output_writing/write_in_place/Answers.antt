@@ -1,9 +1,0 @@
-use Rattle.tool_runs.specs.OutputFiles.{unopened, opened}
-use Rattle.tool_runs.proofs.OutputLemmas.{after-call, done-for, is-fault}
-use Rattle.tool_runs.proofs.output_writing.write_in_place.Goals as goal
-
-pub returns-in-None : goal.returns-in-None
-returns-in-None g c = after-call _ c.in-None.ensures (is-fault unopened)
-
-pub returns-in-Some : goal.returns-in-Some
-returns-in-Some g c = after-call _ c.in-Some.ensures (done-for (λ course puts. opened puts) c.put.ensures)
