@@ -3,7 +3,7 @@ pub mod Substitution
 pub mod Sorted
 pub mod Replacing
 pub mod Stream
-pub mod Holding
+pub mod PendingReference
 pub mod SubstituterView
 pub mod Envsubst
 pub mod EnvsubstLaw
@@ -11,4 +11,4 @@ pub mod Variables
 pub mod ByArguments
 pub mod Usage
 pub mod UsageView
-pub mod Given
+pub mod ArgumentValues

@@ -1,6 +1,6 @@
 //! The bytes that may begin a reference, held back until the next ones decide.
 ghost use Rattle.std.specs.Prelude.{◌≡◌, ◌<◌, true, false, ◌∷◌, [], length, take, IfSome};
-ghost use Rattle.envsubst.specs.Holding.{Decides, ComesOut, ReplacesName, IsStep, Ending, is_undecided, is_begun_name, after_dollar};
+ghost use Rattle.envsubst.specs.PendingReference.{Decides, ComesOut, ReplacesName, IsStep, Ending, is_undecided, is_begun_name, after_dollar};
 ghost use Rattle.envsubst.specs.Sorted.{values_of_replacements};
 ghost use Rattle.envsubst.specs.Substitution.{Values};
 

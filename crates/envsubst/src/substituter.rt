@@ -3,7 +3,7 @@
 ghost use Rattle.std.specs.Prelude.{◌≡◌, ◌+◌, ◌-◌, ◌*◌, ◌^◌, ◌<◌, ◌≤◌, min, true, false, [], ◌++◌, take, drop, length, if◌then◌else◌, is_err, IsErr, IfOk, OnOk, OnErr, Err};
 ghost use Rattle.std.specs.Io.KnownBytes.{Appends, Keeps};
 ghost use Rattle.devices.specs.Device.{AppendsPrefix};
-ghost use Rattle.envsubst.specs.Holding.{is_undecided};
+ghost use Rattle.envsubst.specs.PendingReference.{is_undecided};
 ghost use Rattle.envsubst.specs.Sorted.{values_of_replacements};
 ghost use Rattle.envsubst.specs.Stream.{Advances, Stops};
 ghost use Rattle.envsubst.specs.SubstituterView.{values_of_substituter};
@@ -30,7 +30,7 @@ pub struct Substituter<'a> {
 impl<'a> Model for Substituter<'a> {
     ghost use Rattle.std.specs.Prelude.{◌≡◌, true};
     ghost use Rattle.envsubst.specs.SubstituterView.{SubstituterView};
-    ghost use Rattle.envsubst.specs.Holding.{is_undecided};
+    ghost use Rattle.envsubst.specs.PendingReference.{is_undecided};
 
     ghost Value = { SubstituterView };
 

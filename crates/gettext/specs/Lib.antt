@@ -11,4 +11,4 @@ pub mod Catalogues
 pub mod Options
 pub mod Usage
 pub mod UsageView
-pub mod Given
+pub mod ArgumentValues

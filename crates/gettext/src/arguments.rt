@@ -1,6 +1,6 @@
 //! The arguments of gettext and ngettext after their options.
 ghost use Rattle.std.specs.Prelude.{◌≡◌, map, option_map};
-ghost use Rattle.gettext.specs.Given.{AreGettextArguments, AreNgettextArguments};
+ghost use Rattle.gettext.specs.ArgumentValues.{AreGettextArguments, AreNgettextArguments};
 ghost use Rattle.gettext.specs.Usage.{gettext_usage, ngettext_usage};
 ghost use Rattle.gettext.specs.UsageView.{gettext_arguments, ngettext_arguments};
 

@@ -16,17 +16,17 @@ use po_select::{Selection, select};
 use po_syntax::{Pieces, PoError};
 use po_writer::TextParts;
 use std::alloc::{AllocError, Global};
-use text_runs::{Keys, Place, duplicate, repeated_lines};
+use text_runs::{EntryPlace, KeyBuffer, duplicate, repeated_lines};
 
 /// What is kept of the entries that have been read.
 #[derive(Drop)]
 pub(crate) struct Rows {
     /// Their messages.
-    pub(crate) keys: Keys,
+    pub(crate) keys: KeyBuffer,
     /// Where they stand, and which of them are live.
-    pub(crate) read: Vec<Place>,
+    pub(crate) read: Vec<EntryPlace>,
     /// Where they stand, and which of them are live once they are selected: one that isn't kept is not.
-    pub(crate) kept: Vec<Place>,
+    pub(crate) kept: Vec<EntryPlace>,
 }
 
 /// Entries that have been read, and what is written of those that are selected.
@@ -51,11 +51,11 @@ impl Rows {
     {
         let line = entry.line();
         self.keys.add(entry)?;
-        self.read.push(Place {
+        self.read.push(EntryPlace {
             line,
             is_live: is_live(entry),
         })?;
-        self.kept.push(Place {
+        self.kept.push(EntryPlace {
             line,
             is_live: stays_live(selection, entry),
         })?;
@@ -120,7 +120,7 @@ fn select_pieces(
     let mut so_far = SelectedSoFar {
         parts: TextParts::with_capacity(alloc, text.len())?,
         rows: Rows {
-            keys: Keys::new(alloc),
+            keys: KeyBuffer::new(alloc),
             read: Vec::new(alloc),
             kept: Vec::new(alloc),
         },

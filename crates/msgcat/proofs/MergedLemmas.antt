@@ -31,18 +31,18 @@ use Rattle.po_writer.specs.WrittenText.{arranged, entry_lines, in_order, written
 use Rattle.po_writer.specs.declared.parts.TextParts.{TextParts}
 use Rattle.msgcat.specs.Entries.{AreRows, IsRow}
 use Rattle.msgcat.specs.MergedText.{AreGroups, AreReadBack, AreWritten, IsOnly}
-use Rattle.msgcat.specs.declared.entries.Row.{Row}
+use Rattle.msgcat.specs.declared.entries.EntryRow.{EntryRow}
 use Rattle.po_messages.specs.Facts.Zips.{zip_all, zip_get, zip_length, zip_more}
 
 -- rows and their entries pass the same tests
-module _ (text : List ℕ) (p : NamedEntry → Bool) (q : Row → Bool) (same : (e : NamedEntry) (r : Row) → IsRow text e r → q r ≡ p e) where
-  pub any_row : (entries : List NamedEntry) (rows : List Row) → AreRows text entries rows → list_any q rows ≡ list_any p entries
+module _ (text : List ℕ) (p : NamedEntry → Bool) (q : EntryRow → Bool) (same : (e : NamedEntry) (r : EntryRow) → IsRow text e r → q r ≡ p e) where
+  pub any_row : (entries : List NamedEntry) (rows : List EntryRow) → AreRows text entries rows → list_any q rows ≡ list_any p entries
   any_row [] [] h = refl
   any_row [] (r ∷ rows) h = absurd h
   any_row (e ∷ entries) [] h = absurd h
   any_row (e ∷ entries) (r ∷ rows) h = ap₂ (λ (a b : Bool). a || b) (same e r h.0) (any_row entries rows h.1)
 
-  pub filter_rows : (entries : List NamedEntry) (rows : List Row) → AreRows text entries rows → AreRows text (filter p entries) (filter q rows)
+  pub filter_rows : (entries : List NamedEntry) (rows : List EntryRow) → AreRows text entries rows → AreRows text (filter p entries) (filter q rows)
   filter_rows [] [] h = tt
   filter_rows [] (r ∷ rows) h = absurd h
   filter_rows (e ∷ entries) [] h = absurd h
@@ -51,19 +51,19 @@ module _ (text : List ℕ) (p : NamedEntry → Bool) (q : Row → Bool) (same : 
     found true one more = (one, more)
     found false one more = more
 
-pub any_live : (text : List ℕ) (entries : List NamedEntry) (rows : List Row) → AreRows text entries rows → list_any (λ r. r.is_live) rows ≡ list_any (λ e. is_live e.entry) entries
+pub any_live : (text : List ℕ) (entries : List NamedEntry) (rows : List EntryRow) → AreRows text entries rows → list_any (λ r. r.is_live) rows ≡ list_any (λ e. is_live e.entry) entries
 any_live text = any_row text (λ e. is_live e.entry) (λ r. r.is_live) (λ e r h. h.live)
 
-pub any_obsolete : (text : List ℕ) (entries : List NamedEntry) (rows : List Row) → AreRows text entries rows → list_any (λ r. not r.is_live) rows ≡ list_any (λ e. not (is_live e.entry)) entries
+pub any_obsolete : (text : List ℕ) (entries : List NamedEntry) (rows : List EntryRow) → AreRows text entries rows → list_any (λ r. not r.is_live) rows ≡ list_any (λ e. not (is_live e.entry)) entries
 any_obsolete text = any_row text (λ e. not (is_live e.entry)) (λ r. not r.is_live) (λ e r h. ap not h.live)
 
-any_header : (text : List ℕ) (entries : List NamedEntry) (rows : List Row) → AreRows text entries rows → list_any (λ r. r.is_header) rows ≡ list_any (λ e. is_header e.entry) entries
+any_header : (text : List ℕ) (entries : List NamedEntry) (rows : List EntryRow) → AreRows text entries rows → list_any (λ r. r.is_header) rows ≡ list_any (λ e. is_header e.entry) entries
 any_header text = any_row text (λ e. is_header e.entry) (λ r. r.is_header) (λ e r h. h.header)
 
-pub live_rows : (text : List ℕ) (entries : List NamedEntry) (rows : List Row) → AreRows text entries rows → AreRows text (filter (λ e. is_live e.entry) entries) (filter (λ r. r.is_live) rows)
+pub live_rows : (text : List ℕ) (entries : List NamedEntry) (rows : List EntryRow) → AreRows text entries rows → AreRows text (filter (λ e. is_live e.entry) entries) (filter (λ r. r.is_live) rows)
 live_rows text = filter_rows text (λ e. is_live e.entry) (λ r. r.is_live) (λ e r h. h.live)
 
-pub kept_rows : (o : MergeOptions) (text : List ℕ) (entries : List NamedEntry) (rows : List Row) → AreRows text entries rows → (list_any (λ r. r.is_header) rows || is_wanted o (length rows)) ≡ is_kept o entries
+pub kept_rows : (o : MergeOptions) (text : List ℕ) (entries : List NamedEntry) (rows : List EntryRow) → AreRows text entries rows → (list_any (λ r. r.is_header) rows || is_wanted o (length rows)) ≡ is_kept o entries
 kept_rows o text entries rows h = ap₂ (λ (b : Bool) (n : ℕ). b || is_wanted o n) (any_header text entries rows h) (sym (zip_length (IsRow text) entries rows h))
 
 -- what defines a message, where its entries are mixed and where they aren't
@@ -181,7 +181,7 @@ fault_unlined a b error same (inr foreign) =
 pub kept : (o : MergeOptions) (ds : List NamedEntry) → is_kept o ds ≡ true → merged_messages o (ds ∷ []) ≡ merged_entry o ds ∷ []
 kept o ds some = ap (λ (b : Bool). map (merged_entry o) (cond b (ds ∷ []) [])) some
 
-pub only_row : (text : List ℕ) (ds : List NamedEntry) (row : Row) → AreRows text ds (row ∷ []) → (d : NamedEntry) × (ds ≡ d ∷ []) × IsRow text d row
+pub only_row : (text : List ℕ) (ds : List NamedEntry) (row : EntryRow) → AreRows text ds (row ∷ []) → (d : NamedEntry) × (ds ≡ d ∷ []) × IsRow text d row
 only_row text [] row h = absurd h
 only_row text (d ∷ []) row h = (d, refl, h.0)
 only_row text (d ∷ e ∷ ds) row h = absurd h.1
@@ -207,7 +207,7 @@ fault_within o all i d error inside (inr foreign) = inr (λ admitted. foreign.0 
 
 -- groups by numbers
 module _ (text : List ℕ) where
-  numbered_rows : (n : ℕ) (ns : List ℕ) (entries : List NamedEntry) (rows : List Row) → AreRows text entries rows → AreRows text (with_number n ns entries) (with_number n ns rows)
+  numbered_rows : (n : ℕ) (ns : List ℕ) (entries : List NamedEntry) (rows : List EntryRow) → AreRows text entries rows → AreRows text (with_number n ns entries) (with_number n ns rows)
   numbered_rows n [] entries rows h = tt
   numbered_rows n (k ∷ ns) [] [] h = tt
   numbered_rows n (k ∷ ns) [] (r ∷ rows) h = absurd h
@@ -218,11 +218,11 @@ module _ (text : List ℕ) where
     found true more = (h.0, more)
     found false more = more
 
-  rows_from : (ns : List ℕ) (entries : List NamedEntry) (rows : List Row) (indices : List ℕ) → AreRows text entries rows → AllZip (AreRows text) (map (λ n. with_number n ns entries) indices) (map (λ n. with_number n ns rows) indices)
+  rows_from : (ns : List ℕ) (entries : List NamedEntry) (rows : List EntryRow) (indices : List ℕ) → AreRows text entries rows → AllZip (AreRows text) (map (λ n. with_number n ns entries) indices) (map (λ n. with_number n ns rows) indices)
   rows_from ns entries rows [] h = tt
   rows_from ns entries rows (n ∷ indices) h = (numbered_rows n ns entries rows h, rows_from ns entries rows indices h)
 
-  in_vectors : (all : List (List NamedEntry)) (groups : List (Vec Row)) → AllZip (AreRows text) all (map (λ g. g.items) groups) → All IsGroup all → AreGroups text all groups
+  in_vectors : (all : List (List NamedEntry)) (groups : List (Vec EntryRow)) → AllZip (AreRows text) all (map (λ g. g.items) groups) → All IsGroup all → AreGroups text all groups
   in_vectors [] [] h valid = tt
   in_vectors [] (g ∷ groups) h valid = absurd h
   in_vectors (es ∷ all) [] h valid = absurd h
@@ -231,17 +231,17 @@ module _ (text : List ℕ) where
       let long = zip_length (IsRow text) es g.items h.0 in
       (record { some = omega (arith, some, long); rows = h.0 }, in_vectors all groups h.1 (λ k d below. valid (suc k) d (omega (arith, below))))
 
-  groups_are : (count : ℕ) (ns : List ℕ) (entries : List NamedEntry) (rows : List Row) (groups : List (Vec Row)) (all : List (List NamedEntry)) → AreRows text entries rows → map (λ g. g.items) groups ≡ by_number count ns rows
+  groups_are : (count : ℕ) (ns : List ℕ) (entries : List NamedEntry) (rows : List EntryRow) (groups : List (Vec EntryRow)) (all : List (List NamedEntry)) → AreRows text entries rows → map (λ g. g.items) groups ≡ by_number count ns rows
       → by_number count ns entries ≡ all → All IsGroup all → AreGroups text all groups
   groups_are count ns entries rows groups all have of_rows of_entries valid =
       in_vectors all groups
-      (subst (λ l. AllZip (AreRows text) l (map (λ (g : Vec Row). g.items) groups)) of_entries
+      (subst (λ l. AllZip (AreRows text) l (map (λ (g : Vec EntryRow). g.items) groups)) of_entries
       (subst (AllZip (AreRows text) (by_number count ns entries)) (sym of_rows) (rows_from ns entries rows (range_with_len 0 count) have))) valid
 
-all_valid : (text : List ℕ) (entries : List NamedEntry) (rows : List Row) → AreRows text entries rows → All IsDefinition entries
+all_valid : (text : List ℕ) (entries : List NamedEntry) (rows : List EntryRow) → AreRows text entries rows → All IsDefinition entries
 all_valid text = zip_all (IsRow text) IsDefinition (λ e r h. h.can.valid)
 
-pub mixed_rows : (text : List ℕ) (entries : List NamedEntry) (rows : List Row) → AreRows text entries rows
+pub mixed_rows : (text : List ℕ) (entries : List NamedEntry) (rows : List EntryRow) → AreRows text entries rows
     → (list_any (λ r. r.is_live) rows && list_any (λ r. not r.is_live) rows) ≡ (list_any (λ e. is_live e.entry) entries && list_any (λ e. not (is_live e.entry)) entries)
 mixed_rows text entries rows h = ap₂ (λ (a b : Bool). a && b) (any_live text entries rows h) (any_obsolete text entries rows h)
 
@@ -256,7 +256,7 @@ unmixed entries h = found (list_any (λ e. is_live e.entry) entries) refl h wher
   found false none h = none_live entries none
 
 -- one more definition that is read again
-pub definition_more : (text : List ℕ) (definitions : List NamedEntry) (rows : List Row) (es : List TextEntry) (i : ℕ) (r : TextEntry) (row : Row) (found new : List BorrowedEntry) (x : BorrowedEntry) → i < length rows → AreRows text definitions rows
+pub definition_more : (text : List ℕ) (definitions : List NamedEntry) (rows : List EntryRow) (es : List TextEntry) (i : ℕ) (r : TextEntry) (row : EntryRow) (found new : List BorrowedEntry) (x : BorrowedEntry) → i < length rows → AreRows text definitions rows
     → AreReadBack definitions es → All IsCatalogueEntry es → r ≡ get_or es i r → new ≡ found ++ x ∷ [] → x.name.now ≡ (get_or rows i row).name.now → x.entry.now ≡ r
     → AllZip IsSameButLine (take i definitions) (named_entries found) × All IsDefinition (named_entries found) → AllZip IsSameButLine (take (i + 1) definitions) (named_entries new) × All IsDefinition (named_entries new)
 definition_more text definitions rows es i r row found new x below h back valid here pushed name entry so_far =
@@ -281,7 +281,7 @@ definition_more text definitions rows es i r row found new x below h back valid 
     )
 
 -- one more message
-pub message_copied : (o : MergeOptions) (text : List ℕ) (ds : List NamedEntry) (row : Row) (before : List TextEntry) (parts : TextParts) → ((d : NamedEntry) → merged_entry o (d ∷ []) ≡ d.entry) → AreRows text ds (row ∷ []) → is_kept o ds ≡ true
+pub message_copied : (o : MergeOptions) (text : List ℕ) (ds : List NamedEntry) (row : EntryRow) (before : List TextEntry) (parts : TextParts) → ((d : NamedEntry) → merged_entry o (d ∷ []) ≡ d.entry) → AreRows text ds (row ∷ []) → is_kept o ds ≡ true
     → ((d : NamedEntry) → IsRow text d row → AreWritten (before ++ d.entry ∷ []) parts) → AreWritten (before ++ merged_messages o (ds ∷ [])) parts
 message_copied o text ds row before parts law h keeps copied =
     let only = only_row text ds row h in
@@ -296,13 +296,13 @@ message_merged o ds before merged parts keeps only valid are admitted =
     (written_more before only.only (merged_entry o ds) parts only.same (subst (λ l. AreParts (before ++ l) parts) only.entries_are are) admitted one.charset)
 
 -- a list of one
-pub one_of : (rows : List Row) (d : Row) → 0 < length rows → length rows < 2 → rows ≡ get_or rows 0 d ∷ []
+pub one_of : (rows : List EntryRow) (d : EntryRow) → 0 < length rows → length rows < 2 → rows ≡ get_or rows 0 d ∷ []
 one_of [] d some few = absurd (omega (arith, some))
 one_of (r ∷ []) d some few = refl
 one_of (r ∷ s ∷ rows) d some few = absurd (omega (arith, few))
 
 -- the groups of rows by the numbers of their messages
-pub groups_hold : (text now : List ℕ) (es : List NamedEntry) (rows list : List Row) (found items : List (Vec Row)) (ns : List ℕ) → AreRows text es rows → now ≡ text → list ≡ rows → items ≡ found → ns ≡ message_numbers es
+pub groups_hold : (text now : List ℕ) (es : List NamedEntry) (rows list : List EntryRow) (found items : List (Vec EntryRow)) (ns : List ℕ) → AreRows text es rows → now ≡ text → list ≡ rows → items ≡ found → ns ≡ message_numbers es
     → map (λ g. g.items) found ≡ by_number (length (first_ones same_message (named_messages es))) ns list → GroupsByNumber es → AreGroups now (groups es) items
 groups_hold text now es rows list found items ns h now_is list_is items_are numbers of_rows law =
     let held : AreRows now es list = subst (λ t. AreRows t es list) (sym now_is) (subst (AreRows text es) (sym list_is) h) in

@@ -9,7 +9,7 @@ use Rattle.po_merge.specs.Inputs.{NamedEntry}
 use Rattle.po_writer.specs.TextParts.{separated}
 use Rattle.text_runs.specs.Keys.{HoldKeys}
 use Rattle.msgcat.specs.declared.entries.Entries.{Entries}
-use Rattle.msgcat.specs.declared.entries.Row.{Row}
+use Rattle.msgcat.specs.declared.entries.EntryRow.{EntryRow}
 
 -- the entry can stand in a catalogue, and can be merged under its input's name
 pub record CanBeMerged (entry : NamedEntry) : Type 0 where
@@ -17,7 +17,7 @@ pub record CanBeMerged (entry : NamedEntry) : Type 0 where
   pub charset : HasAdmittedCharset entry.entry
 
 -- the row says where the text of the entry stands, after an empty line, and what is known of the entry
-pub record IsRow (text : List ℕ) (entry : NamedEntry) (row : Row) : Type 0 where
+pub record IsRow (text : List ℕ) (entry : NamedEntry) (row : EntryRow) : Type 0 where
   pub before : List ℕ
   pub after : List ℕ
   pub text_is : text ≡ before ++ (separated (entry.entry ∷ []) ++ after)
@@ -28,7 +28,7 @@ pub record IsRow (text : List ℕ) (entry : NamedEntry) (row : Row) : Type 0 whe
   pub header : row.is_header ≡ is_header entry.entry
   pub can : CanBeMerged entry
 
-abbrev pub AreRows : List ℕ → List NamedEntry → List Row → Type 0
+abbrev pub AreRows : List ℕ → List NamedEntry → List EntryRow → Type 0
 AreRows text entries rows = AllZip (IsRow text) entries rows
 
 -- the entries without their inputs' names

@@ -9,7 +9,7 @@ use Rattle.po_writer.specs.TextParts.{AreParts}
 use Rattle.po_writer.specs.WrittenText.{written_text}
 use Rattle.po_writer.specs.declared.parts.TextParts.{TextParts}
 use Rattle.msgcat.specs.Entries.{AreRows}
-use Rattle.msgcat.specs.declared.entries.Row.{Row}
+use Rattle.msgcat.specs.declared.entries.EntryRow.{EntryRow}
 
 -- these entries are written, and each can stand in a catalogue
 pub record AreWritten (entries : List TextEntry) (parts : TextParts) : Type 0 where
@@ -27,11 +27,11 @@ pub record IsOnly (entry : TextEntry) (entries : List TextEntry) : Type 0 where
   pub same : SameButLine only entry
 
 -- the groups of rows are those of the groups of entries, each of which has an entry
-pub record IsGroupOf (text : List ℕ) (entries : List NamedEntry) (group : Vec Row) : Type 0 where
+pub record IsGroupOf (text : List ℕ) (entries : List NamedEntry) (group : Vec EntryRow) : Type 0 where
   pub some : 0 < length group.items
   pub rows : AreRows text entries group.items
 
-abbrev pub AreGroups : List ℕ → List (List NamedEntry) → List (Vec Row) → Type 0
+abbrev pub AreGroups : List ℕ → List (List NamedEntry) → List (Vec EntryRow) → Type 0
 AreGroups text all groups = AllZip (IsGroupOf text) all groups
 
 -- the text of merged entries, each of which can stand in a catalogue

@@ -10,11 +10,11 @@ use po_entry::Entry;
 use po_messages::is_live;
 use po_writer::append_separated;
 use std::alloc::{AllocError, Global};
-use text_runs::Keys;
+use text_runs::KeyBuffer;
 
 /// Where the text of an entry stands, and what is known of the entry.
 #[derive(Clone, Copy)]
-pub(crate) struct Row<'a> {
+pub(crate) struct EntryRow<'a> {
     /// The name of its input.
     pub(crate) name: &'a str,
     /// Where its text begins, with the empty line before it.
@@ -33,9 +33,9 @@ pub(crate) struct Entries<'a> {
     /// Their texts, each after an empty line.
     pub(crate) text: Vec<u8>,
     /// A row for each.
-    pub(crate) rows: Vec<Row<'a>>,
+    pub(crate) rows: Vec<EntryRow<'a>>,
     /// Their messages.
-    pub(crate) keys: Keys,
+    pub(crate) keys: KeyBuffer,
 }
 
 /// What stands from one index to another.
@@ -54,7 +54,7 @@ impl<'a> Entries<'a> {
         Ok(Entries {
             text: Vec::with_capacity(alloc, room)?,
             rows: Vec::new(alloc),
-            keys: Keys::new(alloc),
+            keys: KeyBuffer::new(alloc),
         })
     }
 
@@ -65,7 +65,7 @@ impl<'a> Entries<'a> {
     {
         let start = self.text.len();
         append_separated(&mut self.text, entry)?;
-        self.rows.push(Row {
+        self.rows.push(EntryRow {
             name,
             start,
             end: self.text.len(),

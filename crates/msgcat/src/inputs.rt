@@ -17,13 +17,13 @@ ghost use Rattle.msgcat.specs.Msgcat.{AreReadAs, IsFileFault};
 ghost use Rattle.text_runs.specs.Repeats.{are_placed, place_of};
 ghost use Rattle.runs.specs.NamedFile.{named_files};
 
-use crate::entries::{Entries, Row};
+use crate::entries::{Entries, EntryRow};
 use po_entry::{Catalogue, Entry};
 use po_messages::is_live;
 use po_reader::{PIECE, next_catalogue};
 use po_syntax::{Pieces, PoError, PoFault};
 use std::alloc::{AllocError, Global};
-use text_runs::{Place, duplicate, repeated_lines, split_at_most};
+use text_runs::{EntryPlace, duplicate, repeated_lines, split_at_most};
 
 /// Why an input isn't read.
 #[derive(Clone, Copy)]
@@ -51,7 +51,7 @@ pub(crate) struct ReadInput<'a> {
     /// Its name.
     pub(crate) name: &'a str,
     /// Where its entries stand, and which of them are live.
-    pub(crate) places: Vec<Place>,
+    pub(crate) places: Vec<EntryPlace>,
 }
 
 /// Inputs that are read, up to the first that has a fault.
@@ -71,16 +71,16 @@ pub(crate) struct Inputs<'a> {
     /// The texts of their entries, each after an empty line.
     pub(crate) text: Vec<u8>,
     /// A row for each entry.
-    pub(crate) rows: Vec<Row<'a>>,
+    pub(crate) rows: Vec<EntryRow<'a>>,
     /// For each entry the number of its message.
     pub(crate) numbers: Vec<usize>,
 }
 
 /// Where an entry stands.
-fn place_of(entry: &Entry) -> Place
+fn place_of(entry: &Entry) -> EntryPlace
     ensures { result ≡ place_of is_live entry.now }
 {
-    Place {
+    EntryPlace {
         line: entry.line(),
         is_live: is_live(entry),
     }
@@ -89,7 +89,7 @@ fn place_of(entry: &Entry) -> Place
 /// Adds the entries of a piece of an input of this name.
 fn add_piece<'a>(
     entries: &mut Entries<'a>,
-    places: &mut Vec<Place>,
+    places: &mut Vec<EntryPlace>,
     name: &'a str,
     piece: &Catalogue,
 ) -> Result<(), AllocError>
@@ -108,7 +108,7 @@ fn add_piece<'a>(
 fn add_text<'a>(
     alloc: Global,
     entries: &mut Entries<'a>,
-    places: &mut Vec<Place>,
+    places: &mut Vec<EntryPlace>,
     name: &'a str,
     text: &[u8],
 ) -> Result<(), PoError>

@@ -17,7 +17,7 @@ ghost use Rattle.msgcat.specs.Entries.{AreRows, IsRow};
 ghost use Rattle.msgcat.specs.Inputs.{HoldInputs};
 ghost use Rattle.msgcat.specs.MergedText.{AreGroups, AreReadBack, AreWritten, IsOnly, IsTextOfMerged};
 
-use crate::entries::{Row, between};
+use crate::entries::{EntryRow, between};
 use crate::inputs::Inputs;
 use po_catalog::laws::what_is_written_reads_back;
 use po_entry::Catalogue;
@@ -29,7 +29,7 @@ use po_writer::TextParts;
 use std::alloc::{AllocError, Global};
 
 /// The text of an entry, after an empty line.
-fn text_of<'t>(text: &'t [u8], row: &Row<'_>) -> &'t [u8]
+fn text_of<'t>(text: &'t [u8], row: &EntryRow<'_>) -> &'t [u8]
     ensures { (entry : merge.NamedEntry) → IsRow text.now entry row.now
         → result.now ≡ separated (entry.entry ∷ []) }
 {
@@ -38,7 +38,7 @@ fn text_of<'t>(text: &'t [u8], row: &Row<'_>) -> &'t [u8]
 
 /// An entry that is read again from its text. Refused where that is larger than a text can be, and
 /// where an allocation failed.
-fn read_again(alloc: Global, text: &[u8], row: &Row<'_>) -> Result<Catalogue, AllocError>
+fn read_again(alloc: Global, text: &[u8], row: &EntryRow<'_>) -> Result<Catalogue, AllocError>
     ensures { IfOk result (λ read. (entry : merge.NamedEntry) → IsRow text.now entry row.now
         → IsOnly entry.entry read) }
 {
@@ -53,7 +53,11 @@ fn read_again(alloc: Global, text: &[u8], row: &Row<'_>) -> Result<Catalogue, Al
 }
 
 /// Entries that are read again from their texts.
-fn read_all_again(alloc: Global, text: &[u8], rows: &[Row<'_>]) -> Result<Catalogue, AllocError>
+fn read_all_again(
+    alloc: Global,
+    text: &[u8],
+    rows: &[EntryRow<'_>],
+) -> Result<Catalogue, AllocError>
     ensures { IfOk result (λ read. (entries : List merge.NamedEntry) → AreRows text.now entries rows.now
         → AreReadBack entries read) }
 {
@@ -67,7 +71,7 @@ fn read_all_again(alloc: Global, text: &[u8], rows: &[Row<'_>]) -> Result<Catalo
 /// The entries of these rows, as they are read again, with the names of their inputs.
 fn definitions_of<'a, 'b: 'a>(
     alloc: Global,
-    rows: &[Row<'b>],
+    rows: &[EntryRow<'b>],
     entries: &'a Catalogue,
 ) -> Result<Vec<NamedEntry<'a>>, AllocError>
     requires { length rows.now ≡ length entries.now }
@@ -92,7 +96,7 @@ fn merged_again(
     alloc: Global,
     text: &[u8],
     options: &MergeOptions,
-    rows: &[Row<'_>],
+    rows: &[EntryRow<'_>],
 ) -> Result<Catalogue, PoError>
     requires some { 0 < length rows.now }
     requires rows { (definitions : List merge.NamedEntry) × AreRows text.now definitions rows.now }
@@ -109,7 +113,7 @@ fn merged_again(
 }
 
 /// Adds the text of an entry.
-fn push_copy(parts: &mut TextParts, text: &[u8], row: &Row<'_>) -> Result<(), AllocError>
+fn push_copy(parts: &mut TextParts, text: &[u8], row: &EntryRow<'_>) -> Result<(), AllocError>
     ensures { OnOk result ((entry : merge.NamedEntry) (before : List TextEntry) → IsRow text.now entry row.now
         → AreWritten before parts.old → AreWritten (before ++ entry.entry ∷ []) parts.new) }
 {
@@ -122,14 +126,14 @@ fn push_copy(parts: &mut TextParts, text: &[u8], row: &Row<'_>) -> Result<(), Al
 }
 
 /// Whether one of the definitions is a header.
-fn has_header(rows: &[Row<'_>]) -> bool
+fn has_header(rows: &[EntryRow<'_>]) -> bool
     ensures { result ≡ list_any (λ row. row.is_header) rows.now }
 {
     rows.iter().any(|row| row.is_header)
 }
 
 /// Whether the message of these definitions is kept.
-fn is_kept(rows: &[Row<'_>], options: &MergeOptions) -> bool
+fn is_kept(rows: &[EntryRow<'_>], options: &MergeOptions) -> bool
     ensures { (text : List ℕ) (definitions : List merge.NamedEntry) → AreRows text definitions rows.now
         → result ≡ is_kept options.now definitions }
 {
@@ -142,7 +146,7 @@ fn push_message(
     parts: &mut TextParts,
     text: &[u8],
     options: &MergeOptions,
-    rows: &[Row<'_>],
+    rows: &[EntryRow<'_>],
 ) -> Result<(), PoError>
     requires some { 0 < length rows.now }
     requires rows { (definitions : List merge.NamedEntry) × AreRows text.now definitions rows.now }
@@ -168,28 +172,28 @@ fn push_message(
 }
 
 /// Whether one of the entries is live.
-fn has_live(group: &[Row<'_>]) -> bool
+fn has_live(group: &[EntryRow<'_>]) -> bool
     ensures { result ≡ list_any (λ row. row.is_live) group.now }
 {
     group.iter().any(|row| row.is_live)
 }
 
 /// Whether one of the entries is obsolete.
-fn has_obsolete(group: &[Row<'_>]) -> bool
+fn has_obsolete(group: &[EntryRow<'_>]) -> bool
     ensures { result ≡ list_any (λ row. not row.is_live) group.now }
 {
     group.iter().any(|row| !row.is_live)
 }
 
 /// Whether some of the entries are live and others obsolete.
-fn are_mixed(group: &[Row<'_>]) -> bool
+fn are_mixed(group: &[EntryRow<'_>]) -> bool
     ensures { result ≡ (list_any (λ row. row.is_live) group.now && list_any (λ row. not row.is_live) group.now) }
 {
     has_live(group) && has_obsolete(group)
 }
 
 /// The live ones of the entries.
-fn live<'a>(alloc: Global, group: &[Row<'a>]) -> Result<Vec<Row<'a>>, AllocError>
+fn live<'a>(alloc: Global, group: &[EntryRow<'a>]) -> Result<Vec<EntryRow<'a>>, AllocError>
     ensures { IfOk result (λ found. found.items ≡ filter (λ row. row.is_live) group.now) }
 {
     let mut found = Vec::with_capacity(alloc, group.len())?;
@@ -207,7 +211,7 @@ fn push_group(
     parts: &mut TextParts,
     text: &[u8],
     options: &MergeOptions,
-    group: &[Row<'_>],
+    group: &[EntryRow<'_>],
 ) -> Result<(), PoError>
     requires some { 0 < length group.now }
     requires rows { (entries : List merge.NamedEntry) × AreRows text.now entries group.now }
@@ -229,7 +233,7 @@ fn push_group(
 fn merge_groups(
     alloc: Global,
     text: &[u8],
-    groups: &[Vec<Row<'_>>],
+    groups: &[Vec<EntryRow<'_>>],
     options: &MergeOptions,
 ) -> Result<TextParts, PoError>
     requires { (all : List (List merge.NamedEntry)) × AreGroups text.now all groups.now }

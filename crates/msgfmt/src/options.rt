@@ -2,7 +2,7 @@
 ghost use Rattle.std.specs.Prelude.{◌≡◌, codes};
 ghost use Rattle.std.specs.Option.{option_copied};
 ghost use Rattle.msgfmt.specs.Options.{AreMsgfmtOptions, order_of};
-ghost use Rattle.runs.specs.Given.{IsTextOr};
+ghost use Rattle.runs.specs.ArgumentValues.{IsTextOr};
 
 use mo_file::Order;
 use runs::{Arguments, text_or};

@@ -38,7 +38,7 @@ pub use run_laws::{
     one_ngettext_run,
 };
 pub use runs::{
-    Arguments, FileKind, Input, InputFault, InputSource, Inputs, NotMade, OutputFault, OutputFiles,
-    Owner, ProgramFault, Rights, Run, STANDARD, STDIN_NAME, deliver, read_one, read_whole,
-    report_fault, shown_name, write_run,
+    Arguments, FileKind, Input, InputFault, InputSource, Inputs, MakeFault, OutputFault,
+    OutputFiles, Owner, ProgramFault, Rights, Run, STANDARD, STDIN_NAME, deliver, read_one,
+    read_whole, report_fault, shown_name, write_run,
 };

@@ -1,7 +1,7 @@
 //! Inputs by their names, and outputs.
 use devices::Counted;
 use runs::{
-    FileKind, InputFault, InputSource, NotMade, OutputFault, OutputFiles, Owner, ProgramFault,
+    FileKind, InputFault, InputSource, MakeFault, OutputFault, OutputFiles, Owner, ProgramFault,
     Rights, Run, read_whole,
 };
 use std::alloc::Global;
@@ -139,15 +139,15 @@ impl<'r> OutputFiles for SystemFiles<'r> {
         u32::from_ne_bytes(bytes)
     }
 
-    fn create_new(&mut self, path: &str, mode: u32) -> Result<Opened, NotMade> {
+    fn create_new(&mut self, path: &str, mode: u32) -> Result<Opened, MakeFault> {
         let mut options = OpenOptions::new();
         options.write(true).create_new(true).mode(mode);
         match options.open(self.rt, path) {
             Ok(file) => Ok(Opened::File(file)),
             Err(error) => Err(match error.kind() {
-                ErrorKind::AlreadyExists => NotMade::Exists,
-                ErrorKind::PermissionDenied | ErrorKind::ReadOnlyFilesystem => NotMade::Forbidden,
-                _ => NotMade::Failed,
+                ErrorKind::AlreadyExists => MakeFault::Exists,
+                ErrorKind::PermissionDenied | ErrorKind::ReadOnlyFilesystem => MakeFault::Forbidden,
+                _ => MakeFault::Failed,
             }),
         }
     }

@@ -9,4 +9,4 @@ mod FilledOutputs
 mod WholeOutputs
 mod AskedInTurn
 mod InputsInTurn
-pub mod GivenLemmas
+pub mod ArgumentLemmas

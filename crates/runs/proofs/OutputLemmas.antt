@@ -5,8 +5,8 @@ use Rattle.devices.specs.Device.{AppendsPrefix}
 use Rattle.devices.specs.declared.fault.ToolFault.{ToolFault}
 use Rattle.runs.specs.declared.output_files.OutputFault.{OutputFault}
 use Rattle.runs.specs.declared.output_files.FileKind.TheVariants.{Regular}
-use Rattle.runs.specs.declared.output_files.NotMade.{NotMade}
-use Rattle.runs.specs.declared.output_files.NotMade.TheVariants.{Exists}
+use Rattle.runs.specs.declared.output_files.MakeFault.{MakeFault}
+use Rattle.runs.specs.declared.output_files.MakeFault.TheVariants.{Exists}
 use Rattle.runs.specs.declared.output_files.Rights.{Rights}
 use Rattle.runs.specs.FileCalls.{FileCall, FileLog, Course, done, fails, ◌▸◌, calls_of, logged, Runs, asks, reads_link, numbers, makes, fails_to_make, closes}
 use Rattle.runs.specs.FileRights.{first_mode}
@@ -80,7 +80,7 @@ module _ {output path : List ℕ} {old : Option Rights} {tries bits : ℕ} (numb
       (done-for (λ course are. taken are) rest)))
 
   -- none can be made
-  pub after-unmade : {new : List ℕ} (why : NotMade) → new ≡ beside path number → bits ≡ first_mode old
+  pub after-unmade : {new : List ℕ} (why : MakeFault) → new ≡ beside path number → bits ≡ first_mode old
       → named ≡ logged (numbers number ∷ []) before → tried ≡ logged (fails_to_make new bits why ∷ []) named
       → Runs tried end fault (λ rest. Replaces output path old tries (numbers number ▸ fails_to_make (beside path number) (first_mode old) why ▸ rest))
       → Runs before end fault (Replaces output path old tries)

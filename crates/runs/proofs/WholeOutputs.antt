@@ -1,7 +1,7 @@
 -- An output file is there whole, or as it was, and gives nobody more than before.
 use Rattle.std.proofs.Common.{◌≡◌, ◌≢◌, ◌⊎◌, inl, inr, ℕ, List, Option, Some, None, refl, sym, subst}
 use Rattle.runs.specs.declared.output_files.FileKind.TheVariants.{Regular, Special, Unknown}
-use Rattle.runs.specs.declared.output_files.NotMade.TheVariants.{Exists, Forbidden, Failed}
+use Rattle.runs.specs.declared.output_files.MakeFault.TheVariants.{Exists, Forbidden, Failed}
 use Rattle.runs.specs.declared.output_files.OutputFault.TheVariants.{CannotCreate, OutOfMemory}
 use Rattle.runs.specs.declared.output_files.Owner.{Owner}
 use Rattle.runs.specs.declared.output_files.Rights.{Rights}

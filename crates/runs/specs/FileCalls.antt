@@ -1,7 +1,7 @@
 -- The calls of the system by which an output is made, each with its answer, in their order.
 use Rattle.std.specs.Prelude.{◌≡◌, ℕ, Bool, List, [], ◌∷◌, ◌++◌, Option, Some, None, option_map, Result, Ok, Err}
 use Rattle.runs.specs.declared.output_files.FileKind.{FileKind}
-use Rattle.runs.specs.declared.output_files.NotMade.{NotMade}
+use Rattle.runs.specs.declared.output_files.MakeFault.{MakeFault}
 use Rattle.runs.specs.declared.output_files.OutputFault.{OutputFault}
 use Rattle.runs.specs.declared.output_files.Owner.{Owner}
 
@@ -17,7 +17,7 @@ pub data FileCall : Type 0 where
   -- a file that wasn't there is made at the path, with this mode and these bytes
   makes : List ℕ → ℕ → Option (List ℕ) → FileCall
   -- none is made at the path with this mode
-  fails_to_make : List ℕ → ℕ → NotMade → FileCall
+  fails_to_make : List ℕ → ℕ → MakeFault → FileCall
   -- the file that is open is to get an owner, and whose it is then, where that is known
   sets_owner : Owner → Option Owner → FileCall
   -- the file that is open is to get the mode, and whether it did

@@ -12,7 +12,7 @@ pub mod OutputPaths
 pub mod OutputFiles
 pub mod OutputLaw
 pub mod Outputs
-pub mod Given
+pub mod ArgumentValues
 pub mod Ending
 pub mod Delivered
-pub mod SomeText
+pub mod EmptyOutput

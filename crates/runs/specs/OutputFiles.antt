@@ -4,7 +4,7 @@ use Rattle.std.specs.Prelude.{◌≡◌, ◌+◌, ◌<◌, ◌^◌, ℕ, Bool, t
 use Rattle.std.specs.Io.KnownBytes.{Appends}
 use Rattle.devices.specs.Device.{AppendsPrefix}
 use Rattle.runs.specs.declared.output_files.FileKind.TheVariants.{Regular, Special, Unknown}
-use Rattle.runs.specs.declared.output_files.NotMade.TheVariants.{Exists, Forbidden, Failed}
+use Rattle.runs.specs.declared.output_files.MakeFault.TheVariants.{Exists, Forbidden, Failed}
 use Rattle.runs.specs.declared.output_files.OutputFault.{OutputFault}
 use Rattle.runs.specs.declared.output_files.OutputFault.TheVariants.{CannotCreate, WriteFault, OutOfMemory}
 use Rattle.runs.specs.declared.output_files.Owner.{Owner}

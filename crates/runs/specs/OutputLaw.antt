@@ -9,7 +9,7 @@ use Rattle.std.specs.Path.{path_with_file_name}
 use Rattle.std.specs.Str.{bytes_eq}
 use Rattle.runs.specs.declared.output_files.FileKind.{FileKind}
 use Rattle.runs.specs.declared.output_files.FileKind.TheVariants.{Regular, Special, Unknown}
-use Rattle.runs.specs.declared.output_files.NotMade.TheVariants.{Forbidden}
+use Rattle.runs.specs.declared.output_files.MakeFault.TheVariants.{Forbidden}
 use Rattle.runs.specs.declared.output_files.Owner.{Owner}
 use Rattle.runs.specs.declared.output_files.Rights.{Rights}
 use Rattle.runs.specs.FileCalls.{FileCall, Course, done, fails, ◌▸◌, fault_of, asks, reads_link, makes}

@@ -1,7 +1,7 @@
 //! The options of a command line, as the tools ask for them.
 ghost use Rattle.std.specs.Prelude.{ℕ, Bool, List, Option, codes, map};
 ghost use Rattle.std.specs.Option.{option_copied};
-ghost use Rattle.runs.specs.Given.{IsTextOr};
+ghost use Rattle.runs.specs.ArgumentValues.{IsTextOr};
 
 use crate::run::STANDARD;
 

@@ -23,7 +23,7 @@ pub use arguments::{Arguments, input_of, inputs_of, output_of, text_or};
 pub use ending::Ending;
 pub use fault_text::{push_location, push_mo_text, push_numbered, push_po_text};
 pub use inputs::{Input, InputFault, InputSource, Inputs, read_one, read_whole};
-pub use output_files::{FileKind, NotMade, OutputFault, OutputFiles, Owner, Rights};
+pub use output_files::{FileKind, MakeFault, OutputFault, OutputFiles, Owner, Rights};
 pub use outputs::write_run;
 pub use program_fault::{ProgramFault, report_fault};
 pub use run::{Run, STANDARD, STDIN_NAME, deliver, refused, shown_name};

@@ -38,7 +38,7 @@ pub enum FileKind {
 
 /// Why a new file isn't made.
 #[derive(Clone, Copy, Debug, PartialEq, Eq)]
-pub enum NotMade {
+pub enum MakeFault {
     /// A file with this name is there.
     Exists,
     /// No file may be made in the folder.
@@ -87,7 +87,7 @@ pub trait OutputFiles {
         ensures { log self.new ≡ logged (numbers result ∷ []) (log self.old) };
 
     /// Makes a file that isn't there yet, with this mode less the umask, and opens it.
-    fn create_new(&mut self, path: &str, mode: u32) -> Result<Self::File, NotMade>
+    fn create_new(&mut self, path: &str, mode: u32) -> Result<Self::File, MakeFault>
         ensures { MatchResult result
             (λ file. log self.new ≡ logged (makes path.now mode (Self.File.contents file) ∷ []) (log self.old))
             (λ why. log self.new ≡ logged (fails_to_make path.now mode why ∷ []) (log self.old)) };

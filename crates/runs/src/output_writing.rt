@@ -3,7 +3,7 @@ ghost use Rattle.std.specs.Prelude.{◌≡◌};
 ghost use Rattle.runs.specs.FileCalls.{Call, Runs, fault_in};
 ghost use Rattle.runs.specs.OutputFiles.{Closes, Fills, Finishes, Puts, Replaces, WritesFile, WritesInPlace, WritesStream};
 
-use crate::output_files::{FileKind, NotMade, OutputFault, OutputFiles, Rights};
+use crate::output_files::{FileKind, MakeFault, OutputFault, OutputFiles, Rights};
 use crate::output_paths::{beside, link_target, stream_named};
 use crate::output_rights::{first_mode, kept_mode};
 use devices::{Counted, put_all};
@@ -66,17 +66,17 @@ fn replace<T: OutputFiles>(
     };
     match files.create_new(&new, first_mode(old)) {
         Ok(file) => fill(files, file, path, &new, old, output),
-        Err(NotMade::Exists) => {
+        Err(MakeFault::Exists) => {
             if tries == 0 {
                 return Err(OutputFault::CannotCreate);
             }
             replace(alloc, files, path, old, output, tries - 1)
         }
-        Err(NotMade::Forbidden) => match old {
+        Err(MakeFault::Forbidden) => match old {
             Some(_) => write_in_place(files, path, output),
             None => Err(OutputFault::CannotCreate),
         },
-        Err(NotMade::Failed) => Err(OutputFault::CannotCreate),
+        Err(MakeFault::Failed) => Err(OutputFault::CannotCreate),
     }
 }
 

@@ -7,7 +7,7 @@ use Rattle.po_messages.specs.Duplicate.{IsFirstDuplicate, duplicate_fault}
 use Rattle.po_messages.specs.Joined.{InputEntry, in_input}
 use Rattle.po_messages.specs.Message.{Message, entry_message}
 use Rattle.text_runs.specs.declared.repeats.Numbered.{Numbered}
-use Rattle.text_runs.specs.declared.repeats.Place.{Place}
+use Rattle.text_runs.specs.declared.repeats.EntryPlace.{EntryPlace}
 use Rattle.text_runs.specs.declared.repeats.Seen.{Seen}
 
 -- the numbers of the entries' messages
@@ -15,10 +15,10 @@ abbrev pub are_numbered : (Message → ℕ) → List TextEntry → List ℕ
 are_numbered number_of entries = map (λ e. number_of (entry_message e)) entries
 
 -- where the entries stand, and which of them are looked at
-abbrev pub place_of : (TextEntry → Bool) → TextEntry → Place
+abbrev pub place_of : (TextEntry → Bool) → TextEntry → EntryPlace
 place_of is_there entry = record { line = entry.line; is_live = is_there entry }
 
-abbrev pub are_placed : (TextEntry → Bool) → List TextEntry → List Place
+abbrev pub are_placed : (TextEntry → Bool) → List TextEntry → List EntryPlace
 are_placed is_there entries = map (place_of is_there) entries
 
 abbrev pub numbered : (Message → ℕ) → TextEntry → Numbered

@@ -15,17 +15,17 @@ use std::alloc::{AllocError, Global};
 
 /// How long the context of a message is, where it has one, and its msgid.
 #[derive(Clone, Copy)]
-pub struct KeyLengths {
+pub struct KeySpans {
     pub context: Option<usize>,
     pub id: usize,
 }
 
 /// The messages of some entries.
 #[derive(Drop)]
-pub struct Keys {
+pub struct KeyBuffer {
     /// The context and the msgid of each, one behind the other.
     pub bytes: Vec<u8>,
-    pub lengths: Vec<KeyLengths>,
+    pub lengths: Vec<KeySpans>,
 }
 
 /// Cuts off so many, or all where there are fewer.
@@ -51,7 +51,7 @@ fn split_context(bytes: &[u8], len: Option<usize>) -> (Option<&[u8]>, &[u8])
 }
 
 /// The first message, whose lengths these are, and the bytes after it.
-fn split_key<'b>(bytes: &'b [u8], lengths: &KeyLengths) -> (MessageKey<'b>, &'b [u8])
+fn split_key<'b>(bytes: &'b [u8], lengths: &KeySpans) -> (MessageKey<'b>, &'b [u8])
     ensures { (entry : TextEntry) (rest : List ℕ) → bytes.now ≡ key_bytes entry ++ rest
         → lengths.now ≡ key_lengths entry → (message_of result.0 ≡ entry_message entry) × (result.1.now ≡ rest) }
 {
@@ -80,12 +80,12 @@ fn append_optional(bytes: &mut Vec<u8>, text: Option<&[u8]>) -> Result<(), Alloc
     }
 }
 
-impl Keys {
+impl KeyBuffer {
     /// No messages.
-    pub fn new(alloc: Global) -> Keys
+    pub fn new(alloc: Global) -> KeyBuffer
         ensures { HoldKeys [] result }
     {
-        Keys {
+        KeyBuffer {
             bytes: Vec::new(alloc),
             lengths: Vec::new(alloc),
         }
@@ -98,7 +98,7 @@ impl Keys {
     {
         append_optional(&mut self.bytes, entry.context())?;
         self.bytes.extend_from_slice(entry.id())?;
-        self.lengths.push(KeyLengths {
+        self.lengths.push(KeySpans {
             context: optional_len(entry.context()),
             id: entry.id().len(),
         })?;

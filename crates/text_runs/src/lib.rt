@@ -8,6 +8,6 @@ mod keys;
 mod repeats;
 mod run_of_text;
 
-pub use keys::{KeyLengths, Keys, split_at_most};
-pub use repeats::{Numbered, Place, Seen, duplicate, repeated_lines};
+pub use keys::{KeyBuffer, KeySpans, split_at_most};
+pub use repeats::{EntryPlace, Numbered, Seen, duplicate, repeated_lines};
 pub use run_of_text::{refused_text, text_run};

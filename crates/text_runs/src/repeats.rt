@@ -12,7 +12,7 @@ use std::mem::replace;
 
 /// Where an entry stands, and whether it is looked at.
 #[derive(Clone, Copy)]
-pub struct Place {
+pub struct EntryPlace {
     /// The line of its msgid.
     pub line: u32,
     /// Whether it is live, where duplicates are looked for.
@@ -32,7 +32,7 @@ pub struct Numbered {
 fn live_ones(
     alloc: Global,
     numbers: &[usize],
-    places: &[Place],
+    places: &[EntryPlace],
 ) -> Result<Vec<Numbered>, AllocError>
     requires { length numbers.now ≡ length places.now }
     ensures { IfOk result (λ live. (number_of : Message → ℕ) (is_there : TextEntry → Bool) (entries : List TextEntry)
@@ -114,7 +114,7 @@ pub fn repeated_lines(
     seen: &mut Vec<Seen>,
     round: usize,
     numbers: &[usize],
-    places: &[Place],
+    places: &[EntryPlace],
 ) -> Result<Option<(u32, u32)>, AllocError>
     requires lengths { length numbers.now ≡ length places.now }
     requires round { 0 < round }

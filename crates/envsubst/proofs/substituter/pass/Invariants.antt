@@ -1,5 +1,5 @@
 use Rattle.std.proofs.Common.{◌≡◌, ◌≤◌, ◌+◌, ◌-◌, ◌*◌, ◌++◌, min, true, length, drop}
-use Rattle.envsubst.specs.Holding.{is_undecided}
+use Rattle.envsubst.specs.PendingReference.{is_undecided}
 use Rattle.envsubst.specs.Sorted.{values_of_replacements}
 use Rattle.envsubst.specs.Stream.{Advances}
 use Rattle.envsubst.proofs.substituter.pass.Given as goal

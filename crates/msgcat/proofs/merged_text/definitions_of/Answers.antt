@@ -6,12 +6,12 @@ use Rattle.po_merge.specs.EntryLaws.{IsSameButLine}
 use Rattle.po_merge.specs.Inputs.{NamedEntry}
 use Rattle.po_merge.specs.InputsView.{named_entries}
 use Rattle.msgcat.specs.Entries.{IsRow}
-use Rattle.msgcat.specs.declared.entries.Row.{Row}
+use Rattle.msgcat.specs.declared.entries.EntryRow.{EntryRow}
 use Rattle.po_messages.specs.Facts.Zips.{zip_length}
 use Rattle.msgcat.proofs.MergedLemmas.{definition_more}
 use Rattle.msgcat.proofs.merged_text.definitions_of.Goals as goal
 
-abbrev none : Row
+abbrev none : EntryRow
 none = record { name = record { ref_ptr = (0, 0); now = [] }; start = 0; end = 0; is_live = false; is_header = false }
 
 pub loop-index-preserved : goal.loop-index-preserved

@@ -4,11 +4,11 @@ use Rattle.po_entry.specs.Validity.{IsCatalogueEntry}
 use Rattle.po_merge.specs.Merged.{IsMergeFault, is_kept}
 use Rattle.po_writer.specs.TextParts.{AreParts}
 use Rattle.msgcat.specs.Entries.{AreRows}
-use Rattle.msgcat.specs.declared.entries.Row.{Row}
+use Rattle.msgcat.specs.declared.entries.EntryRow.{EntryRow}
 use Rattle.msgcat.proofs.MergedLemmas.{kept, message_copied, message_merged, one_of}
 use Rattle.msgcat.proofs.merged_text.push_message.Goals as goal
 
-abbrev none : Row
+abbrev none : EntryRow
 none = record { name = record { ref_ptr = (0, 0); now = [] }; start = 0; end = 0; is_live = false; is_header = false }
 
 pub returns-then-rows-lt2-clause-pushed : goal.returns-then-rows-lt2-clause-pushed

@@ -1,5 +1,5 @@
 use Rattle.std.proofs.Common.{◌≡◌, ◌∙◌, ◌+◌, ◌-◌, arith}
-use Rattle.runs.specs.declared.output_files.NotMade.TheVariants.{Exists, Forbidden, Failed}
+use Rattle.runs.specs.declared.output_files.MakeFault.TheVariants.{Exists, Forbidden, Failed}
 use Rattle.runs.specs.OutputFiles.{unnamed, all_taken, in_place, forbidden, failed}
 use Rattle.runs.proofs.OutputLemmas.{after-call, after-made, after-taken, after-unmade, done-for, is-fault}
 use Rattle.runs.proofs.output_writing.+replace.Goals as goal

@@ -1,6 +1,6 @@
 use Rattle.std.proofs.Common.{map}
 use Rattle.envsubst.specs.UsageView.{envsubst_arguments}
-use Rattle.runs.proofs.GivenLemmas.{taken_of}
+use Rattle.runs.proofs.ArgumentLemmas.{taken_of}
 use Rattle.envsubst.proofs.arguments.EnvsubstArguments.given.Goals as goal
 
 pub returns : goal.returns

@@ -4,14 +4,14 @@ use Rattle.std.proofs.lemmas.List.{map_push}
 use Rattle.text_runs.specs.Keys.{key_bytes, key_lengths}
 use Rattle.po_messages.specs.Message.{entry_message}
 use Rattle.po_messages.specs.MessageView.{message_of, messages}
-use Rattle.text_runs.specs.declared.keys.KeyLengths.{KeyLengths}
+use Rattle.text_runs.specs.declared.keys.KeySpans.{KeySpans}
 use Rattle.text_runs.proofs.KeyLemmas.{element_at}
-use Rattle.text_runs.proofs.keys.Keys.list.Goals as goal
+use Rattle.text_runs.proofs.keys.KeyBuffer.list.Goals as goal
 
 pub loop-lengths-preserved : goal.loop-lengths-preserved
 loop-lengths-preserved c = λ entries h.
     let i = c.loop-lengths.lengths-index in
-    let none : KeyLengths = record { context = None; id = 0 } in
+    let none : KeySpans = record { context = None; id = 0 } in
     let lengths = c.deref-lengths-items.ensures.value ∙ h.lengths in
     let at = element_at key_lengths key_lengths entries c.deref-lengths-items.result.now c.deref-lengths-items.result.now i none none lengths lengths c.loop-lengths-test.true in
     let so_far = c.loop-lengths.invariant entries h in

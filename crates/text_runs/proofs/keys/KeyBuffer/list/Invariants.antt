@@ -4,7 +4,7 @@ use Rattle.po_entry.specs.TextEntry.{TextEntry}
 use Rattle.text_runs.specs.Keys.{HoldKeys, key_bytes}
 use Rattle.po_messages.specs.Message.{entry_message}
 use Rattle.po_messages.specs.MessageView.{messages}
-use Rattle.text_runs.proofs.keys.Keys.list.Given as goal
+use Rattle.text_runs.proofs.keys.KeyBuffer.list.Given as goal
 
 abbrev pub invariant-loop-lengths : goal.invariant-loop-lengths
 invariant-loop-lengths l =

@@ -1,9 +1,9 @@
 -- What the arguments of a command line mean for gettext and ngettext.
-use Rattle.std.specs.Prelude.{◌≡◌, ℕ, Bool, List, codes, Result}
+use Rattle.std.specs.Prelude.{ℕ, Bool, List, codes, Result}
 use Rattle.gettext.specs.declared.arguments.GettextArguments.{GettextArguments}
 use Rattle.gettext.specs.declared.arguments.NgettextArguments.{NgettextArguments}
 use Rattle.runs.specs.declared.program_fault.ProgramFault.{ProgramFault}
-use Rattle.runs.specs.Given.{IsTaken}
+use Rattle.runs.specs.ArgumentValues.{IsTaken}
 use Rattle.gettext.specs.Usage.{gettext_usage, ngettext_usage}
 use Rattle.gettext.specs.UsageView.{gettext_arguments, ngettext_arguments}
 

@@ -1,8 +1,8 @@
 -- What the arguments of a command line mean for envsubst.
-use Rattle.std.specs.Prelude.{◌≡◌, ℕ, Bool, List, codes, Result}
+use Rattle.std.specs.Prelude.{ℕ, Bool, List, codes, Result}
 use Rattle.envsubst.specs.declared.arguments.EnvsubstArguments.{EnvsubstArguments}
 use Rattle.runs.specs.declared.program_fault.ProgramFault.{ProgramFault}
-use Rattle.runs.specs.Given.{IsTaken}
+use Rattle.runs.specs.ArgumentValues.{IsTaken}
 use Rattle.envsubst.specs.Usage.{envsubst_usage}
 use Rattle.envsubst.specs.UsageView.{envsubst_arguments}
 
