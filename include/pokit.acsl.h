@@ -235,6 +235,41 @@ void pokit_catalog_look(const pokit_catalog *catalog, const pokit_query *query, 
 size_t pokit_candidate(const uint8_t *locale, size_t locale_len, const uint8_t *language, size_t language_len,
                        pokit_position *position, uint8_t *name, size_t size);
 
+/*@ axiomatic PokitSystem {
+      // system_count
+      logic integer pokit_system_messages{L}(uint8_t *bytes, integer len) reads bytes[0 .. len - 1];
+    }
+*/
+
+/*@ requires bytes != \null && \valid_read(bytes + (0 .. len - 1));
+    assigns \result \from bytes, len, bytes[0 .. len - 1];
+    ensures count: \result == pokit_system_messages(bytes, len);
+*/
+uint32_t pokit_system_count(const uint8_t *bytes, size_t len);
+
+/*@ requires bytes != \null && \valid_read(bytes + (0 .. len - 1));
+    requires texts != \null && \valid_read(texts + (0 .. count - 1));
+    requires \forall integer i; 0 <= i < count ==> pokit_readable(texts[i].name) && pokit_readable(texts[i].text);
+    requires room != \null && \valid(room + (0 .. size - 1)) && \valid(ends);
+    requires \separated(room + (0 .. size - 1), bytes + (0 .. len - 1)) && \separated(ends, bytes + (0 .. len - 1))
+      && \separated(room + (0 .. size - 1), texts + (0 .. count - 1)) && \separated(ends, texts + (0 .. count - 1))
+      && \separated(room + (0 .. size - 1), ends);
+    requires \forall integer i; 0 <= i < count ==>
+      \separated(room + (0 .. size - 1), texts[i].name.ptr + (0 .. texts[i].name.len - 1))
+      && \separated(room + (0 .. size - 1), texts[i].text.ptr + (0 .. texts[i].text.len - 1))
+      && \separated(ends, texts[i].name.ptr + (0 .. texts[i].name.len - 1))
+      && \separated(ends, texts[i].text.ptr + (0 .. texts[i].text.len - 1));
+    assigns room[0 .. size - 1], *ends, \result
+      \from bytes, len, bytes[0 .. len - 1], texts, count, texts[0 .. count - 1], index, room, size, *ends;
+    ensures which: \result <= POKIT_NO_ROOM;
+    // follows from written's IsExpanded
+    ensures inside: \result == POKIT_WRITTEN ==> ends->original <= ends->translation <= size;
+    ensures unchanged: \result != POKIT_WRITTEN ==>
+      ends->original == \old(ends->original) && ends->translation == \old(ends->translation);
+*/
+uint32_t pokit_system_message(const uint8_t *bytes, size_t len, const pokit_platform_text *texts, size_t count,
+                              uint32_t index, uint8_t *room, size_t size, pokit_ends *ends);
+
 /* What is proved of the functions of pokit.h. */
 
 /*@ predicate pokit_is_catalog{L}(pokit_catalog *c) =

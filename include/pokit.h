@@ -163,7 +163,28 @@ typedef struct pokit_walk {
     size_t language_len;
 } pokit_walk;
 
+/* What a platform has in place of a name in system-dependent strings: for PRIu64 it may be "lu". */
+typedef struct pokit_platform_text {
+    pokit_bytes name;
+    pokit_bytes text;
+} pokit_platform_text;
+
+/* Where the strings of a system-dependent message end in the room that they were written to. */
+typedef struct pokit_ends {
+    size_t original;    /* the end of the original, which begins at 0 */
+    size_t translation; /* the end of the translation, which begins where the original ends */
+} pokit_ends;
+
+/* What has become of such a message. */
+enum pokit_written {
+    POKIT_WRITTEN = 0,
+    POKIT_NO_MESSAGE = 1, /* a text that it needs isn't given, or a string of it isn't well formed */
+    POKIT_NO_ROOM = 2
+};
+
 /* The structs are those that the library was compiled with. */
+typedef char pokit_platform_text_has_32_bytes[sizeof(pokit_platform_text) == 32 ? 1 : -1];
+typedef char pokit_ends_has_16_bytes[sizeof(pokit_ends) == 16 ? 1 : -1];
 typedef char pokit_bytes_has_16_bytes[sizeof(pokit_bytes) == 16 ? 1 : -1];
 typedef char pokit_instruction_has_8_bytes[sizeof(pokit_instruction) == 8 ? 1 : -1];
 typedef char pokit_catalog_has_32800_bytes[sizeof(pokit_catalog) == 32800 ? 1 : -1];
@@ -189,6 +210,18 @@ void pokit_catalog_look(const pokit_catalog *catalog, const pokit_query *query, 
 #define POKIT_END SIZE_MAX
 size_t pokit_candidate(const uint8_t *locale, size_t locale_len, const uint8_t *language, size_t language_len,
                        pokit_position *position, uint8_t *name, size_t size);
+
+/* System-dependent messages. Strings of a file whose minor revision is 1 or above may have names in them, as PRIu64,
+ * for which each platform has texts of its own. Such messages stand in tables of their own, where no look-up finds
+ * them. pokit_system_count says how many a file has. pokit_system_message completes one, counted from 0, by texts:
+ * it writes the original and then the translation to the beginning of `room`, without a NUL after either, and says
+ * where they end. Else the result is an enum pokit_written, `ends` is as it was, and what the room has is left open.
+ * No more than `size` bytes are written. The bytes of the file may be any, and each call takes time in proportion to
+ * what it writes and to the number of texts; a string has 256 segments at most. A program that wants them found
+ * makes a file of its messages and these, as the drop-in for libintl does. */
+uint32_t pokit_system_count(const uint8_t *bytes, size_t len);
+uint32_t pokit_system_message(const uint8_t *bytes, size_t len, const pokit_platform_text *texts, size_t count,
+                              uint32_t index, uint8_t *room, size_t size, pokit_ends *ends);
 
 /* The contracts of these functions, which Frama-C proves. */
 #ifdef __FRAMAC__

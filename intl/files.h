@@ -1,8 +1,5 @@
 /* Catalogues, each read once and kept by its path. All of this is called under the lock. */
-enum {
-    LARGEST_FILE = 1 << 28, /* bytes */
-    SHORT_RULE = 240        /* bytes of a plural expression that libpokit reads on little stack */
-};
+enum { SHORT_RULE = 240 }; /* bytes of a plural expression that libpokit reads on little stack */
 
 struct file {
     struct file *next;
@@ -79,6 +76,22 @@ static bool opens(struct opening *it)
     return on_large_stack(open_catalog, it) != NULL;
 }
 
+/* The catalogue with the system-dependent messages of its file, where it has some; else the catalogue itself. */
+static const pokit_catalog *with_system_messages(pokit_catalog *catalog, size_t size)
+{
+    struct opening it = {.len = 0};
+    it.catalog = expanded(catalog, &it.len);
+    if (it.catalog == NULL)
+        return catalog;
+    size_t expanded_size = sizeof(pokit_catalog) + it.len;
+    if (opens(&it) && it.error == POKIT_OK && mprotect(it.catalog, expanded_size, PROT_READ) == 0) {
+        munmap(catalog, size);
+        return it.catalog;
+    }
+    munmap(it.catalog, expanded_size);
+    return catalog;
+}
+
 /* Reads and checks an open file. `*again` tells that only memory was missing. */
 static const pokit_catalog *read_catalog(int fd, bool *again)
 {
@@ -98,7 +111,7 @@ static const pokit_catalog *read_catalog(int fd, bool *again)
     else if (it.error != POKIT_OK)
         tell(pokit_error_text(it.error), it.error >= POKIT_STRING_OUTSIDE ? (int64_t)it.message : -1);
     else if (mprotect(catalog, size, PROT_READ) == 0)
-        return catalog;
+        return with_system_messages(catalog, size);
     else
         *again = true;
     munmap(catalog, size);

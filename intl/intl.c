@@ -12,6 +12,7 @@
 #define _GNU_SOURCE
 #include <errno.h>
 #include <fcntl.h>
+#include <inttypes.h>
 #include <iconv.h>
 #include <langinfo.h>
 #include <limits.h>
@@ -37,6 +38,8 @@
 #define EXPORT __attribute__((visibility("default")))
 
 #include "memory.h"
+
+#include "expanded.h"
 
 #include "files.h"
 

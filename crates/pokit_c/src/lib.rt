@@ -5,10 +5,13 @@
 //! checks the bytes of an MO file once and reads the plural rule of their header entry;
 //! [`pokit_catalog_look`](looking::pokit_catalog_look) answers a query.
 //! [`pokit_candidate`](candidate::pokit_candidate) names the locales whose catalogues are looked
-//! for. None of them allocates, and there is no state besides the arguments. C calls them by the
+//! for. [`pokit_system_count`](system_message::pokit_system_count) and
+//! [`pokit_system_message`](system_message::pokit_system_message) complete system-dependent messages.
+//! None of them allocates, and there is no state besides the arguments. C calls them by the
 //! inline functions of include/pokit.h.
 //!
-//! The modules in reading order: `catalog`, `fault`, `opening`, `query`, `looking`, `candidate`.
+//! The modules in reading order: `catalog`, `fault`, `opening`, `query`, `looking`, `candidate`,
+//! `system_message`.
 
 #![tactic(auto)]
 
@@ -18,3 +21,4 @@ mod fault;
 mod looking;
 mod opening;
 mod query;
+mod system_message;

@@ -1,0 +1,41 @@
+-- Internal: what it is to write a text into a part of some room.
+use Rattle.std.specs.Prelude.{◌≡◌, ℕ, ◌+◌, ◌<◌, ◌≤◌, List, ◌++◌, length, take, option_map, Option, None, Some}
+use Rattle.std.specs.List.{slice_range}
+use Rattle.mo_expand.specs.declared.joining.Segment.{Segment}
+use Rattle.mo_expand.specs.declared.joining.Segment.TheVariants.{Last, Before}
+use Rattle.mo_expand.specs.Segments.{join}
+use Rattle.mo_expand.specs.declared.joining.Written.{Written}
+use Rattle.mo_expand.specs.declared.joining.Written.TheVariants.{Ends, Absent, Full}
+
+-- the room has a text from one offset up to another, and what stood before it
+pub record HasText (old new : List ℕ) (start end : ℕ) (text : List ℕ) : Type 0 where
+  pub order : start ≤ end
+  pub inside : end ≤ length new
+  pub before : take start new ≡ take start old
+  pub is : slice_range new start end ≡ text
+
+-- the text is there up to an offset, or there is no room for it
+abbrev pub IsPut : List ℕ → List ℕ → ℕ → List ℕ → Option ℕ → Type 0
+IsPut old new start text (Some end) = HasText old new start end text
+IsPut old new start text None = length old < start + length text
+
+-- what has become of a text that may not be there
+abbrev pub IsWritten : List ℕ → List ℕ → ℕ → Option (List ℕ) → Written → Type 0
+IsWritten old new start text (Ends end) =
+    (text ≡ Some (slice_range new start end)) × HasText old new start end (slice_range new start end)
+IsWritten old new start text Absent = text ≡ None
+IsWritten old new start text Full = (t : List ℕ) → text ≡ Some t → length old < start + length t
+
+-- the text of a segment that was read, and of those after it
+abbrev pub with_rest : Option Segment → Option (List ℕ) → Option (List ℕ)
+with_rest None rest = None
+with_rest (Some (Last text)) rest = Some text.now
+with_rest (Some (Before literal text)) rest = join (Some literal.now) (Some text.now) rest
+
+-- the beginning of a whole text is there up to an offset, and this is the rest of it
+pub record IsJoining (old room : List ℕ) (start at : ℕ) (whole rest : Option (List ℕ)) : Type 0 where
+  pub order : start ≤ at
+  pub inside : at ≤ length room
+  pub len : length room ≡ length old
+  pub before : take start room ≡ take start old
+  pub is : whole ≡ option_map (λ r. slice_range room start at ++ r) rest

@@ -1,0 +1,33 @@
+-- Laws of system-dependent messages.
+use Rattle.std.specs.Prelude.{◌≡◌, ℕ, List, [], ◌∷◌, None, Some, codes}
+use Rattle.mo_file.specs.declared.byte_order.Order.{Order}
+use Rattle.mo_file.specs.declared.byte_order.Order.TheVariants.{Little, Big}
+use Rattle.mo_expand.specs.declared.platform_text.PlatformText.{PlatformText}
+use Rattle.mo_expand.specs.Expanded.{system_message}
+
+-- a file with no message but a system-dependent one: its strings are `%`, the text for PRIu64, and ` kB` or ` ko`
+abbrev pub example_file : Order → List ℕ
+example_file Little =
+    222 ∷ 18 ∷ 4 ∷ 149 ∷ 1 ∷ 0 ∷ 0 ∷ 0 ∷ 0 ∷ 0 ∷ 0 ∷ 0 ∷ 28 ∷ 0 ∷ 0 ∷ 0 ∷ 28 ∷ 0 ∷ 0 ∷ 0 ∷ 0 ∷ 0 ∷ 0 ∷ 0 ∷ 28 ∷
+    0 ∷ 0 ∷ 0 ∷ 1 ∷ 0 ∷ 0 ∷ 0 ∷ 48 ∷ 0 ∷ 0 ∷ 0 ∷ 1 ∷ 0 ∷ 0 ∷ 0 ∷ 56 ∷ 0 ∷ 0 ∷ 0 ∷ 60 ∷ 0 ∷ 0 ∷ 0 ∷ 7 ∷ 0 ∷ 0 ∷
+    0 ∷ 104 ∷ 0 ∷ 0 ∷ 0 ∷ 64 ∷ 0 ∷ 0 ∷ 0 ∷ 84 ∷ 0 ∷ 0 ∷ 0 ∷ 111 ∷ 0 ∷ 0 ∷ 0 ∷ 1 ∷ 0 ∷ 0 ∷ 0 ∷ 0 ∷ 0 ∷ 0 ∷ 0 ∷ 4 ∷
+    0 ∷ 0 ∷ 0 ∷ 255 ∷ 255 ∷ 255 ∷ 255 ∷ 116 ∷ 0 ∷ 0 ∷ 0 ∷ 1 ∷ 0 ∷ 0 ∷ 0 ∷ 0 ∷ 0 ∷ 0 ∷ 0 ∷ 4 ∷ 0 ∷ 0 ∷ 0 ∷ 255 ∷
+    255 ∷ 255 ∷ 255 ∷ 80 ∷ 82 ∷ 73 ∷ 117 ∷ 54 ∷ 52 ∷ 0 ∷ 37 ∷ 32 ∷ 107 ∷ 66 ∷ 0 ∷ 37 ∷ 32 ∷ 107 ∷ 111 ∷ 0 ∷ []
+example_file Big =
+    149 ∷ 4 ∷ 18 ∷ 222 ∷ 0 ∷ 0 ∷ 0 ∷ 1 ∷ 0 ∷ 0 ∷ 0 ∷ 0 ∷ 0 ∷ 0 ∷ 0 ∷ 28 ∷ 0 ∷ 0 ∷ 0 ∷ 28 ∷ 0 ∷ 0 ∷ 0 ∷ 0 ∷ 0 ∷
+    0 ∷ 0 ∷ 28 ∷ 0 ∷ 0 ∷ 0 ∷ 1 ∷ 0 ∷ 0 ∷ 0 ∷ 48 ∷ 0 ∷ 0 ∷ 0 ∷ 1 ∷ 0 ∷ 0 ∷ 0 ∷ 56 ∷ 0 ∷ 0 ∷ 0 ∷ 60 ∷ 0 ∷ 0 ∷ 0 ∷
+    7 ∷ 0 ∷ 0 ∷ 0 ∷ 104 ∷ 0 ∷ 0 ∷ 0 ∷ 64 ∷ 0 ∷ 0 ∷ 0 ∷ 84 ∷ 0 ∷ 0 ∷ 0 ∷ 111 ∷ 0 ∷ 0 ∷ 0 ∷ 1 ∷ 0 ∷ 0 ∷ 0 ∷ 0 ∷ 0 ∷
+    0 ∷ 0 ∷ 4 ∷ 255 ∷ 255 ∷ 255 ∷ 255 ∷ 0 ∷ 0 ∷ 0 ∷ 116 ∷ 0 ∷ 0 ∷ 0 ∷ 1 ∷ 0 ∷ 0 ∷ 0 ∷ 0 ∷ 0 ∷ 0 ∷ 0 ∷ 4 ∷ 255 ∷
+    255 ∷ 255 ∷ 255 ∷ 80 ∷ 82 ∷ 73 ∷ 117 ∷ 54 ∷ 52 ∷ 0 ∷ 37 ∷ 32 ∷ 107 ∷ 66 ∷ 0 ∷ 37 ∷ 32 ∷ 107 ∷ 111 ∷ 0 ∷ []
+
+-- a platform that has `lu` for PRIu64 has the message in either byte order, and no other
+abbrev pub ExampleIsCompleted : Type 0
+ExampleIsCompleted =
+    (order : Order) (t : PlatformText) → t.name.now ≡ codes "PRIu64" → t.text.now ≡ codes "lu"
+    → (system_message order (example_file order) (t ∷ []) 0
+    ≡ Some (record { original = codes "%lu kB"; translation = codes "%lu ko" }))
+    × (system_message order (example_file order) (t ∷ []) 1 ≡ None)
+
+-- a platform that lacks it hasn't
+abbrev pub ExampleNeedsItsText : Type 0
+ExampleNeedsItsText = (order : Order) → system_message order (example_file order) [] 0 ≡ None

@@ -1,0 +1,128 @@
+//! The messages of system-dependent strings, one at a time.
+
+ghost use Rattle.std.specs.Prelude.{◌≡◌, ◌<◌, ◌≤◌, length};
+ghost use Rattle.mo_file.specs.declared.byte_order.Order.{Order};
+ghost use Rattle.mo_file.specs.FileHeader.{HasMagicOf};
+ghost use Rattle.mo_expand.specs.declared.expanding.Expanded.TheVariants.{Absent};
+ghost use Rattle.mo_expand.specs.Expanded.{system_count, system_message, message_from};
+ghost use Rattle.mo_expand.specs.Segments.{text_at};
+ghost use Rattle.mo_expand.specs.Expanding.{IsExpanded};
+
+use crate::joining::{Written, put_text};
+use crate::platform_text::PlatformText;
+use crate::segments::word;
+use mo_file::Order;
+
+/// What has become of a message.
+#[derive(Clone, Copy, Debug)]
+pub enum Expanded {
+    /// Its original is there, and ends at the first offset; then its translation, which ends at the
+    /// other.
+    Ends(usize, usize),
+    /// There is no such message: the platform lacks a text, or a string isn't well formed.
+    Absent,
+    /// There is no room for it.
+    Full,
+}
+
+/// How many system-dependent messages a file has, of which the platform may lack some.
+pub fn system_count(bytes: &[u8]) -> u32
+    ensures count { (order : Order) → HasMagicOf order bytes.now → result ≡ system_count order bytes.now }
+    ensures no_file { ((order : Order) → ¬ HasMagicOf order bytes.now) → result ≡ 0 }
+{
+    match Order::of_file(bytes) {
+        Some(order) => count_in(order, bytes),
+        None => 0,
+    }
+}
+
+/// The same in a byte order that is known.
+fn count_in(order: Order, bytes: &[u8]) -> u32
+    ensures count { result ≡ system_count order bytes.now }
+    ensures long { 0 < result → 48 ≤ length bytes.now }
+{
+    if bytes.len() < 48 || word(order, bytes, 4) & 0xffff == 0 {
+        return 0;
+    }
+    let count = word(order, bytes, 36);
+    let table_len = 4 * count as usize;
+    if word(order, bytes, 40) as usize + table_len > bytes.len()
+        || word(order, bytes, 44) as usize + table_len > bytes.len()
+    {
+        return 0;
+    }
+    count
+}
+
+/// Completes a system-dependent message by the texts of a platform, and writes its original and
+/// then its translation, each without a NUL at its end, from the beginning of `room` on.
+pub fn expand<'b>(
+    bytes: &'b [u8],
+    texts: &[PlatformText<'b>],
+    index: u32,
+    room: &mut [u8],
+) -> Expanded
+    ensures len { length room.new ≡ length room.old }
+    ensures message { (order : Order) → HasMagicOf order bytes.now
+        → IsExpanded room.old room.new (system_message order bytes.now texts.now index) result }
+    ensures no_file { ((order : Order) → ¬ HasMagicOf order bytes.now) → result ≡ Absent }
+{
+    match Order::of_file(bytes) {
+        Some(order) => expand_in(order, bytes, texts, index, room),
+        None => Expanded::Absent,
+    }
+}
+
+/// The same in a byte order that is known.
+fn expand_in<'b>(
+    order: Order,
+    bytes: &'b [u8],
+    texts: &[PlatformText<'b>],
+    index: u32,
+    room: &mut [u8],
+) -> Expanded
+    ensures len { length room.new ≡ length room.old }
+    ensures message { IsExpanded room.old room.new (system_message order bytes.now texts.now index) result }
+{
+    if index >= count_in(order, bytes) {
+        return Expanded::Absent;
+    }
+    let original = word(
+        order,
+        bytes,
+        word(order, bytes, 40) as usize + 4 * index as usize,
+    );
+    let translation = word(
+        order,
+        bytes,
+        word(order, bytes, 44) as usize + 4 * index as usize,
+    );
+    put_message(order, bytes, texts, original, translation, room)
+}
+
+/// Writes the original and the translation that are described at two offsets.
+fn put_message<'b>(
+    order: Order,
+    bytes: &'b [u8],
+    texts: &[PlatformText<'b>],
+    original: u32,
+    translation: u32,
+    room: &mut [u8],
+) -> Expanded
+    requires { 48 ≤ length bytes.now }
+    ensures len { length room.new ≡ length room.old }
+    ensures message { IsExpanded room.old room.new (message_from
+        (text_at order bytes.now texts.now original) (text_at order bytes.now texts.now translation)) result }
+{
+    match put_text(order, bytes, texts, original, room, 0) {
+        Written::Ends(middle) => {
+            match put_text(order, bytes, texts, translation, room, middle) {
+                Written::Ends(end) => Expanded::Ends(middle, end),
+                Written::Absent => Expanded::Absent,
+                Written::Full => Expanded::Full,
+            }
+        }
+        Written::Absent => Expanded::Absent,
+        Written::Full => Expanded::Full,
+    }
+}

@@ -1,0 +1,19 @@
+//! System-dependent strings of MO files: strings with names as PRIu64, for which each platform has
+//! texts of its own ("The Format of GNU MO Files").
+//!
+//! [`system_count`] says how many messages with such strings a file has, and [`expand`] completes one
+//! of them by the texts of a platform, in room that the caller hands in. The bytes may be of any
+//! origin.
+//!
+//! The modules in reading order: `platform_text`, `segments`, `joining`, `expanding`, `laws`.
+#![tactic(auto)]
+
+mod expanding;
+mod joining;
+mod laws;
+mod platform_text;
+mod segments;
+
+pub use expanding::{Expanded, expand, system_count};
+pub use laws::{example_is_completed, example_needs_its_text};
+pub use platform_text::PlatformText;
