@@ -1,4 +1,4 @@
-mod ToolNames
+mod Arguing
 mod Words
 mod LineSteps
 mod CutLines

@@ -1,4 +1,7 @@
 pub mod Tools
+pub mod Arguments
+pub mod Offering
+pub mod Kind
 pub mod SpelledOut
 pub mod OwnTip
 pub mod Reworded

@@ -1,7 +1,5 @@
 -- The tools that the program has, by their names.
-use Rattle.std.specs.Prelude.{◌≡◌, ℕ, List, [], ◌∷◌, map, Option, Some, None, codes}
-use Rattle.clap.specs.Built.{names_in}
-use Rattle.clap.specs.declared.builder.command.Command.{Command}
+use Rattle.std.specs.Prelude.{ℕ, List, [], ◌∷◌, map, Option, Some, None, codes}
 use Rattle.command_line.specs.declared.tool.Tool.{Tool}
 use Rattle.command_line.specs.declared.tool.Tool.TheVariants.{Msgfmt, Msgunfmt, Msgattrib, Msgcat, Gettext, Ngettext}
 use Rattle.command_line.specs.declared.tool.Tool.TheVariants.{Envsubst}
@@ -22,7 +20,3 @@ every_tool = Msgfmt ∷ Msgunfmt ∷ Msgattrib ∷ Msgcat ∷ Gettext ∷ Ngette
 abbrev pub offered : Option Tool → List (List ℕ)
 offered None = map tool_name every_tool
 offered (Some tool) = tool_name tool ∷ []
-
--- the command has this name
-abbrev pub IsNamed : Command → List ℕ → Type 0
-IsNamed command name = names_in (command ∷ []) ≡ name ∷ []

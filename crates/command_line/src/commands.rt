@@ -1,8 +1,16 @@
 //! The arguments that each tool takes, as `clap` commands.
-ghost use Rattle.std.specs.Prelude.{◌≡◌, ◌∷◌, [], IfOk, codes, map};
-ghost use Rattle.clap.specs.Built.{names_in, subcommand_names};
-ghost use Rattle.clap.specs.Facts.{subcommands_of};
-ghost use Rattle.command_line.specs.Tools.{IsNamed, every_tool, offered, tool_name};
+ghost use Rattle.std.specs.Prelude.{◌≡◌, ◌∷◌, [], IfOk, List, Some, codes, false, map, ℕ};
+ghost use Rattle.std.specs.Borrow.{Bor};
+ghost use Rattle.clap.specs.Built.{subcommand_names};
+ghost use Rattle.clap.specs.Simple.{app_of, new_app};
+ghost use Rattle.clap.specs.Walk.{rule_of, texts};
+ghost use Rattle.clap.specs.declared.builder.command.Command.TheViews.{out-Command};
+ghost use Rattle.clap.specs.declared.builder.value_parser.ValueParser.TheVariants.{Names};
+ghost use Rattle.command_line.specs.Arguments.{IsRuleOf};
+ghost use Rattle.command_line.specs.Kind.{argument_of};
+ghost use Rattle.command_line.specs.Offering.{AddsArguments, IsToolCommand, OffersTools, offered_tools};
+ghost use Rattle.command_line.specs.Tools.{every_tool, offered};
+ghost use Rattle.command_line.specs.declared.tool.Tool.TheVariants as tool;
 
 use crate::help;
 use crate::tool::Tool;
@@ -196,7 +204,8 @@ static ENVSUBST: [Argument; 2] = [
 /// The command of the whole program. Where the first argument names a tool, it has the command of
 /// that tool alone.
 pub fn program<'a>(alloc: Global, first: Option<Tool>) -> Result<Command<'a>, AllocError>
-    ensures { IfOk result (λ program. subcommand_names program ≡ offered first) }
+    ensures names { IfOk result (λ program. subcommand_names program ≡ offered first) }
+    ensures takes { IfOk result (OffersTools (offered_tools first)) }
 {
     match first {
         Some(tool) => without_tools(alloc).subcommand(command_of(alloc, tool)?),
@@ -206,7 +215,7 @@ pub fn program<'a>(alloc: Global, first: Option<Tool>) -> Result<Command<'a>, Al
 
 /// The command of the whole program with the commands of all tools.
 fn with_every_tool<'a>(alloc: Global) -> Result<Command<'a>, AllocError>
-    ensures { IfOk result (λ program. subcommand_names program ≡ map tool_name every_tool) }
+    ensures { IfOk result (OffersTools every_tool) }
 {
     let mut program = without_tools(alloc);
     for tool in &TOOLS {
@@ -217,7 +226,7 @@ fn with_every_tool<'a>(alloc: Global) -> Result<Command<'a>, AllocError>
 
 /// The command of the whole program, without its tools.
 fn without_tools<'a>(alloc: Global) -> Command<'a>
-    ensures { subcommand_names result ≡ [] }
+    ensures { OffersTools [] result }
 {
     described(alloc, "pokit", help::ABOUT, help::PROGRAM)
         .disable_version_flag(true)
@@ -227,7 +236,7 @@ fn without_tools<'a>(alloc: Global) -> Command<'a>
 
 /// The command of a tool.
 fn command_of<'a>(alloc: Global, tool: Tool) -> Result<Command<'a>, AllocError>
-    ensures { IfOk result (λ command. IsNamed command (tool_name tool)) }
+    ensures { IfOk result (IsToolCommand tool) }
 {
     match tool {
         Tool::Msgfmt => msgfmt(alloc),
@@ -242,7 +251,7 @@ fn command_of<'a>(alloc: Global, tool: Tool) -> Result<Command<'a>, AllocError>
 
 /// The command `msgfmt` with its options and arguments.
 fn msgfmt<'a>(alloc: Global) -> Result<Command<'a>, AllocError>
-    ensures { IfOk result (λ command. IsNamed command (codes "msgfmt")) }
+    ensures { IfOk result (IsToolCommand tool.Msgfmt) }
 {
     let about = "Compiles PO texts to one MO file";
     let command = described(alloc, "msgfmt", about, help::MSGFMT);
@@ -251,7 +260,7 @@ fn msgfmt<'a>(alloc: Global) -> Result<Command<'a>, AllocError>
 
 /// The command `msgunfmt` with its options and arguments.
 fn msgunfmt<'a>(alloc: Global) -> Result<Command<'a>, AllocError>
-    ensures { IfOk result (λ command. IsNamed command (codes "msgunfmt")) }
+    ensures { IfOk result (IsToolCommand tool.Msgunfmt) }
 {
     let about = "Writes the PO text of an MO file";
     let command = described(alloc, "msgunfmt", about, help::MSGUNFMT);
@@ -260,7 +269,7 @@ fn msgunfmt<'a>(alloc: Global) -> Result<Command<'a>, AllocError>
 
 /// The command `msgattrib` with its options and arguments.
 fn msgattrib<'a>(alloc: Global) -> Result<Command<'a>, AllocError>
-    ensures { IfOk result (λ command. IsNamed command (codes "msgattrib")) }
+    ensures { IfOk result (IsToolCommand tool.Msgattrib) }
 {
     let about = "Selects entries of a PO text and changes them";
     let command = described(alloc, "msgattrib", about, help::MSGATTRIB);
@@ -269,7 +278,7 @@ fn msgattrib<'a>(alloc: Global) -> Result<Command<'a>, AllocError>
 
 /// The command `msgcat` with its options and arguments.
 fn msgcat<'a>(alloc: Global) -> Result<Command<'a>, AllocError>
-    ensures { IfOk result (λ command. IsNamed command (codes "msgcat")) }
+    ensures { IfOk result (IsToolCommand tool.Msgcat) }
 {
     let about = "Merges PO texts, message by message";
     let command = described(alloc, "msgcat", about, help::MSGCAT);
@@ -278,7 +287,7 @@ fn msgcat<'a>(alloc: Global) -> Result<Command<'a>, AllocError>
 
 /// The command `gettext` with its options and arguments.
 fn gettext<'a>(alloc: Global) -> Result<Command<'a>, AllocError>
-    ensures { IfOk result (λ command. IsNamed command (codes "gettext")) }
+    ensures { IfOk result (IsToolCommand tool.Gettext) }
 {
     let about = "Prints the translation of a message";
     let command = described(alloc, "gettext", about, help::GETTEXT).override_usage(
@@ -289,7 +298,7 @@ fn gettext<'a>(alloc: Global) -> Result<Command<'a>, AllocError>
 
 /// The command `ngettext` with its options and arguments.
 fn ngettext<'a>(alloc: Global) -> Result<Command<'a>, AllocError>
-    ensures { IfOk result (λ command. IsNamed command (codes "ngettext")) }
+    ensures { IfOk result (IsToolCommand tool.Ngettext) }
 {
     let about = "Prints the translation of a message with a count";
     let command = described(alloc, "ngettext", about, help::NGETTEXT).override_usage(
@@ -300,7 +309,7 @@ fn ngettext<'a>(alloc: Global) -> Result<Command<'a>, AllocError>
 
 /// The command `envsubst` with its options and arguments.
 fn envsubst<'a>(alloc: Global) -> Result<Command<'a>, AllocError>
-    ensures { IfOk result (λ command. IsNamed command (codes "envsubst")) }
+    ensures { IfOk result (IsToolCommand tool.Envsubst) }
 {
     let about = "Puts the values of variables into standard input";
     let command = described(alloc, "envsubst", about, help::ENVSUBST).override_usage(
@@ -311,8 +320,8 @@ fn envsubst<'a>(alloc: Global) -> Result<Command<'a>, AllocError>
 
 /// A command with what its help says before and after its arguments.
 fn described<'a>(alloc: Global, name: &'a str, about: &'a str, after: &'a str) -> Command<'a>
-    ensures name { IsNamed result name.entry.now }
-    ensures alone { subcommands_of result ≡ [] }
+    ensures app { app_of result ≡ new_app name.entry.now }
+    ensures local { (out-Command result).has_globals ≡ false }
 {
     Command::new(alloc, name).about(about).after_help(after)
 }
@@ -323,7 +332,7 @@ fn with_arguments<'a>(
     command: Command<'a>,
     arguments: &[Argument],
 ) -> Result<Command<'a>, AllocError>
-    ensures { IfOk result (λ made. names_in (made ∷ []) ≡ names_in (command.entry ∷ [])) }
+    ensures { IfOk result (AddsArguments (map (λ a. argument_of a.0.now a.1) arguments.now) command.entry) }
 {
     let mut command = command;
     for argument in arguments {
@@ -333,7 +342,11 @@ fn with_arguments<'a>(
 }
 
 /// An argument or an option, as `clap` has it.
-fn arg_of<'a>(alloc: Global, (name, kind, help): Argument) -> Arg<'a> {
+fn arg_of<'a>(alloc: Global, argument: Argument) -> Arg<'a>
+    ensures rule { IsRuleOf (argument_of argument.entry.0.now argument.entry.1) (rule_of result) }
+    ensures local { result.global ≡ false }
+{
+    let (name, kind, help) = argument;
     let arg = Arg::new(alloc, name).help(help);
     match kind {
         File => arg,
@@ -353,6 +366,10 @@ fn arg_of<'a>(alloc: Global, (name, kind, help): Argument) -> Arg<'a> {
 }
 
 /// The option that names a byte order.
-fn byte_order<'a>(arg: Arg<'a>) -> Arg<'a> {
+fn byte_order<'a>(arg: Arg<'a>) -> Arg<'a>
+    ensures rule { (orders : Bor (List (Bor (List ℕ)))) × (texts orders.now ≡ codes "little" ∷ codes "big" ∷ [])
+        × (rule_of result ≡ record (rule_of arg.entry) { value_names = 1; parser = Some (Names orders) }) }
+    ensures local { result.global ≡ arg.entry.global }
+{
     arg.value_name("ORDER").value_parser(BYTE_ORDERS.as_slice())
 }

@@ -1,6 +1,8 @@
-use Rattle.std.proofs.Common.{◌≡◌, [], ◌∷◌}
-use Rattle.clap.specs.Built.{names_in}
+use Rattle.std.proofs.Common.{map, take}
+use Rattle.command_line.specs.Kind.{argument_of}
+use Rattle.command_line.specs.Offering.{AddsArguments}
 use Rattle.command_line.proofs.commands.with_arguments.Given as goal
 
 abbrev pub invariant-loop-argument : goal.invariant-loop-argument
-invariant-loop-argument l = names_in (l.command ∷ []) ≡ names_in (l.initial.command ∷ [])
+invariant-loop-argument l =
+    AddsArguments (map (λ a. argument_of a.0.now a.1) (take l.argument-index l.arguments)) l.initial.command l.command
