@@ -1,21 +1,23 @@
--- What is laid out is a valid file.
-use Rattle.std.proofs.Common.{◌≡◌, ℕ, suc, ◌+◌, ◌*◌, ◌^◌, ◌<◌, List, [], ◌∷◌, ◌++◌, length, Some, refl, sym, ◌∙◌}
+-- What is laid out is a valid file, of whatever revision it is.
+use Rattle.std.proofs.Common.{◌≡◌, ℕ, suc, ◌+◌, ◌*◌, ◌/◌, ◌^◌, ◌<◌, ◌≤◌, List, [], ◌∷◌, ◌++◌, length, take, drop, Some, refl, sym, ◌∙◌}
 use Rattle.std.proofs.Common.{ap, subst, arith, append_assoc, length-append, inl, inr}
 use Rattle.std.specs.List.{slice_get}
 use Rattle.std.specs.Option.{option_map}
-use Rattle.std.proofs.lemmas.List.{append-nil, length-map, take_at}
+use Rattle.std.proofs.lemmas.List.{append-nil, length-map, take_at, drop_at}
 use Rattle.std.proofs.lemmas.Option.{slice_get-map, slice_get_cases, slice_get_past}
 use Rattle.mo_file.specs.declared.byte_order.Order.{Order}
 use Rattle.mo_file.specs.declared.file_header.FileHeader.{FileHeader}
 use Rattle.mo_file.specs.Word.{word_bytes}
-use Rattle.mo_file.specs.FileHeader.{HasMagicOf, magic, revision, message_count, originals_table, translations_table}
+use Rattle.mo_file.specs.FileHeader.{HasMagicOf, hash_size, magic, revision, message_count, originals_table, translations_table}
 use Rattle.mo_file.specs.Message.{Message, originals, translations}
 use Rattle.mo_file.specs.Key.{AreRising, keys}
 use Rattle.mo_file.specs.StringTable.{messages_of, message_at}
-use Rattle.mo_file.specs.Layout.{header, layout, originals_offset, table, terminated, translations_offset}
+use Rattle.mo_file.specs.Layout.{layout, originals_offset, table, terminated, translations_offset}
+use Rattle.mo_file.specs.Revision.{IsKnownMajor, zeroth, first, layout_of_revision}
+use Rattle.mo_file.specs.MoFile.{IsMoFile}
 use Rattle.mo_file.specs.Checking.{AreRisingBelow, HasStrings, IsHeader}
-use Rattle.mo_file.specs.Laws.{LayoutIsMoFile}
-use Rattle.mo_file.proofs.BuildLemmas.{length-header, length-layout, length-magic, length-table, length-word_bytes}
+use Rattle.mo_file.specs.Laws.{KnownRevisionsAreValid, LayoutIsMoFile, NoHashTableIsLaidOut}
+use Rattle.mo_file.proofs.BuildLemmas.{length-layout, length-magic, length-table, length-word_bytes}
 use Rattle.mo_file.proofs.FaultLemmas.{faultless}
 use Rattle.mo_file.proofs.LayoutLemmas.{IsString, IsString-laid_out, StandsAt, word_at-StandsAt}
 use Rattle.mo_file.proofs.ViewLemmas.{keys-at, length-keys-messages_of, length-messages_of, messages_of-at}
@@ -30,16 +32,13 @@ same_at_each (x ∷ xs) (y ∷ ys) same =
     let rest = same_at_each xs ys (λ i. same (suc i)) in
     cc
 
-module _ (order : Order) (messages : List Message) where
-  abbrev bytes : List ℕ
-  bytes = layout order messages
-
+module _ (order : Order) (number : ℕ) (messages : List Message) where
   abbrev count : ℕ
   count = length messages
 
   -- the words of the header
   abbrev revision_word : List ℕ
-  revision_word = word_bytes order 0
+  revision_word = word_bytes order number
 
   abbrev count_word : List ℕ
   count_word = word_bytes order count
@@ -69,6 +68,18 @@ module _ (order : Order) (messages : List Message) where
   abbrev body : List ℕ
   body = original_entries ++ (translation_entries ++ (original_strings ++ translation_strings))
 
+  abbrev bytes : List ℕ
+  bytes = magic order ++ (revision_word ++ (count_word ++ (originals_word ++ (translations_word ++ (hash_words ++ body)))))
+
+  abbrev header_words : List ℕ
+  header_words = magic order ++ (revision_word ++ (count_word ++ (originals_word ++ (translations_word ++ hash_words))))
+
+  header_length : length header_words ≡ 28
+  header_length = simp (length-append, length-magic, length-word_bytes)
+
+  bytes_length : length bytes ≡ 28 + 16 * count + length original_strings + length translation_strings
+  bytes_length = simp (length-append, length-magic, length-word_bytes, length-table, length-map) (omega arith)
+
   -- a part of the layout
   stands : (prefix part rest : List ℕ) (offset : ℕ) → bytes ≡ prefix ++ (part ++ rest) → length prefix ≡ offset →
       StandsAt bytes offset part
@@ -77,19 +88,26 @@ module _ (order : Order) (messages : List Message) where
   shows : HasMagicOf order bytes
   shows =
       let rest = revision_word ++ (count_word ++ (originals_word ++ (translations_word ++ (hash_words ++ body)))) in
-      let split : bytes ≡ magic order ++ rest = simp append_assoc in
-      rw split (take_at (magic order) rest 4 (length-magic order))
+      take_at (magic order) rest 4 (length-magic order)
 
-  revision_is : revision order bytes ≡ 0
-  revision_is =
+  revision_is : number < 2 ^ 32 → revision order bytes ≡ number
+  revision_is below =
       let rest = count_word ++ (originals_word ++ (translations_word ++ (hash_words ++ body))) in
-      word_at-StandsAt order bytes 4 0
+      word_at-StandsAt order bytes 4 number
       (stands (magic order) revision_word rest 4 (simp append_assoc) (length-magic order))
+      below
+
+  hash_size_is : hash_size order bytes ≡ 0
+  hash_size_is =
+      let prefix = magic order ++ (revision_word ++ (count_word ++ (originals_word ++ translations_word))) in
+      let rest = word_bytes order (28 + 16 * count) ++ body in
+      word_at-StandsAt order bytes 20 0
+      (stands prefix (word_bytes order 0) rest 20 (simp append_assoc) (simp (length-append, length-magic, length-word_bytes)))
       (omega arith)
 
   module _ (fits : length bytes < 2 ^ 32) where
     small : 28 + 16 * count + length original_strings + length translation_strings < 2 ^ 32
-    small = rw (length-layout order messages) at fits
+    small = rw bytes_length at fits
 
     count_is : message_count order bytes ≡ count
     count_is =
@@ -117,26 +135,26 @@ module _ (order : Order) (messages : List Message) where
     -- where the tables and the strings stand
     original_entries_stand : StandsAt bytes (originals_table order bytes) original_entries
     original_entries_stand =
-        let prefix = header order count in
+        let prefix = header_words in
         let rest = translation_entries ++ (original_strings ++ translation_strings) in
-        stands prefix original_entries rest (originals_table order bytes) (simp append_assoc) (length-header order count ∙ sym originals_table_is)
+        stands prefix original_entries rest (originals_table order bytes) (simp append_assoc) (header_length ∙ sym originals_table_is)
 
     translation_entries_stand : StandsAt bytes (translations_table order bytes) translation_entries
     translation_entries_stand =
-        let prefix = header order count ++ original_entries in
+        let prefix = header_words ++ original_entries in
         let rest = original_strings ++ translation_strings in
         stands prefix translation_entries rest (translations_table order bytes) (simp append_assoc)
         (simp (length-append, length-magic, length-word_bytes, length-table, length-map) (omega (arith, translations_table_is)))
 
     original_strings_stand : StandsAt bytes (originals_offset messages) original_strings
     original_strings_stand =
-        let prefix = header order count ++ (original_entries ++ translation_entries) in
+        let prefix = header_words ++ (original_entries ++ translation_entries) in
         stands prefix original_strings translation_strings (originals_offset messages) (simp append_assoc)
         (simp (length-append, length-magic, length-word_bytes, length-table, length-map) (omega arith))
 
     translation_strings_stand : StandsAt bytes (translations_offset messages) translation_strings
     translation_strings_stand =
-        let prefix = header order count ++ (original_entries ++ (translation_entries ++ original_strings)) in
+        let prefix = header_words ++ (original_entries ++ (translation_entries ++ original_strings)) in
         stands prefix translation_strings [] (translations_offset messages) (simp (append_assoc, append-nil))
         (simp (length-append, length-magic, length-word_bytes, length-table, length-map) (omega arith))
 
@@ -175,13 +193,13 @@ module _ (order : Order) (messages : List Message) where
     abbrev read_header : FileHeader
     read_header = record { order = order; count = count; originals = 28; translations = 28 + 8 * count }
 
-    header_read : IsHeader read_header bytes
-    header_read =
-        let len = length-layout order messages in
+    header_read : number / 65536 ≤ 1 → number < 2 ^ 32 → IsHeader read_header bytes
+    header_read major below =
+        let len = bytes_length in
         record {
           long = omega arith;
           shows = shows;
-          known = rw revision_is (omega arith);
+          known = rw (revision_is below) major;
           count = sym count_is;
           originals = sym originals_table_is;
           translations = sym translations_table_is;
@@ -220,11 +238,45 @@ module _ (order : Order) (messages : List Message) where
         let listed : i + 1 < length (keys (messages_of order bytes)) = omega (arith, length-keys-messages_of order bytes) in
         unsorted (rw (keys-at order bytes i (omega arith), keys-at order bytes (i + 1) inside) at (risen.next i listed))
 
+    file : AreRising (keys messages) → number / 65536 ≤ 1 → number < 2 ^ 32 → IsMoFile order bytes messages
+    file rising major below = record {
+      shows = shows;
+      faultless = faultless read_header bytes (header_read major below) strings_laid (sorted rising);
+      lists = lists;
+    }
+
+  -- the same bytes, as definitions put them together
+  is_of_revision : layout_of_revision order number messages ≡ bytes
+  is_of_revision =
+      let rest = count_word ++ (originals_word ++ (translations_word ++ (hash_words ++ body))) in
+      let whole : layout order messages ≡ (magic order ++ word_bytes order 0) ++ rest = simp append_assoc in
+      let front : layout order messages ≡ magic order ++ (word_bytes order 0 ++ rest) = simp append_assoc in
+      let first : take 4 (layout order messages) ≡ magic order =
+      rw front (take_at (magic order) (word_bytes order 0 ++ rest) 4 (length-magic order)) in
+      let last : drop 8 (layout order messages) ≡ rest =
+      rw whole (drop_at (magic order ++ word_bytes order 0) rest 8 (simp (length-append, length-magic, length-word_bytes))) in
+      rw (first, last) (simp append_assoc)
+
+is_laid_out : (order : Order) (messages : List Message) → layout order messages ≡ bytes order 0 messages
+is_laid_out order messages = simp append_assoc
+
 pub layout_is_mo_file : LayoutIsMoFile
-layout_is_mo_file order messages rising fits = record {
-  shows = shows order messages;
-  faultless =
-      faultless (read_header order messages fits) (bytes order messages) (header_read order messages fits)
-      (strings_laid order messages fits) (sorted order messages fits rising);
-  lists = lists order messages fits;
-}
+layout_is_mo_file order messages rising fits =
+    let is = is_laid_out order messages in
+    rw is (file order 0 messages (rw is at fits) rising (omega arith) (omega arith))
+
+pub no_hash_table_is_laid_out : NoHashTableIsLaidOut
+no_hash_table_is_laid_out order messages fits = rw (is_laid_out order messages) (hash_size_is order 0 messages)
+
+known_major : (major minor : ℕ) → IsKnownMajor major → minor < 65536
+    → ((65536 * major + minor) / 65536 ≤ 1) × (65536 * major + minor < 2 ^ 32)
+known_major major minor zeroth below = (omega arith, omega arith)
+known_major major minor first below = (omega arith, omega arith)
+
+pub known_revisions_are_valid : KnownRevisionsAreValid
+known_revisions_are_valid order major minor messages known below rising fits =
+    let number = 65536 * major + minor in
+    let major_is = known_major major minor known below in
+    let same : length (bytes order number messages) ≡ length (layout order messages) =
+    bytes_length order number messages ∙ sym (length-layout order messages) in
+    rw (is_of_revision order number messages) (file order number messages (omega arith) rising major_is.0 major_is.1)

@@ -29,3 +29,7 @@ originals_table order bytes = word_at order bytes 12
 -- where the table of the translations begins
 abbrev pub translations_table : Order → List ℕ → ℕ
 translations_table order bytes = word_at order bytes 16
+
+-- how many entries the hash table has, of which there are none where no hash table is
+abbrev pub hash_size : Order → List ℕ → ℕ
+hash_size order bytes = word_at order bytes 20

@@ -1,9 +1,11 @@
 -- Laws of the format.
-use Rattle.std.specs.Prelude.{◌≡◌, ◌⊎◌, ℕ, List}
+use Rattle.std.specs.Prelude.{◌≡◌, ◌⊎◌, ◌+◌, ◌*◌, ◌<◌, ℕ, List}
 use Rattle.mo_file.specs.declared.byte_order.Order.{Order}
 use Rattle.mo_file.specs.declared.fault.MoError.{MoError}
 use Rattle.mo_file.specs.Key.{keys, AreRising}
 use Rattle.mo_file.specs.Layout.{layout, LayoutFits}
+use Rattle.mo_file.specs.FileHeader.{hash_size}
+use Rattle.mo_file.specs.Revision.{IsKnownMajor, layout_of_revision}
 use Rattle.mo_file.specs.MoFile.{IsMoFile}
 use Rattle.mo_file.specs.Fault.{IsFirstFault}
 use Rattle.mo_file.specs.Message.{Message}
@@ -37,3 +39,15 @@ abbrev pub NoFaultOfMoFile : Type 0
 NoFaultOfMoFile =
     (bytes : List ℕ) (order : Order) (messages : List Message) (fault : MoError) → IsMoFile order bytes messages
     → IsFirstFault bytes fault → ⊥
+
+-- what is laid out has no hash table
+abbrev pub NoHashTableIsLaidOut : Type 0
+NoHashTableIsLaidOut =
+    (order : Order) (messages : List Message) → LayoutFits order messages → hash_size order (layout order messages) ≡ 0
+
+-- a file of any minor revision of major revision 0 or 1 is as valid as what is laid out
+abbrev pub KnownRevisionsAreValid : Type 0
+KnownRevisionsAreValid =
+    (order : Order) (major minor : ℕ) (messages : List Message) → IsKnownMajor major → minor < 65536
+    → AreRising (keys messages) → LayoutFits order messages
+    → IsMoFile order (layout_of_revision order (65536 * major + minor) messages) messages

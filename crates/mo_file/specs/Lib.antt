@@ -9,6 +9,7 @@ pub mod MoFile
 pub mod FileView
 pub mod Checking
 pub mod Layout
+pub mod Revision
 pub mod Pairs
 pub mod Building
 pub mod Laws

@@ -2,10 +2,22 @@
 //! a proof.
 
 ghost use Rattle.mo_file.specs.Laws.{OneMessageList, MoFileOrFault, LayoutIsMoFile, NoFaultOfMoFile, OneFirstFault};
+ghost use Rattle.mo_file.specs.Laws.{KnownRevisionsAreValid, NoHashTableIsLaidOut};
 
 /// What is laid out in the order of its keys is a valid file with these very messages.
 pub fn layout_is_mo_file()
     ensures { LayoutIsMoFile }
+{}
+
+/// What is laid out has no hash table: the size of it that the file header names is 0.
+pub fn no_hash_table_is_laid_out()
+    ensures { NoHashTableIsLaidOut }
+{}
+
+/// With any minor revision of the major revisions 0 and 1 in its place, what is laid out in the
+/// order of its keys stays a valid file with these very messages.
+pub fn known_revisions_are_valid()
+    ensures { KnownRevisionsAreValid }
 {}
 
 /// A file is valid in one byte order at most, and holds one list of messages.

@@ -33,7 +33,8 @@ pub use counting::Meter;
 pub use fault::MoError;
 pub use key::compare_key;
 pub use laws::{
-    layout_is_mo_file, mo_file_or_fault, no_fault_of_mo_file, one_first_fault, one_message_list,
+    known_revisions_are_valid, layout_is_mo_file, mo_file_or_fault, no_fault_of_mo_file,
+    no_hash_table_is_laid_out, one_first_fault, one_message_list,
 };
 pub use pairs::{BorrowedPair, Pair};
 pub use view::MoView;
