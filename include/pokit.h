@@ -25,8 +25,8 @@
  * the call of pokit_open has returned. pokit_open writes the catalogue and is called by one thread.
  *
  * Stack. pokit_open takes less than 1 KB of the stack where the plural expression has at most 240 bytes, and up to
- * 9 KB where it has more. A look-up takes less than 1.4 KB where the program of the expression has at most 128
- * instructions, which is more than any language needs, and up to 33 KB where it has more.
+ * 9 KB where it has more. A look-up takes less than 1 KB where the program of the expression has at most 128
+ * instructions, which is more than any language needs, and up to 17 KB where it has more.
  *
  * Charsets. A text is the bytes of the file: nothing is converted. pokit_charset answers the charset that the header
  * entry names.

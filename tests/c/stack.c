@@ -11,7 +11,7 @@
 enum { ROOM = 256 * 1024, FILLED = 0xa5 };
 
 /* What each call may take, in bytes. */
-enum { TO_OPEN = 1024, TO_OPEN_FAR = 9 * 1024, TO_LOOK = 1408, TO_LOOK_FAR = 33 * 1024, TO_MAKE_A_PATH = 6 * 1024 };
+enum { TO_OPEN = 1024, TO_OPEN_FAR = 9 * 1024, TO_LOOK = 1024, TO_LOOK_FAR = 17 * 1024, TO_MAKE_A_PATH = 6 * 1024 };
 
 static pokit_catalog catalog;
 static struct file file;

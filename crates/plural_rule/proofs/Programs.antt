@@ -46,7 +46,7 @@ after-binary n op rest values x (Some y) s later e =
     ap (λ o. go_on (run n rest) s (act n (BinaryAction o) (low_of rest) (y ∷ x ∷ values))) (operator_of-code op)
     ∙ after-value n rest values (combined op x y) s later e
 
-always-needed : (op : Operator) (x : ℕ) → is_lazy op ≡ false → needs_right op x ≡ true
+pub always-needed : (op : Operator) (x : ℕ) → is_lazy op ≡ false → needs_right op x ≡ true
 always-needed Or x e = absurd cc
 always-needed And x e = absurd cc
 always-needed Equal x e = refl

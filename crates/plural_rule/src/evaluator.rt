@@ -1,6 +1,6 @@
 //! The value of an expression at a count, by its program: one instruction after the other, with
 //! jumps that go forward only.
-ghost use Rattle.std.specs.Prelude.{◌≡◌, ℕ, ◌+◌, ◌*◌, ◌^◌, ◌<◌, ◌≤◌, List, ◌∷◌, length, drop, slice_index_or, ⊤, MatchOption, OnSome};
+ghost use Rattle.std.specs.Prelude.{◌≡◌, ℕ, ◌+◌, ◌*◌, ◌^◌, ◌<◌, ◌≤◌, List, ◌∷◌, length, drop, slice_index_or, ⊤, MatchOption};
 ghost use Rattle.plural_rule.specs.declared.instruction.Instruction.{Instruction};
 ghost use Rattle.plural_rule.specs.declared.instruction.Action.TheVariants.{Binary};
 ghost use Rattle.plural_rule.specs.Instruction.{action_of};
@@ -33,21 +33,21 @@ pub fn evaluate(instructions: &[Instruction], count: u64) -> (Option<u64>, u32)
     ensures bound { result.1 ≤ nodes (tree_of instructions.now) }
 {
     if instructions.len() <= TINY {
-        evaluate_within::<16>(instructions, count)
+        evaluate_within::<10>(instructions, count)
     } else if instructions.len() <= SHORT {
-        evaluate_within::<48>(instructions, count)
+        evaluate_within::<26>(instructions, count)
     } else if instructions.len() <= MEDIUM {
-        evaluate_within::<128>(instructions, count)
+        evaluate_within::<66>(instructions, count)
     } else {
-        evaluate_within::<4096>(instructions, count)
+        evaluate_within::<2050>(instructions, count)
     }
 }
 
-/// The same with room for `N` values.
+/// The same with room for `N` values: half of the instructions suffice, since an operator takes two.
 #[inline(never)]
 fn evaluate_within<const N: usize>(instructions: &[Instruction], count: u64) -> (Option<u64>, u32)
     requires program { instructions.now ≡ program 0 (tree_of instructions.now) }
-    requires room { length instructions.now ≤ N }
+    requires room { length instructions.now + 3 ≤ 2 * N }
     requires size { N ≤ expression_limit }
     ensures value { result.0 ≡ value (tree_of instructions.now) count }
     ensures steps { result.1 ≡ visited (tree_of instructions.now) count }
@@ -132,7 +132,6 @@ fn apply<const N: usize>(operator: Operator, right: u64, values: &mut Values<'_,
     requires { length values.old ≤ N }
     ensures leads { (count low steps : ℕ) →
         Leads (act count (Binary operator) low (right ∷ values.old)) result values.new steps steps }
-    ensures few { OnSome result (length values.new ≤ length values.old) }
 {
     let Some(left) = values.pop() else {
         return None;
@@ -158,7 +157,6 @@ fn act<const N: usize>(
     requires room { length values.old < N }
     requires steps { steps.old + 2 ^ 16 < 2 ^ 32 }
     ensures leads { Leads (act count action (low_of (drop next instructions.now)) values.old) result values.new steps.old steps.new }
-    ensures few { OnSome result (length values.new ≤ length values.old + 1) }
     ensures bound { steps.new < steps.old + 2 ^ 16 }
 {
     match action {

@@ -1,9 +1,11 @@
-use Rattle.std.proofs.Common.{◌≡◌, ◌∙◌, get_or, ℕ, List, [], ◌∷◌, Option, None, Some, MatchOption, refl, ap, arith}
+use Rattle.std.proofs.Common.{subst, ◌≡◌, ◌∙◌, ◌+◌, ◌-◌, drop, get_or, ℕ, List, [], ◌∷◌, Option, None, Some, MatchOption, refl, ap, arith}
+use Rattle.plural_rule.specs.declared.instruction.Action.TheVariants.{Binary}
 use Rattle.plural_rule.specs.Instruction.{action_of}
-use Rattle.plural_rule.specs.Program.{tree_of}
+use Rattle.plural_rule.specs.Program.{tree_of, low_of}
 use Rattle.plural_rule.specs.Run.{Outcome, newest_value}
 use Rattle.plural_rule.specs.declared.instruction.Instruction.{Instruction}
 use Rattle.plural_rule.proofs.Programs.{starts, begun-pair, goes-on, goes-on-pair, stops, stops-pair, ends}
+use Rattle.plural_rule.proofs.Depths.{Stays, stays-start, stays-next, stays-leaf, stays-room}
 use Rattle.plural_rule.proofs.Uniqueness.{visited-le-nodes}
 use Rattle.plural_rule.proofs.evaluator.evaluate_within.Goals as goal
 
@@ -15,16 +17,19 @@ loop-index-init g c =
     let empty = c.new-values.ensures in
     record {
       runs = starts c.args.count c.args.instructions.now (tree_of c.args.instructions.now) c.new-values.result c.requires.program empty;
-      few = rw empty (omega arith);
+      stays = stays-start (g.row.N - 1) c.args.count c.args.instructions.now (tree_of c.args.instructions.now) c.new-values.result c.requires.program empty (omega (arith, c.requires.room));
+      room = λ inside. rw empty (omega (arith, c.requires.room));
       bound = omega arith;
     }
 
 pub loop-index-preserved : goal.loop-index-preserved
 loop-index-preserved g c =
     let inside = c.loop-index-test.true in
+    let stays = stays-next (g.row.N - 1) c.args.count c.args.instructions.now c.loop-index.index _ c.action-action.result c.loop-index.values c.act.new.values c.loop-index.steps c.act.new.steps c.in-Some-act.skip inside c.loop-index.invariant.stays c.action-action.ensures c.in-Some-act.ensures.leads in
     record {
       runs = goes-on c.args.count c.args.instructions.now c.loop-index.index _ c.action-action.result c.loop-index.values c.act.new.values c.loop-index.steps c.act.new.steps c.in-Some-act.skip _ inside c.loop-index.invariant.runs c.action-action.ensures c.in-Some-act.ensures.leads;
-      few = omega (arith, c.in-Some-act.ensures.few, c.loop-index.invariant.few);
+      stays = stays;
+      room = λ more. omega (arith, stays-room _ _ _ _ none _ stays more, c.requires.room);
       bound = omega (arith, c.act.ensures.bound, c.loop-index.invariant.bound);
     }
 
@@ -47,9 +52,11 @@ loop-index-preserved-in_default-operator_at g c =
     let code = c.args.instructions.now in
     let i = c.loop-index.index in
     let values = c.loop-index.values in
+    let stays = stays-leaf (g.row.N - 1) c.args.count code i none (action_of (get_or code i none)) c.in-Some.operand _ values c.loop-index-test.true c.loop-index.invariant.stays refl c.in-Some.ensures.next in
     record {
       runs = rw c.push.ensures (begun-pair c.args.count code i _ (action_of (get_or code i none)) c.in-Some.operand _ values c.loop-index.steps _ c.loop-index-test.true c.loop-index.invariant.runs refl c.in-Some.ensures.next);
-      few = rw c.push.ensures (omega (arith, c.loop-index.invariant.few));
+      stays = rw c.push.ensures stays;
+      room = λ more. rw c.push.ensures (omega (arith, stays-room _ _ _ _ none _ stays more, c.requires.room));
       bound = omega (arith, c.loop-index.invariant.bound, c.leaf.ensures.fits);
     }
 
@@ -59,9 +66,14 @@ loop-index-preserved-in-Some g c =
     let i = c.loop-index.index in
     let at = c.in-Some-operator_at.ensures in
     let applied = c.in-Some-apply.ensures in
+    let first = stays-leaf (g.row.N - 1) c.args.count code i none (action_of (get_or code i none)) c.in-Some.operand _ c.loop-index.values c.loop-index-test.true c.loop-index.invariant.stays refl c.in-Some.ensures.next in
+    let there : i + 1 + 1 + c.in-Some-apply.skip ≡ i + 1 + (1 + c.in-Some-apply.skip) = omega arith in
+    let stays = subst (λ k. Stays (g.row.N - 1) c.args.count (drop k code) 0 c.apply.new.values) there
+    (stays-next (g.row.N - 1) c.args.count code (i + 1) none (Binary c.in-Some-operator_at.operator) (c.in-Some.operand ∷ c.loop-index.values) c.apply.new.values 0 0 c.in-Some-apply.skip at.0 first (at.1 none) (applied.leads c.args.count (low_of (drop (i + 1 + 1) code)) 0)) in
     record {
       runs = goes-on-pair c.args.count code i none none (action_of (get_or code i none)) c.in-Some-operator_at.operator c.in-Some.operand _ c.loop-index.values c.apply.new.values c.loop-index.steps c.in-Some-apply.skip _ at.0 c.loop-index.invariant.runs refl c.in-Some.ensures.next (at.1 none) (applied.leads c.args.count);
-      few = omega (arith, applied.few, c.loop-index.invariant.few);
+      stays = stays;
+      room = λ more. omega (arith, stays-room _ _ _ _ none _ stays more, c.requires.room);
       bound = omega (arith, c.loop-index.invariant.bound, c.leaf.ensures.fits);
     }
 
