@@ -5,3 +5,4 @@ pub mod ExpandedEscapes
 pub mod SeenNames
 pub mod GettextLemmas
 pub mod CatalogueLemmas
+mod WholeRuns

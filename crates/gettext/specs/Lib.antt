@@ -12,3 +12,4 @@ pub mod Options
 pub mod Usage
 pub mod UsageView
 pub mod ArgumentValues
+pub mod WholeRun

@@ -1,8 +1,8 @@
 //! gettext and ngettext as functions of their inputs: the locales and the paths of the catalogues of a
-//! text domain, what stands in arguments, and what each tool writes and reports.
+//! text domain, what stands in arguments, what each tool writes and reports, and each as a whole.
 //!
 //! The modules in reading order: `candidates`, `environment`, `paths`, `catalogues`, `count`, `escape`,
-//! `arguments`, `plan`, `options`, `laws`.
+//! `arguments`, `plan`, `options`, `whole_run`, `laws`.
 
 #![tactic(auto)]
 
@@ -16,6 +16,7 @@ pub mod laws;
 mod options;
 mod paths;
 mod plan;
+mod whole_run;
 
 pub use arguments::{GettextArguments, NgettextArguments};
 pub use candidates::{Environment, locale_candidates};
@@ -26,3 +27,4 @@ pub use escape::{Expanded, expand};
 pub use options::{find_domain, gettext_options_of, ngettext_options_of};
 pub use paths::{DEFAULT_FOLDER, catalogue_path, catalogue_paths};
 pub use plan::{GettextOptions, NgettextOptions, plan_gettext, plan_ngettext};
+pub use whole_run::{run_gettext, run_ngettext};

@@ -1,1 +1,2 @@
 pub mod SelectedLemmas
+mod WholeRuns

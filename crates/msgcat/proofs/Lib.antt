@@ -3,3 +3,4 @@ pub mod NulNames
 pub mod EntryLemmas
 pub mod InputLemmas
 pub mod MergedLemmas
+mod WholeRuns

@@ -3,3 +3,4 @@ pub mod Options
 pub mod Entries
 pub mod Inputs
 pub mod MergedText
+pub mod WholeRun

@@ -2,3 +2,4 @@ pub mod Profiles
 pub mod MsgfmtLemmas
 pub mod FirstFaults
 pub mod CheckedMessages
+pub mod WholeRuns

@@ -2,3 +2,4 @@ pub mod Msgfmt
 pub mod Profile
 pub mod ProfileFaults
 pub mod Options
+pub mod WholeRun

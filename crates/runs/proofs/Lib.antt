@@ -10,3 +10,6 @@ mod WholeOutputs
 mod AskedInTurn
 mod InputsInTurn
 pub mod ArgumentLemmas
+mod ToolRunLemmas
+mod WrittenRuns
+mod OneInputs

@@ -16,3 +16,5 @@ pub mod ArgumentValues
 pub mod Ending
 pub mod Delivered
 pub mod EmptyOutput
+pub mod ToolRuns
+pub mod WrittenLaw

@@ -10,7 +10,11 @@ ghost use Rattle.runs.specs.NamedFile.{NamedFile};
 ghost use Rattle.runs.specs.OutputFiles.{WritesFile};
 ghost use Rattle.runs.specs.OutputPaths.{NamesStream, beside, link_target};
 ghost use Rattle.runs.specs.OutputLaw.{IsWholeOrAsItWasThroughout};
+ghost use Rattle.runs.specs.Outputs.{SystemView};
 ghost use Rattle.runs.specs.RightsLaw.{GivesNobodyMore, IsWhose, KeepsRights};
+ghost use Rattle.runs.specs.Run.{RunView, output_file};
+ghost use Rattle.runs.specs.ToolRuns.{HasOneReading, Writes};
+ghost use Rattle.runs.specs.WrittenLaw.{IsAllWritten};
 ghost use Rattle.runs.specs.declared.output_files.Owner.{Owner};
 ghost use Rattle.runs.specs.declared.output_files.Rights.{Rights};
 
@@ -25,6 +29,22 @@ pub fn whole_or_as_it_was()
     ensures { (output path : List ℕ) (links : ℕ) (course : Course)
         → WritesFile output links path course
         → IsWholeOrAsItWasThroughout output path course }
+{}
+
+/// Arguments have one list of inputs, up to the same that can't be read, where the system reads each as
+/// one thing.
+pub fn inputs_are_one<S: InputSource>()
+    ensures { (arguments : List (List ℕ)) (inputs others : List NamedFile) (fault other : Option (List ℕ))
+        → HasOneReading S.file S.standard → AreInputs S.file S.standard false arguments inputs fault
+        → AreInputs S.file S.standard false arguments others other → (inputs ≡ others) × (fault ≡ other) }
+{}
+
+/// A run that is written has its status, and all of it is there: its output where the path of its file
+/// leads, or on standard output where no file is made, and its messages on standard error.
+pub fn written_runs_are_whole()
+    ensures { (run : RunView) (output : List ℕ) (before now : SystemView) (status : ℕ)
+        → Writes run output before now (Ok status)
+        → (status ≡ run.status) × IsAllWritten run before now (output_file run output) }
 {}
 
 /// Standard output, standard error and the descriptors of a process are streams, by these names and by

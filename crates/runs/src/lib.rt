@@ -2,7 +2,8 @@
 //! options and arguments, and the lines of faults.
 //!
 //! The modules in reading order: `run`, `program_fault`, `fault_text`, `inputs`, `output_files`,
-//! `output_paths`, `output_rights`, `output_writing`, `outputs`, `laws`, `arguments`, `ending`.
+//! `output_paths`, `output_rights`, `output_writing`, `outputs`, `output_system`, `laws`,
+//! `arguments`, `ending`.
 
 #![tactic(auto)]
 
@@ -14,6 +15,7 @@ pub mod laws;
 mod output_files;
 mod output_paths;
 mod output_rights;
+mod output_system;
 mod output_writing;
 mod outputs;
 mod program_fault;
@@ -24,6 +26,7 @@ pub use ending::Ending;
 pub use fault_text::{push_location, push_mo_text, push_numbered, push_po_text};
 pub use inputs::{Input, InputFault, InputSource, Inputs, read_one, read_whole};
 pub use output_files::{FileKind, MakeFault, OutputFault, OutputFiles, Owner, Rights};
+pub use output_system::OutputSystem;
 pub use outputs::write_run;
 pub use program_fault::{ProgramFault, report_fault};
 pub use run::{Run, STANDARD, STDIN_NAME, deliver, refused, shown_name};

@@ -1,0 +1,25 @@
+use Rattle.std.proofs.Common.{refl, ◌-◌, ◌^◌}
+use Rattle.std.proofs.lemmas.Result.{err_from_is_err_and}
+use Rattle.gettext.specs.Gettext.{IsGettextRun}
+use Rattle.gettext.specs.GettextView.{gettext_view}
+use Rattle.gettext.specs.WholeRun.{no_memory, runs}
+use Rattle.gettext.proofs.WholeRuns.{of_found}
+use Rattle.gettext.proofs.whole_run.run_gettext.Goals as goal
+
+pub returns-in_err-found : goal.returns-in_err-found
+returns-in_err-found g c =
+    let p = err_from_is_err_and c.from_residual.result c.from_residual.ensures.1 in rw (p.1, p.2) (no_memory refl)
+
+pub returns-in_err-borrowed : goal.returns-in_err-borrowed
+returns-in_err-borrowed g c =
+    let p = err_from_is_err_and c.from_residual-in_err-borrowed.result c.from_residual-in_err-borrowed.ensures.1 in
+    rw (p.1, p.2) (no_memory refl)
+
+pub returns-in_default : goal.returns-in_default
+returns-in_default g c = no_memory refl
+
+pub returns : goal.returns
+returns g c =
+    let run = of_found (2 ^ 32 - 1) (λ files run. IsGettextRun files (gettext_view c.args.options.now) run) _ _ _ _ _
+    c.as_slice-2.ensures.value c.in_ok-borrowed.ensures.borrowed c.as_slice.ensures.value c.in-Ok.ensures.run in
+    runs c.in_ok-found.ensures run c.write.ensures

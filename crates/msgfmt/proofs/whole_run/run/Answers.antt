@@ -1,0 +1,26 @@
+use Rattle.std.proofs.Common.{refl}
+use Rattle.std.proofs.lemmas.Result.{err_from_is_err_and}
+use Rattle.runs.specs.Inputs.{named_inputs}
+use Rattle.runs.specs.Run.{run_view}
+use Rattle.runs.specs.ToolRuns.{no_memory, runs}
+use Rattle.msgfmt.proofs.WholeRuns.{ended, planned}
+use Rattle.msgfmt.proofs.whole_run.run.Goals as goal
+
+pub returns-in_err-inputs-clause-run : goal.returns-in_err-inputs-clause-run
+returns-in_err-inputs-clause-run g c =
+    let p = err_from_is_err_and c.from_residual.result c.from_residual.ensures.1 in
+    rw (p.1, p.2) (no_memory c.read.ensures.asked refl)
+
+pub returns-in_err-run-clause-run : goal.returns-in_err-run-clause-run
+returns-in_err-run-clause-run g c =
+    let p = err_from_is_err_and c.from_residual-in_err-run.result c.from_residual-in_err-run.ensures.1 in
+    let read = c.in_ok-inputs.ensures in
+    rw (p.1, p.2) (ended c.in_ok-inputs.inputs.fault c.in_err-run.field-0.0
+    (record { are = read.inputs; asks = read.asked_read }) c.read.ensures.asked c.in_err-run.ensures.fault)
+
+pub returns-clause-run : goal.returns-clause-run
+returns-clause-run g c =
+    let read = c.in_ok-inputs.ensures in
+    runs (record { are = read.inputs; asks = read.asked_read })
+    (planned (named_inputs c.in_ok-inputs.inputs.texts.items) c.args.options.now (run_view c.in_ok-run.run')
+    c.in_ok-inputs.inputs.fault c.in_ok-run.ensures.whole c.in_ok-run.ensures.refused) c.write.ensures

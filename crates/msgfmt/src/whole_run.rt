@@ -1,0 +1,35 @@
+//! msgfmt as a whole: its inputs are read, and their run is written.
+ghost use Rattle.std.specs.Prelude.{◌^◌, ◌<◌, false, map};
+ghost use Rattle.msgfmt.specs.WholeRun.{RunsMsgfmt};
+ghost use Rattle.runs.specs.Inputs.{AsksFirst, asked_by};
+
+use crate::options::MsgfmtOptions;
+use crate::plan_inputs::plan_msgfmt_of;
+use devices::ByteOut;
+use runs::{InputSource, Inputs, OutputFiles, OutputSystem, ProgramFault};
+use std::alloc::Global;
+
+/// Runs `msgfmt`: reads the inputs of its arguments in their order, plans as `plan_msgfmt_of` does, and
+/// writes the run. Returns the run's status. Nothing is written where what was read has no run, and
+/// where an allocation failed before the run was planned.
+pub fn run<'a, S: InputSource, F: OutputFiles, O: ByteOut, E: ByteOut>(
+    alloc: Global,
+    source: &mut S,
+    system: &mut OutputSystem<F, O, E>,
+    arguments: &[&'a str],
+    output: &'a str,
+    options: &MsgfmtOptions,
+) -> Result<u8, ProgramFault<'a>>
+    requires out { system.old.out.failures < 2 ^ 63 }
+    requires err { system.old.err.failures < 2 ^ 63 }
+
+    // Each input is asked for in its turn, and standard input once at most.
+    ensures asked { AsksFirst (S.asked source.old) (S.asked source.new)
+        (asked_by false (map (λ argument. argument.now) arguments.now)) }
+    ensures run { RunsMsgfmt S.file S.standard (map (λ argument. argument.now) arguments.now) output.now options.now
+        (S.asked source.old) (S.asked source.new) system.old system.new result }
+{
+    let inputs = Inputs::read(alloc, source, arguments)?;
+    let run = plan_msgfmt_of(alloc, &inputs, options)?;
+    system.write(alloc, &run, output)
+}

@@ -1,0 +1,36 @@
+//! msgunfmt as a whole: its input is read, and its run is written.
+ghost use Rattle.std.specs.Prelude.{◌^◌, ◌<◌, false};
+ghost use Rattle.msgunfmt.specs.Msgunfmt.{IsMsgunfmtRun};
+ghost use Rattle.runs.specs.Inputs.{Asks, asked_for};
+ghost use Rattle.runs.specs.Run.{is_standard};
+ghost use Rattle.runs.specs.ToolRuns.{RunsInput};
+
+use crate::plan::plan_msgunfmt;
+use devices::ByteOut;
+use runs::{InputSource, OutputFiles, OutputSystem, ProgramFault, read_one, shown_name};
+use std::alloc::Global;
+
+/// Runs `msgunfmt`: reads the input of its argument, plans as `plan_msgunfmt` does, and writes the run.
+/// Returns the run's status. Nothing is written where the input can't be read, and where an allocation
+/// failed before the run was planned.
+pub fn run<'a, S: InputSource, F: OutputFiles, O: ByteOut, E: ByteOut>(
+    alloc: Global,
+    source: &mut S,
+    system: &mut OutputSystem<F, O, E>,
+    argument: &'a str,
+    output: &'a str,
+) -> Result<u8, ProgramFault<'a>>
+    requires out { system.old.out.failures < 2 ^ 63 }
+    requires err { system.old.err.failures < 2 ^ 63 }
+
+    // The input is asked for once, and nothing else.
+    ensures asked { Asks (S.asked source.old) (S.asked source.new)
+        (asked_for argument.now (is_standard argument.now) false) }
+    ensures run { RunsInput S.file S.standard IsMsgunfmtRun argument.now output.now system.old system.new result }
+{
+    let bytes = read_one(alloc, source, argument)?;
+    let Ok(run) = plan_msgunfmt(alloc, &bytes, shown_name(argument)) else {
+        return Err(ProgramFault::OutOfMemory);
+    };
+    system.write(alloc, &run, output)
+}

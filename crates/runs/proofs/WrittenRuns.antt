@@ -1,0 +1,47 @@
+-- After a run that was written, all of it is there.
+use Rattle.std.proofs.Common.{◌≡◌, ℕ, List, None, Some, Option, Result, Ok, IfOk, refl, sym, inl, inr}
+use Rattle.runs.specs.declared.output_files.OutputFault.{OutputFault}
+use Rattle.runs.specs.declared.program_fault.ProgramFault.{ProgramFault}
+use Rattle.runs.specs.Outputs.{MakesFile, OutputIs, SystemView, WritesRun, cut, delivered, link_limit, made, to_file}
+use Rattle.runs.specs.Outputs.{unmade, unreported}
+use Rattle.runs.specs.Run.{RunView, output_file}
+use Rattle.runs.specs.ToolRuns.{Writes, unwritten, written}
+use Rattle.runs.specs.WrittenLaw.{IsAllWritten, IsThere, in_file, on_standard_output}
+use Rattle.runs.proofs.WholeOutputs.{whole_outputs}
+
+there : (run : RunView) (path : List ℕ) (before now : SystemView) → OutputIs run path before now None
+    → IsThere run.output path before.files now.files
+there run path before now output =
+    let whole = whole_outputs run.output path link_limit output.course output.is in
+    let done = sym output.fault_is in
+    record {
+      course = output.course;
+      calls = output.log;
+      to = whole.to;
+      leads = λ files gives. elim (whole.leads files gives) [ inl leads ↦ leads | inr fault ↦ absurd (fault.0 done) ];
+      whole = λ files gives. (whole.comes files gives).success done;
+    }
+
+file_written : {run : RunView} {path : List ℕ} {before now : SystemView} {why : Option OutputFault} → why ≡ None
+    → now.out ≡ before.out → MakesFile run path before now why → IsAllWritten run before now (Some path)
+file_written {run} {path} {before} {now} none same (made output messages) =
+    in_file (there run path before now output) same messages.all
+file_written none same (unreported output messages) = cc
+file_written none same (unmade output messages) = cc
+
+run_written : {run : RunView} {file : Option (List ℕ)} {before now : SystemView} {why : Option OutputFault} → why ≡ None
+    → WritesRun run before now file why → IsAllWritten run before now file
+run_written none (delivered same output messages) = on_standard_output same output.all messages.all
+run_written none (cut same part) = cc
+run_written none (to_file same makes) = file_written none same makes
+
+written_all : {run : RunView} {output : List ℕ} {before now : SystemView} {result : Result ℕ ProgramFault}
+    → Writes run output before now result
+    → IfOk result (λ status. (status ≡ run.status) × IsAllWritten run before now (output_file run output))
+written_all (written writes) = (refl, run_written refl writes)
+written_all (unwritten fault) = tt
+
+pub written_runs : (run : RunView) (output : List ℕ) (before now : SystemView) (status : ℕ)
+    → Writes run output before now (Ok status)
+    → (status ≡ run.status) × IsAllWritten run before now (output_file run output)
+written_runs run output before now status writes = written_all writes

@@ -1,0 +1,5 @@
+use Rattle.runs.proofs.WrittenRuns.{written_runs}
+use Rattle.runs.proofs.laws.written_runs_are_whole.Goals as goal
+
+pub returns : goal.returns
+returns c = written_runs
