@@ -1,5 +1,5 @@
 //! Writing a whole piece.
-ghost use Rattle.std.specs.Prelude.{◌≡◌, ◌+◌, ◌-◌, ◌^◌, ◌<◌, OnOk, OnErr, Err};
+ghost use Rattle.std.specs.Prelude.{◌≡◌, [], ◌+◌, ◌-◌, ◌^◌, ◌<◌, OnOk, OnErr, Err};
 ghost use Rattle.std.specs.Io.KnownBytes.{Appends};
 ghost use Rattle.devices.specs.Device.{AppendsPrefix};
 
@@ -16,6 +16,9 @@ pub fn put_all<W: ByteOut>(writer: &mut W, piece: &[u8]) -> Result<(), ToolFault
     ensures fault { OnErr result (result ≡ Err ToolFault.WriteFault) }
     ensures no_failure { OnOk result (W.failures writer.new ≡ W.failures writer.old) }
     ensures cause { OnErr result (W.failures writer.new ≡ W.failures writer.old + 1) }
+
+    // A piece without a byte is written without a call.
+    ensures nothing { piece.now ≡ [] → writer.new ≡ writer.old }
 {
     let mut at = 0;
     while at < piece.len() {

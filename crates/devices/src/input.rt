@@ -31,6 +31,9 @@ pub fn read_input<R: ByteIn>(alloc: Global, reader: &mut R) -> Result<Vec<u8>, T
         → R.failures reader.new ≡ R.failures reader.old }
     ensures no_write_fault { result ≢ Err ToolFault.WriteFault }
     ensures calls { R.calls reader.new ≤ R.calls reader.old + 2 ^ 32 }
+
+    // Each call but the last gave a byte at least, so that none comes after the end.
+    ensures end { IfOk result (λ v. R.calls reader.new ≤ R.calls reader.old + vec_len v + 1) }
 {
     read_sized_input(alloc, reader, 0)
 }
@@ -58,6 +61,9 @@ pub fn read_sized_input<R: ByteIn>(
         → R.failures reader.new ≡ R.failures reader.old }
     ensures no_write_fault { result ≢ Err ToolFault.WriteFault }
     ensures calls { R.calls reader.new ≤ R.calls reader.old + 2 ^ 32 }
+
+    // Each call but the last gave a byte at least, so that none comes after the end.
+    ensures end { IfOk result (λ v. R.calls reader.new ≤ R.calls reader.old + vec_len v + 1) }
 {
     let expected_len = expected_len.min(INPUT_LIMIT as u64) as usize;
     let mut input = Vec::new(alloc);

@@ -1,4 +1,4 @@
-use Rattle.std.proofs.Common.{◌≤◌, ◌-◌, length, take, drop, arith, length-drop}
+use Rattle.std.proofs.Common.{◌≡◌, ◌≤◌, ◌-◌, length, take, drop, ap, arith, length-drop}
 use Rattle.std.proofs.lemmas.Bool.Decides.{nat_tests}
 use Rattle.std.proofs.lemmas.List.{take_rest}
 use Rattle.devices.proofs.DeviceLemmas.{Appends-rest}
@@ -10,5 +10,6 @@ loop-at-preserved g c =
     let fits = simp (take_rest, length-drop) at bound in record {
       within = omega arith;
       written = Appends-rest _ _ _ c.loop-at.at c.in-Ok.taken c.args.piece.now c.loop-at.invariant.written c.in-Ok.ensures.bytes;
+      nothing = λ empty. let none : length c.args.piece.now ≡ 0 = ap length empty in absurd (omega arith);
       no_failure = grind (arith, nat_tests, c.in-Ok.ensures.fails, c.in-Ok.taken-test.1);
     }

@@ -1,4 +1,4 @@
-use Rattle.std.proofs.Common.{length, take, ◌-◌, ◌≡◌, ◌≤◌}
+use Rattle.std.proofs.Common.{length, take, [], ◌-◌, ◌≡◌, ◌≤◌}
 use Rattle.std.specs.Io.KnownBytes.{Appends}
 use Rattle.devices.proofs.delivery.put_all.Given as goal
 
@@ -6,6 +6,7 @@ abbrev pub invariant-loop-at : goal.invariant-loop-at
 invariant-loop-at g l = record {
   within : l.at ≤ length l.piece;
   written : Appends (g.W.ByteOut.contents l.fn.writer) (g.W.ByteOut.contents l.writer) (take l.at l.piece);
+  nothing : l.piece ≡ [] → l.writer ≡ l.fn.writer;
   no_failure : g.W.ByteOut.failures l.writer ≡ g.W.ByteOut.failures l.fn.writer;
 }
 
