@@ -1,8 +1,10 @@
 //! Inputs by their names, and outputs.
+ghost use Rattle.std.specs.Prelude.{◌≡◌};
+
 use devices::Counted;
 use runs::{
-    FileKind, InputFault, InputSource, MakeFault, OutputFault, OutputFiles, Owner, ProgramFault,
-    Rights, Run, read_whole,
+    FileKind, InputFault, InputSource, MakeFault, OutputFault, OutputFiles, OutputSystem, Owner,
+    Rights, read_whole,
 };
 use std::alloc::Global;
 use std::fs::{self, File, Metadata, OpenFile, OpenOptions, Permissions};
@@ -41,15 +43,6 @@ impl<'r, R: Files + Input> InputSource for System<'r, R> {
     }
 }
 
-/// The bytes of the input of a tool that takes one.
-pub(crate) fn read_one<'a, R: Files + Input>(
-    alloc: Global,
-    rt: &R,
-    file: &'a str,
-) -> Result<Vec<u8>, ProgramFault<'a>> {
-    runs::read_one(alloc, &mut System(rt), file)
-}
-
 /// The bytes of the file of this name.
 pub(crate) fn read_named(
     alloc: Global,
@@ -69,7 +62,7 @@ pub(crate) fn read_named(
 
 /// A file that is open to be written, or a standard stream.
 #[derive(Drop)]
-enum Opened {
+pub(crate) enum Opened {
     File(File),
     Output(Stdout),
     Errors(Stderr),
@@ -91,7 +84,7 @@ impl Write for Opened {
 
 /// The files of the system, as outputs are made.
 #[derive(Drop)]
-struct SystemFiles<'r> {
+pub(crate) struct SystemFiles<'r> {
     rt: &'r HostRuntime,
     alloc: Global,
     // How often the system had no random number.
@@ -252,24 +245,21 @@ fn is_for_writing(info: &[u8]) -> bool {
         .is_some_and(|flags| flags.ends_with(b"1") || flags.ends_with(b"2"))
 }
 
-/// Writes the output and the messages of a run, and returns its status.
-pub(crate) fn write_run<'a>(
+/// What the tools write to: the files of the system, standard output and standard error.
+pub(crate) fn outputs(
     alloc: Global,
     rt: &HostRuntime,
-    run: &Run,
-    file: &'a str,
-) -> Result<u8, ProgramFault<'a>> {
-    let mut files = SystemFiles {
-        rt,
-        alloc,
-        lacking: 0,
-    };
-    runs::write_run(
-        alloc,
-        &mut files,
-        &mut Counted::new(rt.stdout()),
-        &mut Counted::new(rt.stderr()),
-        run,
-        file,
-    )
+) -> OutputSystem<SystemFiles<'_>, Counted<Stdout>, Counted<Stderr>>
+    ensures out { result.out.failures ≡ 0 }
+    ensures err { result.err.failures ≡ 0 }
+{
+    OutputSystem {
+        files: SystemFiles {
+            rt,
+            alloc,
+            lacking: 0,
+        },
+        out: Counted::new(rt.stdout()),
+        err: Counted::new(rt.stderr()),
+    }
 }

@@ -1,8 +1,8 @@
 //! `pokit`: the GNU gettext catalogue tools in one program, a subcommand for each.
 //!
 //! Only this crate touches arguments, files, streams and the environment. What the command line is,
-//! is in command_line, and what a tool does in the crates that po_tools has under one name.
-//! The modules in reading order: `streams`, `environment`, `options`, `files`, `tools`.
+//! is in command_line, and what a tool does in po_tools, whose `run` is called here.
+//! The modules in reading order: `streams`, `environment`, `options`, `files`.
 
 #![tactic(auto)]
 
@@ -10,12 +10,12 @@ mod environment;
 mod files;
 mod options;
 mod streams;
-mod tools;
 
 use clap::ArgMatches;
 use clap::error::ErrorKind;
 use command_line::Tool;
 use devices::Counted;
+use files::{System, outputs};
 use options::Options;
 use runs::{Ending, ProgramFault};
 use std::alloc::{AllocError, Global};
@@ -87,18 +87,30 @@ fn run_tool(rt: &HostRuntime, matches: &ArgMatches<'_>) -> Ending {
         return Ending::Refused;
     };
     let given = Options(matches);
-    let outcome = match tool {
-        Tool::Msgfmt => tools::msgfmt::run(rt.alloc(), rt, &given),
-        Tool::Msgunfmt => tools::msgunfmt::run(rt.alloc(), rt, &given),
-        Tool::Msgattrib => tools::msgattrib::run(rt.alloc(), rt, &given),
-        Tool::Msgcat => tools::msgcat::run(rt.alloc(), rt, &given),
-        Tool::Gettext => tools::gettext::run(rt.alloc(), rt, &given),
-        Tool::Ngettext => tools::ngettext::run(rt.alloc(), rt, &given),
-        Tool::Envsubst => tools::envsubst::run(rt.alloc(), rt, &given),
-    };
+    let outcome = po_tools::run(
+        rt.alloc(),
+        own_tool(tool),
+        &mut System(rt),
+        &mut Counted::new(rt.reader()),
+        &mut outputs(rt.alloc(), rt),
+        &given,
+    );
     match outcome {
         Ok(status) => Ending::Ran(status),
         Err(fault) => report_fault(rt, Some(tool), fault),
+    }
+}
+
+/// The tool of a command line, as it is run.
+fn own_tool(tool: Tool) -> po_tools::Tool {
+    match tool {
+        Tool::Msgfmt => po_tools::Tool::Msgfmt,
+        Tool::Msgunfmt => po_tools::Tool::Msgunfmt,
+        Tool::Msgattrib => po_tools::Tool::Msgattrib,
+        Tool::Msgcat => po_tools::Tool::Msgcat,
+        Tool::Gettext => po_tools::Tool::Gettext,
+        Tool::Ngettext => po_tools::Tool::Ngettext,
+        Tool::Envsubst => po_tools::Tool::Envsubst,
     }
 }
 

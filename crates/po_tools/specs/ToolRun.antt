@@ -1,0 +1,185 @@
+-- What each tool does as a whole, by what its command line gives.
+use Rattle.std.specs.Prelude.{◌≡◌, ℕ, Bool, List, Option, None, Some, Result, Ok, Err, codes, false}
+use Rattle.gettext.specs.Gettext.{GettextRequest, NgettextRequest, IsGettextRun, IsNgettextRun}
+use Rattle.gettext.specs.WholeRun.{RunsLookUp}
+use Rattle.gettext.specs.Options.{IsGettextRequest, IsNgettextRequest}
+use Rattle.msgfmt.specs.declared.options.MsgfmtOptions.{MsgfmtOptions}
+use Rattle.msgfmt.specs.WholeRun.{RunsMsgfmt}
+use Rattle.msgunfmt.specs.Msgunfmt.{IsMsgunfmtRun}
+use Rattle.msgfmt.specs.Options.{AreMsgfmtOptions}
+use Rattle.po_merge.specs.declared.input.MergeOptions.{MergeOptions}
+use Rattle.po_select.specs.declared.selection.Selection.{Selection}
+use Rattle.devices.specs.declared.fault.ToolFault.{ToolFault}
+use Rattle.msgattrib.specs.Msgattrib.{IsMsgattribRun}
+use Rattle.msgcat.specs.WholeRun.{RunsMsgcat}
+use Rattle.msgattrib.specs.Options.{IsSelection}
+use Rattle.msgcat.specs.Options.{AreMergeOptions}
+use Rattle.runs.specs.declared.program_fault.ProgramFault.{ProgramFault}
+use Rattle.runs.specs.declared.program_fault.ProgramFault.TheVariants.{WrongArguments}
+use Rattle.envsubst.specs.ByArguments.{RunsEnvsubst}
+use Rattle.runs.specs.ArgumentValues.{IsTextOr}
+use Rattle.runs.specs.Inputs.{Asked, Asks, Reading, asked_for}
+use Rattle.runs.specs.NamedFile.{NamedFile}
+use Rattle.runs.specs.Outputs.{SystemView}
+use Rattle.envsubst.specs.Usage.{EnvsubstUsage, envsubst_usage}
+use Rattle.gettext.specs.Usage.{GettextUsage, NgettextUsage, gettext_usage, ngettext_usage}
+use Rattle.runs.specs.ProgramFaults.{program_text, stdin_text}
+use Rattle.runs.specs.Run.{RunView, is_standard}
+use Rattle.runs.specs.ToolRuns.{RunsInput}
+use Rattle.po_tools.specs.declared.tool.Tool.{Tool}
+use Rattle.po_tools.specs.declared.tool.Tool.TheVariants.{Msgfmt, Msgunfmt, Msgattrib, Msgcat, Gettext, Ngettext, Envsubst}
+
+-- what the options and arguments of a command line may be, by their names
+pub record CommandLine : Type 1 where
+  pub flag : List ℕ → Bool → Type 0
+  pub text : List ℕ → Option (List ℕ) → Type 0
+  pub texts : List ℕ → List (List ℕ) → Type 0
+  pub number : List ℕ → Option ℕ → Type 0
+
+-- what a system may answer: files by their names, standard input, variables by their names, and all
+-- entries of the environment
+pub record Answers : Type 1 where
+  pub file : List ℕ → Reading → Type 0
+  pub standard : Reading → Type 0
+  pub variable : List ℕ → Option (List ℕ) → Type 0
+  pub entries : List (List ℕ) → Type 0
+
+-- what a tool reaches of a system: what was asked for, what the reader of standard input has left, and
+-- what was written
+pub record Reached : Type 0 where
+  pub asked : Option (List Asked)
+  pub input : Option (List ℕ)
+  pub written : SystemView
+
+abbrev pub line_of : (List ℕ → Bool → Type 0) → (List ℕ → Option (List ℕ) → Type 0)
+    → (List ℕ → List (List ℕ) → Type 0) → (List ℕ → Option ℕ → Type 0) → CommandLine
+line_of flag text texts number = record { flag = flag; text = text; texts = texts; number = number }
+
+abbrev pub answers_of : (List ℕ → Reading → Type 0) → (Reading → Type 0) → (List ℕ → Option (List ℕ) → Type 0)
+    → (List (List ℕ) → Type 0) → Answers
+answers_of file standard variable entries =
+    record { file = file; standard = standard; variable = variable; entries = entries }
+
+abbrev pub reached : Option (List Asked) → Option (List ℕ) → SystemView → Reached
+reached asked input written = record { asked = asked; input = input; written = written }
+
+-- a tool of one input is run, by the arguments for its input and its output
+pub record RunsOne (line : CommandLine) (answers : Answers) (IsRun : NamedFile → RunView → Type 0)
+    (before after : Reached) (result : Result ℕ ProgramFault) : Type 0 where
+  pub argument : List ℕ
+  pub output : List ℕ
+  pub argument_is : IsTextOr line.text (codes "FILE") (codes "-") argument
+  pub output_is : IsTextOr line.text (codes "output-file") (codes "-") output
+  pub asks : Asks before.asked after.asked (asked_for argument (is_standard argument) false)
+  pub runs : RunsInput answers.file answers.standard IsRun argument output before.written after.written result
+  pub unread : after.input ≡ before.input
+
+-- msgfmt is run, by all its arguments and options
+pub record RunsMsgfmtLine (line : CommandLine) (answers : Answers) (before after : Reached)
+    (result : Result ℕ ProgramFault) : Type 0 where
+  pub arguments : List (List ℕ)
+  pub output : List ℕ
+  pub options : MsgfmtOptions
+  pub arguments_are : line.texts (codes "FILE") arguments
+  pub output_is : IsTextOr line.text (codes "output-file") (codes "messages.mo") output
+  pub options_are : AreMsgfmtOptions line.flag line.text options
+  pub runs : RunsMsgfmt answers.file answers.standard arguments output options before.asked after.asked
+      before.written after.written result
+  pub unread : after.input ≡ before.input
+
+-- msgattrib is run, by its options
+pub record RunsMsgattribLine (line : CommandLine) (answers : Answers) (before after : Reached)
+    (result : Result ℕ ProgramFault) : Type 0 where
+  pub selection : Selection
+  pub selection_is : IsSelection line.flag selection
+  pub runs : RunsOne line answers (λ file run. IsMsgattribRun file.name selection file.bytes run) before after result
+
+-- msgcat is run, by all its arguments and options
+pub record RunsMsgcatLine (line : CommandLine) (answers : Answers) (before after : Reached)
+    (result : Result ℕ ProgramFault) : Type 0 where
+  pub arguments : List (List ℕ)
+  pub output : List ℕ
+  pub options : MergeOptions
+  pub arguments_are : line.texts (codes "FILE") arguments
+  pub output_is : IsTextOr line.text (codes "output-file") (codes "-") output
+  pub options_are : AreMergeOptions line.flag line.number options
+  pub runs : RunsMsgcat answers.file answers.standard arguments output options before.asked after.asked
+      before.written after.written result
+  pub unread : after.input ≡ before.input
+
+-- the arguments fit no usage of the tool, and nothing is done
+pub record FitsNone {U : Type 0} (usage : Option U) (before after : Reached) (result : Result ℕ ProgramFault)
+    : Type 0 where
+  pub none : usage ≡ None
+  pub nothing : after ≡ before
+  pub fault : result ≡ Err WrongArguments
+
+-- gettext is run, by arguments that have one of its usages
+pub record LooksUp (line : CommandLine) (answers : Answers) (IsRun : List NamedFile → RunView → Type 0)
+    (argument : Option (List ℕ)) (before after : Reached) (result : Result ℕ ProgramFault) : Type 0 where
+  pub domain : Option (List ℕ)
+  pub domain_is : line.text (codes "domain") domain
+  pub runs : RunsLookUp answers.variable answers.file IsRun argument domain before.asked after.asked
+      before.written after.written result
+  pub unread : after.input ≡ before.input
+
+-- gettext is run, by its arguments and options, or these fit no usage
+pub data RunsGettextLine (line : CommandLine) (answers : Answers) (before after : Reached)
+    (result : Result ℕ ProgramFault) : Type 0 where
+  runs_gettext : {shell : Bool} {arguments : List (List ℕ)} {usage : GettextUsage} {request : GettextRequest}
+      → line.flag (codes "shell") shell → line.texts (codes "MSGID") arguments
+      → gettext_usage shell arguments ≡ Some usage → IsGettextRequest line.flag line.text usage request
+      → LooksUp line answers (λ files run. IsGettextRun files request run) usage.domain before after result
+      → RunsGettextLine line answers before after result
+  no_gettext : {shell : Bool} {arguments : List (List ℕ)} → line.flag (codes "shell") shell
+      → line.texts (codes "MSGID") arguments → FitsNone (gettext_usage shell arguments) before after result
+      → RunsGettextLine line answers before after result
+
+-- the same of ngettext
+pub data RunsNgettextLine (line : CommandLine) (answers : Answers) (before after : Reached)
+    (result : Result ℕ ProgramFault) : Type 0 where
+  runs_ngettext : {arguments : List (List ℕ)} {usage : NgettextUsage} {request : NgettextRequest}
+      → line.texts (codes "MSGID") arguments
+      → ngettext_usage arguments ≡ Some usage → IsNgettextRequest line.flag line.text usage request
+      → LooksUp line answers (λ files run. IsNgettextRun files request run) usage.domain before after result
+      → RunsNgettextLine line answers before after result
+  no_ngettext : {arguments : List (List ℕ)} → line.texts (codes "MSGID") arguments
+      → FitsNone (ngettext_usage arguments) before after result → RunsNgettextLine line answers before after result
+
+-- what envsubst answers: the status 0, or the fault of a device
+abbrev pub answered : Result (Unit {0}) ToolFault → Result ℕ ProgramFault → Type 0
+answered (Ok _) result = result ≡ Ok 0
+answered (Err fault) (Ok status) = ⊥
+answered (Err fault) (Err reported) = program_text reported ≡ stdin_text fault
+
+-- envsubst is run, by its arguments
+pub record Substitutes (answers : Answers) (usage : EnvsubstUsage) (before after : Reached)
+    (result : Result ℕ ProgramFault) : Type 0 where
+  pub outcome : Result (Unit {0}) ToolFault
+  pub runs : RunsEnvsubst answers.entries before.input after.input before.written.out.bytes after.written.out.bytes
+      usage outcome
+  pub answer : answered outcome result
+  pub asks_nothing : after.asked ≡ before.asked
+  pub files : after.written.files ≡ before.written.files
+  pub err : after.written.err ≡ before.written.err
+
+-- the same by its command line, or this fits no usage
+pub data RunsEnvsubstLine (line : CommandLine) (answers : Answers) (before after : Reached)
+    (result : Result ℕ ProgramFault) : Type 0 where
+  runs_envsubst : {variables : Bool} {arguments : List (List ℕ)} {usage : EnvsubstUsage}
+      → line.flag (codes "variables") variables → line.texts (codes "SHELL-FORMAT") arguments
+      → envsubst_usage variables arguments ≡ Some usage → Substitutes answers usage before after result
+      → RunsEnvsubstLine line answers before after result
+  no_envsubst : {variables : Bool} {arguments : List (List ℕ)} → line.flag (codes "variables") variables
+      → line.texts (codes "SHELL-FORMAT") arguments → FitsNone (envsubst_usage variables arguments) before after result
+      → RunsEnvsubstLine line answers before after result
+
+-- what a tool does by its command line
+abbrev pub RunsTool : Tool → CommandLine → Answers → Reached → Reached → Result ℕ ProgramFault → Type 0
+RunsTool Msgfmt line answers before after result = RunsMsgfmtLine line answers before after result
+RunsTool Msgunfmt line answers before after result = RunsOne line answers IsMsgunfmtRun before after result
+RunsTool Msgattrib line answers before after result = RunsMsgattribLine line answers before after result
+RunsTool Msgcat line answers before after result = RunsMsgcatLine line answers before after result
+RunsTool Gettext line answers before after result = RunsGettextLine line answers before after result
+RunsTool Ngettext line answers before after result = RunsNgettextLine line answers before after result
+RunsTool Envsubst line answers before after result = RunsEnvsubstLine line answers before after result

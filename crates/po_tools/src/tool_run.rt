@@ -1,0 +1,153 @@
+//! Each tool as a whole, by what its command line gives.
+ghost use Rattle.std.specs.Prelude.{◌^◌, ◌<◌, ℕ, List, Option};
+ghost use Rattle.po_tools.specs.ToolRun.{RunsEnvsubstLine, RunsGettextLine, RunsNgettextLine, RunsTool, answers_of, line_of, reached};
+
+use crate::tool::Tool;
+use devices::{ByteIn, ByteOut};
+use envsubst::{EntrySource, EnvsubstArguments, envsubst};
+use gettext::{
+    GettextArguments, NgettextArguments, VariableSource, gettext_options_of, ngettext_options_of,
+    run_gettext, run_ngettext,
+};
+use msgattrib::selection_of;
+use msgcat::merge_options_of;
+use msgfmt::{msgfmt_options_of, msgfmt_output_of};
+use runs::{
+    Arguments, InputSource, OutputFiles, OutputSystem, ProgramFault, input_of, inputs_of, output_of,
+};
+use std::alloc::Global;
+
+/// Runs a tool by what its command line gives, and returns its status: the inputs are those of `source`,
+/// `reader` is standard input where it is read in blocks, and all output goes to `system`.
+pub fn run<'a, S, R: ByteIn, F: OutputFiles, O: ByteOut, E: ByteOut, A: Arguments>(
+    alloc: Global,
+    tool: Tool,
+    source: &mut S,
+    reader: &mut R,
+    system: &mut OutputSystem<F, O, E>,
+    given: &'a A,
+) -> Result<u8, ProgramFault<'a>>
+where
+    S: InputSource + VariableSource + EntrySource,
+    requires calls { R.calls reader.old < 2 ^ 63 }
+    requires failures { R.failures reader.old < 2 ^ 63 }
+    requires out { system.old.out.failures < 2 ^ 63 }
+    requires err { system.old.err.failures < 2 ^ 63 }
+    ensures { RunsTool tool
+        (line_of (A.flag given.now) (A.text given.now) (A.texts given.now) (A.number given.now))
+        (answers_of S.file S.standard (S.variable source.old) (S.entries source.old))
+        (reached (S.asked source.old) (R.remaining reader.old) system.old)
+        (reached (S.asked source.new) (R.remaining reader.new) system.new) result }
+{
+    match tool {
+        Tool::Msgfmt => msgfmt::run(
+            alloc,
+            source,
+            system,
+            inputs_of(given),
+            msgfmt_output_of(given),
+            &msgfmt_options_of(given),
+        ),
+        Tool::Msgunfmt => msgunfmt::run(alloc, source, system, input_of(given), output_of(given)),
+        Tool::Msgattrib => msgattrib::run(
+            alloc,
+            source,
+            system,
+            input_of(given),
+            output_of(given),
+            &selection_of(given),
+        ),
+        Tool::Msgcat => msgcat::run(
+            alloc,
+            source,
+            system,
+            inputs_of(given),
+            output_of(given),
+            &merge_options_of(given),
+        ),
+        Tool::Gettext => look_up(alloc, source, system, given),
+        Tool::Ngettext => look_up_plural(alloc, source, system, given),
+        Tool::Envsubst => substitute(alloc, source, reader, system, given),
+    }
+}
+
+/// Runs `gettext`.
+fn look_up<'a, S, F: OutputFiles, O: ByteOut, E: ByteOut, A: Arguments>(
+    alloc: Global,
+    source: &mut S,
+    system: &mut OutputSystem<F, O, E>,
+    given: &'a A,
+) -> Result<u8, ProgramFault<'a>>
+where
+    S: InputSource + VariableSource + EntrySource,
+    requires out { system.old.out.failures < 2 ^ 63 }
+    requires err { system.old.err.failures < 2 ^ 63 }
+    ensures { (input : Option (List ℕ)) → RunsGettextLine
+        (line_of (A.flag given.now) (A.text given.now) (A.texts given.now) (A.number given.now))
+        (answers_of S.file S.standard (S.variable source.old) (S.entries source.old))
+        (reached (S.asked source.old) input system.old)
+        (reached (S.asked source.new) input system.new) result }
+{
+    let arguments = GettextArguments::given(given)?;
+    run_gettext(
+        alloc,
+        source,
+        system,
+        arguments.domain,
+        given.text_of("domain"),
+        &gettext_options_of(given, arguments),
+    )
+}
+
+/// Runs `ngettext`.
+fn look_up_plural<'a, S, F: OutputFiles, O: ByteOut, E: ByteOut, A: Arguments>(
+    alloc: Global,
+    source: &mut S,
+    system: &mut OutputSystem<F, O, E>,
+    given: &'a A,
+) -> Result<u8, ProgramFault<'a>>
+where
+    S: InputSource + VariableSource + EntrySource,
+    requires out { system.old.out.failures < 2 ^ 63 }
+    requires err { system.old.err.failures < 2 ^ 63 }
+    ensures { (input : Option (List ℕ)) → RunsNgettextLine
+        (line_of (A.flag given.now) (A.text given.now) (A.texts given.now) (A.number given.now))
+        (answers_of S.file S.standard (S.variable source.old) (S.entries source.old))
+        (reached (S.asked source.old) input system.old)
+        (reached (S.asked source.new) input system.new) result }
+{
+    let arguments = NgettextArguments::given(given)?;
+    run_ngettext(
+        alloc,
+        source,
+        system,
+        arguments.domain,
+        given.text_of("domain"),
+        &ngettext_options_of(given, arguments),
+    )
+}
+
+/// Runs `envsubst`.
+fn substitute<'a, S, R: ByteIn, F: OutputFiles, O: ByteOut, E: ByteOut, A: Arguments>(
+    alloc: Global,
+    source: &mut S,
+    reader: &mut R,
+    system: &mut OutputSystem<F, O, E>,
+    given: &'a A,
+) -> Result<u8, ProgramFault<'a>>
+where
+    S: InputSource + VariableSource + EntrySource,
+    requires calls { R.calls reader.old < 2 ^ 63 }
+    requires failures { R.failures reader.old < 2 ^ 63 }
+    requires out { system.old.out.failures < 2 ^ 63 }
+    requires err { system.old.err.failures < 2 ^ 63 }
+    ensures { RunsEnvsubstLine
+        (line_of (A.flag given.now) (A.text given.now) (A.texts given.now) (A.number given.now))
+        (answers_of S.file S.standard (S.variable source.old) (S.entries source.old))
+        (reached (S.asked source.old) (R.remaining reader.old) system.old)
+        (reached (S.asked source.new) (R.remaining reader.new) system.new) result }
+{
+    let arguments = EnvsubstArguments::given(given)?;
+    envsubst(alloc, &*source, reader, &mut system.out, arguments)?;
+    Ok(0)
+}
