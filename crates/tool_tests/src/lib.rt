@@ -3,7 +3,7 @@
 //! crate once more together with the tests in it.
 //!
 //! The modules in reading order: `arguments`, `locales`, `substitution`, `answers`, `devices`,
-//! `failing_calls`, `damaged_files`.
+//! `failing_calls`, `fake_system`, `whole_tools`, `damaged_files`.
 
 #![tactic(auto)]
 
@@ -18,6 +18,10 @@ mod devices;
 #[cfg(test)]
 mod failing_calls;
 #[cfg(test)]
+mod fake_system;
+#[cfg(test)]
 mod locales;
 #[cfg(test)]
 mod substitution;
+#[cfg(test)]
+mod whole_tools;
