@@ -1,5 +1,5 @@
--- The faults for which bytes aren't an MO file ("The Format of GNU MO Files"), and which of them is
--- reported.
+-- The faults for which bytes aren't an MO file (manual, "The Format of GNU MO Files"), and which of
+-- them is reported.
 use Rattle.std.specs.Prelude.{◌≡◌, ◌≢◌, ℕ, ◌+◌, ◌*◌, ◌/◌, ◌<◌, ◌⊎◌, List, length, Some, slice_get}
 use Rattle.std.specs.declared.cmp.Ordering.TheVariants.{Less}
 use Rattle.mo_file.specs.declared.byte_order.Order.{Order}
@@ -27,7 +27,10 @@ abbrev pub IsNotRising : Order → List ℕ → ℕ → Type 0
 IsNotRising order bytes i =
     key_cmp (key_of (original_at order bytes i)) (key_of (original_at order bytes (i + 1))) ≢ Less
 
--- the faults after the magic number, of bytes that are read in this order
+-- The faults after the magic number, of bytes that are read in this order. The major revision is 0
+-- or 1, and the minor one is anything; a message is named by its index, for `NotSorted` by that of
+-- the later of the two keys. The numbers are whole, so sums of offsets and lengths don't wrap
+-- around.
 abbrev pub HasFaultIn : Order → List ℕ → MoError → Type 0
 HasFaultIn order bytes TooShort = ⊥
 HasFaultIn order bytes BadMagic = ⊥
@@ -40,7 +43,7 @@ HasFaultIn order bytes (NoTerminator i) = (i < message_count order bytes) × IsU
 HasFaultIn order bytes (NotSorted i) =
     (j : ℕ) × (i ≡ j + 1) × (i < message_count order bytes) × IsNotRising order bytes j
 
--- these bytes have this fault
+-- these bytes have this fault, whatever others they have
 abbrev pub HasFault : List ℕ → MoError → Type 0
 HasFault bytes TooShort = length bytes < 28
 HasFault bytes BadMagic = (order : Order) → ¬ HasMagicOf order bytes
@@ -60,7 +63,7 @@ kind (StringOutside i) = 5
 kind (NoTerminator i) = 6
 kind (NotSorted i) = 7
 
--- the message that a fault names
+-- the message that a fault names; 0 for one that names none
 abbrev pub index : MoError → ℕ
 index TooShort = 0
 index BadMagic = 0
@@ -74,7 +77,7 @@ index (NotSorted i) = i
 abbrev pub IsBefore : MoError → MoError → Type 0
 IsBefore f e = (kind f < kind e) ⊎ ((kind f ≡ kind e) × (index f < index e))
 
--- the fault that is reported for these bytes
+-- the fault that is reported for these bytes: they have it, and none that is reported before it
 pub record IsFirstFault (bytes : List ℕ) (e : MoError) : Type 0 where
   pub holds : HasFault bytes e
   pub first : (f : MoError) → IsBefore f e → ¬ HasFault bytes f

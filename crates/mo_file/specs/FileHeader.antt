@@ -1,6 +1,6 @@
 -- The file header of an MO file: the magic number, the revision, the number of messages, and where
 -- the tables of the originals and of the translations begin. Two more words, for a hash table, are
--- ignored ("The Format of GNU MO Files").
+-- ignored (manual, "The Format of GNU MO Files").
 use Rattle.std.specs.Prelude.{◌≡◌, ℕ, List, [], ◌∷◌, take}
 use Rattle.mo_file.specs.declared.byte_order.Order.{Order}
 use Rattle.mo_file.specs.declared.byte_order.Order.TheVariants.{Little, Big}
@@ -11,7 +11,7 @@ abbrev pub magic : Order → List ℕ
 magic Little = 0xde ∷ 0x12 ∷ 0x04 ∷ 0x95 ∷ []
 magic Big = 0x95 ∷ 0x04 ∷ 0x12 ∷ 0xde ∷ []
 
--- the magic number of a file shows its byte order
+-- the magic number of a file shows its byte order, that of all its words
 abbrev pub HasMagicOf : Order → List ℕ → Type 0
 HasMagicOf order bytes = take 4 bytes ≡ magic order
 
@@ -19,6 +19,7 @@ HasMagicOf order bytes = take 4 bytes ≡ magic order
 abbrev pub revision : Order → List ℕ → ℕ
 revision order bytes = word_at order bytes 4
 
+-- how many messages there are, N
 abbrev pub message_count : Order → List ℕ → ℕ
 message_count order bytes = word_at order bytes 8
 

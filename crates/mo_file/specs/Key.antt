@@ -1,4 +1,4 @@
--- The key by which a message is looked up ("The Format of GNU MO Files"): the msgid, or the
+-- The key by which a message is looked up (manual, "The Format of GNU MO Files"): the msgid, or the
 -- context, a byte 4 (EOT) and the msgid. In an original a NUL and the plural may follow the key.
 use Rattle.std.specs.Prelude.{◌≡◌, ℕ, ◌+◌, ◌<◌, ◌==◌, Bool, List, [], ◌∷◌, ◌++◌, length, map, slice_index_or, Option}
 use Rattle.std.specs.Prelude.{None, Some}
@@ -16,7 +16,8 @@ is_nul byte = byte == 0
 abbrev pub key_of : List ℕ → List ℕ
 key_of original = before_first is_nul original
 
--- the key that a query asks for, by its context, where it has one, and its msgid
+-- the key of a query or an entry, by its context, where it has one, and its msgid; an empty context
+-- is one
 abbrev pub query_key : Option (List ℕ) → List ℕ → List ℕ
 query_key None id = id
 query_key (Some context) id = context ++ 4 ∷ id
@@ -29,10 +30,10 @@ key_cmp x y = slice_cmp nat_cmp x y
 abbrev pub keys : List Message → List (List ℕ)
 keys messages = map (λ m. key_of m.original) messages
 
--- the key at an index
+-- the key at an index, counted from 0
 abbrev pub key_at : List (List ℕ) → ℕ → List ℕ
 key_at ks i = slice_index_or ks i []
 
--- each key is above the one before it
+-- each key is above the one before it, so no two are equal
 pub record AreRising (ks : List (List ℕ)) : Type 0 where
   pub next : (i : ℕ) → i + 1 < length ks → key_cmp (key_at ks i) (key_at ks (i + 1)) ≡ Less

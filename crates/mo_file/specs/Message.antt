@@ -1,8 +1,9 @@
--- A message of a catalogue, as an MO file has it: an original string and its translation ("The
--- Format of GNU MO Files").
+-- A message of a catalogue, as an MO file has it: an original string and its translation (manual,
+-- "The Format of GNU MO Files").
 use Rattle.std.specs.Prelude.{ℕ, List, map}
 
--- the original and the translation that stands beside it, each without the NUL that ends it
+-- The original and the translation that stands beside it, each without the NUL that ends it. A NUL
+-- inside stands before the plural of an original and between the forms of a translation.
 pub record Message : Type 0 where
   pub original : List ℕ
   pub translation : List ℕ

@@ -1,4 +1,5 @@
--- What a valid MO file is, and which list of messages it holds ("The Format of GNU MO Files").
+-- What a valid MO file is, and which list of messages it holds (manual, "The Format of GNU MO
+-- Files").
 use Rattle.std.specs.Prelude.{◌≡◌, ℕ, List}
 use Rattle.mo_file.specs.declared.byte_order.Order.{Order}
 use Rattle.mo_file.specs.declared.fault.MoError.{MoError}
@@ -7,7 +8,7 @@ use Rattle.mo_file.specs.StringTable.{messages_of}
 use Rattle.mo_file.specs.Fault.{HasFault}
 use Rattle.mo_file.specs.Message.{Message}
 
--- these bytes are an MO file in this order, with these messages
+-- these bytes are an MO file in this order, with these messages: they have none of the seven faults
 pub record IsMoFile (order : Order) (bytes : List ℕ) (messages : List Message) : Type 0 where
   pub shows : HasMagicOf order bytes
   pub faultless : (f : MoError) → ¬ HasFault bytes f

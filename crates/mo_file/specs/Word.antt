@@ -1,15 +1,15 @@
--- The 32-bit words of an MO file, in either byte order ("The Format of GNU MO Files").
+-- The 32-bit words of an MO file, in either byte order (manual, "The Format of GNU MO Files").
 use Rattle.std.specs.Prelude.{◌≡◌, refl, ℕ, List, drop}
 use Rattle.byteorder.specs.Endian.{big_bytes, big_number, little_bytes, little_number}
 use Rattle.mo_file.specs.declared.byte_order.Order.{Order}
 use Rattle.mo_file.specs.declared.byte_order.Order.TheVariants.{Little, Big}
 
--- the word that stands at an offset
+-- the word that stands at an offset, counted from 0; bytes past the end count as 0
 unfoldable pub word_at : Order → List ℕ → ℕ → ℕ
 word_at Little bytes at = little_number 4 (drop at bytes)
 word_at Big bytes at = big_number 4 (drop at bytes)
 
--- the four bytes of a word
+-- the four bytes of a word, for a number below 2^32
 unfoldable pub word_bytes : Order → ℕ → List ℕ
 word_bytes Little number = little_bytes 4 number
 word_bytes Big number = big_bytes 4 number

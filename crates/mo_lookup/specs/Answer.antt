@@ -17,7 +17,7 @@ pub record AnswerView : Type 0 where
 abbrev pub answer_view : Answer → AnswerView
 answer_view answer = record { text = answer.text.now; found = answer.found; steps = answer.steps }
 
--- a form of a translation
+-- a form of a translation, by its index from 0; the empty text where there is none
 abbrev pub form_at : List (List ℕ) → ℕ → List ℕ
 form_at forms index = slice_index_or forms index []
 
@@ -33,11 +33,12 @@ abbrev pub untranslated_text : List ℕ → Option (List ℕ × ℕ) → List �
 untranslated_text id None = id
 untranslated_text id (Some plural) = if plural.1 == 1 then id else plural.0
 
--- the answer where there is no translation
+-- the answer where there is no translation, for which the rule isn't evaluated
 abbrev pub untranslated : Query → AnswerView
 untranslated query = record { text = untranslated_text query.id query.plural; found = false; steps = 0 }
 
--- the answer from the forms of a translation
+-- the answer from the forms of a translation; without a plural it is form 0, and the rule isn't
+-- evaluated
 abbrev pub translated : List (List ℕ) → RuleView → Option (List ℕ × ℕ) → AnswerView
 translated forms rule None = record { text = form_at forms 0; found = true; steps = 0 }
 translated forms rule (Some plural) =

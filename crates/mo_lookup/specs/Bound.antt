@@ -1,13 +1,15 @@
--- The bound of the binary search of "The Format of GNU MO Files": how often a list can be halved.
+-- The bound of the binary search: how often a list can be halved (manual, "The Format of GNU MO
+-- Files").
 use Rattle.std.specs.Prelude.{ℕ, zero, suc, ◌+◌, ◌-◌, ◌/◌, ◌^◌, ◌<◌, ◌≤◌, ◌≡◌}
 
--- how often n can be halved, up to `most` times
+-- how often n can be halved, rounded down, until it is 0, up to `most` times
 abbrev pub halvings_within : ℕ → ℕ → ℕ
 halvings_within zero n = 0
 halvings_within (suc most) zero = 0
 halvings_within (suc most) (suc n) = 1 + halvings_within most (suc n / 2)
 
--- the most comparisons that a binary search of n keys makes
+-- The most comparisons that a binary search of n keys makes. More than n halvings are never needed.
+-- For n above 0 it is floor(log2 n) + 1.
 unfoldable pub search_bound : ℕ → ℕ
 search_bound n = halvings_within n n
 

@@ -15,11 +15,11 @@ pub record CatalogView : Type 0 where
   pub messages : List Message
   pub rule : RuleView
 
--- the translation that stands under a key
+-- the translation that stands under a key: of the first message with that key, or none
 abbrev pub translation_under : List ℕ → List Message → Option (List ℕ)
 translation_under key messages = option_map (λ m. m.translation) (find (λ m. bytes_eq (key_of m.original) key) messages)
 
--- the forms of a translation: the parts between its NULs
+-- the forms of a translation: the parts between its NULs, one at least, which may be empty
 abbrev pub forms : List ℕ → List (List ℕ)
 forms translation = slice_split is_nul translation
 
@@ -27,7 +27,8 @@ forms translation = slice_split is_nul translation
 abbrev pub header_text : List Message → List ℕ
 header_text messages = option_map_or (λ translation. form_at (forms translation) 0) (translation_under [] messages) []
 
--- the keys of the messages rise, and the rule is that of their header text
+-- these are the messages and the rule of a catalogue: their keys rise, and the rule is that of
+-- their header text
 pub record IsCatalogView (messages : List Message) (rule : RuleView) : Type 0 where
   pub rising : AreRising (keys messages)
   pub rule_of_header : IsRuleOf expression_limit (header_text messages) rule

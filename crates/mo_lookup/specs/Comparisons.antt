@@ -1,4 +1,5 @@
--- How many keys the binary search of "The Format of GNU MO Files" compares.
+-- How many keys the binary search compares (manual, "The Format of GNU MO Files"). The key in the
+-- middle of a list is that at half its length, rounded down, counted from 0.
 use Rattle.std.specs.Prelude.{ℕ, zero, suc, ◌+◌, ◌/◌, ◌<◌, ◌≤◌, ◌≡◌, List, [], ◌∷◌, length, take, drop, if◌then◌else◌}
 use Rattle.std.specs.declared.cmp.Ordering.{Ordering}
 use Rattle.std.specs.declared.cmp.Ordering.TheVariants.{Less, Equal, Greater}
@@ -8,7 +9,7 @@ use Rattle.mo_lookup.specs.Bound.{search_bound}
 use Rattle.mo_lookup.specs.Query.{Query, can_be_key}
 
 -- where the key in the middle is below the one that is searched, the keys after it; where it is
--- above, those before it
+-- above, those before it; and none where it is the one
 abbrev pub half : Ordering → List (List ℕ) → List (List ℕ)
 half Less ks = drop (length ks / 2 + 1) ks
 half Equal ks = []
@@ -18,7 +19,7 @@ half Greater ks = take (length ks / 2) ks
 abbrev pub keys_left : List (List ℕ) → List ℕ → List (List ℕ)
 keys_left ks key = half (key_cmp (key_at ks (length ks / 2)) key) ks
 
--- how many keys are compared, up to `most`
+-- how many keys are compared, up to `most`, until it is found or none is left
 abbrev pub comparisons_within : ℕ → List (List ℕ) → List ℕ → ℕ
 comparisons_within zero ks key = 0
 comparisons_within (suc most) [] key = 0

@@ -4,7 +4,8 @@ use Rattle.std.specs.Borrow.{Bor}
 use Rattle.std.specs.List.{list_any}
 use Rattle.std.specs.Option.{option_copied, unwrap_or}
 
--- a context, or none; a msgid; and where a plural form is asked for, the plural and the count
+-- A context, or none; a msgid; and where a plural form is asked for, the plural and the count. The
+-- plural is no part of the key. Calls pass a count below 2^64.
 pub record Query : Type 0 where
   pub context : Option (List ℕ)
   pub id : List ℕ

@@ -31,7 +31,7 @@ compile_options o = record { use_fuzzy = o.use_fuzzy; order = o.order }
 abbrev pub input_texts : List NamedFile → List (List ℕ)
 input_texts inputs = map (λ file. file.bytes) inputs
 
--- the name of the input of this index
+-- the name of the input of this index, counted from 0
 abbrev pub input_name : List NamedFile → ℕ → List ℕ
 input_name inputs i = option_map_or (λ file. file.name) (slice_get inputs i) []
 
@@ -40,7 +40,7 @@ abbrev pub across_text : List ℕ → PoFault → List ℕ
 across_text file (Duplicate line) = duplicate_text file line
 across_text file fault = po_text fault
 
--- what is wrong with the inputs
+-- what is wrong with the inputs; two inputs are named only for a duplicate across them
 abbrev pub join_text : List NamedFile → JoinError → List ℕ
 join_text inputs error =
     if error.first_input == error.input then po_text error.error.kind
@@ -75,11 +75,12 @@ abbrev pub check_line : List NamedFile → Reported → List ℕ
 check_line inputs reported =
     fault_line (codes "msgfmt") (input_name inputs reported.0) (line_of_fault reported.1) (check_text reported.1)
 
--- the check of catalogues: its first fault, or none
+-- the check of the joined list of these catalogues: its first fault, or none
 abbrev pub AreChecked : Bool → List (List TextEntry) → Option Reported → Type 0
 AreChecked use_fuzzy catalogues fault = IsChecked (compiled_inputs use_fuzzy (joined catalogues)) fault
 
--- the file where there is a message, and the statistics where they are asked for
+-- the file where a message is compiled, and the statistics where they are asked for, with a file or
+-- without; the status is 0
 abbrev pub compiled_run : MsgfmtOptions → Compiled → RunView
 compiled_run o compiled = record {
   output = if nat_lt 0 compiled.n then compiled.bytes.items else [];
@@ -88,14 +89,15 @@ compiled_run o compiled = record {
   status = 0;
 }
 
--- the inputs aren't compiled, which is reported before any fault of the check
+-- The inputs aren't compiled, which is reported before any fault of the check. A failed allocation
+-- (`NoMemory`) makes no run: it is reported without a file.
 pub record IsRefused (inputs : List NamedFile) (o : MsgfmtOptions) (run : RunView) : Type 0 where
   pub error : JoinError
   pub fault : IsCompileFault (compile_options o) (input_texts inputs) error
   pub not_memory : error.error.kind ≢ NoMemory
   pub run_is : run ≡ refusal (join_line inputs error)
 
--- the inputs are compiled, and the check that is asked for reports a fault
+-- the inputs are compiled, and the check that is asked for reports a fault: then no file is made
 pub record FailsCheck (inputs : List NamedFile) (o : MsgfmtOptions) (run : RunView) : Type 0 where
   pub catalogues : List (List TextEntry)
   pub read : AreRead (input_texts inputs) catalogues
@@ -115,7 +117,7 @@ pub record IsDone (inputs : List NamedFile) (o : MsgfmtOptions) (run : RunView) 
   pub checked : o.profile_check ≡ true → AreChecked o.use_fuzzy catalogues None
   pub run_is : run ≡ compiled_run o compiled
 
--- what a run of msgfmt comes to
+-- what a run of msgfmt comes to, for inputs that could all be read
 abbrev pub IsMsgfmtRun : List NamedFile → MsgfmtOptions → RunView → Type 0
 IsMsgfmtRun inputs o run = IsRefused inputs o run ⊎ FailsCheck inputs o run ⊎ IsDone inputs o run
 

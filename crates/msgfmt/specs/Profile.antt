@@ -38,11 +38,12 @@ checked_message m = taken_entry (compiled_view m)
 abbrev pub checked_messages : List CompiledMessage → List InputEntry
 checked_messages messages = map checked_message messages
 
--- a fault, with the input that it is reported of
+-- a fault, with the input that it is reported of, counted from 0; one that is of all inputs
+-- together is reported of the first
 abbrev pub Reported : Type 0
 Reported = ℕ × CheckFault
 
--- the first that f gives for an element of a list
+-- the first that f gives for an element of a list, or none where it gives none
 abbrev pub first_some : {A B : Type 0} → (A → Option B) → List A → Option B
 first_some f [] = None
 first_some f (x ∷ xs) = option_or (f x) (first_some f xs)
@@ -51,7 +52,7 @@ first_some f (x ∷ xs) = option_or (f x) (first_some f xs)
 abbrev pub is_plural : InputEntry → Bool
 is_plural e = is_some e.entry.plural
 
--- the entry is the header
+-- the entry is a header; of the compiled ones at most one is
 abbrev pub is_header_entry : InputEntry → Bool
 is_header_entry e = is_header e.entry
 
@@ -60,7 +61,7 @@ abbrev pub source_fault : Source → InputEntry → Option Reported
 source_fault Header e = None
 source_fault (Default reason) e = Some (e.input, NoRule e.entry.line reason)
 
--- reported of the first entry with a plural
+-- reported of the first entry with a plural, a header too; without one no rule is asked for
 abbrev pub rule_fault : Source → Option InputEntry → Option Reported
 rule_fault source None = None
 rule_fault source (Some e) = source_fault source e
@@ -70,7 +71,7 @@ abbrev pub end_byte : End → List ℕ → Option ℕ
 end_byte Beginning text = slice_get text 0
 end_byte Ending text = slice_get text (length text - 1)
 
--- a text begins, or ends, with a newline
+-- a text begins, or ends, with a newline (LF); an empty one doesn't
 abbrev pub has_newline : End → List ℕ → Bool
 has_newline end text = option_map_or (λ b. b == 10) (end_byte end text) false
 
@@ -95,7 +96,7 @@ entry_fault nplurals e =
     else if differs_from_msgid Ending e.entry then Some (e.input, TrailingNewline e.entry.line)
     else None
 
--- the fault of a rule's value at a count, which has to be the index of a form
+-- the fault of a rule's value at a count, which has to be defined and below nplurals
 abbrev pub value_fault : ℕ → ℕ → Option ℕ → Option Reported
 value_fault nplurals count None = Some (0, Undefined count)
 value_fault nplurals count (Some index) = if nat_lt index nplurals then None else Some (0, IndexOutside count)
@@ -108,8 +109,9 @@ count_fault rule count = value_fault rule.nplurals count (value rule.tree count)
 unfoldable pub counts_below : ℕ → List ℕ
 counts_below end = range_with_len 0 end
 
--- the first fault of the messages that are compiled and have a header, with its rule, whose values
--- are checked at the counts from 0 to 1,000
+-- The first fault of the messages that are compiled and have a header, with its rule: that of the
+-- rule; that of an entry, in order; and where an entry has a plural, that of a value of the rule,
+-- at the counts from 0 to 1,000.
 abbrev pub first_fault : List InputEntry → RuleView → Option Reported
 first_fault entries rule =
     let plural = find is_plural entries in
@@ -117,8 +119,8 @@ first_fault entries rule =
     (option_or (first_some (entry_fault rule.nplurals) entries)
     (if is_some plural then first_some (count_fault rule) (counts_below 1001) else None))
 
--- The first fault of the messages that are compiled: that there is no header, or their first fault
--- by the rule of the header.
+-- The first fault of the messages that are compiled, or none: that there is no header, or their
+-- first fault by the rule of the header.
 abbrev pub IsChecked : List InputEntry → Option Reported → Type 0
 IsChecked entries fault =
     MatchOption (find is_header_entry entries) (fault ≡ Some (0, NoHeader))

@@ -1,4 +1,5 @@
--- A plural expression as a tree, its value, and how many of its nodes an evaluation visits.
+-- A plural expression as a tree, its value, and how many of its nodes an evaluation visits. A node
+-- is `n`, a numeral or an operator, `?:` as one; parentheses are none. A visit is one step.
 -- GNU gettext manual, "Plural forms"; C standard, "Expressions", over unsigned numbers of 64 bits.
 use Rattle.std.specs.Prelude.{ℕ, ◌+◌, ◌-◌, ◌*◌, ◌/◌, ◌%◌, ◌^◌, Bool, true, false, not, nat_lt, nat_le, ◌==◌, Option}
 use Rattle.std.specs.Prelude.{Some, None, option_and_then, if◌then◌else◌}
@@ -7,7 +8,8 @@ use Rattle.plural_rule.specs.declared.operator.Operator.TheVariants.{Or, And, Eq
 use Rattle.plural_rule.specs.declared.operator.Operator.TheVariants.{AtLeast, Add, Subtract, Multiply, Divide}
 use Rattle.plural_rule.specs.declared.operator.Operator.TheVariants.{Remainder}
 
--- an expression: n, a numeral, `!a`, an operator with two operands, or `a ? b : c`
+-- an expression: `n`, for which the count stands, a numeral, `!a`, an operator with two operands,
+-- or `a ? b : c`
 pub data Tree : Type 0 where
   Count : Tree
   Number : ℕ → Tree
@@ -32,13 +34,14 @@ truth false = 0
 abbrev pub is_zero : ℕ → Bool
 is_zero x = x == 0
 
--- whether the second operand is evaluated, where the first one's value is x
+-- whether the second operand is evaluated, where the first one's value is x: of `||` (`Or`) if x is
+-- 0, of `&&` (`And`) if it isn't, and of every other operator
 abbrev pub needs_right : Operator → ℕ → Bool
 needs_right Or x = is_zero x
 needs_right And x = not (is_zero x)
 needs_right _ x = true
 
--- the value where the second operand isn't evaluated
+-- the value where the second operand isn't evaluated: of `||` 1, of `&&` 0
 abbrev pub short_circuit_value : Operator → ℕ
 short_circuit_value Or = 1
 short_circuit_value _ = 0
@@ -47,7 +50,7 @@ short_circuit_value _ = 0
 abbrev pub divided : ℕ → ℕ → Option ℕ
 divided y quotient = if is_zero y then None else Some quotient
 
--- the value where both operands are evaluated, to x and y
+-- the value where both operands are evaluated, to x and y: a truth value, or a number modulo 2^64
 abbrev pub combined : Operator → ℕ → ℕ → Option ℕ
 combined Or x y = Some (truth (not (is_zero y)))
 combined And x y = Some (truth (not (is_zero y)))
@@ -63,7 +66,8 @@ combined Multiply x y = Some ((x * y) % 2 ^ 64)
 combined Divide x y = divided y (x / y)
 combined Remainder x y = divided y (x % y)
 
--- the value of an operator with two operands, from the values of the first and of the second
+-- the value of an operator with two operands, from the values of the first and of the second, each
+-- of which may be undefined
 abbrev pub binary_value : Operator → Option ℕ → Option ℕ → Option ℕ
 binary_value op None right = None
 binary_value op (Some x) right =
@@ -80,7 +84,8 @@ abbrev pub negated : Option ℕ → Option ℕ
 negated None = None
 negated (Some x) = Some (truth (is_zero x))
 
--- the value at a count, or none where it is undefined: it divides by 0
+-- the value at a count, or none where it is undefined: a part that it needs divides by 0; where the
+-- count and all numerals are below 2^64, it is so too
 abbrev pub value : Tree → ℕ → Option ℕ
 value Count n = Some n
 value (Number v) n = Some v

@@ -1,4 +1,5 @@
--- The trees that tokens spell, by levels of precedence.
+-- The trees that tokens spell, by levels of precedence. Where a token and a node of the tree have
+-- one name, the token's has `Token` added to it here.
 -- GNU gettext manual, "Plural forms"; C standard, "Expressions": from "Conditional operator" (level
 -- 0) to "Unary operators" (level 7).
 use Rattle.std.specs.Prelude.{ℕ, suc, ◌^◌, ◌<◌, List, [], ◌∷◌, ◌++◌}
@@ -29,8 +30,9 @@ level Multiply = 6
 level Divide = 6
 level Remainder = 6
 
--- the tokens spell the tree as an operand of this level; operators of two operands group to the
--- left, `?:` to the right
+-- The tokens spell the tree as an operand of this level: 0 is a whole expression, 7 an operand of
+-- `!`, as is an expression in parentheses. Operators of two operands group to the left, `?:` to the
+-- right.
 pub data Spells : ℕ → List Token → Tree → Type 0 where
   tighter : {k : ℕ} {ts : List Token} {t : Tree} → Spells (suc k) ts t → Spells k ts t
   conditional : {xs ys zs : List Token} {a b c : Tree} → Spells 1 xs a → Spells 0 ys b → Spells 0 zs c

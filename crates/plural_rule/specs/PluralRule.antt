@@ -13,7 +13,8 @@ use Rattle.plural_rule.specs.Program.{tree_of}
 use Rattle.plural_rule.specs.Grammar.{Spelt}
 use Rattle.plural_rule.specs.Header.{nplurals_of, expression_of}
 
--- what clauses see of a rule: where it comes from, the number of plural forms, and the expression
+-- What clauses see of a rule: where it comes from (`Header`, or `Default` with the reason why there
+-- is none in the header), the number of plural forms, and the expression.
 pub record RuleView : Type 0 where
   pub source : Source
   pub nplurals : ℕ
@@ -74,7 +75,7 @@ pub record IsUnreadable (limit : ℕ) (header : List ℕ) : Type 0 where
   pub text_fits : length text ≤ limit
   pub wrong : (2 ^ 64 ≤ nplurals) ⊎ ((tree : Tree) → Spelt tree text → ⊥)
 
--- the reason for the default rule holds of the header
+-- the reason for the default rule holds of the header; of each header at most one does
 abbrev pub IsReason : ℕ → List ℕ → Reason → Type 0
 IsReason limit header NoNumber = nplurals_of header ≡ None
 IsReason limit header NoExpression = HasNoExpression header
@@ -86,7 +87,8 @@ abbrev pub Gives : ℕ → List ℕ → RuleView → Source → Type 0
 Gives limit header rule Header = IsReadable limit header rule.nplurals rule.tree
 Gives limit header rule (Default reason) = IsReason limit header reason × (rule ≡ default_rule reason)
 
--- the rule of a header text, within a limit on the bytes of its expression
+-- The rule of a header text, within a limit on the bytes of its expression. Each text has just one;
+-- the empty text has the default rule for `NoNumber`.
 abbrev pub IsRuleOf : ℕ → List ℕ → RuleView → Type 0
 IsRuleOf limit header rule = Gives limit header rule rule.source
 

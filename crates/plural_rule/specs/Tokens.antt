@@ -9,7 +9,7 @@ use Rattle.plural_rule.specs.declared.operator.Operator.TheVariants.{Remainder}
 use Rattle.plural_rule.specs.declared.token.Token.{Token}
 use Rattle.plural_rule.specs.declared.token.Token.TheVariants.{Count, Number, Not, Binary, Question, Colon, Open, Close}
 
--- a space or a TAB
+-- a space or a TAB; CR, FF and VT, which are blanks of a PO text, are none here
 abbrev pub is_blank : ℕ → Bool
 is_blank c = c == 32 || c == 9
 
@@ -29,7 +29,8 @@ operator_bytes Multiply = codes "*"
 operator_bytes Divide = codes "/"
 operator_bytes Remainder = codes "%"
 
--- the bytes spell the token: a numeral is one digit or more, every other token has one spelling
+-- the bytes spell the token: a numeral is one decimal digit or more, also with a 0 first, and every
+-- other token has one spelling
 abbrev pub IsSpelling : Token → List ℕ → Type 0
 IsSpelling Count bytes = bytes ≡ codes "n"
 IsSpelling (Number v) bytes = (bytes ≢ []) × AllDigits 10 bytes × (digits_value 10 bytes ≡ v)
@@ -45,7 +46,7 @@ abbrev pub IsLongest : List ℕ → List ℕ → Type 0
 IsLongest own rest =
     (t : Token) (more after : List ℕ) → rest ≡ more ++ after → more ≢ [] → IsSpelling t (own ++ more) → ⊥
 
--- the text spells the tokens
+-- the text spells the tokens; blanks may stand before, between and after them, and in none of them
 pub data Lexes : List ℕ → List Token → Type 0 where
   end : Lexes [] []
   blank : {c : ℕ} {text : List ℕ} {ts : List Token} → IsTrue (is_blank c) → Lexes text ts → Lexes (c ∷ text) ts

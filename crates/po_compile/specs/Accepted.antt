@@ -30,12 +30,13 @@ pub record HasSmallLayout (options : Options) (entries : List TextEntry) : Type 
   pub are_messages : AreMessagesOf (compiled_list options.use_fuzzy entries) messages
   pub small : length (layout options.order messages) < 2 ^ 32
 
--- under these options the texts, which read as these catalogues, are accepted
+-- Under these options (byte order, and whether fuzzy entries are compiled) the texts, which read as
+-- these catalogues, are accepted. Texts from which no entry is compiled are too.
 pub record AreAccepted (options : Options) (texts : List (List ℕ)) (catalogues : List (List TextEntry)) : Type 0 where
   pub read : AreRead texts catalogues
   pub layout : HasSmallLayout options (joined_entries catalogues)
 
--- this is what the joined list of these texts is compiled to
+-- this is what the joined list of these texts, which are accepted, is compiled to
 pub record AreCompiled (options : Options) (texts : List (List ℕ)) (compiled : Compiled) : Type 0 where
   pub catalogues : List (List TextEntry)
   pub read : AreRead texts catalogues
@@ -54,7 +55,7 @@ fault_of_input input error =
 abbrev pub fault_of_only_input : PoError → JoinError
 fault_of_only_input error = record { input = 0; first_input = 0; error = error }
 
--- the first input with a fault, and that fault
+-- the first input with a fault, and that fault; the inputs after it may have any
 pub record IsFaultOfInput (texts : List (List ℕ)) (error : JoinError) : Type 0 where
   pub before : List (List ℕ)
   pub text : List ℕ
@@ -75,7 +76,8 @@ pub record HasJoinedDuplicate (texts : List (List ℕ)) (error : JoinError) : Ty
   pub duplicate : IsFirstDuplicate (joined catalogues) first later
   pub error_is : error ≡ duplicate_fault first later
 
--- why texts aren't read: a fault of an input, a duplicate across inputs, or out of memory
+-- why texts aren't read: a fault of an input, a duplicate across inputs, or out of memory, which
+-- may come in place of any other
 abbrev pub IsReadingFault : List (List ℕ) → JoinError → Type 0
 IsReadingFault texts error = (error ≡ join_out_of_memory) ⊎ IsFaultOfInput texts error ⊎ HasJoinedDuplicate texts error
 

@@ -7,7 +7,7 @@ use Rattle.po_messages.specs.Joined.{is_live}
 use Rattle.po_messages.specs.Statistics.{has_translation}
 
 -- A live entry whose first form isn't empty, and that isn't fuzzy, unless fuzzy entries are asked
--- for. A header's flag `fuzzy` is ignored.
+-- for (`--use-fuzzy`). A header's flag `fuzzy` is ignored. Forms after the first may be empty.
 abbrev pub is_compiled : Bool → TextEntry → Bool
 is_compiled use_fuzzy entry =
     is_live entry && (has_translation entry && (use_fuzzy || not entry.fuzzy || is_header entry))

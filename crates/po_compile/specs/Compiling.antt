@@ -19,7 +19,8 @@ use Rattle.po_compile.specs.declared.options.Options.{Options}
 use Rattle.po_compile.specs.declared.options.Compiled.{Compiled}
 
 -- The file is the layout of the compiled entries' messages. It is valid, holds these messages, and
--- answers each query as the entries do. With it go their number and the statistics of all entries.
+-- answers each query as the entries do. With it go their number (`n`) and the statistics of all
+-- entries, compiled or not.
 pub record IsCompilation (options : Options) (entries : List TextEntry) (compiled : Compiled) : Type 0 where
   pub messages : List Message
   pub are_messages : AreMessagesOf (compiled_list options.use_fuzzy entries) messages
@@ -36,7 +37,8 @@ pub record HasLargeLayout (options : Options) (entries : List TextEntry) : Type 
   pub are_messages : AreMessagesOf (compiled_list options.use_fuzzy entries) messages
   pub large : 2 ^ 32 ≤ length (layout options.order messages)
 
--- the fault of a layout, which is of no input and has no line
+-- the fault of a layout: it is of all inputs together and has no line (0), and is reported with the
+-- name of the first input (0)
 abbrev pub layout_fault : JoinError
 layout_fault = record { input = 0; first_input = 0; error = record { kind = TooLarge; line = 0 } }
 

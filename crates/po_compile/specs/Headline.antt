@@ -1,4 +1,5 @@
--- Laws of compiling: what is looked up in a compiled catalogue is what its entries mean.
+-- Laws of compiling: what is looked up in a compiled catalogue is what its entries mean (manual,
+-- "Invoking the msgfmt Program" and "The Format of GNU MO Files").
 use Rattle.std.specs.Prelude.{◌≡◌, ◌≢◌, ◌⊎◌, ℕ, List, All}
 use Rattle.mo_file.specs.Message.{Message}
 use Rattle.mo_file.specs.Layout.{layout}

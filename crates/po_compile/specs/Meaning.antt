@@ -20,7 +20,7 @@ definition entries context id = if can_be_key context id then find (is_of_messag
 abbrev pub header_of : List TextEntry → List ℕ
 header_of entries = option_map_or (λ header. first_form header.forms) (definition entries None []) []
 
--- the rule is that of the entries' header
+-- the rule is that of the entries' header, the default rule where they have none
 abbrev pub IsRuleOfEntries : List TextEntry → RuleView → Type 0
 IsRuleOfEntries entries rule = IsRuleOf expression_limit (header_of entries) rule
 
@@ -29,7 +29,8 @@ abbrev pub meant : List TextEntry → RuleView → Query → AnswerView
 meant entries rule query =
     answer (option_map (λ entry. entry.forms) (definition entries query.context query.id)) rule query
 
--- the answers of a file's messages are those of the entries
+-- The answers of a file's messages are those of the entries: the rule of the file is that of the
+-- entries, and under any one rule, and so that one, every query is answered alike.
 pub record MeansEntries (entries : List TextEntry) (messages : List Message) : Type 0 where
   pub rule : (rule : RuleView) → IsCatalogView messages rule → IsRuleOfEntries entries rule
   pub answers : (rule : RuleView) (query : Query)

@@ -10,6 +10,7 @@ use Rattle.po_syntax.specs.Token.{is_blank}
 use Rattle.po_entry.specs.Bytes.{trimmed}
 use Rattle.po_entry.specs.Parts.{CommentText, PreviousText, rank}
 
+-- whether two of the four kinds of comments are the same
 abbrev pub same_kind : CommentKind → CommentKind → Bool
 same_kind Translator Translator = true
 same_kind Translator Extracted = false
@@ -28,7 +29,7 @@ same_kind Flags Extracted = false
 same_kind Flags Reference = false
 same_kind Flags Flags = true
 
--- the texts of the comments of a kind
+-- the texts of the comments of a kind, in order
 abbrev pub texts_of : CommentKind → List CommentText → List (List ℕ)
 texts_of kind comment_texts =
     map (λ (comment_text : CommentText). comment_text.text)
@@ -37,23 +38,26 @@ texts_of kind comment_texts =
 abbrev pub is_not_empty : List ℕ → Bool
 is_not_empty text = not (length text == 0)
 
--- the elements of a text, between blanks
+-- the elements of one reference line, between blanks
 abbrev pub listed_references : List ℕ → List (List ℕ)
 listed_references text = filter is_not_empty (slice_split is_blank text)
 
 abbrev pub is_comma : ℕ → Bool
 is_comma b = b == 44
 
--- the elements of a text, between commas and without blanks at their ends
+-- the elements of one flag line, between commas and without blanks at their ends; empty ones are
+-- left out
 abbrev pub listed_flags : List ℕ → List (List ℕ)
 listed_flags text = filter is_not_empty (map trimmed (slice_split is_comma text))
 
+-- the translator's comments
 abbrev pub comments_of : List CommentText → List (List ℕ)
 comments_of comment_texts = texts_of Translator comment_texts
 
 abbrev pub extracted_of : List CommentText → List (List ℕ)
 extracted_of comment_texts = texts_of Extracted comment_texts
 
+-- the elements of all reference lines, in order, repeats too
 abbrev pub references_of : List CommentText → List (List ℕ)
 references_of comment_texts = flat_map listed_references (texts_of Reference comment_texts)
 
@@ -64,6 +68,7 @@ all_listed_flags comment_texts = flat_map listed_flags (texts_of Flags comment_t
 abbrev pub is_fuzzy_flag : List ℕ → Bool
 is_fuzzy_flag flag = bytes_eq flag (codes "fuzzy")
 
+-- some flag line has `fuzzy`
 abbrev pub fuzzy_of : List CommentText → Bool
 fuzzy_of comment_texts = list_any is_fuzzy_flag (all_listed_flags comment_texts)
 
@@ -71,10 +76,11 @@ fuzzy_of comment_texts = list_any is_fuzzy_flag (all_listed_flags comment_texts)
 abbrev pub with_flag : List (List ℕ) → List ℕ → List (List ℕ)
 with_flag flags flag = if is_fuzzy_flag flag || list_any (bytes_eq flag) flags then flags else flags ++ flag ∷ []
 
+-- the flags other than `fuzzy`, each once, in the order in which they first stand
 abbrev pub flags_of : List CommentText → List (List ℕ)
 flags_of comment_texts = fold with_flag [] (all_listed_flags comment_texts)
 
--- the previous texts with one more, in its field
+-- the previous texts with one more, in its field: of the context, of the msgid, else of the plural
 abbrev pub with_previous : TextPrevious → PreviousText → TextPrevious
 with_previous fields previous =
     if rank previous.keyword == 1 then record { context = Some previous.text; id = fields.id; plural = fields.plural }

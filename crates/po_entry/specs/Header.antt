@@ -9,7 +9,8 @@ use Rattle.po_entry.specs.TextEntry.{TextEntry}
 abbrev pub is_header : TextEntry → Bool
 is_header entry = is_none entry.context && length entry.id == 0
 
--- what stands after the first `charset=`; nothing where there is none
+-- what stands after the first `charset=` (8 bytes, in lower case); the empty text where there is
+-- none
 abbrev pub after_charset : List ℕ → List ℕ
 after_charset [] = []
 after_charset (b ∷ text) =
@@ -32,7 +33,7 @@ admitted_names =
 abbrev pub IsAdmittedName : List ℕ → Type 0
 IsAdmittedName name = Contains admitted_names (map to_ascii_lowercase name)
 
--- the first form of an entry
+-- the first of an entry's forms; the empty text where there is none
 abbrev pub first_form : List (List ℕ) → List ℕ
 first_form [] = []
 first_form (form ∷ forms) = form

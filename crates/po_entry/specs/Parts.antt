@@ -5,7 +5,7 @@ use Rattle.po_syntax.specs.declared.item.CommentKind.{CommentKind}
 use Rattle.po_syntax.specs.declared.item.Keyword.{Keyword}
 use Rattle.po_syntax.specs.declared.item.Keyword.TheVariants.{MsgCtxt, MsgId, MsgIdPlural, MsgStr, MsgStrAt}
 
--- a comment, with its kind
+-- a comment, with its kind: the text after its mark
 pub record CommentText : Type 0 where
   pub kind : CommentKind
   pub text : List ℕ
@@ -24,7 +24,8 @@ rank MsgIdPlural = 3
 rank MsgStr = 0
 rank (MsgStrAt index) = 0
 
--- what an entry's own lines say, from its context or msgid to its last form
+-- what an entry's own lines say, from its context or msgid to its last form; `id` is its msgid, and
+-- `line` the line of the keyword `msgid`
 pub record Body : Type 0 where
   pub context : Option (List ℕ)
   pub id : List ℕ

@@ -8,7 +8,8 @@ use Rattle.po_entry.specs.Header.{HasAdmittedCharset}
 use Rattle.po_entry.specs.Spelling.{SpellsEntries}
 use Rattle.po_entry.specs.Validity.{HasTexts}
 
--- the text reads as these entries
+-- The text reads as these entries: its lines spell items, the items spell the entries, and the
+-- texts and headers of these can stand in a catalogue. Duplicates are no matter here.
 pub record ReadsText (text : List ℕ) (entries : List TextEntry) : Type 0 where
   pub items : List TextItem
   pub spelt : SpellsText text items

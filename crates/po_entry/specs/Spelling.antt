@@ -29,7 +29,8 @@ own_marks obsolete = record { obsolete = obsolete; previous = false }
 abbrev pub previous_marks : Bool → Marks
 previous_marks obsolete = record { obsolete = obsolete; previous = true }
 
--- comments, and previous texts among them
+-- an entry's head: comments, and previous texts among them, each of which may be under `#|` or
+-- `#~|`
 pub data SpellsHead : List TextItem → List CommentText → List PreviousText → Type 0 where
   nothing : SpellsHead [] [] []
   head_comment : {kind : CommentKind} {text : List ℕ} {line : ℕ} {items : List TextItem}
@@ -75,8 +76,8 @@ pub data SpellsTranslation (obsolete : Bool) : List TextItem → Option (List �
       → SpellsKeywordText MsgIdPlural (own_marks obsolete) line own text → SpellsForms obsolete 0 items forms
       → SpellsTranslation obsolete (own ++ items) (Some text) forms
 
--- an entry's own lines: its context, if any, its msgid with its line, its plural, if any, and its
--- forms, all obsolete or none
+-- An entry's own lines: its context, if any, its msgid with its line, its plural, if any, and its
+-- forms. All are obsolete or none is, and no comment stands among them.
 pub data SpellsBody : List TextItem → Body → Type 0 where
   own_lines : {obsolete : Bool} {line : ℕ} {first own last : List TextItem} {context : Option (List ℕ)} {id : List ℕ}
       {plural : Option (List ℕ)} {forms : List (List ℕ)} → SpellsContext obsolete first context
@@ -101,12 +102,13 @@ entry_from comment_texts previous body = record {
   line = body.line;
 }
 
--- an entry: its head, and then its own lines
+-- an entry: its head, and then its own lines, whose marks alone say whether it is obsolete
 pub data SpellsEntry : List TextItem → TextEntry → Type 0 where
   entry : {head own : List TextItem} {comment_texts : List CommentText} {previous : List PreviousText} {body : Body}
       → SpellsHead head comment_texts previous → AreInOrder previous → SpellsBody own body
       → SpellsEntry (head ++ own) (entry_from comment_texts previous body)
 
+-- a comment of any kind
 abbrev pub IsCommentItem : TextItem → Type 0
 IsCommentItem (Comment kind text line) = Unit {0}
 IsCommentItem (Word keyword marks line) = ⊥
@@ -116,7 +118,8 @@ abbrev pub AreComments : List TextItem → Type 0
 AreComments [] = Unit {0}
 AreComments (item ∷ items) = IsCommentItem item × AreComments items
 
--- the items of each entry in turn, and then comments that belong to no entry
+-- the items of each entry in turn, and then comments that belong to no entry, which are dropped;
+-- comments between two entries are in the head of the second
 pub data SpellsEntries : List TextItem → List TextEntry → Type 0 where
   comments : {items : List TextItem} → AreComments items → SpellsEntries items []
   entries : {own items : List TextItem} {first : TextEntry} {others : List TextEntry} → SpellsEntry own first

@@ -10,11 +10,14 @@ pub record TextPrevious : Type 0 where
   pub id : Option (List ℕ)
   pub plural : Option (List ℕ)
 
+-- none of the three
 abbrev pub no_previous : TextPrevious
 no_previous = record { context = None; id = None; plural = None }
 
--- The fields of an entry. `flags` are those other than `fuzzy`; `line` is the line of its msgid, 0
--- where it has none.
+-- The fields of an entry: the texts of its translator's comments and of its extracted comments; its
+-- references, each by itself; whether the flag `fuzzy` is there, and the other flags; its previous
+-- texts; its context, msgid (`id`) and plural; its forms, which are the one of `msgstr` or those of
+-- `msgstr[0]` on; whether it is obsolete; and the line of its msgid, 0 where it comes from no text.
 pub record TextEntry : Type 0 where
   pub comments : List (List ℕ)
   pub extracted : List (List ℕ)
@@ -71,7 +74,7 @@ abbrev pub previous_texts : TextPrevious → List (List ℕ)
 previous_texts previous =
     option_to_list previous.context ++ option_to_list previous.id ++ option_to_list previous.plural
 
--- the texts that an entry's quoted strings spell
+-- the texts that an entry's quoted strings spell: those of all its keywords, and of no comment
 abbrev pub quoted_texts : TextEntry → List (List ℕ)
 quoted_texts entry =
     previous_texts entry.previous ++ option_to_list entry.context ++ (entry.id ∷ []) ++ option_to_list entry.plural

@@ -48,7 +48,8 @@ pub record IsCatalogueEntry (entry : TextEntry) : Type 0 where
   pub valid : IsEntry entry
   pub charset : HasAdmittedCharset entry
 
--- no NUL in a text of the quoted strings, and no EOT in the entry's own context and msgid
+-- No NUL in a text of the quoted strings, as an MO file ends each string with one, and no EOT (4)
+-- in the entry's own context and msgid, as it stands between them there.
 pub record IsClean (entry : TextEntry) : Type 0 where
   pub no_nul : All (Lacks 0) (quoted_texts entry)
   pub context : IfSome entry.context (Lacks 4)
@@ -60,11 +61,13 @@ pub data TextsFault (entry : TextEntry) : PoFault → Type 0 where
   not_utf8 : (All IsUtf8 (quoted_texts entry) → ⊥) → TextsFault entry NotUtf8
   forbidden : All IsUtf8 (quoted_texts entry) → (IsClean entry → ⊥) → TextsFault entry ForbiddenByte
 
--- the texts of the quoted strings can stand in an entry
+-- The texts of the quoted strings can stand in an entry: each is UTF-8 after its strings are
+-- joined, escapes too, and free of the bytes that the MO file needs.
 pub record HasTexts (entry : TextEntry) : Type 0 where
   pub utf8 : All IsUtf8 (quoted_texts entry)
   pub clean : IsClean entry
 
+-- a failed allocation, which has no line (0)
 abbrev pub out_of_memory : PoError
 out_of_memory = record { kind = OutOfMemory; line = 0 }
 

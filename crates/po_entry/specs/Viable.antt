@@ -9,7 +9,7 @@ use Rattle.po_entry.specs.Spelling.{own_marks}
 use Rattle.po_entry.specs.TextEntry.{TextEntry}
 use Rattle.po_entry.specs.Spelling.{SpellsEntries}
 
--- some items could follow these, and then all of them read as entries
+-- some items, or none, could follow these, and then all of them read as entries
 abbrev pub IsViable : List TextItem → Type 0
 IsViable items = (after : List TextItem) × (entries : List TextEntry) × SpellsEntries (items ++ after) entries
 
@@ -19,7 +19,7 @@ IsOwn (Comment kind text line) = ⊥
 IsOwn (Word keyword marks line) = marks.previous ≡ false
 IsOwn (Str bytes marks line) = marks.previous ≡ false
 
--- the item under this obsolete mark
+-- the item with or without the obsolete mark
 abbrev pub with_obsolete : Bool → TextItem → TextItem
 with_obsolete obsolete (Comment kind text line) = Comment kind text line
 with_obsolete obsolete (Word keyword marks line) =

@@ -22,6 +22,6 @@ pub record HasDuplicate (text : List ℕ) (error : PoError) : Type 0 where
   pub duplicate : IsFirstDuplicate (map (in_input 0) entries) first later
   pub error_is : error ≡ (duplicate_fault first later).error
 
--- the first fault of a text: why it doesn't read, or its first duplicate
+-- the first fault of a text: why it doesn't read; or, of a text that does, its first duplicate
 abbrev pub IsTextFault : List ℕ → PoError → Type 0
 IsTextFault text error = IsReadFault text error.kind error.line ⊎ HasDuplicate text error

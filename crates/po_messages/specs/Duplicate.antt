@@ -10,25 +10,28 @@ use Rattle.po_syntax.specs.declared.fault.PoError.{PoError}
 use Rattle.po_messages.specs.declared.duplicate.JoinError.{JoinError}
 use Rattle.po_messages.specs.Joined.{InputEntry, is_live, in_input, entries_of}
 
--- the entry is of the message with this context and msgid
+-- the entry has this context, or none where this is none, and this msgid
 abbrev pub is_of_message : Option (List ℕ) → List ℕ → TextEntry → Bool
 is_of_message context id entry = option_eq bytes_eq entry.context context && bytes_eq entry.id id
 
+-- the entries have the same context, or both none, and the same msgid; a plural makes no difference
 abbrev pub IsSameMessage : TextEntry → TextEntry → Type 0
 IsSameMessage a b = (a.context ≡ b.context) × (a.id ≡ b.id)
 
--- no two of the entries have the same context and msgid
+-- no entry has the context and msgid of a later one
 abbrev pub AllDiffer : List TextEntry → Type 0
 AllDiffer entries = AllPairs (λ a b. ¬ IsSameMessage a b) entries
 
--- no live entry has the context and msgid of another
+-- no live entry has the context and msgid of another live one
 abbrev pub HasNoDuplicate : List TextEntry → Type 0
 HasNoDuplicate entries = AllDiffer (filter is_live entries)
 
+-- the live ones of the entries, in order
 abbrev pub live_entries : List InputEntry → List InputEntry
 live_entries entries = filter (λ e. is_live e.entry) entries
 
--- `later` is the earliest live entry that repeats an earlier live one, and `first` is that one
+-- `later` is the earliest live entry that repeats an earlier live one, and `first` is that one: the
+-- live entries before `later` all differ
 pub record IsFirstDuplicate (entries : List InputEntry) (first later : InputEntry) : Type 0 where
   pub before : List InputEntry
   pub between : List InputEntry
@@ -37,7 +40,8 @@ pub record IsFirstDuplicate (entries : List InputEntry) (first later : InputEntr
   pub same : IsSameMessage first.entry later.entry
   pub differ : AllDiffer (entries_of (before ++ first ∷ between))
 
--- what is reported of a duplicate: where the later entry stands, and where the first
+-- what is reported of a duplicate: where the later entry stands (`input`, and the line of the
+-- error), and where the first does (`first_input`, and the line in the kind of the fault)
 abbrev pub duplicate_fault : InputEntry → InputEntry → JoinError
 duplicate_fault first later = record {
   input = later.input;
@@ -45,7 +49,7 @@ duplicate_fault first later = record {
   error = record { kind = Duplicate first.entry.line; line = later.entry.line };
 }
 
--- out of memory, which has no line and no input
+-- out of memory, which has no line (0) and is of no input, for which 0 stands
 abbrev pub join_out_of_memory : JoinError
 join_out_of_memory = record { input = 0; first_input = 0; error = out_of_memory }
 

@@ -10,6 +10,7 @@ pub record InputEntry : Type 0 where
   pub input : ℕ
   pub entry : TextEntry
 
+-- the entry isn't obsolete
 abbrev pub is_live : TextEntry → Bool
 is_live entry = not entry.obsolete
 
@@ -25,7 +26,7 @@ abbrev pub kept_entries : Bool → List TextEntry → List TextEntry
 kept_entries headed entries = if headed then filter (λ e. not (is_live_header e)) entries else entries
 
 -- the entries of the inputs from this one on, where `headed` says whether an earlier one has a live
--- header
+-- header, translated or not
 abbrev pub joined_from : ℕ → Bool → List (List TextEntry) → List InputEntry
 joined_from input headed [] = []
 joined_from input headed (entries ∷ inputs) =
@@ -41,5 +42,6 @@ joined inputs = joined_from 0 false inputs
 abbrev pub entries_of : List InputEntry → List TextEntry
 entries_of entries = map (λ e. e.entry) entries
 
+-- the joined list, whatever the inputs of its entries
 abbrev pub joined_entries : List (List TextEntry) → List TextEntry
 joined_entries inputs = entries_of (joined inputs)

@@ -6,11 +6,12 @@ use Rattle.po_entry.specs.Header.{is_header, first_form}
 use Rattle.po_messages.specs.Joined.{is_live}
 use Rattle.po_messages.specs.declared.stats.Stats.{Stats}
 
--- live entries count, but for the header
+-- Live entries count, but for the header. Each of them is translated, fuzzy or untranslated; an
+-- untranslated one isn't fuzzy, whatever its flags.
 abbrev pub is_counted : TextEntry → Bool
 is_counted entry = is_live entry && not (is_header entry)
 
--- the first form isn't empty
+-- the first form isn't empty; it decides for all forms of the entry
 abbrev pub has_translation : TextEntry → Bool
 has_translation entry = not (length (first_form entry.forms) == 0)
 
@@ -26,7 +27,7 @@ is_untranslated entry = is_counted entry && not (has_translation entry)
 abbrev pub one_if : Bool → ℕ
 one_if test = if test then 1 else 0
 
--- how many of the entries are translated, fuzzy and untranslated
+-- how many of the entries are translated, fuzzy and untranslated, whichever of them are compiled
 abbrev pub stats_of : List TextEntry → Stats
 stats_of entries = record {
   translated = length (filter is_translated entries);
@@ -50,7 +51,7 @@ counted count noun = decimal count ++ noun ++ (if count == 1 then [] else codes 
 abbrev pub further : ℕ → List ℕ → List ℕ
 further count noun = if count == 0 then [] else codes ", " ++ counted count noun
 
--- the line that reports the statistics
+-- the line that reports the statistics; the count of translated ones is there even if it is 0
 abbrev pub stats_line : Stats → List ℕ
 stats_line stats =
     counted stats.translated (codes " translated message")

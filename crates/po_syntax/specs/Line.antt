@@ -13,13 +13,15 @@ use Rattle.po_syntax.specs.QuotedString.{IsQuoted, QuotedStops}
 use Rattle.po_syntax.specs.TextItem.{TextItem, Comment, Word, Str}
 use Rattle.po_syntax.specs.Token.{LineEnd, OpeningQuote, KeywordToken, WrongToken, token_at, skip_blanks}
 
--- What a line is by its first bytes: a comment with its text; tokens under marks; or neither.
+-- What a line is by its first bytes: a comment with its text; tokens under marks, with the text
+-- that they are in; or neither.
 pub data Shape : Type 0 where
   CommentLine : CommentKind → List ℕ → Shape
   Tokens : Marks → List ℕ → Shape
   NoShape : Shape
 
--- the comment after its `#`; `#|` and `#~` begin none
+-- the comment after its `#`, by the next byte: `.` (46), `:` (58), `,` (44), or any other or none;
+-- `#|` (124) and `#~` (126) begin none
 abbrev pub comment_shape : List ℕ → Shape
 comment_shape [] = CommentLine Translator []
 comment_shape (b ∷ rest) =
@@ -30,21 +32,22 @@ comment_shape (b ∷ rest) =
     else if b == 126 then NoShape
     else CommentLine Translator (b ∷ rest)
 
--- after `#~` and blanks: a comment, or tokens
+-- after `#~` and blanks: a comment, which is the same with `#~` before it or without, or tokens
 unfoldable pub obsolete_shape : List ℕ → Shape
 obsolete_shape [] = Tokens (record { obsolete = true; previous = false }) []
 obsolete_shape (b ∷ rest) =
     if b == 35 then comment_shape rest
     else Tokens (record { obsolete = true; previous = false }) (b ∷ rest)
 
--- after `#~`
+-- after `#~`: the tokens of a previous text, where `|` is the next byte, or what may stand after
+-- blanks
 unfoldable pub tilde_shape : List ℕ → Shape
 tilde_shape [] = obsolete_shape []
 tilde_shape (b ∷ rest) =
     if b == 124 then Tokens (record { obsolete = true; previous = true }) rest
     else obsolete_shape (skip_blanks (b ∷ rest))
 
--- after `#`
+-- after `#`: the tokens of a previous text, what `#~` begins, or a comment
 unfoldable pub hash_shape : List ℕ → Shape
 hash_shape [] = comment_shape []
 hash_shape (b ∷ rest) =
@@ -52,6 +55,8 @@ hash_shape (b ∷ rest) =
     else if b == 126 then tilde_shape rest
     else comment_shape (b ∷ rest)
 
+-- without blanks before it: what `#` (35) begins, or tokens without marks; an empty line is one of
+-- no tokens
 unfoldable pub first_shape : List ℕ → Shape
 first_shape [] = Tokens (record { obsolete = false; previous = false }) []
 first_shape (b ∷ rest) =
@@ -66,7 +71,8 @@ shape_of line = first_shape (skip_blanks line)
 abbrev pub trim_returns : List ℕ → List ℕ
 trim_returns text = take (length text - suffix_len (λ b. b == 13) text) text
 
--- under these marks, on the line of this number, the text spells these items
+-- Under these marks, on the line of this number, the text spells these items: keywords and strings,
+-- to its end.
 pub data SpellsTokens (marks : Marks) (line : ℕ) : List ℕ → List TextItem → Type 0 where
   none : {text : List ℕ} → token_at text ≡ LineEnd → SpellsTokens marks line text []
   word : {text rest : List ℕ} {keyword : Keyword} {items : List TextItem} → token_at text ≡ KeywordToken keyword rest

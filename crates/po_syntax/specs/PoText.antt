@@ -8,10 +8,11 @@ use Rattle.po_syntax.specs.declared.fault.PoFault.TheVariants.{NotUtf8, Forbidde
 use Rattle.po_syntax.specs.Line.{SpellsLine, LineStops}
 use Rattle.po_syntax.specs.TextItem.{TextItem}
 
--- at most 2,147,483,647 bytes
+-- at most 2,147,483,647 bytes, this project's limit; a byte order mark counts
 abbrev pub IsSmall : List ℕ → Type 0
 IsSmall text = length text < 2 ^ 31
 
+-- no byte of the text is 0
 abbrev pub HasNoNul : List ℕ → Type 0
 HasNoNul text = position (λ b. b == 0) text ≡ None
 
@@ -23,7 +24,8 @@ line_number text index = 1 + count_by (λ b. b == 10) (take index text)
 abbrev pub without_byte_order_mark : List ℕ → List ℕ
 without_byte_order_mark text = if starts_with nat_eq text (0xEF ∷ 0xBB ∷ 0xBF ∷ []) then drop 3 text else text
 
--- the lines of a text, cut at LF
+-- The lines of a text, cut at LF, which is in none of them. After an LF at the end one more line
+-- stands, which is empty and spells nothing.
 abbrev pub lines_of : List ℕ → List (List ℕ)
 lines_of text = slice_split (λ b. b == 10) text
 
@@ -49,8 +51,9 @@ pub record SpellsText (text : List ℕ) (items : List TextItem) : Type 0 where
   pub no_nul : HasNoNul text
   pub lines : SpellsLines 1 (lines_of (without_byte_order_mark text)) items
 
--- The first fault of a text, with its line: it is too long; it is not UTF-8; it holds a NUL; or a
--- line stops.
+-- The first fault of a text, with its line: it is too long, which has no line (0); it is not UTF-8,
+-- on the line of the first byte that isn't; it holds a NUL, on the line of the first; or a line
+-- stops.
 pub data TextFault : List ℕ → PoFault → ℕ → Type 0 where
   too_large : {text : List ℕ} → 2 ^ 31 ≤ length text → TextFault text TooLarge 0
   not_utf8 : {text : List ℕ} {line : ℕ} → IsSmall text → (IsUtf8 text → ⊥)

@@ -1,6 +1,7 @@
--- A string between double quotes, with the escapes of C (manual, "The Format of PO Files").
--- A text here is what is left of a line, so that its end is the line's end. This is how a string is
--- read, step by step; `Escapes` has what spells it, with a case for each escape.
+-- A string between double quotes, with the escapes of C but for `\'`, `\?` and `\u` (manual, "The
+-- Format of PO Files"). A text here is what is left of a line, so that its end is the line's end.
+-- This is how a string is read, step by step; `Escapes` has what spells it, with a case for each
+-- escape.
 use Rattle.std.specs.Prelude.{◌≡◌, ℕ, ◌==◌, nat_lt, if◌then◌else◌, List, [], ◌∷◌, take, drop, Option, Some, None}
 use Rattle.std.specs.List.{prefix_len}
 use Rattle.std.specs.Char.{is_digit}
@@ -15,22 +16,23 @@ pub data Step : Type 0 where
   Byte : ℕ → List ℕ → Step
   Stop : PoFault → Step
 
--- how many digits of a base the text begins with
+-- how many digits of a base the text begins with; those of 16 are in upper or lower case
 abbrev pub digit_count : ℕ → List ℕ → ℕ
 digit_count base text = prefix_len (λ b. is_digit b base) text
 
--- the byte with a number: not NUL, and at most 255
+-- the byte with a number, and the text after it: NUL is forbidden, and above 255 there is none
 abbrev pub numbered : ℕ → List ℕ → Step
 numbered number rest =
     if number == 0 then Stop ForbiddenByte
     else if nat_lt number 256 then Byte number rest
     else Stop BadEscape
 
--- the byte whose number the first digits of the text stand for
+-- the byte whose number the first `count` bytes of the text stand for, all of them digits
 abbrev pub number_step : ℕ → ℕ → List ℕ → Step
 number_step base count text = numbered (digits_value base (take count text)) (drop count text)
 
--- the byte that a letter, a backslash or a quote after a backslash stands for
+-- the byte that a letter, a backslash or a quote after a backslash stands for: `\a` 7, `\b` 8,
+-- `\f` 12, `\n` 10, `\r` 13, `\t` 9, `\v` 11, `\\` 92 and `\"` 34
 abbrev pub letter_value : ℕ → Option ℕ
 letter_value letter =
     if letter == 97 then Some 7
@@ -44,12 +46,14 @@ letter_value letter =
     else if letter == 34 then Some 34
     else None
 
+-- that byte; after any other character the escape is a bad one
 abbrev pub letter_step : Option ℕ → List ℕ → Step
 letter_step None rest = Stop BadEscape
 letter_step (Some byte) rest = Byte byte rest
 
--- What stands after a backslash: octal digits, as many as stand there, up to three; `x` and hex
--- digits, all that stand there, at least one; or a letter.
+-- What stands after a backslash: octal digits, as many as stand there, up to three; `x` (120) and
+-- hex digits, all that stand there, at least one; or a letter. At the line's end there is no
+-- escape.
 unfoldable pub escape_at : List ℕ → Step
 escape_at [] = Stop BadEscape
 escape_at (b ∷ text) =
@@ -58,7 +62,8 @@ escape_at (b ∷ text) =
     then (if digit_count 16 text == 0 then Stop BadEscape else number_step 16 (digit_count 16 text) text)
     else letter_step (letter_value b) text
 
--- any byte but the closing quote and the backslash stands for itself
+-- Any byte but the closing quote (34) and the backslash (92) stands for itself. At the line's end
+-- the string isn't closed.
 unfoldable pub step_at : List ℕ → Step
 step_at [] = Stop UnterminatedString
 step_at (b ∷ text) = if b == 34 then End text else if b == 92 then escape_at text else Byte b text

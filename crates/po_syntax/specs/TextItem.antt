@@ -1,4 +1,5 @@
--- What contracts see of an item of a PO text: its bytes are a list, wherever they are kept.
+-- What contracts see of an item of a PO text: its bytes are a list, wherever they are kept (manual,
+-- "The Format of PO Files").
 use Rattle.std.specs.Prelude.{ℕ, List, map}
 use Rattle.std.specs.Cow.{cow_slice_items}
 use Rattle.po_syntax.specs.declared.item.CommentKind.{CommentKind}
@@ -7,8 +8,10 @@ use Rattle.po_syntax.specs.declared.item.Marks.{Marks}
 use Rattle.po_syntax.specs.declared.item.Item.{Item}
 use Rattle.po_syntax.specs.declared.item.Item.TheVariants as code
 
--- An item, with its line: a comment with its text, a keyword, or the bytes that a quoted string
--- spells.
+-- An item, with its line, counted from 1: a comment with its text, a keyword, or the bytes that a
+-- quoted string spells. A comment is by its mark a translator's (`#`), extracted (`#.`), one with
+-- references (`#:`) or one with flags (`#,`). The marks of a keyword and of a string say whether
+-- their line is obsolete (`#~`, `#~|`) and whether it is one of a previous text (`#|`, `#~|`).
 pub data TextItem : Type 0 where
   Comment : CommentKind → List ℕ → ℕ → TextItem
   Word : Keyword → Marks → ℕ → TextItem

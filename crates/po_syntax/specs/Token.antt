@@ -19,10 +19,11 @@ pub data Token : Type 0 where
   KeywordToken : Keyword → List ℕ → Token
   WrongToken : PoFault → Token
 
--- space, TAB, VT, FF and CR
+-- space, TAB, VT, FF and CR; an LF is in no line
 abbrev pub is_blank : ℕ → Bool
 is_blank b = b == 32 || b == 9 || b == 11 || b == 12 || b == 13
 
+-- the text without the blanks at its beginning
 abbrev pub skip_blanks : List ℕ → List ℕ
 skip_blanks text = drop (prefix_len is_blank text) text
 
@@ -30,12 +31,13 @@ skip_blanks text = drop (prefix_len is_blank text) text
 abbrev pub is_word_byte : ℕ → Bool
 is_word_byte b = is_ascii_alphanumeric b || b == 95
 
--- after an index and blanks: the closing bracket
+-- after an index and blanks: the closing bracket (93)
 abbrev pub close_token : ℕ → List ℕ → Token
 close_token index [] = WrongToken BadToken
 close_token index (b ∷ rest) = if b == 93 then KeywordToken (MsgStrAt index) rest else WrongToken BadToken
 
--- after an opening bracket and blanks: decimal digits, blanks and the closing bracket
+-- after an opening bracket and blanks: decimal digits, blanks and the closing bracket; a number of
+-- 2^32 or more is a wrong index, whether the bracket is there or not
 unfoldable pub index_token : List ℕ → Token
 index_token text =
     let count = digit_count 10 text in
@@ -44,12 +46,13 @@ index_token text =
     else if nat_lt index (2 ^ 32) then close_token index (skip_blanks (drop count text))
     else WrongToken BadPluralIndex
 
--- `msgstr` alone, or with an index where an opening bracket is the next byte after blanks
+-- `msgstr` alone, with `rest` after it; or with an index, where an opening bracket (91) is the
+-- first byte of `rest` after blanks, which is the second text
 abbrev pub bracket_token : List ℕ → List ℕ → Token
 bracket_token rest [] = KeywordToken MsgStr rest
 bracket_token rest (b ∷ inside) = if b == 91 then index_token (skip_blanks inside) else KeywordToken MsgStr rest
 
--- a word must be a keyword
+-- a word, with the text after it: it has to be a keyword, in lower case
 unfoldable pub keyword_token : List ℕ → List ℕ → Token
 keyword_token word rest =
     if bytes_eq word (codes "msgctxt") then KeywordToken MsgCtxt rest
@@ -63,6 +66,8 @@ abbrev pub word_token : List ℕ → Token
 word_token text =
     let count = prefix_len is_word_byte text in keyword_token (take count text) (drop count text)
 
+-- the token that the text begins with: a quote (34) opens a string, and a byte that is neither a
+-- quote nor one of a word begins none, as `#`
 unfoldable pub first_token : List ℕ → Token
 first_token [] = LineEnd
 first_token (b ∷ rest) =

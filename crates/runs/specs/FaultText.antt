@@ -10,7 +10,7 @@ use Rattle.po_syntax.specs.declared.fault.PoFault.TheVariants.{NotUtf8, BadToken
 use Rattle.po_syntax.specs.declared.fault.PoFault.TheVariants.{ForbiddenByte, BadOrder, BadPluralIndex, MixedObsolete}
 use Rattle.po_syntax.specs.declared.fault.PoFault.TheVariants.{Duplicate, ForeignCharset, TooLarge, OutOfMemory}
 
--- what is wrong with a PO text
+-- what is wrong with a PO text, or with the file that texts are compiled to
 abbrev pub po_text : PoFault → List ℕ
 po_text NotUtf8 = codes "not UTF-8"
 po_text BadToken = codes "unexpected byte or word"
@@ -39,15 +39,15 @@ mo_text (NotSorted i) = codes "string " ++ decimal i ++ codes " out of order"
 abbrev pub duplicate_text : List ℕ → ℕ → List ℕ
 duplicate_text file line = codes "duplicate of the message at " ++ file ++ 58 ∷ decimal line
 
--- the line of a fault after its file, where it has one; line 0 is none
+-- the line of a fault after its file and `:` (58), where it has one; line 0 is none
 abbrev pub line_part : ℕ → List ℕ
 line_part line = if line == 0 then [] else 58 ∷ decimal line
 
--- `pokit TOOL: FILE:LINE: `
+-- `pokit TOOL: FILE:LINE: `, without `:LINE` where there is none
 abbrev pub location : List ℕ → List ℕ → ℕ → List ℕ
 location tool file line = codes "pokit " ++ tool ++ codes ": " ++ file ++ line_part line ++ codes ": "
 
--- the line of a fault on standard error
+-- the line of a fault on standard error, with its LF
 abbrev pub fault_line : List ℕ → List ℕ → ℕ → List ℕ → List ℕ
 fault_line tool file line text = location tool file line ++ text ++ 10 ∷ []
 

@@ -2,6 +2,7 @@
 use Rattle.std.specs.Prelude.{ℕ, List, map}
 use Rattle.std.specs.Borrow.{Bor}
 
+-- a file that is read: its name as fault lines show it, and its bytes
 pub record NamedFile : Type 0 where
   pub name : List ℕ
   pub bytes : List ℕ

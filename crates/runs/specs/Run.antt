@@ -1,11 +1,13 @@
--- What a run of a tool writes and reports, and its exit status.
+-- What a run of a tool writes and reports, and its exit status: this project's own, as far as the
+-- manual's chapters on the tools leave it open.
 use Rattle.std.specs.Prelude.{ℕ, Bool, not, ◌&&◌, if◌then◌else◌, List, [], false, Option, Some, None, codes, ◌⊎◌}
 use Rattle.std.specs.Io.KnownBytes.{Appends, Keeps}
 use Rattle.std.specs.Str.{bytes_eq}
 use Rattle.devices.specs.Device.{AppendsPrefix}
 use Rattle.runs.specs.declared.run.Run.{Run}
 
--- what contracts see of a run
+-- What contracts see of a run: the bytes of its output, whether a file is made of them, what it
+-- writes on standard error, and its exit status.
 pub record RunView : Type 0 where
   pub output : List ℕ
   pub create : Bool
@@ -16,7 +18,8 @@ abbrev pub run_view : Run → RunView
 run_view run =
     record { output = run.output.items; create = run.create; messages = run.messages.items; status = run.status }
 
--- nothing is written, and these messages say why
+-- no output is written and no file is made, and these messages on standard error say why; the
+-- status is 1
 abbrev pub refusal : List ℕ → RunView
 refusal messages = record { output = []; create = false; messages = messages; status = 1 }
 
