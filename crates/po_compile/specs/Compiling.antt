@@ -29,6 +29,7 @@ pub record IsCompilation (options : Options) (entries : List TextEntry) (compile
   pub valid : IsMoFile options.order compiled.bytes.items messages
   pub means : MeansEntries (compiled_list options.use_fuzzy entries) messages
   pub count : compiled.n ≡ length (compiled_list options.use_fuzzy entries)
+  pub file_count : compiled.n ≡ length messages
   pub stats : compiled.stats ≡ stats_of entries
 
 -- the layout of the compiled entries' messages has 2^32 bytes or more

@@ -42,6 +42,7 @@ returns-in-Ok-clause-found c = λ catalogues h.
         valid = subst (λ b. IsMoFile order b messages) (sym bytes) (c.layout_is_mo_file.ensures order messages are.rising fits);
         means = c.messages_mean_entries.ensures list messages (compiled_valid c.args.options.use_fuzzy entries (all_valid c.args.options.use_fuzzy catalogues c.args.inputs.now h)) are;
         count = omega (arith, c.len-count.ensures, c.in_ok-pairs.pairs.ok.0, length-map c.in_ok-pairs.pairs.items borrowed_message, length_permutation (messages_of_entries list) messages are.all, length-map list message_of);
+        file_count = omega (arith, c.len-count.ensures, c.in_ok-pairs.pairs.ok.0, length-map c.in_ok-pairs.pairs.items borrowed_message);
         stats = c.statistics_of.ensures ∙ ap counts_of c.deref-in-Ok.ensures.value ∙ sorted.counts;
       },
     )
