@@ -2,8 +2,8 @@
 //! out by hand, and devices that fail. They stand in a crate of their own, since the gate proves a
 //! crate once more together with the tests in it.
 //!
-//! The modules in reading order: `arguments`, `locales`, `substitution`, `answers`, `devices`,
-//! `failing_calls`, `fake_system`, `whole_tools`, `damaged_files`.
+//! The modules in reading order: `arguments`, `locales`, `substitution`, `answers`,
+//! `readers_and_writers`, `failing_calls`, `fake_system`, `whole_tools`, `damaged_files`.
 
 #![tactic(auto)]
 
@@ -14,13 +14,13 @@ mod arguments;
 #[cfg(test)]
 mod damaged_files;
 #[cfg(test)]
-mod devices;
-#[cfg(test)]
 mod failing_calls;
 #[cfg(test)]
 mod fake_system;
 #[cfg(test)]
 mod locales;
+#[cfg(test)]
+mod readers_and_writers;
 #[cfg(test)]
 mod substitution;
 #[cfg(test)]
