@@ -3,8 +3,8 @@ use Rattle.std.proofs.Common.{◌≡◌, inl, inr, ℕ, List, ◌++◌, Option, 
 use Rattle.std.specs.Io.KnownBytes.{Appends, Consumes}
 use Rattle.devices.specs.declared.fault.ToolFault.{ToolFault}
 use Rattle.devices.specs.declared.fault.ToolFault.TheVariants.{ReadFault, WriteFault, OutOfMemory}
-use Rattle.envsubst.specs.Envsubst.{EndsAs, StopsWithin, StopsAtEnd}
-use Rattle.envsubst.specs.EnvsubstLaw.{Took, TookAll, TookBeginning, TookBeginningOfRead}
+use Rattle.envsubst.specs.Envsubst.{EndsAs, HasGoneOut, StopsWithin, StopsAtEnd}
+use Rattle.envsubst.specs.EnvsubstLaw.{Took, TookAll, TookAllRead, TookBeginning, TookBeginningOfRead}
 use Rattle.envsubst.specs.Replacing.{Replaces}
 use Rattle.envsubst.specs.Stream.{Stops}
 use Rattle.envsubst.specs.Substitution.{Values, substitution}
@@ -36,6 +36,17 @@ stopped_within values text (Some rest) old new within = record {
   took = λ other. stopped values within.read other old new within.stops;
 }
 
+within_read : (values : Values) (input left old new : Option (List ℕ)) → HasGoneOut values input left old new → StopsWithin values input left old new
+within_read values input left old new out = record {
+  read = out.read;
+  reads = out.reads;
+  stops = record {
+    written = out.advances.written;
+    appends = out.advances.appends;
+    prefix = λ rest. (substitution values (out.held ++ rest), out.advances.passes rest);
+  };
+}
+
 whole : (values : Values) (text : List ℕ) (left old new : Option (List ℕ)) → StopsWithin values (Some text) left old new → TookBeginning values text old new
 whole values text None old new within = absurd within.reads
 whole values text (Some rest) old new within =
@@ -51,16 +62,31 @@ at_end values text old new ends = record {
 
 pub took_beginning : (values : Values) (text : List ℕ) (left old new : Option (List ℕ)) (fault : ToolFault)
     → EndsAs values (Some text) left old new (Err fault) → TookBeginning values text old new
-took_beginning values text left old new ReadFault ends = whole values text left old new ends
+took_beginning values text left old new ReadFault ends = whole values text left old new (within_read values (Some text) left old new ends)
 took_beginning values text left old new WriteFault ends = elim ends [
   | inl within ↦ whole values text left old new within
   | inr end ↦ at_end values text old new end
 ]
 took_beginning values text left old new OutOfMemory ends = whole values text left old new ends
 
+pub took_all_read : (values : Values) (text : List ℕ) (left old new : Option (List ℕ))
+    → EndsAs values (Some text) left old new (Err ReadFault) → TookAllRead values text left old new
+took_all_read values text None old new out = absurd out.reads
+took_all_read values text (Some rest) old new out = record {
+  read = out.read;
+  reads = λ other is. let same : rest ≡ other = cc in out.reads ∙ ap (λ r. out.read ++ r) same;
+  held = out.held;
+  few = out.few;
+  written = out.advances.written;
+  took = took _ old new out.advances.appends;
+  replaced = λ other result is.
+      let held : result ≡ substitution values (out.held ++ other) = (references_replaced values (out.held ++ other) result).1 is in
+      replaced values (out.read ++ other) _ (ap (λ r. out.advances.written ++ r) held ∙ sym (out.advances.passes other));
+}
+
 pub took_of_read : (values : Values) (text : List ℕ) (left old new : Option (List ℕ))
     → EndsAs values (Some text) left old new (Err ReadFault) → TookBeginningOfRead values text left old new
-took_of_read values text left old new ends = stopped_within values text left old new ends
+took_of_read values text left old new ends = stopped_within values text left old new (within_read values (Some text) left old new ends)
 
 pub took_of_read_memory : (values : Values) (text : List ℕ) (left old new : Option (List ℕ))
     → EndsAs values (Some text) left old new (Err OutOfMemory) → TookBeginningOfRead values text left old new

@@ -1,5 +1,5 @@
 -- Lemmas on a whole run of envsubst.
-use Rattle.std.proofs.Common.{◌≡◌, ℕ, ◌+◌, ◌<◌, List, [], ◌++◌, length, take, Option, Some, None, sym, ap, subst, ◌∙◌, append-nil, append_assoc, drop, take-append-drop, ◌≤◌, ◌-◌, arith, inl, inr, Result, Ok, Err, OnOk, OnErr}
+use Rattle.std.proofs.Common.{◌≡◌, ℕ, ◌+◌, ◌<◌, List, [], ◌++◌, length, take, Option, Some, None, refl, sym, ap, subst, ◌∙◌, append-nil, append_assoc, drop, take-append-drop, ◌≤◌, ◌-◌, arith, inl, inr, Result, Ok, Err, OnOk, OnErr}
 use Rattle.std.proofs.KnownBytes.{Appends-nil, Appends-trans, Consumes-nil, Consumes-trans, Consumes-kept}
 use Rattle.std.proofs.Math.Seq.{take-add, take-append-add}
 use Rattle.std.proofs.lemmas.List.{take_all}
@@ -7,7 +7,7 @@ use Rattle.std.specs.Io.KnownBytes.{Appends, Consumes, Keeps, IsAtEnd}
 use Rattle.devices.specs.declared.fault.ToolFault.{ToolFault}
 use Rattle.devices.specs.declared.fault.ToolFault.TheVariants.{ReadFault, WriteFault, OutOfMemory}
 use Rattle.devices.specs.Device.{AppendsPrefix}
-use Rattle.envsubst.specs.Envsubst.{EndsAs, Substitutes, StopsAtEnd, StopsWithin}
+use Rattle.envsubst.specs.Envsubst.{EndsAs, HasGoneOut, Substitutes, StopsAtEnd, StopsWithin}
 use Rattle.envsubst.specs.Stream.{Advances, Stops}
 use Rattle.envsubst.specs.Substitution.{Values, values_of, substitution}
 use Rattle.envsubst.proofs.StreamLemmas.{Advances-none, Advances-trans, Advances-more, Stops-after}
@@ -30,11 +30,13 @@ fed-more values used a b c held after piece first second third same p reads q = 
 }
 
 -- a fault of the reader, or no end of the input
-pub fed-read_fault : (values : Values) (a b c : Option (List ℕ)) (held : List ℕ) (old new : Option (List ℕ)) → HasFed values a b held old new → Keeps b c → StopsWithin values a c old new
-fed-read_fault values a b c held old new p keeps = record {
+pub fed-read_fault : (values : Values) (a b c : Option (List ℕ)) (held : List ℕ) (old new : Option (List ℕ)) → length held ≤ 257 → HasFed values a b held old new → Keeps b c → HasGoneOut values a c old new
+fed-read_fault values a b c held old new few p keeps = record {
   read = p.read;
+  held = held;
   reads = Consumes-kept a b c p.read p.reads keeps;
-  stops = record { written = p.advances.written; appends = p.advances.appends; prefix = λ rest. (substitution values (held ++ rest), p.advances.passes rest) };
+  few = few;
+  advances = p.advances;
 }
 
 -- a fault of the writer at a piece
@@ -161,10 +163,10 @@ Gathers-piece values before held piece at first second third block past p q =
     subst (λ t. Advances values (before ++ t) held first third) (take_all at piece past) (Gathers-all values (before ++ take at piece) held first second third block p q)
 
 -- what the writer took where a fault is reported before the end of the input
-pub ends-within : (values : Values) (input left old new : Option (List ℕ)) (fault : ToolFault) → StopsWithin values input left old new → EndsAs values input left old new (Err fault)
-ends-within values input left old new ReadFault p = p
-ends-within values input left old new WriteFault p = inl p
-ends-within values input left old new OutOfMemory p = p
+pub ends-within : (values : Values) (input left old new : Option (List ℕ)) (fault : ToolFault) → (fault ≡ ReadFault → ⊥) → StopsWithin values input left old new → EndsAs values input left old new (Err fault)
+ends-within values input left old new ReadFault other p = absurd (other refl)
+ends-within values input left old new WriteFault other p = inl p
+ends-within values input left old new OutOfMemory other p = p
 
 abbrev same_result : Result (Unit {0}) ToolFault → Result (Unit {0}) ToolFault → Type 0
 same_result r s = r ≡ s

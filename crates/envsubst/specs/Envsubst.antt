@@ -1,12 +1,12 @@
 -- What a run of envsubst writes, by what its reader had ("Invoking the envsubst program" of the GNU
 -- gettext manual).
-use Rattle.std.specs.Prelude.{◌⊎◌, ℕ, List, Option, IfSome, Result, Ok, Err}
+use Rattle.std.specs.Prelude.{◌⊎◌, ◌≤◌, ℕ, List, length, Option, IfSome, Result, Ok, Err}
 use Rattle.std.specs.Io.KnownBytes.{Appends, Consumes}
 use Rattle.devices.specs.declared.fault.ToolFault.{ToolFault}
 use Rattle.devices.specs.declared.fault.ToolFault.TheVariants.{ReadFault, WriteFault, OutOfMemory}
 use Rattle.devices.specs.Device.{AppendsPrefix}
 use Rattle.envsubst.specs.Substitution.{Values, substitution}
-use Rattle.envsubst.specs.Stream.{Stops}
+use Rattle.envsubst.specs.Stream.{Advances, Stops}
 
 -- the writer took what the whole input becomes
 abbrev pub Substitutes : Values → Option (List ℕ) → Option (List ℕ) → Option (List ℕ) → Type 0
@@ -22,11 +22,20 @@ pub record StopsWithin (values : Values) (input left old new : Option (List ℕ)
   pub reads : Consumes input left read
   pub stops : Stops values read old new
 
+-- The writer took all of what these bytes of the input become, whatever comes after them, but for
+-- what is held back: at most 257 bytes, `${` and the longest name.
+pub record HasGoneOut (values : Values) (input left old new : Option (List ℕ)) : Type 0 where
+  pub read : List ℕ
+  pub held : List ℕ
+  pub reads : Consumes input left read
+  pub few : length held ≤ 257
+  pub advances : Advances values read held old new
+
 -- what the writer took, by what is reported
 abbrev pub EndsAs : Values → Option (List ℕ) → Option (List ℕ) → Option (List ℕ) → Option (List ℕ)
     → Result (Unit {0}) ToolFault → Type 0
 EndsAs values input left old new (Ok _) = Substitutes values input old new
-EndsAs values input left old new (Err ReadFault) = StopsWithin values input left old new
+EndsAs values input left old new (Err ReadFault) = HasGoneOut values input left old new
 EndsAs values input left old new (Err WriteFault) =
     StopsWithin values input left old new ⊎ StopsAtEnd values input old new
 EndsAs values input left old new (Err OutOfMemory) = StopsWithin values input left old new

@@ -2,7 +2,7 @@
 //! a proof.
 ghost use Rattle.std.specs.Prelude.{◌≡◌, ◌↔◌, ℕ, List, Option, Some, Ok, Err};
 ghost use Rattle.envsubst.specs.Envsubst.{EndsAs};
-ghost use Rattle.envsubst.specs.EnvsubstLaw.{TookAll, TookBeginning, TookBeginningOfRead};
+ghost use Rattle.envsubst.specs.EnvsubstLaw.{TookAll, TookAllRead, TookBeginning, TookBeginningOfRead};
 ghost use Rattle.envsubst.specs.References.{names_in};
 ghost use Rattle.envsubst.specs.Replacing.{HasValue, HoldsNames, IsReplaced, Replaces};
 ghost use Rattle.envsubst.specs.Stream.{FeedCallsAgree};
@@ -37,7 +37,7 @@ pub fn names_are_listed()
 
 /// What a run has written where it ends: the text with its references replaced; after a fault a
 /// beginning of that; and where the fault isn't of the writer, a beginning whatever follows what was
-/// read.
+/// read. Where it is of the reader, all that was read has come out, but for 257 bytes at most.
 pub fn output_is_replaced()
     ensures whole { (values : Values) (text : List ℕ) (left old new : Option (List ℕ))
         → EndsAs values (Some text) left old new (Ok tt) → TookAll values text old new }
@@ -46,6 +46,9 @@ pub fn output_is_replaced()
     ensures read_fault { (values : Values) (text : List ℕ) (left old new : Option (List ℕ))
         → EndsAs values (Some text) left old new (Err ToolFault.ReadFault)
         → TookBeginningOfRead values text left old new }
+    ensures all_read { (values : Values) (text : List ℕ) (left old new : Option (List ℕ))
+        → EndsAs values (Some text) left old new (Err ToolFault.ReadFault)
+        → TookAllRead values text left old new }
     ensures out_of_memory { (values : Values) (text : List ℕ) (left old new : Option (List ℕ))
         → EndsAs values (Some text) left old new (Err ToolFault.OutOfMemory)
         → TookBeginningOfRead values text left old new }

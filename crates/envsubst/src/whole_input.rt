@@ -1,6 +1,6 @@
 //! Substitution of a whole input ("Invoking the envsubst program" of the GNU gettext manual).
-ghost use Rattle.std.specs.Prelude.{◌≡◌, ◌+◌, ◌^◌, ◌<◌, ◌≤◌, ◌⊎◌, ◌≢◌, ◌++◌, [], Some, false, IfOk, OnOk, OnErr, IsErrOf, Err};
-ghost use Rattle.envsubst.specs.Envsubst.{EndsAs, Substitutes, StopsAtEnd, StopsWithin};
+ghost use Rattle.std.specs.Prelude.{◌≡◌, ◌+◌, ◌^◌, ◌<◌, ◌≤◌, ◌⊎◌, ◌≢◌, ◌++◌, [], Some, length, false, IfOk, OnOk, OnErr, IsErrOf, Err};
+ghost use Rattle.envsubst.specs.Envsubst.{EndsAs, HasGoneOut, Substitutes, StopsAtEnd, StopsWithin};
 ghost use Rattle.envsubst.specs.Stream.{Advances, Stops};
 ghost use Rattle.envsubst.specs.SubstituterView.{values_of_substituter};
 ghost use Rattle.envsubst.specs.Substitution.{values_of_slices};
@@ -38,12 +38,13 @@ pub fn run_envsubst<R: ByteIn, W: ByteOut>(
     ensures ok { OnOk result (Substitutes (values_of_slices vars.now only.entry)
         (R.remaining reader.old) (W.contents writer.old) (W.contents writer.new)) }
 
-    // What went out is a prefix of what the bytes that were read become, whatever comes next.
+    // All of what the bytes that were read become went out, but for a reference that may go on.
     ensures read_fault { IsErrOf result ToolFault.ReadFault
-        → StopsWithin (values_of_slices vars.now only.entry)
+        → HasGoneOut (values_of_slices vars.now only.entry)
         (R.remaining reader.old) (R.remaining reader.new) (W.contents writer.old) (W.contents writer.new) }
 
-    // What went out is such a prefix, or at the end of the input one of what all of it becomes.
+    // What went out is a prefix of what these bytes become, or at the end of the input one of what
+    // all of it becomes.
     ensures write_fault { IsErrOf result ToolFault.WriteFault
         → StopsWithin (values_of_slices vars.now only.entry)
         (R.remaining reader.old) (R.remaining reader.new) (W.contents writer.old) (W.contents writer.new)
@@ -90,7 +91,8 @@ pub fn run_envsubst_in_blocks<R: ByteIn, W: ByteOut>(
     requires read_failures { R.failures reader.old < 2 ^ 63 }
     requires write_failures { W.failures writer.old < 2 ^ 63 }
 
-    // All of it, or after a fault a prefix, whatever comes next.
+    // All of it; after a fault of the reader all of what was read, but for a reference that may go
+    // on; or after another fault a prefix.
     ensures output { EndsAs (values_of_slices vars.now only.entry) (R.remaining reader.old) (R.remaining reader.new)
         (W.contents writer.old) (W.contents writer.new) result }
     ensures no_read_failure { OnOk result (R.failures reader.new ≡ R.failures reader.old) }
@@ -203,6 +205,7 @@ fn feed_in_blocks<W: ByteOut>(
     requires sound { substituter.old.has_failed ≡ false }
     requires empty { block.items ≡ [] }
     requires some { 0 < part_len }
+    requires few { length substituter.old.held ≤ 257 }
     ensures ok { OnOk result (Advances (values_of_substituter substituter.old) (substituter.old.held ++ piece.now)
         substituter.new.held (W.contents writer.old) (W.contents writer.new)) }
     ensures stops { OnErr result (Stops (values_of_substituter substituter.old) (substituter.old.held ++ piece.now)
@@ -215,6 +218,7 @@ fn feed_in_blocks<W: ByteOut>(
     ensures cause { IsErrOf result ToolFault.WriteFault → W.failures writer.new ≡ W.failures writer.old + 1 }
     ensures no_cause { IsErrOf result ToolFault.OutOfMemory → W.failures writer.new ≡ W.failures writer.old }
     ensures no_read_fault { result ≢ Err ToolFault.ReadFault }
+    ensures few { length substituter.new.held ≤ 257 }
 {
     let mut block = block;
     let mut at = 0;
@@ -245,6 +249,7 @@ fn gather(
     ensures vars { substituter.new.vars ≡ substituter.old.vars }
     ensures only { substituter.new.only ≡ substituter.old.only }
     ensures memory { OnErr result (result ≡ Err ToolFault.OutOfMemory) }
+    ensures few { length substituter.new.held ≤ 257 }
 {
     let mut gathered = Counted::new(block);
     match substituter.feed(part, &mut gathered) {

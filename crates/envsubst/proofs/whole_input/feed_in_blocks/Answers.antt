@@ -22,6 +22,7 @@ loop-at-preserved-then-len-ge-BLOCK_LEN g c =
       vars = c.in_ok-block.ensures.vars ∙ c.loop-at.invariant.vars;
       only = c.in_ok-block.ensures.only ∙ c.loop-at.invariant.only;
       sound = c.in_ok-block.ensures.sound;
+      few = c.in_ok-block.ensures.few;
       no_failure = c.in_ok-put_all.ensures.no_failure ∙ c.loop-at.invariant.no_failure;
     }
 
@@ -32,6 +33,7 @@ loop-at-preserved g c = record {
   vars = c.in_ok-block.ensures.vars ∙ c.loop-at.invariant.vars;
   only = c.in_ok-block.ensures.only ∙ c.loop-at.invariant.only;
   sound = c.in_ok-block.ensures.sound;
+  few = c.in_ok-block.ensures.few;
   no_failure = c.loop-at.invariant.no_failure;
 }
 

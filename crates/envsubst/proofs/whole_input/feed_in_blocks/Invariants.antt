@@ -10,6 +10,7 @@ invariant-loop-at g l = record {
   vars : l.substituter.vars ≡ l.fn.substituter.vars;
   only : l.substituter.only ≡ l.fn.substituter.only;
   sound : l.substituter.has_failed ≡ false;
+  few : length l.substituter.held ≤ 257;
   no_failure : g.W.ByteOut.failures l.writer ≡ g.W.ByteOut.failures l.fn.writer;
 }
 

@@ -1,4 +1,4 @@
-use Rattle.std.proofs.Common.{◌<◌, length, inl, inr, refl, ◌∙◌, arith}
+use Rattle.std.proofs.Common.{◌<◌, length, lit≤, inl, inr, refl, ◌∙◌, arith}
 use Rattle.std.proofs.KnownBytes.{Keeps-refl}
 use Rattle.devices.proofs.DeviceLemmas.{at-err}
 use Rattle.envsubst.proofs.EnvsubstLemmas.{fed-none, fed-more, fed-read_fault, fed-write_fault, fed-end_fault, same-values}
@@ -10,6 +10,7 @@ loop-init g c = record {
   vars = c.new-substituter.ensures.vars;
   only = c.new-substituter.ensures.only;
   sound = c.new-substituter.ensures.has_failed;
+  few = rw c.new-substituter.ensures.held (lit≤ tt);
   calls = omega arith;
   no_read_failure = refl;
   no_write_failure = refl;
@@ -25,7 +26,7 @@ returns-in_err-feed-in-Ok-clause-write_fault g c = λ is.
     inl (fed-write_fault _ _ _ _ _ _ _ _ _ _ (same-values _ _ _ _ c.loop.invariant.vars c.loop.invariant.only) c.loop.invariant.fed c.in-Ok.ensures.bytes.0 c.in_err-feed-in-Ok.ensures.stops)
 
 pub returns-in-Err-clause-read_fault : goal.returns-in-Err-clause-read_fault
-returns-in-Err-clause-read_fault g c = λ is. fed-read_fault _ _ _ _ _ _ _ c.loop.invariant.fed c.in-Err.ensures.bytes
+returns-in-Err-clause-read_fault g c = λ is. fed-read_fault _ _ _ _ _ _ _ c.loop.invariant.few c.loop.invariant.fed c.in-Err.ensures.bytes
 
 pub loop-preserved : goal.loop-preserved
 loop-preserved g c = record {
@@ -33,10 +34,11 @@ loop-preserved g c = record {
   vars = c.in_ok-feed-in-Ok.ensures.vars ∙ c.loop.invariant.vars;
   only = c.in_ok-feed-in-Ok.ensures.only ∙ c.loop.invariant.only;
   sound = c.in_ok-feed-in-Ok.ensures.has_failed;
+  few = c.in_ok-feed-in-Ok.ensures.limit;
   calls = omega (arith, c.in-Ok.ensures.counts);
   no_read_failure = omega (arith, c.in-Ok.ensures.fails);
   no_write_failure = c.in_ok-feed-in-Ok.ensures.no_failure ∙ c.loop.invariant.no_write_failure;
 }
 
 pub returns-clause-read_fault : goal.returns-clause-read_fault
-returns-clause-read_fault g c = λ is. fed-read_fault _ _ _ _ _ _ _ c.loop.invariant.fed (Keeps-refl _)
+returns-clause-read_fault g c = λ is. fed-read_fault _ _ _ _ _ _ _ c.loop.invariant.few c.loop.invariant.fed (Keeps-refl _)

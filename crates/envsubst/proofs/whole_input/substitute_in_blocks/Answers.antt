@@ -1,4 +1,4 @@
-use Rattle.std.proofs.Common.{◌<◌, length, refl, ◌∙◌, arith}
+use Rattle.std.proofs.Common.{◌<◌, length, lit≤, Err, ap, refl, sym, ◌∙◌, arith}
 use Rattle.std.proofs.KnownBytes.{Keeps-refl}
 use Rattle.std.proofs.lemmas.Result.{err_from_is_err_and}
 use Rattle.envsubst.proofs.EnvsubstLemmas.{ends-within, fed-finish, fed-more, fed-none, fed-read_fault, fed-write_fault, same-values}
@@ -10,6 +10,7 @@ loop-init g c = record {
   vars = c.new-substituter.ensures.vars;
   only = c.new-substituter.ensures.only;
   sound = c.new-substituter.ensures.has_failed;
+  few = rw c.new-substituter.ensures.held (lit≤ tt);
   empty = c.new-block.ensures.items;
   calls = omega arith;
   no_read_failure = refl;
@@ -25,11 +26,11 @@ pub returns-in_err-block-in-Ok-clause-output : goal.returns-in_err-block-in-Ok-c
 returns-in_err-block-in-Ok-clause-output g c =
     let p = err_from_is_err_and c.from_residual.result c.from_residual.ensures.1 in
     rw p.1
-    (ends-within _ _ _ _ _ p.0
+    (ends-within _ _ _ _ _ p.0 (λ is. c.in_err-block-in-Ok.ensures.no_read_fault (ap (λ fault. Err fault) (sym p.2 ∙ is)))
     (fed-write_fault _ _ _ _ _ _ _ _ _ _ (same-values _ _ _ _ c.loop.invariant.vars c.loop.invariant.only) c.loop.invariant.fed c.in-Ok.ensures.bytes.0 c.in_err-block-in-Ok.ensures.stops))
 
 pub returns-in-Err-clause-output : goal.returns-in-Err-clause-output
-returns-in-Err-clause-output g c = fed-read_fault _ _ _ _ _ _ _ c.loop.invariant.fed c.in-Err.ensures.bytes
+returns-in-Err-clause-output g c = fed-read_fault _ _ _ _ _ _ _ c.loop.invariant.few c.loop.invariant.fed c.in-Err.ensures.bytes
 
 pub loop-preserved : goal.loop-preserved
 loop-preserved g c = record {
@@ -38,10 +39,11 @@ loop-preserved g c = record {
   only = c.in_ok-block-in-Ok.ensures.only ∙ c.loop.invariant.only;
   sound = c.in_ok-block-in-Ok.ensures.sound;
   empty = c.in_ok-block-in-Ok.ensures.empty;
+  few = c.in_ok-block-in-Ok.ensures.few;
   calls = omega (arith, c.in-Ok.ensures.counts);
   no_read_failure = omega (arith, c.in-Ok.ensures.fails);
   no_write_failure = c.in_ok-block-in-Ok.ensures.no_failure ∙ c.loop.invariant.no_write_failure;
 }
 
 pub returns-clause-output : goal.returns-clause-output
-returns-clause-output g c = fed-read_fault _ _ _ _ _ _ _ c.loop.invariant.fed (Keeps-refl _)
+returns-clause-output g c = fed-read_fault _ _ _ _ _ _ _ c.loop.invariant.few c.loop.invariant.fed (Keeps-refl _)

@@ -1,4 +1,4 @@
-use Rattle.std.proofs.Common.{◌≡◌, ◌+◌, [], false}
+use Rattle.std.proofs.Common.{◌≡◌, ◌≤◌, ◌+◌, length, [], false}
 use Rattle.envsubst.specs.Substitution.{values_of, pairs_in, names_given}
 use Rattle.envsubst.proofs.EnvsubstLemmas.{HasFed}
 use Rattle.envsubst.proofs.whole_input.substitute_in_blocks.Given as goal
@@ -9,6 +9,7 @@ invariant-loop g l = record {
   vars : l.substituter.vars ≡ pairs_in l.fn.vars;
   only : l.substituter.only ≡ names_given l.fn.only;
   sound : l.substituter.has_failed ≡ false;
+  few : length l.substituter.held ≤ 257;
   empty : l.block.items ≡ [];
   calls : g.R.ByteIn.calls l.reader ≡ g.R.ByteIn.calls l.fn.reader + l.counter;
   no_read_failure : g.R.ByteIn.failures l.reader ≡ g.R.ByteIn.failures l.fn.reader;
