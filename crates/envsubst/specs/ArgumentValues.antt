@@ -14,3 +14,9 @@ pub record AreEnvsubstArguments (flag : List ℕ → Bool → Type 0) (texts : L
   pub variables_is : flag (codes "variables") variables
   pub arguments_are : texts (codes "SHELL-FORMAT") arguments
   pub taken : IsTaken envsubst_arguments (envsubst_usage variables arguments) result
+
+-- the names, as the manual has them
+pub envsubst_named : {flag : List ℕ → Bool → Type 0} {texts : List ℕ → List (List ℕ) → Type 0}
+    {result : Result EnvsubstArguments ProgramFault} → (given : AreEnvsubstArguments flag texts result)
+    → flag (codes "variables") given.variables × texts (codes "SHELL-FORMAT") given.arguments
+envsubst_named given = (given.variables_is, given.arguments_are)

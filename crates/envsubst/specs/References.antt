@@ -66,3 +66,7 @@ names_in (b ∷ bs) =
 -- the names of the references in a text, one a line
 abbrev pub name_lines : List ℕ → List ℕ
 name_lines text = flat_map (λ name. name ++ 10 ∷ []) (names_in text)
+
+pub lines_are : name_lines (codes "$A ${b2} $3 $A") ≡ codes "A\nb2\nA\n"
+unfolding names_in reference_after bare_reference braced_reference is_name is_letter is_name_byte
+lines_are = refl

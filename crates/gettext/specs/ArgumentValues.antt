@@ -22,3 +22,14 @@ pub record AreNgettextArguments (texts : List ℕ → List (List ℕ) → Type 0
   pub arguments : List (List ℕ)
   pub arguments_are : texts (codes "MSGID") arguments
   pub taken : IsTaken ngettext_arguments (ngettext_usage arguments) result
+
+-- the names, as the manual has them
+pub gettext_arguments_named : {flag : List ℕ → Bool → Type 0} {texts : List ℕ → List (List ℕ) → Type 0}
+    {result : Result GettextArguments ProgramFault} → (given : AreGettextArguments flag texts result)
+    → texts (codes "MSGID") given.arguments
+gettext_arguments_named given = given.arguments_are
+
+pub ngettext_arguments_named : {texts : List ℕ → List (List ℕ) → Type 0}
+    {result : Result NgettextArguments ProgramFault} → (given : AreNgettextArguments texts result)
+    → texts (codes "MSGID") given.arguments
+ngettext_arguments_named given = given.arguments_are

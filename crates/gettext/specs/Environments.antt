@@ -42,3 +42,10 @@ pub record IsEnvironment (variable : List ℕ → Option (List ℕ) → Type 0) 
   pub language : variable (codes "LANGUAGE") env.language
   pub textdomain : variable (codes "TEXTDOMAIN") env.textdomain
   pub textdomaindir : variable (codes "TEXTDOMAINDIR") env.textdomaindir
+
+-- the variables' names, as the manual has them
+pub names_are : {variable : List ℕ → Option (List ℕ) → Type 0} (env : EnvironmentView) → IsEnvironment variable env
+    → variable (codes "LC_ALL") env.lc_all × variable (codes "LC_MESSAGES") env.lc_messages
+    × variable (codes "LANG") env.lang × variable (codes "LANGUAGE") env.language
+    × variable (codes "TEXTDOMAIN") env.textdomain × variable (codes "TEXTDOMAINDIR") env.textdomaindir
+names_are env is = (is.lc_all, is.lc_messages, is.lang, is.language, is.textdomain, is.textdomaindir)

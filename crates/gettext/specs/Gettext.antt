@@ -1,5 +1,6 @@
 -- What gettext and ngettext write (manual, "Invoking the gettext program" and "Invoking the ngettext program").
-use Rattle.std.specs.Prelude.{◌≡◌, ℕ, Bool, false, not, ◌&&◌, List, [], ◌∷◌, ◌++◌, map, Option, None, Some, codes}
+use Rattle.std.specs.Prelude.{◌≡◌, refl, ℕ, Bool, true, false, not, ◌&&◌}
+use Rattle.std.specs.Prelude.{List, [], ◌∷◌, ◌++◌, map, Option, None, Some, codes}
 use Rattle.std.specs.Prelude.{if◌then◌else◌}
 use Rattle.std.specs.List.{join_with_byte, list_any}
 use Rattle.mo_file.specs.declared.byte_order.Order.{Order}
@@ -9,7 +10,7 @@ use Rattle.mo_file.specs.Fault.{IsFirstFault}
 use Rattle.mo_lookup.specs.Chain.{chain_answered}
 use Rattle.mo_lookup.specs.CatalogView.{CatalogView, IsCatalogView}
 use Rattle.gettext.specs.CountArgument.{count_in}
-use Rattle.gettext.specs.Escapes.{expansion, has_no_newline}
+use Rattle.gettext.specs.Escapes.{expansion, has_no_newline, escape_after, given_bytes_after, letter_escape}
 use Rattle.runs.specs.FaultText.{fault_line, mo_text}
 use Rattle.runs.specs.NamedFile.{NamedFile}
 use Rattle.runs.specs.Run.{RunView}
@@ -93,3 +94,71 @@ pub record IsNgettextRun (files : List NamedFile) (o : NgettextRequest) (run : R
   pub reported : List ℕ
   pub opens : Opens (codes "ngettext") files chain reported
   pub run_is : run ≡ answered (ngettext_output chain o) reported
+
+-- Without a catalogue a text stands for itself. As the manual says, `-s` acts as `echo` does, `-n`
+-- omits the newline, `\c` does so too where `-e` is given, and MSGID is for one.
+abbrev pub request_of : List (List ℕ) → Bool → Bool → Bool → GettextRequest
+request_of texts expand no_newline shell =
+    record { arguments = texts; context = None; expand = expand; no_newline = no_newline; shell = shell }
+
+pub one_text : gettext_output [] (request_of (codes "a\\n" ∷ []) false false false) ≡ codes "a\\n"
+one_text = refl
+
+pub two_texts : gettext_output [] (request_of (codes "a" ∷ codes "b" ∷ []) false false true) ≡ codes "a b\n"
+two_texts = refl
+
+pub without_newline : gettext_output [] (request_of (codes "a" ∷ codes "b" ∷ []) false true true) ≡ codes "a b"
+without_newline = refl
+
+pub c_without_newline : gettext_output [] (request_of (codes "a\\n" ∷ codes "b\\c" ∷ []) true false true)
+    ≡ codes "a\n b"
+unfolding given_bytes_after escape_after letter_escape
+c_without_newline = refl
+
+abbrev pub request_at : List ℕ → NgettextRequest
+request_at count =
+    record { context = None; expand = false; id = codes "file"; plural = codes "files"; count = count }
+
+pub one_file : ngettext_output [] (request_at (codes "1")) ≡ codes "file"
+unfolding count_in
+one_file = refl
+
+pub no_files : ngettext_output [] (request_at (codes "0")) ≡ codes "files"
+unfolding count_in
+no_files = refl
+
+pub many_files : ngettext_output [] (request_at (codes "many")) ≡ codes "files"
+unfolding count_in
+many_files = refl
+
+-- a catalogue that is refused doesn't count as a failure
+pub status_is : (output reported : List ℕ) → (answered output reported).status ≡ 0
+status_is output reported = refl
+
+-- a catalogue is asked in the context that `-c` gives, with `-e` for the texts as they are expanded
+pub msgid_asked : (chain : List CatalogView)
+    → gettext_output chain
+    (record {
+      arguments = codes "a\\tb" ∷ [];
+      context = Some (codes "menu");
+      expand = true;
+      no_newline = false;
+      shell = false;
+    })
+    ≡ (chain_answered chain (record { context = Some (codes "menu"); id = codes "a\tb"; plural = None })).text ++ []
+unfolding given_bytes_after escape_after letter_escape
+msgid_asked chain = refl
+
+pub plural_asked : (chain : List CatalogView)
+    → ngettext_output chain
+    (record {
+      context = Some (codes "menu");
+      expand = true;
+      id = codes "a\\tb";
+      plural = codes "c\\td";
+      count = codes "3";
+    })
+    ≡ (chain_answered chain
+    (record { context = Some (codes "menu"); id = codes "a\tb"; plural = Some (codes "c\td", 3) })).text
+unfolding given_bytes_after escape_after letter_escape count_in
+plural_asked chain = refl

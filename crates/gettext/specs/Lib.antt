@@ -1,9 +1,12 @@
 pub mod CountArgument
+pub mod Counting
 pub mod Escapes
 pub mod Expanding
 pub mod Locales
 pub mod Paths
 pub mod Environments
+pub mod Choosing
+pub mod Candidates
 pub mod Gettext
 pub mod GettextView
 pub mod OpensFile

@@ -31,3 +31,19 @@ pub record IsNgettextRequest (flag : List ℕ → Bool → Type 0) (text : List 
   pub id : o.id ≡ form.id
   pub plural : o.plural ≡ form.plural
   pub count : o.count ≡ form.count
+
+-- the options' names, as the manual has them
+pub domain_named : {text variable : List ℕ → Option (List ℕ) → Type 0} {file : List ℕ → Reading → Type 0}
+    {before after : Option (List Asked)} {argument : Option (List ℕ)} {catalogues : List NamedFile}
+    → (found : AreFoundBy text variable file before after argument catalogues) → text (codes "domain") found.option
+domain_named found = found.option_is
+
+pub gettext_named : {flag : List ℕ → Bool → Type 0} {text : List ℕ → Option (List ℕ) → Type 0} {form : GettextUsage}
+    (o : GettextRequest) → IsGettextRequest flag text form o
+    → text (codes "context") o.context × flag (codes "expand") o.expand × flag (codes "no-newline") o.no_newline
+gettext_named o is = (is.context, is.expand, is.no_newline)
+
+pub ngettext_named : {flag : List ℕ → Bool → Type 0} {text : List ℕ → Option (List ℕ) → Type 0} {form : NgettextUsage}
+    (o : NgettextRequest) → IsNgettextRequest flag text form o
+    → text (codes "context") o.context × flag (codes "expand") o.expand
+ngettext_named o is = (is.context, is.expand)

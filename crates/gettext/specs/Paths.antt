@@ -1,6 +1,6 @@
 -- Where the catalogues of a text domain lie ("Invoking the gettext program" and "Locating Message
 -- Catalog Files" of the GNU gettext manual).
-use Rattle.std.specs.Prelude.{ℕ, if◌then◌else◌, List, [], ◌++◌, map, Option, Some, None, unwrap_or, codes}
+use Rattle.std.specs.Prelude.{◌≡◌, refl, ℕ, if◌then◌else◌, List, [], ◌++◌, map, Option, Some, None, unwrap_or, codes}
 use Rattle.std.specs.Option.{option_or, option_copied}
 use Rattle.locale_names.specs.Names.{is_path_part}
 use Rattle.gettext.specs.Locales.{non_empty, candidates_of}
@@ -28,3 +28,31 @@ paths_in env (Some domain) =
 -- the paths of the catalogues to try, the first to be asked first
 abbrev pub paths_of : Option (List ℕ) → Option (List ℕ) → Environment → List (List ℕ)
 paths_of argument option env = paths_in env (domain_of argument option env)
+
+-- by the manual's form `DIR_NAME/LOCALE/LC_CATEGORY/DOMAIN_NAME.mo`
+pub path_is : path_of (codes "/usr/share/locale") (codes "fr") (codes "hello")
+    ≡ codes "/usr/share/locale/fr/LC_MESSAGES/hello.mo"
+path_is = refl
+
+-- a domain with a slash has no path, and no more has an empty one
+pub no_path_of_slash : (env : Environment) → paths_in env (Some (codes "a/b")) ≡ []
+no_path_of_slash env = refl
+
+pub no_path_of_empty : (env : Environment) → paths_in env (Some []) ≡ []
+no_path_of_empty env = refl
+
+pub paths_are : (env : Environment)
+    → paths_in env (Some (codes "hello"))
+    ≡ map (λ locale. path_of (folder_of env) locale (codes "hello")) (candidates_of env)
+paths_are env = refl
+
+-- the paths are those of the text domain that is chosen
+pub argument_counts : (env : Environment)
+    → paths_of (Some (codes "hello")) (Some (codes "other")) env ≡ paths_in env (Some (codes "hello"))
+argument_counts env = refl
+
+pub option_counts : (env : Environment) → paths_of None (Some (codes "hello")) env ≡ paths_in env (Some (codes "hello"))
+option_counts env = refl
+
+pub textdomain_counts : (env : Environment) → paths_of None None env ≡ paths_in env (option_copied env.textdomain)
+textdomain_counts env = refl

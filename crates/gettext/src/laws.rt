@@ -1,8 +1,16 @@
-//! Laws of escapes, each the contract of a function that does nothing: a call brings the law into a
-//! proof.
-ghost use Rattle.std.specs.Prelude.{◌≡◌, ◌↔◌, ℕ, Bool, List};
+//! Laws of escapes, of COUNT and of where catalogues are looked for, each the contract of a function
+//! that does nothing: a call brings the law into a proof.
+ghost use Rattle.std.specs.Prelude.{◌≡◌, ◌↔◌, ℕ, Bool, List, Option};
+ghost use Rattle.gettext.specs.declared.candidates.Environment.{Environment};
+ghost use Rattle.gettext.specs.Candidates.{AreCandidates};
+ghost use Rattle.gettext.specs.Choosing.{IsDomain, IsFolder, IsLocale};
+ghost use Rattle.gettext.specs.CountArgument.{count_in};
+ghost use Rattle.gettext.specs.Counting.{GivesCount};
+ghost use Rattle.gettext.specs.Environments.{environment_view};
 ghost use Rattle.gettext.specs.Escapes.{expansion, has_no_newline};
 ghost use Rattle.gettext.specs.Expanding.{Expands};
+ghost use Rattle.gettext.specs.Locales.{candidates_of, locale_of};
+ghost use Rattle.gettext.specs.Paths.{domain_of, folder_of};
 
 /// The expansion of a text is the text in which each escape stands for its byte, `\c` for none, and
 /// any other byte for itself.
@@ -10,4 +18,40 @@ pub fn escapes_are_expanded()
     ensures { (text bytes : List ℕ) (without_newline : Bool)
         → ((bytes ≡ expansion text) × (without_newline ≡ has_no_newline text))
         ↔ Expands text bytes without_newline }
+{}
+
+/// The locale is that of LC_ALL, else that of LC_MESSAGES, else that of LANG, each where it is set
+/// and not empty, else none.
+pub fn locale_is_chosen()
+    ensures { (env : Environment) (locale : List ℕ)
+        → (locale ≡ locale_of env) ↔ IsLocale (environment_view env) locale }
+{}
+
+/// The catalogues lie below the folder of TEXTDOMAINDIR, where it is set and not empty, else below
+/// `/usr/share/locale`.
+pub fn folder_is_chosen()
+    ensures { (env : Environment) (folder : List ℕ)
+        → (folder ≡ folder_of env) ↔ IsFolder (environment_view env) folder }
+{}
+
+/// The text domain is the argument, else that of `-d`, else that of TEXTDOMAIN, each also where it
+/// is empty, else none.
+pub fn domain_is_chosen()
+    ensures { (argument option : Option (List ℕ)) (env : Environment) (domain : Option (List ℕ))
+        → (domain ≡ domain_of argument option env)
+        ↔ IsDomain argument option (environment_view env) domain }
+{}
+
+/// A COUNT is the number that its decimal digits spell, where it is below 2^64, and any other text
+/// is taken as 99.
+pub fn counts_are_numbers()
+    ensures { (text : List ℕ) (count : ℕ) → (count ≡ count_in text) ↔ GivesCount text count }
+{}
+
+/// The candidates are the five names of each language, each at its first place alone: those of
+/// LANGUAGE, where it is set and not empty, up to `C` or `POSIX`, else of the locale; and none in a
+/// locale that has no translations.
+pub fn candidates_are_asked()
+    ensures { (env : Environment) (names : List (List ℕ))
+        → (names ≡ candidates_of env) ↔ AreCandidates (environment_view env) names }
 {}

@@ -1,0 +1,5 @@
+use Rattle.gettext.proofs.ListedNames.{candidates_asked}
+use Rattle.gettext.proofs.laws.candidates_are_asked.Goals as goal
+
+pub returns : goal.returns
+returns c = candidates_asked

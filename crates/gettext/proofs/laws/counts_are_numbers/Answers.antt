@@ -1,0 +1,5 @@
+use Rattle.gettext.proofs.SpeltCounts.{counts_given}
+use Rattle.gettext.proofs.laws.counts_are_numbers.Goals as goal
+
+pub returns : goal.returns
+returns c = counts_given

@@ -1,0 +1,5 @@
+use Rattle.gettext.proofs.ChoiceLemmas.{domain_chosen}
+use Rattle.gettext.proofs.laws.domain_is_chosen.Goals as goal
+
+pub returns : goal.returns
+returns c = domain_chosen
