@@ -107,4 +107,10 @@ static inline const char *below(const char *folder, const char *name)
     return path;
 }
 
+/* Writes the file of some messages, FOLDER/NAME. */
+static inline void write_messages(const char *folder, const char *name, struct mo_file file)
+{
+    write_file(below(folder, name), file.bytes, file.len);
+}
+
 #endif

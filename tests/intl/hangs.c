@@ -293,10 +293,8 @@ int main(int argc, char **argv)
         return 2;
     folder = argv[1];
     library = argv[2];
-    struct mo_file file = FILE_OF(german);
-    write_file(below(folder, "de/LC_MESSAGES/app.mo"), file.bytes, file.len);
-    file = FILE_OF(latin);
-    write_file(below(folder, "de/LC_MESSAGES/latin.mo"), file.bytes, file.len);
+    write_messages(folder, "de/LC_MESSAGES/app.mo", FILE_OF(german));
+    write_messages(folder, "de/LC_MESSAGES/latin.mo", FILE_OF(latin));
     setenv("LANGUAGE", "de", 1);
     if (setlocale(LC_ALL, "C.UTF-8") == NULL) {
         puts("skipped  what must not wait (the machine has no locale C.UTF-8)");

@@ -77,11 +77,6 @@ static void fork_once(void)
         wrong++;
 }
 
-static void write_messages(const char *folder, const char *name, struct mo_file file)
-{
-    write_file(below(folder, name), file.bytes, file.len);
-}
-
 /* A child that a thread of a small stack has forked stays on that stack. */
 static void *fork_in_small_thread(void *unused)
 {

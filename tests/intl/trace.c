@@ -34,12 +34,7 @@ static const struct message polish[] = {
     HEADER("UTF-8", "nplurals=3; plural=n==1 ? 0 : n%10>=2 && n%10<=4 && (n%100<10 || n%100>=20) ? 1 : 2"),
     MESSAGE("file\0files", "plik\0pliki\0plików")};
 
-static void write_messages(const char *folder, const char *name, const struct message *messages, size_t count)
-{
-    struct mo_file file = file_of(messages, (uint32_t)count);
-    write_file(below(folder, name), file.bytes, file.len);
-}
-#define WRITE(name, messages) write_messages(folder, name, messages, sizeof messages / sizeof messages[0])
+#define WRITE(name, messages) write_messages(folder, name, FILE_OF(messages))
 
 static void write_catalogues(const char *folder)
 {
