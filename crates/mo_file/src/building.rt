@@ -1,3 +1,5 @@
+//! An MO file built from pairs, in any order or already in that of the originals.
+
 ghost use Rattle.std.specs.Prelude.{◌≡◌, ◌+◌, ◌-◌, ◌^◌, ◌<◌, length, min, IfErr, IfOk, OnOk};
 ghost use Rattle.mo_file.specs.Building.{IsBuildFault};
 ghost use Rattle.mo_file.specs.Key.{AreRising, keys};

@@ -1,3 +1,5 @@
+//! The byte order of an MO file, by its magic number, and the words read and written in it.
+
 ghost use Rattle.std.specs.Prelude.{◌≡◌, ◌+◌, ◌≤◌, ◌++◌, length, MatchOption, OnOk};
 ghost use Rattle.mo_file.specs.FileHeader.{HasMagicOf};
 ghost use Rattle.mo_file.specs.Word.{word_at, word_bytes};

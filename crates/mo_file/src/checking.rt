@@ -1,3 +1,6 @@
+//! What makes bytes an MO file: strings within the file, a NUL after each, originals in rising
+//! order.
+
 ghost use Rattle.std.specs.Prelude.{◌≡◌, ◌+◌, ◌-◌, ◌^◌, ◌<◌, ◌↔◌, Some, IfErr, IsTrue, MatchResult, slice_get};
 ghost use Rattle.mo_file.specs.Fault.{IsFirstFault, comparisons_before};
 ghost use Rattle.mo_file.specs.Checking.{AreRisingBelow, HasStrings, IsHeader};

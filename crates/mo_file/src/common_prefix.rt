@@ -1,3 +1,5 @@
+//! The bytes that two texts have in common at their beginning, compared in lanes.
+
 ghost use Rattle.std.specs.Prelude.{◌≡◌, ◌+◌, ◌≤◌, ◌<◌, length, slice_index};
 ghost use Rattle.memchr.specs.Find.{IsFirstByte, is_byte};
 ghost use Rattle.mo_file.specs.CommonPrefix.{IsCommonPrefix, IsCommonPrefixIn, first_set};

@@ -1,3 +1,5 @@
+//! The meter that counts the key comparisons of a look-up.
+
 ghost use Rattle.std.specs.Prelude.{◌≡◌, ℕ, ◌+◌, ◌-◌, ◌^◌, ◌<◌};
 
 use std::marker::Model;

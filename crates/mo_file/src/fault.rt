@@ -1,3 +1,5 @@
+//! Why bytes aren't an MO file.
+
 use thiserror::Error;
 
 /// Why bytes aren't an MO file ("The Format of GNU MO Files"). Of the faults that a file has, the

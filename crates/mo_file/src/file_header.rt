@@ -1,3 +1,5 @@
+//! The seven words that begin an MO file.
+
 ghost use Rattle.std.specs.Prelude.{◌≡◌, ◌≤◌, List, IfErr, MatchResult, length};
 ghost use Rattle.mo_file.specs.declared.byte_order.Order.{Order};
 ghost use Rattle.mo_file.specs.FileHeader.{HasMagicOf, message_count, originals_table, translations_table};

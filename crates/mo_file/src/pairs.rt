@@ -1,3 +1,5 @@
+//! The pairs of original and translation that a file is built from.
+
 ghost use Rattle.std.specs.Prelude.{◌≡◌, ◌↔◌, IfOk, IsTrue};
 ghost use Rattle.mo_file.specs.Key.{AreRising, keys};
 ghost use Rattle.mo_file.specs.Pairs.{messages_of_borrowed, messages_of_pairs};

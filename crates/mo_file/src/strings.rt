@@ -1,3 +1,5 @@
+//! The strings of an MO file, by its two tables of descriptors.
+
 ghost use Rattle.std.specs.Prelude.{◌≡◌, ◌+◌, ◌*◌, ◌<◌, ◌≤◌, length};
 ghost use Rattle.mo_file.specs.Key.{key_of};
 ghost use Rattle.mo_file.specs.StringTable.{end_at, offset_at, original_at, string_at, translation_at};

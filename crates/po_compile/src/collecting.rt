@@ -1,3 +1,5 @@
+//! What compiling needs of the entries of an input, gathered in one buffer.
+
 ghost use Rattle.std.specs.Prelude.{◌≡◌, ◌++◌, ◌∷◌, ℕ, List, IfOk, IfErr, OnOk};
 ghost use Rattle.std.specs.List.{join_with_byte};
 ghost use Rattle.mo_file.specs.Key.{query_key};

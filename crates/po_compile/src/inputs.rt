@@ -1,3 +1,5 @@
+//! Several inputs collected, checked for one header, and checked for duplicates.
+
 ghost use Rattle.std.specs.Prelude.{◌≡◌, ◌==◌, ◌⊎◌, ◌<◌, ◌^◌, true, count_by, length, All, IfOk, IfErr, OnOk};
 ghost use Rattle.std.specs.List.{AllZip};
 ghost use Rattle.po_messages.specs.Duplicate.{HasNoDuplicate, join_out_of_memory};

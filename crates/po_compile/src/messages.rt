@@ -1,3 +1,5 @@
+//! The messages of an MO file before they are written, as the profile's check reads them.
+
 ghost use Rattle.std.specs.Prelude.{◌≡◌, ◌<◌, ◌^◌, All, IfOk, OnOk, filter, length, map};
 ghost use Rattle.po_messages.specs.Joined.{joined, joined_entries};
 ghost use Rattle.po_entry.specs.Validity.{IsCatalogueEntry};

@@ -1,3 +1,5 @@
+//! The options of compiling, and its result.
+
 use mo_file::Order;
 use po_messages::Stats;
 

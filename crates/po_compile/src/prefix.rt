@@ -1,3 +1,5 @@
+//! The first bytes of a key as a number, by which most rows are compared.
+
 ghost use Rattle.std.specs.Prelude.{◌≡◌, slice_index_or};
 ghost use Rattle.po_compile.specs.Prefix.{prefix_of, second_prefix_of};
 

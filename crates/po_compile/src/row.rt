@@ -1,3 +1,5 @@
+//! The row of a message: where its texts lie, and what it is sorted by.
+
 ghost use Rattle.std.specs.Prelude.{◌≡◌, ◌<◌, All};
 ghost use Rattle.mo_file.specs.Key.{key_cmp};
 ghost use Rattle.po_compile.specs.Prefix.{prefix_of, second_prefix_of};

@@ -1,3 +1,5 @@
+//! The rows of all inputs, sorted, and the pairs that they are written as.
+
 ghost use Rattle.std.specs.Prelude.{◌≡◌, ◌==◌, ◌<◌, ◌^◌, ◌++◌, ◌∷◌, [], None, IfOk, OnOk, IfSome, map, length, take, drop, IsPermutation, if◌then◌else◌};
 ghost use Rattle.std.specs.List.{list_any};
 ghost use Rattle.mo_file.specs.Key.{AreRising};

@@ -1,3 +1,5 @@
+//! Rows without a duplicate, and their statistics.
+
 ghost use Rattle.std.specs.Prelude.{◌≡◌, ◌<◌, ◌^◌, count_by, length, IfOk, IfErr};
 ghost use Rattle.po_messages.specs.Duplicate.{IsDuplicateFault};
 ghost use Rattle.po_messages.specs.Joined.{joined, joined_entries};

@@ -1,3 +1,5 @@
+//! A catalogue: the entries of a PO file, in its order.
+
 ghost use Rattle.std.specs.Prelude.{◌≡◌, IfOk, IfErr, OnOk, OnErr, All, [], ◌∷◌, ◌++◌};
 ghost use Rattle.po_entry.specs.Header.{HasAdmittedCharset};
 ghost use Rattle.po_entry.specs.Validity.{IsCatalogueEntry, IsRefusedEntry};

@@ -1,3 +1,5 @@
+//! The charset that a header names, and those that are admitted.
+
 ghost use Rattle.std.specs.Prelude.{◌≡◌, IsTrue, ◌↔◌, position};
 ghost use Rattle.po_entry.specs.Header.{HasAdmittedCharset, IsAdmittedName, charset_of, after_charset, ends_name};
 

@@ -1,3 +1,5 @@
+//! Copies of texts, where memory can fail.
+
 ghost use Rattle.std.specs.Prelude.{◌≡◌, IfOk, option_copied, map, []};
 ghost use Rattle.po_entry.specs.TextEntry.{texts, optional_text, slice_texts};
 

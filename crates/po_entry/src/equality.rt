@@ -1,3 +1,5 @@
+//! Entries compared, with and without their comments.
+
 ghost use Rattle.std.specs.Prelude.{◌≡◌, option_copied};
 ghost use Rattle.po_entry.specs.Equality.{texts_eq, optional_eq, previous_eq, comments_eq, bodies_eq};
 ghost use Rattle.po_entry.specs.TextEntry.{texts};

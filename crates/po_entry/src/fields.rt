@@ -1,3 +1,5 @@
+//! The fields of an entry, before they are checked.
+
 ghost use Rattle.std.specs.Prelude.{◌≡◌, IfOk};
 ghost use Rattle.po_entry.specs.EntryView.{entry_view};
 

@@ -1,3 +1,5 @@
+//! The previous context, msgid and plural of a fuzzy entry.
+
 ghost use Rattle.std.specs.Prelude.{◌≡◌, IfOk};
 ghost use Rattle.po_entry.specs.TextEntry.{no_previous};
 

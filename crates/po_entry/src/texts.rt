@@ -1,3 +1,5 @@
+//! What the texts of an entry may hold: UTF-8, and no byte that can't be written.
+
 ghost use Rattle.std.specs.Prelude.{◌≡◌, MatchResult, All, IfSome, IsUtf8, IsTrue, ◌↔◌, option_to_list, option_copied};
 ghost use Rattle.po_entry.specs.EntryView.{entry_view};
 ghost use Rattle.po_entry.specs.TextEntry.{quoted_texts, previous_texts, texts, optional_text};

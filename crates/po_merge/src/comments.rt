@@ -1,3 +1,5 @@
+//! The comments, references and flags of a merged entry.
+
 ghost use Rattle.std.specs.Prelude.{◌≡◌, ◌<◌, ◌++◌, ℕ, List, length, IfOk, OnOk};
 ghost use Rattle.po_entry.specs.TextEntry.{texts};
 ghost use Rattle.po_entry.specs.SeenTexts.{HoldsTexts};

@@ -1,3 +1,5 @@
+//! The definitions of one message, and which of them is taken.
+
 ghost use Rattle.std.specs.Prelude.{◌≡◌, ◌<◌, ◌||◌, length, is_some, filter, IfOk};
 ghost use Rattle.std.specs.List.{list_any};
 ghost use Rattle.po_messages.specs.Joined.{is_live};

@@ -1,3 +1,5 @@
+//! The entries of all inputs, grouped by context and msgid.
+
 ghost use Rattle.std.specs.Prelude.{◌≡◌, ◌++◌, ◌∷◌, [], All, IfOk, IsUtf8, List, OnOk, length, map};
 ghost use Rattle.po_messages.specs.FirstOnes.{first_ones, group_numbers};
 ghost use Rattle.po_messages.specs.Message.{Message, same_message};

@@ -1,3 +1,5 @@
+//! The inputs and options of a merge.
+
 use po_entry::Catalogue;
 
 /// A catalogue that is merged with others.

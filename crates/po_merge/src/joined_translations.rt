@@ -1,3 +1,5 @@
+//! Translations that differ, joined in one with the names of their files between.
+
 ghost use Rattle.std.specs.Prelude.{◌≡◌, ◌<◌, ◌++◌, length, IfOk, OnOk};
 ghost use Rattle.po_entry.specs.TextEntry.{texts};
 ghost use Rattle.po_merge.specs.InputsView.{named_entries};

@@ -1,3 +1,5 @@
+//! The first message that is defined twice, in one catalogue or across several.
+
 ghost use Rattle.std.specs.Prelude.{◌≡◌, ◌<◌, ◌^◌, length, IfOk, MatchResult, IsOkUnless};
 ghost use Rattle.po_messages.specs.JoinedView.{input_entry, input_entries};
 ghost use Rattle.po_messages.specs.Joined.{joined, joined_entries, entries_of};

@@ -1,3 +1,5 @@
+//! The entries of several catalogues as one list, with the header of the first.
+
 ghost use Rattle.std.specs.Prelude.{◌≡◌, ◌++◌, ◌<◌, ◌^◌, length, map, All, OnOk, IfOk};
 ghost use Rattle.std.specs.List.{list_any};
 ghost use Rattle.po_messages.specs.Joined.{in_input, is_live, is_live_header, kept_entries, joined, joined_entries};

@@ -1,3 +1,5 @@
+//! An index of entries by context and msgid.
+
 ghost use Rattle.std.specs.Prelude.{◌≡◌, ◌≢◌, [], AllPairs, IfNone, IfOk, IfSome};
 ghost use Rattle.po_messages.specs.FirstOnes.{group_numbers};
 ghost use Rattle.po_messages.specs.Message.{IsFirstRepeat, entry_message, same_message};

@@ -1,3 +1,5 @@
+//! Translated, fuzzy and untranslated messages, counted.
+
 ghost use Rattle.std.specs.Prelude.{◌≡◌, ◌+◌, ◌-◌, ◌<◌, ◌^◌, ◌++◌, IfOk, IfErr, OnOk};
 ghost use Rattle.po_entry.specs.Validity.{out_of_memory};
 ghost use Rattle.po_messages.specs.Statistics.{stats_of, counted, further, has_translation};

@@ -1,3 +1,5 @@
+//! The second half of an entry: msgid, plural and translations.
+
 ghost use Rattle.std.specs.Prelude.{◌≡◌, ◌≢◌, ◌<◌, length, IfOk, OnOk, IfErr, IfSome, MatchOption, ◌^◌};
 ghost use Rattle.po_reader.specs.Steps.Body.{begins_form, body_start, IsForms, IsTranslation, IsBody};
 ghost use Rattle.po_reader.specs.Steps.Body as spec;

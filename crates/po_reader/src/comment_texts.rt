@@ -1,3 +1,5 @@
+//! The references and flags that comments spell.
+
 ghost use Rattle.std.specs.Prelude.{◌≡◌, ◌<◌, ◌≤◌, ◌++◌, ◌∷◌, [], ℕ, Bool, length, position, IfSome, MatchOption, OnOk};
 ghost use Rattle.std.specs.List.{slice_split, suffix_len};
 ghost use Rattle.po_syntax.specs.Token.{is_blank};

@@ -1,3 +1,5 @@
+//! The first half of an entry: comments, previous texts and context.
+
 ghost use Rattle.std.specs.Prelude.{◌≡◌, ◌≢◌, ◌<◌, ◌≤◌, ◌++◌, ◌∷◌, [], Some, ℕ, List, length, IfOk, IfErr, OnOk, OnErr, IfSome, MatchResult, ◌||◌};
 ghost use Rattle.po_entry.specs.Parts.{CommentText, PreviousText, rank};
 ghost use Rattle.po_reader.specs.Steps.Head.{IsHead, head_step, begins_body};

@@ -1,3 +1,5 @@
+//! The entries of a text, a few at a time.
+
 ghost use Rattle.std.specs.Prelude.{◌≡◌, [], IfOk, IfErr, OnOk};
 ghost use Rattle.po_reader.specs.PieceRead.{ReadsOn, KeepsReading, ReadsMessages, ReadsPiece, FaultsStay, IsLeftError, IsShorter};
 

@@ -1,3 +1,5 @@
+//! A catalogue from a PO text.
+
 ghost use Rattle.std.specs.Prelude.{◌≡◌, ◌≢◌, IfOk, IfErr};
 ghost use Rattle.po_entry.specs.ReadsText.{ReadsText};
 ghost use Rattle.po_entry.specs.Faults.{IsReadFault};

@@ -1,3 +1,5 @@
+//! The items that haven't been read yet.
+
 ghost use Rattle.std.specs.Prelude.{◌≡◌, ◌≢◌, ◌<◌, [], ◌∷◌, drop, length, MatchBool, MatchOption};
 ghost use Rattle.po_syntax.specs.TextItem.{line_of, view, views};
 ghost use Rattle.po_reader.specs.Steps.Stops.{line_at};

@@ -1,3 +1,5 @@
+//! A string in several pieces, each on a line of its own.
+
 ghost use Rattle.std.specs.Prelude.{◌≡◌, ◌≢◌, ◌<◌, length, IfOk, IfErr, OnOk, MatchResult};
 ghost use Rattle.po_reader.specs.Steps.Strings.{IsStrings, string_step, begins_string};
 ghost use Rattle.po_entry.specs.Spelling.{own_marks};

@@ -1,3 +1,5 @@
+//! A catalogue with the entries that a selection keeps, changed as it says.
+
 ghost use Rattle.std.specs.Prelude.{◌≡◌, All, IfOk, IsOk, filter, map};
 ghost use Rattle.po_entry.specs.Validity.{IsCatalogueEntry};
 ghost use Rattle.po_select.specs.Selected.{changed, is_kept, selected};

@@ -1,3 +1,5 @@
+//! Which entries are kept, and what becomes of them.
+
 ghost use Rattle.std.specs.Prelude.{◌≡◌};
 ghost use Rattle.po_messages.specs.Joined.{is_live_header};
 ghost use Rattle.po_entry.specs.Validity.{IsCatalogueEntry};

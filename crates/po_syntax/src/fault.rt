@@ -1,3 +1,5 @@
+//! What is wrong with a PO text, and in which line.
+
 ghost use Rattle.std.specs.Prelude.{◌≡◌};
 ghost use Rattle.po_syntax.specs.declared.fault.PoFault.TheVariants.{OutOfMemory};
 

@@ -1,3 +1,5 @@
+//! The items of a PO text: comments, keywords and strings, each with its line.
+
 use std::borrow::CowSlice;
 
 /// The keyword that a word of a PO text is (manual, "The Format of PO Files").

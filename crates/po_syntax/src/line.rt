@@ -1,3 +1,5 @@
+//! The items of one line.
+
 ghost use Rattle.std.specs.Prelude.{◌≡◌, ◌≢◌, ◌≤◌, ◌==◌, length, IfErr, OnOk};
 ghost use Rattle.std.specs.List.{suffix_len};
 ghost use Rattle.po_syntax.specs.Line.{shape_of, hash_shape, tilde_shape, comment_shape, trim_returns, SpellsTokens, TokensStop, SpellsLine, LineStops};

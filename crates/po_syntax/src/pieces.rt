@@ -1,3 +1,5 @@
+//! The items of a text, some entries at a time.
+
 ghost use Rattle.std.specs.Prelude.{◌≡◌, ◌≢◌, ◌↔◌, ◌+◌, ◌<◌, ◌≤◌, ◌^◌, ◌∷◌, [], take, drop, List, ℕ, All, length, vec_len, true, false, IfOk, IfErr, OnOk, OnErr, IsTrue};
 ghost use Rattle.po_syntax.specs.declared.fault.PoFault.{PoFault};
 ghost use Rattle.po_syntax.specs.ItemContents.{HoldsText};

@@ -1,3 +1,5 @@
+//! The bytes that a quoted string spells.
+
 ghost use Rattle.std.specs.Prelude.{◌≡◌, ◌≢◌, ℕ, ◌+◌, ◌<◌, ◌≤◌, ◌⊎◌, List, ◌∷◌, ◌++◌, length, IfOk, IfErr};
 ghost use Rattle.std.specs.Cow.{cow_slice_items};
 ghost use Rattle.po_syntax.specs.QuotedString.{IsQuoted, QuotedStops};

@@ -1,3 +1,5 @@
+//! A string spelled as one quoted string.
+
 ghost use Rattle.std.specs.Prelude.{◌≡◌, ◌+◌, ◌≤◌, ◌++◌, length, take, true, OnOk, OnErr, IfErr};
 ghost use Rattle.std.specs.List.{prefix_len};
 ghost use Rattle.po_syntax.specs.declared.fault.PoFault.TheVariants.{OutOfMemory};

@@ -1,3 +1,5 @@
+//! The words, strings and blanks that a line is made of.
+
 ghost use Rattle.std.specs.Prelude.{◌≡◌, ◌<◌, ◌≤◌, length};
 ghost use Rattle.std.specs.List.{prefix_len};
 ghost use Rattle.po_syntax.specs.Token.{is_blank, is_word_byte, skip_blanks, index_token, bracket_token, keyword_token, token_at};

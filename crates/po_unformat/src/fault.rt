@@ -1,3 +1,5 @@
+//! Why no PO text is made of a file.
+
 ghost use Rattle.std.specs.Prelude.{◌≡◌};
 ghost use Rattle.po_unformat.specs.declared.fault.UnformatError.TheVariants.{Mo, OutOfMemory};
 

@@ -1,3 +1,5 @@
+//! The PO text of an MO file.
+
 ghost use Rattle.std.specs.Prelude.{MatchResult};
 ghost use Rattle.po_unformat.specs.Refused.{RefusesMessages};
 ghost use Rattle.po_unformat.specs.UnformattedText.{AreWrittenAs, IsUnformatted, IsUnformatFault};

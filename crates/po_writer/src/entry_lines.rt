@@ -1,3 +1,5 @@
+//! The lines of an entry.
+
 ghost use Rattle.std.specs.Prelude.{◌≡◌, ◌++◌, OnOk, codes, option_copied};
 ghost use Rattle.std.specs.List.{flat_map};
 ghost use Rattle.po_entry.specs.TextEntry.{texts};

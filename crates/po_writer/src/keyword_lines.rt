@@ -1,3 +1,5 @@
+//! A keyword and its string, on one line or on several.
+
 ghost use Rattle.std.specs.Prelude.{◌≡◌, ◌<◌, ◌++◌, ◌∷◌, [], codes, decimal, OnOk, nat_lt, length, option_copied};
 ghost use Rattle.std.specs.List.{flat_map};
 ghost use Rattle.po_writer.specs.WrittenText.{lines_with_ends, text_lines, keyword_lines, optional_lines, string_line};

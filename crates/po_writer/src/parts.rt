@@ -1,3 +1,5 @@
+//! A text in two parts, live entries before obsolete ones.
+
 ghost use Rattle.std.specs.Prelude.{◌≡◌, ◌++◌, List, [], OnOk, IfOk};
 ghost use Rattle.po_entry.specs.TextEntry.{TextEntry};
 ghost use Rattle.po_writer.specs.TextParts.{AreAdded, AreParts, AreSeparated, joined_parts, separated, with_separated};

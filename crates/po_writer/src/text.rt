@@ -1,3 +1,5 @@
+//! The PO text of a catalogue.
+
 ghost use Rattle.std.specs.Prelude.{◌≡◌, ◌++◌, ◌∷◌, List, [], All, OnOk, IfOk, IfErr, false, fold};
 ghost use Rattle.po_entry.specs.TextEntry.{TextEntry};
 ghost use Rattle.po_entry.specs.Validity.{out_of_memory};

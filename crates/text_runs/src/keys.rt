@@ -16,7 +16,9 @@ use std::alloc::{AllocError, Global};
 /// How long the context of a message is, where it has one, and its msgid.
 #[derive(Clone, Copy)]
 pub struct KeySpans {
+    /// That of the context, in bytes.
     pub context: Option<usize>,
+    /// That of the msgid, in bytes.
     pub id: usize,
 }
 
@@ -25,6 +27,7 @@ pub struct KeySpans {
 pub struct KeyBuffer {
     /// The context and the msgid of each, one behind the other.
     pub bytes: Vec<u8>,
+    /// The lengths of these, in the same order.
     pub lengths: Vec<KeySpans>,
 }
 
