@@ -1,8 +1,8 @@
 pub mod Tools
 pub mod Arguments
 pub mod Offering
-pub mod Kind
 pub mod SpelledOut
 pub mod OwnTip
 pub mod Reworded
 pub mod TextLines
+pub mod Internal

@@ -7,7 +7,7 @@ ghost use Rattle.clap.specs.Walk.{rule_of, texts};
 ghost use Rattle.clap.specs.declared.builder.command.Command.TheViews.{out-Command};
 ghost use Rattle.clap.specs.declared.builder.value_parser.ValueParser.TheVariants.{Names};
 ghost use Rattle.command_line.specs.Arguments.{IsRuleOf};
-ghost use Rattle.command_line.specs.Kind.{argument_of};
+ghost use Rattle.command_line.specs.Internal.Kind.{argument_of};
 ghost use Rattle.command_line.specs.Offering.{AddsArguments, IsToolCommand, OffersTools, offered_tools};
 ghost use Rattle.command_line.specs.Tools.{every_tool, offered};
 ghost use Rattle.command_line.specs.declared.tool.Tool.TheVariants as tool;

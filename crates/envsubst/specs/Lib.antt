@@ -1,6 +1,5 @@
 pub mod References
 pub mod Substitution
-pub mod Sorted
 pub mod Replacing
 pub mod Stream
 pub mod PendingReference
@@ -12,3 +11,4 @@ pub mod ByArguments
 pub mod Usage
 pub mod UsageView
 pub mod ArgumentValues
+pub mod Internal

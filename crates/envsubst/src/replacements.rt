@@ -2,7 +2,7 @@
 //! manual).
 ghost use Rattle.std.specs.Prelude.{◌≡◌};
 ghost use Rattle.std.specs.Option.{option_map};
-ghost use Rattle.envsubst.specs.Sorted.{values_of_replacements};
+ghost use Rattle.envsubst.specs.Internal.Sorted.{values_of_replacements};
 ghost use Rattle.envsubst.specs.Substitution.{is_replaced, names_given, pairs_in, value_of};
 
 use crate::sorted::{are_names_sorted, are_variables_sorted, is_in_sorted, sorted_value};
@@ -20,7 +20,7 @@ pub(crate) struct Replacements<'a> {
 
 impl<'a> Model for Replacements<'a> {
     ghost use Rattle.std.specs.Prelude.{◌≡◌, true, IfSome};
-    ghost use Rattle.envsubst.specs.Sorted.{AreNamesSorted, AreVariablesSorted, ReplacementsView};
+    ghost use Rattle.envsubst.specs.Internal.Sorted.{AreNamesSorted, AreVariablesSorted, ReplacementsView};
     ghost use Rattle.envsubst.specs.Substitution.{pairs_in, names_given};
 
     ghost Value = { ReplacementsView };

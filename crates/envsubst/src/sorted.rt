@@ -2,7 +2,7 @@
 ghost use Rattle.std.specs.Prelude.{◌≡◌, ℕ, List, Some, map, true, IfOk};
 ghost use Rattle.std.specs.List.{list_any};
 ghost use Rattle.std.specs.Str.{bytes_eq};
-ghost use Rattle.envsubst.specs.Sorted.{AreNamesSorted, AreVariablesSorted};
+ghost use Rattle.envsubst.specs.Internal.Sorted.{AreNamesSorted, AreVariablesSorted};
 ghost use Rattle.envsubst.specs.Substitution.{is_replaced, pairs_in, value_of};
 
 use std::alloc::{AllocError, Global};

@@ -4,7 +4,7 @@ ghost use Rattle.std.specs.Prelude.{◌≡◌, ◌+◌, ◌-◌, ◌*◌, ◌^�
 ghost use Rattle.std.specs.Io.KnownBytes.{Appends, Keeps};
 ghost use Rattle.devices.specs.Device.{AppendsPrefix};
 ghost use Rattle.envsubst.specs.PendingReference.{is_undecided};
-ghost use Rattle.envsubst.specs.Sorted.{values_of_replacements};
+ghost use Rattle.envsubst.specs.Internal.Sorted.{values_of_replacements};
 ghost use Rattle.envsubst.specs.Stream.{Advances, Stops};
 ghost use Rattle.envsubst.specs.SubstituterView.{values_of_substituter};
 ghost use Rattle.envsubst.specs.Substitution.{substitution, pairs_in, names_given};

@@ -9,10 +9,10 @@ pub mod Choosing
 pub mod Candidates
 pub mod Gettext
 pub mod GettextView
-pub mod OpensFile
 pub mod Catalogues
 pub mod Options
 pub mod Usage
 pub mod UsageView
 pub mod ArgumentValues
 pub mod WholeRun
+pub mod Internal

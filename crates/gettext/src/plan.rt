@@ -11,7 +11,7 @@ ghost use Rattle.runs.specs.Run.{run_view};
 ghost use Rattle.gettext.specs.Gettext as Spec;
 ghost use Rattle.gettext.specs.GettextView.{gettext_view, ngettext_view};
 ghost use Rattle.runs.specs.NamedFile.{named_files};
-ghost use Rattle.gettext.specs.OpensFile.{OpensFile};
+ghost use Rattle.gettext.specs.Internal.OpensFile.{OpensFile};
 
 use crate::catalogues::bytes_of;
 use crate::count::count_of;

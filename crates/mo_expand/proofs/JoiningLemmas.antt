@@ -11,7 +11,7 @@ use Rattle.mo_file.specs.declared.byte_order.Order.{Order}
 use Rattle.mo_file.specs.Word.{word_at}
 use Rattle.mo_expand.specs.declared.platform_text.PlatformText.{PlatformText}
 use Rattle.mo_expand.specs.Segments.{joined, from_segment, join}
-use Rattle.mo_expand.specs.Joining.{HasText, IsJoining, IsPut, IsWritten, with_rest}
+use Rattle.mo_expand.specs.Internal.Joining.{HasText, IsJoining, IsPut, IsWritten, with_rest}
 
 pub joined-none : (order : Order) (bytes : List ℕ) (texts : List PlatformText) (at start : ℕ) → joined order bytes texts 0 at start ≡ None
 unfolding joined

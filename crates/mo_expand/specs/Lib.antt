@@ -1,6 +1,6 @@
 pub mod PlatformText
 pub mod Segments
 pub mod Expanded
-pub mod Joining
 pub mod Expanding
 pub mod Laws
+pub mod Internal

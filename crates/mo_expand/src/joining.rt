@@ -2,7 +2,7 @@
 
 ghost use Rattle.std.specs.Prelude.{◌≡◌, ◌+◌, ◌<◌, ◌≤◌, ◌^◌, ◌++◌, ℕ, List, Option, IfSome, length};
 ghost use Rattle.mo_expand.specs.Segments.{from_segment, text_at};
-ghost use Rattle.mo_expand.specs.Joining.{IsPut, IsWritten, with_rest};
+ghost use Rattle.mo_expand.specs.Internal.Joining.{IsPut, IsWritten, with_rest};
 
 use crate::platform_text::PlatformText;
 use crate::segments::{inserted, part, terminated_part, word};

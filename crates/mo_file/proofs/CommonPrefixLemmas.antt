@@ -6,7 +6,7 @@ use Rattle.std.proofs.lemmas.List.{length-map}
 use Rattle.std.proofs.lemmas.List.Sums.{prefix_len-le-length, prefix_len_passes, prefix_len_stops}
 use Rattle.std.specs.List.{prefix_len}
 use lib.Lanes.{chunk, zip2, mask_l, top}
-use Rattle.mo_file.specs.CommonPrefix.{IsCommonPrefixIn, differs_or_stops_at, first_set}
+use Rattle.mo_file.specs.Internal.CommonPrefix.{IsCommonPrefixIn, differs_or_stops_at, first_set}
 
 module _ (stop : ℕ) (or ne eq : ℕ → ℕ → ℕ) (tops : (a b : ℕ) → top 7 (or (ne a b) (eq a stop)) ≡ (not (a == b) || a == stop))
     (x y : List ℕ) (i n r : ℕ) (room_x : i + n ≤ length x) (room_y : i + n ≤ length y) (few : n ≤ 64) where

@@ -11,7 +11,7 @@ use Rattle.mo_file.specs.FileHeader.{HasMagicOf, message_count, originals_table,
 use Rattle.mo_file.specs.Message.{Message}
 use Rattle.mo_file.specs.MoFile.{IsMoFile}
 use Rattle.mo_file.specs.Fault.{HasFault, HasFaultIn, IsFirstFault, IsNotRising}
-use Rattle.mo_file.specs.Checking.{AreRisingBelow, HasStrings, IsChecked, IsHeader}
+use Rattle.mo_file.specs.Internal.Checking.{AreRisingBelow, HasStrings, IsChecked, IsHeader}
 
 pub not_below : (a b : ℕ) → ¬ (a < b) → b ≤ a
 not_below a b not = elim (cases_lt a b) [ inl below ↦ absurd (not below) | inr at ↦ omega (arith, at) ]

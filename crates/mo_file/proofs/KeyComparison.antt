@@ -10,7 +10,7 @@ use Rattle.std.specs.Option.{unwrap_or}
 use Rattle.std.proofs.lemmas.Option.{unwrap_or-slice_get}
 use Rattle.std.proofs.lemmas.List.{append-nil, drop_all, get_or-drop, length-drop, take_all}
 use Rattle.mo_file.specs.Key.{is_nul, key_of, key_cmp}
-use Rattle.mo_file.specs.CommonPrefix.{AreEqualBetween, IsCommonPrefix}
+use Rattle.mo_file.specs.Internal.CommonPrefix.{AreEqualBetween, IsCommonPrefix}
 
 key_of-cut : (a : ℕ) (xs : List ℕ) (b : Bool) → (a == 0) ≡ b → key_of (a ∷ xs) ≡ take (cond (not b) (1 + prefix_len (λ x. not (is_nul x)) xs) 0) (a ∷ xs)
 key_of-cut a xs b is = ap (λ c. take (cond (not c) (1 + prefix_len (λ x. not (is_nul x)) xs) 0) (a ∷ xs)) is

@@ -15,7 +15,7 @@ use Rattle.mo_file.specs.StringTable.{messages_of, message_at}
 use Rattle.mo_file.specs.Layout.{layout, originals_offset, table, terminated, translations_offset}
 use Rattle.mo_file.specs.Revision.{IsKnownMajor, zeroth, first, layout_of_revision}
 use Rattle.mo_file.specs.MoFile.{IsMoFile}
-use Rattle.mo_file.specs.Checking.{AreRisingBelow, HasStrings, IsHeader}
+use Rattle.mo_file.specs.Internal.Checking.{AreRisingBelow, HasStrings, IsHeader}
 use Rattle.mo_file.specs.Laws.{KnownRevisionsAreValid, LayoutIsMoFile, NoHashTableIsLaidOut}
 use Rattle.mo_file.proofs.BuildLemmas.{length-layout, length-magic, length-table, length-word_bytes}
 use Rattle.mo_file.proofs.FaultLemmas.{faultless}

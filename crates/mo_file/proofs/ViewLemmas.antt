@@ -12,7 +12,7 @@ use Rattle.mo_file.specs.Message.{Message}
 use Rattle.mo_file.specs.Key.{key_of, keys, key_at, AreRising}
 use Rattle.mo_file.specs.FileHeader.{message_count}
 use Rattle.mo_file.specs.StringTable.{message_at, messages_of, original_at}
-use Rattle.mo_file.specs.Checking.{AreRisingBelow}
+use Rattle.mo_file.specs.Internal.Checking.{AreRisingBelow}
 use Rattle.mo_file.specs.FileView.{IsStringAt}
 use Rattle.mo_file.proofs.KeyComparison.{some_nul}
 

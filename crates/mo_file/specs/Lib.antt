@@ -1,15 +1,14 @@
 pub mod Message
 pub mod Key
-pub mod CommonPrefix
 pub mod Word
 pub mod FileHeader
 pub mod StringTable
 pub mod Fault
 pub mod MoFile
 pub mod FileView
-pub mod Checking
 pub mod Layout
 pub mod Revision
 pub mod Pairs
 pub mod Building
 pub mod Laws
+pub mod Internal

@@ -3,7 +3,7 @@
 
 ghost use Rattle.std.specs.Prelude.{◌≡◌, ◌+◌, ◌-◌, ◌^◌, ◌<◌, ◌↔◌, Some, IfErr, IsTrue, MatchResult, slice_get};
 ghost use Rattle.mo_file.specs.Fault.{IsFirstFault, comparisons_before};
-ghost use Rattle.mo_file.specs.Checking.{AreRisingBelow, HasStrings, IsHeader};
+ghost use Rattle.mo_file.specs.Internal.Checking.{AreRisingBelow, HasStrings, IsHeader};
 
 use crate::byte_order::FileOrder;
 use crate::counting::Meter;

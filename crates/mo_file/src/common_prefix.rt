@@ -2,7 +2,7 @@
 
 ghost use Rattle.std.specs.Prelude.{◌≡◌, ◌+◌, ◌≤◌, ◌<◌, length, slice_index};
 ghost use Rattle.memchr.specs.Find.{IsFirstByte, is_byte};
-ghost use Rattle.mo_file.specs.CommonPrefix.{IsCommonPrefix, IsCommonPrefixIn, first_set};
+ghost use Rattle.mo_file.specs.Internal.CommonPrefix.{IsCommonPrefix, IsCommonPrefixIn, first_set};
 
 use std::simd::prelude::*;
 

@@ -6,7 +6,7 @@ ghost use Rattle.mo_file.specs.FileHeader.{HasMagicOf, message_count, originals_
 ghost use Rattle.mo_file.specs.MoFile.{IsMoFile};
 ghost use Rattle.mo_file.specs.Fault.{IsFirstFault, comparisons_before};
 ghost use Rattle.mo_file.specs.Message.{Message};
-ghost use Rattle.mo_file.specs.Checking.{IsChecked, IsHeader};
+ghost use Rattle.mo_file.specs.Internal.Checking.{IsChecked, IsHeader};
 
 use crate::byte_order::{FileOrder, Order, word};
 use crate::fault::MoError;

@@ -4,7 +4,7 @@ ghost use Rattle.std.specs.Prelude.{◌≡◌, ◌+◌, ◌*◌, ◌<◌, ◌≤
 ghost use Rattle.mo_file.specs.Key.{key_of};
 ghost use Rattle.mo_file.specs.StringTable.{end_at, offset_at, original_at, string_at, translation_at};
 ghost use Rattle.mo_file.specs.FileView.{IsStringAt};
-ghost use Rattle.mo_file.specs.Checking.{HasStrings, IsHeader};
+ghost use Rattle.mo_file.specs.Internal.Checking.{HasStrings, IsHeader};
 
 use crate::byte_order::{FileOrder, Order, word};
 use crate::file_header::{DESCRIPTOR_LEN, FileHeader};

@@ -33,7 +33,7 @@ pub struct MoView<'a> {
 impl<'a> Model for MoView<'a> {
     ghost use Rattle.mo_file.specs.FileView.{FileView};
     ghost use Rattle.mo_file.specs.StringTable.{messages_of};
-    ghost use Rattle.mo_file.specs.Checking.{IsChecked};
+    ghost use Rattle.mo_file.specs.Internal.Checking.{IsChecked};
 
     ghost Value = { FileView };
 

@@ -1,3 +1,3 @@
 pub mod Msgattrib
-pub mod SelectedText
 pub mod Options
+pub mod Internal

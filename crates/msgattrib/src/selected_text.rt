@@ -4,10 +4,10 @@
 
 ghost use Rattle.std.specs.Prelude.{◌≡◌, ◌⊎◌, ◌++◌, ◌∷◌, [], IfErr, IfOk, List, MatchResult, OnOk};
 ghost use Rattle.po_entry.specs.TextEntry.{TextEntry};
-ghost use Rattle.po_reader.specs.PieceRead.{IsTextError};
+ghost use Rattle.po_reader.specs.Internal.Keeping.{IsTextError};
 ghost use Rattle.po_select.specs.declared.selection.Selection.{Selection};
 ghost use Rattle.po_syntax.specs.declared.fault.PoFault.{PoFault};
-ghost use Rattle.msgattrib.specs.SelectedText.{AreDistinct, AreSelected, HoldRows, IsRowsFault, IsSelectedText, IsSelectedWhole, IsSelectionFault, stays_live};
+ghost use Rattle.msgattrib.specs.Internal.SelectedText.{AreDistinct, AreSelected, HoldRows, IsRowsFault, IsSelectedText, IsSelectedWhole, IsSelectionFault, stays_live};
 
 use po_entry::{Catalogue, Entry};
 use po_messages::is_live;

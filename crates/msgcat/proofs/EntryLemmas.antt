@@ -10,7 +10,7 @@ use Rattle.po_messages.specs.Joined.{is_live}
 use Rattle.po_merge.specs.Inputs.{NamedEntry, named}
 use Rattle.po_writer.specs.TextParts.{separated}
 use Rattle.po_messages.specs.Facts.Zips.{zip_more}
-use Rattle.msgcat.specs.Entries.{AreRows, IsRow, unnamed}
+use Rattle.msgcat.specs.Internal.Entries.{AreRows, IsRow, unnamed}
 use Rattle.msgcat.specs.declared.entries.EntryRow.{EntryRow}
 
 row_stays : (text more : List ℕ) (entry : NamedEntry) (row : EntryRow) → IsRow text entry row → IsRow (text ++ more) entry row

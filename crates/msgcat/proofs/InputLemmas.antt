@@ -8,7 +8,7 @@ use Rattle.std.proofs.lemmas.List.{length-map, map-append, take-append-drop, tak
 use Rattle.std.proofs.lemmas.List.Elements.{All-filter, All-head, All-nil, All-push, All-tail}
 use Rattle.std.proofs.lemmas.Simd.{map-map}
 use Rattle.po_syntax.specs.declared.fault.PoFault.TheVariants.{Duplicate}
-use Rattle.po_entry.specs.Halves.{All-left, All-right}
+use Rattle.po_entry.specs.Facts.Halves.{All-left, All-right}
 use Rattle.po_entry.specs.ReadsText.{ReadsText}
 use Rattle.po_entry.specs.TextEntry.{TextEntry}
 use Rattle.po_messages.specs.Duplicate.{HasNoDuplicate}
@@ -18,8 +18,8 @@ use Rattle.po_messages.specs.Message.{entry_message, same_message}
 use Rattle.po_merge.specs.Grouping.{message_numbers}
 use Rattle.po_merge.specs.Inputs.{Named, NamedEntry, all_entries, named}
 use Rattle.po_messages.specs.Facts.Zips.{zip_at, zip_length, zip_more, zip_split}
-use Rattle.msgcat.specs.Entries.{HoldEntries, unnamed}
-use Rattle.msgcat.specs.Inputs.{AddsEntries, AreReadUpTo, IsFaultOfFirst, IsFirstRepeating, IsReadInput, IsTextOf}
+use Rattle.msgcat.specs.Internal.Entries.{HoldEntries, unnamed}
+use Rattle.msgcat.specs.Internal.Inputs.{AddsEntries, AreReadUpTo, IsFaultOfFirst, IsFirstRepeating, IsReadInput, IsTextOf}
 use Rattle.msgcat.specs.Msgcat.{AreReadAs, IsFileFault}
 use Rattle.text_runs.specs.Repeats.{IsFirstRepeat, NumbersDiffer, are_numbered, are_placed, numbered, place_of}
 use Rattle.msgcat.specs.declared.entries.Entries.{Entries}

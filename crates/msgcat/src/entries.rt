@@ -4,7 +4,7 @@ ghost use Rattle.std.specs.Prelude.{◌≡◌, ◌++◌, ◌∷◌, [], IfOk, Li
 ghost use Rattle.po_entry.specs.Bytes.{Lacks};
 ghost use Rattle.po_entry.specs.Validity.{IsCatalogueEntry};
 ghost use Rattle.po_merge.specs.Inputs.{NamedEntry, named};
-ghost use Rattle.msgcat.specs.Entries.{HoldEntries};
+ghost use Rattle.msgcat.specs.Internal.Entries.{HoldEntries};
 
 use po_entry::Entry;
 use po_messages::is_live;

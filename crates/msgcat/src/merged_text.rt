@@ -13,9 +13,9 @@ ghost use Rattle.po_merge.specs.Merged.{IsMergeFault, is_kept, merged_messages};
 ghost use Rattle.po_merge.specs.MergedEntry.{merged_entry};
 ghost use Rattle.po_writer.specs.TextParts.{separated};
 ghost use Rattle.po_writer.specs.WrittenText.{written_text};
-ghost use Rattle.msgcat.specs.Entries.{AreRows, IsRow};
-ghost use Rattle.msgcat.specs.Inputs.{HoldInputs};
-ghost use Rattle.msgcat.specs.MergedText.{AreGroups, AreReadBack, AreWritten, IsOnly, IsTextOfMerged};
+ghost use Rattle.msgcat.specs.Internal.Entries.{AreRows, IsRow};
+ghost use Rattle.msgcat.specs.Internal.Inputs.{HoldInputs};
+ghost use Rattle.msgcat.specs.Internal.MergedText.{AreGroups, AreReadBack, AreWritten, IsOnly, IsTextOfMerged};
 
 use crate::entries::{EntryRow, between};
 use crate::inputs::Inputs;

@@ -7,7 +7,7 @@ use Rattle.std.proofs.lemmas.Bool.{cases_Bool, and_parts, and_from, both_ways, c
 use Rattle.std.proofs.lemmas.List.Elements.{All-nil, All-cons, All-head, All-tail}
 use Rattle.std.proofs.lemmas.List.Folds.{Any-from_list_any, list_any-from_Any}
 use Rattle.std.proofs.lemmas.Option.{none-some}
-use Rattle.po_syntax.specs.Runs.{from_end}
+use Rattle.po_syntax.specs.Facts.Runs.{from_end}
 use Rattle.po_entry.specs.TextEntry.{TextEntry}
 use Rattle.po_messages.specs.Joined.{InputEntry}
 use Rattle.plural_rule.specs.Expression.{value}

@@ -1,6 +1,6 @@
 //! The check of `--profile-check`, of the messages that inputs or catalogues are compiled to.
 ghost use Rattle.std.specs.Prelude.{◌≡◌, ◌⊎◌, ◌^◌, ◌<◌, true, None, Some, length, MatchResult, IfOk, IfErr, OnOk};
-ghost use Rattle.po_compile.specs.JoinedRows.{OfAllInputs};
+ghost use Rattle.po_compile.specs.OfInputs.{OfAllInputs};
 ghost use Rattle.msgfmt.specs.Msgfmt as Spec;
 
 use crate::options::MsgfmtOptions;

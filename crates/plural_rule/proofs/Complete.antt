@@ -7,7 +7,7 @@ use Rattle.plural_rule.specs.declared.token.Token.{Token}
 use Rattle.plural_rule.specs.declared.token.Token.TheVariants.{Binary as BinaryToken, Question, Colon, Close}
 use Rattle.plural_rule.specs.Expression.{Tree, Count, Number, Binary}
 use Rattle.plural_rule.specs.Grammar.{Spells, tighter, conditional, binary, negation, parentheses, count, numeral, level}
-use Rattle.plural_rule.specs.ShiftReduce.{Waiting, WaitNot, WaitOpen, WaitBinary, WaitQuestion, WaitColon, Want, Have, reduce, at_colon, at_close, run, alone, finish, outcome}
+use Rattle.plural_rule.specs.Internal.ShiftReduce.{Waiting, WaitNot, WaitOpen, WaitBinary, WaitQuestion, WaitColon, Want, Have, reduce, at_colon, at_close, run, alone, finish, outcome}
 
 -- every operator's level is from 1 to 6
 pub level-range : (op : Operator) → (1 ≤ level op) × (level op ≤ 6)

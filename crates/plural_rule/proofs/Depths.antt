@@ -10,7 +10,7 @@ use Rattle.plural_rule.specs.declared.instruction.Action.TheVariants.{Binary as 
 use Rattle.plural_rule.specs.Instruction.{operator_of-code, action_of, not_instruction, binary_instruction, choose_instruction, jump_instruction}
 use Rattle.plural_rule.specs.Expression.{Tree, Count, Number, Not, Binary, Conditional, is_zero, needs_right, short_circuit_value, combined, negated, binary_value, chosen, value}
 use Rattle.plural_rule.specs.Program.{is_lazy, branch_program, size, program, length-program, low_of}
-use Rattle.plural_rule.specs.Run.{Next, Go, Undefined, with_value, act, Leads}
+use Rattle.plural_rule.specs.Internal.Run.{Next, Go, Undefined, with_value, act, Leads}
 use Rattle.plural_rule.proofs.Programs.{always-needed}
 
 abbrev stays_on : (ℕ → List ℕ → Type 0) → Next → Type 0

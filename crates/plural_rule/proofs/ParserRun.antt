@@ -14,9 +14,9 @@ use Rattle.plural_rule.specs.Expression.{Tree}
 use Rattle.plural_rule.specs.Tokens.{is_blank, operator_bytes, IsSpelling, IsLongest, Lexes, end, blank, token}
 use Rattle.plural_rule.specs.Grammar.{Spelt, Spells}
 use Rattle.plural_rule.specs.Header.{without_blanks}
-use Rattle.plural_rule.specs.Scanner.{IsTokenAt, IsTooLarge, HasNoToken}
-use Rattle.plural_rule.specs.ShiftReduce.{State, Want, Have, step, run, finish, outcome}
-use Rattle.plural_rule.specs.ParserState.{Held, Represents, Answers, HoldsTree, HoldsExpression, most_added}
+use Rattle.plural_rule.specs.Internal.Scanner.{IsTokenAt, IsTooLarge, HasNoToken}
+use Rattle.plural_rule.specs.Internal.ShiftReduce.{State, Want, Have, step, run, finish, outcome}
+use Rattle.plural_rule.specs.Internal.ParserState.{Held, Represents, Answers, HoldsTree, HoldsExpression, most_added}
 use Rattle.plural_rule.specs.declared.instruction.Instruction.{Instruction}
 use Rattle.plural_rule.proofs.Complete.{complete}
 use Rattle.plural_rule.proofs.Sound.{sound}

@@ -11,9 +11,9 @@ use Rattle.plural_rule.specs.declared.pending.Pending.TheVariants.{Open as OpenP
 use Rattle.plural_rule.specs.Expression.{Tree, Count, Number, Not, Binary, Conditional}
 use Rattle.plural_rule.specs.Instruction.{count_instruction, number_instruction, wide_instruction, low_instruction, not_instruction, binary_instruction, branch_instruction, choose_instruction, jump_instruction}
 use Rattle.plural_rule.specs.Program.{program, size, length-program, is_lazy, branch_program}
-use Rattle.plural_rule.specs.ShiftReduce.{Waiting, WaitNot, WaitOpen, WaitBinary, WaitQuestion, WaitColon, Operand, completed, reduce, reduce_by, at_colon, at_close, alone}
-use Rattle.plural_rule.specs.ParserState.{waiting_program, pending, pendings, Held, IsWaiting, IsOperand, Answers, counted, edited, begun, with_skip, skipping, completed_program, first_of, HoldsTree}
-use Rattle.plural_rule.specs.Pending.{binds, pending_of, within, weight_of, weight}
+use Rattle.plural_rule.specs.Internal.ShiftReduce.{Waiting, WaitNot, WaitOpen, WaitBinary, WaitQuestion, WaitColon, Operand, completed, reduce, reduce_by, at_colon, at_close, alone}
+use Rattle.plural_rule.specs.Internal.ParserState.{waiting_program, pending, pendings, Held, IsWaiting, IsOperand, Answers, counted, edited, begun, with_skip, skipping, completed_program, first_of, HoldsTree}
+use Rattle.plural_rule.specs.Internal.Pending.{binds, pending_of, within, weight_of, weight}
 
 -- two lists with one more item each at their ends
 pub snoc-same : {A : Type 0} (xs ys : List A) (x y : A) → xs ++ x ∷ [] ≡ ys ++ y ∷ [] → (xs ≡ ys) × (x ≡ y)

@@ -12,7 +12,7 @@ use Rattle.plural_rule.specs.Instruction.{operator_of-code}
 use Rattle.plural_rule.specs.Instruction.{action_of, not_instruction, binary_instruction, choose_instruction, jump_instruction, begins}
 use Rattle.plural_rule.specs.Expression.{Tree, Count, Number, Not, Binary, Conditional, nodes, truth, is_zero, needs_right, short_circuit_value, combined, negated, binary_value, chosen, value, visited, visited_right}
 use Rattle.plural_rule.specs.Program.{is_lazy, branch_program, size, program, length-program, low_of}
-use Rattle.plural_rule.specs.Run.{Next, Go, Undefined, with_value, act, Outcome, outcome, newest_value, go_on, run, Leads}
+use Rattle.plural_rule.specs.Internal.Run.{Next, Go, Undefined, with_value, act, Outcome, outcome, newest_value, go_on, run, Leads}
 
 -- instructions that are skipped
 run-skip : (n : ℕ) (xs rest : List Instruction) (m : ℕ) (values : List ℕ) (steps : ℕ) → m ≡ length xs → run n (xs ++ rest) m values steps ≡ run n rest 0 values steps

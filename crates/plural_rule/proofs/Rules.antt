@@ -6,7 +6,7 @@ use Rattle.plural_rule.specs.declared.rule.Reason.{Reason}
 use Rattle.plural_rule.specs.Expression.{Tree}
 use Rattle.plural_rule.specs.PluralRule.{IsReadable, IsReason, IsRuleOf, default_tree}
 use Rattle.plural_rule.specs.Program.{program, tree_of, tree_of-program}
-use Rattle.plural_rule.specs.ParserState.{HoldsRule}
+use Rattle.plural_rule.specs.Internal.ParserState.{HoldsRule}
 
 pub first-three : (room : List Instruction) (x y z : Instruction) → 3 ≤ length room → take 3 (slice_set (slice_set (slice_set room 0 x) 1 y) 2 z) ≡ x ∷ y ∷ z ∷ []
 first-three [] x y z h = absurd (omega (arith, h))

@@ -10,7 +10,7 @@ use Rattle.plural_rule.specs.declared.token.Token.TheVariants.{Count, Number, No
 use Rattle.std.specs.Str.Parse.{AllDigits, digits_value}
 use Rattle.std.specs.Char.{is_ascii_digit}
 use Rattle.plural_rule.specs.Tokens.{IsSpelling, IsLongest}
-use Rattle.plural_rule.specs.Scanner.{IsTokenAt, IsTooLarge, HasNoToken}
+use Rattle.plural_rule.specs.Internal.Scanner.{IsTokenAt, IsTooLarge, HasNoToken}
 use Rattle.plural_rule.proofs.Numerals.{digit_below_ten, below_ten_digit}
 use Rattle.plural_rule.proofs.Lexing.{one_prefix, first_byte, operator-facts}
 

@@ -7,7 +7,7 @@ use Rattle.plural_rule.specs.declared.token.Token.{Token}
 use Rattle.plural_rule.specs.declared.token.Token.TheVariants.{Count as CountToken, Number as NumberToken, Not as NotToken, Binary as BinaryToken, Question, Colon, Open, Close}
 use Rattle.plural_rule.specs.Expression.{Tree, Count, Number, Not, Binary, Conditional}
 use Rattle.plural_rule.specs.Grammar.{Spells, tighter, conditional, binary, negation, parentheses, count, numeral, level}
-use Rattle.plural_rule.specs.ShiftReduce.{Waiting, WaitNot, WaitOpen, WaitBinary, WaitQuestion, WaitColon, Operand, State, Want, Have, reduce, at_colon, at_close, want_step, have_step, step, run, alone, finish, outcome}
+use Rattle.plural_rule.specs.Internal.ShiftReduce.{Waiting, WaitNot, WaitOpen, WaitBinary, WaitQuestion, WaitColon, Operand, State, Want, Have, reduce, at_colon, at_close, want_step, have_step, step, run, alone, finish, outcome}
 use Rattle.plural_rule.proofs.Complete.{Fits, level-range}
 
 -- the tokens after an entry, which is `before` and the entry's own tokens

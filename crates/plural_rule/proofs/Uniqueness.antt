@@ -13,7 +13,7 @@ use Rattle.plural_rule.specs.Header.{nplurals_of, expression_of}
 use Rattle.plural_rule.specs.PluralRule.{RuleView, IsReadable, IsTooLong, IsUnreadable, IsReason, Gives, IsRuleOf, IsWithin, default_rule}
 use Rattle.plural_rule.proofs.Complete.{complete}
 use Rattle.plural_rule.proofs.Lexing.{one_list}
-use Rattle.plural_rule.specs.ShiftReduce.{outcome}
+use Rattle.plural_rule.specs.Internal.ShiftReduce.{outcome}
 
 pub one_tree : (text : List ℕ) (t u : Tree) → Spelt t text → Spelt u text → t ≡ u
 one_tree text t u (ts, lexes, spells) (us, lexes', spells') =

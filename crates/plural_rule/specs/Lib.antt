@@ -6,9 +6,4 @@ pub mod Header
 pub mod PluralRule
 pub mod Instruction
 pub mod Program
-pub mod Run
-pub mod ShiftReduce
-pub mod Levels
-pub mod Pending
-pub mod ParserState
-pub mod Scanner
+pub mod Internal

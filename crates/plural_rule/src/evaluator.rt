@@ -7,7 +7,7 @@ ghost use Rattle.plural_rule.specs.Instruction.{action_of};
 ghost use Rattle.plural_rule.specs.Expression.{nodes, value, visited};
 ghost use Rattle.plural_rule.specs.PluralRule.{expression_limit};
 ghost use Rattle.plural_rule.specs.Program.{program, tree_of, low_of};
-ghost use Rattle.plural_rule.specs.Run.{act, Go, Leads};
+ghost use Rattle.plural_rule.specs.Internal.Run.{act, Go, Leads};
 
 use crate::instruction::{Action, Instruction};
 use crate::operator::{Operator, truth};

@@ -18,10 +18,10 @@
 //! size, so the machine's stack doesn't grow with the expression.
 ghost use Rattle.std.specs.Prelude.{◌≡◌, ◌+◌, ◌<◌, ◌≤◌, List, ◌∷◌, Some, None, true, false, length, take, MatchBool, OnSome};
 ghost use Rattle.plural_rule.specs.Expression.{Tree};
-ghost use Rattle.plural_rule.specs.ShiftReduce.{Waiting, WaitBinary, WaitQuestion, State, reduce, want_step, have_step, step, finish, at_colon};
+ghost use Rattle.plural_rule.specs.Internal.ShiftReduce.{Waiting, WaitBinary, WaitQuestion, State, reduce, want_step, have_step, step, finish, at_colon};
 ghost use Rattle.plural_rule.specs.declared.token.Token.TheVariants.{Binary as BinaryToken};
-ghost use Rattle.plural_rule.specs.ParserState.{held, IsWaiting, IsOperand, Represents, Answers, HoldsTree, HoldsExpression, most_added};
-ghost use Rattle.plural_rule.specs.Pending.{weight};
+ghost use Rattle.plural_rule.specs.Internal.ParserState.{held, IsWaiting, IsOperand, Represents, Answers, HoldsTree, HoldsExpression, most_added};
+ghost use Rattle.plural_rule.specs.Internal.Pending.{weight};
 ghost use Rattle.plural_rule.specs.Grammar.{Spelt};
 ghost use Rattle.plural_rule.specs.PluralRule.{expression_limit};
 

@@ -1,7 +1,7 @@
 //! What the parser holds: the instructions so far, and what waits for an operand.
 ghost use Rattle.std.specs.Prelude.{◌≡◌, ◌+◌, ◌-◌, ◌<◌, ◌≤◌, [], ◌∷◌, ◌++◌, length, take};
-ghost use Rattle.plural_rule.specs.ParserState.{begun, skipping, completed_program, first_of};
-ghost use Rattle.plural_rule.specs.Pending.{weight_of};
+ghost use Rattle.plural_rule.specs.Internal.ParserState.{begun, skipping, completed_program, first_of};
+ghost use Rattle.plural_rule.specs.Internal.Pending.{weight_of};
 ghost use Rattle.plural_rule.specs.PluralRule.{expression_limit};
 ghost use Rattle.plural_rule.specs.Program.{numeral_program, branch_program};
 

@@ -1,7 +1,7 @@
 //! What waits for its last operand while an expression is read.
 ghost use Rattle.std.specs.Prelude.{◌≡◌, ◌+◌, ◌<◌, ◌≤◌, [], ◌∷◌, ◌++◌, length, ◌==◌, MatchOption, IfSome, OnSome};
 ghost use Rattle.plural_rule.specs.PluralRule.{expression_limit};
-ghost use Rattle.plural_rule.specs.Pending.{binds, pending_of, within, weight, weight_of};
+ghost use Rattle.plural_rule.specs.Internal.Pending.{binds, pending_of, within, weight, weight_of};
 
 use crate::operator::Operator;
 use std::marker::Model;
@@ -78,7 +78,7 @@ pub(crate) struct Stack<'s, const N: usize> {
 impl<'s, const N: usize> Model for Stack<'s, N> {
     ghost use Rattle.std.specs.Prelude.{◌≡◌, ◌≤◌, List, length, map, take};
     ghost use Rattle.plural_rule.specs.declared.pending.Pending.{Pending as Entry};
-    ghost use Rattle.plural_rule.specs.Pending.{pending_of};
+    ghost use Rattle.plural_rule.specs.Internal.Pending.{pending_of};
     ghost use Rattle.plural_rule.specs.PluralRule.{expression_limit};
 
     ghost Value = { List Entry };

@@ -3,7 +3,7 @@ ghost use Rattle.std.specs.Prelude.{◌≡◌, ◌≤◌, length, take, OnOk, Ma
 ghost use Rattle.plural_rule.specs.Expression.{value, visited, nodes};
 ghost use Rattle.plural_rule.specs.PluralRule.{IsRuleOf, IsReason, default_tree, expression_limit, rule_in, program_in};
 ghost use Rattle.plural_rule.specs.Program.{program as program_of, tree_of};
-ghost use Rattle.plural_rule.specs.ParserState.{HoldsRule};
+ghost use Rattle.plural_rule.specs.Internal.ParserState.{HoldsRule};
 
 use crate::evaluator::evaluate;
 use crate::instruction::Instruction;

@@ -2,9 +2,11 @@
 use Rattle.std.proofs.Common.{◌≡◌, Bool, true, false, refl, ap, ◌∙◌, cond, List, [], ◌∷◌, map, filter}
 use Rattle.po_messages.specs.Joined.{InputEntry, is_live, joined}
 use Rattle.po_messages.specs.Duplicate.{live_entries}
-use Rattle.po_compile.specs.CompiledInputs.{CompiledView, compiled_inputs, compiled_message, compiled_view, is_compiled_message, view_of_message}
+use Rattle.po_compile.specs.CompiledInputs.{CompiledView, compiled_inputs, compiled_message, compiled_view}
+use Rattle.po_compile.specs.Internal.InputMessages.{is_compiled_message, view_of_message}
 use Rattle.po_compile.specs.CompiledList.{is_compiled}
-use Rattle.po_compile.specs.JoinedRows.{AreJoinedRows, OfAllInputs, input_message, input_view}
+use Rattle.po_compile.specs.Internal.JoinedRows.{AreJoinedRows, input_message, input_view}
+use Rattle.po_compile.specs.OfInputs.{OfAllInputs}
 use Rattle.po_compile.specs.declared.collecting.Collected.{Collected}
 use Rattle.po_compile.specs.declared.messages.CompiledMessage.{CompiledMessage}
 use Rattle.po_compile.specs.declared.row.Row.{Row}

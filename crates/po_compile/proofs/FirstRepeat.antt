@@ -16,9 +16,9 @@ use Rattle.po_entry.specs.Validity.{IsCatalogueEntry}
 use Rattle.po_messages.specs.Joined.{InputEntry, is_live, entries_of}
 use Rattle.po_messages.specs.Duplicate.{AllDiffer, IsDuplicateFault, live_entries}
 use Rattle.po_messages.proofs.DuplicateLemmas.{split_at}
-use Rattle.po_compile.specs.Collected.{LiveMessage, live_message, row_view}
-use Rattle.po_compile.specs.JoinedRows.{AreJoinedRows, InputMessage, input_message, input_view, row_fault}
-use Rattle.po_compile.specs.Repeats.{ArePlaced, AreSorted, IsEarliestRepeat}
+use Rattle.po_compile.specs.Internal.LiveRows.{LiveMessage, live_message, row_view}
+use Rattle.po_compile.specs.Internal.JoinedRows.{AreJoinedRows, InputMessage, input_message, input_view, row_fault}
+use Rattle.po_compile.specs.Internal.Repeats.{ArePlaced, AreSorted, IsEarliestRepeat}
 use Rattle.po_compile.specs.declared.row.Row.{Row}
 use Rattle.po_compile.proofs.FilteredMoves.{IsPermutation-filter}
 use Rattle.po_compile.proofs.MeaningLemmas.{LacksSeparators, entry_lacks_separators}

@@ -17,9 +17,11 @@ use Rattle.po_messages.specs.Duplicate.{HasNoDuplicate, IsDuplicateFault, IsFirs
 use Rattle.po_messages.specs.declared.duplicate.JoinError.{JoinError}
 use Rattle.po_messages.specs.DistinctText.{IsTextFault, ReadsDistinct}
 use Rattle.po_compile.specs.Accepted.{AreRead, IsCompileFault, IsReadingFault, fault_input, fault_of_input, fault_of_only_input}
-use Rattle.po_compile.specs.Collected.{HoldsEntries, ReadsLive}
+use Rattle.po_compile.specs.Collected.{HoldsEntries}
+use Rattle.po_compile.specs.Internal.LiveRows.{ReadsLive}
 use Rattle.po_compile.specs.CompiledInputs.{AreCollected}
-use Rattle.po_compile.specs.JoinedRows.{AreDistinct, AreSortedRows, HasOneHeader, IsLargeList, IsRepeatFault, IsRepeatInInput, OfAllInputs}
+use Rattle.po_compile.specs.Internal.JoinedRows.{AreDistinct, AreSortedRows, HasOneHeader, IsLargeList, IsRepeatFault, IsRepeatInInput}
+use Rattle.po_compile.specs.OfInputs.{OfAllInputs}
 use Rattle.po_compile.specs.declared.collecting.Collected.{Collected}
 use Rattle.po_compile.specs.declared.options.Options.{Options}
 use Rattle.po_compile.specs.declared.row.Row.{Row}

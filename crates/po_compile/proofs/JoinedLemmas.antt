@@ -14,8 +14,9 @@ use Rattle.po_messages.specs.Joined.{InputEntry, entries_of, in_input, is_live, 
 use Rattle.po_messages.specs.Duplicate.{live_entries}
 use Rattle.po_messages.proofs.JoiningLemmas.{kept_valid}
 use Rattle.po_messages.proofs.DuplicateLemmas.{entries_of_input}
-use Rattle.po_compile.specs.Collected.{HoldsEntries, LiveMessage, lengths_of, live_message, row_view}
-use Rattle.po_compile.specs.JoinedRows.{AddsRows, AreJoinedRows, InputMessage, in_input_message, input_message, input_view, is_joined}
+use Rattle.po_compile.specs.Collected.{HoldsEntries, lengths_of}
+use Rattle.po_compile.specs.Internal.LiveRows.{LiveMessage, live_message, row_view}
+use Rattle.po_compile.specs.Internal.JoinedRows.{AddsRows, AreJoinedRows, InputMessage, in_input_message, input_message, input_view, is_joined}
 use Rattle.po_compile.specs.declared.collecting.Collected.{Collected}
 use Rattle.po_compile.specs.declared.collecting.Lengths.{Lengths}
 use Rattle.po_compile.specs.declared.row.Row.{Row}

@@ -14,7 +14,7 @@ use Rattle.po_messages.specs.Joined.{InputEntry, entries_of, in_input, is_live, 
 use Rattle.po_messages.specs.Duplicate.{AllDiffer, HasNoDuplicate, IsSameMessage}
 use Rattle.po_messages.proofs.DuplicateLemmas.{entries_of_input}
 use Rattle.po_compile.specs.Collected.{HoldsEntries, lengths_of}
-use Rattle.po_compile.specs.JoinedRows.{HasOneHeader}
+use Rattle.po_compile.specs.Internal.JoinedRows.{HasOneHeader}
 use Rattle.po_compile.specs.declared.collecting.Collected.{Collected}
 use Rattle.po_compile.proofs.JoinedLemmas.{has_no_key, header_key}
 

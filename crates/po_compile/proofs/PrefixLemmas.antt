@@ -10,7 +10,7 @@ use Rattle.std.proofs.lemmas.Cmp.{ranked, nat_list_cmp_total}
 use Rattle.std.proofs.lemmas.List.Elements.{All-head, All-tail}
 use Rattle.mo_file.specs.Key.{key_cmp}
 use Rattle.mo_lookup.proofs.RisingLemmas.{equal_is_same}
-use Rattle.po_compile.specs.Prefix.{digits, prefix_of, second_prefix_of}
+use Rattle.po_compile.specs.Internal.Prefix.{digits, prefix_of, second_prefix_of}
 
 abbrev pub Bytes : List ℕ → Type 0
 Bytes text = All (λ byte. byte < 256) text

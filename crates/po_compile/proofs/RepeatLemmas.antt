@@ -12,7 +12,7 @@ use Rattle.std.proofs.lemmas.List.Kept.{AllPairs-cons}
 use Rattle.mo_file.specs.Key.{AreRising, key_cmp}
 use Rattle.mo_lookup.proofs.RisingLemmas.{less_is_other}
 use Rattle.po_compile.specs.declared.row.Row.{Row}
-use Rattle.po_compile.specs.Repeats.{row_cmp, ArePlaced, AreSorted, IsStep, IsEarlier, IsEarliestRepeat}
+use Rattle.po_compile.specs.Internal.Repeats.{row_cmp, ArePlaced, AreSorted, IsStep, IsEarlier, IsEarliestRepeat}
 
 abbrev pub key : Row → List ℕ
 key row = row.key.now

@@ -19,8 +19,8 @@ use Rattle.po_entry.specs.Validity.{IsCatalogueEntry}
 use Rattle.po_messages.specs.Joined.{is_live}
 use Rattle.po_messages.specs.Duplicate.{AllDiffer, HasNoDuplicate, IsSameMessage}
 use Rattle.mo_lookup.proofs.RisingLemmas.{less_is_other}
-use Rattle.po_compile.specs.Collected.{LiveMessage, live_message, row_view, IsSortedOf}
-use Rattle.po_compile.specs.JoinedRows.{counts_of}
+use Rattle.po_compile.specs.Internal.LiveRows.{LiveMessage, live_message, row_view, IsSortedOf}
+use Rattle.po_compile.specs.Internal.JoinedRows.{counts_of}
 use Rattle.std.proofs.lemmas.List.Sums.{length-filter}
 use Rattle.po_messages.specs.Statistics.{stats_of, is_translated, is_fuzzy, is_untranslated}
 use Rattle.po_compile.specs.declared.row.Row.{Row}

@@ -6,8 +6,9 @@ use Rattle.std.proofs.lemmas.List.{map-append, map_push}
 use Rattle.std.proofs.lemmas.List.Elements.{filter-append}
 use Rattle.mo_file.specs.Key.{query_key}
 use Rattle.po_entry.specs.TextEntry.{TextEntry}
-use Rattle.po_compile.specs.Collected.{LiveMessage, lengths_of, message_bytes, live_message, row_view, status_of}
-use Rattle.po_compile.specs.JoinedRows.{in_input_message, input_view, is_joined}
+use Rattle.po_compile.specs.Collected.{lengths_of, message_bytes, status_of}
+use Rattle.po_compile.specs.Internal.LiveRows.{LiveMessage, live_message, row_view}
+use Rattle.po_compile.specs.Internal.JoinedRows.{in_input_message, input_view, is_joined}
 use Rattle.po_compile.specs.CompiledMessages.{original_of, translation_of, plural_part}
 use Rattle.po_compile.specs.declared.collecting.Lengths.{Lengths}
 use Rattle.po_compile.specs.declared.row.Row.{Row}

@@ -9,7 +9,6 @@ use Rattle.po_messages.specs.Joined.{InputEntry}
 use Rattle.po_compile.specs.Collected.{HoldsEntries}
 use Rattle.po_compile.specs.CompiledList.{is_compiled}
 use Rattle.po_compile.specs.CompiledMessages.{message_of}
-use Rattle.po_compile.specs.JoinedRows.{InputMessage}
 use Rattle.po_compile.specs.declared.collecting.Collected.{Collected}
 use Rattle.po_compile.specs.declared.messages.CompiledMessage.{CompiledMessage}
 
@@ -41,9 +40,3 @@ compiled_view m =
 -- the message that an entry is compiled to
 abbrev pub compiled_message : InputEntry → CompiledView
 compiled_message e = record { input = e.input; line = e.entry.line; message = message_of e.entry }
-
-abbrev pub is_compiled_message : InputMessage → Bool
-is_compiled_message m = m.message.status.compiled
-
-abbrev pub view_of_message : InputMessage → CompiledView
-view_of_message m = record { input = m.input; line = m.message.line; message = m.message.message }

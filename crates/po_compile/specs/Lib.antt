@@ -6,8 +6,7 @@ pub mod Accepted
 pub mod Headline
 pub mod MessageLaws
 pub mod Collected
-pub mod JoinedRows
-pub mod Prefix
-pub mod Repeats
+pub mod OfInputs
 pub mod CompiledEntries
 pub mod CompiledInputs
+pub mod Internal

@@ -4,10 +4,11 @@ ghost use Rattle.std.specs.Prelude.{◌≡◌, ◌++◌, ◌∷◌, ℕ, List, I
 ghost use Rattle.std.specs.List.{join_with_byte};
 ghost use Rattle.mo_file.specs.Key.{query_key};
 ghost use Rattle.po_entry.specs.TextEntry.{TextEntry, texts};
-ghost use Rattle.po_reader.specs.PieceRead.{IsTextError};
+ghost use Rattle.po_reader.specs.Internal.Keeping.{IsTextError};
 ghost use Rattle.po_compile.specs.CompiledList.{is_compiled};
 ghost use Rattle.po_compile.specs.CompiledMessages.{plural_part, translation_of};
-ghost use Rattle.po_compile.specs.Collected.{message_bytes, lengths_of, status_of, HoldsLive, ReadsLive};
+ghost use Rattle.po_compile.specs.Collected.{message_bytes, lengths_of, status_of, HoldsLive};
+ghost use Rattle.po_compile.specs.Internal.LiveRows.{ReadsLive};
 
 use po_entry::Entry;
 use po_messages::has_translation;

@@ -5,7 +5,7 @@ ghost use Rattle.std.specs.List.{AllZip};
 ghost use Rattle.po_entry.specs.TextEntry.{TextEntry, slice_texts};
 ghost use Rattle.po_messages.specs.Joined.{joined_entries};
 ghost use Rattle.po_compile.specs.Collected.{HoldsEntries};
-ghost use Rattle.po_compile.specs.JoinedRows.{AreDistinct, IsLargeList, IsRepeatFault};
+ghost use Rattle.po_compile.specs.Internal.JoinedRows.{AreDistinct, IsLargeList, IsRepeatFault};
 ghost use Rattle.po_compile.specs.Accepted.{AreCompiled, AreRead, IsCompileFault, fault_of_only_input};
 ghost use Rattle.po_compile.specs.CompiledInputs.{AreCollected};
 ghost use Rattle.po_compile.specs.Compiling.{IsCompilation, IsReportedFault};

@@ -8,7 +8,8 @@ ghost use Rattle.po_entry.specs.TextEntry.{slice_texts};
 ghost use Rattle.po_compile.specs.Accepted.{IsReadingFault, fault_of_input};
 ghost use Rattle.po_compile.specs.Collected.{HoldsEntries, HoldsLive};
 ghost use Rattle.po_compile.specs.CompiledInputs.{AreCollected};
-ghost use Rattle.po_compile.specs.JoinedRows.{AreDistinct, AreSortedRows, HasOneHeader, IsRepeatFault, IsRepeatInInput, OfAllInputs};
+ghost use Rattle.po_compile.specs.Internal.JoinedRows.{AreDistinct, AreSortedRows, HasOneHeader, IsRepeatFault, IsRepeatInInput};
+ghost use Rattle.po_compile.specs.OfInputs.{OfAllInputs};
 ghost use Rattle.po_compile.specs.declared.collecting.Lengths.{Lengths as LengthsSeen};
 
 use crate::collecting::{Collected, Lengths, add_messages, collect};

@@ -3,8 +3,10 @@
 ghost use Rattle.std.specs.Prelude.{◌≡◌, ◌<◌, ◌^◌, All, IfOk, OnOk, filter, length, map};
 ghost use Rattle.po_messages.specs.Joined.{joined, joined_entries};
 ghost use Rattle.po_entry.specs.Validity.{IsCatalogueEntry};
-ghost use Rattle.po_compile.specs.CompiledInputs.{compiled_inputs, compiled_message, compiled_view, is_compiled_message, view_of_message};
-ghost use Rattle.po_compile.specs.JoinedRows.{OfAllInputs, input_view};
+ghost use Rattle.po_compile.specs.CompiledInputs.{compiled_inputs, compiled_message, compiled_view};
+ghost use Rattle.po_compile.specs.Internal.InputMessages.{is_compiled_message, view_of_message};
+ghost use Rattle.po_compile.specs.Internal.JoinedRows.{input_view};
+ghost use Rattle.po_compile.specs.OfInputs.{OfAllInputs};
 
 use crate::collecting::Collected;
 use crate::row::Row;

@@ -1,7 +1,7 @@
 //! The first bytes of a key as a number, by which most rows are compared.
 
 ghost use Rattle.std.specs.Prelude.{◌≡◌, slice_index_or};
-ghost use Rattle.po_compile.specs.Prefix.{prefix_of, second_prefix_of};
+ghost use Rattle.po_compile.specs.Internal.Prefix.{prefix_of, second_prefix_of};
 
 const PREFIX_LEN: usize = 16;
 

@@ -2,7 +2,7 @@
 
 ghost use Rattle.std.specs.Prelude.{◌≡◌, ◌<◌, All};
 ghost use Rattle.mo_file.specs.Key.{key_cmp};
-ghost use Rattle.po_compile.specs.Prefix.{prefix_of, second_prefix_of};
+ghost use Rattle.po_compile.specs.Internal.Prefix.{prefix_of, second_prefix_of};
 
 use crate::collecting::Status;
 use std::cmp::Ordering;

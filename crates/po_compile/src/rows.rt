@@ -6,9 +6,10 @@ ghost use Rattle.mo_file.specs.Key.{AreRising};
 ghost use Rattle.mo_file.specs.Pairs.{messages_of_borrowed};
 ghost use Rattle.po_messages.specs.Joined.{joined};
 ghost use Rattle.po_compile.specs.declared.collecting.Lengths.{Lengths as LengthsSeen};
-ghost use Rattle.po_compile.specs.Collected.{row_view, compiled_of};
-ghost use Rattle.po_compile.specs.JoinedRows.{is_joined, AddsRows, AreJoinedRows, OfAllInputs};
-ghost use Rattle.po_compile.specs.Repeats.{AreSorted, IsEarlier, IsEarliestRepeat, row_cmp};
+ghost use Rattle.po_compile.specs.Internal.LiveRows.{row_view, compiled_of};
+ghost use Rattle.po_compile.specs.Internal.JoinedRows.{is_joined, AddsRows, AreJoinedRows};
+ghost use Rattle.po_compile.specs.OfInputs.{OfAllInputs};
+ghost use Rattle.po_compile.specs.Internal.Repeats.{AreSorted, IsEarlier, IsEarliestRepeat, row_cmp};
 
 use crate::collecting::{Collected, Lengths};
 use crate::prefix::{prefix_of, second_prefix_of};

@@ -3,7 +3,8 @@
 ghost use Rattle.std.specs.Prelude.{◌≡◌, ◌<◌, ◌^◌, count_by, length, IfOk, IfErr};
 ghost use Rattle.po_messages.specs.Duplicate.{IsDuplicateFault};
 ghost use Rattle.po_messages.specs.Joined.{joined, joined_entries};
-ghost use Rattle.po_compile.specs.JoinedRows.{AreSortedRows, OfAllInputs, counts_of, row_fault};
+ghost use Rattle.po_compile.specs.Internal.JoinedRows.{AreSortedRows, counts_of, row_fault};
+ghost use Rattle.po_compile.specs.OfInputs.{OfAllInputs};
 ghost use Rattle.po_compile.specs.declared.row.Row.{Row as RowSeen};
 
 use crate::collecting::Collected;

@@ -9,7 +9,7 @@ use Rattle.std.proofs.lemmas.List.Splits.{slice_split_none, slice_split_at, slic
 use Rattle.std.proofs.lemmas.List.Sums.{fold_push}
 use Rattle.std.proofs.lemmas.Map.Views.{Contains-from_any}
 use Rattle.std.proofs.lemmas.Slice.Eq.{bytes_eq-Decides}
-use Rattle.po_syntax.specs.Runs.{FailsFirst, parts_of, end_parts, kept_is, from_end}
+use Rattle.po_syntax.specs.Facts.Runs.{FailsFirst, parts_of, end_parts, kept_is, from_end}
 use Rattle.po_syntax.specs.Spelling.{IsBlank}
 use Rattle.po_syntax.specs.Token.{is_blank, skip_blanks}
 use Rattle.po_syntax.proofs.SpeltKeywords.{blank_says, blank_passes, skip_prefix}

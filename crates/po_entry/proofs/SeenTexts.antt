@@ -8,7 +8,7 @@ use Rattle.std.specs.BTreeMap.{is_at}
 use Rattle.std.specs.BTreeSet.{BTreeSet, contains}
 use Rattle.std.proofs.lemmas.List.Folds.{list_any-append}
 use Rattle.std.proofs.Math.Bool.{or-false, or-true}
-use Rattle.po_entry.specs.SeenTexts.{HoldsTexts}
+use Rattle.po_entry.specs.Internal.SeenTexts.{HoldsTexts}
 
 pub cond_or : (a b c : Bool) → a ≡ b → cond a true c ≡ (c || b)
 cond_or true true c e = sym (or-true c)

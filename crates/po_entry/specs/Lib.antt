@@ -1,7 +1,6 @@
 pub mod TextEntry
 pub mod EntryView
 pub mod Bytes
-pub mod Halves
 pub mod Header
 pub mod Charset
 pub mod Validity
@@ -12,6 +11,6 @@ pub mod Spelling
 pub mod ReadsText
 pub mod Viable
 pub mod Faults
-pub mod SeenTexts
 pub mod Equality
-pub mod EqualityLaws
+pub mod Facts
+pub mod Internal

@@ -293,7 +293,7 @@ impl Entry {
 
 impl PartialEq for Entry {
     ghost use Rattle.po_entry.specs.Equality.{entry_eq};
-    ghost use Rattle.po_entry.specs.EqualityLaws.{entry_eq_laws};
+    ghost use Rattle.po_entry.specs.Facts.EqualityLaws.{entry_eq_laws};
 
     ghost eq = { entry_eq };
 

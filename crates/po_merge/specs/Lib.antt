@@ -4,8 +4,7 @@ pub mod Groups
 pub mod MergedEntry
 pub mod Merged
 pub mod Grouping
-pub mod Sets
-pub mod FirstParts
 pub mod MergeLaws
 pub mod EntryLaws
 pub mod TranslationLaws
+pub mod Internal

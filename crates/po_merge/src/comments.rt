@@ -2,7 +2,7 @@
 
 ghost use Rattle.std.specs.Prelude.{◌≡◌, ◌<◌, ◌++◌, ℕ, List, length, IfOk, OnOk};
 ghost use Rattle.po_entry.specs.TextEntry.{texts};
-ghost use Rattle.po_entry.specs.SeenTexts.{HoldsTexts};
+ghost use Rattle.po_entry.specs.Internal.SeenTexts.{HoldsTexts};
 ghost use Rattle.po_merge.specs.InputsView.{named_entries};
 ghost use Rattle.po_merge.specs.MergedEntry.{collected, comment_of, texts_of, with_others};
 

@@ -7,7 +7,7 @@ ghost use Rattle.po_entry.specs.Header.{is_header};
 ghost use Rattle.po_merge.specs.InputsView.{named_entries};
 ghost use Rattle.po_merge.specs.Merged.{is_kept, is_wanted};
 ghost use Rattle.po_merge.specs.MergedEntry.{first_with};
-ghost use Rattle.po_merge.specs.FirstParts.{has_part};
+ghost use Rattle.po_merge.specs.Internal.FirstParts.{has_part};
 
 use crate::input::MergeOptions;
 use po_entry::{Entry, Previous};

@@ -9,5 +9,5 @@ pub mod Statistics
 pub mod FirstOnes
 pub mod Message
 pub mod MessageView
-pub mod Hashing
 pub mod StatisticsLaws
+pub mod Internal

@@ -21,7 +21,7 @@ pub struct MessageKey<'a> {
 }
 
 impl Hash for MessageKey<'_> {
-    ghost use Rattle.po_messages.specs.Hashing.{key_writes, equal_keys_write_alike};
+    ghost use Rattle.po_messages.specs.Internal.Hashing.{key_writes, equal_keys_write_alike};
 
     ghost hash_input = { key_writes };
 

@@ -7,12 +7,12 @@ use Rattle.po_syntax.specs.declared.item.Keyword.TheVariants.{MsgCtxt, MsgId, Ms
 use Rattle.po_syntax.specs.declared.item.Marks.{Marks}
 use Rattle.po_syntax.specs.TextItem.{TextItem, Comment, Word, Str}
 use Rattle.po_entry.specs.TextEntry.{TextEntry}
-use Rattle.po_reader.specs.Steps.Strings as string
-use Rattle.po_reader.specs.Steps.Keywords as word
-use Rattle.po_reader.specs.Steps.Body.{begins_form}
-use Rattle.po_reader.specs.Steps.Head as head
+use Rattle.po_reader.specs.Internal.Strings as string
+use Rattle.po_reader.specs.Internal.Keywords as word
+use Rattle.po_reader.specs.Internal.Body.{begins_form}
+use Rattle.po_reader.specs.Internal.Head as head
 use Rattle.po_entry.specs.Spelling.{SpellsEntries}
-use Rattle.po_reader.specs.Steps.Stops.{line_at}
+use Rattle.po_reader.specs.Internal.Stops.{line_at}
 use Rattle.po_entry.specs.Viable.{IsViable}
 use Rattle.po_reader.proofs.Cuts.{Cut}
 

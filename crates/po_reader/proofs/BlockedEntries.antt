@@ -3,12 +3,12 @@ use Rattle.std.proofs.Common.{ℕ, false, List, [], ◌∷◌, ◌++◌, refl, s
 use Rattle.po_syntax.specs.declared.fault.PoFault.{PoFault}
 use Rattle.po_syntax.specs.TextItem.{TextItem}
 use Rattle.po_entry.specs.TextEntry.{TextEntry}
-use Rattle.po_reader.specs.Steps.Head as head
-use Rattle.po_reader.specs.Reads.{Reads, comments, entry}
+use Rattle.po_reader.specs.Internal.Head as head
+use Rattle.po_reader.specs.Internal.Reads.{Reads, comments, entry}
 use Rattle.po_entry.specs.Spelling.{SpellsEntries}
 use Rattle.po_entry.specs.Parts.{CommentText, PreviousText, rank}
 use Rattle.po_reader.proofs.Spelt.{reads_spelt}
-use Rattle.po_reader.specs.Steps.Stops as stop
+use Rattle.po_reader.specs.Internal.Stops as stop
 use Rattle.po_entry.specs.Viable.{IsViable}
 use Rattle.po_reader.proofs.OneReading.{spelt_or_stop}
 use Rattle.po_reader.proofs.Looks.{FormsEnd, forms_end, head_look, reads_look, body_starts, stop_starts}

@@ -7,10 +7,10 @@ use Rattle.po_syntax.specs.declared.item.Marks.{Marks}
 use Rattle.po_syntax.specs.TextItem.{TextItem, Word, Str}
 use Rattle.po_entry.specs.Spelling.{own_marks}
 use Rattle.po_entry.specs.Parts.{Body}
-use Rattle.po_reader.specs.Steps.Strings as string
-use Rattle.po_reader.specs.Steps.Keywords as word
-use Rattle.po_reader.specs.Steps.Body as body
-use Rattle.po_reader.specs.Steps.Stops as stop
+use Rattle.po_reader.specs.Internal.Strings as string
+use Rattle.po_reader.specs.Internal.Keywords as word
+use Rattle.po_reader.specs.Internal.Body as body
+use Rattle.po_reader.specs.Internal.Stops as stop
 use Rattle.po_entry.specs.Viable.{IsViable}
 use Rattle.po_reader.proofs.Looks.{strings_look, keyword_text_look, keyword_text_wanted, forms_look, translation_look}
 use Rattle.po_reader.proofs.Cuts.{followed, extended, string_cut, keyword_cut, context_cut, id_cut, strings_cut, keyword_text_cut}

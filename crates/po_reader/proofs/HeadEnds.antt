@@ -8,9 +8,9 @@ use Rattle.po_syntax.specs.declared.item.Keyword.{Keyword}
 use Rattle.po_syntax.specs.declared.item.Keyword.TheVariants.{MsgCtxt, MsgId, MsgIdPlural, MsgStr, MsgStrAt}
 use Rattle.po_syntax.specs.declared.item.Marks.{Marks}
 use Rattle.po_syntax.specs.TextItem.{TextItem, Comment, Word, Str}
-use Rattle.po_reader.specs.Steps.Body.{body_start, NoStart}
+use Rattle.po_reader.specs.Internal.Body.{body_start, NoStart}
 use Rattle.po_entry.specs.Parts.{CommentText, PreviousText, rank}
-use Rattle.po_reader.specs.Steps.Head.{HeadComment, Previous, Over, Refuse, head_step, begins_body, IsHead, over, head_comment, previous}
+use Rattle.po_reader.specs.Internal.Head.{HeadComment, Previous, Over, Refuse, head_step, begins_body, IsHead, over, head_comment, previous}
 use Rattle.po_entry.specs.Spelling.{AreComments}
 
 -- a head ends where nothing more of it stands

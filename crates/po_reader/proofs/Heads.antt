@@ -5,7 +5,7 @@ use Rattle.po_entry.specs.TextEntry.{no_previous, TextPrevious}
 use Rattle.po_entry.specs.Parts.{CommentText, PreviousText}
 use Rattle.po_entry.specs.Comments.{with_previous}
 use Rattle.po_reader.specs.declared.head.Head.{Head}
-use Rattle.po_reader.specs.Steps.HeadView.{HoldsHead}
+use Rattle.po_reader.specs.Internal.HeadView.{HoldsHead}
 
 pub holds_nothing : (head : Head) → head.comments.items ≡ [] → head.extracted.items ≡ [] → head.references.items ≡ [] → head.flags.items ≡ [] → head.previous ≡ no_previous → HoldsHead head [] []
 holds_nothing head comments extracted references flags previous = record {

@@ -9,14 +9,14 @@ use Rattle.po_syntax.specs.declared.item.Keyword.TheVariants.{MsgCtxt, MsgId, Ms
 use Rattle.po_syntax.specs.declared.item.Marks.{Marks}
 use Rattle.po_syntax.specs.TextItem.{TextItem, Comment, Word, Str}
 use Rattle.po_entry.specs.TextEntry.{TextEntry}
-use Rattle.po_reader.specs.Steps.Strings as string
-use Rattle.po_reader.specs.Steps.Keywords as word
-use Rattle.po_reader.specs.Steps.Body as body
-use Rattle.po_reader.specs.Steps.Head as head
-use Rattle.po_reader.specs.Reads.{Reads, comments, entry}
+use Rattle.po_reader.specs.Internal.Strings as string
+use Rattle.po_reader.specs.Internal.Keywords as word
+use Rattle.po_reader.specs.Internal.Body as body
+use Rattle.po_reader.specs.Internal.Head as head
+use Rattle.po_reader.specs.Internal.Reads.{Reads, comments, entry}
 use Rattle.po_entry.specs.Spelling.{AreComments, own_marks}
 use Rattle.po_entry.specs.Parts.{CommentText, PreviousText, Body}
-use Rattle.po_reader.specs.Steps.Stops as stop
+use Rattle.po_reader.specs.Internal.Stops as stop
 use Rattle.po_reader.proofs.Steps.{keyword_reported}
 
 -- the head of an entry ends here, whatever stands in it

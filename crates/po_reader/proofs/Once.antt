@@ -6,11 +6,11 @@ use Rattle.po_syntax.specs.declared.item.Marks.{Marks}
 use Rattle.po_syntax.specs.TextItem.{TextItem}
 use Rattle.po_entry.specs.Spelling.{own_marks}
 use Rattle.po_entry.specs.Parts.{CommentText, PreviousText, Body, rank}
-use Rattle.po_reader.specs.Steps.Strings as string
-use Rattle.po_reader.specs.Steps.Keywords as word
-use Rattle.po_reader.specs.Steps.Body as body
-use Rattle.po_reader.specs.Steps.Head as head
-use Rattle.po_reader.specs.Steps.Stops as stop
+use Rattle.po_reader.specs.Internal.Strings as string
+use Rattle.po_reader.specs.Internal.Keywords as word
+use Rattle.po_reader.specs.Internal.Body as body
+use Rattle.po_reader.specs.Internal.Head as head
+use Rattle.po_reader.specs.Internal.Stops as stop
 
 pub strings_once : {marks : Marks} {items rest others : List TextItem} {a b : List ℕ} → string.IsStrings marks items a rest → string.IsStrings marks items b others → (a ≡ b) × (rest ≡ others)
 strings_once (string.last e f) (string.last g h) = (cc, cc)

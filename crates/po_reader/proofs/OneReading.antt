@@ -11,16 +11,16 @@ use Rattle.po_syntax.specs.TextItem.{TextItem, Comment, Word, Str}
 use Rattle.po_syntax.specs.PoText.{SpellsText, TextFault}
 use Rattle.po_entry.specs.TextEntry.{TextEntry}
 use Rattle.po_entry.specs.Header.{HasAdmittedCharset}
-use Rattle.po_reader.specs.Steps.Body as body
-use Rattle.po_reader.specs.Steps.Head as head
-use Rattle.po_reader.specs.Reads.{Reads, comments, entry}
+use Rattle.po_reader.specs.Internal.Body as body
+use Rattle.po_reader.specs.Internal.Head as head
+use Rattle.po_reader.specs.Internal.Reads.{Reads, comments, entry}
 use Rattle.po_entry.specs.ReadsText.{ReadsText}
 use Rattle.po_entry.specs.Validity.{HasTexts}
 use Rattle.po_entry.specs.Spelling.{AreComments, SpellsEntries}
 use Rattle.po_entry.specs.Parts.{CommentText, PreviousText, Body}
 use Rattle.po_entry.proofs.TextsFaults.{no_texts_fault}
 use Rattle.po_reader.proofs.SpeltReads.{spelt_reads}
-use Rattle.po_reader.specs.Steps.Stops as stop
+use Rattle.po_reader.specs.Internal.Stops as stop
 use Rattle.po_entry.specs.Faults as fault
 use Rattle.po_reader.proofs.ItemsFaults.{fault_unread}
 use Rattle.po_reader.proofs.Once.{head_once, head_or_stop, body_once, body_or_stop}

@@ -20,7 +20,8 @@ use Rattle.po_entry.specs.Faults.{IsReadFault}
 use Rattle.po_entry.specs.Faults as faults
 use Rattle.po_reader.specs.ItemsRead.{ReadsItems, ItemsStop}
 use Rattle.po_reader.specs.ItemsRead as stops
-use Rattle.po_reader.specs.PieceRead.{SpellsOn, ReadsOn, KeepsReading, KeepsItems, StopsStay, FaultsStay, IsLeftFault}
+use Rattle.po_reader.specs.PieceRead.{ReadsOn, FaultsStay, IsLeftFault}
+use Rattle.po_reader.specs.Internal.Keeping.{SpellsOn, KeepsReading, KeepsItems, StopsStay}
 use Rattle.po_reader.specs.PieceRead as piece
 
 -- where no line is left, nothing reads as no entries

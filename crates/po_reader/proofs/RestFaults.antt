@@ -7,7 +7,7 @@ use Rattle.po_syntax.specs.declared.item.Keyword.TheVariants.{MsgCtxt, MsgId, Ms
 use Rattle.po_syntax.specs.Piece.{EndsInString}
 use Rattle.po_syntax.specs.TextItem.{TextItem, Comment, Word, Str}
 use Rattle.po_entry.specs.TextEntry.{TextEntry}
-use Rattle.po_reader.specs.Reads.{Reads, comments, entry}
+use Rattle.po_reader.specs.Internal.Reads.{Reads, comments, entry}
 use Rattle.po_entry.specs.Header.{HasAdmittedCharset}
 use Rattle.po_entry.specs.Validity.{HasTexts}
 use Rattle.po_entry.specs.Spelling.{SpellsEntries}
@@ -21,8 +21,8 @@ use Rattle.po_reader.proofs.Totality.{entries_end}
 use Rattle.po_entry.specs.Faults as faults
 use Rattle.po_reader.specs.ItemsRead.{ReadsItems, ItemsStop}
 use Rattle.po_reader.specs.ItemsRead as items
-use Rattle.po_reader.specs.Steps.Stops.{EntriesStop}
-use Rattle.po_reader.specs.Steps.Stops as stop
+use Rattle.po_reader.specs.Internal.Stops.{EntriesStop}
+use Rattle.po_reader.specs.Internal.Stops as stop
 use Rattle.po_entry.specs.Viable.{ItemsFault, last_line}
 use Rattle.po_reader.proofs.Cuts.{head_cut, body_cut}
 use Rattle.po_reader.proofs.Looks.{IsApart, body_starts, forms_end, reads_look}

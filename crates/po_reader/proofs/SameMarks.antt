@@ -5,7 +5,7 @@ use Rattle.std.specs.Cmp.{bool_eq_equiv, booleans_Decides}
 use Rattle.std.proofs.lemmas.Bool.{and_parts}
 use Rattle.po_syntax.specs.declared.item.Marks.{Marks}
 use Rattle.po_syntax.specs.Spelling.{marked}
-use Rattle.po_reader.specs.Steps.Strings.{same_marks}
+use Rattle.po_reader.specs.Internal.Strings.{same_marks}
 
 pub same_marks-refl : (marks : Marks) → same_marks marks marks ≡ true
 same_marks-refl marks = rw (bool_eq_equiv.refl marks.obsolete, bool_eq_equiv.refl marks.previous) refl

@@ -9,10 +9,10 @@ use Rattle.po_syntax.specs.declared.fault.PoFault.TheVariants.{BadOrder, BadPlur
 use Rattle.po_syntax.specs.declared.item.Marks.{Marks}
 use Rattle.po_syntax.specs.ItemContents.{IsCommentOf, HoldsText}
 use Rattle.po_syntax.specs.TextItem.{TextItem, Comment, Word, Str}
-use Rattle.po_reader.specs.Steps.Strings.{IsStrings, last, more, string_step, Take, Refuse, same_marks, stray_string}
-use Rattle.po_reader.specs.Steps.Keywords as word
-use Rattle.po_reader.specs.Steps.Body as body
-use Rattle.po_reader.specs.Steps.Head as head
+use Rattle.po_reader.specs.Internal.Strings.{IsStrings, last, more, string_step, Take, Refuse, same_marks, stray_string}
+use Rattle.po_reader.specs.Internal.Keywords as word
+use Rattle.po_reader.specs.Internal.Body as body
+use Rattle.po_reader.specs.Internal.Head as head
 use Rattle.po_entry.specs.Parts.{CommentText, PreviousText, Body, rank}
 
 -- a comment of a head is one of its kind

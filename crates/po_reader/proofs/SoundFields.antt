@@ -10,7 +10,7 @@ use Rattle.po_syntax.specs.declared.item.CommentKind.{CommentKind}
 use Rattle.po_syntax.specs.declared.item.CommentKind.TheVariants.{Translator, Extracted, Reference, Flags}
 use Rattle.po_syntax.specs.Token.{is_blank, skip_blanks}
 use Rattle.po_entry.specs.Bytes.{Lacks, trimmed, AreDistinct}
-use Rattle.po_entry.specs.Halves.{All-left}
+use Rattle.po_entry.specs.Facts.Halves.{All-left}
 use Rattle.po_entry.specs.Parts.{CommentText}
 use Rattle.po_entry.specs.Comments.{same_kind, texts_of, is_not_empty, is_comma, listed_references, listed_flags, is_fuzzy_flag, with_flag}
 use Rattle.po_syntax.specs.ItemContents.{IsText, IsCommentOf}

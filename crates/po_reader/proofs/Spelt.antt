@@ -11,11 +11,11 @@ use Rattle.po_syntax.specs.declared.item.Keyword.TheVariants.{MsgCtxt, MsgId, Ms
 use Rattle.po_syntax.specs.declared.item.Marks.{Marks}
 use Rattle.po_syntax.specs.TextItem.{TextItem, Comment, Word, Str}
 use Rattle.po_entry.specs.TextEntry.{TextEntry}
-use Rattle.po_reader.specs.Steps.Strings as string
-use Rattle.po_reader.specs.Steps.Keywords as word
-use Rattle.po_reader.specs.Steps.Body as body
-use Rattle.po_reader.specs.Steps.Head as head
-use Rattle.po_reader.specs.Reads as read
+use Rattle.po_reader.specs.Internal.Strings as string
+use Rattle.po_reader.specs.Internal.Keywords as word
+use Rattle.po_reader.specs.Internal.Body as body
+use Rattle.po_reader.specs.Internal.Head as head
+use Rattle.po_reader.specs.Internal.Reads as read
 use Rattle.po_entry.specs.Spelling as spell
 use Rattle.po_entry.specs.Spelling.{own_marks}
 use Rattle.po_entry.specs.Parts.{CommentText, PreviousText, Body, rank}

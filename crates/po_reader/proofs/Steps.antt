@@ -10,10 +10,10 @@ use Rattle.po_syntax.specs.declared.item.Keyword.TheVariants.{MsgCtxt, MsgId, Ms
 use Rattle.po_syntax.specs.declared.item.Marks.{Marks}
 use Rattle.po_syntax.specs.TextItem.{TextItem, Comment, Word, Str}
 use Rattle.po_entry.specs.Parts.{rank}
-use Rattle.po_reader.specs.Steps.Strings as string
-use Rattle.po_reader.specs.Steps.Keywords as word
-use Rattle.po_reader.specs.Steps.Body as body
-use Rattle.po_reader.specs.Steps.Head as head
+use Rattle.po_reader.specs.Internal.Strings as string
+use Rattle.po_reader.specs.Internal.Keywords as word
+use Rattle.po_reader.specs.Internal.Body as body
+use Rattle.po_reader.specs.Internal.Head as head
 
 abbrev StringDoes : (List TextItem → string.StringStep) → Type 0
 StringDoes step = ((bytes : List ℕ) × ((rest : List TextItem) → step rest ≡ string.Take bytes rest)) ⊎ ((fault : PoFault) × ((rest : List TextItem) → step rest ≡ string.Refuse fault))

@@ -4,11 +4,11 @@ use Rattle.std.specs.Prelude.{if◌then◌else◌}
 use Rattle.po_syntax.specs.declared.fault.PoFault.{PoFault}
 use Rattle.po_syntax.specs.declared.fault.PoFault.TheVariants.{BadOrder}
 use Rattle.po_syntax.specs.TextItem.{TextItem}
-use Rattle.po_reader.specs.Steps.Strings as string
-use Rattle.po_reader.specs.Steps.Keywords as word
-use Rattle.po_reader.specs.Steps.Head as head
+use Rattle.po_reader.specs.Internal.Strings as string
+use Rattle.po_reader.specs.Internal.Keywords as word
+use Rattle.po_reader.specs.Internal.Head as head
 use Rattle.po_entry.specs.Spelling.{SpellsEntries}
-use Rattle.po_reader.specs.Steps.Stops.{EntriesStop, line_at}
+use Rattle.po_reader.specs.Internal.Stops.{EntriesStop, line_at}
 use Rattle.po_entry.specs.Viable.{IsViable, ItemsFault, at, at_end, last_line}
 use Rattle.po_reader.proofs.Steps.{string_item, keyword_item, head_item, HeadDoes}
 use Rattle.po_reader.proofs.Blocked.{Point, AtString, AtKeyword, AtHead, Refuses, Accepts, Alike, IsUnread, first_alike, shorter}

@@ -5,7 +5,7 @@ use Rattle.std.specs.Bool.{beq}
 use Rattle.po_syntax.specs.declared.item.Keyword.{Keyword}
 use Rattle.po_syntax.specs.declared.item.Keyword.TheVariants.{MsgCtxt, MsgId, MsgIdPlural, MsgStr, MsgStrAt}
 use Rattle.po_syntax.specs.TextItem.{TextItem, Comment, Word, Str}
-use Rattle.po_reader.specs.Steps.Keywords.{Translation, Take, Refuse, IsKeywordText, keyword_text, next_keyword, is_wanted, is_wrong_form}
+use Rattle.po_reader.specs.Internal.Keywords.{Translation, Take, Refuse, IsKeywordText, keyword_text, next_keyword, is_wanted, is_wrong_form}
 use Rattle.po_syntax.specs.declared.fault.PoFault.TheVariants.{BadOrder, BadPluralIndex, MixedObsolete}
 
 taken_keyword : (obsolete : Bool) (items text : List TextItem) (keyword : Keyword) (line : ℕ) → next_keyword Translation obsolete items ≡ Take keyword line text → (keyword ≡ MsgIdPlural) ⊎ (keyword ≡ MsgStr)

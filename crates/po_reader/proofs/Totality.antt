@@ -7,14 +7,14 @@ use Rattle.po_syntax.specs.declared.item.Keyword.{Keyword}
 use Rattle.po_syntax.specs.declared.item.Marks.{Marks}
 use Rattle.po_syntax.specs.TextItem.{TextItem, line_of}
 use Rattle.po_entry.specs.TextEntry.{TextEntry}
-use Rattle.po_reader.specs.Steps.Strings as string
-use Rattle.po_reader.specs.Steps.Keywords as word
-use Rattle.po_reader.specs.Steps.Body as body
-use Rattle.po_reader.specs.Steps.Head as head
-use Rattle.po_reader.specs.Reads.{Reads, comments, entry}
+use Rattle.po_reader.specs.Internal.Strings as string
+use Rattle.po_reader.specs.Internal.Keywords as word
+use Rattle.po_reader.specs.Internal.Body as body
+use Rattle.po_reader.specs.Internal.Head as head
+use Rattle.po_reader.specs.Internal.Reads.{Reads, comments, entry}
 use Rattle.po_entry.specs.Spelling.{entry_from, own_marks}
 use Rattle.po_entry.specs.Parts.{CommentText, PreviousText, Body, rank}
-use Rattle.po_reader.specs.Steps.Stops as stop
+use Rattle.po_reader.specs.Internal.Stops as stop
 use Rattle.po_reader.proofs.Steps.{string_item, keyword_item, start_item, StartDoes, head_item, HeadDoes}
 use Rattle.po_reader.proofs.TakenKeywords.{translation_keyword}
 use Rattle.po_reader.proofs.HeadEnds.{head_over, over_cases, head_at_end}

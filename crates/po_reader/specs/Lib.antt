@@ -1,5 +1,4 @@
-pub mod Steps
-pub mod Reads
 pub mod KeptComments
 pub mod ItemsRead
 pub mod PieceRead
+pub mod Internal

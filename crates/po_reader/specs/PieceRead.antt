@@ -1,46 +1,32 @@
 -- How a text is read piece by piece, and why what is left of it isn't read. Internal but for the functions that read
 -- pieces (manual, "The Format of PO Files").
-use Rattle.std.specs.Prelude.{◌≡◌, ◌≢◌, ◌<◌, ℕ, Bool, List, [], ◌++◌, map, length}
+use Rattle.std.specs.Prelude.{◌≡◌, ◌≢◌, ◌<◌, ℕ, List, [], ◌++◌, map, length}
 use Rattle.po_syntax.specs.declared.fault.PoFault.{PoFault}
 use Rattle.po_syntax.specs.declared.fault.PoError.{PoError}
 use Rattle.po_syntax.specs.declared.fault.PoFault.TheVariants.{OutOfMemory}
-use Rattle.po_entry.specs.Faults.{IsReadFault, IsStop}
+use Rattle.po_entry.specs.Faults.{IsStop}
 use Rattle.po_syntax.specs.LinesLeft.{LinesLeft, SpellsLeft, LeftStops}
 use Rattle.po_syntax.specs.Piece.{IsPiece}
 use Rattle.po_syntax.specs.TextItem.{TextItem}
 use Rattle.po_entry.specs.TextEntry.{TextEntry}
 use Rattle.po_entry.specs.ReadsText.{ReadsLeft}
-use Rattle.po_reader.specs.KeptComments.{kept_entry, without_comments}
-use Rattle.po_reader.specs.ItemsRead.{ReadsItems, ItemsStop}
+use Rattle.po_reader.specs.KeptComments.{without_comments}
+use Rattle.po_reader.specs.ItemsRead.{ItemsStop}
 
 -- the error is such a fault, or out of memory, without a line
 pub record IsFaultOf (Has : PoFault → ℕ → Type 0) (error : PoError) : Type 0 where
   pub fault : IsStop Has error
   pub memory : error.kind ≡ OutOfMemory → error.line ≡ 0
 
--- if the lines left in `new` spell some items, the lines left in `old` spell `items` and then those
-abbrev pub SpellsOn : LinesLeft → LinesLeft → List TextItem → Type 0
-SpellsOn old new items = (more : List TextItem) → SpellsLeft new more → SpellsLeft old (items ++ more)
-
 -- if the lines left in `new` read as some entries, the lines left in `old` read as `entries` and
 -- then those
 abbrev pub ReadsOn : LinesLeft → LinesLeft → List TextEntry → Type 0
 ReadsOn old new entries = (more : List TextEntry) → ReadsLeft new more → ReadsLeft old (entries ++ more)
 
--- the same of entries that are kept with their comments or without
-abbrev pub KeepsReading : Bool → LinesLeft → LinesLeft → List TextEntry → Type 0
-KeepsReading all old new kept =
-    (entries : List TextEntry) × (kept ≡ map (kept_entry all) entries) × ReadsOn old new entries
-
 -- the same of entries that are kept without their comments and references
 abbrev pub ReadsMessages : LinesLeft → LinesLeft → List TextEntry → Type 0
 ReadsMessages old new messages =
     (entries : List TextEntry) × (messages ≡ map without_comments entries) × ReadsOn old new entries
-
--- the items read as entries, which are kept with their comments or without
-abbrev pub KeepsItems : Bool → List TextItem → List TextEntry → Type 0
-KeepsItems all items kept =
-    (entries : List TextEntry) × ReadsItems items entries × (kept ≡ map (kept_entry all) entries)
 
 -- The fault of what is left to be read, with its line: that of the first line that has one; or that
 -- of the items.
@@ -48,10 +34,6 @@ pub data IsLeftFault (left : LinesLeft) : PoFault → ℕ → Type 0 where
   in_lines : {fault : PoFault} {line : ℕ} → LeftStops left fault line → IsLeftFault left fault line
   in_items : {items : List TextItem} {fault : PoFault} {line : ℕ} → SpellsLeft left items → ItemsStop items fault line
       → IsLeftFault left fault line
-
--- a fault of a line that is left is one of the lines that were left before
-abbrev pub StopsStay : LinesLeft → LinesLeft → Type 0
-StopsStay old new = (fault : PoFault) (line : ℕ) → LeftStops new fault line → LeftStops old fault line
 
 -- a fault of what is left is one of what was left before
 abbrev pub FaultsStay : LinesLeft → LinesLeft → Type 0
@@ -71,7 +53,3 @@ pub data ReadsPiece (size : ℕ) (old new : LinesLeft) : Type 0 where
 -- the error is the fault of what is left to be read, or out of memory, without a line
 abbrev pub IsLeftError : LinesLeft → PoError → Type 0
 IsLeftError left error = IsFaultOf (IsLeftFault left) error
-
--- the error is the fault of the text, or out of memory, without a line
-abbrev pub IsTextError : List ℕ → PoError → Type 0
-IsTextError text error = IsFaultOf (IsReadFault text) error

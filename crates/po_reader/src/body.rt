@@ -1,12 +1,12 @@
 //! The second half of an entry: msgid, plural and translations.
 
 ghost use Rattle.std.specs.Prelude.{◌≡◌, ◌≢◌, ◌<◌, length, IfOk, OnOk, IfErr, IfSome, MatchOption, ◌^◌};
-ghost use Rattle.po_reader.specs.Steps.Body.{begins_form, body_start, IsForms, IsTranslation, IsBody};
-ghost use Rattle.po_reader.specs.Steps.Body as spec;
+ghost use Rattle.po_reader.specs.Internal.Body.{begins_form, body_start, IsForms, IsTranslation, IsBody};
+ghost use Rattle.po_reader.specs.Internal.Body as spec;
 ghost use Rattle.po_entry.specs.TextEntry.{texts, optional_text};
 ghost use Rattle.po_entry.specs.Faults.{IsStop};
-ghost use Rattle.po_reader.specs.Steps.Stops.{FormsStop, TranslationStops, BodyStops};
-ghost use Rattle.po_reader.specs.Steps.ReaderView.{start_view, body_view};
+ghost use Rattle.po_reader.specs.Internal.Stops.{FormsStop, TranslationStops, BodyStops};
+ghost use Rattle.po_reader.specs.Internal.ReaderView.{start_view, body_view};
 
 use crate::keywords::{Wanted, take_keyword_text};
 use crate::rest::Rest;

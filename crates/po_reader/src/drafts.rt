@@ -4,14 +4,14 @@ ghost use Rattle.std.specs.Prelude.{◌≡◌, ◌≢◌, ◌<◌, ◌^◌, ℕ,
 ghost use Rattle.po_syntax.specs.TextItem.{views};
 ghost use Rattle.po_entry.specs.EntryView.{entry_view};
 ghost use Rattle.po_entry.specs.Parts.{CommentText, PreviousText};
-ghost use Rattle.po_reader.specs.Reads.{Reads};
+ghost use Rattle.po_reader.specs.Internal.Reads.{Reads};
 ghost use Rattle.po_entry.specs.Spelling.{entry_from};
 ghost use Rattle.po_entry.specs.TextEntry.{TextEntry};
 ghost use Rattle.po_reader.specs.KeptComments.{kept_entry};
-ghost use Rattle.po_reader.specs.Steps.HeadView.{HoldsHead};
-ghost use Rattle.po_reader.specs.Steps.ReaderView.{body_view};
+ghost use Rattle.po_reader.specs.Internal.HeadView.{HoldsHead};
+ghost use Rattle.po_reader.specs.Internal.ReaderView.{body_view};
 ghost use Rattle.po_entry.specs.Faults.{IsStop};
-ghost use Rattle.po_reader.specs.Steps.Stops.{EntriesStop};
+ghost use Rattle.po_reader.specs.Internal.Stops.{EntriesStop};
 
 use crate::body::{Body, Original, Translation, take_body};
 use crate::flags::flags_of;

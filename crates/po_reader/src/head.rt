@@ -2,15 +2,15 @@
 
 ghost use Rattle.std.specs.Prelude.{◌≡◌, ◌≢◌, ◌<◌, ◌≤◌, ◌++◌, ◌∷◌, [], Some, ℕ, List, length, IfOk, IfErr, OnOk, OnErr, IfSome, MatchResult, ◌||◌};
 ghost use Rattle.po_entry.specs.Parts.{CommentText, PreviousText, rank};
-ghost use Rattle.po_reader.specs.Steps.Head.{IsHead, head_step, begins_body};
-ghost use Rattle.po_reader.specs.Steps.Head as spec;
+ghost use Rattle.po_reader.specs.Internal.Head.{IsHead, head_step, begins_body};
+ghost use Rattle.po_reader.specs.Internal.Head as spec;
 ghost use Rattle.po_entry.specs.Comments.{same_kind, with_previous};
 ghost use Rattle.po_syntax.specs.declared.item.CommentKind.TheVariants.{Flags};
 ghost use Rattle.po_reader.specs.KeptComments.{kept_comments};
 ghost use Rattle.po_entry.specs.Faults.{IsStop};
-ghost use Rattle.po_reader.specs.Steps.Stops.{HeadStops};
-ghost use Rattle.po_reader.specs.Steps.ReaderView.{head_view};
-ghost use Rattle.po_reader.specs.Steps.HeadView.{HoldsHead, HoldsComments};
+ghost use Rattle.po_reader.specs.Internal.Stops.{HeadStops};
+ghost use Rattle.po_reader.specs.Internal.ReaderView.{head_view};
+ghost use Rattle.po_reader.specs.Internal.HeadView.{HoldsHead, HoldsComments};
 
 use crate::comment_texts::{add_flags, add_references};
 use crate::rest::Rest;

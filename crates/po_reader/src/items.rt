@@ -8,7 +8,7 @@ ghost use Rattle.po_entry.specs.Header.{HasAdmittedCharset};
 ghost use Rattle.po_entry.specs.Validity.{IsEntry, HasTexts};
 ghost use Rattle.po_entry.specs.Faults.{CharsetStops, IsStop, TextsStop};
 ghost use Rattle.po_reader.specs.ItemsRead.{ReadsItems, ItemsStop};
-ghost use Rattle.po_reader.specs.PieceRead.{KeepsItems};
+ghost use Rattle.po_reader.specs.Internal.Keeping.{KeepsItems};
 ghost use Rattle.po_entry.specs.Viable.{last_line};
 
 use crate::drafts::drafts_of;

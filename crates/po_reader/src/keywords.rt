@@ -2,11 +2,11 @@
 
 ghost use Rattle.std.specs.Prelude.{◌≡◌, ◌≢◌, ◌<◌, length, IfOk, IfErr, OnOk, MatchResult, MatchOption, ℕ, List};
 ghost use Rattle.po_syntax.specs.TextItem.{TextItem};
-ghost use Rattle.po_reader.specs.Steps.Keywords.{IsKeywordText, next_keyword, keyword_step, is_wanted, is_wrong_form};
-ghost use Rattle.po_reader.specs.Steps.Keywords as spec;
-ghost use Rattle.po_reader.specs.Steps.ReaderView.{wanted_view};
+ghost use Rattle.po_reader.specs.Internal.Keywords.{IsKeywordText, next_keyword, keyword_step, is_wanted, is_wrong_form};
+ghost use Rattle.po_reader.specs.Internal.Keywords as spec;
+ghost use Rattle.po_reader.specs.Internal.ReaderView.{wanted_view};
 ghost use Rattle.po_entry.specs.Faults.{IsStop};
-ghost use Rattle.po_reader.specs.Steps.Stops.{KeywordTextStops};
+ghost use Rattle.po_reader.specs.Internal.Stops.{KeywordTextStops};
 
 use crate::rest::Rest;
 use crate::strings::take_strings;

@@ -8,7 +8,7 @@ ghost use Rattle.po_entry.specs.ReadsText.{ReadsText};
 ghost use Rattle.po_entry.specs.Validity.{IsCatalogueEntry};
 ghost use Rattle.po_entry.specs.Spelling.{SpellsEntries};
 ghost use Rattle.po_entry.specs.Faults.{IsReadFault};
-ghost use Rattle.po_reader.specs.Reads.{Reads};
+ghost use Rattle.po_reader.specs.Internal.Reads.{Reads};
 
 use po_syntax::laws as syntax;
 

@@ -1,7 +1,8 @@
 //! The entries of a text, a few at a time.
 
 ghost use Rattle.std.specs.Prelude.{◌≡◌, [], IfOk, IfErr, OnOk};
-ghost use Rattle.po_reader.specs.PieceRead.{ReadsOn, KeepsReading, ReadsMessages, ReadsPiece, FaultsStay, IsLeftError, IsShorter};
+ghost use Rattle.po_reader.specs.PieceRead.{ReadsOn, ReadsMessages, ReadsPiece, FaultsStay, IsLeftError, IsShorter};
+ghost use Rattle.po_reader.specs.Internal.Keeping.{KeepsReading};
 
 use crate::items::read_items;
 use po_entry::Catalogue;

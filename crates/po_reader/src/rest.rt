@@ -2,7 +2,7 @@
 
 ghost use Rattle.std.specs.Prelude.{◌≡◌, ◌≢◌, ◌<◌, [], ◌∷◌, drop, length, MatchBool, MatchOption};
 ghost use Rattle.po_syntax.specs.TextItem.{line_of, view, views};
-ghost use Rattle.po_reader.specs.Steps.Stops.{line_at};
+ghost use Rattle.po_reader.specs.Internal.Stops.{line_at};
 
 use po_syntax::{Item, PoError, PoFault};
 use std::marker::Model;

@@ -1,12 +1,10 @@
 pub mod TextItem
-pub mod Runs
 pub mod QuotedString
 pub mod Escapes
 pub mod Token
 pub mod Line
 pub mod Spelling
 pub mod LineFaults
-pub mod LineView
 pub mod ItemContents
 pub mod PoText
 pub mod CleanLine
@@ -15,3 +13,5 @@ pub mod Piece
 pub mod QuotedForm
 pub mod WrittenForm
 pub mod LineNumbers
+pub mod Internal
+pub mod Facts

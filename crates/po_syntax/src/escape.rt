@@ -3,7 +3,7 @@
 ghost use Rattle.std.specs.Prelude.{◌≡◌, ◌^◌, ◌<◌, ◌≤◌, length, All, SomeIff};
 ghost use Rattle.std.specs.Char.{digit_value};
 ghost use Rattle.std.specs.Str.Parse.{digits_value};
-ghost use Rattle.po_syntax.specs.LineView.{IsByteOf};
+ghost use Rattle.po_syntax.specs.Internal.LineView.{IsByteOf};
 ghost use Rattle.po_syntax.specs.QuotedString.{digit_count, escape_at, letter_value, number_step};
 
 use crate::fault::PoFault;

@@ -3,7 +3,7 @@
 ghost use Rattle.std.specs.Prelude.{◌≡◌, ◌≢◌, ◌≤◌, ◌==◌, length, IfErr, OnOk};
 ghost use Rattle.std.specs.List.{suffix_len};
 ghost use Rattle.po_syntax.specs.Line.{shape_of, hash_shape, tilde_shape, comment_shape, trim_returns, SpellsTokens, TokensStop, SpellsLine, LineStops};
-ghost use Rattle.po_syntax.specs.LineView.{AddsItems, IsShapeOf};
+ghost use Rattle.po_syntax.specs.Internal.LineView.{AddsItems, IsShapeOf};
 
 use crate::fault::PoFault;
 use crate::item::{CommentKind, Item, Marks};

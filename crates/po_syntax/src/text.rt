@@ -3,7 +3,7 @@
 ghost use Rattle.std.specs.Prelude.{◌≡◌, ◌≢◌, ◌+◌, ◌<◌, ◌≤◌, ◌^◌, ◌∷◌, [], length, IfOk, IfErr, IfSome, OnOk, IsUtf8, MatchOption};
 ghost use Rattle.po_syntax.specs.PoText.{TextFault, IsSmall, HasNoNul, line_number, without_byte_order_mark, lines_of};
 ghost use Rattle.po_syntax.specs.Line.{SpellsLine, LineStops};
-ghost use Rattle.po_syntax.specs.LineView.{AddsItems};
+ghost use Rattle.po_syntax.specs.Internal.LineView.{AddsItems};
 
 use crate::fault::{PoError, PoFault};
 use crate::item::Item;

@@ -3,7 +3,7 @@
 ghost use Rattle.std.specs.Prelude.{◌≡◌, ◌<◌, ◌≤◌, length};
 ghost use Rattle.std.specs.List.{prefix_len};
 ghost use Rattle.po_syntax.specs.Token.{is_blank, is_word_byte, skip_blanks, index_token, bracket_token, keyword_token, token_at};
-ghost use Rattle.po_syntax.specs.LineView.{IsKeywordOf, IsTokenOf};
+ghost use Rattle.po_syntax.specs.Internal.LineView.{IsKeywordOf, IsTokenOf};
 
 use crate::escape::{digit_count, number_of};
 use crate::fault::PoFault;

@@ -15,7 +15,7 @@ use Rattle.po_syntax.specs.ItemContents.{IsText}
 use Rattle.po_entry.specs.Validity.TextsFault.{not_utf8, forbidden}
 use Rattle.po_unformat.specs.declared.fault.UnformatError.{UnformatError}
 use Rattle.po_unformat.specs.declared.fault.UnformatError.TheVariants.{Mo, NotUtf8, ForbiddenByte, ForeignCharset, OutOfMemory}
-use Rattle.po_unformat.specs.Refused.{RefusesEntry, RefusesMessages, error_at}
+use Rattle.po_unformat.specs.Internal.Refused.{RefusesEntry, RefusesMessages, error_at}
 use Rattle.po_writer.specs.WrittenText.{written_text}
 use Rattle.po_unformat.specs.Unformatted.{entry_of_message, unformatted}
 use Rattle.po_unformat.specs.UnformattedText.{AreWrittenAs, HasForeignCharset}

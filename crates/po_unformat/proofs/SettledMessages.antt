@@ -18,7 +18,7 @@ use Rattle.po_writer.specs.WrittenText.{written_text}
 use Rattle.po_unformat.specs.declared.fault.UnformatError.{UnformatError}
 use Rattle.po_unformat.specs.declared.fault.UnformatError.TheVariants.{Mo, NotUtf8, ForbiddenByte, ForeignCharset, OutOfMemory}
 use Rattle.po_unformat.specs.RoundTrip.{TextOrFault}
-use Rattle.po_unformat.specs.Refused.{RefusesMessages}
+use Rattle.po_unformat.specs.Internal.Refused.{RefusesMessages}
 use Rattle.po_unformat.specs.Unformatted.{entry_of_message, plural_of, taken_forms, unformatted}
 use Rattle.po_unformat.specs.UnformattedText.{AreWrittenAs, IsUnformatFault}
 use Rattle.po_entry.proofs.Settled.{all_settled, texts_or_fault, charset_settled}

@@ -1,5 +1,5 @@
 pub mod Unformatted
 pub mod UnformattedText
 pub mod RoundTrip
-pub mod Refused
 pub mod MessageParts
+pub mod Internal

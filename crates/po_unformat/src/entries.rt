@@ -3,7 +3,7 @@
 ghost use Rattle.std.specs.Prelude.{◌≡◌, ◌<◌, Some, IfErr, IfOk, length, slice_get};
 ghost use Rattle.po_entry.specs.TextEntry.{TextEntry};
 ghost use Rattle.po_entry.specs.Validity.{IsEntry, RefusesMessage};
-ghost use Rattle.po_unformat.specs.Refused.{RefusesEntry, error_at};
+ghost use Rattle.po_unformat.specs.Internal.Refused.{RefusesEntry, error_at};
 ghost use Rattle.po_unformat.specs.Unformatted.{entry_of_message, unformatted};
 
 use crate::fault::UnformatError;

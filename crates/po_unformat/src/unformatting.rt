@@ -1,7 +1,7 @@
 //! The PO text of an MO file.
 
 ghost use Rattle.std.specs.Prelude.{MatchResult};
-ghost use Rattle.po_unformat.specs.Refused.{RefusesMessages};
+ghost use Rattle.po_unformat.specs.Internal.Refused.{RefusesMessages};
 ghost use Rattle.po_unformat.specs.UnformattedText.{AreWrittenAs, IsUnformatted, IsUnformatFault};
 
 use crate::entries::entry_at;

@@ -4,7 +4,7 @@ use Rattle.std.specs.List.{flat_map, list_any}
 use Rattle.std.proofs.lemmas.List.{append-nil}
 use Rattle.std.proofs.lemmas.List.Elements.{All-nil, All-cons, All-head, All-weaker}
 use Rattle.std.proofs.lemmas.Bool.{ne_eqb}
-use Rattle.po_entry.specs.Halves.{All-left, All-right}
+use Rattle.po_entry.specs.Facts.Halves.{All-left, All-right}
 use Rattle.po_syntax.specs.declared.item.CommentKind.TheVariants.{Translator, Extracted, Reference, Flags}
 use Rattle.po_syntax.specs.TextItem.{TextItem}
 use Rattle.po_entry.specs.Bytes.{Lacks, AreDistinct}

@@ -1,1 +1,1 @@
-pub mod ArgumentValues
+pub mod Internal

@@ -15,6 +15,6 @@ pub mod Outputs
 pub mod ArgumentValues
 pub mod Ending
 pub mod Delivered
-pub mod EmptyOutput
 pub mod ToolRuns
 pub mod WrittenLaw
+pub mod Internal

@@ -1,4 +1,4 @@
-use Rattle.command_line.specs.Kind.{argument_of}
+use Rattle.command_line.specs.Internal.Kind.{argument_of}
 use Rattle.command_line.proofs.Arguing.{next_mapped, one_argument_more}
 use Rattle.command_line.proofs.commands.with_arguments.Goals as goal
 

@@ -1,5 +1,5 @@
 use Rattle.std.proofs.Common.{map, take}
-use Rattle.command_line.specs.Kind.{argument_of}
+use Rattle.command_line.specs.Internal.Kind.{argument_of}
 use Rattle.command_line.specs.Offering.{AddsArguments}
 use Rattle.command_line.proofs.commands.with_arguments.Given as goal
 

@@ -2,7 +2,7 @@ use Rattle.std.proofs.Common.{◌≡◌, subst, rules}
 use Rattle.std.specs.List.{IsAllAdjacentAnswer}
 use Rattle.std.specs.Ordering.{is_ge}
 use Rattle.std.proofs.lemmas.List.Sorted.{answers_always}
-use Rattle.envsubst.specs.Sorted.{name_cmp}
+use Rattle.envsubst.specs.Internal.Sorted.{name_cmp}
 use Rattle.envsubst.proofs.SortedLemmas.{ge-not_lt}
 use Rattle.envsubst.proofs.sorted.are_names_sorted.Goals as goal
 

@@ -1,6 +1,6 @@
 use Rattle.std.proofs.Common.{◌≡◌, ◌≤◌, ◌+◌, ◌-◌, ◌*◌, ◌++◌, min, true, length, drop}
 use Rattle.envsubst.specs.PendingReference.{is_undecided}
-use Rattle.envsubst.specs.Sorted.{values_of_replacements}
+use Rattle.envsubst.specs.Internal.Sorted.{values_of_replacements}
 use Rattle.envsubst.specs.Stream.{Advances}
 use Rattle.envsubst.proofs.substituter.pass.Given as goal
 

@@ -1,5 +1,5 @@
 use Rattle.std.proofs.Common.{◌≡◌, suc, ◌-◌, ◌+◌, None, Some, subst, sym, arith}
-use Rattle.mo_expand.specs.Joining.{IsJoining}
+use Rattle.mo_expand.specs.Internal.Joining.{IsJoining}
 use Rattle.mo_expand.specs.Segments.{joined, text_at}
 use Rattle.mo_expand.proofs.JoiningLemmas.{joining-step, joining-ends, joining-goes_on, joining-is_full, joining-is_full_before, joining-has_ended}
 use Rattle.mo_expand.proofs.joining.put_text.Goals as goal

@@ -1,6 +1,6 @@
 use Rattle.std.proofs.Common.{◌+◌, ◌-◌, ◌*◌, ◌^◌, ◌≤◌}
 use Rattle.mo_expand.specs.Segments.{joined, text_at}
-use Rattle.mo_expand.specs.Joining.{IsJoining}
+use Rattle.mo_expand.specs.Internal.Joining.{IsJoining}
 use Rattle.mo_expand.proofs.joining.put_text.Given as goal
 
 abbrev pub invariant-loop-i : goal.invariant-loop-i

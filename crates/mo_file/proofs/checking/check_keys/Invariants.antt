@@ -1,7 +1,7 @@
 use Rattle.std.proofs.Common.{◌≡◌, ◌+◌}
 use Rattle.mo_file.specs.Key.{key_of}
 use Rattle.mo_file.specs.StringTable.{original_at}
-use Rattle.mo_file.specs.Checking.{AreRisingBelow}
+use Rattle.mo_file.specs.Internal.Checking.{AreRisingBelow}
 use Rattle.mo_file.proofs.checking.check_keys.Given as goal
 
 abbrev pub invariant-loop-i : goal.invariant-loop-i

@@ -1,6 +1,6 @@
 use Rattle.std.proofs.Common.{ℕ, ◌<◌}
 use Rattle.mo_file.specs.Fault.{IsOutside, IsUnterminated}
-use Rattle.mo_file.specs.Checking.{IsFirstBelow}
+use Rattle.mo_file.specs.Internal.Checking.{IsFirstBelow}
 use Rattle.mo_file.proofs.checking.check_strings.Given as goal
 
 abbrev pub invariant-loop-i : goal.invariant-loop-i

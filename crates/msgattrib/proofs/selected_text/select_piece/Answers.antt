@@ -3,7 +3,7 @@ use Rattle.std.specs.Prelude.{IfOk}
 use Rattle.std.proofs.lemmas.Result.{on_ok_weaker}
 use Rattle.po_select.specs.Selected.{selected}
 use Rattle.po_writer.specs.TextParts.{AreParts}
-use Rattle.msgattrib.specs.SelectedText.{HoldRows}
+use Rattle.msgattrib.specs.Internal.SelectedText.{HoldRows}
 use Rattle.msgattrib.proofs.SelectedLemmas.{selected_joined}
 use Rattle.msgattrib.proofs.selected_text.select_piece.Goals as goal
 

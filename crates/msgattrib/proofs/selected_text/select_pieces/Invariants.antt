@@ -4,7 +4,7 @@ use Rattle.po_entry.specs.TextEntry.{TextEntry}
 use Rattle.po_entry.specs.ReadsText.{ReadsLeft, ReadsText}
 use Rattle.po_entry.specs.Faults.{IsReadFault}
 use Rattle.po_reader.specs.PieceRead.{IsLeftFault}
-use Rattle.msgattrib.specs.SelectedText.{AreSelected}
+use Rattle.msgattrib.specs.Internal.SelectedText.{AreSelected}
 use Rattle.msgattrib.proofs.selected_text.select_pieces.Given as goal
 
 abbrev pub invariant-loop-pieces : goal.invariant-loop-pieces

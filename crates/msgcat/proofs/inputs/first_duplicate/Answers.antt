@@ -2,7 +2,7 @@ use Rattle.std.proofs.Common.{◌++◌, ◌+◌, ◌∙◌, ap, arith, drop, fil
 use Rattle.std.specs.Prelude.{MatchOption}
 use Rattle.po_messages.specs.Joined.{is_live}
 use Rattle.po_merge.specs.Inputs.{all_entries}
-use Rattle.msgcat.specs.Entries.{unnamed}
+use Rattle.msgcat.specs.Internal.Entries.{unnamed}
 use Rattle.text_runs.specs.Repeats.{IsFirstRepeat, NumbersDiffer, numbered}
 use Rattle.msgcat.proofs.InputLemmas.{AreLeft, all_left, left_after, none_left, own, own_count, own_numbers, places_are, repeating}
 use Rattle.text_runs.proofs.RepeatLemmas.{none_kept}

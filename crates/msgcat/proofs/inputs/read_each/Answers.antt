@@ -7,8 +7,8 @@ use Rattle.po_syntax.specs.declared.fault.PoFault.TheVariants.{OutOfMemory}
 use Rattle.po_entry.specs.ReadsText.{ReadsText}
 use Rattle.po_messages.specs.Joined.{is_live}
 use Rattle.po_merge.specs.Inputs.{all_entries, named}
-use Rattle.msgcat.specs.Entries.{HoldEntries}
-use Rattle.msgcat.specs.Inputs.{IsReadInput}
+use Rattle.msgcat.specs.Internal.Entries.{HoldEntries}
+use Rattle.msgcat.specs.Internal.Inputs.{IsReadInput}
 use Rattle.text_runs.specs.Repeats.{are_placed}
 use Rattle.msgcat.proofs.InputLemmas.{entries_more, known_more, text_more}
 use Rattle.msgcat.proofs.MsgcatLemmas.{file_at, name_lacks}

@@ -1,8 +1,8 @@
 use Rattle.std.proofs.Common.{List, take}
 use Rattle.std.specs.List.{AllZip}
 use Rattle.po_merge.specs.Inputs.{Named, all_entries}
-use Rattle.msgcat.specs.Entries.{HoldEntries}
-use Rattle.msgcat.specs.Inputs.{IsReadInput, IsTextOf}
+use Rattle.msgcat.specs.Internal.Entries.{HoldEntries}
+use Rattle.msgcat.specs.Internal.Inputs.{IsReadInput, IsTextOf}
 use Rattle.runs.specs.NamedFile.{named_files}
 use Rattle.msgcat.proofs.inputs.read_each.Given as goal
 

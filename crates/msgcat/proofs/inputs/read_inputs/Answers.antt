@@ -4,8 +4,8 @@ use Rattle.std.specs.List.{AllZip}
 use Rattle.po_messages.specs.Duplicate.{HasNoDuplicate}
 use Rattle.po_merge.specs.Grouping.{message_numbers}
 use Rattle.po_merge.specs.Inputs.{all_entries}
-use Rattle.msgcat.specs.Entries.{AreRows, unnamed}
-use Rattle.msgcat.specs.Inputs.{IsFaultOfFirst, IsFirstRepeating, IsReadInput}
+use Rattle.msgcat.specs.Internal.Entries.{AreRows, unnamed}
+use Rattle.msgcat.specs.Internal.Inputs.{IsFaultOfFirst, IsFirstRepeating, IsReadInput}
 use Rattle.msgcat.proofs.InputLemmas.{all_read, message_numbers_of, no_partial, repeating_fault, text_fault}
 use Rattle.runs.specs.NamedFile.{named_files}
 use Rattle.msgcat.proofs.inputs.read_inputs.Goals as goal

@@ -5,7 +5,7 @@ use Rattle.po_entry.specs.TextEntry.{SameButLine, TextEntry}
 use Rattle.po_merge.specs.EntryLaws.{IsSameButLine}
 use Rattle.po_merge.specs.Inputs.{NamedEntry}
 use Rattle.po_merge.specs.InputsView.{named_entries}
-use Rattle.msgcat.specs.Entries.{IsRow}
+use Rattle.msgcat.specs.Internal.Entries.{IsRow}
 use Rattle.msgcat.specs.declared.entries.EntryRow.{EntryRow}
 use Rattle.po_messages.specs.Facts.Zips.{zip_length}
 use Rattle.msgcat.proofs.MergedLemmas.{definition_more}

@@ -5,8 +5,8 @@ use Rattle.po_merge.specs.EntryLaws.{IsSameButLine}
 use Rattle.po_merge.specs.Grouping.{IsDefinition}
 use Rattle.po_merge.specs.Inputs.{NamedEntry}
 use Rattle.po_merge.specs.InputsView.{named_entries}
-use Rattle.msgcat.specs.Entries.{AreRows}
-use Rattle.msgcat.specs.MergedText.{AreReadBack}
+use Rattle.msgcat.specs.Internal.Entries.{AreRows}
+use Rattle.msgcat.specs.Internal.MergedText.{AreReadBack}
 use Rattle.msgcat.proofs.merged_text.definitions_of.Given as goal
 
 -- the definitions so far

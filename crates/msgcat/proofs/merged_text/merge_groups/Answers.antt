@@ -2,8 +2,8 @@ use Rattle.std.proofs.Common.{◌≤◌, ◌<◌, [], ◌∙◌, ap, arith, get_
 use Rattle.std.proofs.lemmas.List.{take_all}
 use Rattle.std.proofs.lemmas.List.Elements.{All-nil}
 use Rattle.po_entry.specs.Header.{HasAdmittedCharset}
-use Rattle.msgcat.specs.Entries.{AreRows}
-use Rattle.msgcat.specs.MergedText.{AreWritten, IsGroupOf}
+use Rattle.msgcat.specs.Internal.Entries.{AreRows}
+use Rattle.msgcat.specs.Internal.MergedText.{AreWritten, IsGroupOf}
 use Rattle.po_messages.specs.Facts.Zips.{zip_get, zip_length}
 use Rattle.msgcat.proofs.MergedLemmas.{fault_within, of_groups, of_groups_more}
 use Rattle.msgcat.proofs.merged_text.merge_groups.Goals as goal

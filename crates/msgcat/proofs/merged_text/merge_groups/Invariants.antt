@@ -1,6 +1,6 @@
 use Rattle.std.proofs.Common.{List, take}
 use Rattle.po_merge.specs.Inputs.{NamedEntry}
-use Rattle.msgcat.specs.MergedText.{AreGroups, AreWritten}
+use Rattle.msgcat.specs.Internal.MergedText.{AreGroups, AreWritten}
 use Rattle.msgcat.proofs.MergedLemmas.{of_groups}
 use Rattle.msgcat.proofs.merged_text.merge_groups.Given as goal
 

@@ -8,7 +8,7 @@ use Rattle.po_merge.specs.InputsView.{named_entries, named_entry}
 use Rattle.po_merge.specs.MergedEntry.{merged_entry}
 use Rattle.std.specs.List.{AllZip}
 use Rattle.std.proofs.Common.{subst}
-use Rattle.msgcat.specs.Entries.{IsRow}
+use Rattle.msgcat.specs.Internal.Entries.{IsRow}
 use Rattle.po_messages.specs.Facts.Zips.{zip_length}
 use Rattle.msgcat.proofs.MergedLemmas.{fault_unlined}
 use Rattle.msgcat.proofs.merged_text.merged_again.Goals as goal

@@ -4,7 +4,7 @@ use Rattle.po_messages.specs.Message.{entry_message}
 use Rattle.po_merge.specs.Grouping.{named_messages}
 use Rattle.po_merge.specs.Groups.{groups}
 use Rattle.po_merge.specs.Inputs.{NamedEntry}
-use Rattle.msgcat.specs.Entries.{IsRow}
+use Rattle.msgcat.specs.Internal.Entries.{IsRow}
 use Rattle.po_messages.specs.Facts.Zips.{zip_length}
 use Rattle.msgcat.proofs.MergedLemmas.{groups_hold}
 use Rattle.msgcat.proofs.merged_text.merged_text.Goals as goal

@@ -4,8 +4,8 @@ use Rattle.std.proofs.lemmas.Result.{IfErr-weaker, on_ok_weaker}
 use Rattle.po_messages.specs.Joined.{is_live}
 use Rattle.po_merge.specs.Merged.{IsMergeFault, merged_messages}
 use Rattle.po_merge.proofs.GroupsMerged.{some_passes}
-use Rattle.msgcat.specs.Entries.{AreRows}
-use Rattle.msgcat.specs.MergedText.{AreWritten}
+use Rattle.msgcat.specs.Internal.Entries.{AreRows}
+use Rattle.msgcat.specs.Internal.MergedText.{AreWritten}
 use Rattle.msgcat.proofs.MergedLemmas.{live_rows, mixed, mixed_rows, some_live, unmixed}
 use Rattle.msgcat.proofs.merged_text.push_group.Goals as goal
 

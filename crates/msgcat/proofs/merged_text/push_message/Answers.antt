@@ -3,7 +3,7 @@ use Rattle.std.specs.Prelude.{All}
 use Rattle.po_entry.specs.Validity.{IsCatalogueEntry}
 use Rattle.po_merge.specs.Merged.{IsMergeFault, is_kept}
 use Rattle.po_writer.specs.TextParts.{AreParts}
-use Rattle.msgcat.specs.Entries.{AreRows}
+use Rattle.msgcat.specs.Internal.Entries.{AreRows}
 use Rattle.msgcat.specs.declared.entries.EntryRow.{EntryRow}
 use Rattle.msgcat.proofs.MergedLemmas.{kept, message_copied, message_merged, one_of}
 use Rattle.msgcat.proofs.merged_text.push_message.Goals as goal

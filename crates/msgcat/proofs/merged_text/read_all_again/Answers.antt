@@ -3,8 +3,8 @@ use Rattle.std.proofs.lemmas.List.{take_all, take_more}
 use Rattle.po_entry.specs.TextEntry.{SameButLine, TextEntry, plain_entry}
 use Rattle.po_merge.specs.Inputs.{NamedEntry}
 use Rattle.po_messages.specs.Facts.Zips.{zip_get, zip_length, zip_more}
-use Rattle.msgcat.specs.Entries.{IsRow}
-use Rattle.msgcat.specs.MergedText.{AreReadBack}
+use Rattle.msgcat.specs.Internal.Entries.{IsRow}
+use Rattle.msgcat.specs.Internal.MergedText.{AreReadBack}
 use Rattle.msgcat.proofs.merged_text.read_all_again.Goals as goal
 
 none : NamedEntry

@@ -1,7 +1,7 @@
 use Rattle.std.proofs.Common.{List, take}
 use Rattle.po_merge.specs.Inputs.{NamedEntry}
-use Rattle.msgcat.specs.Entries.{AreRows}
-use Rattle.msgcat.specs.MergedText.{AreReadBack}
+use Rattle.msgcat.specs.Internal.Entries.{AreRows}
+use Rattle.msgcat.specs.Internal.MergedText.{AreReadBack}
 use Rattle.msgcat.proofs.merged_text.read_all_again.Given as goal
 
 -- the entries so far are read again

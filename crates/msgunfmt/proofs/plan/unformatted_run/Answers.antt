@@ -1,6 +1,6 @@
 use Rattle.std.proofs.Common.{◌≡◌, ap, ◌∙◌, refl, length, rules}
 use Rattle.std.specs.Prelude.{nat_lt}
-use Rattle.runs.specs.EmptyOutput.{create_is}
+use Rattle.runs.specs.Internal.EmptyOutput.{create_is}
 use Rattle.msgunfmt.proofs.plan.unformatted_run.Goals as goal
 
 pub returns : goal.returns

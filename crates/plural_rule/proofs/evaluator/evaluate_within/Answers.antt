@@ -2,7 +2,7 @@ use Rattle.std.proofs.Common.{subst, ◌≡◌, ◌∙◌, ◌+◌, ◌-◌, dro
 use Rattle.plural_rule.specs.declared.instruction.Action.TheVariants.{Binary}
 use Rattle.plural_rule.specs.Instruction.{action_of}
 use Rattle.plural_rule.specs.Program.{tree_of, low_of}
-use Rattle.plural_rule.specs.Run.{Outcome, newest_value}
+use Rattle.plural_rule.specs.Internal.Run.{Outcome, newest_value}
 use Rattle.plural_rule.specs.declared.instruction.Instruction.{Instruction}
 use Rattle.plural_rule.proofs.Programs.{starts, begun-pair, goes-on, goes-on-pair, stops, stops-pair, ends}
 use Rattle.plural_rule.proofs.Depths.{Stays, stays-start, stays-next, stays-leaf, stays-room}

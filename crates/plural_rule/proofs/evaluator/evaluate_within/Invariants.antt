@@ -1,6 +1,6 @@
 use Rattle.std.proofs.Common.{length, drop, ◌-◌, ◌≡◌, ◌*◌, ◌^◌, ◌<◌, ◌≤◌}
 use Rattle.plural_rule.specs.Program.{tree_of}
-use Rattle.plural_rule.specs.Run.{run, outcome}
+use Rattle.plural_rule.specs.Internal.Run.{run, outcome}
 use Rattle.plural_rule.proofs.Depths.{Stays}
 use Rattle.plural_rule.proofs.evaluator.evaluate_within.Given as goal
 

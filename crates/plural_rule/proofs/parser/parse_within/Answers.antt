@@ -1,7 +1,7 @@
 use Rattle.std.proofs.Common.{◌≡◌, ◌≢◌, ℕ, ◌<◌, ◌≤◌, ◌+◌, ◌-◌, List, [], ◌∷◌, length, take, drop, length-drop, refl, ap, arith, rules}
 use Rattle.std.proofs.lemmas.List.{take_all}
-use Rattle.plural_rule.specs.ParserState.{held, most_added}
-use Rattle.plural_rule.specs.Pending.{weight}
+use Rattle.plural_rule.specs.Internal.ParserState.{held, most_added}
+use Rattle.plural_rule.specs.Internal.Pending.{weight}
 use Rattle.plural_rule.proofs.ParserRun.{Reached, reached-start, reached-token, reached-end, no-token, no-index, most-added}
 use Rattle.plural_rule.proofs.parser.parse_within.Goals as goal
 

@@ -1,6 +1,6 @@
 use Rattle.std.proofs.Common.{take, ◌+◌, ◌≤◌, length}
-use Rattle.plural_rule.specs.ParserState.{held}
-use Rattle.plural_rule.specs.Pending.{weight}
+use Rattle.plural_rule.specs.Internal.ParserState.{held}
+use Rattle.plural_rule.specs.Internal.Pending.{weight}
 use Rattle.plural_rule.proofs.ParserRun.{Reached}
 use Rattle.plural_rule.proofs.parser.parse_within.Given as goal
 

@@ -1,6 +1,6 @@
 use Rattle.std.proofs.Common.{take, sym, ◌∙◌, arith}
-use Rattle.plural_rule.specs.ParserState.{held}
-use Rattle.plural_rule.specs.ShiftReduce.{reduce}
+use Rattle.plural_rule.specs.Internal.ParserState.{held}
+use Rattle.plural_rule.specs.Internal.ShiftReduce.{reduce}
 use Rattle.plural_rule.proofs.ParserSteps.{take-short, Reduces-more, Reduces-stop, Reduces-end}
 use Rattle.plural_rule.proofs.parser.reduce.Goals as goal
 

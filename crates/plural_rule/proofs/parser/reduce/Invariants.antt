@@ -1,8 +1,8 @@
 use Rattle.std.proofs.Common.{take, List, length, ◌+◌, ◌≤◌}
 use Rattle.plural_rule.specs.Expression.{Tree}
-use Rattle.plural_rule.specs.ShiftReduce.{Waiting, reduce}
-use Rattle.plural_rule.specs.ParserState.{held, IsOperand}
-use Rattle.plural_rule.specs.Pending.{weight}
+use Rattle.plural_rule.specs.Internal.ShiftReduce.{Waiting, reduce}
+use Rattle.plural_rule.specs.Internal.ParserState.{held, IsOperand}
+use Rattle.plural_rule.specs.Internal.Pending.{weight}
 use Rattle.plural_rule.proofs.ParserSteps.{Reduces}
 use Rattle.plural_rule.proofs.parser.reduce.Given as goal
 

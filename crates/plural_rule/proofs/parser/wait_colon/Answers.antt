@@ -1,6 +1,6 @@
 use Rattle.std.proofs.Common.{◌≡◌, take, ◌+◌, ◌-◌, ◌%◌, ◌∷◌, ◌++◌, [], length, ap, ◌∙◌}
 use Rattle.plural_rule.specs.declared.pending.Pending.TheVariants.{Colon}
-use Rattle.plural_rule.specs.ParserState.{skipping}
+use Rattle.plural_rule.specs.Internal.ParserState.{skipping}
 use Rattle.plural_rule.proofs.ParserSteps.{answers-colon}
 use Rattle.plural_rule.proofs.parser.wait_colon.Goals as goal
 

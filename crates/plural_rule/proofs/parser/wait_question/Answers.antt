@@ -1,5 +1,5 @@
 use Rattle.std.proofs.Common.{take, ◌∷◌, ◌++◌, [], arith, ap, ◌∙◌}
-use Rattle.plural_rule.specs.ParserState.{begun}
+use Rattle.plural_rule.specs.Internal.ParserState.{begun}
 use Rattle.plural_rule.proofs.ParserSteps.{waits-question, take-short}
 use Rattle.plural_rule.proofs.parser.wait_question.Goals as goal
 

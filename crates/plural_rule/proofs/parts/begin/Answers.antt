@@ -1,5 +1,5 @@
 use Rattle.std.proofs.Common.{refl, arith}
-use Rattle.plural_rule.specs.ParserState.{counted}
+use Rattle.plural_rule.specs.Internal.ParserState.{counted}
 use Rattle.plural_rule.proofs.ParserSteps.{edited-within}
 use Rattle.plural_rule.proofs.parts.begin.Goals as goal
 

@@ -5,10 +5,10 @@ use Rattle.mo_file.specs.Layout.{layout}
 use Rattle.mo_file.specs.MoFile.{IsMoFile}
 use Rattle.mo_file.specs.Pairs.{borrowed_message, messages_of_borrowed}
 use Rattle.po_messages.specs.Joined.{joined_entries}
-use Rattle.po_compile.specs.Collected.{compiled_of, row_view}
+use Rattle.po_compile.specs.Internal.LiveRows.{compiled_of, row_view}
 use Rattle.po_compile.specs.CompiledList.{compiled_list}
 use Rattle.po_compile.specs.CompiledMessages.{AreMessagesOf, message_of, messages_of_entries}
-use Rattle.po_compile.specs.JoinedRows.{counts_of}
+use Rattle.po_compile.specs.Internal.JoinedRows.{counts_of}
 use Rattle.po_compile.proofs.JoinedLemmas.{all_valid}
 use Rattle.po_compile.proofs.SortLemmas.{compiled_valid, count_below_layout}
 use Rattle.po_compile.proofs.compiling.compile_inputs.Goals as goal

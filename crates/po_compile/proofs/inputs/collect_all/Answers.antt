@@ -6,7 +6,8 @@ use Rattle.std.proofs.lemmas.Result.{err_from_is_err_and}
 use Rattle.std.proofs.lemmas.Slice.Zip.{AllZip-long}
 use Rattle.po_entry.specs.TextEntry.{slice_texts}
 use Rattle.po_compile.specs.Accepted.{IsReadingFault}
-use Rattle.po_compile.specs.Collected.{HoldsEntries, ReadsLive}
+use Rattle.po_compile.specs.Collected.{HoldsEntries}
+use Rattle.po_compile.specs.Internal.LiveRows.{ReadsLive}
 use Rattle.po_messages.specs.Facts.Zips.{zip_more}
 use Rattle.po_compile.proofs.InputLemmas.{all_distinct, collected_of, repeat_refused, text_fault}
 use Rattle.po_compile.proofs.ReadingLemmas.{more_texts, refused_input, split_texts}

@@ -1,7 +1,7 @@
 use Rattle.std.proofs.Common.{take}
 use Rattle.std.specs.List.{AllZip}
 use Rattle.po_entry.specs.TextEntry.{slice_texts}
-use Rattle.po_compile.specs.Collected.{ReadsLive}
+use Rattle.po_compile.specs.Internal.LiveRows.{ReadsLive}
 use Rattle.po_compile.proofs.inputs.collect_all.Given as goal
 
 abbrev pub invariant-loop-input : goal.invariant-loop-input

@@ -1,6 +1,6 @@
 use Rattle.std.proofs.Common.{◌==◌, All, ap, ◌∙◌, count_by, subst, arith}
 use Rattle.std.proofs.lemmas.List.{take_all}
-use Rattle.po_compile.specs.JoinedRows.{HasOneHeader}
+use Rattle.po_compile.specs.Internal.JoinedRows.{HasOneHeader}
 use Rattle.po_compile.specs.declared.collecting.Lengths.{Lengths}
 use Rattle.po_compile.proofs.InputLemmas.{headers_more}
 use Rattle.po_compile.proofs.inputs.have_one_header.Goals as goal

@@ -1,5 +1,5 @@
 use Rattle.std.proofs.Common.{All, take}
-use Rattle.po_compile.specs.JoinedRows.{HasOneHeader}
+use Rattle.po_compile.specs.Internal.JoinedRows.{HasOneHeader}
 use Rattle.po_compile.proofs.inputs.have_one_header.Given as goal
 
 abbrev pub invariant-loop-collected : goal.invariant-loop-collected

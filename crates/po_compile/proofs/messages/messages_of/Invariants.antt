@@ -1,6 +1,7 @@
 use Rattle.std.proofs.Common.{◌≡◌, take, map, filter}
-use Rattle.po_compile.specs.CompiledInputs.{compiled_view, is_compiled_message, view_of_message}
-use Rattle.po_compile.specs.JoinedRows.{input_view}
+use Rattle.po_compile.specs.CompiledInputs.{compiled_view}
+use Rattle.po_compile.specs.Internal.InputMessages.{is_compiled_message, view_of_message}
+use Rattle.po_compile.specs.Internal.JoinedRows.{input_view}
 use Rattle.po_compile.proofs.messages.messages_of.Given as goal
 
 abbrev pub invariant-loop-row : goal.invariant-loop-row

@@ -1,9 +1,9 @@
 use Rattle.std.proofs.Common.{◌≡◌, ap, sym, subst, ◌∙◌, Bool, true, false, List, ◌++◌, ◌∷◌, [], cond, length, take, drop, get_or, arith, append-nil, append_assoc}
 use Rattle.mo_file.specs.Key.{query_key}
-use Rattle.po_compile.specs.Collected.{row_view}
+use Rattle.po_compile.specs.Internal.LiveRows.{row_view}
 use Rattle.po_compile.specs.CompiledMessages.{original_of, translation_of}
-use Rattle.po_compile.specs.JoinedRows.{is_joined}
-use Rattle.po_compile.specs.Repeats.{ArePlaced}
+use Rattle.po_compile.specs.Internal.JoinedRows.{is_joined}
+use Rattle.po_compile.specs.Internal.Repeats.{ArePlaced}
 use Rattle.po_compile.specs.declared.collecting.Lengths.{Lengths}
 use Rattle.po_compile.specs.declared.row.Row.{Row}
 use Rattle.po_compile.proofs.RepeatLemmas.{placed_more}

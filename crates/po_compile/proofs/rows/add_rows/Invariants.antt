@@ -1,9 +1,10 @@
 use Rattle.std.proofs.Common.{◌≡◌, ◌++◌, Bool, List, take, drop, map, filter}
 use Rattle.std.specs.List.{flat_map}
 use Rattle.po_entry.specs.TextEntry.{TextEntry}
-use Rattle.po_compile.specs.Collected.{message_bytes, lengths_of, live_message}
-use Rattle.po_compile.specs.JoinedRows.{in_input_message, input_view, is_joined}
-use Rattle.po_compile.specs.Repeats.{ArePlaced}
+use Rattle.po_compile.specs.Collected.{message_bytes, lengths_of}
+use Rattle.po_compile.specs.Internal.LiveRows.{live_message}
+use Rattle.po_compile.specs.Internal.JoinedRows.{in_input_message, input_view, is_joined}
+use Rattle.po_compile.specs.Internal.Repeats.{ArePlaced}
 use Rattle.po_compile.specs.declared.row.Row.{Row}
 use Rattle.po_compile.proofs.rows.add_rows.Given as goal
 

@@ -1,6 +1,6 @@
 use Rattle.std.proofs.Common.{◌≡◌, take, map, filter}
 use Rattle.mo_file.specs.Pairs.{messages_of_borrowed}
-use Rattle.po_compile.specs.Collected.{row_view, LiveMessage}
+use Rattle.po_compile.specs.Internal.LiveRows.{row_view, LiveMessage}
 use Rattle.po_compile.proofs.rows.compiled_pairs.Given as goal
 
 abbrev pub invariant-loop-row : goal.invariant-loop-row

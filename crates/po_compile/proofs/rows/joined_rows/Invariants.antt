@@ -1,4 +1,4 @@
-use Rattle.po_compile.specs.JoinedRows.{OfAllInputs}
+use Rattle.po_compile.specs.OfInputs.{OfAllInputs}
 use Rattle.po_compile.proofs.JoinedLemmas.{HasSoFar}
 use Rattle.po_compile.proofs.rows.joined_rows.Given as goal
 

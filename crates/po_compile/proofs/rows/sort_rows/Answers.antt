@@ -2,7 +2,7 @@ use Rattle.std.proofs.Common.{rules}
 use Rattle.std.specs.Ordering.{is_lt}
 use Rattle.std.proofs.lemmas.Cmp.{nat_cmp_total, nat_list_cmp_total, on_total, then_total}
 use Rattle.std.proofs.lemmas.List.Sorted.{answers_always, ranks_by}
-use Rattle.po_compile.specs.Repeats.{row_cmp}
+use Rattle.po_compile.specs.Internal.Repeats.{row_cmp}
 use Rattle.po_compile.specs.declared.row.Row.{Row}
 use Rattle.po_compile.proofs.rows.sort_rows.Goals as goal
 

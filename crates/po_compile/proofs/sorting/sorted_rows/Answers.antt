@@ -1,6 +1,6 @@
 use Rattle.std.proofs.Common.{refl, map}
 use Rattle.po_messages.specs.Joined.{joined, joined_entries}
-use Rattle.po_compile.specs.Collected.{compiled_of, row_view}
+use Rattle.po_compile.specs.Internal.LiveRows.{compiled_of, row_view}
 use Rattle.po_compile.proofs.FirstRepeat.{repeat_fault}
 use Rattle.po_compile.proofs.JoinedLemmas.{all_valid, made_alone}
 use Rattle.po_compile.proofs.RowLemmas.{counts_mean, rows_mean}

@@ -1,7 +1,7 @@
 use Rattle.std.proofs.Common.{sym, ap, ◌∙◌, ◌++◌, ◌∷◌, [], append_assoc, append-nil, subst, take}
 use Rattle.std.proofs.lemmas.List.{take_all}
 use Rattle.po_entry.specs.TextEntry.{texts}
-use Rattle.po_entry.specs.SeenTexts.{HoldsTexts}
+use Rattle.po_entry.specs.Internal.SeenTexts.{HoldsTexts}
 use Rattle.po_entry.proofs.SeenTexts.{one_text_more}
 use Rattle.po_merge.proofs.Steps.{texts_more}
 use Rattle.po_merge.proofs.comments.add_seen.Goals as goal

@@ -1,6 +1,6 @@
 use Rattle.std.proofs.Common.{◌++◌, take, List, ℕ}
 use Rattle.po_entry.specs.TextEntry.{texts}
-use Rattle.po_entry.specs.SeenTexts.{HoldsTexts}
+use Rattle.po_entry.specs.Internal.SeenTexts.{HoldsTexts}
 use Rattle.po_merge.proofs.comments.add_seen.Given as goal
 
 -- the set has the texts so far, with what it had

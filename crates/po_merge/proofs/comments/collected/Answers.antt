@@ -6,7 +6,7 @@ use Rattle.std.specs.Str.{bytes_eq}
 use Rattle.std.specs.BTreeMap.{is_at}
 use Rattle.po_entry.specs.TextEntry.{texts}
 use Rattle.po_merge.specs.MergedEntry.{texts_of, with_others}
-use Rattle.po_entry.specs.SeenTexts.{HoldsTexts}
+use Rattle.po_entry.specs.Internal.SeenTexts.{HoldsTexts}
 use Rattle.po_merge.proofs.Sets.{same_texts_met}
 use Rattle.po_merge.proofs.Steps.{collected_more}
 use Rattle.po_merge.proofs.comments.collected.Goals as goal

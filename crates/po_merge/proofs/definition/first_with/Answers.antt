@@ -1,6 +1,6 @@
 use Rattle.std.proofs.Common.{◌∙◌, sym, ap}
 use Rattle.std.proofs.lemmas.List.{take_all}
-use Rattle.po_merge.specs.FirstParts.{has_part}
+use Rattle.po_merge.specs.Internal.FirstParts.{has_part}
 use Rattle.po_merge.proofs.Views.{first_at, first_without}
 use Rattle.po_merge.proofs.definition.first_with.Goals as goal
 

@@ -1,6 +1,6 @@
 use Rattle.std.proofs.Common.{◌≡◌, false, take}
 use Rattle.std.specs.List.{list_any}
-use Rattle.po_merge.specs.FirstParts.{has_part}
+use Rattle.po_merge.specs.Internal.FirstParts.{has_part}
 use Rattle.po_merge.proofs.definition.first_with.Given as goal
 
 -- none so far has the part

@@ -1,6 +1,6 @@
 use Rattle.std.proofs.lemmas.Result.{err_from_is_err_and}
-use Rattle.po_reader.specs.Steps.Body.IsBody.{without_context, with_context}
-use Rattle.po_reader.specs.Steps.Stops.BodyStops.{in_context, at_id, in_id, after_context, after_id}
+use Rattle.po_reader.specs.Internal.Body.IsBody.{without_context, with_context}
+use Rattle.po_reader.specs.Internal.Stops.BodyStops.{in_context, at_id, in_id, after_context, after_id}
 use Rattle.po_reader.proofs.Results.{ok_both, err_step}
 use Rattle.po_reader.proofs.body.take_body.Goals as goal
 

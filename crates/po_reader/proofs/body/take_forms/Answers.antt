@@ -1,8 +1,8 @@
 use Rattle.std.proofs.Common.{sym, ◌∙◌, append_assoc, arith}
 use Rattle.std.proofs.lemmas.Result.{err_from_is_err_and}
 use Rattle.std.proofs.lemmas.List.{map_push}
-use Rattle.po_reader.specs.Steps.Body.IsForms.{last, more}
-use Rattle.po_reader.specs.Steps.Stops.FormsStop.{here, later}
+use Rattle.po_reader.specs.Internal.Body.IsForms.{last, more}
+use Rattle.po_reader.specs.Internal.Stops.FormsStop.{here, later}
 use Rattle.po_reader.proofs.body.take_forms.Goals as goal
 
 pub loop-forms-preserved : goal.loop-forms-preserved

@@ -2,8 +2,8 @@ use Rattle.std.proofs.Common.{ℕ, List, ◌+◌, ◌++◌, ◌≤◌, length}
 use Rattle.po_syntax.specs.declared.fault.PoFault.{PoFault}
 use Rattle.po_syntax.specs.TextItem.{TextItem}
 use Rattle.po_entry.specs.TextEntry.{texts}
-use Rattle.po_reader.specs.Steps.Body.{IsForms}
-use Rattle.po_reader.specs.Steps.Stops.{FormsStop}
+use Rattle.po_reader.specs.Internal.Body.{IsForms}
+use Rattle.po_reader.specs.Internal.Stops.{FormsStop}
 use Rattle.po_reader.proofs.body.take_forms.Given as goal
 
 abbrev pub invariant-loop-forms : goal.invariant-loop-forms

@@ -1,7 +1,7 @@
 use Rattle.std.proofs.lemmas.Result.{err_from_is_err_and}
 use Rattle.po_reader.proofs.TakenKeywords.{translation_alone}
-use Rattle.po_reader.specs.Steps.Body.IsTranslation.{single, plural}
-use Rattle.po_reader.specs.Steps.Stops.TranslationStops.{here, in_forms}
+use Rattle.po_reader.specs.Internal.Body.IsTranslation.{single, plural}
+use Rattle.po_reader.specs.Internal.Stops.TranslationStops.{here, in_forms}
 use Rattle.po_reader.proofs.body.take_translation.Goals as goal
 
 pub returns-in_err-first-clause-fault : goal.returns-in_err-first-clause-fault

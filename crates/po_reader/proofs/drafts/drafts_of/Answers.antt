@@ -1,13 +1,13 @@
 use Rattle.std.proofs.Common.{[], ◌∷◌, ◌++◌, ◌∙◌, ap, append_assoc, arith, inl, inr}
 use Rattle.std.proofs.lemmas.Result.{err_from_is_err_and}
 use Rattle.std.proofs.lemmas.List.{append-nil, map_push}
-use Rattle.po_reader.specs.Reads.Reads.{comments, entry}
+use Rattle.po_reader.specs.Internal.Reads.Reads.{comments, entry}
 use Rattle.po_entry.specs.TextEntry.{TextEntry}
 use Rattle.po_entry.specs.Spelling.{entry_from}
 use Rattle.po_reader.specs.KeptComments.{kept_comments, kept_entry}
-use Rattle.po_reader.specs.Steps.ReaderView.{body_view}
+use Rattle.po_reader.specs.Internal.ReaderView.{body_view}
 use Rattle.po_reader.proofs.Kept.{kept_from}
-use Rattle.po_reader.specs.Steps.Stops.EntriesStop.{in_head, in_body, later}
+use Rattle.po_reader.specs.Internal.Stops.EntriesStop.{in_head, in_body, later}
 use Rattle.po_reader.proofs.HeadEnds.{head_over, over_cases, head_at_end}
 use Rattle.po_reader.proofs.drafts.drafts_of.Goals as goal
 

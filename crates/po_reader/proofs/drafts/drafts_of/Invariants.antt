@@ -3,9 +3,9 @@ use Rattle.po_syntax.specs.declared.fault.PoFault.{PoFault}
 use Rattle.po_syntax.specs.TextItem.{views}
 use Rattle.po_entry.specs.TextEntry.{TextEntry}
 use Rattle.po_entry.specs.EntryView.{entry_view}
-use Rattle.po_reader.specs.Reads.{Reads}
+use Rattle.po_reader.specs.Internal.Reads.{Reads}
 use Rattle.po_reader.specs.KeptComments.{kept_entry}
-use Rattle.po_reader.specs.Steps.Stops.{EntriesStop}
+use Rattle.po_reader.specs.Internal.Stops.{EntriesStop}
 use Rattle.po_reader.proofs.drafts.drafts_of.Given as goal
 
 abbrev pub invariant-loop-drafts : goal.invariant-loop-drafts

@@ -8,7 +8,7 @@ use Rattle.std.proofs.lemmas.Bool.{not-true}
 use Rattle.std.proofs.lemmas.List.{map-append}
 use Rattle.po_entry.specs.TextEntry.{texts}
 use Rattle.po_entry.specs.Comments.{is_fuzzy_flag}
-use Rattle.po_entry.specs.SeenTexts.{HoldsTexts}
+use Rattle.po_entry.specs.Internal.SeenTexts.{HoldsTexts}
 use Rattle.po_entry.proofs.SeenTexts.{one_text_more}
 use Rattle.po_reader.proofs.SeenFlags.{flags_more}
 use Rattle.po_reader.proofs.flags.others.Goals as goal

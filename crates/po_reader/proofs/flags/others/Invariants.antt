@@ -2,7 +2,7 @@ use Rattle.std.proofs.Common.{◌≡◌, [], take}
 use Rattle.std.specs.Prelude.{fold}
 use Rattle.po_entry.specs.TextEntry.{texts}
 use Rattle.po_entry.specs.Comments.{with_flag}
-use Rattle.po_entry.specs.SeenTexts.{HoldsTexts}
+use Rattle.po_entry.specs.Internal.SeenTexts.{HoldsTexts}
 use Rattle.po_reader.proofs.flags.others.Given as goal
 
 -- the flags among the elements so far are kept, and the tree has them

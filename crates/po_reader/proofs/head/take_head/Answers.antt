@@ -2,8 +2,8 @@ use Rattle.std.proofs.Common.{refl, ◌++◌, ◌∷◌, [], ◌∙◌, append_a
 use Rattle.std.proofs.lemmas.Result.{err_from_is_err_and}
 use Rattle.std.proofs.lemmas.List.{append-nil}
 use Rattle.po_entry.specs.Parts.{CommentText, PreviousText}
-use Rattle.po_reader.specs.Steps.Head.IsHead.{over, head_comment, previous}
-use Rattle.po_reader.specs.Steps.Stops.HeadStops.{refused, in_previous, after_comment, after_previous}
+use Rattle.po_reader.specs.Internal.Head.IsHead.{over, head_comment, previous}
+use Rattle.po_reader.specs.Internal.Stops.HeadStops.{refused, in_previous, after_comment, after_previous}
 use Rattle.po_reader.specs.KeptComments.{kept_comments}
 use Rattle.po_reader.proofs.Heads.{holds_nothing, holds_previous}
 use Rattle.po_reader.proofs.Kept.{kept_nothing}

@@ -2,9 +2,9 @@ use Rattle.std.proofs.Common.{ℕ, List, ◌++◌, ◌≤◌, length}
 use Rattle.po_syntax.specs.declared.fault.PoFault.{PoFault}
 use Rattle.po_syntax.specs.TextItem.{TextItem}
 use Rattle.po_entry.specs.Parts.{CommentText, PreviousText}
-use Rattle.po_reader.specs.Steps.Head.{IsHead}
-use Rattle.po_reader.specs.Steps.Stops.{HeadStops}
-use Rattle.po_reader.specs.Steps.HeadView.{HoldsHead}
+use Rattle.po_reader.specs.Internal.Head.{IsHead}
+use Rattle.po_reader.specs.Internal.Stops.{HeadStops}
+use Rattle.po_reader.specs.Internal.HeadView.{HoldsHead}
 use Rattle.po_reader.specs.KeptComments.{kept_comments}
 use Rattle.po_reader.proofs.head.take_head.Given as goal
 

@@ -1,6 +1,6 @@
 use Rattle.std.proofs.lemmas.Result.{err_from_is_err_and}
-use Rattle.po_reader.specs.Steps.Keywords.{keyword_text}
-use Rattle.po_reader.specs.Steps.Stops.KeywordTextStops.{refused, in_text}
+use Rattle.po_reader.specs.Internal.Keywords.{keyword_text}
+use Rattle.po_reader.specs.Internal.Stops.KeywordTextStops.{refused, in_text}
 use Rattle.po_reader.proofs.keywords.take_keyword_text.Goals as goal
 
 pub returns-clause-found : goal.returns-clause-found

@@ -1,6 +1,6 @@
 use Rattle.std.proofs.Common.{sym, ◌∙◌, append_assoc, arith}
-use Rattle.po_reader.specs.Steps.Strings.IsStrings.{last, more}
-use Rattle.po_reader.specs.Steps.Stops.StringsStop.{refused, later}
+use Rattle.po_reader.specs.Internal.Strings.IsStrings.{last, more}
+use Rattle.po_reader.specs.Internal.Stops.StringsStop.{refused, later}
 use Rattle.po_reader.proofs.strings.take_strings.Goals as goal
 
 pub loop-bytes-preserved : goal.loop-bytes-preserved

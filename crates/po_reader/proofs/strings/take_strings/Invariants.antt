@@ -1,8 +1,8 @@
 use Rattle.std.proofs.Common.{ℕ, List, ◌++◌, ◌≤◌, length}
 use Rattle.po_syntax.specs.declared.fault.PoFault.{PoFault}
 use Rattle.po_syntax.specs.TextItem.{TextItem}
-use Rattle.po_reader.specs.Steps.Strings.{IsStrings}
-use Rattle.po_reader.specs.Steps.Stops.{StringsStop}
+use Rattle.po_reader.specs.Internal.Strings.{IsStrings}
+use Rattle.po_reader.specs.Internal.Stops.{StringsStop}
 use Rattle.po_reader.proofs.strings.take_strings.Given as goal
 
 abbrev pub invariant-loop-bytes : goal.invariant-loop-bytes

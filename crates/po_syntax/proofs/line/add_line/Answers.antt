@@ -3,7 +3,7 @@ use Rattle.std.proofs.lemmas.List.{map_push}
 use Rattle.std.proofs.lemmas.Result.{on_ok_weaker, IfErr-weaker}
 use Rattle.po_syntax.specs.Line.{CommentLine, Tokens, shape_of, trim_returns, comment, tokens, no_shape, in_tokens}
 use Rattle.po_syntax.specs.TextItem.{Comment}
-use Rattle.po_syntax.specs.LineView.{shape_view}
+use Rattle.po_syntax.specs.Internal.LineView.{shape_view}
 use Rattle.po_syntax.proofs.line.add_line.Goals as goal
 
 pub returns-in-None-clause-fault : goal.returns-in-None-clause-fault

@@ -6,7 +6,7 @@ use Rattle.po_syntax.specs.QuotedString.{IsQuoted}
 use Rattle.po_syntax.specs.Line.{none, word, string, halt, in_string, after_word, after_string}
 use Rattle.po_syntax.specs.TextItem.{Word, Str}
 use Rattle.po_syntax.specs.Token.{LineEnd, OpeningQuote, KeywordToken, token_at}
-use Rattle.po_syntax.specs.LineView.{token_view}
+use Rattle.po_syntax.specs.Internal.LineView.{token_view}
 use Rattle.po_syntax.proofs.QuotedStrings.{quoted-shorter}
 use Rattle.po_syntax.proofs.Tokens.{keyword-shorter, quote-shorter}
 use Rattle.po_syntax.proofs.line.add_tokens.Goals as goal

@@ -1,5 +1,5 @@
 use Rattle.std.proofs.Common.{ap, sym, subst, ◌∙◌, Some}
-use Rattle.po_unformat.specs.Refused.{RefusesEntry}
+use Rattle.po_unformat.specs.Internal.Refused.{RefusesEntry}
 use Rattle.po_unformat.specs.Unformatted.{entry_of_message}
 use Rattle.po_unformat.proofs.MessageLemmas.{entry_of, refused_entry}
 use Rattle.po_unformat.proofs.entries.entry_at.Goals as goal

@@ -1,7 +1,7 @@
 use Rattle.std.proofs.Common.{◌≡◌, ap, ◌∙◌, length, rules, [], sym}
 use Rattle.std.specs.Prelude.{nat_lt}
 use Rattle.po_writer.specs.WrittenText.{written_text}
-use Rattle.runs.specs.EmptyOutput.{create_is}
+use Rattle.runs.specs.Internal.EmptyOutput.{create_is}
 use Rattle.text_runs.proofs.run_of_text.text_run.Goals as goal
 
 pub returns : goal.returns

@@ -2,7 +2,7 @@ use Rattle.std.proofs.Common.{◌≡◌, subst, ◌∙◌, inl, inr, map, filter
 use Rattle.std.specs.Prelude.{MatchOption}
 use Rattle.po_messages.specs.Joined.{is_live}
 use Rattle.text_runs.specs.Repeats.{IsFirstRepeat, NumbersDiffer, are_numbered, numbered}
-use Rattle.msgattrib.specs.SelectedText.{stays_live}
+use Rattle.msgattrib.specs.Internal.SelectedText.{stays_live}
 use Rattle.text_runs.proofs.RepeatLemmas.{numbers_differ}
 use Rattle.text_runs.proofs.NumberLemmas.{number_in, numbers_are, repeats_read}
 use Rattle.msgattrib.proofs.SelectedLemmas.{repeats_selected, selected_differ}

@@ -1,6 +1,6 @@
 use Rattle.std.proofs.Common.{◌≡◌, take, get_or, ◌+◌, ◌-◌, ap, ◌∙◌, arith}
 use Rattle.std.proofs.lemmas.List.{take_more}
-use Rattle.plural_rule.specs.Pending.{weight, weight_of}
+use Rattle.plural_rule.specs.Internal.Pending.{weight, weight_of}
 use Rattle.plural_rule.proofs.ParserSteps.{weight-more}
 use Rattle.plural_rule.proofs.pending.Stack.pop.Goals as goal
 

@@ -1,6 +1,6 @@
 use Rattle.std.proofs.Common.{length, take, ◌+◌, slice_set, ap, arith}
 use Rattle.std.proofs.lemmas.List.{take_more_set, length-map, length-take-le}
-use Rattle.plural_rule.specs.Pending.{pending_of, weight, weight_of}
+use Rattle.plural_rule.specs.Internal.Pending.{pending_of, weight, weight_of}
 use Rattle.plural_rule.proofs.ParserSteps.{weight-more, weight-within}
 use Rattle.plural_rule.proofs.pending.Stack.push.Goals as goal
 

@@ -8,7 +8,7 @@ use Rattle.po_syntax.specs.declared.item.Keyword.TheVariants.{MsgCtxt, MsgId, Ms
 use Rattle.po_syntax.specs.declared.item.Marks.{Marks}
 use Rattle.po_syntax.specs.TextItem.{TextItem, Comment, Word, Str}
 use Rattle.po_entry.specs.Parts.{CommentText, PreviousText, rank}
-use Rattle.po_reader.specs.Steps.Strings.{IsStrings}
+use Rattle.po_reader.specs.Internal.Strings.{IsStrings}
 
 -- an entry's own lines may begin with this keyword
 abbrev pub begins_body : Keyword → Bool

@@ -5,8 +5,8 @@ use Rattle.po_syntax.specs.TextItem.{TextItem}
 use Rattle.po_entry.specs.TextEntry.{TextEntry}
 use Rattle.po_entry.specs.Parts.{CommentText, PreviousText, Body}
 use Rattle.po_entry.specs.Spelling.{entry_from, AreComments}
-use Rattle.po_reader.specs.Steps.Body.{IsBody}
-use Rattle.po_reader.specs.Steps.Head.{IsHead}
+use Rattle.po_reader.specs.Internal.Body.{IsBody}
+use Rattle.po_reader.specs.Internal.Head.{IsHead}
 
 -- going through these items from the left, the reader finds these entries
 pub data Reads : List TextItem → List TextEntry → Type 0 where

@@ -15,8 +15,8 @@ use Rattle.plural_rule.specs.Instruction.{count_instruction, not_instruction, bi
 use Rattle.plural_rule.specs.Instruction.{jump_instruction}
 use Rattle.plural_rule.specs.PluralRule.{IsReadable}
 use Rattle.plural_rule.specs.Program.{program, size, is_lazy, branch_program}
-use Rattle.plural_rule.specs.ShiftReduce.{Waiting, WaitNot, WaitOpen, WaitBinary, WaitQuestion, WaitColon, State, Want}
-use Rattle.plural_rule.specs.ShiftReduce.{Have}
+use Rattle.plural_rule.specs.Internal.ShiftReduce.{Waiting, WaitNot, WaitOpen, WaitBinary, WaitQuestion, WaitColon, State, Want}
+use Rattle.plural_rule.specs.Internal.ShiftReduce.{Have}
 
 -- the instructions of what waits, before its last operand: what is skipped over that isn't known yet
 abbrev pub waiting_program : List Waiting → List Instruction

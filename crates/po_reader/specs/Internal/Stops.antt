@@ -8,15 +8,15 @@ use Rattle.po_syntax.specs.declared.item.Keyword.{Keyword}
 use Rattle.po_syntax.specs.declared.item.Keyword.TheVariants.{MsgIdPlural}
 use Rattle.po_syntax.specs.declared.item.Marks.{Marks}
 use Rattle.po_syntax.specs.TextItem.{TextItem, line_of}
-use Rattle.po_reader.specs.Steps.Strings.{IsStrings, string_step, begins_string}
+use Rattle.po_reader.specs.Internal.Strings.{IsStrings, string_step, begins_string}
 use Rattle.po_entry.specs.Spelling.{own_marks}
-use Rattle.po_reader.specs.Steps.Strings as string
-use Rattle.po_reader.specs.Steps.Keywords.{Wanted, Id, Translation, Form, IsKeywordText, next_keyword}
-use Rattle.po_reader.specs.Steps.Keywords as word
+use Rattle.po_reader.specs.Internal.Strings as string
+use Rattle.po_reader.specs.Internal.Keywords.{Wanted, Id, Translation, Form, IsKeywordText, next_keyword}
+use Rattle.po_reader.specs.Internal.Keywords as word
 use Rattle.po_entry.specs.Parts.{Body, CommentText, PreviousText, rank}
-use Rattle.po_reader.specs.Steps.Body.{IsBody, begins_form, body_start, WithContext, WithoutContext}
-use Rattle.po_reader.specs.Steps.Head.{IsHead, head_step}
-use Rattle.po_reader.specs.Steps.Head as head
+use Rattle.po_reader.specs.Internal.Body.{IsBody, begins_form, body_start, WithContext, WithoutContext}
+use Rattle.po_reader.specs.Internal.Head.{IsHead, head_step}
+use Rattle.po_reader.specs.Internal.Head as head
 
 -- the line of the first item, or of the text's last one where the items end
 abbrev pub line_at : ℕ → List TextItem → ℕ

@@ -2,7 +2,7 @@
 -- "Invoking the msgfmt Program": several input files).
 use Rattle.std.specs.Prelude.{◌≡◌, ◌⊎◌, ◌≤◌, ℕ, Bool, not, ◌&&◌, ◌==◌, List, ◌∷◌, ◌++◌, map, filter, length, count_by}
 use Rattle.std.specs.Prelude.{All}
-use Rattle.std.specs.List.{AllZip, flat_map}
+use Rattle.std.specs.List.{flat_map}
 use Rattle.po_entry.specs.TextEntry.{TextEntry}
 use Rattle.po_messages.specs.Joined.{InputEntry, in_input, joined, joined_entries}
 use Rattle.po_messages.specs.Duplicate.{HasNoDuplicate, IsDuplicateFault, IsFirstDuplicate, duplicate_fault}
@@ -13,9 +13,11 @@ use Rattle.po_syntax.specs.declared.fault.PoFault.TheVariants.{Duplicate}
 use Rattle.po_messages.specs.declared.duplicate.JoinError.{JoinError}
 use Rattle.po_compile.specs.Compiling.{HasLargeLayout, layout_fault}
 use Rattle.po_compile.specs.declared.options.Options.{Options}
-use Rattle.po_compile.specs.Collected.{HoldsEntries, IsSortedOf, LiveMessage, compiled_of, lengths_of, live_message}
-use Rattle.po_compile.specs.Collected.{message_bytes, row_view}
-use Rattle.po_compile.specs.Repeats.{ArePlaced}
+use Rattle.po_compile.specs.Collected.{lengths_of}
+use Rattle.po_compile.specs.Internal.LiveRows.{IsSortedOf, LiveMessage, compiled_of, live_message}
+use Rattle.po_compile.specs.Collected.{message_bytes}
+use Rattle.po_compile.specs.Internal.LiveRows.{row_view}
+use Rattle.po_compile.specs.Internal.Repeats.{ArePlaced}
 use Rattle.po_compile.specs.declared.collecting.Collected.{Collected}
 use Rattle.po_compile.specs.declared.collecting.Lengths.{Lengths}
 use Rattle.po_compile.specs.declared.row.Row.{Row}
@@ -52,12 +54,6 @@ pub record AddsRows (input : ℕ) (headed : Bool) (collected : Collected) (old n
 pub record AreJoinedRows (use_fuzzy : Bool) (entries : List InputEntry) (rows : List Row) : Type 0 where
   pub messages : map input_view rows ≡ map (input_message use_fuzzy) (live_entries entries)
   pub placed : ArePlaced rows
-
--- this holds of all catalogues whose live entries may have been collected so
-abbrev pub OfAllInputs : List Collected → (Bool → List (List TextEntry) → Type 0) → Type 0
-OfAllInputs inputs Holds =
-    (use_fuzzy : Bool) (catalogues : List (List TextEntry)) → AllZip (HoldsEntries use_fuzzy) catalogues inputs
-    → Holds use_fuzzy catalogues
 
 -- how many of the messages count as translated, fuzzy and untranslated
 abbrev pub counts_of : List Row → Stats

@@ -5,8 +5,8 @@ use Rattle.po_syntax.specs.declared.item.Keyword.TheVariants.{MsgCtxt, MsgId, Ms
 use Rattle.po_syntax.specs.TextItem.{TextItem, Comment, Word, Str}
 use Rattle.po_entry.specs.Parts.{Body}
 use Rattle.po_entry.specs.Spelling.{own_marks}
-use Rattle.po_reader.specs.Steps.Strings.{IsStrings}
-use Rattle.po_reader.specs.Steps.Keywords.{Id, Translation, Form, IsKeywordText}
+use Rattle.po_reader.specs.Internal.Strings.{IsStrings}
+use Rattle.po_reader.specs.Internal.Keywords.{Id, Translation, Form, IsKeywordText}
 
 -- a `msgstr[i]` stands first, and not on a line of previous texts
 abbrev pub begins_form : List TextItem → Bool

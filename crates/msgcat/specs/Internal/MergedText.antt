@@ -8,7 +8,7 @@ use Rattle.po_merge.specs.Inputs.{NamedEntry}
 use Rattle.po_writer.specs.TextParts.{AreParts}
 use Rattle.po_writer.specs.WrittenText.{written_text}
 use Rattle.po_writer.specs.declared.parts.TextParts.{TextParts}
-use Rattle.msgcat.specs.Entries.{AreRows}
+use Rattle.msgcat.specs.Internal.Entries.{AreRows}
 use Rattle.msgcat.specs.declared.entries.EntryRow.{EntryRow}
 
 -- these entries are written, and each can stand in a catalogue

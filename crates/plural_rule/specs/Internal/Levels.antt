@@ -9,7 +9,7 @@ use Rattle.plural_rule.specs.declared.token.Token.{Token}
 use Rattle.plural_rule.specs.declared.token.Token.TheVariants.{Count as n, Number as number, Not as bang, Binary as operator}
 use Rattle.plural_rule.specs.declared.token.Token.TheVariants.{Question, Colon}
 use Rattle.plural_rule.specs.Expression.{Tree, Count, Number, Not, Binary, Conditional}
-use Rattle.plural_rule.specs.ShiftReduce.{outcome}
+use Rattle.plural_rule.specs.Internal.ShiftReduce.{outcome}
 
 -- 1 op 2 op' 3
 abbrev tokens : Operator → Operator → List Token

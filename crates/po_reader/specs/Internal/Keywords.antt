@@ -8,7 +8,7 @@ use Rattle.po_syntax.specs.declared.item.Keyword.TheVariants.{MsgCtxt, MsgId, Ms
 use Rattle.po_syntax.specs.declared.item.Marks.{Marks}
 use Rattle.po_syntax.specs.TextItem.{TextItem, Comment, Word, Str}
 use Rattle.po_entry.specs.Spelling.{own_marks}
-use Rattle.po_reader.specs.Steps.Strings.{IsStrings}
+use Rattle.po_reader.specs.Internal.Strings.{IsStrings}
 
 -- What is wanted next of an entry: `msgid`, after a context; `msgstr` or `msgid_plural`, after a
 -- msgid; or the plural form of this index.

@@ -10,9 +10,9 @@ use Rattle.po_reader.specs.declared.head.Step.TheVariants as step
 use Rattle.po_syntax.specs.TextItem.{TextItem}
 use Rattle.po_entry.specs.Parts as parts
 use Rattle.po_entry.specs.TextEntry.{texts, optional_text}
-use Rattle.po_reader.specs.Steps.Keywords as spec
-use Rattle.po_reader.specs.Steps.Body as body
-use Rattle.po_reader.specs.Steps.Head as head
+use Rattle.po_reader.specs.Internal.Keywords as spec
+use Rattle.po_reader.specs.Internal.Body as body
+use Rattle.po_reader.specs.Internal.Head as head
 
 abbrev pub wanted_view : Wanted → spec.Wanted
 wanted_view code.Id = spec.Id

@@ -8,7 +8,7 @@ use Rattle.po_messages.specs.Duplicate.{HasNoDuplicate}
 use Rattle.po_messages.specs.Joined.{is_live}
 use Rattle.po_merge.specs.Grouping.{message_numbers}
 use Rattle.po_merge.specs.Inputs.{Named, NamedEntry, all_entries, named}
-use Rattle.msgcat.specs.Entries.{AreRows, HoldEntries}
+use Rattle.msgcat.specs.Internal.Entries.{AreRows, HoldEntries}
 use Rattle.text_runs.specs.Repeats.{Repeats, are_placed}
 use Rattle.msgcat.specs.declared.entries.Entries.{Entries}
 use Rattle.msgcat.specs.declared.inputs.FileFault.{FileFault}
