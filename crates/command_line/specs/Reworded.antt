@@ -26,12 +26,12 @@ reworded_line tool (Some tip) line =
 reworded_line tool None line = if is_file_tip tool line then [] else line
 
 -- an empty line, with its end
-abbrev pub is_blank : List ℕ → Bool
-is_blank line = bytes_eq line (10 ∷ [])
+abbrev pub is_empty_line : List ℕ → Bool
+is_empty_line line = bytes_eq line (10 ∷ [])
 
 -- what becomes of a line after another: nothing, if both are blank
 abbrev pub spaced_line : List ℕ × List ℕ → List ℕ
-spaced_line (before, line) = if is_blank before && is_blank line then [] else line
+spaced_line (before, line) = if is_empty_line before && is_empty_line line then [] else line
 
 -- the text, with one of the blank lines that follow each other
 abbrev pub single_spaced : List ℕ → List ℕ

@@ -61,15 +61,15 @@ abbrev pub gettext_output : List CatalogView → GettextRequest → List ℕ
 gettext_output chain o = answers chain o ++ (if ends_line o then 10 ∷ [] else [])
 
 -- this output, and these lines about catalogues that were refused, which don't count as a failure
-abbrev pub answered : List ℕ → List ℕ → RunView
-answered output reported = record { output = output; create = false; messages = reported; status = 0 }
+abbrev pub output_run : List ℕ → List ℕ → RunView
+output_run output reported = record { output = output; create = false; messages = reported; status = 0 }
 
 -- what a run of gettext comes to
 pub record IsGettextRun (files : List NamedFile) (o : GettextRequest) (run : RunView) : Type 0 where
   pub chain : List CatalogView
   pub reported : List ℕ
   pub opens : Opens (codes "gettext") files chain reported
-  pub run_is : run ≡ answered (gettext_output chain o) reported
+  pub run_is : run ≡ output_run (gettext_output chain o) reported
 
 -- what ngettext is asked for, besides the catalogues
 pub record NgettextRequest : Type 0 where
@@ -93,7 +93,7 @@ pub record IsNgettextRun (files : List NamedFile) (o : NgettextRequest) (run : R
   pub chain : List CatalogView
   pub reported : List ℕ
   pub opens : Opens (codes "ngettext") files chain reported
-  pub run_is : run ≡ answered (ngettext_output chain o) reported
+  pub run_is : run ≡ output_run (ngettext_output chain o) reported
 
 -- Without a catalogue a text stands for itself. As the manual says, `-s` acts as `echo` does, `-n`
 -- omits the newline, `\c` does so too where `-e` is given, and MSGID is for one.
@@ -132,7 +132,7 @@ unfolding count_in
 many_files = refl
 
 -- a catalogue that is refused doesn't count as a failure
-pub status_is : (output reported : List ℕ) → (answered output reported).status ≡ 0
+pub status_is : (output reported : List ℕ) → (output_run output reported).status ≡ 0
 status_is output reported = refl
 
 -- a catalogue is asked in the context that `-c` gives, with `-e` for the texts as they are expanded

@@ -12,7 +12,7 @@ use Rattle.po_select.specs.declared.selection.Selection.{Selection}
 use Rattle.po_select.specs.Selected.{changed, is_kept, obsolete_after, selected}
 use Rattle.po_messages.specs.Message.{Message, entry_message}
 use Rattle.msgattrib.specs.Msgattrib.{IsMsgattribRun, error_line}
-use Rattle.text_runs.specs.Repeats.{IsFirstRepeat, NumbersDiffer, numbered}
+use Rattle.text_runs.specs.Repeats.{IsEarliestRepeat, NumbersDiffer, numbered}
 use Rattle.msgattrib.specs.Internal.SelectedText.{IsSelectionFault, RepeatsSelected, stays_live}
 use Rattle.text_runs.proofs.RepeatLemmas.{AreAmong, all_among, duplicate_of, numbers_differ}
 use Rattle.text_runs.proofs.NumberLemmas.{number_in, own_of}
@@ -45,9 +45,9 @@ among_selected s entries =
 
 -- one that stands twice among those that are selected
 pub repeats_selected : (s : Selection) (entries : List TextEntry) (lines : ℕ × ℕ) (error : PoError) → HasNoDuplicate entries
-    → IsFirstRepeat (map (numbered (number_in entries)) (filter (stays_live s) entries)) lines → error ≡ record { kind = Duplicate lines.0; line = 0 } → RepeatsSelected s entries error
+    → IsEarliestRepeat (map (numbered (number_in entries)) (filter (stays_live s) entries)) lines → error ≡ record { kind = Duplicate lines.0; line = 0 } → RepeatsSelected s entries error
 repeats_selected s entries lines error distinct repeat error_is =
-    let live = subst (λ l. IsFirstRepeat l lines) (live_selected s (number_in entries) entries) repeat in
+    let live = subst (λ l. IsEarliestRepeat l lines) (live_selected s (number_in entries) entries) repeat in
     let found = duplicate_of (map entry_message entries) (number_in entries) 0 (selected s entries) (filter is_live (selected s entries)) lines (own_of entries) refl (among_selected s entries) live in
     record {
       distinct = distinct;

@@ -7,7 +7,7 @@ ghost use Rattle.po_entry.specs.TextEntry.{TextEntry};
 ghost use Rattle.po_reader.specs.Internal.Keeping.{IsTextError};
 ghost use Rattle.po_select.specs.declared.selection.Selection.{Selection};
 ghost use Rattle.po_syntax.specs.declared.fault.PoFault.{PoFault};
-ghost use Rattle.msgattrib.specs.Internal.SelectedText.{AreDistinct, AreSelected, HoldRows, IsRowsFault, IsSelectedText, IsSelectedWhole, IsSelectionFault, stays_live};
+ghost use Rattle.msgattrib.specs.Internal.SelectedText.{HaveNoDuplicate, AreSelected, HoldRows, IsRowsFault, IsSelectedText, IsSelectedWhole, IsSelectionFault, stays_live};
 
 use po_entry::{Catalogue, Entry};
 use po_messages::is_live;
@@ -78,7 +78,7 @@ impl Rows {
     fn check(&self, alloc: Global) -> Result<(), PoError>
         requires { (selection : Selection) × (entries : List TextEntry) × HoldRows selection entries self.now }
         ensures { (selection : Selection) (entries : List TextEntry) → HoldRows selection entries self.now
-            → MatchResult result (λ _. AreDistinct selection entries)
+            → MatchResult result (λ _. HaveNoDuplicate selection entries)
             (λ error. (error.kind ≡ PoFault.OutOfMemory) ⊎ IsRowsFault selection entries error) }
     {
         let numbers = self.keys.numbers(alloc)?;

@@ -21,7 +21,7 @@ use Rattle.po_messages.specs.Facts.Zips.{zip_at, zip_length, zip_more, zip_split
 use Rattle.msgcat.specs.Internal.Entries.{HoldEntries, unnamed}
 use Rattle.msgcat.specs.Internal.Inputs.{AddsEntries, AreReadUpTo, IsFaultOfFirst, IsFirstRepeating, IsReadInput, IsTextOf}
 use Rattle.msgcat.specs.Msgcat.{AreReadAs, IsFileFault}
-use Rattle.text_runs.specs.Repeats.{IsFirstRepeat, NumbersDiffer, are_numbered, are_placed, numbered, place_of}
+use Rattle.text_runs.specs.Repeats.{IsEarliestRepeat, NumbersDiffer, are_numbered, are_placed, numbered, place_of}
 use Rattle.msgcat.specs.declared.entries.Entries.{Entries}
 use Rattle.msgcat.specs.declared.inputs.FileFault.{FileFault}
 use Rattle.msgcat.specs.declared.inputs.ReadInput.{ReadInput}
@@ -112,7 +112,7 @@ module _ (read : List Named) (partial : List NamedEntry) (inputs : List ReadInpu
       All-left Known own others (All-right Known front (own ++ others) (subst (All Known) whole (all_among all)))
 
   -- one with a duplicate
-  pub repeating : (lines : ℕ × ℕ) (fault : FileFault) → IsFirstRepeat (map (numbered (number_in all)) (filter is_live own)) lines → fault.name.now ≡ input.name.now
+  pub repeating : (lines : ℕ × ℕ) (fault : FileFault) → IsEarliestRepeat (map (numbered (number_in all)) (filter is_live own)) lines → fault.name.now ≡ input.name.now
       → fault.error ≡ record { kind = Duplicate lines.0; line = lines.1 } → IsFirstRepeating read fault
   repeating lines fault found name_is error_is = record {
     before = take i read;

@@ -19,7 +19,7 @@ use Rattle.msgfmt.specs.declared.profile.End.TheVariants.{Beginning, Ending}
 use Rattle.msgfmt.specs.declared.profile.CheckFault.{CheckFault}
 use Rattle.msgfmt.specs.declared.profile.CheckFault.TheVariants.{NoRule, FormCount, LeadingNewline, TrailingNewline, Undefined, IndexOutside}
 use Rattle.msgfmt.specs.Profile.{Reported, first_some, is_plural, is_header_entry, rule_fault, end_byte, has_newline, differ, differs_from_msgid, entry_fault, value_fault, count_fault, counts_below, first_fault}
-use Rattle.msgfmt.specs.ProfileFaults.{HasNewline, Differ, DiffersAt, HasOtherCount, EntryFault, count, leading, trailing, HasFault, HasNoFault, CountFault, undefined, outside, HasNoCountFault, HasPlural, IsFirst, NeedsNoOtherRule, FirstFault, no_rule, in_entry, at_count}
+use Rattle.msgfmt.specs.ProfileFaults.{HasNewline, Differ, DiffersAt, HasOtherCount, EntryFault, count, leading, trailing, HasProfileFault, HasNoFault, CountFault, undefined, outside, HasNoCountFault, HasPlural, IsFirst, NeedsNoOtherRule, FirstFault, no_rule, in_entry, at_count}
 
 -- newlines at the ends of texts
 
@@ -102,11 +102,11 @@ if_some x false s t e = inr (refl, e)
 some_same : {X : Type 0} (x y : X) → Some x ≡ Some y → x ≡ y
 some_same x y e = cc
 
-fault_of : (nplurals : ℕ) (e : InputEntry) (reported : Reported) (fault : CheckFault) → is_header_entry e ≡ false → Some (e.input, fault) ≡ Some reported → EntryFault nplurals e.entry fault → HasFault nplurals e reported
+fault_of : (nplurals : ℕ) (e : InputEntry) (reported : Reported) (fault : CheckFault) → is_header_entry e ≡ false → Some (e.input, fault) ≡ Some reported → EntryFault nplurals e.entry fault → HasProfileFault nplurals e reported
 fault_of nplurals e reported fault other is h =
-    subst (HasFault nplurals e) (some_same (e.input, fault) reported is) (record { no_header = other; fault = h; input = refl })
+    subst (HasProfileFault nplurals e) (some_same (e.input, fault) reported is) (record { no_header = other; fault = h; input = refl })
 
-entry_says : (nplurals : ℕ) (e : InputEntry) (reported : Reported) → entry_fault nplurals e ≡ Some reported → HasFault nplurals e reported
+entry_says : (nplurals : ℕ) (e : InputEntry) (reported : Reported) → entry_fault nplurals e ≡ Some reported → HasProfileFault nplurals e reported
 entry_says nplurals e reported is =
     let line = e.entry.line in
     elim (if_some reported (is_header_entry e) _ _ is) [
@@ -136,7 +136,7 @@ fault_given nplurals e other (count h) = rw (other, count_passes nplurals e h) r
 fault_given nplurals e other (leading right h) = rw (other, no_other_count nplurals e right, differs_passes Beginning e.entry h) refl
 fault_given nplurals e other (trailing right same h) = rw (other, no_other_count nplurals e right, no_difference Beginning e.entry same, differs_passes Ending e.entry h) refl
 
-entry_passes : (nplurals : ℕ) (e : InputEntry) (reported : Reported) → HasFault nplurals e reported → entry_fault nplurals e ≡ Some reported
+entry_passes : (nplurals : ℕ) (e : InputEntry) (reported : Reported) → HasProfileFault nplurals e reported → entry_fault nplurals e ≡ Some reported
 entry_passes nplurals e reported h = fault_given nplurals e h.no_header h.fault ∙ ap (λ i. Some (i, reported.1)) (sym h.input)
 
 no_fault : (nplurals : ℕ) (e : InputEntry) → entry_fault nplurals e ≡ None → HasNoFault nplurals e

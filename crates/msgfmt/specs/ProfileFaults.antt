@@ -43,13 +43,13 @@ pub data EntryFault (nplurals : ℕ) (entry : TextEntry) : CheckFault → Type 0
       → EntryFault nplurals entry (TrailingNewline entry.line)
 
 -- an entry other than the header has this fault, which is reported of its input
-pub record HasFault (nplurals : ℕ) (e : InputEntry) (reported : Reported) : Type 0 where
+pub record HasProfileFault (nplurals : ℕ) (e : InputEntry) (reported : Reported) : Type 0 where
   pub no_header : is_header e.entry ≡ false
   pub fault : EntryFault nplurals e.entry reported.1
   pub input : reported.0 ≡ e.input
 
 abbrev pub HasNoFault : ℕ → InputEntry → Type 0
-HasNoFault nplurals e = (reported : Reported) → HasFault nplurals e reported → ⊥
+HasNoFault nplurals e = (reported : Reported) → HasProfileFault nplurals e reported → ⊥
 
 -- the fault of a rule's value at a count: it has none, or it is no index of a form
 pub data CountFault (rule : RuleView) (n : ℕ) : CheckFault → Type 0 where
@@ -81,8 +81,8 @@ pub data FirstFault (entries : List InputEntry) (rule : RuleView) : Reported →
   no_rule : {e : InputEntry} {reason : Reason} → IsFirst HasPlural entries e → rule.source ≡ Default reason
       → FirstFault entries rule (e.input, NoRule e.entry.line reason)
   in_entry : {e : InputEntry} {reported : Reported} → NeedsNoOtherRule entries rule
-      → IsFirst (λ o. (other : Reported) × HasFault rule.nplurals o other) entries e
-      → HasFault rule.nplurals e reported → FirstFault entries rule reported
+      → IsFirst (λ o. (other : Reported) × HasProfileFault rule.nplurals o other) entries e
+      → HasProfileFault rule.nplurals e reported → FirstFault entries rule reported
   at_count : {e : InputEntry} {fault : CheckFault} (least : ℕ) → IsFirst HasPlural entries e → rule.source ≡ Header
       → All (HasNoFault rule.nplurals) entries → least ≤ 1000
       → ((n : ℕ) → n < least → HasNoCountFault rule n) → CountFault rule least fault

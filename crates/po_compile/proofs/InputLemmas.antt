@@ -20,7 +20,7 @@ use Rattle.po_compile.specs.Accepted.{AreRead, IsCompileFault, IsReadingFault, f
 use Rattle.po_compile.specs.Collected.{HoldsEntries}
 use Rattle.po_compile.specs.Internal.LiveRows.{ReadsLive}
 use Rattle.po_compile.specs.CompiledInputs.{AreCollected}
-use Rattle.po_compile.specs.Internal.JoinedRows.{AreDistinct, AreSortedRows, HasOneHeader, IsLargeList, IsRepeatFault, IsRepeatInInput}
+use Rattle.po_compile.specs.Internal.JoinedRows.{HaveNoDuplicate, AreSortedRows, HasOneHeader, IsLargeList, IsRepeatFault, IsRepeatInInput}
 use Rattle.po_compile.specs.OfInputs.{OfAllInputs}
 use Rattle.po_compile.specs.declared.collecting.Collected.{Collected}
 use Rattle.po_compile.specs.declared.options.Options.{Options}
@@ -160,7 +160,7 @@ pub text_fault : (text : List ℕ) (error : PoError) → IsFaultOf (IsReadFault 
 text_fault text error h = fault_of_kind text error error.kind refl h
 
 -- what inputs without duplicates are compiled to, and why others aren't
-pub read_distinct : (texts : List (List ℕ)) (catalogues : List (List TextEntry)) → AllZip ReadsText texts catalogues → AreDistinct catalogues → AreRead texts catalogues
+pub read_distinct : (texts : List (List ℕ)) (catalogues : List (List TextEntry)) → AllZip ReadsText texts catalogues → HaveNoDuplicate catalogues → AreRead texts catalogues
 read_distinct texts catalogues read distinct = record { each = all_distinct texts catalogues read distinct.each; distinct = distinct.joined }
 
 pub inputs_refused : (options : Options) (texts : List (List ℕ)) (catalogues : List (List TextEntry)) (error : JoinError) → AllZip ReadsText texts catalogues → IsRepeatFault catalogues error ⊎ IsLargeList options catalogues error

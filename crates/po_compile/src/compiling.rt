@@ -5,7 +5,7 @@ ghost use Rattle.std.specs.List.{AllZip};
 ghost use Rattle.po_entry.specs.TextEntry.{TextEntry, slice_texts};
 ghost use Rattle.po_messages.specs.Joined.{joined_entries};
 ghost use Rattle.po_compile.specs.Collected.{HoldsEntries};
-ghost use Rattle.po_compile.specs.Internal.JoinedRows.{AreDistinct, IsLargeList, IsRepeatFault};
+ghost use Rattle.po_compile.specs.Internal.JoinedRows.{HaveNoDuplicate, IsLargeList, IsRepeatFault};
 ghost use Rattle.po_compile.specs.Accepted.{AreCompiled, AreRead, IsCompileFault, fault_of_only_input};
 ghost use Rattle.po_compile.specs.CompiledInputs.{AreCollected};
 ghost use Rattle.po_compile.specs.Compiling.{IsCompilation, IsReportedFault};
@@ -80,7 +80,7 @@ fn compile_inputs(
         × AllZip (HoldsEntries options.use_fuzzy) catalogues inputs.now }
     ensures found { IfOk result (λ compiled. (catalogues : List (List TextEntry))
         → AllZip (HoldsEntries options.use_fuzzy) catalogues inputs.now
-        → AreDistinct catalogues × IsCompilation options (joined_entries catalogues) compiled) }
+        → HaveNoDuplicate catalogues × IsCompilation options (joined_entries catalogues) compiled) }
     ensures fault { IfErr result (λ e. (catalogues : List (List TextEntry))
         → AllZip (HoldsEntries options.use_fuzzy) catalogues inputs.now
         → IsRepeatFault catalogues e ⊎ IsLargeList options catalogues e) }

@@ -8,7 +8,7 @@ ghost use Rattle.po_entry.specs.TextEntry.{slice_texts};
 ghost use Rattle.po_compile.specs.Accepted.{IsReadingFault, fault_of_input};
 ghost use Rattle.po_compile.specs.Collected.{HoldsEntries, HoldsLive};
 ghost use Rattle.po_compile.specs.CompiledInputs.{AreCollected};
-ghost use Rattle.po_compile.specs.Internal.JoinedRows.{AreDistinct, AreSortedRows, HasOneHeader, IsRepeatFault, IsRepeatInInput};
+ghost use Rattle.po_compile.specs.Internal.JoinedRows.{HaveNoDuplicate, AreSortedRows, HasOneHeader, IsRepeatFault, IsRepeatInInput};
 ghost use Rattle.po_compile.specs.OfInputs.{OfAllInputs};
 ghost use Rattle.po_compile.specs.declared.collecting.Lengths.{Lengths as LengthsSeen};
 
@@ -123,7 +123,7 @@ fn have_one_header(inputs: &[Collected]) -> bool
 /// `joined_duplicates`; and where an allocation failed.
 pub(crate) fn distinct_rows(alloc: Global, inputs: &[Collected]) -> Result<Vec<Row<'_>>, JoinError>
     requires { length inputs.now < 2 ^ 32 }
-    ensures distinct { OnOk result (OfAllInputs inputs.now (λ _ catalogues. AreDistinct catalogues)) }
+    ensures distinct { OnOk result (OfAllInputs inputs.now (λ _ catalogues. HaveNoDuplicate catalogues)) }
     ensures rows { IfOk result (λ rows. OfAllInputs inputs.now (λ use_fuzzy catalogues.
         AreSortedRows use_fuzzy (joined_entries catalogues) rows.items)) }
     ensures fault { IfErr result (λ e. OfAllInputs inputs.now (λ _ catalogues. IsRepeatFault catalogues e)) }

@@ -12,7 +12,7 @@ use Rattle.po_syntax.specs.declared.fault.PoFault.TheVariants.{NotUtf8, Forbidde
 use Rattle.po_entry.specs.TextEntry.{TextEntry, quoted_texts}
 use Rattle.po_entry.specs.Bytes.{Lacks}
 use Rattle.po_entry.specs.Header.{HasAdmittedCharset, admitted_names, charset_of, first_form, is_header}
-use Rattle.po_entry.specs.Validity.{HasTexts, IsClean, TextsFault, not_utf8, forbidden}
+use Rattle.po_entry.specs.Validity.{HasTexts, IsClean, EntryTextFault, not_utf8, forbidden}
 
 -- the claim holds, or it doesn't
 abbrev pub Settled : Type 0 → Type 0
@@ -62,7 +62,7 @@ clean_settled entry = elim (all_settled (Lacks 0) (lacks_settled 0) (quoted_text
 ]
 
 -- the texts of an entry can stand in it, or have a fault
-pub texts_or_fault : (entry : TextEntry) → HasTexts entry ⊎ ((kind : PoFault) × TextsFault entry kind)
+pub texts_or_fault : (entry : TextEntry) → HasTexts entry ⊎ ((kind : PoFault) × EntryTextFault entry kind)
 texts_or_fault entry = elim (all_settled IsUtf8 utf8_settled (quoted_texts entry)) [
   | inl utf8 ↦ elim (clean_settled entry) [ inl clean ↦ inl (record { utf8 = utf8; clean = clean }) | inr never ↦ inr (ForbiddenByte, forbidden utf8 never) ]
   | inr never ↦ inr (NotUtf8, not_utf8 never)

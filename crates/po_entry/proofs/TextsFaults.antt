@@ -4,19 +4,19 @@ use Rattle.std.proofs.Common.{◌≡◌, ◌≢◌, refl}
 use Rattle.po_syntax.specs.declared.fault.PoFault.{PoFault}
 use Rattle.po_syntax.specs.declared.fault.PoFault.TheVariants.{OutOfMemory}
 use Rattle.po_entry.specs.TextEntry.{TextEntry}
-use Rattle.po_entry.specs.Validity.{HasTexts, TextsFault}
-use Rattle.po_entry.specs.Validity.TextsFault.{not_utf8, forbidden}
+use Rattle.po_entry.specs.Validity.{HasTexts, EntryTextFault}
+use Rattle.po_entry.specs.Validity.EntryTextFault.{not_utf8, forbidden}
 
-pub no_texts_fault : {entry : TextEntry} {kind : PoFault} → HasTexts entry → TextsFault entry kind → ⊥
+pub no_texts_fault : {entry : TextEntry} {kind : PoFault} → HasTexts entry → EntryTextFault entry kind → ⊥
 no_texts_fault texts (not_utf8 some) = some texts.utf8
 no_texts_fault texts (forbidden utf8 some) = some texts.clean
 
-pub one_texts_fault : {entry : TextEntry} {a b : PoFault} → TextsFault entry a → TextsFault entry b → a ≡ b
+pub one_texts_fault : {entry : TextEntry} {a b : PoFault} → EntryTextFault entry a → EntryTextFault entry b → a ≡ b
 one_texts_fault (not_utf8 some) (not_utf8 other) = refl
 one_texts_fault (not_utf8 some) (forbidden utf8 other) = absurd (some utf8)
 one_texts_fault (forbidden utf8 some) (not_utf8 other) = absurd (other utf8)
 one_texts_fault (forbidden utf8 some) (forbidden also other) = refl
 
-pub texts_fault_reported : {entry : TextEntry} {kind : PoFault} → TextsFault entry kind → kind ≢ OutOfMemory
+pub texts_fault_reported : {entry : TextEntry} {kind : PoFault} → EntryTextFault entry kind → kind ≢ OutOfMemory
 texts_fault_reported (not_utf8 some) = λ same. cc
 texts_fault_reported (forbidden utf8 some) = λ same. cc

@@ -8,7 +8,7 @@ use Rattle.po_syntax.specs.TextItem.{TextItem}
 use Rattle.po_syntax.specs.PoText.{SpellsText, TextFault}
 use Rattle.po_entry.specs.TextEntry.{TextEntry}
 use Rattle.po_entry.specs.Header.{HasAdmittedCharset}
-use Rattle.po_entry.specs.Validity.{HasTexts, TextsFault}
+use Rattle.po_entry.specs.Validity.{HasTexts, EntryTextFault}
 use Rattle.po_entry.specs.Spelling.{SpellsEntries}
 use Rattle.po_entry.specs.Viable.{ItemsFault}
 
@@ -18,7 +18,7 @@ IsStop Stops error = error.kind ≢ OutOfMemory → Stops error.kind error.line
 
 -- the first entry that can't have its texts has this fault and this line
 pub data TextsStop : List TextEntry → PoFault → ℕ → Type 0 where
-  here : {entry : TextEntry} {entries : List TextEntry} {fault : PoFault} {line : ℕ} → TextsFault entry fault
+  here : {entry : TextEntry} {entries : List TextEntry} {fault : PoFault} {line : ℕ} → EntryTextFault entry fault
       → line ≡ entry.line → TextsStop (entry ∷ entries) fault line
   later : {entry : TextEntry} {entries : List TextEntry} {fault : PoFault} {line : ℕ} → HasTexts entry
       → TextsStop entries fault line → TextsStop (entry ∷ entries) fault line

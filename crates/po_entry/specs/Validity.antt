@@ -57,9 +57,9 @@ pub record IsClean (entry : TextEntry) : Type 0 where
 
 -- why an entry can't have these texts: one is not UTF-8; or all are, and one holds a byte that it
 -- may not hold
-pub data TextsFault (entry : TextEntry) : PoFault → Type 0 where
-  not_utf8 : (All IsUtf8 (quoted_texts entry) → ⊥) → TextsFault entry NotUtf8
-  forbidden : All IsUtf8 (quoted_texts entry) → (IsClean entry → ⊥) → TextsFault entry ForbiddenByte
+pub data EntryTextFault (entry : TextEntry) : PoFault → Type 0 where
+  not_utf8 : (All IsUtf8 (quoted_texts entry) → ⊥) → EntryTextFault entry NotUtf8
+  forbidden : All IsUtf8 (quoted_texts entry) → (IsClean entry → ⊥) → EntryTextFault entry ForbiddenByte
 
 -- The texts of the quoted strings can stand in an entry: each is UTF-8 after its strings are
 -- joined, escapes too, and free of the bytes that the MO file needs.
@@ -81,4 +81,4 @@ IsRefusedEntry entry error =
 -- why no entry is made of texts that are given: one can't stand in it, or an allocation failed;
 -- there is no line
 abbrev pub RefusesMessage : TextEntry → PoError → Type 0
-RefusesMessage entry error = (error.line ≡ 0) × ((error.kind ≡ OutOfMemory) ⊎ TextsFault entry error.kind)
+RefusesMessage entry error = (error.line ≡ 0) × ((error.kind ≡ OutOfMemory) ⊎ EntryTextFault entry error.kind)

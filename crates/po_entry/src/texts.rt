@@ -4,7 +4,7 @@ ghost use Rattle.std.specs.Prelude.{◌≡◌, MatchResult, All, IfSome, IsUtf8,
 ghost use Rattle.po_entry.specs.EntryView.{entry_view};
 ghost use Rattle.po_entry.specs.TextEntry.{quoted_texts, previous_texts, texts, optional_text};
 ghost use Rattle.po_entry.specs.Bytes.{Lacks};
-ghost use Rattle.po_entry.specs.Validity.{TextsFault, HasTexts, IsClean};
+ghost use Rattle.po_entry.specs.Validity.{EntryTextFault, HasTexts, IsClean};
 
 use crate::fields::Fields;
 use crate::previous::Previous;
@@ -20,7 +20,7 @@ const EOT: u8 = 4;
 /// is not UTF-8, then with `ForbiddenByte` for a NUL in one, or for an EOT (byte 4) in its context
 /// or msgid; a previous text may hold an EOT.
 pub fn check_texts(fields: &Fields) -> Result<(), PoFault>
-    ensures { MatchResult result (λ _. HasTexts (entry_view fields.now)) (TextsFault (entry_view fields.now)) }
+    ensures { MatchResult result (λ _. HasTexts (entry_view fields.now)) (EntryTextFault (entry_view fields.now)) }
 {
     if !are_utf8(fields) {
         return Err(PoFault::NotUtf8);

@@ -4,7 +4,7 @@ use Rattle.std.specs.List.{list_any, position_or_len}
 use Rattle.std.proofs.lemmas.List.{map-append, length-map, take_all, take_more, get_or-map}
 use Rattle.po_messages.specs.FirstOnes.{first_ones}
 use Rattle.po_messages.specs.Message.{Message, entry_message, same_message}
-use Rattle.po_messages.specs.MessageView.{message_of, messages}
+use Rattle.po_messages.specs.MessageView.{message_of_key, messages_of_keys}
 use Rattle.po_messages.specs.declared.message_index.MessageKey.{MessageKey}
 use Rattle.po_messages.proofs.MessageIndex.{same_message_laws}
 use Rattle.po_messages.proofs.FirstOnes.{found_within, unfound}
@@ -49,8 +49,8 @@ pub all_taken : (ds : List BorrowedEntry) (i : ℕ) → length ds ≤ i → take
 all_taken ds i past = take_all i (named_entries ds) (omega (arith, past, length-map ds named_entry))
 
 -- the keys of the entries, with that of one more
-pub key_more : (ds : List BorrowedEntry) (i : ℕ) (d : BorrowedEntry) (keys new : List MessageKey) (key : MessageKey) → i < length ds → d ≡ get_or ds i d → messages keys ≡ named_messages (take i (named_entries ds))
-    → new ≡ keys ++ key ∷ [] → message_of key ≡ entry_message d.entry.now → messages new ≡ named_messages (take (i + 1) (named_entries ds))
+pub key_more : (ds : List BorrowedEntry) (i : ℕ) (d : BorrowedEntry) (keys new : List MessageKey) (key : MessageKey) → i < length ds → d ≡ get_or ds i d → messages_of_keys keys ≡ named_messages (take i (named_entries ds))
+    → new ≡ keys ++ key ∷ [] → message_of_key key ≡ entry_message d.entry.now → messages_of_keys new ≡ named_messages (take (i + 1) (named_entries ds))
 key_more ds i d keys new key inside here are pushed is =
-    ap messages pushed ∙ map-append message_of keys (key ∷ []) ∙ ap₂ (λ (l : List Message) (m : Message). l ++ m ∷ []) are is
+    ap messages_of_keys pushed ∙ map-append message_of_key keys (key ∷ []) ∙ ap₂ (λ (l : List Message) (m : Message). l ++ m ∷ []) are is
     ∙ sym (ap named_messages (entries_taken ds i d inside here) ∙ map-append message (take i (named_entries ds)) (named_entry d ∷ []))

@@ -3,7 +3,7 @@
 ghost use Rattle.std.specs.Prelude.{◌≡◌, ◌++◌, ◌∷◌, [], All, IfOk, IsUtf8, List, OnOk, length, map};
 ghost use Rattle.po_messages.specs.FirstOnes.{first_ones, group_numbers};
 ghost use Rattle.po_messages.specs.Message.{Message, same_message};
-ghost use Rattle.po_messages.specs.MessageView.{messages};
+ghost use Rattle.po_messages.specs.MessageView.{messages_of_keys};
 ghost use Rattle.po_entry.specs.Bytes.{Lacks};
 ghost use Rattle.po_merge.specs.Grouping.{IsDefinition, group_entries, named_messages};
 ghost use Rattle.po_merge.specs.Groups.{by_number, groups};
@@ -51,7 +51,7 @@ fn all_entries<'a>(
 
 /// The keys of the entries' messages.
 fn keys_of<'a>(alloc: Global, entries: &[NamedEntry<'a>]) -> Result<Vec<MessageKey<'a>>, AllocError>
-    ensures { IfOk result (λ keys. messages keys.items ≡ named_messages (named_entries entries.now)) }
+    ensures { IfOk result (λ keys. messages_of_keys keys.items ≡ named_messages (named_entries entries.now)) }
 {
     let mut keys = Vec::with_capacity(alloc, entries.len())?;
     for definition in entries {

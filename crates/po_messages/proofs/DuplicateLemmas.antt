@@ -9,7 +9,7 @@ use Rattle.po_messages.specs.Joined.{InputEntry, is_live, in_input, entries_of}
 use Rattle.po_messages.specs.Message.{Message, IsFirstRepeat, entry_message, entry_messages}
 use Rattle.po_messages.specs.Duplicate.{IsSameMessage, AllDiffer, HasNoDuplicate, live_entries, IsFirstDuplicate, IsDuplicateFault, join_out_of_memory}
 use Rattle.po_messages.specs.JoinedView.{input_entry, input_entries}
-use Rattle.po_messages.specs.MessageView.{message_of, messages}
+use Rattle.po_messages.specs.MessageView.{message_of_key, messages_of_keys}
 use Rattle.po_messages.specs.declared.duplicate.JoinError.{JoinError}
 use Rattle.po_messages.specs.declared.joining.InputEntry.{InputEntry as BorrowedEntry}
 use Rattle.po_messages.specs.declared.message_index.MessageKey.{MessageKey}
@@ -40,12 +40,12 @@ module _ (entries : List BorrowedEntry) (i : ℕ) (x : BorrowedEntry) (inside : 
       → input_entries new ≡ live_entries (take (i + 1) (input_entries entries))
   live_more live new is are pushed = ap input_entries pushed ∙ map-append input_entry live (x ∷ []) ∙ ap (λ l. l ++ input_entry x ∷ []) are ∙ sym (one_more true is)
 
-  pub messages_pushed : (keys new : List MessageKey) (key : MessageKey) → messages keys ≡ entry_messages (entries_of (input_entries (take i entries))) → new ≡ keys ++ key ∷ [] → message_of key ≡ entry_message x.entry.now
-      → messages new ≡ entry_messages (entries_of (input_entries (take (i + 1) entries)))
+  pub messages_pushed : (keys new : List MessageKey) (key : MessageKey) → messages_of_keys keys ≡ entry_messages (entries_of (input_entries (take i entries))) → new ≡ keys ++ key ∷ [] → message_of_key key ≡ entry_message x.entry.now
+      → messages_of_keys new ≡ entry_messages (entries_of (input_entries (take (i + 1) entries)))
   messages_pushed keys new key are pushed is =
       let f : BorrowedEntry → Message = λ e. entry_message e.entry.now in
       let flat : (es : List BorrowedEntry) → entry_messages (entries_of (input_entries es)) ≡ map f es = flat_of in
-      ap messages pushed ∙ map-append message_of keys (key ∷ []) ∙ ap₂ (λ l m. l ++ m ∷ []) (are ∙ flat (take i entries)) is
+      ap messages_of_keys pushed ∙ map-append message_of_key keys (key ∷ []) ∙ ap₂ (λ l m. l ++ m ∷ []) (are ∙ flat (take i entries)) is
       ∙ sym (flat (take (i + 1) entries) ∙ ap (map f) (take_more entries i x inside) ∙ map-append f (take i entries) (get_or entries i x ∷ []) ∙ ap (λ e. map f (take i entries) ++ f e ∷ []) (sym here)) where
         flat_of : (es : List BorrowedEntry) → entry_messages (entries_of (input_entries es)) ≡ map (λ e. entry_message e.entry.now) es
         flat_of [] = refl

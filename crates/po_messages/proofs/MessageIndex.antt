@@ -16,7 +16,7 @@ use Rattle.indexmap.specs.IndexSet.{insert_key}
 use Rattle.po_messages.specs.declared.message_index.MessageKey.{MessageKey}
 use Rattle.po_messages.specs.FirstOnes.{with_new, first_ones, group_numbers}
 use Rattle.po_messages.specs.Message.{Message, IsFirstRepeat, same_message}
-use Rattle.po_messages.specs.MessageView.{message_of, messages}
+use Rattle.po_messages.specs.MessageView.{message_of_key, messages_of_keys}
 use Rattle.po_messages.proofs.FirstOnes.{firsts_push, found_within, numbers_push, one_number}
 
 -- whether two keys are equal
@@ -33,43 +33,43 @@ same_contexts (Some x) None = refl
 same_contexts (Some x) (Some y) = refl
 
 -- keys are equal where their messages are the same
-pub keys_tie : (a b : MessageKey) → same_message (message_of a) (message_of b) ≡ same_key a b
+pub keys_tie : (a b : MessageKey) → same_message (message_of_key a) (message_of_key b) ≡ same_key a b
 keys_tie a b = ap (λ (t : Bool). t && bytes_eq a.id.now b.id.now) (same_contexts a.context b.context)
 
-pub any_key : (key : MessageKey) (keys : List MessageKey) → list_any (same_message (message_of key)) (messages keys) ≡ list_any (same_key key) keys
+pub any_key : (key : MessageKey) (keys : List MessageKey) → list_any (same_message (message_of_key key)) (messages_of_keys keys) ≡ list_any (same_key key) keys
 any_key key [] = refl
 any_key key (k ∷ keys) = rw (keys_tie key k, any_key key keys) refl
 
-pub place_of_key : (key : MessageKey) (keys : List MessageKey) → position_or_len (same_message (message_of key)) (messages keys) ≡ position_or_len (same_key key) keys
+pub place_of_key : (key : MessageKey) (keys : List MessageKey) → position_or_len (same_message (message_of_key key)) (messages_of_keys keys) ≡ position_or_len (same_key key) keys
 place_of_key key [] = refl
 place_of_key key (k ∷ keys) = ap₂ (λ (b : Bool) (n : ℕ). cond (not b) (1 + n) 0) (keys_tie key k) (place_of_key key keys)
 
-inserted : (key : MessageKey) (keys : List MessageKey) → messages (insert_key same_key keys key) ≡ with_new same_message (messages keys) (message_of key)
+inserted : (key : MessageKey) (keys : List MessageKey) → messages_of_keys (insert_key same_key keys key) ≡ with_new same_message (messages_of_keys keys) (message_of_key key)
 inserted key keys = by (list_any (same_key key) keys) refl where
-  by : (b : Bool) → list_any (same_key key) keys ≡ b → messages (cond b keys (keys ++ key ∷ [])) ≡ cond (list_any (same_message (message_of key)) (messages keys)) (messages keys) (messages keys ++ message_of key ∷ [])
+  by : (b : Bool) → list_any (same_key key) keys ≡ b → messages_of_keys (cond b keys (keys ++ key ∷ [])) ≡ cond (list_any (same_message (message_of_key key)) (messages_of_keys keys)) (messages_of_keys keys) (messages_of_keys keys ++ message_of_key key ∷ [])
   by true e = rw (any_key key keys, e) refl
-  by false e = map-append message_of keys (key ∷ []) ∙ sym (ap (λ (t : Bool). cond t (messages keys) (messages keys ++ message_of key ∷ [])) (any_key key keys ∙ e))
+  by false e = map-append message_of_key keys (key ∷ []) ∙ sym (ap (λ (t : Bool). cond t (messages_of_keys keys) (messages_of_keys keys ++ message_of_key key ∷ [])) (any_key key keys ∙ e))
 
 -- the index and the numbers of these keys
 pub record AreNumbered (keys index : List MessageKey) (numbers : List ℕ) : Type 0 where
-  pub firsts : messages index ≡ first_ones same_message (messages keys)
-  pub numbers_are : numbers ≡ group_numbers same_message (messages keys)
+  pub firsts : messages_of_keys index ≡ first_ones same_message (messages_of_keys keys)
+  pub numbers_are : numbers ≡ group_numbers same_message (messages_of_keys keys)
 
-pub messages_more : (keys : List MessageKey) (i : ℕ) (key d : MessageKey) → i < length keys → key ≡ get_or keys i d → messages (take (i + 1) keys) ≡ messages (take i keys) ++ message_of key ∷ []
-messages_more keys i key d inside here = ap messages (take_more keys i d inside) ∙ map-append message_of (take i keys) (get_or keys i d ∷ []) ∙ ap (λ (k : MessageKey). messages (take i keys) ++ message_of k ∷ []) (sym here)
+pub messages_more : (keys : List MessageKey) (i : ℕ) (key d : MessageKey) → i < length keys → key ≡ get_or keys i d → messages_of_keys (take (i + 1) keys) ≡ messages_of_keys (take i keys) ++ message_of_key key ∷ []
+messages_more keys i key d inside here = ap messages_of_keys (take_more keys i d inside) ∙ map-append message_of_key (take i keys) (get_or keys i d ∷ []) ∙ ap (λ (k : MessageKey). messages_of_keys (take i keys) ++ message_of_key k ∷ []) (sym here)
 
-module _ (keys index new : List MessageKey) (i : ℕ) (key d : MessageKey) (inside : i < length keys) (here : key ≡ get_or keys i d) (so_far : messages index ≡ first_ones same_message (messages (take i keys)))
+module _ (keys index new : List MessageKey) (i : ℕ) (key d : MessageKey) (inside : i < length keys) (here : key ≡ get_or keys i d) (so_far : messages_of_keys index ≡ first_ones same_message (messages_of_keys (take i keys)))
     (is_new : new ≡ insert_key same_key index key) where
-  pub firsts_more : messages new ≡ first_ones same_message (messages (take (i + 1) keys))
+  pub firsts_more : messages_of_keys new ≡ first_ones same_message (messages_of_keys (take (i + 1) keys))
   firsts_more =
-      ap messages is_new ∙ inserted key index ∙ ap (λ (l : List Message). with_new same_message l (message_of key)) so_far
-      ∙ sym (ap (first_ones same_message) (messages_more keys i key d inside here) ∙ firsts_push same_message same_message_laws (messages (take i keys)) (message_of key))
+      ap messages_of_keys is_new ∙ inserted key index ∙ ap (λ (l : List Message). with_new same_message l (message_of_key key)) so_far
+      ∙ sym (ap (first_ones same_message) (messages_more keys i key d inside here) ∙ firsts_push same_message same_message_laws (messages_of_keys (take i keys)) (message_of_key key))
 
-  pub numbers_more : (numbers : List ℕ) (number : ℕ) → numbers ≡ group_numbers same_message (messages (take i keys)) → number ≡ position_or_len (same_key key) index
-      → numbers ++ number ∷ [] ≡ group_numbers same_message (messages (take (i + 1) keys))
+  pub numbers_more : (numbers : List ℕ) (number : ℕ) → numbers ≡ group_numbers same_message (messages_of_keys (take i keys)) → number ≡ position_or_len (same_key key) index
+      → numbers ++ number ∷ [] ≡ group_numbers same_message (messages_of_keys (take (i + 1) keys))
   numbers_more numbers number are is =
-      ap₂ (λ (ns : List ℕ) (n : ℕ). ns ++ n ∷ []) are (is ∙ sym (place_of_key key index) ∙ ap (λ (l : List Message). position_or_len (same_message (message_of key)) l) so_far)
-      ∙ sym (ap (group_numbers same_message) (messages_more keys i key d inside here) ∙ numbers_push same_message same_message_laws (messages (take i keys)) (message_of key))
+      ap₂ (λ (ns : List ℕ) (n : ℕ). ns ++ n ∷ []) are (is ∙ sym (place_of_key key index) ∙ ap (λ (l : List Message). position_or_len (same_message (message_of_key key)) l) so_far)
+      ∙ sym (ap (group_numbers same_message) (messages_more keys i key d inside here) ∙ numbers_push same_message same_message_laws (messages_of_keys (take i keys)) (message_of_key key))
 
 pub contexts_are : (a b : Option (List ℕ)) → option_eq bytes_eq a b ≡ true → a ≡ b
 contexts_are None None h = refl
@@ -121,40 +121,40 @@ module _ (ms : List Message) (i : ℕ) (m e : Message) (inside : i < length ms) 
 
 -- the index has these keys, no two of which are equal
 pub record AreDifferent (keys index : List MessageKey) : Type 0 where
-  pub all : messages index ≡ messages keys
-  pub apart : Apart (messages keys)
+  pub all : messages_of_keys index ≡ messages_of_keys keys
+  pub apart : Apart (messages_of_keys keys)
 
 module _ (keys index new : List MessageKey) (i : ℕ) (key d : MessageKey) (inside : i < length keys) (here : key ≡ get_or keys i d) (so_far : AreDifferent (take i keys) index) (is_new : Bool)
     (added : is_new ≡ not (list_any (same_key key) index)) where
-  long : i < length (messages keys)
-  long = omega (arith, inside, length-map keys message_of)
+  long : i < length (messages_of_keys keys)
+  long = omega (arith, inside, length-map keys message_of_key)
 
-  at : message_of key ≡ get_or (messages keys) i (message_of key)
-  at = ap message_of here ∙ sym (get_or-map message_of keys i d (message_of key) inside)
+  at : message_of_key key ≡ get_or (messages_of_keys keys) i (message_of_key key)
+  at = ap message_of_key here ∙ sym (get_or-map message_of_key keys i d (message_of_key key) inside)
 
-  seen : list_any (same_message (message_of key)) (take i (messages keys)) ≡ not is_new
+  seen : list_any (same_message (message_of_key key)) (take i (messages_of_keys keys)) ≡ not is_new
   seen =
-      ap (list_any (same_message (message_of key))) (take-map message_of i keys ∙ sym so_far.all) ∙ any_key key index ∙ sym (ap not added ∙ twice (list_any (same_key key) index)) where
+      ap (list_any (same_message (message_of_key key))) (take-map message_of_key i keys ∙ sym so_far.all) ∙ any_key key index ∙ sym (ap not added ∙ twice (list_any (same_key key) index)) where
         twice : (b : Bool) → not (not b) ≡ b
         twice true = refl
         twice false = refl
 
-  apart_before : Apart (take i (messages keys))
-  apart_before = subst Apart (sym (take-map message_of i keys)) so_far.apart
+  apart_before : Apart (take i (messages_of_keys keys))
+  apart_before = subst Apart (sym (take-map message_of_key i keys)) so_far.apart
 
   pub different_more : is_new ≡ true → new ≡ insert_key same_key index key → AreDifferent (take (i + 1) keys) new
   different_more is_true inserts =
-      let none : list_any (same_key key) index ≡ false = sym (any_key key index) ∙ ap (list_any (same_message (message_of key))) (so_far.all ∙ sym (take-map message_of i keys)) ∙ seen ∙ ap not is_true in
+      let none : list_any (same_key key) index ≡ false = sym (any_key key index) ∙ ap (list_any (same_message (message_of_key key))) (so_far.all ∙ sym (take-map message_of_key i keys)) ∙ seen ∙ ap not is_true in
       record {
-        all = ap messages (inserts ∙ ap (λ (b : Bool). cond b index (index ++ key ∷ [])) none) ∙ map-append message_of index (key ∷ []) ∙ ap (λ (l : List Message). l ++ message_of key ∷ []) so_far.all
+        all = ap messages_of_keys (inserts ∙ ap (λ (b : Bool). cond b index (index ++ key ∷ [])) none) ∙ map-append message_of_key index (key ∷ []) ∙ ap (λ (l : List Message). l ++ message_of_key key ∷ []) so_far.all
             ∙ sym (messages_more keys i key d inside here);
-        apart = subst Apart (take-map message_of (i + 1) keys) (still_apart (messages keys) i (message_of key) (message_of key) long at apart_before (seen ∙ ap not is_true));
+        apart = subst Apart (take-map message_of_key (i + 1) keys) (still_apart (messages_of_keys keys) i (message_of_key key) (message_of_key key) long at apart_before (seen ∙ ap not is_true));
       }
 
-  pub key_repeats : is_new ≡ false → (first : ℕ) → first ≡ position_or_len (same_key key) index → IsFirstRepeat (messages keys) first i
+  pub key_repeats : is_new ≡ false → (first : ℕ) → first ≡ position_or_len (same_key key) index → IsFirstRepeat (messages_of_keys keys) first i
   key_repeats is_false first is =
-      repeats (messages keys) i (message_of key) (message_of key) long at apart_before (seen ∙ ap not is_false) first
-      (is ∙ sym (place_of_key key index) ∙ ap (λ (l : List Message). position_or_len (same_message (message_of key)) l) (so_far.all ∙ sym (take-map message_of i keys)))
+      repeats (messages_of_keys keys) i (message_of_key key) (message_of_key key) long at apart_before (seen ∙ ap not is_false) first
+      (is ∙ sym (place_of_key key index) ∙ ap (λ (l : List Message). position_or_len (same_message (message_of_key key)) l) (so_far.all ∙ sym (take-map message_of_key i keys)))
 
 -- messages have one number exactly where they are the same
 pub numbers_tell : (ms : List Message) (i j : ℕ) (d : Message) → i < length ms → j < length ms

@@ -7,7 +7,7 @@ use Rattle.std.proofs.lemmas.List.Elements.{All-append, All-cons, All-head, All-
 use Rattle.std.proofs.lemmas.List.Folds.{list_any-append}
 use Rattle.po_entry.specs.TextEntry.{TextEntry}
 use Rattle.po_messages.specs.Joined.{InputEntry, in_input, is_live_header, kept_entries, joined_from}
-use Rattle.po_messages.specs.Omitted.{entries_from, all_entries, has_header_before, is_omitted, OmitsLaterHeaders}
+use Rattle.po_messages.specs.Omitted.{entries_from, entries_of_inputs, has_header_before, is_omitted, OmitsLaterHeaders}
 
 abbrev keeps : List InputEntry → InputEntry → Bool
 keeps entries e = not (is_omitted entries e)
@@ -111,4 +111,4 @@ joined_rest all before input (entries ∷ inputs) is h =
     ∙ sym (filter-append (keeps all) here rest)
 
 pub later_headers_omitted : (inputs : List (List TextEntry)) → OmitsLaterHeaders inputs
-later_headers_omitted inputs = joined_rest (all_entries inputs) [] 0 inputs refl (All-nil (λ (e : InputEntry). e.input < 0))
+later_headers_omitted inputs = joined_rest (entries_of_inputs inputs) [] 0 inputs refl (All-nil (λ (e : InputEntry). e.input < 0))

@@ -4,8 +4,8 @@ use Rattle.std.specs.Option.{option_copied}
 use Rattle.po_messages.specs.declared.message_index.MessageKey.{MessageKey}
 use Rattle.po_messages.specs.Message.{Message}
 
-abbrev pub message_of : MessageKey → Message
-message_of key = record { context = option_copied key.context; id = key.id.now }
+abbrev pub message_of_key : MessageKey → Message
+message_of_key key = record { context = option_copied key.context; id = key.id.now }
 
-abbrev pub messages : List MessageKey → List Message
-messages keys = map message_of keys
+abbrev pub messages_of_keys : List MessageKey → List Message
+messages_of_keys keys = map message_of_key keys

@@ -11,8 +11,8 @@ entries_from input [] = []
 entries_from input (entries ∷ inputs) = map (in_input input) entries ++ entries_from (input + 1) inputs
 
 -- all entries of the inputs, in order
-abbrev pub all_entries : List (List TextEntry) → List InputEntry
-all_entries inputs = entries_from 0 inputs
+abbrev pub entries_of_inputs : List (List TextEntry) → List InputEntry
+entries_of_inputs inputs = entries_from 0 inputs
 
 -- an input before this one has a live header
 abbrev pub has_header_before : List InputEntry → ℕ → Bool
@@ -24,4 +24,4 @@ is_omitted entries e = is_live_header e.entry && has_header_before entries e.inp
 
 -- The joined list is all entries but those that are live headers where an earlier input has one.
 abbrev pub OmitsLaterHeaders : List (List TextEntry) → Type 0
-OmitsLaterHeaders inputs = joined inputs ≡ filter (λ e. not (is_omitted (all_entries inputs) e)) (all_entries inputs)
+OmitsLaterHeaders inputs = joined inputs ≡ filter (λ e. not (is_omitted (entries_of_inputs inputs) e)) (entries_of_inputs inputs)

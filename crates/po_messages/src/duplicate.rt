@@ -5,7 +5,7 @@ ghost use Rattle.po_messages.specs.JoinedView.{input_entry, input_entries};
 ghost use Rattle.po_messages.specs.Joined.{joined, joined_entries, entries_of};
 ghost use Rattle.po_messages.specs.Duplicate.{HasNoDuplicate, IsDuplicateFault, IsDuplicateFaultOf, duplicate_fault, join_out_of_memory, live_entries};
 ghost use Rattle.po_messages.specs.Message.{entry_messages};
-ghost use Rattle.po_messages.specs.MessageView.{messages};
+ghost use Rattle.po_messages.specs.MessageView.{messages_of_keys};
 ghost use Rattle.po_entry.specs.Validity.{out_of_memory};
 
 use crate::joining::{InputEntry, add_entries, is_live, joined};
@@ -111,7 +111,7 @@ fn live_entries<'a>(
 
 /// The keys of the entries' messages.
 fn keys_of<'a>(alloc: Global, entries: &[InputEntry<'a>]) -> Result<Vec<MessageKey<'a>>, AllocError>
-    ensures { IfOk result (λ keys. messages keys.items ≡ entry_messages (entries_of (input_entries entries.now))) }
+    ensures { IfOk result (λ keys. messages_of_keys keys.items ≡ entry_messages (entries_of (input_entries entries.now))) }
 {
     let mut keys = Vec::with_capacity(alloc, entries.len())?;
     for entry in entries {

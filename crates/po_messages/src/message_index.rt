@@ -3,7 +3,7 @@
 ghost use Rattle.std.specs.Prelude.{◌≡◌, ◌≢◌, [], AllPairs, IfNone, IfOk, IfSome};
 ghost use Rattle.po_messages.specs.FirstOnes.{group_numbers};
 ghost use Rattle.po_messages.specs.Message.{IsFirstRepeat, entry_message, same_message};
-ghost use Rattle.po_messages.specs.MessageView.{message_of, messages};
+ghost use Rattle.po_messages.specs.MessageView.{message_of_key, messages_of_keys};
 
 use indexmap::IndexSet;
 use po_entry::Entry;
@@ -38,7 +38,7 @@ impl Hash for MessageKey<'_> {
 
 /// The key of an entry's message.
 pub fn message_key(entry: &Entry) -> MessageKey<'_>
-    ensures { message_of result ≡ entry_message entry.now }
+    ensures { message_of_key result ≡ entry_message entry.now }
 {
     MessageKey {
         context: entry.context(),
@@ -87,7 +87,7 @@ fn empty_index<'a>(
 /// For each key the number of its message. The messages are numbered from 0, in the order in which
 /// they first appear. Refused only where an allocation failed.
 pub fn grouped(alloc: Global, keys: &[MessageKey<'_>]) -> Result<Vec<usize>, AllocError>
-    ensures { IfOk result (λ numbers. numbers.items ≡ group_numbers same_message (messages keys.now)) }
+    ensures { IfOk result (λ numbers. numbers.items ≡ group_numbers same_message (messages_of_keys keys.now)) }
 {
     let mut index = empty_index(alloc, keys)?;
     let mut numbers = Vec::with_capacity(alloc, keys.len())?;
@@ -110,9 +110,9 @@ pub struct Repeat {
 /// The earliest key that repeats an earlier one, if there is one. Refused only where an allocation
 /// failed.
 pub fn first_repeat(alloc: Global, keys: &[MessageKey<'_>]) -> Result<Option<Repeat>, AllocError>
-    ensures none { IfOk result (λ found. IfNone found (AllPairs (λ a b. a ≢ b) (messages keys.now))) }
+    ensures none { IfOk result (λ found. IfNone found (AllPairs (λ a b. a ≢ b) (messages_of_keys keys.now))) }
     ensures repeat { IfOk result (λ found. IfSome found
-        (λ r. IsFirstRepeat (messages keys.now) r.first r.later)) }
+        (λ r. IsFirstRepeat (messages_of_keys keys.now) r.first r.later)) }
 {
     let mut index = empty_index(alloc, keys)?;
     for (later, key) in keys.iter().enumerate() {

@@ -26,7 +26,7 @@ abbrev AreForms : Bool → ℕ → List TextItem → Type 0
 AreForms obsolete index items = (forms : List (List ℕ)) × body.IsForms obsolete index items forms []
 
 abbrev AreTranslated : Bool → List TextItem → Type 0
-AreTranslated obsolete items = (plural : Option (List ℕ)) × (forms : List (List ℕ)) × body.IsTranslation obsolete items plural forms []
+AreTranslated obsolete items = (plural : Option (List ℕ)) × (forms : List (List ℕ)) × body.IsTranslationText obsolete items plural forms []
 
 abbrev pub AreBody : List TextItem → Type 0
 AreBody items = (own : Body) × body.IsBody items own []
@@ -56,7 +56,7 @@ empty_keyword_text wanted keyword obsolete rest e look = word.keyword_text (step
   step true q = rw q refl
   step false q = rw q refl
 
-translation_empty : (obsolete : Bool) → body.IsTranslation obsolete (empty_translation obsolete) None ([] ∷ []) []
+translation_empty : (obsolete : Bool) → body.IsTranslationText obsolete (empty_translation obsolete) None ([] ∷ []) []
 translation_empty obsolete = body.single (empty_keyword_text word.Translation MsgStr obsolete [] refl refl)
 
 forms_empty : (obsolete : Bool) → body.IsForms obsolete 0 (empty_form obsolete) ([] ∷ []) []

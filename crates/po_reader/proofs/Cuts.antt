@@ -149,8 +149,8 @@ forms_cut (body.last w f) =
     record { own = cut.own; split = cut.split; look = (cut.look, f); again = λ other q. body.last (cut.again other q.0) q.1 }
 forms_cut (body.more w f s) = joined (keyword_text_cut w) (forms_cut s) (λ x y q. (forms_look q).0) (λ x y z p q. body.more p (forms_look q).1 q)
 
-pub translation_cut : {obsolete : Bool} {items rest : List TextItem} {plural : Option (List ℕ)} {a : List (List ℕ)} → body.IsTranslation obsolete items plural a rest
-    → Cut (λ x y. body.IsTranslation obsolete x plural a y) (λ y. (string.begins_string y ≡ false) × FormsEnd plural (body.begins_form y)) items rest
+pub translation_cut : {obsolete : Bool} {items rest : List TextItem} {plural : Option (List ℕ)} {a : List (List ℕ)} → body.IsTranslationText obsolete items plural a rest
+    → Cut (λ x y. body.IsTranslationText obsolete x plural a y) (λ y. (string.begins_string y ≡ false) × FormsEnd plural (body.begins_form y)) items rest
 translation_cut (body.single w) =
     let cut = keyword_text_cut w in
     record { own = cut.own; split = cut.split; look = (cut.look, tt); again = λ other q. body.single (cut.again other q.0) }

@@ -4,7 +4,7 @@ use Rattle.std.specs.Prelude.{All}
 use Rattle.po_syntax.specs.declared.fault.PoFault.{PoFault}
 use Rattle.po_entry.specs.TextEntry.{TextEntry}
 use Rattle.po_entry.specs.Header.{HasAdmittedCharset}
-use Rattle.po_entry.specs.Validity.{HasTexts, TextsFault}
+use Rattle.po_entry.specs.Validity.{HasTexts, EntryTextFault}
 use Rattle.po_entry.specs.Validity as validity
 use Rattle.po_reader.specs.KeptComments.{kept_entry, without_comments}
 use Rattle.po_entry.specs.Faults as faults
@@ -26,7 +26,7 @@ kept_admitted false entries h = admitted_without_comments entries h
 whole_texts : (entry : TextEntry) → HasTexts (without_comments entry) → HasTexts entry
 whole_texts entry h = record { utf8 = h.utf8; clean = record { no_nul = h.clean.no_nul; context = h.clean.context; id = h.clean.id } }
 
-whole_fault : (entry : TextEntry) (fault : PoFault) → TextsFault (without_comments entry) fault → TextsFault entry fault
+whole_fault : (entry : TextEntry) (fault : PoFault) → EntryTextFault (without_comments entry) fault → EntryTextFault entry fault
 whole_fault entry fault (validity.not_utf8 some) = validity.not_utf8 some
 whole_fault entry fault (validity.forbidden utf8 some) =
     validity.forbidden utf8 (λ clean. some (record { no_nul = clean.no_nul; context = clean.context; id = clean.id }))

@@ -88,7 +88,7 @@ pub forms_look : {obsolete : Bool} {index : ℕ} {items rest : List TextItem} {a
 forms_look (body.last w f) = (keyword_text_look w, form_look w)
 forms_look (body.more w f s) = (keyword_text_look w, form_look w)
 
-pub translation_look : {obsolete : Bool} {items rest : List TextItem} {plural : Option (List ℕ)} {a : List (List ℕ)} → body.IsTranslation obsolete items plural a rest → string.begins_string items ≡ false
+pub translation_look : {obsolete : Bool} {items rest : List TextItem} {plural : Option (List ℕ)} {a : List (List ℕ)} → body.IsTranslationText obsolete items plural a rest → string.begins_string items ≡ false
 translation_look (body.single w) = keyword_text_look w
 translation_look (body.plural w f) = keyword_text_look w
 

@@ -63,7 +63,7 @@ forms_or_stop {end} {line} {obsolete} {index} {fault} (body.more w f s) (stop.la
     let same = keyword_text_once w v in
     forms_or_stop s (subst (λ (i : List TextItem). stop.FormsStop end obsolete (index + 1) i fault line) (sym same.3) t)
 
-pub translation_once : {obsolete : Bool} {items rest others : List TextItem} {p q : Option (List ℕ)} {a b : List (List ℕ)} → body.IsTranslation obsolete items p a rest → body.IsTranslation obsolete items q b others
+pub translation_once : {obsolete : Bool} {items rest others : List TextItem} {p q : Option (List ℕ)} {a b : List (List ℕ)} → body.IsTranslationText obsolete items p a rest → body.IsTranslationText obsolete items q b others
     → (p ≡ q) × (a ≡ b) × (rest ≡ others)
 translation_once (body.single w) (body.single v) = let same = keyword_text_once w v in (refl, ap (λ (x : List ℕ). x ∷ []) same.2, same.3)
 translation_once (body.single w) (body.plural v f) = let same = keyword_text_once w v in let keyword = same.0 in cc
@@ -73,7 +73,7 @@ translation_once {obsolete} (body.plural w f) (body.plural {rest = others} {form
     let forms = forms_once f (subst (λ (i : List TextItem). body.IsForms obsolete 0 i again others) (sym same.3) g) in
     (ap (λ (x : List ℕ). Some x) same.2, forms.0, forms.1)
 
-pub translation_or_stop : {end line : ℕ} {obsolete : Bool} {fault : PoFault} {items rest : List TextItem} {p : Option (List ℕ)} {a : List (List ℕ)} → body.IsTranslation obsolete items p a rest → stop.TranslationStops end obsolete items fault line → ⊥
+pub translation_or_stop : {end line : ℕ} {obsolete : Bool} {fault : PoFault} {items rest : List TextItem} {p : Option (List ℕ)} {a : List (List ℕ)} → body.IsTranslationText obsolete items p a rest → stop.TranslationStops end obsolete items fault line → ⊥
 translation_or_stop (body.single w) (stop.here s) = keyword_text_or_stop w s
 translation_or_stop (body.plural w f) (stop.here s) = keyword_text_or_stop w s
 translation_or_stop (body.single w) (stop.in_forms v s) = let same = keyword_text_once w v in let keyword = same.0 in cc
@@ -87,7 +87,7 @@ body_once (body.without_context {obsolete = o} {line = m} {text = text} {after =
     let mark : o ≡ p = cc in
     let line : m ≡ n = cc in
     let strings = strings_once s (subst (λ (q : Bool). string.IsStrings (own_marks q) text name following) (sym mark) (subst (λ (i : List TextItem). string.IsStrings (own_marks p) i name following) (sym same) u)) in
-    let later = translation_once t (subst (λ (q : Bool). body.IsTranslation q after plural forms others) (sym mark) (subst (λ (i : List TextItem). body.IsTranslation p i plural forms others) (sym strings.1) v)) in
+    let later = translation_once t (subst (λ (q : Bool). body.IsTranslationText q after plural forms others) (sym mark) (subst (λ (i : List TextItem). body.IsTranslationText p i plural forms others) (sym strings.1) v)) in
     let ids = strings.0 in
     let plurals = later.0 in
     let forms_same = later.1 in
@@ -99,7 +99,7 @@ body_once (body.with_context {obsolete = o} {text = text} {middle = inner} {afte
     let mark : o ≡ p = cc in
     let strings = strings_once s (subst (λ (q : Bool). string.IsStrings (own_marks q) text first middle) (sym mark) (subst (λ (i : List TextItem). string.IsStrings (own_marks p) i first middle) (sym same) u)) in
     let content = keyword_text_once w (subst (λ (q : Bool). word.IsKeywordText word.Id q inner keyword n name following) (sym mark) (subst (λ (i : List TextItem). word.IsKeywordText word.Id p i keyword n name following) (sym strings.1) x)) in
-    let later = translation_once t (subst (λ (q : Bool). body.IsTranslation q after plural forms others) (sym mark) (subst (λ (i : List TextItem). body.IsTranslation p i plural forms others) (sym content.3) v)) in
+    let later = translation_once t (subst (λ (q : Bool). body.IsTranslationText q after plural forms others) (sym mark) (subst (λ (i : List TextItem). body.IsTranslationText p i plural forms others) (sym content.3) v)) in
     let contexts = strings.0 in
     let lines = content.1 in
     let ids = content.2 in

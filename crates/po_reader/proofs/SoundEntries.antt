@@ -69,7 +69,7 @@ record SoundTranslation (plural : Option (List ℕ)) (forms : List (List ℕ)) (
   one_form : plural ≡ None → length forms ≡ 1
   after : All HoldsText rest
 
-translation_sound : {obsolete : Bool} {items rest : List TextItem} {plural : Option (List ℕ)} {forms : List (List ℕ)} → body.IsTranslation obsolete items plural forms rest → All HoldsText items → SoundTranslation plural forms rest
+translation_sound : {obsolete : Bool} {items rest : List TextItem} {plural : Option (List ℕ)} {forms : List (List ℕ)} → body.IsTranslationText obsolete items plural forms rest → All HoldsText items → SoundTranslation plural forms rest
 translation_sound (body.single w) h = record { some_form = omega arith; one_form = λ _. refl; after = keyword_text_sound w h }
 translation_sound (body.plural w forms) h =
     let later = forms_sound forms (keyword_text_sound w h) in

@@ -102,7 +102,7 @@ forms_prefix (body.more {items = items} {after = after} {rest = rest} w f s) =
     let later = forms_prefix s in
     (prefix.0 ++ later.0, spell.more_forms prefix.1 later.1, joined items prefix.0 after later.0 rest prefix.2 later.2)
 
-translation_prefix : {obsolete : Bool} {items rest : List TextItem} {plural : Option (List ℕ)} {forms : List (List ℕ)} → body.IsTranslation obsolete items plural forms rest → Prefix (λ own. spell.SpellsTranslation obsolete own plural forms) items rest
+translation_prefix : {obsolete : Bool} {items rest : List TextItem} {plural : Option (List ℕ)} {forms : List (List ℕ)} → body.IsTranslationText obsolete items plural forms rest → Prefix (λ own. spell.SpellsTranslation obsolete own plural forms) items rest
 translation_prefix (body.single w) = let prefix = (keyword_prefix w).0 in (prefix.0, spell.single prefix.1, prefix.2)
 translation_prefix (body.plural {items = items} {after = after} {rest = rest} w f) =
     let prefix = (keyword_prefix w).0 in
@@ -149,7 +149,7 @@ id_taken obsolete line (Word (MsgStrAt index) marks at ∷ items) rest e = cc
 
 -- an entry's msgid and its translation
 lines_prefix : (obsolete : Bool) (line : ℕ) (items after rest : List TextItem) (context : Option (List ℕ)) (id : List ℕ) (plural : Option (List ℕ)) (forms : List (List ℕ)) (first : List TextItem) → spell.SpellsContext obsolete first context
-    → Prefix (λ own. spell.SpellsKeywordText MsgId (own_marks obsolete) line own id) items after → body.IsTranslation obsolete after plural forms rest
+    → Prefix (λ own. spell.SpellsKeywordText MsgId (own_marks obsolete) line own id) items after → body.IsTranslationText obsolete after plural forms rest
     → Prefix (λ own. spell.SpellsBody own (record { context = context; id = id; plural = plural; forms = forms; obsolete = obsolete; line = line })) (first ++ items) rest
 lines_prefix obsolete line items after rest context id plural forms first c prefix t =
     let later = translation_prefix t in

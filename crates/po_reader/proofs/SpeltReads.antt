@@ -59,7 +59,7 @@ translation_begins (spell.single w) rest = keyword_begins w rest
 translation_begins (spell.plural {own = own} {items = items} w f) rest = rw (append_assoc own items rest) (keyword_begins w (items ++ rest))
 
 translation_read : {obsolete : Bool} {own : List TextItem} {plural : Option (List ℕ)} {forms : List (List ℕ)} → spell.SpellsTranslation obsolete own plural forms → (rest : List TextItem) → IsApart rest
-    → body.IsTranslation obsolete (own ++ rest) plural forms rest
+    → body.IsTranslationText obsolete (own ++ rest) plural forms rest
 translation_read (spell.single w) rest apart = body.single (keyword_read w word.Translation refl rest apart.0)
 translation_read (spell.plural {own = own} {items = items} w f) rest apart =
     rw (append_assoc own items rest) (body.plural (keyword_read w word.Translation refl (items ++ rest) (forms_begin f rest).0) (forms_read f rest apart))

@@ -80,7 +80,7 @@ forms_below end obsolete (suc n) index items h = elim (keyword_text_end end (wor
 -- what follows a msgid
 abbrev TranslationEnds : ℕ → Bool → List TextItem → Type 0
 TranslationEnds end obsolete items =
-    ((plural : Option (List ℕ)) × (forms : List (List ℕ)) × (rest : List TextItem) × body.IsTranslation obsolete items plural forms rest × (length rest < length items))
+    ((plural : Option (List ℕ)) × (forms : List (List ℕ)) × (rest : List TextItem) × body.IsTranslationText obsolete items plural forms rest × (length rest < length items))
     ⊎ ((fault : PoFault) × (line : ℕ) × stop.TranslationStops end obsolete items fault line)
 
 translation_end : (end : ℕ) (obsolete : Bool) (items : List TextItem) → TranslationEnds end obsolete items

@@ -1,7 +1,7 @@
 //! The second half of an entry: msgid, plural and translations.
 
 ghost use Rattle.std.specs.Prelude.{◌≡◌, ◌≢◌, ◌<◌, length, IfOk, OnOk, IfErr, IfSome, MatchOption, ◌^◌};
-ghost use Rattle.po_reader.specs.Internal.Body.{begins_form, body_start, IsForms, IsTranslation, IsBody};
+ghost use Rattle.po_reader.specs.Internal.Body.{begins_form, body_start, IsForms, IsTranslationText, IsBody};
 ghost use Rattle.po_reader.specs.Internal.Body as spec;
 ghost use Rattle.po_entry.specs.TextEntry.{texts, optional_text};
 ghost use Rattle.po_entry.specs.Faults.{IsStop};
@@ -64,7 +64,7 @@ fn take_translation(
     end: u32,
 ) -> Result<Translation, PoError>
     requires { length rest.old < 2 ^ 32 }
-    ensures found { IfOk result (λ t. IsTranslation obsolete rest.old (optional_text t.plural)
+    ensures found { IfOk result (λ t. IsTranslationText obsolete rest.old (optional_text t.plural)
         (texts t.forms.items) rest.new) }
     ensures fewer { OnOk result (length rest.new < length rest.old) }
     ensures fault { IfErr result (IsStop (TranslationStops end obsolete rest.old)) }
@@ -138,7 +138,7 @@ fn take_body_after(
     end: u32,
 ) -> Result<Body, PoError>
     requires { length rest.old < 2 ^ 32 }
-    ensures found { IfOk result (λ b. IsTranslation original.obsolete rest.old
+    ensures found { IfOk result (λ b. IsTranslationText original.obsolete rest.old
         (optional_text b.translation.plural) (texts b.translation.forms.items) rest.new) }
     ensures original { IfOk result (λ b. b.original ≡ original) }
     ensures fewer { OnOk result (length rest.new < length rest.old) }

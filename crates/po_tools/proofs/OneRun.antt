@@ -18,7 +18,7 @@ use Rattle.po_compile.specs.declared.options.Compiled.{Compiled}
 use Rattle.msgfmt.specs.declared.options.MsgfmtOptions.{MsgfmtOptions}
 use Rattle.msgfmt.specs.declared.profile.CheckFault.TheVariants.{NoHeader}
 use Rattle.runs.specs.FaultText.{fault_line, mo_text}
-use Rattle.gettext.specs.Gettext.{GettextRequest, NgettextRequest, IsGettextRun, IsNgettextRun, Opens, answered, gettext_output, ngettext_output}
+use Rattle.gettext.specs.Gettext.{GettextRequest, NgettextRequest, IsGettextRun, IsNgettextRun, Opens, output_run, gettext_output, ngettext_output}
 use Rattle.gettext.specs.Gettext.Opens.{none, opened, refused}
 use Rattle.po_compile.specs.CompiledInputs.{compiled_inputs}
 use Rattle.msgfmt.specs.Msgfmt.{AreChecked, IsRefused, check_line, compile_options, compiled_run, input_texts, join_line}
@@ -65,14 +65,14 @@ module _ (unique : OneMessageList) (no_fault : NoFaultOfMoFile) (one_fault : One
   pub gettext_once : (files : List NamedFile) (o : GettextRequest) (run other : RunView) → IsGettextRun files o run → IsGettextRun files o other → run ≡ other
   gettext_once files o run other is also =
       let same = one_chain (codes "gettext") files is.chain also.chain is.reported also.reported is.opens also.opens in
-      is.run_is ∙ ap (λ (chain : List CatalogView). answered (gettext_output chain o) is.reported) same.0
-      ∙ ap (λ (reported : List ℕ). answered (gettext_output also.chain o) reported) same.1 ∙ sym also.run_is
+      is.run_is ∙ ap (λ (chain : List CatalogView). output_run (gettext_output chain o) is.reported) same.0
+      ∙ ap (λ (reported : List ℕ). output_run (gettext_output also.chain o) reported) same.1 ∙ sym also.run_is
 
   pub ngettext_once : (files : List NamedFile) (o : NgettextRequest) (run other : RunView) → IsNgettextRun files o run → IsNgettextRun files o other → run ≡ other
   ngettext_once files o run other is also =
       let same = one_chain (codes "ngettext") files is.chain also.chain is.reported also.reported is.opens also.opens in
-      is.run_is ∙ ap (λ (chain : List CatalogView). answered (ngettext_output chain o) is.reported) same.0
-      ∙ ap (λ (reported : List ℕ). answered (ngettext_output also.chain o) reported) same.1 ∙ sym also.run_is
+      is.run_is ∙ ap (λ (chain : List CatalogView). output_run (ngettext_output chain o) is.reported) same.0
+      ∙ ap (λ (reported : List ℕ). output_run (ngettext_output also.chain o) reported) same.1 ∙ sym also.run_is
 
 -- what a header found or not found says of the check's fault
 abbrev CheckedBy : List InputEntry → Option Reported → Option InputEntry → Type 0

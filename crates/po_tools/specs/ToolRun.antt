@@ -147,10 +147,10 @@ pub data RunsNgettextLine (line : CommandLine) (answers : Answers) (before after
       → FitsNone (ngettext_usage arguments) before after result → RunsNgettextLine line answers before after result
 
 -- what envsubst answers: the status 0, or the fault of a device
-abbrev pub answered : Result (Unit {0}) ToolFault → Result ℕ ProgramFault → Type 0
-answered (Ok _) result = result ≡ Ok 0
-answered (Err fault) (Ok status) = ⊥
-answered (Err fault) (Err reported) = program_text reported ≡ stdin_text fault
+abbrev pub AnswersStatus : Result (Unit {0}) ToolFault → Result ℕ ProgramFault → Type 0
+AnswersStatus (Ok _) result = result ≡ Ok 0
+AnswersStatus (Err fault) (Ok status) = ⊥
+AnswersStatus (Err fault) (Err reported) = program_text reported ≡ stdin_text fault
 
 -- envsubst is run, by its arguments
 pub record Substitutes (answers : Answers) (usage : EnvsubstUsage) (before after : Reached)
@@ -158,7 +158,7 @@ pub record Substitutes (answers : Answers) (usage : EnvsubstUsage) (before after
   pub outcome : Result (Unit {0}) ToolFault
   pub runs : RunsEnvsubst answers.entries before.input after.input before.written.out.bytes after.written.out.bytes
       usage outcome
-  pub answer : answered outcome result
+  pub answer : AnswersStatus outcome result
   pub asks_nothing : after.asked ≡ before.asked
   pub files : after.written.files ≡ before.written.files
   pub err : after.written.err ≡ before.written.err

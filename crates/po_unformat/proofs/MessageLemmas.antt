@@ -10,9 +10,9 @@ use Rattle.po_syntax.specs.declared.fault.PoFault.TheVariants.{OutOfMemory as No
 use Rattle.po_entry.specs.TextEntry.{TextEntry, quoted_texts}
 use Rattle.po_entry.specs.Bytes.{Lacks}
 use Rattle.po_entry.specs.Header.{HasAdmittedCharset}
-use Rattle.po_entry.specs.Validity.{HasTexts, IsCatalogueEntry, IsEntry, TextsFault}
+use Rattle.po_entry.specs.Validity.{HasTexts, IsCatalogueEntry, IsEntry, EntryTextFault}
 use Rattle.po_syntax.specs.ItemContents.{IsText}
-use Rattle.po_entry.specs.Validity.TextsFault.{not_utf8, forbidden}
+use Rattle.po_entry.specs.Validity.EntryTextFault.{not_utf8, forbidden}
 use Rattle.po_unformat.specs.declared.fault.UnformatError.{UnformatError}
 use Rattle.po_unformat.specs.declared.fault.UnformatError.TheVariants.{Mo, NotUtf8, ForbiddenByte, ForeignCharset, OutOfMemory}
 use Rattle.po_unformat.specs.Internal.Refused.{RefusesEntry, RefusesMessages, error_at}
@@ -31,12 +31,12 @@ texts_of entry valid = record {
   };
 }
 
-by_fault : (entry : TextEntry) (i : ℕ) (fault : PoFault) → TextsFault entry fault → RefusesEntry entry i (error_at i fault)
+by_fault : (entry : TextEntry) (i : ℕ) (fault : PoFault) → EntryTextFault entry fault → RefusesEntry entry i (error_at i fault)
 by_fault entry i _ (not_utf8 h) = (refl, not_utf8 h)
 by_fault entry i _ (forbidden u h) = (refl, forbidden u h)
 
 -- what is wrong with an entry's texts is reported by its error
-pub refused_entry : (entry : TextEntry) (i : ℕ) (fault : PoFault) → (fault ≡ NoMemory) ⊎ TextsFault entry fault → RefusesEntry entry i (error_at i fault)
+pub refused_entry : (entry : TextEntry) (i : ℕ) (fault : PoFault) → (fault ≡ NoMemory) ⊎ EntryTextFault entry fault → RefusesEntry entry i (error_at i fault)
 refused_entry entry i fault (inl memory) = subst (λ f. RefusesEntry entry i (error_at i f)) (sym memory) tt
 refused_entry entry i fault (inr why) = by_fault entry i fault why
 

@@ -11,9 +11,9 @@ use Rattle.mo_lookup.specs.CatalogView.{forms}
 use Rattle.po_syntax.specs.declared.fault.PoFault.{PoFault}
 use Rattle.po_entry.specs.TextEntry.{TextEntry}
 use Rattle.po_entry.specs.Header.{HasAdmittedCharset}
-use Rattle.po_entry.specs.Validity.{HasTexts, IsEntry, IsFlag, IsReference, IsTranslatorComment, TextsFault}
+use Rattle.po_entry.specs.Validity.{HasTexts, IsEntry, IsFlag, IsReference, IsTranslatorComment, EntryTextFault}
 use Rattle.po_syntax.specs.ItemContents.{IsComment}
-use Rattle.po_entry.specs.Validity.TextsFault.{not_utf8, forbidden}
+use Rattle.po_entry.specs.Validity.EntryTextFault.{not_utf8, forbidden}
 use Rattle.po_writer.specs.WrittenText.{written_text}
 use Rattle.po_unformat.specs.declared.fault.UnformatError.{UnformatError}
 use Rattle.po_unformat.specs.declared.fault.UnformatError.TheVariants.{Mo, NotUtf8, ForbiddenByte, ForeignCharset, OutOfMemory}
@@ -30,7 +30,7 @@ record FirstFault (entries : List TextEntry) : Type 0 where
   kind : PoFault
   entry : TextEntry
   is_entry : slice_get entries i ≡ Some entry
-  fault : TextsFault entry kind
+  fault : EntryTextFault entry kind
   before : All HasTexts (take i entries)
 
 first_fault : (entries : List TextEntry) → All HasTexts entries ⊎ FirstFault entries
@@ -51,7 +51,7 @@ first_fault (entry ∷ entries) = elim (texts_or_fault entry) [
 ]
 
 -- it refuses the messages
-refused : (messages : List Message) (i : ℕ) (entry : TextEntry) (kind : PoFault) → slice_get (unformatted messages) i ≡ Some entry → All HasTexts (take i (unformatted messages)) → TextsFault entry kind
+refused : (messages : List Message) (i : ℕ) (entry : TextEntry) (kind : PoFault) → slice_get (unformatted messages) i ≡ Some entry → All HasTexts (take i (unformatted messages)) → EntryTextFault entry kind
     → (error : UnformatError) × RefusesMessages messages error × (error ≢ OutOfMemory)
 refused messages i entry _ is before (not_utf8 fault) =
     (NotUtf8 i, record { entry = entry; is_entry = is; fault = not_utf8 fault; before = before }, λ e. cc)

@@ -8,7 +8,7 @@ use Rattle.po_syntax.specs.declared.fault.PoFault.{PoFault}
 use Rattle.po_syntax.specs.declared.fault.PoFault.TheVariants.{NotUtf8 as BadText, ForbiddenByte as BadByte}
 use Rattle.po_entry.specs.TextEntry.{TextEntry}
 use Rattle.po_entry.specs.Header.{HasAdmittedCharset}
-use Rattle.po_entry.specs.Validity.{HasTexts, IsCatalogueEntry, TextsFault}
+use Rattle.po_entry.specs.Validity.{HasTexts, IsCatalogueEntry, EntryTextFault}
 use Rattle.po_writer.specs.WrittenText.{written_text}
 use Rattle.po_unformat.specs.declared.fault.UnformatError.{UnformatError}
 use Rattle.po_unformat.specs.declared.fault.UnformatError.TheVariants.{Mo, NotUtf8, ForbiddenByte, ForeignCharset}
@@ -28,10 +28,10 @@ pub record AreWrittenAs (text : List ℕ) (messages : List Message) : Type 0 whe
   pub written : text ≡ written_text (unformatted messages)
 
 -- the texts of message i can't stand in an entry, and those of the messages before it can
-pub record HasFirstTextsFault (i : ℕ) (kind : PoFault) (messages : List Message) : Type 0 where
+pub record HasFirstEntryTextFault (i : ℕ) (kind : PoFault) (messages : List Message) : Type 0 where
   pub entry : TextEntry
   pub is_entry : slice_get (unformatted messages) i ≡ Some entry
-  pub fault : TextsFault entry kind
+  pub fault : EntryTextFault entry kind
   pub before : All HasTexts (take i (unformatted messages))
 
 -- all texts can stand in entries, but a header names a charset that isn't admitted
@@ -47,7 +47,7 @@ IsUnformatted bytes text = IsFileOf bytes (AreWrittenAs text)
 -- can't stand in an entry; then the charset of a header.
 abbrev pub IsUnformatFault : List ℕ → UnformatError → Type 0
 IsUnformatFault bytes (Mo fault) = IsFirstFault bytes fault
-IsUnformatFault bytes (NotUtf8 i) = IsFileOf bytes (HasFirstTextsFault i BadText)
-IsUnformatFault bytes (ForbiddenByte i) = IsFileOf bytes (HasFirstTextsFault i BadByte)
+IsUnformatFault bytes (NotUtf8 i) = IsFileOf bytes (HasFirstEntryTextFault i BadText)
+IsUnformatFault bytes (ForbiddenByte i) = IsFileOf bytes (HasFirstEntryTextFault i BadByte)
 IsUnformatFault bytes ForeignCharset = IsFileOf bytes HasForeignCharset
 IsUnformatFault bytes OutOfMemory = Unit {0}

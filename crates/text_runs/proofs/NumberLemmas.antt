@@ -14,7 +14,7 @@ use Rattle.po_messages.specs.Joined.{in_input, is_live}
 use Rattle.po_messages.specs.Message.{Message, entry_message, same_message}
 use Rattle.po_messages.proofs.FirstOnes.{any_first_ones, found_within}
 use Rattle.po_messages.proofs.MessageIndex.{messages_are, same_message_laws}
-use Rattle.text_runs.specs.Repeats.{IsFirstRepeat, Repeats, are_numbered, numbered}
+use Rattle.text_runs.specs.Repeats.{IsEarliestRepeat, Repeats, are_numbered, numbered}
 use Rattle.text_runs.proofs.RepeatLemmas.{AreAmong, AreOwn, all_among, duplicate_of}
 
 -- the number of a message among those of the entries
@@ -36,13 +36,13 @@ own_of entries a b first later same =
 
 -- a number that stands twice among the live entries, which are numbered with others
 pub repeats_in : (known : List Message) (number_of : Message → ℕ) (entries : List TextEntry) (lines : ℕ × ℕ) (error : PoError) → AreOwn known number_of → AreAmong known (filter is_live entries)
-    → IsFirstRepeat (map (numbered number_of) (filter is_live entries)) lines → error ≡ record { kind = Duplicate lines.0; line = lines.1 } → Repeats entries error
+    → IsEarliestRepeat (map (numbered number_of) (filter is_live entries)) lines → error ≡ record { kind = Duplicate lines.0; line = lines.1 } → Repeats entries error
 repeats_in known number_of entries lines error own among repeat error_is =
     let found = duplicate_of known number_of 0 entries (filter is_live entries) lines own refl among repeat in
     (in_input 0 found.0, in_input 0 found.1, found.2, error_is ∙ ap (λ (l : ℕ × ℕ). record { kind = Duplicate l.0; line = l.1 }) found.3)
 
 -- and by themselves
-pub repeats_read : (entries : List TextEntry) (lines : ℕ × ℕ) (error : PoError) → IsFirstRepeat (map (numbered (number_in entries)) (filter is_live entries)) lines
+pub repeats_read : (entries : List TextEntry) (lines : ℕ × ℕ) (error : PoError) → IsEarliestRepeat (map (numbered (number_in entries)) (filter is_live entries)) lines
     → error ≡ record { kind = Duplicate lines.0; line = lines.1 } → Repeats entries error
 repeats_read entries lines error repeat error_is =
     let known = map entry_message entries in

@@ -12,7 +12,7 @@ use Rattle.po_messages.specs.Joined.{InputEntry, entries_of, in_input, is_live}
 use Rattle.po_entry.specs.Facts.Halves.{All-left, All-right}
 use Rattle.po_messages.specs.Message.{Message, entry_message}
 use Rattle.po_messages.proofs.DuplicateLemmas.{entries_of_input, message_is}
-use Rattle.text_runs.specs.Repeats.{IsFirstRepeat, IsUnseen, NumbersDiffer, line_seen, numbered}
+use Rattle.text_runs.specs.Repeats.{IsEarliestRepeat, IsUnseen, NumbersDiffer, line_seen, numbered}
 use Rattle.text_runs.specs.declared.repeats.Numbered.{Numbered}
 use Rattle.text_runs.specs.declared.repeats.Seen.{Seen}
 
@@ -75,7 +75,7 @@ module _ (old new : ℕ → Option ℕ) (xs : List Numbered) (i : ℕ) (x : Numb
       })
 
 -- one whose number one before it has
-pub seen_repeats : (old : ℕ → Option ℕ) (xs : List Numbered) (i : ℕ) (x : Numbered) (line : ℕ) → i < length xs → x ≡ get_or xs i x → IsSeen old (take i xs) → old x.number ≡ Some line → IsFirstRepeat xs (line, x.line)
+pub seen_repeats : (old : ℕ → Option ℕ) (xs : List Numbered) (i : ℕ) (x : Numbered) (line : ℕ) → i < length xs → x ≡ get_or xs i x → IsSeen old (take i xs) → old x.number ≡ Some line → IsEarliestRepeat xs (line, x.line)
 seen_repeats old xs i x line inside here seen is =
     let found = seen.found x.number line is in
     let rest : drop i xs ≡ x ∷ drop (suc i) xs = drop-cons xs i x inside ∙ ap (λ y. y ∷ drop (suc i) xs) (sym here) in
@@ -143,7 +143,7 @@ module _ (number_of : Message → ℕ) where
     pub differ : AllDiffer (before ++ first ∷ between)
     pub lines_are : lines ≡ (first.line, later.line)
 
-  pub repeat_of : (entries : List TextEntry) (lines : ℕ × ℕ) → IsFirstRepeat (map (numbered number_of) entries) lines → IsRepeat entries lines
+  pub repeat_of : (entries : List TextEntry) (lines : ℕ × ℕ) → IsEarliestRepeat (map (numbered number_of) entries) lines → IsRepeat entries lines
   repeat_of entries lines found =
       let halves = split_map entries (found.before ++ found.first ∷ found.between) (found.later ∷ found.after) found.order in
       let front = split_map halves.0 found.before (found.first ∷ found.between) halves.3 in
@@ -171,7 +171,7 @@ live_in input (e ∷ entries) = ap (λ l. cond (is_live e) (in_input input e ∷
 
 -- the first duplicate of entries
 pub duplicate_of : (known : List Message) (number_of : Message → ℕ) (input : ℕ) (entries live : List TextEntry) (lines : ℕ × ℕ) → AreOwn known number_of → filter is_live entries ≡ live → AreAmong known live
-    → IsFirstRepeat (map (numbered number_of) live) lines
+    → IsEarliestRepeat (map (numbered number_of) live) lines
     → (first : TextEntry) × (later : TextEntry) × IsFirstDuplicate (map (in_input input) entries) (in_input input first) (in_input input later) × (lines ≡ (first.line, later.line))
 duplicate_of known number_of input entries live lines own live_is among found =
     let r = repeat_of number_of live lines found in

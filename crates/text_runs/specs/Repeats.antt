@@ -29,7 +29,7 @@ abbrev pub NumbersDiffer : List Numbered → Type 0
 NumbersDiffer entries = AllPairs (λ a b. a.number ≢ b.number) entries
 
 -- the lines of the earliest that has the number of an earlier one: that of the earlier one, and its own
-pub record IsFirstRepeat (entries : List Numbered) (lines : ℕ × ℕ) : Type 0 where
+pub record IsEarliestRepeat (entries : List Numbered) (lines : ℕ × ℕ) : Type 0 where
   pub before : List Numbered
   pub first : Numbered
   pub between : List Numbered

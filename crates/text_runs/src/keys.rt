@@ -7,7 +7,7 @@ ghost use Rattle.po_entry.specs.TextEntry.{TextEntry};
 ghost use Rattle.text_runs.specs.Keys.{HoldKeys, key_bytes, key_lengths};
 ghost use Rattle.po_messages.specs.FirstOnes.{group_numbers};
 ghost use Rattle.po_messages.specs.Message.{entry_message, same_message};
-ghost use Rattle.po_messages.specs.MessageView.{message_of, messages};
+ghost use Rattle.po_messages.specs.MessageView.{message_of_key, messages_of_keys};
 
 use po_entry::Entry;
 use po_messages::{MessageKey, grouped};
@@ -56,7 +56,7 @@ fn split_context(bytes: &[u8], len: Option<usize>) -> (Option<&[u8]>, &[u8])
 /// The first message, whose lengths these are, and the bytes after it.
 fn split_key<'b>(bytes: &'b [u8], lengths: &KeySpans) -> (MessageKey<'b>, &'b [u8])
     ensures { (entry : TextEntry) (rest : List ℕ) → bytes.now ≡ key_bytes entry ++ rest
-        → lengths.now ≡ key_lengths entry → (message_of result.0 ≡ entry_message entry) × (result.1.now ≡ rest) }
+        → lengths.now ≡ key_lengths entry → (message_of_key result.0 ≡ entry_message entry) × (result.1.now ≡ rest) }
 {
     let (context, after) = split_context(bytes, lengths.context);
     let (id, rest) = split_at_most(after, lengths.id);
@@ -111,7 +111,7 @@ impl KeyBuffer {
     /// The messages, in their order.
     fn list(&self, alloc: Global) -> Result<Vec<MessageKey<'_>>, AllocError>
         ensures { IfOk result (λ keys. (entries : List TextEntry) → HoldKeys entries self.now
-            → messages keys.items ≡ map entry_message entries) }
+            → messages_of_keys keys.items ≡ map entry_message entries) }
     {
         let mut keys = Vec::with_capacity(alloc, self.lengths.len())?;
         let mut rest = self.bytes.as_slice();

@@ -4,7 +4,7 @@ ghost use Rattle.std.specs.Prelude.{◌≡◌, ◌≢◌, ◌<◌, ℕ, Bool, If
 ghost use Rattle.po_entry.specs.TextEntry.{TextEntry};
 ghost use Rattle.po_messages.specs.Message.{Message};
 ghost use Rattle.po_syntax.specs.declared.fault.PoFault.{PoFault};
-ghost use Rattle.text_runs.specs.Repeats.{IsFirstRepeat, IsUnseen, NumbersDiffer, are_numbered, are_placed, line_seen, numbered};
+ghost use Rattle.text_runs.specs.Repeats.{IsEarliestRepeat, IsUnseen, NumbersDiffer, are_numbered, are_placed, line_seen, numbered};
 
 use po_syntax::{PoError, PoFault};
 use std::alloc::{AllocError, Global};
@@ -95,7 +95,7 @@ fn first_repeat(
     requires round { 0 < round }
     requires unseen { IsUnseen round seen.old.items }
     ensures found { IfOk result (λ found.
-        MatchOption found (NumbersDiffer entries.now) (IsFirstRepeat entries.now)) }
+        MatchOption found (NumbersDiffer entries.now) (IsEarliestRepeat entries.now)) }
     ensures later { OnOk result ((later : ℕ) → round < later → IsUnseen later seen.old.items
         → IsUnseen later seen.new.items) }
 {
@@ -123,7 +123,7 @@ pub fn repeated_lines(
         (entries : List TextEntry)
         → numbers.now ≡ are_numbered number_of entries → places.now ≡ are_placed is_there entries
         → MatchOption found (NumbersDiffer (map (numbered number_of) (filter is_there entries)))
-        (IsFirstRepeat (map (numbered number_of) (filter is_there entries)))) }
+        (IsEarliestRepeat (map (numbered number_of) (filter is_there entries)))) }
     ensures later { OnOk result ((later : ℕ) → round < later → IsUnseen later seen.old.items
         → IsUnseen later seen.new.items) }
 {

@@ -38,7 +38,7 @@ pub record IsSelectedWhole (s : Selection) (text : List ℕ) (so_far : SelectedS
   pub have : AreSelected s entries so_far
 
 -- neither the entries nor those that are selected have a duplicate
-pub record AreDistinct (s : Selection) (entries : List TextEntry) : Type 0 where
+pub record HaveNoDuplicate (s : Selection) (entries : List TextEntry) : Type 0 where
   pub read : HasNoDuplicate entries
   pub kept : HasNoDuplicate (selected s entries)
 
@@ -58,7 +58,7 @@ IsRowsFault s entries error = Repeats entries error ⊎ RepeatsSelected s entrie
 pub record IsSelectedText (s : Selection) (text written : List ℕ) : Type 0 where
   pub entries : List TextEntry
   pub reads : ReadsText text entries
-  pub distinct : AreDistinct s entries
+  pub distinct : HaveNoDuplicate s entries
   pub text_is : written ≡ written_text (selected s entries)
 
 -- the text reads as entries, of which the selected ones have a duplicate

@@ -103,12 +103,12 @@ abbrev pub HasOneHeader : Collected → Type 0
 HasOneHeader collected = count_by (λ (l : Lengths). l.key == 0) collected.lengths.items ≤ 1
 
 -- no live entry repeats another of its input or of the joined list
-pub record AreDistinct (catalogues : List (List TextEntry)) : Type 0 where
+pub record HaveNoDuplicate (catalogues : List (List TextEntry)) : Type 0 where
   pub each : All HasNoDuplicate catalogues
   pub joined : HasNoDuplicate (joined_entries catalogues)
 
 -- no live entry repeats another, and the layout of the compiled ones' messages is too large
 pub record IsLargeList (options : Options) (catalogues : List (List TextEntry)) (error : JoinError) : Type 0 where
-  pub distinct : AreDistinct catalogues
+  pub distinct : HaveNoDuplicate catalogues
   pub layout : HasLargeLayout options (joined_entries catalogues)
   pub error_is : error ≡ layout_fault

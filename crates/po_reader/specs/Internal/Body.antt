@@ -24,14 +24,14 @@ pub data IsForms (obsolete : Bool) : ℕ → List TextItem → List (List ℕ) �
 
 -- these items begin with what follows a msgid: its only form, or its plural and then the plural
 -- forms from index 0 on; and they go on with the rest
-pub data IsTranslation (obsolete : Bool) : List TextItem → Option (List ℕ) → List (List ℕ) → List TextItem
+pub data IsTranslationText (obsolete : Bool) : List TextItem → Option (List ℕ) → List (List ℕ) → List TextItem
     → Type 0 where
   single : {line : ℕ} {items rest : List TextItem} {form : List ℕ}
       → IsKeywordText Translation obsolete items MsgStr line form rest
-      → IsTranslation obsolete items None (form ∷ []) rest
+      → IsTranslationText obsolete items None (form ∷ []) rest
   plural : {line : ℕ} {items after rest : List TextItem} {plural : List ℕ} {forms : List (List ℕ)}
       → IsKeywordText Translation obsolete items MsgIdPlural line plural after → IsForms obsolete 0 after forms rest
-      → IsTranslation obsolete items (Some plural) forms rest
+      → IsTranslationText obsolete items (Some plural) forms rest
 
 -- What stands where an entry's own lines may begin: `msgctxt`, or `msgid` with its line; or
 -- something else. The first keyword's obsolete mark is the entry's.
@@ -49,14 +49,14 @@ body_start _ = NoStart
 pub data IsBody : List TextItem → Body → List TextItem → Type 0 where
   without_context : {obsolete : Bool} {line : ℕ} {items text after rest : List TextItem} {id : List ℕ}
       {plural : Option (List ℕ)} {forms : List (List ℕ)} → body_start items ≡ WithoutContext obsolete line text
-      → IsStrings (own_marks obsolete) text id after → IsTranslation obsolete after plural forms rest
+      → IsStrings (own_marks obsolete) text id after → IsTranslationText obsolete after plural forms rest
       → IsBody items
       (record { context = None; id = id; plural = plural; forms = forms; obsolete = obsolete; line = line }) rest
   with_context : {obsolete : Bool} {keyword : Keyword} {line : ℕ} {items text middle after rest : List TextItem}
       {context id : List ℕ} {plural : Option (List ℕ)} {forms : List (List ℕ)}
       → body_start items ≡ WithContext obsolete text
       → IsStrings (own_marks obsolete) text context middle → IsKeywordText Id obsolete middle keyword line id after
-      → IsTranslation obsolete after plural forms rest
+      → IsTranslationText obsolete after plural forms rest
       → IsBody items
       (record {
         context = Some context;

@@ -4,11 +4,11 @@ use Rattle.mo_file.specs.Message.{Message}
 use Rattle.po_syntax.specs.declared.fault.PoFault.{PoFault}
 use Rattle.po_syntax.specs.declared.fault.PoFault.TheVariants.{NotUtf8 as BadText, ForbiddenByte as BadByte}
 use Rattle.po_entry.specs.TextEntry.{TextEntry}
-use Rattle.po_entry.specs.Validity.{TextsFault}
+use Rattle.po_entry.specs.Validity.{EntryTextFault}
 use Rattle.po_unformat.specs.declared.fault.UnformatError.{UnformatError}
 use Rattle.po_unformat.specs.declared.fault.UnformatError.TheVariants.{Mo, NotUtf8, ForbiddenByte, ForeignCharset}
 use Rattle.po_unformat.specs.declared.fault.UnformatError.TheVariants.{OutOfMemory}
-use Rattle.po_unformat.specs.UnformattedText.{HasFirstTextsFault, HasForeignCharset}
+use Rattle.po_unformat.specs.UnformattedText.{HasFirstEntryTextFault, HasForeignCharset}
 
 -- the error for the entry of message i, by what is wrong with its texts
 abbrev pub error_at : ℕ → PoFault → UnformatError
@@ -18,15 +18,15 @@ error_at i fault = OutOfMemory
 
 -- why the entry of message i is refused
 abbrev pub RefusesEntry : TextEntry → ℕ → UnformatError → Type 0
-RefusesEntry entry i (NotUtf8 j) = (j ≡ i) × TextsFault entry BadText
-RefusesEntry entry i (ForbiddenByte j) = (j ≡ i) × TextsFault entry BadByte
+RefusesEntry entry i (NotUtf8 j) = (j ≡ i) × EntryTextFault entry BadText
+RefusesEntry entry i (ForbiddenByte j) = (j ≡ i) × EntryTextFault entry BadByte
 RefusesEntry entry i OutOfMemory = Unit {0}
 RefusesEntry entry i error = ⊥
 
 -- why the messages of a valid file have no text
 abbrev pub RefusesMessages : List Message → UnformatError → Type 0
 RefusesMessages messages (Mo fault) = ⊥
-RefusesMessages messages (NotUtf8 i) = HasFirstTextsFault i BadText messages
-RefusesMessages messages (ForbiddenByte i) = HasFirstTextsFault i BadByte messages
+RefusesMessages messages (NotUtf8 i) = HasFirstEntryTextFault i BadText messages
+RefusesMessages messages (ForbiddenByte i) = HasFirstEntryTextFault i BadByte messages
 RefusesMessages messages ForeignCharset = HasForeignCharset messages
 RefusesMessages messages OutOfMemory = Unit {0}

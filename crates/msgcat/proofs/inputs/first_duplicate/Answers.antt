@@ -3,7 +3,7 @@ use Rattle.std.specs.Prelude.{MatchOption}
 use Rattle.po_messages.specs.Joined.{is_live}
 use Rattle.po_merge.specs.Inputs.{all_entries}
 use Rattle.msgcat.specs.Internal.Entries.{unnamed}
-use Rattle.text_runs.specs.Repeats.{IsFirstRepeat, NumbersDiffer, numbered}
+use Rattle.text_runs.specs.Repeats.{IsEarliestRepeat, NumbersDiffer, numbered}
 use Rattle.msgcat.proofs.InputLemmas.{AreLeft, all_left, left_after, none_left, own, own_count, own_numbers, places_are, repeating}
 use Rattle.text_runs.proofs.RepeatLemmas.{none_kept}
 use Rattle.text_runs.proofs.NumberLemmas.{number_in}
@@ -40,7 +40,7 @@ returns-in-Some c = λ read partial known numbers.
     let list = map (numbered f) (filter is_live mine) in
     let own_are = c.split_at_most.ensures.first ∙ ap (λ n. take n rest) long ∙ own_numbers read partial inputs i input rest known inside here left in
     let places = c.deref.ensures.value ∙ places_are read partial inputs i input rest known inside here left in
-    let found = subst (λ o. MatchOption o (NumbersDiffer list) (IsFirstRepeat list)) c.in-Some.is (c.in_ok-found.ensures.found f is_live mine own_are places) in
+    let found = subst (λ o. MatchOption o (NumbersDiffer list) (IsEarliestRepeat list)) c.in-Some.is (c.in_ok-found.ensures.found f is_live mine own_are places) in
     repeating read partial inputs i input rest known inside here left (c.in-Some.first, c.in-Some.later) _ found refl c.duplicate.ensures
 
 pub loop-index-preserved : goal.loop-index-preserved
@@ -60,7 +60,7 @@ loop-index-preserved c = record {
       let list = map (numbered f) (filter is_live mine) in
       let own_are = c.split_at_most.ensures.first ∙ ap (λ n. take n rest) long ∙ own_numbers read partial inputs i input rest known inside here left in
       let places = c.deref.ensures.value ∙ places_are read partial inputs i input rest known inside here left in
-      let differ = subst (λ o. MatchOption o (NumbersDiffer list) (IsFirstRepeat list)) c.in_default.is (c.in_ok-found.ensures.found f is_live mine own_are places) in
+      let differ = subst (λ o. MatchOption o (NumbersDiffer list) (IsEarliestRepeat list)) c.in_default.is (c.in_ok-found.ensures.found f is_live mine own_are places) in
       subst (AreLeft read partial (i + 1)) (sym (c.split_at_most.ensures.rest ∙ ap (λ n. drop n rest) long)) (left_after read partial inputs i input rest known inside here left differ);
 }
 

@@ -1,6 +1,6 @@
 use Rattle.std.proofs.Common.{sym, ◌∙◌}
 use Rattle.std.proofs.lemmas.Bool.{false≢true}
-use Rattle.po_entry.specs.Validity.TextsFault.{not_utf8, forbidden}
+use Rattle.po_entry.specs.Validity.EntryTextFault.{not_utf8, forbidden}
 use Rattle.po_entry.proofs.texts.check_texts.Goals as goal
 
 pub returns-then-not-are_utf8 : goal.returns-then-not-are_utf8

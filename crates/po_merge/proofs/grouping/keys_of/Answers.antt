@@ -1,11 +1,11 @@
 use Rattle.std.proofs.Common.{ap, ◌∙◌}
-use Rattle.po_messages.specs.MessageView.{messages}
+use Rattle.po_messages.specs.MessageView.{messages_of_keys}
 use Rattle.po_merge.specs.Grouping.{named_messages}
 use Rattle.po_merge.proofs.Grouped.{key_more, all_taken}
 use Rattle.po_merge.proofs.grouping.keys_of.Goals as goal
 
 pub loop-definition-init : goal.loop-definition-init
-loop-definition-init c = ap messages c.in_ok-keys.ensures.items
+loop-definition-init c = ap messages_of_keys c.in_ok-keys.ensures.items
 
 pub loop-definition-preserved : goal.loop-definition-preserved
 loop-definition-preserved c =

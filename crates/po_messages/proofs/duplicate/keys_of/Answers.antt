@@ -3,12 +3,12 @@ use Rattle.std.proofs.lemmas.List.{take_all}
 use Rattle.po_messages.specs.Joined.{entries_of}
 use Rattle.po_messages.specs.JoinedView.{input_entries}
 use Rattle.po_messages.specs.Message.{entry_messages}
-use Rattle.po_messages.specs.MessageView.{messages}
+use Rattle.po_messages.specs.MessageView.{messages_of_keys}
 use Rattle.po_messages.proofs.DuplicateLemmas.{messages_pushed}
 use Rattle.po_messages.proofs.duplicate.keys_of.Goals as goal
 
 pub loop-entry-init : goal.loop-entry-init
-loop-entry-init c = ap messages c.in_ok-keys.ensures.items
+loop-entry-init c = ap messages_of_keys c.in_ok-keys.ensures.items
 
 pub loop-entry-preserved : goal.loop-entry-preserved
 loop-entry-preserved c =

@@ -1,11 +1,11 @@
 use Rattle.std.proofs.Common.{AllPairs, ◌≢◌, refl, ap, subst}
 use Rattle.std.proofs.lemmas.List.{take_all}
-use Rattle.po_messages.specs.MessageView.{messages}
+use Rattle.po_messages.specs.MessageView.{messages_of_keys}
 use Rattle.po_messages.proofs.MessageIndex.{different_more, key_repeats, none_apart}
 use Rattle.po_messages.proofs.message_index.first_repeat.Goals as goal
 
 pub loop-later-init : goal.loop-later-init
-loop-later-init c = record { all = ap messages c.in_ok-index.ensures; apart = none_apart }
+loop-later-init c = record { all = ap messages_of_keys c.in_ok-index.ensures; apart = none_apart }
 
 pub returns-then-not-is_new-clause-repeat : goal.returns-then-not-is_new-clause-repeat
 returns-then-not-is_new-clause-repeat c =
@@ -18,4 +18,4 @@ loop-later-preserved c =
 pub returns-clause-none : goal.returns-clause-none
 returns-clause-none c =
     let past = c.loop-later-test.false in
-    subst (λ keys. AllPairs (λ a b. a ≢ b) (messages keys)) (take_all c.loop-later.later c.args.keys.now past) c.loop-later.invariant.apart
+    subst (λ keys. AllPairs (λ a b. a ≢ b) (messages_of_keys keys)) (take_all c.loop-later.later c.args.keys.now past) c.loop-later.invariant.apart

@@ -2,12 +2,12 @@ use Rattle.std.proofs.Common.{◌∙◌, refl, ap}
 use Rattle.std.proofs.lemmas.List.{take_all}
 use Rattle.po_messages.specs.FirstOnes.{group_numbers}
 use Rattle.po_messages.specs.Message.{same_message}
-use Rattle.po_messages.specs.MessageView.{messages}
+use Rattle.po_messages.specs.MessageView.{messages_of_keys}
 use Rattle.po_messages.proofs.MessageIndex.{firsts_more, numbers_more}
 use Rattle.po_messages.proofs.message_index.grouped.Goals as goal
 
 pub loop-key-init : goal.loop-key-init
-loop-key-init c = record { firsts = ap messages c.in_ok-index.ensures; numbers_are = c.in_ok-numbers.ensures.items }
+loop-key-init c = record { firsts = ap messages_of_keys c.in_ok-index.ensures; numbers_are = c.in_ok-numbers.ensures.items }
 
 pub loop-key-preserved : goal.loop-key-preserved
 loop-key-preserved c =
@@ -18,4 +18,4 @@ loop-key-preserved c =
     }
 
 pub returns : goal.returns
-returns c = let past = c.loop-key-test.false in c.loop-key.invariant.numbers_are ∙ ap (λ keys. group_numbers same_message (messages keys)) (take_all c.loop-key.key-index c.args.keys.now past)
+returns c = let past = c.loop-key-test.false in c.loop-key.invariant.numbers_are ∙ ap (λ keys. group_numbers same_message (messages_of_keys keys)) (take_all c.loop-key.key-index c.args.keys.now past)
