@@ -11,7 +11,7 @@ use Rattle.std.proofs.lemmas.Map.Views.{Contains-from_any}
 use Rattle.std.proofs.lemmas.Slice.Eq.{bytes_eq-Decides}
 use Rattle.po_syntax.specs.Facts.Runs.{FailsFirst, parts_of, end_parts, kept_is, from_end}
 use Rattle.po_syntax.specs.Spelling.{IsBlank}
-use Rattle.po_syntax.specs.Token.{is_blank, skip_blanks}
+use Rattle.po_syntax.specs.Blanks.{is_blank, skip_blanks}
 use Rattle.po_syntax.proofs.SpeltKeywords.{blank_says, blank_passes, skip_prefix}
 use Rattle.po_entry.specs.Bytes.{Lacks, without_end_blanks, trimmed}
 use Rattle.po_entry.specs.Parts.{CommentText}

@@ -2,7 +2,7 @@
 -- "The Format of PO Files").
 use Rattle.std.specs.Prelude.{◌≢◌, ℕ, ◌-◌, List, [], ◌∷◌, All, Contains, length, take}
 use Rattle.std.specs.List.{suffix_len}
-use Rattle.po_syntax.specs.Token.{is_blank, skip_blanks}
+use Rattle.po_syntax.specs.Blanks.{is_blank, skip_blanks}
 
 -- the text holds no such byte
 abbrev pub Lacks : ℕ → List ℕ → Type 0

@@ -6,7 +6,7 @@ use Rattle.std.specs.List.{slice_split, list_any}
 use Rattle.po_syntax.specs.declared.item.CommentKind.{CommentKind}
 use Rattle.po_syntax.specs.declared.item.CommentKind.TheVariants.{Translator, Extracted, Reference, Flags}
 use Rattle.po_entry.specs.TextEntry.{TextPrevious, no_previous}
-use Rattle.po_syntax.specs.Token.{is_blank}
+use Rattle.po_syntax.specs.Blanks.{is_blank}
 use Rattle.po_entry.specs.Bytes.{trimmed}
 use Rattle.po_entry.specs.Parts.{CommentText, PreviousText, rank}
 

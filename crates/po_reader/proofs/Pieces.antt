@@ -9,7 +9,7 @@ use Rattle.std.proofs.lemmas.List.Sums.{prefix_len_passes, prefix_len_stops}
 use Rattle.std.proofs.lemmas.List.Splits.{slice_split_none, slice_split_first}
 use Rattle.std.proofs.lemmas.Str.{IsUtf8-past_char, IsUtf8-take, IsUtf8-drop, IsCharBoundary-before_ascii, IsCharBoundary-after_ascii, encode_ascii}
 use Rattle.std.proofs.lemmas.Bool.{ltb-false, ltb-true, eqb-true, not-true, not-false, or_cases}
-use Rattle.po_syntax.specs.Token.{is_blank}
+use Rattle.po_syntax.specs.Blanks.{is_blank}
 
 -- text after an ASCII byte
 pub utf8_after : (b : ℕ) (text : List ℕ) → b < 128 → IsUtf8 (b ∷ text) → IsUtf8 text

@@ -8,7 +8,7 @@ use Rattle.std.proofs.lemmas.Bool.{eqb-true, eqb-false, not-true, false≢true}
 use Rattle.std.proofs.lemmas.Slice.Eq.{bytes_eq-Decides}
 use Rattle.po_syntax.specs.declared.item.CommentKind.{CommentKind}
 use Rattle.po_syntax.specs.declared.item.CommentKind.TheVariants.{Translator, Extracted, Reference, Flags}
-use Rattle.po_syntax.specs.Token.{is_blank, skip_blanks}
+use Rattle.po_syntax.specs.Blanks.{is_blank, skip_blanks}
 use Rattle.po_entry.specs.Bytes.{Lacks, trimmed, AreDistinct}
 use Rattle.po_entry.specs.Facts.Halves.{All-left}
 use Rattle.po_entry.specs.Parts.{CommentText}

@@ -8,7 +8,7 @@ use Rattle.po_syntax.specs.declared.fault.PoFault.{PoFault}
 use Rattle.po_syntax.specs.declared.fault.PoFault.TheVariants.{BadEscape, ForbiddenByte}
 use Rattle.po_syntax.specs.LineFaults.{EscapeFault, at_end, no_escape, octal as octal_fault, no_digit, hexadecimal_digits, NumberFault, nul, large, StartsEscape, StringFault, not_closed, in_escape, after_plain, after_escape}
 use Rattle.po_syntax.specs.LineFaults as starts
-use Rattle.po_syntax.specs.QuotedString.{Step, End, Byte, Stop, digit_count, number_step, letter_value, letter_step, escape_at, step_at, IsQuoted, ended, spelt, QuotedStops, here, later}
+use Rattle.po_syntax.specs.Internal.QuotedString.{Step, End, Byte, Stop, digit_count, number_step, letter_value, letter_step, escape_at, step_at, IsQuoted, ended, spelt, QuotedStops, here, later}
 use Rattle.po_syntax.specs.Escapes.{NoDigitFirst, SpellsEscape, alert, backspace, form_feed, line_feed, carriage_return, tab, vertical_tab, backslash, quote, octal, hexadecimal, SpellsString, closed, plain, escape}
 
 -- the first n bytes are digits, at most so many, and no digit follows where there are fewer

@@ -10,13 +10,14 @@ use Rattle.std.proofs.lemmas.Slice.Eq.{bytes_eq-Decides}
 use Rattle.po_syntax.specs.declared.fault.PoFault.{PoFault}
 use Rattle.po_syntax.specs.declared.fault.PoFault.TheVariants.{UnterminatedString, BadEscape, BadToken, BadPluralIndex}
 use Rattle.po_syntax.specs.Escapes.{NoDigitFirst}
-use Rattle.po_syntax.specs.Line as line
-use Rattle.po_syntax.specs.Line.{Tokens, obsolete_shape, tilde_shape, first_shape, shape_of, TokensStop, halt, after_word, LineStops, no_shape, in_tokens}
+use Rattle.po_syntax.specs.Internal.Line as line
+use Rattle.po_syntax.specs.Internal.Line.{Tokens, obsolete_shape, tilde_shape, first_shape, shape_of, TokensStop, halt, after_word, LineStops, no_shape, in_tokens}
 use Rattle.po_syntax.specs.LineFaults.{StartsEscape, octal_digit, hexadecimal, alert, backspace, form_feed, line_feed, carriage_return, tab, vertical_tab, backslash, quote, NumberFault, nul, large, EscapeFault, at_end, no_escape, octal, no_digit, hexadecimal_digits, StringFault, not_closed, in_escape, after_plain, after_escape, BeginsWithNoBlank, NoBracketFirst, IsNoKeyword, KeywordFault, no_keyword, no_index, large_index, not_closed_index, TokensFault, no_token, blank, in_keyword, in_string, after_keyword, after_string, BeginsTokens, BeginsWithNoBar, LineFault, indented, previous_again, obsolete_again, live, previous, obsolete, obsolete_previous}
-use Rattle.po_syntax.specs.QuotedString.{Stop, numbered, number_step, letter_value, letter_step, escape_at, step_at, QuotedStops, here, later}
+use Rattle.po_syntax.specs.Internal.QuotedString.{Stop, numbered, number_step, letter_value, letter_step, escape_at, step_at, QuotedStops, here, later}
 use Rattle.po_syntax.specs.Facts.Runs.{FailsFirst}
 use Rattle.po_syntax.specs.Spelling.{IsBlank, IsWordByte, EndsWord, marked}
-use Rattle.po_syntax.specs.Token.{WrongToken, is_blank, is_word_byte, skip_blanks, close_token, index_token, bracket_token, keyword_token, first_token, token_at}
+use Rattle.po_syntax.specs.Internal.Token.{WrongToken, is_word_byte, close_token, index_token, bracket_token, keyword_token, first_token, token_at}
+use Rattle.po_syntax.specs.Blanks.{is_blank, skip_blanks}
 use Rattle.po_syntax.proofs.SpeltEscapes.{count_prefix, count_all, plain_read, backslash_read, spelt_quoted}
 use Rattle.po_syntax.proofs.SpeltKeywords.{blank_says, word_byte_says, word_byte_passes, skip_prefix, keyword_read, m_read, word_prefix, ends_before_bracket, blank_no_word, digits_no_blank}
 use Rattle.po_syntax.proofs.SpeltLines.{quote_opens, blank_skipped, hash_first, bar_first, tilde_first, tilde_bar_first, tilde_comment}

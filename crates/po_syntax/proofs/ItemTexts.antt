@@ -7,14 +7,13 @@ use Rattle.po_syntax.specs.declared.item.CommentKind.{CommentKind}
 use Rattle.po_syntax.specs.declared.item.CommentKind.TheVariants.{Translator}
 use Rattle.po_syntax.specs.Escapes.{SpellsEscape, alert, backspace, form_feed, line_feed, carriage_return, tab, vertical_tab, backslash, quote, octal, hexadecimal, SpellsString, closed, plain, escape}
 use Rattle.po_syntax.specs.ItemContents.{IsCommentOf, HoldsText}
-use Rattle.po_syntax.specs.Line.{SpellsLine}
 use Rattle.po_syntax.specs.PoText.{SpellsLines, SpellsText}
 use Rattle.po_syntax.specs.Spelling.{IsBlank, space, IsMark, dot, colon, comma, bar, tilde, SpellsComment, extracted, reference, flags, translator, IsWithoutReturns, HoldsTokens, end, blank, keyword, string, HoldsItems, indented, comment, obsolete_comment, live, previous, obsolete, obsolete_previous}
 use Rattle.po_syntax.specs.TextItem.{TextItem}
 use Rattle.po_syntax.specs.CleanLine.{IsCleanLine, AreCleanLines}
 use Rattle.po_syntax.proofs.CleanLines.{clean_lines}
 use Rattle.po_syntax.proofs.Rests.{All-rest}
-use Rattle.po_syntax.proofs.SpeltLines.{line_holds, is_trimmed}
+use Rattle.po_syntax.proofs.SpeltLines.{is_trimmed}
 use Rattle.po_syntax.proofs.Tokens.{keyword_behind}
 use Rattle.po_syntax.proofs.TrimmedReturns.{trim_end, trim_returns-utf8, trim_returns-twice}
 
@@ -114,19 +113,16 @@ token_texts (string {text = text} s more) h =
     let read = string_nonzero s (rest_of (34 ∷ []) text h) in
     All-cons HoldsText _ _ read.0 (token_texts more read.1)
 
-item_texts : {number : ℕ} {line : List ℕ} {items : List TextItem} → HoldsItems number line items → IsCleanLine line → All HoldsText items
-item_texts (indented {b = b} {text = text} is h) clean = item_texts h (clean_tail b text (blank_low is) clean)
-item_texts (comment {text = text} s without) clean = All-cons HoldsText _ [] (comment_text s without (clean_tail 35 text (omega arith) clean)) no_items
-item_texts (obsolete_comment blanks {text = text} all s without) clean =
+pub line_texts : {number : ℕ} {line : List ℕ} {items : List TextItem} → HoldsItems number line items → IsCleanLine line → All HoldsText items
+line_texts (indented {b = b} {text = text} is h) clean = line_texts h (clean_tail b text (blank_low is) clean)
+line_texts (comment {text = text} s without) clean = All-cons HoldsText _ [] (comment_text s without (clean_tail 35 text (omega arith) clean)) no_items
+line_texts (obsolete_comment blanks {text = text} all s without) clean =
     let inner = clean_tail 126 (blanks ++ 35 ∷ text) (omega arith) (clean_tail 35 (126 ∷ (blanks ++ 35 ∷ text)) (omega arith) clean) in
     All-cons HoldsText _ [] (comment_text s without (clean_tail 35 text (omega arith) (clean_after blanks (35 ∷ text) all inner))) no_items
-item_texts (live h) clean = token_texts h clean.no_nul
-item_texts (previous {text = text} h) clean = token_texts h (rest_of (35 ∷ 124 ∷ []) text clean.no_nul)
-item_texts (obsolete {text = text} h) clean = token_texts h (rest_of (35 ∷ 126 ∷ []) text clean.no_nul)
-item_texts (obsolete_previous {text = text} h) clean = token_texts h (rest_of (35 ∷ 126 ∷ 124 ∷ []) text clean.no_nul)
-
-pub line_texts : {number : ℕ} {line : List ℕ} {items : List TextItem} → SpellsLine number line items → IsCleanLine line → All HoldsText items
-line_texts h clean = item_texts (line_holds h) clean
+line_texts (live h) clean = token_texts h clean.no_nul
+line_texts (previous {text = text} h) clean = token_texts h (rest_of (35 ∷ 124 ∷ []) text clean.no_nul)
+line_texts (obsolete {text = text} h) clean = token_texts h (rest_of (35 ∷ 126 ∷ []) text clean.no_nul)
+line_texts (obsolete_previous {text = text} h) clean = token_texts h (rest_of (35 ∷ 126 ∷ 124 ∷ []) text clean.no_nul)
 
 pub lines_texts : (number : ℕ) (lines : List (List ℕ)) (items : List TextItem) → SpellsLines number lines items → AreCleanLines lines → All HoldsText items
 lines_texts number [] items h clean = rw h no_items

@@ -22,7 +22,6 @@ use Rattle.po_syntax.specs.Spelling.{HoldsItems, HoldsTokens}
 use Rattle.po_syntax.specs.Spelling as spelt
 use Rattle.po_syntax.specs.TextItem.{TextItem, line_of}
 use Rattle.po_syntax.proofs.CleanLines.{lacks_before, no_nul_all}
-use Rattle.po_syntax.proofs.SpeltLines.{line_holds, line_fault}
 
 -- how many LFs a text has
 abbrev feeds : List ℕ → ℕ
@@ -139,12 +138,12 @@ items_placed zero text before rest count items parts less left h = absurd (omega
 items_placed (suc n) text before rest count items (only_line lacks is) less left h =
     let s = subst (λ l. SpellsLines (1 + count) l items) is h in
     let whole : items ≡ s.0 = s.4 ∙ ap (λ l. s.0 ++ l) s.3 ∙ append-nil s.0 in
-    subst (All (IsOnItsLine text)) (sym whole) (on_line text rest (1 + count) s.0 (last_has text before rest count left lacks) (line_holds s.2))
+    subst (All (IsOnItsLine text)) (sym whole) (on_line text rest (1 + count) s.0 (last_has text before rest count left lacks) s.2)
 items_placed (suc n) text before rest count items (first_line first more lacks is) less left h =
     let s = subst (λ l. SpellsLines (1 + count) l items) is h in
     let number : 1 + count + 1 ≡ 1 + (count + 1) = omega arith in
     let shorter : length more < n = omega (arith, less, length-append first (10 ∷ more)) in
-    let here = on_line text first (1 + count) s.0 (first_has text before first more count left lacks) (line_holds s.2) in
+    let here = on_line text first (1 + count) s.0 (first_has text before first more count left lacks) s.2 in
     let later = items_placed n text (before ++ first ++ 10 ∷ []) more (count + 1) s.1 (cut more) shorter (left_after text before first more count left lacks) (subst (λ m. SpellsLines m (lines_of more) s.1) number s.3) in
     subst (All (IsOnItsLine text)) (sym s.4) (All-append (IsOnItsLine text) s.0 s.1 here later)
 
@@ -167,13 +166,13 @@ fault_placed : (n : ℕ) (text before rest : List ℕ) (count : ℕ) (fault : Po
 fault_placed zero text before rest count fault number parts less left h = absurd (omega (arith, less))
 fault_placed (suc n) text before rest count fault number (only_line lacks is) less left h = by (subst (λ l. LinesStop (1 + count) l fault number) is h) where
   by : LinesStop (1 + count) (rest ∷ []) fault number → StopsAt text fault number
-  by (inl s) = record { line = rest; has = subst (HasLine text rest) (sym s.1) (last_has text before rest count left lacks); stops = line_fault s.0 }
+  by (inl s) = record { line = rest; has = subst (HasLine text rest) (sym s.1) (last_has text before rest count left lacks); stops = s.0 }
   by (inr s) = absurd s.2
 fault_placed (suc n) text before rest count fault number (first_line first more lacks is) less left h =
     by (subst (λ l. LinesStop (1 + count) l fault number) is h)
     (λ s. fault_placed n text (before ++ first ++ 10 ∷ []) more (count + 1) fault number (cut more) (omega (arith, less, length-append first (10 ∷ more))) (left_after text before first more count left lacks) s) where
       by : LinesStop (1 + count) (first ∷ lines_of more) fault number → (LinesStop (1 + (count + 1)) (lines_of more) fault number → StopsAt text fault number) → StopsAt text fault number
-      by (inl s) later = record { line = first; has = subst (HasLine text first) (sym s.1) (first_has text before first more count left lacks); stops = line_fault s.0 }
+      by (inl s) later = record { line = first; has = subst (HasLine text first) (sym s.1) (first_has text before first more count left lacks); stops = s.0 }
       by (inr s) later = let number_is : 1 + count + 1 ≡ 1 + (count + 1) = omega arith in later (subst (λ m. LinesStop m (lines_of more) fault number) number_is s.2)
 
 -- where a text has a byte

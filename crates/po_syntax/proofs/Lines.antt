@@ -4,13 +4,11 @@ use Rattle.std.specs.List.{onto_first}
 use Rattle.std.proofs.lemmas.List.Sums.{sum_by-cons}
 use Rattle.po_syntax.specs.LinesLeft.{lines_len}
 use Rattle.po_syntax.specs.declared.item.Marks.{Marks}
-use Rattle.po_syntax.specs.Line.{SpellsLine}
 use Rattle.po_syntax.specs.Spelling.{HoldsTokens, end, blank, keyword, string, HoldsItems, indented, live, previous, obsolete, obsolete_previous}
 use Rattle.po_syntax.specs.PoText.{SpellsLines, lines_of, without_byte_order_mark}
 use Rattle.po_syntax.specs.TextItem.{TextItem}
 use Rattle.po_syntax.proofs.Escapes.{string_shorter}
 use Rattle.po_syntax.proofs.Tokens.{keyword_behind}
-use Rattle.po_syntax.proofs.SpeltLines.{line_holds}
 
 tokens-few : {marks : Marks} {line : ℕ} {text : List ℕ} {items : List TextItem} → HoldsTokens marks line text items → length items ≤ length text
 tokens-few end = omega arith
@@ -18,16 +16,13 @@ tokens-few (blank b h) = omega (arith, tokens-few h)
 tokens-few (keyword s h) = omega (arith, (keyword_behind s).1, tokens-few h)
 tokens-few (string s h) = omega (arith, string_shorter s, tokens-few h)
 
-items_few : {line : ℕ} {text : List ℕ} {items : List TextItem} → HoldsItems line text items → length items ≤ length text
-items_few (indented b h) = omega (arith, items_few h)
-items_few (live h) = tokens-few h
-items_few (previous h) = omega (arith, tokens-few h)
-items_few (obsolete h) = omega (arith, tokens-few h)
-items_few (obsolete_previous h) = omega (arith, tokens-few h)
-items_few _ = omega arith
-
-pub line-few : {line : ℕ} {text : List ℕ} {items : List TextItem} → SpellsLine line text items → length items ≤ length text
-line-few h = items_few (line_holds h)
+pub line-few : {line : ℕ} {text : List ℕ} {items : List TextItem} → HoldsItems line text items → length items ≤ length text
+line-few (indented b h) = omega (arith, line-few h)
+line-few (live h) = tokens-few h
+line-few (previous h) = omega (arith, tokens-few h)
+line-few (obsolete h) = omega (arith, tokens-few h)
+line-few (obsolete_previous h) = omega (arith, tokens-few h)
+line-few _ = omega arith
 
 -- each item takes a byte, and each line one more for its LF
 pub lines-few : (number : ℕ) (lines : List (List ℕ)) (items : List TextItem) → SpellsLines number lines items → length items + length lines ≤ lines_len lines

@@ -4,7 +4,6 @@ use Rattle.po_syntax.specs.declared.fault.PoFault.{PoFault}
 use Rattle.po_syntax.specs.declared.fault.PoFault.TheVariants.{OutOfMemory}
 use Rattle.po_syntax.specs.LineFaults as fault
 use Rattle.po_syntax.specs.PoText.{LinesStop, TextFault, too_large, not_utf8, nul, stops}
-use Rattle.po_syntax.proofs.SpeltLines.{line_fault}
 
 abbrev IsReported : PoFault → Type 0
 IsReported kind = kind ≢ OutOfMemory
@@ -51,7 +50,7 @@ line_reported (fault.obsolete_previous h) = tokens_reported h
 
 lines_reported : (number : ℕ) (lines : List (List ℕ)) (kind : PoFault) (at : ℕ) → LinesStop number lines kind at → IsReported kind
 lines_reported number [] kind at s = absurd s
-lines_reported number (line ∷ lines) kind at (inl first) = line_reported (line_fault first.0)
+lines_reported number (line ∷ lines) kind at (inl first) = line_reported first.0
 lines_reported number (line ∷ lines) kind at (inr after) = lines_reported (number + 1) lines kind at after.2
 
 pub text_reported : (text : List ℕ) (kind : PoFault) (line : ℕ) → TextFault text kind line → kind ≢ OutOfMemory

@@ -11,7 +11,8 @@ use Rattle.po_syntax.specs.declared.fault.PoFault.{PoFault}
 use Rattle.po_syntax.specs.declared.item.Item.{Item}
 use Rattle.po_syntax.specs.CleanLine.{AreCleanLines}
 use Rattle.po_syntax.specs.ItemContents.{HoldsText}
-use Rattle.po_syntax.specs.Line.{SpellsLine, LineStops}
+use Rattle.po_syntax.specs.LineFaults.{LineFault}
+use Rattle.po_syntax.specs.Spelling.{HoldsItems}
 use Rattle.po_syntax.specs.LinesLeft.{LinesLeft, SpellsLeft, LeftStops, AreOfText, left_after, lines_len, lines_of_rest}
 use Rattle.po_syntax.specs.Piece.{IsString, IsTranslationWord, IsTranslation, EndsTranslation, IsNew, BeginsAnew, LineBeginsAnew, CanEnd, IsPiece, EndsInString, LeftAnew}
 use Rattle.po_syntax.specs.PoText.{SpellsLines, LinesStop, lines_of}
@@ -164,20 +165,20 @@ stops_after (suc count) number (first ∷ lines) items fault line h g =
     inr (h.0, h.2, stops_after count (number + 1) lines h.1 fault line h.3 (subst (λ (n : ℕ). LinesStop n (drop count lines) fault line) sum g))
 
 -- one line more
-spelt_more : (count number : ℕ) (lines : List (List ℕ)) (line : List ℕ) (others : List (List ℕ)) (items here : List TextItem) → SpellsLines number (take count lines) items → drop count lines ≡ line ∷ others → SpellsLine (number + count) line here
+spelt_more : (count number : ℕ) (lines : List (List ℕ)) (line : List ℕ) (others : List (List ℕ)) (items here : List TextItem) → SpellsLines number (take count lines) items → drop count lines ≡ line ∷ others → HoldsItems (number + count) line here
     → SpellsLines number (take (suc count) lines) (items ++ here)
 spelt_more zero number [] line others items here h e g = absurd (cc)
 spelt_more zero number (first ∷ lines) line others items here h e g =
     let same : line ≡ first = cc in
     let sum : number + 0 ≡ number = omega arith in
-    rw h (here, [], subst (λ (n : ℕ). SpellsLine n first here) sum (subst (λ (l : List ℕ). SpellsLine (number + 0) l here) same g), refl, sym (append-nil here))
+    rw h (here, [], subst (λ (n : ℕ). HoldsItems n first here) sum (subst (λ (l : List ℕ). HoldsItems (number + 0) l here) same g), refl, sym (append-nil here))
 spelt_more (suc count) number [] line others items here h e g = absurd (cc)
 spelt_more (suc count) number (first ∷ lines) line others items here h e g =
     let sum : number + suc count ≡ (number + 1) + count = omega arith in (
       h.0,
       h.1 ++ here,
       h.2,
-      spelt_more count (number + 1) lines line others h.1 here h.3 e (subst (λ (n : ℕ). SpellsLine n line here) sum g),
+      spelt_more count (number + 1) lines line others h.1 here h.3 e (subst (λ (n : ℕ). HoldsItems n line here) sum g),
       ap (λ (x : List TextItem). x ++ here) h.4 ∙ append_assoc h.0 h.1 here,
     )
 
@@ -201,11 +202,11 @@ pub record HasRead (size : ℕ) (old now : LinesLeft) (items : List TextItem) (l
 next_line : {size : ℕ} {old now : LinesLeft} {items : List TextItem} {len : ℕ} (read : HasRead size old now items len) (line : List ℕ) (others : List (List ℕ)) → now.lines ≡ line ∷ others → drop read.count old.lines ≡ line ∷ others
 next_line read line others e = sym (ap (λ (left : LinesLeft). left.lines) read.rest) ∙ e
 
-here_spelt : {size : ℕ} {old now : LinesLeft} {items : List TextItem} {len : ℕ} (read : HasRead size old now items len) (line : List ℕ) (here : List TextItem) → SpellsLine now.number line here → SpellsLine (old.number + read.count) line here
-here_spelt read line here spelt = subst (λ (left : LinesLeft). SpellsLine left.number line here) read.rest spelt
+here_spelt : {size : ℕ} {old now : LinesLeft} {items : List TextItem} {len : ℕ} (read : HasRead size old now items len) (line : List ℕ) (here : List TextItem) → HoldsItems now.number line here → HoldsItems (old.number + read.count) line here
+here_spelt read line here spelt = subst (λ (left : LinesLeft). HoldsItems left.number line here) read.rest spelt
 
 -- a piece can end before a line only where its items and those before them say so
-no_end : {size : ℕ} {old now : LinesLeft} {items : List TextItem} {len : ℕ} (read : HasRead size old now items len) (line : List ℕ) (others : List (List ℕ)) (here : List TextItem) → now.lines ≡ line ∷ others → SpellsLine now.number line here
+no_end : {size : ℕ} {old now : LinesLeft} {items : List TextItem} {len : ℕ} (read : HasRead size old now items len) (line : List ℕ) (others : List (List ℕ)) (here : List TextItem) → now.lines ≡ line ∷ others → HoldsItems now.number line here
     → (size ≤ len → EndsTranslation items → BeginsAnew here → ⊥) → CanEnd size old read.count → ⊥
 no_end {size} {old} read line others here e spelt none can =
     let items = lines_once old.number (take read.count old.lines) can.entry.spelt read.spelt in
@@ -214,7 +215,7 @@ no_end {size} {old} read line others here e spelt none can =
     none (subst (λ (l : ℕ). size ≤ l) (sym read.len_is) can.large) (subst EndsTranslation items can.entry.ends) (subst BeginsAnew same anew.2)
 
 -- a line more is read
-pub read_on : (size : ℕ) (old now : LinesLeft) (items : List TextItem) (len : ℕ) (line : List ℕ) (others : List (List ℕ)) (here : List TextItem) → HasRead size old now items len → now.lines ≡ line ∷ others → SpellsLine now.number line here
+pub read_on : (size : ℕ) (old now : LinesLeft) (items : List TextItem) (len : ℕ) (line : List ℕ) (others : List (List ℕ)) (here : List TextItem) → HasRead size old now items len → now.lines ≡ line ∷ others → HoldsItems now.number line here
     → (size ≤ len → EndsTranslation items → BeginsAnew here → ⊥) → HasRead size old (record { number = now.number + 1; lines = others }) (items ++ here) (len + (length line + 1))
 read_on size old now items len line others here read e spelt none =
     let next = next_line read line others e in
@@ -238,7 +239,7 @@ read_on size old now items len line others here read e spelt none =
     }
 
 -- a piece ends before a line that begins anew
-pub ended_before : (size : ℕ) (old now : LinesLeft) (items : List TextItem) (len : ℕ) (line : List ℕ) (others : List (List ℕ)) (here : List TextItem) → HasRead size old now items len → now.lines ≡ line ∷ others → SpellsLine now.number line here
+pub ended_before : (size : ℕ) (old now : LinesLeft) (items : List TextItem) (len : ℕ) (line : List ℕ) (others : List (List ℕ)) (here : List TextItem) → HasRead size old now items len → now.lines ≡ line ∷ others → HoldsItems now.number line here
     → size ≤ len → EndsTranslation items → BeginsAnew here → IsPiece size old now items
 ended_before size old now items len line others here read e spelt large ends anew = record {
   count = read.count;
@@ -269,7 +270,7 @@ ended_after size old now items len read over = record {
 }
 
 -- the fault of the line that is read next
-pub line_stops : (size : ℕ) (old now : LinesLeft) (items : List TextItem) (len : ℕ) (line : List ℕ) (others : List (List ℕ)) (fault : PoFault) → HasRead size old now items len → now.lines ≡ line ∷ others → LineStops line fault → LeftStops old fault now.number
+pub line_stops : (size : ℕ) (old now : LinesLeft) (items : List TextItem) (len : ℕ) (line : List ℕ) (others : List (List ℕ)) (fault : PoFault) → HasRead size old now items len → now.lines ≡ line ∷ others → LineFault line fault → LeftStops old fault now.number
 line_stops size old now items len line others fault read e stops =
     let number : now.number ≡ old.number + read.count = ap (λ (left : LinesLeft). left.number) read.rest in
     stops_after read.count old.number old.lines items fault now.number read.spelt (subst (λ (lines : List (List ℕ)). LinesStop (old.number + read.count) lines fault now.number) (sym (next_line read line others e)) (inl (stops, number)))

@@ -5,7 +5,7 @@ use Rattle.std.specs.Str.Parse.{digits_value}
 use Rattle.std.proofs.lemmas.Str.{digit_value-digit_char}
 use Rattle.std.proofs.lemmas.Bool.{eqb-true, ne_eqb, lt-ltb}
 use Rattle.po_syntax.specs.QuotedForm.{octal_escape, is_control, written_byte, written_bytes}
-use Rattle.po_syntax.specs.QuotedString.{Byte, End, step_at, escape_at, IsQuoted, ended, spelt}
+use Rattle.po_syntax.specs.Internal.QuotedString.{Byte, End, step_at, escape_at, IsQuoted, ended, spelt}
 
 -- inside a quoted string, these bytes spell this one
 abbrev Spells : ℕ → List ℕ → Type 0

@@ -6,7 +6,7 @@ use Rattle.std.proofs.lemmas.Bool.{or_parts, false_from_ne_true}
 use Rattle.memchr.specs.Find.{IsFirstByte, is_byte2}
 use Rattle.po_syntax.specs.declared.fault.PoFault.{PoFault}
 use Rattle.po_syntax.specs.declared.fault.PoFault.TheVariants.{UnterminatedString}
-use Rattle.po_syntax.specs.QuotedString.{End, Byte, escape_at, step_at, IsQuoted, spelt, QuotedStops, here, later}
+use Rattle.po_syntax.specs.Internal.QuotedString.{End, Byte, escape_at, step_at, IsQuoted, spelt, QuotedStops, here, later}
 
 -- a byte that is neither a quote nor a backslash stands for itself
 plain_step : (b : ℕ) (text : List ℕ) → is_byte2 34 92 b ≡ false → step_at (b ∷ text) ≡ Byte b text

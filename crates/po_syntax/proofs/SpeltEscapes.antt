@@ -4,7 +4,7 @@ use Rattle.std.specs.Char.{digit_value}
 use Rattle.std.specs.Str.Parse.{AllDigits, IsNumeral, digits_value}
 use Rattle.std.proofs.Math.Seq.{take-append_seam, drop-append_seam}
 use Rattle.std.proofs.lemmas.Bool.{ne_eqb, lt-ltb, le-ltb}
-use Rattle.po_syntax.specs.QuotedString.{End, Byte, digit_count, number_step, escape_at, step_at, IsQuoted, ended, spelt}
+use Rattle.po_syntax.specs.Internal.QuotedString.{End, Byte, digit_count, number_step, escape_at, step_at, IsQuoted, ended, spelt}
 use Rattle.po_syntax.specs.Escapes.{NoDigitFirst, IsByteNumber, SpellsEscape, alert, backspace, form_feed, line_feed, carriage_return, tab, vertical_tab, backslash, quote, octal, hexadecimal, SpellsString, closed, plain, escape}
 
 -- as many digits as there are, up to so many

@@ -15,10 +15,11 @@ use Rattle.po_syntax.specs.declared.item.Keyword.{Keyword}
 use Rattle.po_syntax.specs.declared.item.Keyword.TheVariants.{MsgCtxt, MsgId, MsgIdPlural, MsgStr, MsgStrAt}
 use Rattle.po_syntax.specs.Escapes.{NoDigitFirst}
 use Rattle.po_syntax.specs.LineFaults.{BeginsWithNoBlank, NoBracketFirst, KeywordFault, no_keyword, no_index, large_index, not_closed_index, TokensFault, no_token, in_keyword}
-use Rattle.po_syntax.specs.QuotedString.{digit_count}
+use Rattle.po_syntax.specs.Internal.QuotedString.{digit_count}
 use Rattle.po_syntax.specs.Facts.Runs.{FailsFirst, parts_of, run_length, all_pass}
 use Rattle.po_syntax.specs.Spelling.{IsBlank, space, tab, vertical_tab, form_feed, carriage_return, IsWordByte, upper, lower, digit, underscore, EndsWord, HasNoBracket, SpellsKeyword, msgctxt, msgid, msgid_plural, msgstr, form}
-use Rattle.po_syntax.specs.Token.{Token, LineEnd, OpeningQuote, KeywordToken, WrongToken, is_blank, is_word_byte, skip_blanks, close_token, index_token, bracket_token, keyword_token, word_token, first_token, token_at}
+use Rattle.po_syntax.specs.Internal.Token.{Token, LineEnd, OpeningQuote, KeywordToken, WrongToken, is_word_byte, close_token, index_token, bracket_token, keyword_token, word_token, first_token, token_at}
+use Rattle.po_syntax.specs.Blanks.{is_blank, skip_blanks}
 use Rattle.po_syntax.proofs.Escapes.{all_digits, positive}
 use Rattle.po_syntax.proofs.SpeltEscapes.{count_all}
 

@@ -9,13 +9,16 @@ use Rattle.po_syntax.specs.declared.fault.PoFault.TheVariants.{BadToken}
 use Rattle.po_syntax.specs.declared.item.CommentKind.{CommentKind}
 use Rattle.po_syntax.specs.declared.item.CommentKind.TheVariants.{Translator, Extracted, Reference, Flags}
 use Rattle.po_syntax.specs.declared.item.Marks.{Marks}
-use Rattle.po_syntax.specs.Line as line
-use Rattle.po_syntax.specs.Line.{Shape, CommentLine, Tokens, NoShape, comment_shape, obsolete_shape, tilde_shape, hash_shape, first_shape, shape_of, trim_returns, SpellsTokens, none, word, SpellsLine, TokensStop, halt, after_word, LineStops, no_shape, in_tokens}
+use Rattle.po_syntax.specs.Internal.Line as line
+use Rattle.po_syntax.specs.Internal.Line.{Shape, CommentLine, Tokens, NoShape, comment_shape, obsolete_shape, tilde_shape, hash_shape, first_shape, shape_of, SpellsTokens, none, word, SpellsLine, TokensStop, halt, after_word, LineStops, no_shape, in_tokens}
+use Rattle.po_syntax.specs.ItemContents.{trim_returns}
 use Rattle.po_syntax.specs.LineFaults.{TokensFault, blank as fault_blank, in_string as fault_in_string, after_keyword, after_string as fault_after_string, BeginsTokens, BeginsWithNoBar, LineFault, indented as fault_indent, previous_again, obsolete_again, live as fault_live, previous as fault_previous, obsolete as fault_obsolete, obsolete_previous as fault_obsolete_previous}
-use Rattle.po_syntax.specs.Facts.Runs.{FailsFirst, end_parts, kept_is}
+use Rattle.po_syntax.specs.Facts.Returns.{kept_text}
+use Rattle.po_syntax.specs.Facts.Runs.{FailsFirst, kept_is}
 use Rattle.po_syntax.specs.Spelling.{IsBlank, HoldsTokens, end, blank, keyword, string, IsMark, dot, colon, comma, bar, tilde, SpellsComment, extracted, reference, flags, translator, IsWithoutReturns, marked, HoldsItems, indented, comment, obsolete_comment, live, previous, obsolete, obsolete_previous}
 use Rattle.po_syntax.specs.TextItem.{TextItem, Comment, Str}
-use Rattle.po_syntax.specs.Token.{Token, LineEnd, OpeningQuote, KeywordToken, WrongToken, is_blank, skip_blanks, first_token, token_at}
+use Rattle.po_syntax.specs.Internal.Token.{Token, LineEnd, OpeningQuote, KeywordToken, WrongToken, first_token, token_at}
+use Rattle.po_syntax.specs.Blanks.{is_blank, skip_blanks}
 use Rattle.po_syntax.proofs.Escapes.{quoted_spelt, string_fault}
 use Rattle.po_syntax.proofs.SpeltEscapes.{spelt_quoted}
 use Rattle.po_syntax.proofs.SpeltKeywords.{blank_passes, skips, skip_prefix, fails_begins, keyword_read, TokenSays, first_says}
@@ -76,18 +79,6 @@ no_tokens (line.string e quoted more) h = cc
 return_passes : (returns : List ℕ) → All (λ b. b ≡ 13) returns → All (λ b. (b == 13) ≡ true) returns
 return_passes returns h = λ k d below. eq-eqb _ 13 (h k d below)
 
-return_says : (returns : List ℕ) → All (λ b. (b == 13) ≡ true) returns → All (λ b. b ≡ 13) returns
-return_says returns h = λ k d below. eqb-true _ 13 (h k d below)
-
-trimmed : (text : List ℕ) → IsWithoutReturns text (trim_returns text)
-trimmed text =
-    let parts = end_parts (λ b. b == 13) text in record {
-      returns = parts.end;
-      whole = parts.whole;
-      are_returns = return_says parts.end parts.passes;
-      none_left = λ before is. eqb-false 13 13 (parts.fails before 13 is) refl;
-    }
-
 pub is_trimmed : (text kept : List ℕ) → IsWithoutReturns text kept → kept ≡ trim_returns text
 is_trimmed text kept h =
     sym (ap trim_returns h.whole ∙ kept_is (λ b. b == 13) kept (λ before b is. ne_eqb b 13 (λ same. h.none_left before (is ∙ ap (λ a. before ++ a ∷ []) same))) h.returns (return_passes h.returns h.are_returns))
@@ -134,12 +125,12 @@ abbrev BeginsComment : List ℕ → Type 0
 BeginsComment text = (rest : List ℕ) → (text ≡ 124 ∷ rest) ⊎ (text ≡ 126 ∷ rest) → ⊥
 
 comment_line : (text : List ℕ) (shape : Shape) → BeginsComment text → CommentSays text shape → ShapeSays (35 ∷ text) shape
-comment_line text (CommentLine kind rest) other h = λ number. comment h (trimmed rest)
+comment_line text (CommentLine kind rest) other h = λ number. comment h (kept_text rest)
 comment_line text (Tokens marks rest) other h = absurd h
 comment_line text NoShape other h = absurd (other h.0 h.1)
 
 obsolete_comment_line : (blanks text : List ℕ) (shape : Shape) → All IsBlank blanks → CommentSays text shape → ShapeSays (35 ∷ 126 ∷ (blanks ++ 35 ∷ text)) shape
-obsolete_comment_line blanks text (CommentLine kind rest) all h = λ number. obsolete_comment blanks all h (trimmed rest)
+obsolete_comment_line blanks text (CommentLine kind rest) all h = λ number. obsolete_comment blanks all h (kept_text rest)
 obsolete_comment_line blanks text (Tokens marks rest) all h = absurd h
 obsolete_comment_line blanks text NoShape all h =
     let Q : List ℕ → Type 0 = λ t. LineFault (35 ∷ 126 ∷ (blanks ++ 35 ∷ t)) BadToken in

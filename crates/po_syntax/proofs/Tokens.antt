@@ -4,7 +4,8 @@ use Rattle.std.specs.List.{prefix_len}
 use Rattle.std.proofs.Math.Seq.{drop-append_seam}
 use Rattle.po_syntax.specs.declared.item.Keyword.{Keyword}
 use Rattle.po_syntax.specs.Spelling.{SpellsKeyword, msgctxt, msgid, msgid_plural, msgstr, form}
-use Rattle.po_syntax.specs.Token.{Token, OpeningQuote, KeywordToken, is_blank, skip_blanks, token_at}
+use Rattle.po_syntax.specs.Internal.Token.{Token, OpeningQuote, KeywordToken, token_at}
+use Rattle.po_syntax.specs.Blanks.{is_blank, skip_blanks}
 use Rattle.po_syntax.proofs.Rests.{IsRest, whole_rest, rest-drop, rest-tail, rest-le, rest-rest}
 use Rattle.po_syntax.proofs.SpeltKeywords.{TokenSays, first_says}
 

@@ -7,12 +7,16 @@ use Rattle.std.proofs.lemmas.Bool.{cases_lt, false≢true}
 use Rattle.po_syntax.specs.declared.fault.PoFault.{PoFault}
 use Rattle.po_syntax.specs.declared.fault.PoFault.TheVariants.{NotUtf8, BadToken, ForbiddenByte, TooLarge}
 use Rattle.po_syntax.specs.declared.item.Marks.{Marks}
-use Rattle.po_syntax.specs.Line.{Shape, CommentLine, Tokens, NoShape, shape_of, trim_returns, SpellsTokens, none, word, string, TokensStop, halt, in_string, after_word, after_string, SpellsLine, comment, tokens, LineStops, no_shape, in_tokens}
+use Rattle.po_syntax.specs.Internal.Line.{Shape, CommentLine, Tokens, NoShape, shape_of, SpellsTokens, none, word, string, TokensStop, halt, in_string, after_word, after_string, SpellsLine, comment, tokens, LineStops, no_shape, in_tokens}
+use Rattle.po_syntax.specs.ItemContents.{trim_returns}
 use Rattle.po_syntax.specs.PoText.{IsSmall, line_number, without_byte_order_mark, lines_of, SpellsLines, LinesStop, SpellsText, TextFault, too_large, not_utf8, nul, stops}
-use Rattle.po_syntax.specs.QuotedString.{Step, End, Byte, Stop, step_at, IsQuoted, ended, spelt, QuotedStops, here, later}
+use Rattle.po_syntax.specs.Internal.QuotedString.{Step, End, Byte, Stop, step_at, IsQuoted, ended, spelt, QuotedStops, here, later}
+use Rattle.po_syntax.specs.LineFaults.{LineFault}
+use Rattle.po_syntax.specs.Spelling.{HoldsItems}
 use Rattle.po_syntax.specs.TextItem.{TextItem, Comment, Word, Str}
-use Rattle.po_syntax.specs.Token.{Token, LineEnd, OpeningQuote, KeywordToken, WrongToken, token_at}
+use Rattle.po_syntax.specs.Internal.Token.{Token, LineEnd, OpeningQuote, KeywordToken, WrongToken, token_at}
 use Rattle.po_syntax.proofs.QuotedStrings.{byte-shorter, quoted-shorter}
+use Rattle.po_syntax.proofs.SpeltLines.{line_holds, line_fault}
 use Rattle.po_syntax.proofs.Tokens.{keyword-shorter, quote-shorter}
 
 -- after an opening quote
@@ -56,13 +60,13 @@ tokens_end : (marks : Marks) (line : ℕ) (text : List ℕ) → TokensEnd marks 
 tokens_end marks line text = tokens_below marks line (length text + 1) text (omega arith)
 
 abbrev LineEnds : ℕ → List ℕ → Type 0
-LineEnds line text = ((items : List TextItem) × SpellsLine line text items) ⊎ ((fault : PoFault) × LineStops text fault)
+LineEnds line text = ((items : List TextItem) × HoldsItems line text items) ⊎ ((fault : PoFault) × LineFault text fault)
 
 line_step : (line : ℕ) (text : List ℕ) (shape : Shape) → shape_of text ≡ shape → LineEnds line text
-line_step line text (CommentLine kind rest) e = inl (Comment kind (trim_returns rest) line ∷ [], comment e)
-line_step line text NoShape e = inr (BadToken, no_shape e)
+line_step line text (CommentLine kind rest) e = inl (Comment kind (trim_returns rest) line ∷ [], line_holds (comment e))
+line_step line text NoShape e = inr (BadToken, line_fault (no_shape e))
 line_step line text (Tokens marks rest) e =
-    elim (tokens_end marks line rest) [ inl found ↦ inl (found.0, tokens e found.1) | inr found ↦ inr (found.0, in_tokens e found.1) ]
+    elim (tokens_end marks line rest) [ inl found ↦ inl (found.0, line_holds (tokens e found.1)) | inr found ↦ inr (found.0, line_fault (in_tokens e found.1)) ]
 
 lines_end : (number : ℕ) (lines : List (List ℕ)) → ((items : List TextItem) × SpellsLines number lines items) ⊎ ((fault : PoFault) × (at : ℕ) × LinesStop number lines fault at)
 lines_end number [] = inl ([], refl)

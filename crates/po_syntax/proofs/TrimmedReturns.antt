@@ -6,7 +6,7 @@ use Rattle.std.proofs.Math.Nat.{eq-or-lt_of_le}
 use Rattle.std.proofs.lemmas.List.{take_all}
 use Rattle.std.proofs.lemmas.List.Sums.{suffix_len_is, suffix_len-take_no}
 use Rattle.std.proofs.lemmas.Str.{IsUtf8-take}
-use Rattle.po_syntax.specs.Line.{trim_returns}
+use Rattle.po_syntax.specs.ItemContents.{trim_returns}
 
 -- from this index on the text holds CRs alone
 abbrev AreReturns : ℕ → List ℕ → Type 0

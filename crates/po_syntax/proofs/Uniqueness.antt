@@ -2,10 +2,14 @@
 use Rattle.std.proofs.Common.{◌≡◌, ◌∙◌, sym, subst, refl, inl, inr, ℕ, ◌+◌, List, [], ◌∷◌, arith}
 use Rattle.po_syntax.specs.declared.fault.PoFault.{PoFault}
 use Rattle.po_syntax.specs.declared.item.Marks.{Marks}
-use Rattle.po_syntax.specs.Line.{SpellsTokens, none, word, string, TokensStop, halt, in_string, after_word, after_string, SpellsLine, comment, tokens, LineStops, no_shape, in_tokens}
+use Rattle.po_syntax.specs.Internal.Line.{SpellsTokens, none, word, string, TokensStop, halt, in_string, after_word, after_string, SpellsLine, comment, tokens, LineStops, no_shape, in_tokens}
 use Rattle.po_syntax.specs.PoText.{SpellsLines, LinesStop, SpellsText, TextFault, too_large, not_utf8, nul, stops}
-use Rattle.po_syntax.specs.QuotedString.{IsQuoted, ended, spelt, QuotedStops, here, later}
+use Rattle.po_syntax.specs.Internal.QuotedString.{IsQuoted, ended, spelt, QuotedStops, here, later}
+use Rattle.po_syntax.specs.LineFaults.{LineFault}
+use Rattle.po_syntax.specs.Spelling.{HoldsItems}
 use Rattle.po_syntax.specs.TextItem.{TextItem}
+use Rattle.po_syntax.proofs.FaultyLines.{line_stops}
+use Rattle.po_syntax.proofs.SpeltLines.{hold_line}
 
 pub quoted_once : {text bytes rest others end : List ℕ} → IsQuoted text bytes rest → IsQuoted text others end → (bytes ≡ others) × (rest ≡ end)
 quoted_once (ended e) (ended f) = (refl, cc)
@@ -94,31 +98,40 @@ tokens_stop_once (after_string {inner = inner} e p h) (after_string {inner = oth
     let read = quoted_once p (subst (λ t. IsQuoted t bytes rest) same q) in
     tokens_stop_once h (subst (λ t. TokensStop t fault) (sym read.1) g)
 
-pub line_once : {line : ℕ} {text : List ℕ} {items others : List TextItem} → SpellsLine line text items → SpellsLine line text others → items ≡ others
-line_once {line} (comment {rest = rest} {kind = kind} e) (comment {rest = other} {kind = sort} f) =
+spelt_once : {line : ℕ} {text : List ℕ} {items others : List TextItem} → SpellsLine line text items → SpellsLine line text others → items ≡ others
+spelt_once {line} (comment {rest = rest} {kind = kind} e) (comment {rest = other} {kind = sort} f) =
     let same : rest ≡ other = cc in
     let named : kind ≡ sort = cc in
     rw (same, named)
-line_once (comment e) (tokens f g) = absurd (cc)
-line_once (tokens e h) (comment f) = absurd (cc)
-line_once {line} (tokens {rest = rest} {marks = marks} e h) (tokens {rest = other} {marks = found} {items = items} f g) =
+spelt_once (comment e) (tokens f g) = absurd (cc)
+spelt_once (tokens e h) (comment f) = absurd (cc)
+spelt_once {line} (tokens {rest = rest} {marks = marks} e h) (tokens {rest = other} {marks = found} {items = items} f g) =
     let same : other ≡ rest = cc in
     let marked : found ≡ marks = cc in
     tokens_once h (subst (λ m. SpellsTokens m line rest items) marked (subst (λ t. SpellsTokens found line t items) same g))
 
-line_not_stopped : {line : ℕ} {text : List ℕ} {items : List TextItem} {fault : PoFault} → SpellsLine line text items → LineStops text fault → ⊥
-line_not_stopped (comment e) (no_shape f) = cc
-line_not_stopped (comment e) (in_tokens f g) = cc
-line_not_stopped (tokens e h) (no_shape f) = cc
-line_not_stopped (tokens {rest = rest} e h) (in_tokens {rest = other} {fault = fault} f g) =
+spelt_not_stopped : {line : ℕ} {text : List ℕ} {items : List TextItem} {fault : PoFault} → SpellsLine line text items → LineStops text fault → ⊥
+spelt_not_stopped (comment e) (no_shape f) = cc
+spelt_not_stopped (comment e) (in_tokens f g) = cc
+spelt_not_stopped (tokens e h) (no_shape f) = cc
+spelt_not_stopped (tokens {rest = rest} e h) (in_tokens {rest = other} {fault = fault} f g) =
     let same : other ≡ rest = cc in tokens_not_stopped h (subst (λ t. TokensStop t fault) same g)
 
-line_stops_once : {text : List ℕ} {fault other : PoFault} → LineStops text fault → LineStops text other → fault ≡ other
-line_stops_once (no_shape e) (no_shape f) = refl
-line_stops_once (no_shape e) (in_tokens f g) = absurd (cc)
-line_stops_once (in_tokens e h) (no_shape f) = absurd (cc)
-line_stops_once (in_tokens {rest = rest} e h) (in_tokens {rest = other} {fault = fault} f g) =
+stops_once : {text : List ℕ} {fault other : PoFault} → LineStops text fault → LineStops text other → fault ≡ other
+stops_once (no_shape e) (no_shape f) = refl
+stops_once (no_shape e) (in_tokens f g) = absurd (cc)
+stops_once (in_tokens e h) (no_shape f) = absurd (cc)
+stops_once (in_tokens {rest = rest} e h) (in_tokens {rest = other} {fault = fault} f g) =
     let same : other ≡ rest = cc in tokens_stop_once h (subst (λ t. TokensStop t fault) same g)
+
+pub line_once : {line : ℕ} {text : List ℕ} {items others : List TextItem} → HoldsItems line text items → HoldsItems line text others → items ≡ others
+line_once h g = spelt_once (hold_line h) (hold_line g)
+
+line_not_stopped : {line : ℕ} {text : List ℕ} {items : List TextItem} {fault : PoFault} → HoldsItems line text items → LineFault text fault → ⊥
+line_not_stopped h g = spelt_not_stopped (hold_line h) (line_stops g)
+
+line_stops_once : {text : List ℕ} {fault other : PoFault} → LineFault text fault → LineFault text other → fault ≡ other
+line_stops_once h g = stops_once (line_stops h) (line_stops g)
 
 pub lines_once : (number : ℕ) (lines : List (List ℕ)) {items others : List TextItem} → SpellsLines number lines items → SpellsLines number lines others → items ≡ others
 lines_once number [] h g = h ∙ sym g

@@ -1,8 +1,5 @@
 pub mod TextItem
-pub mod QuotedString
 pub mod Escapes
-pub mod Token
-pub mod Line
 pub mod Spelling
 pub mod LineFaults
 pub mod ItemContents
@@ -15,3 +12,4 @@ pub mod WrittenForm
 pub mod LineNumbers
 pub mod Internal
 pub mod Facts
+pub mod Blanks

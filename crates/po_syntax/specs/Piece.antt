@@ -2,7 +2,7 @@
 -- (manual, "The Format of PO Files").
 use Rattle.std.specs.Prelude.{◌≡◌, ◌≢◌, ◌⊎◌, ℕ, ◌+◌, ◌<◌, ◌≤◌, List, [], ◌∷◌, length, take, drop, All}
 use Rattle.po_syntax.specs.LinesLeft.{LinesLeft, SpellsLeft, left_after, lines_len}
-use Rattle.po_syntax.specs.Line.{SpellsLine}
+use Rattle.po_syntax.specs.Spelling.{HoldsItems}
 use Rattle.po_syntax.specs.PoText.{SpellsLines}
 use Rattle.po_syntax.specs.TextItem.{TextItem, Comment, Word, Str}
 use Rattle.po_syntax.specs.declared.item.Keyword.TheVariants.{MsgCtxt, MsgId, MsgIdPlural, MsgStr, MsgStrAt}
@@ -50,7 +50,7 @@ BeginsAnew (item ∷ items) = IsNew item
 -- there is a first line, and what it spells begins so
 abbrev pub LineBeginsAnew : ℕ → List (List ℕ) → Type 0
 LineBeginsAnew number [] = ⊥
-LineBeginsAnew number (line ∷ lines) = (here : List TextItem) × SpellsLine number line here × BeginsAnew here
+LineBeginsAnew number (line ∷ lines) = (here : List TextItem) × HoldsItems number line here × BeginsAnew here
 
 -- an entry ends after so many of the lines that are left: what these spell ends a translation, and
 -- the line after them begins anew

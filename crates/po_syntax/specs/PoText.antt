@@ -5,7 +5,8 @@ use Rattle.std.specs.List.{slice_split, starts_with}
 use Rattle.std.specs.Str.Lossy.{utf8_valid_len}
 use Rattle.po_syntax.specs.declared.fault.PoFault.{PoFault}
 use Rattle.po_syntax.specs.declared.fault.PoFault.TheVariants.{NotUtf8, ForbiddenByte, TooLarge}
-use Rattle.po_syntax.specs.Line.{SpellsLine, LineStops}
+use Rattle.po_syntax.specs.LineFaults.{LineFault}
+use Rattle.po_syntax.specs.Spelling.{HoldsItems}
 use Rattle.po_syntax.specs.TextItem.{TextItem}
 
 -- at most 2,147,483,647 bytes, this project's limit; a byte order mark counts
@@ -33,7 +34,7 @@ lines_of text = slice_split (λ b. b == 10) text
 abbrev pub SpellsLines : ℕ → List (List ℕ) → List TextItem → Type 0
 SpellsLines number [] items = items ≡ []
 SpellsLines number (line ∷ lines) items =
-    (here : List TextItem) × (later : List TextItem) × SpellsLine number line here
+    (here : List TextItem) × (later : List TextItem) × HoldsItems number line here
     × SpellsLines (number + 1) lines later × (items ≡ here ++ later)
 
 -- of these lines, counted from `number` on, the first with a fault is the line `at`, and has this
@@ -41,8 +42,8 @@ SpellsLines number (line ∷ lines) items =
 abbrev pub LinesStop : ℕ → List (List ℕ) → PoFault → ℕ → Type 0
 LinesStop number [] fault at = ⊥
 LinesStop number (line ∷ lines) fault at =
-    (LineStops line fault × (at ≡ number))
-    ⊎ ((here : List TextItem) × SpellsLine number line here × LinesStop (number + 1) lines fault at)
+    (LineFault line fault × (at ≡ number))
+    ⊎ ((here : List TextItem) × HoldsItems number line here × LinesStop (number + 1) lines fault at)
 
 -- the text spells these items
 pub record SpellsText (text : List ℕ) (items : List TextItem) : Type 0 where

@@ -1,20 +1,20 @@
 //! Laws of PO texts, each the contract of a function that does nothing: a call brings the law into
 //! a proof.
-ghost use Rattle.std.specs.Prelude.{◌≡◌, ◌≢◌, ◌↔◌, ◌⊎◌, ◌<◌, ◌≤◌, ℕ, List, [], ◌++◌, length, All, IsUtf8};
+ghost use Rattle.std.specs.Prelude.{◌≡◌, ◌≢◌, ◌↔◌, ◌⊎◌, ◌<◌, ◌≤◌, ℕ, List, [], ◌∷◌, ◌++◌, length, All, IsUtf8};
 ghost use Rattle.po_syntax.specs.declared.fault.PoFault.{PoFault};
 ghost use Rattle.po_syntax.specs.Escapes.{SpellsString};
 ghost use Rattle.po_syntax.specs.ItemContents.{HoldsText};
-ghost use Rattle.po_syntax.specs.Line.{LineStops, SpellsLine};
+ghost use Rattle.po_syntax.specs.Internal.Line.{LineStops, SpellsLine};
 ghost use Rattle.po_syntax.specs.LineFaults.{LineFault};
 ghost use Rattle.po_syntax.specs.LineNumbers.{HasFaultOnLine, ItemsAreOnTheirLines, MarkIsOmitted};
 ghost use Rattle.po_syntax.specs.LinesLeft.{LinesLeft, SpellsLeft, LeftStops};
 ghost use Rattle.po_syntax.specs.Piece.{IsPiece, EndsInString, LeftAnew};
 ghost use Rattle.po_syntax.specs.PoText.{SpellsText, TextFault};
-ghost use Rattle.po_syntax.specs.QuotedForm.{quoted};
-ghost use Rattle.po_syntax.specs.QuotedString.{IsQuoted};
+ghost use Rattle.po_syntax.specs.QuotedForm.{quoted, written_bytes};
+ghost use Rattle.po_syntax.specs.Internal.QuotedString.{IsQuoted};
 ghost use Rattle.po_syntax.specs.Spelling.{HoldsItems};
 ghost use Rattle.po_syntax.specs.TextItem.{TextItem};
-ghost use Rattle.po_syntax.specs.Token.{OpeningQuote, token_at};
+ghost use Rattle.po_syntax.specs.Internal.Token.{OpeningQuote, token_at};
 ghost use Rattle.po_syntax.specs.WrittenForm.{WritesQuoted};
 
 /// A text spells at most one list of items.
@@ -99,7 +99,9 @@ pub fn quoted_form_is_written()
 /// The quoted form of bytes without NUL spells just these bytes, and its last byte is the closing
 /// quote.
 pub fn quoted_form_spells()
-    ensures { (bytes rest : List ℕ) → All (λ b. (0 < b) × (b < 256)) bytes
+    ensures spelt { (bytes rest : List ℕ) → All (λ b. (0 < b) × (b < 256)) bytes
+        → SpellsString (written_bytes bytes ++ 34 ∷ rest) bytes rest }
+    ensures read { (bytes rest : List ℕ) → All (λ b. (0 < b) × (b < 256)) bytes
         → (inside : List ℕ) × (token_at (quoted bytes ++ rest) ≡ OpeningQuote inside)
         × IsQuoted inside bytes rest }
 {}

@@ -2,7 +2,10 @@
 
 ghost use Rattle.std.specs.Prelude.{◌≡◌, ◌≢◌, ◌≤◌, ◌==◌, length, IfErr, OnOk};
 ghost use Rattle.std.specs.List.{suffix_len};
-ghost use Rattle.po_syntax.specs.Line.{shape_of, hash_shape, tilde_shape, comment_shape, trim_returns, SpellsTokens, TokensStop, SpellsLine, LineStops};
+ghost use Rattle.po_syntax.specs.Internal.Line.{shape_of, hash_shape, tilde_shape, comment_shape, SpellsTokens, TokensStop};
+ghost use Rattle.po_syntax.specs.LineFaults.{LineFault};
+ghost use Rattle.po_syntax.specs.Spelling.{HoldsItems};
+ghost use Rattle.po_syntax.specs.ItemContents.{trim_returns};
 ghost use Rattle.po_syntax.specs.Internal.LineView.{AddsItems, IsShapeOf};
 
 use crate::fault::PoFault;
@@ -55,7 +58,7 @@ fn comment_shape(text: &[u8]) -> Option<Shape<'_>>
 }
 
 /// The shape of a line, read after `#~`.
-#[tactic(auto, unfolding(crate::specs::Line::tilde_shape, crate::specs::Line::obsolete_shape))]
+#[tactic(auto, unfolding(crate::specs::Internal::Line::tilde_shape, crate::specs::Internal::Line::obsolete_shape))]
 fn tilde_shape(text: &[u8]) -> Option<Shape<'_>>
     ensures { IsShapeOf (tilde_shape text.now) result }
 {
@@ -70,7 +73,7 @@ fn tilde_shape(text: &[u8]) -> Option<Shape<'_>>
 }
 
 /// The shape of a line, read after its first `#`.
-#[tactic(auto, unfolding(crate::specs::Line::hash_shape))]
+#[tactic(auto, unfolding(crate::specs::Internal::Line::hash_shape))]
 fn hash_shape(text: &[u8]) -> Option<Shape<'_>>
     ensures { IsShapeOf (hash_shape text.now) result }
 {
@@ -82,7 +85,7 @@ fn hash_shape(text: &[u8]) -> Option<Shape<'_>>
 }
 
 /// The shape of a line; none if it is neither a comment nor a line of tokens.
-#[tactic(auto, unfolding(crate::specs::Line::first_shape))]
+#[tactic(auto, unfolding(crate::specs::Internal::Line::first_shape))]
 fn shape_of(line: &[u8]) -> Option<Shape<'_>>
     ensures { IsShapeOf (shape_of line.now) result }
 {
@@ -145,8 +148,8 @@ pub(crate) fn add_line<'a>(
     line: u32,
 ) -> Result<(), PoFault>
     ensures found { OnOk result
-        (AddsItems (SpellsLine line text.now) items.old.items items.new.items) }
-    ensures fault { IfErr result (λ e. e ≢ PoFault.OutOfMemory → LineStops text.now e) }
+        (AddsItems (HoldsItems line text.now) items.old.items items.new.items) }
+    ensures fault { IfErr result (λ e. e ≢ PoFault.OutOfMemory → LineFault text.now e) }
 {
     match shape_of(text) {
         None => Err(PoFault::BadToken),

@@ -2,7 +2,7 @@
 
 ghost use Rattle.std.specs.Prelude.{◌≡◌, ◌≢◌, ℕ, ◌+◌, ◌<◌, ◌≤◌, ◌⊎◌, List, ◌∷◌, ◌++◌, length, IfOk, IfErr};
 ghost use Rattle.std.specs.Cow.{cow_slice_items};
-ghost use Rattle.po_syntax.specs.QuotedString.{IsQuoted, QuotedStops};
+ghost use Rattle.po_syntax.specs.Internal.QuotedString.{IsQuoted, QuotedStops};
 
 use crate::escape::escape;
 use crate::fault::PoFault;

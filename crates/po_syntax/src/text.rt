@@ -2,7 +2,8 @@
 
 ghost use Rattle.std.specs.Prelude.{◌≡◌, ◌≢◌, ◌+◌, ◌<◌, ◌≤◌, ◌^◌, ◌∷◌, [], length, IfOk, IfErr, IfSome, OnOk, IsUtf8, MatchOption};
 ghost use Rattle.po_syntax.specs.PoText.{TextFault, IsSmall, HasNoNul, line_number, without_byte_order_mark, lines_of};
-ghost use Rattle.po_syntax.specs.Line.{SpellsLine, LineStops};
+ghost use Rattle.po_syntax.specs.LineFaults.{LineFault};
+ghost use Rattle.po_syntax.specs.Spelling.{HoldsItems};
 ghost use Rattle.po_syntax.specs.Internal.LineView.{AddsItems};
 
 use crate::fault::{PoError, PoFault};
@@ -59,8 +60,8 @@ pub(crate) fn add_items<'a>(
     line: u32,
 ) -> Result<(), PoError>
     ensures found { OnOk result
-        (AddsItems (SpellsLine line text.now) items.old.items items.new.items) }
-    ensures fault { IfErr result (λ e. e.kind ≢ PoFault.OutOfMemory → LineStops text.now e.kind) }
+        (AddsItems (HoldsItems line text.now) items.old.items items.new.items) }
+    ensures fault { IfErr result (λ e. e.kind ≢ PoFault.OutOfMemory → LineFault text.now e.kind) }
     ensures line { IfErr result (λ e. e.kind ≢ PoFault.OutOfMemory → e.line ≡ line) }
     ensures memory { IfErr result (λ e. e.kind ≡ PoFault.OutOfMemory → e.line ≡ 0) }
 {

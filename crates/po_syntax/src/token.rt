@@ -2,7 +2,8 @@
 
 ghost use Rattle.std.specs.Prelude.{◌≡◌, ◌<◌, ◌≤◌, length};
 ghost use Rattle.std.specs.List.{prefix_len};
-ghost use Rattle.po_syntax.specs.Token.{is_blank, is_word_byte, skip_blanks, index_token, bracket_token, keyword_token, token_at};
+ghost use Rattle.po_syntax.specs.Internal.Token.{is_word_byte, index_token, bracket_token, keyword_token, token_at};
+ghost use Rattle.po_syntax.specs.Blanks.{is_blank, skip_blanks};
 ghost use Rattle.po_syntax.specs.Internal.LineView.{IsKeywordOf, IsTokenOf};
 
 use crate::escape::{digit_count, number_of};
@@ -58,7 +59,7 @@ pub fn skip_blanks(text: &[u8]) -> &[u8]
 }
 
 /// The keyword `msgstr[i]`, read after its bracket and the blanks that follow.
-#[tactic(auto, unfolding(crate::specs::Token::index_token))]
+#[tactic(auto, unfolding(crate::specs::Internal::Token::index_token))]
 fn plural_form(text: &[u8]) -> Result<(Keyword, &[u8]), PoFault>
     ensures { IsKeywordOf (index_token text.now) result }
 {
@@ -87,7 +88,7 @@ fn translation(rest: &[u8]) -> Result<(Keyword, &[u8]), PoFault>
 }
 
 /// The keyword that a word is, and the text after it.
-#[tactic(auto, unfolding(crate::specs::Token::keyword_token))]
+#[tactic(auto, unfolding(crate::specs::Internal::Token::keyword_token))]
 fn keyword<'a>(word: &[u8], rest: &'a [u8]) -> Result<(Keyword, &'a [u8]), PoFault>
     ensures { IsKeywordOf (keyword_token word.now rest.now) result }
 {
@@ -105,7 +106,7 @@ fn keyword<'a>(word: &[u8], rest: &'a [u8]) -> Result<(Keyword, &'a [u8]), PoFau
 }
 
 /// The next token of a line, after blanks.
-#[tactic(auto, unfolding(crate::specs::Token::first_token))]
+#[tactic(auto, unfolding(crate::specs::Internal::Token::first_token))]
 pub(crate) fn next_token(text: &[u8]) -> Result<Token<'_>, PoFault>
     ensures { IsTokenOf (token_at text.now) result }
 {

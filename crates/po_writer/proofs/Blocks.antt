@@ -4,8 +4,8 @@ use Rattle.std.specs.Str.{IsUtf8}
 use Rattle.std.proofs.lemmas.Str.{IsUtf8-append, IsUtf8-nil}
 use Rattle.std.proofs.lemmas.List.Elements.{All-nil, All-cons, All-append, All-weaker}
 use Rattle.std.proofs.lemmas.List.Splits.{slice_split_at}
-use Rattle.po_syntax.specs.Line.{SpellsLine}
 use Rattle.po_syntax.specs.PoText.{SpellsLines, lines_of}
+use Rattle.po_syntax.specs.Spelling.{HoldsItems}
 use Rattle.po_syntax.specs.TextItem.{TextItem}
 use Rattle.po_writer.proofs.Utf8.{IsLine, is_plain, ascii_utf8}
 
@@ -73,7 +73,7 @@ plain_feed b false feed e h = cc
 
 -- what a line spells, whatever its number is
 abbrev pub LineItems : (List TextItem → Type 0) → List ℕ → Type 0
-LineItems P line = (number : ℕ) → (here : List TextItem) × P here × SpellsLine number line here
+LineItems P line = (number : ℕ) → (here : List TextItem) × P here × HoldsItems number line here
 
 pub line_block : (P : List TextItem → Type 0) (line : List ℕ) → IsLine line → BeginsLow line → LineItems P line → Block P (line ++ 10 ∷ [])
 line_block P line clean low spells = record {

@@ -11,11 +11,9 @@ use Rattle.po_entry.specs.Parts.{CommentText}
 use Rattle.po_entry.specs.Comments.{same_kind, texts_of, listed_flags, listed_references, is_fuzzy_flag, with_flag}
 use Rattle.po_entry.specs.Spelling.{nothing}
 use Rattle.po_writer.specs.WrittenText.{elements_line, all_flags}
-use Rattle.po_syntax.specs.Line as line
-use Rattle.po_syntax.specs.Line.{shape_of}
 use Rattle.po_writer.proofs.Utf8.{IsLine, line-append, line-empty}
 use Rattle.po_writer.proofs.Blocks.{Block, BeginsLow, empty_block}
-use Rattle.po_writer.proofs.Heads.{HeadPart, head_comments, comment_block}
+use Rattle.po_writer.proofs.Heads.{HeadPart, head_comments, IsCommentLine, comment_block}
 use Rattle.po_writer.proofs.WrittenElements.{following, IsEnded, elements_kept, IsElement, references_cut, IsFlagElement, flags_cut}
 
 -- the text of the comment that holds these elements, where there are any
@@ -129,7 +127,7 @@ following_line separator (element ∷ elements) s h =
     line-append (separator ++ element) (following separator elements) (line-append separator element s (All-head IsLine element elements h)) (following_line separator elements s (All-tail IsLine element elements h))
 
 -- a line of elements after the mark of its kind
-pub elements_block : (kind : CommentKind) (mark separator : List ℕ) (elements : List (List ℕ)) → ((text : List ℕ) → shape_of (mark ++ text) ≡ line.CommentLine kind (32 ∷ text)) → IsLine mark → ((text : List ℕ) → BeginsLow (mark ++ text)) → IsLine separator → All IsLine elements → All IsEnded elements
+pub elements_block : (kind : CommentKind) (mark separator : List ℕ) (elements : List (List ℕ)) → ((text : List ℕ) → IsCommentLine kind (mark ++ text) (32 ∷ text)) → IsLine mark → ((text : List ℕ) → BeginsLow (mark ++ text)) → IsLine separator → All IsLine elements → All IsEnded elements
     → Block (HeadPart (head_comments kind (elements_text separator elements)) []) (elements_line mark separator elements)
 elements_block kind mark separator [] shape m low s h g = empty_block (HeadPart [] []) nothing
 elements_block kind mark separator (element ∷ elements) shape m low s h g =

@@ -1,10 +1,11 @@
 -- The comments and previous texts that stand before an entry's own lines.
-use Rattle.std.proofs.Common.{◌≡◌, ◌==◌, refl, sym, subst, ℕ, false, List, [], ◌∷◌, ◌++◌, append_assoc, codes, All, Contains, arith}
+use Rattle.std.proofs.Common.{◌≡◌, refl, sym, subst, ℕ, List, [], ◌∷◌, ◌++◌, append_assoc, codes, All, Contains, arith}
 use Rattle.std.proofs.lemmas.List.Elements.{All-head, All-tail}
-use Rattle.std.proofs.lemmas.Bool.{ne_eqb}
 use Rattle.po_syntax.specs.declared.item.CommentKind.{CommentKind}
 use Rattle.po_syntax.specs.declared.item.CommentKind.TheVariants.{Translator, Extracted, Reference, Flags}
-use Rattle.po_syntax.specs.Line.{CommentLine, shape_of, first_shape, hash_shape, trim_returns, SpellsLine, comment}
+use Rattle.po_syntax.specs.Facts.Returns.{kept_text}
+use Rattle.po_syntax.specs.ItemContents.{trim_returns}
+use Rattle.po_syntax.specs.Spelling.{IsMark, dot, colon, comma, bar, tilde, SpellsComment, extracted, reference, flags, translator, IsWithoutReturns, HoldsItems, comment}
 use Rattle.po_syntax.specs.TextItem.{TextItem, Comment}
 use Rattle.po_entry.specs.Parts.{CommentText, PreviousText}
 use Rattle.po_entry.specs.Spelling.{SpellsHead, nothing, head_comment, previous_text}
@@ -26,10 +27,20 @@ two_parts {later = later} (previous_text {own = own} {items = items} w h) g = rw
 abbrev pub comment_of : CommentKind → List ℕ → CommentText
 comment_of kind text = record { kind = kind; text = text }
 
+-- after `#` the line is a comment of this kind, and the rest is what follows its mark
+abbrev pub IsCommentLine : CommentKind → List ℕ → List ℕ → Type 0
+IsCommentLine kind [] rest = ⊥
+IsCommentLine kind (b ∷ text) rest = (b ≡ 35) × SpellsComment text kind rest
+
+comment_held : (kind : CommentKind) (line rest : List ℕ) (number : ℕ) → IsCommentLine kind line rest → trim_returns rest ≡ rest → HoldsItems number line (Comment kind rest number ∷ [])
+comment_held kind [] rest number h trimmed = absurd h
+comment_held kind (b ∷ text) rest number h trimmed =
+    subst (λ a. HoldsItems number (a ∷ text) (Comment kind rest number ∷ [])) (sym h.0) (comment h.1 (subst (IsWithoutReturns rest) trimmed (kept_text rest)))
+
 -- a line that is such a comment
-pub comment_block : (kind : CommentKind) (line rest : List ℕ) → IsLine line → BeginsLow line → shape_of line ≡ CommentLine kind rest → trim_returns rest ≡ rest → Block (HeadPart (comment_of kind rest ∷ []) []) (line ++ 10 ∷ [])
+pub comment_block : (kind : CommentKind) (line rest : List ℕ) → IsLine line → BeginsLow line → IsCommentLine kind line rest → trim_returns rest ≡ rest → Block (HeadPart (comment_of kind rest ∷ []) []) (line ++ 10 ∷ [])
 comment_block kind line rest clean low shape trimmed =
-    line_block (HeadPart (comment_of kind rest ∷ []) []) line clean low (λ number. (Comment kind rest number ∷ [], head_comment nothing, subst (λ t. SpellsLine number line (Comment kind t number ∷ [])) trimmed (comment shape)))
+    line_block (HeadPart (comment_of kind rest ∷ []) []) line clean low (λ number. (Comment kind rest number ∷ [], head_comment nothing, comment_held kind line rest number shape trimmed))
 
 -- the comments of one kind
 abbrev pub head_comments : CommentKind → List (List ℕ) → List CommentText
@@ -40,7 +51,7 @@ head_comments kind (text ∷ texts) = comment_of kind text ∷ head_comments kin
 pub record IsMarked (kind : CommentKind) (mark : List ℕ) (text : List ℕ) : Type 0 where
   pub line : IsLine (mark ++ text)
   pub low : BeginsLow (mark ++ text)
-  pub shape : shape_of (mark ++ text) ≡ CommentLine kind text
+  pub shape : IsCommentLine kind (mark ++ text) text
   pub trimmed : trim_returns text ≡ text
 
 pub comments_block : (kind : CommentKind) (mark : List ℕ) (texts : List (List ℕ)) → All (IsMarked kind mark) texts → Block (HeadPart (head_comments kind texts) []) (comment_lines mark texts)
@@ -52,24 +63,22 @@ comments_block kind mark (text ∷ texts) h =
     (comment_block kind (mark ++ text) text first.line first.low first.shape first.trimmed)
     (comments_block kind mark texts (All-tail (IsMarked kind mark) text texts h))
 
-pub extracted_shape : (text : List ℕ) → shape_of (codes "#." ++ text) ≡ CommentLine Extracted text
-unfolding first_shape hash_shape
-extracted_shape text = refl
+pub extracted_shape : (text : List ℕ) → IsCommentLine Extracted (codes "#." ++ text) text
+extracted_shape text = (refl, extracted)
 
-pub reference_shape : (text : List ℕ) → shape_of (codes "#:" ++ text) ≡ CommentLine Reference text
-unfolding first_shape hash_shape
-reference_shape text = refl
+pub reference_shape : (text : List ℕ) → IsCommentLine Reference (codes "#:" ++ text) text
+reference_shape text = (refl, reference)
 
-pub flags_shape : (text : List ℕ) → shape_of (codes "#," ++ text) ≡ CommentLine Flags text
-unfolding first_shape hash_shape
-flags_shape text = refl
+pub flags_shape : (text : List ℕ) → IsCommentLine Flags (codes "#," ++ text) text
+flags_shape text = (refl, flags)
 
-differs : (b c k : ℕ) → (Contains (codes ".:,|~") b → ⊥) → (b ≡ c → Contains (codes ".:,|~") b) → (b == c) ≡ false
-differs b c k h g = ne_eqb b c (λ e. h (g e))
+mark_contained : {b : ℕ} → IsMark b → Contains (codes ".:,|~") b
+mark_contained dot = (0, omega arith, refl)
+mark_contained colon = (1, omega arith, refl)
+mark_contained comma = (2, omega arith, refl)
+mark_contained bar = (3, omega arith, refl)
+mark_contained tilde = (4, omega arith, refl)
 
-pub translator_shape : (text : List ℕ) → IsTranslatorComment text → shape_of (codes "#" ++ text) ≡ CommentLine Translator text
-unfolding first_shape hash_shape
-translator_shape [] h = refl
-translator_shape (b ∷ text) h =
-    let no = h.plain refl b text refl in
-    rw (differs b 46 0 no (λ e. (0, omega arith, sym e)), differs b 58 1 no (λ e. (1, omega arith, sym e)), differs b 44 2 no (λ e. (2, omega arith, sym e)), differs b 124 3 no (λ e. (3, omega arith, sym e)), differs b 126 4 no (λ e. (4, omega arith, sym e))) refl
+pub translator_shape : (text : List ℕ) → IsTranslatorComment text → IsCommentLine Translator (codes "#" ++ text) text
+translator_shape [] h = (refl, translator tt)
+translator_shape (b ∷ text) h = (refl, translator (λ is. h.plain refl b text refl (mark_contained is)))

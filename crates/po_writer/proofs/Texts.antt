@@ -5,10 +5,9 @@ use Rattle.std.specs.Str.{IsUtf8}
 use Rattle.std.proofs.lemmas.List.{append-nil}
 use Rattle.std.proofs.lemmas.List.Elements.{All-nil, All-cons, All-head, All-tail, All-append, All-weaker, All-filter}
 use Rattle.std.proofs.lemmas.Bool.{ne_eqb, le-ltb}
-use Rattle.po_syntax.specs.Line.{first_shape, tokens, none}
 use Rattle.po_syntax.specs.PoText.{IsSmall, HasNoNul, SpellsText, without_byte_order_mark}
 use Rattle.po_syntax.specs.TextItem.{TextItem}
-use Rattle.po_syntax.specs.Token.{first_token}
+use Rattle.po_syntax.specs.Spelling.{end, live}
 use Rattle.po_entry.specs.Bytes.{Lacks}
 use Rattle.po_entry.specs.TextEntry.{TextEntry, with_line, quoted_texts}
 use Rattle.po_entry.specs.Header.{HasAdmittedCharset}
@@ -36,8 +35,7 @@ abbrev ListPart : List TextEntry → List TextItem → Type 0
 ListPart entries here = (read : List TextEntry) × SpellsEntries here read × IsNumbered entries read
 
 empty_line : Block (λ here. here ≡ []) (10 ∷ [])
-unfolding first_shape first_token
-empty_line = line_block (λ here. here ≡ []) [] line-empty tt (λ number. ([], refl, tokens refl (none refl)))
+empty_line = line_block (λ here. here ≡ []) [] line-empty tt (λ number. ([], refl, live end))
 
 one_more : (e : TextEntry) (entries : List TextEntry) (here later : List TextItem) → EntryPart e here → ListPart entries later → ListPart (e ∷ entries) (here ++ later)
 one_more e entries here later h g = (with_line h.0 e ∷ g.0, joined_entries h.1 g.1, (h.0, g.0, refl, g.2))
@@ -119,10 +117,9 @@ no_mark [] h = refl
 no_mark (b ∷ text) h = rw (ne_eqb 0xEF b (λ e. omega (arith, e, h))) refl
 
 spelt_text : (P : List TextItem → Type 0) (text : List ℕ) → Block P text → IsSmall text → (items : List TextItem) × P items × SpellsText text items
-unfolding first_shape first_token
 spelt_text P text block small =
     let s = block.spelling 1 in
-    let end : Spells s.next [] [] = ([], [], tokens refl (none refl), refl, refl) in
+    let end : Spells s.next [] [] = ([], [], live end, refl, refl) in
     let whole = rw (append-nil text, append-nil s.items) at (s.before [] [] end) in
     (s.items, s.holds, record { small = small; utf8 = block.utf8; no_nul = no_nul text block.no_nul; lines = rw (no_mark text block.low) whole })
 

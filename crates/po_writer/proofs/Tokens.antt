@@ -1,99 +1,84 @@
 -- What a written line spells: the marks of its prefix, its keyword and its string.
-use Rattle.std.proofs.Common.{◌≡◌, ◌∙◌, ◌==◌, refl, ap, subst, ℕ, suc, ◌+◌, ◌<◌, true, false, List, [], ◌∷◌, ◌++◌, drop, codes, All, arith}
-use Rattle.std.specs.List.{prefix_len}
-use Rattle.std.proofs.lemmas.List.{append-nil}
+use Rattle.std.proofs.Common.{◌≡◌, refl, sym, ap, ℕ, ◌<◌, ◌≤◌, false, true, List, [], ◌∷◌, ◌++◌, codes, All, get_or, arith}
+use Rattle.std.proofs.lemmas.List.Elements.{All-head, All-tail}
 use Rattle.po_syntax.specs.declared.item.Keyword.{Keyword}
 use Rattle.po_syntax.specs.declared.item.Keyword.TheVariants.{MsgCtxt, MsgId, MsgIdPlural, MsgStr}
 use Rattle.po_syntax.specs.declared.item.Marks.{Marks}
-use Rattle.po_syntax.specs.Line.{Tokens, shape_of, first_shape, hash_shape, tilde_shape, obsolete_shape, SpellsTokens, none, word, string, SpellsLine, tokens}
+use Rattle.po_syntax.specs.Escapes.{SpellsString}
 use Rattle.po_syntax.specs.QuotedForm.{quoted, written_bytes}
-use Rattle.po_syntax.specs.QuotedString.{IsQuoted}
+use Rattle.po_syntax.specs.Spelling.{IsBlank, space, tab, vertical_tab, form_feed, carriage_return, IsWordByte, upper, lower, digit, underscore, EndsWord, HasNoBracket, SpellsKeyword, msgctxt, msgid, msgid_plural, msgstr, HoldsTokens, end, blank, keyword, string, marked, HoldsItems, live, previous, obsolete, obsolete_previous}
 use Rattle.po_syntax.specs.TextItem.{TextItem, Word, Str}
-use Rattle.po_syntax.specs.Token.{OpeningQuote, KeywordToken, token_at, is_blank, skip_blanks, first_token, keyword_token}
 
 -- the quoted form of bytes without NUL spells these bytes
 abbrev pub QuotedFormsSpell : Type 0
-QuotedFormsSpell = (bytes rest : List ℕ) → All (λ b. (0 < b) × (b < 256)) bytes → (inside : List ℕ) × (token_at (quoted bytes ++ rest) ≡ OpeningQuote inside) × IsQuoted inside bytes rest
+QuotedFormsSpell = (bytes rest : List ℕ) → All (λ b. (0 < b) × (b < 256)) bytes → SpellsString (written_bytes bytes ++ 34 ∷ rest) bytes rest
 
--- before a text that begins with neither a blank nor `#`, the prefix gives these marks and nothing
--- else
+-- after the prefix, tokens stand under these marks
 abbrev pub IsPrefix : List ℕ → Marks → Type 0
-IsPrefix prefix marks =
-    (b : ℕ) (rest : List ℕ) → is_blank b ≡ false → (b == 35) ≡ false → (text : List ℕ) × (shape_of (prefix ++ b ∷ rest) ≡ Tokens marks text) × (token_at text ≡ token_at (b ∷ rest))
+IsPrefix prefix marks = (number : ℕ) (rest : List ℕ) (items : List TextItem) → HoldsTokens marks number rest items → HoldsItems number (prefix ++ rest) items
 
-one_more : (n : ℕ) → 1 + n ≡ suc n
-one_more n = omega arith
+pub no_prefix : IsPrefix [] (marked false false)
+no_prefix number rest items h = live h
 
-pub skip_blank : (text : List ℕ) → skip_blanks (32 ∷ text) ≡ skip_blanks text
-skip_blank text = ap (λ n. drop n (32 ∷ text)) (one_more (prefix_len is_blank text))
+pub previous_live : IsPrefix (codes "#| ") (marked false true)
+previous_live number rest items h = previous (blank space h)
 
-pub no_prefix : IsPrefix [] (record { obsolete = false; previous = false })
-unfolding first_shape
-no_prefix b rest blank hash = (b ∷ rest, rw (blank, hash) refl, refl)
+pub previous_obsolete : IsPrefix (codes "#~| ") (marked true true)
+previous_obsolete number rest items h = obsolete_previous (blank space h)
 
-pub previous_live : IsPrefix (codes "#| ") (record { obsolete = false; previous = true })
-unfolding first_shape hash_shape
-previous_live b rest blank hash = (32 ∷ b ∷ rest, refl, ap first_token (skip_blank (b ∷ rest)))
+pub own_obsolete : IsPrefix (codes "#~ ") (marked true false)
+own_obsolete number rest items h = obsolete (blank space h)
 
-pub previous_obsolete : IsPrefix (codes "#~| ") (record { obsolete = true; previous = true })
-unfolding first_shape hash_shape tilde_shape
-previous_obsolete b rest blank hash = (32 ∷ b ∷ rest, refl, ap first_token (skip_blank (b ∷ rest)))
-
-pub own_obsolete : IsPrefix (codes "#~ ") (record { obsolete = true; previous = false })
-unfolding first_shape hash_shape tilde_shape obsolete_shape
-own_obsolete b rest blank hash = (b ∷ rest, rw (blank, hash) refl, refl)
-
-same_tokens : {marks : Marks} {line : ℕ} {text : List ℕ} {items : List TextItem} (other : List ℕ) → token_at other ≡ token_at text → SpellsTokens marks line text items → SpellsTokens marks line other items
-same_tokens other e (none h) = none (e ∙ h)
-same_tokens other e (word h more) = word (e ∙ h) more
-same_tokens other e (string h q more) = string (e ∙ h) q more
-
-prefixed : (prefix : List ℕ) (marks : Marks) (number b : ℕ) (rest : List ℕ) (items : List TextItem) → IsPrefix prefix marks → is_blank b ≡ false → (b == 35) ≡ false
-    → SpellsTokens marks number (b ∷ rest) items → SpellsLine number (prefix ++ b ∷ rest) items
-prefixed prefix marks number b rest items h blank hash spelt =
-    let found = h b rest blank hash in tokens found.1 (same_tokens found.0 found.2 spelt)
-
-string_tokens : QuotedFormsSpell → (marks : Marks) (number : ℕ) (text : List ℕ) → All (λ b. (0 < b) × (b < 256)) text → SpellsTokens marks number (quoted text) (Str text marks number ∷ [])
-unfolding first_token
-string_tokens law marks number text some =
-    let found = law text [] some in
-    string (subst (λ t. token_at t ≡ OpeningQuote found.0) (append-nil (quoted text)) found.1) found.2 (none refl)
+string_tokens : QuotedFormsSpell → (marks : Marks) (number : ℕ) (text : List ℕ) → All (λ b. (0 < b) × (b < 256)) text → HoldsTokens marks number (quoted text) (Str text marks number ∷ [])
+string_tokens law marks number text some = string (law text [] some) end
 
 -- a prefix and a string
 pub string_spells : QuotedFormsSpell → (prefix : List ℕ) (marks : Marks) (number : ℕ) (text : List ℕ) → IsPrefix prefix marks → All (λ b. (0 < b) × (b < 256)) text
-    → SpellsLine number (prefix ++ quoted text) (Str text marks number ∷ [])
-string_spells law prefix marks number text h some = prefixed prefix marks number 34 (written_bytes text ++ 34 ∷ []) _ h refl refl (string_tokens law marks number text some)
+    → HoldsItems number (prefix ++ quoted text) (Str text marks number ∷ [])
+string_spells law prefix marks number text h some = h number (quoted text) (Str text marks number ∷ []) (string_tokens law marks number text some)
 
--- the word, which begins with `m`, is this keyword before a string
-pub record IsKeyword (spelling : List ℕ) (keyword : Keyword) : Type 0 where
-  pub tail : List ℕ
-  pub begins : spelling ≡ 109 ∷ tail
-  pub token : (rest : List ℕ) → token_at (spelling ++ 32 ∷ 34 ∷ rest) ≡ KeywordToken keyword (32 ∷ 34 ∷ rest)
+-- the word is this keyword before a string
+abbrev pub IsKeyword : List ℕ → Keyword → Type 0
+IsKeyword spelling word = (rest : List ℕ) → SpellsKeyword (spelling ++ 32 ∷ 34 ∷ rest) word (32 ∷ 34 ∷ rest)
+
+no_word_byte : {b : ℕ} → IsWordByte b → b ≡ 32 → ⊥
+no_word_byte (upper p q) e = omega (arith, p, e)
+no_word_byte (lower p q) e = omega (arith, p, e)
+no_word_byte (digit p q) e = omega (arith, p, e)
+no_word_byte underscore e = omega (arith, e)
+
+word_ends : (rest : List ℕ) → EndsWord (32 ∷ rest)
+word_ends rest = λ is. no_word_byte is refl
+
+quote_no_blank : {b : ℕ} → IsBlank b → b ≡ 34 → ⊥
+quote_no_blank space e = omega (arith, e)
+quote_no_blank tab e = omega (arith, e)
+quote_no_blank vertical_tab e = omega (arith, e)
+quote_no_blank form_feed e = omega (arith, e)
+quote_no_blank carriage_return e = omega (arith, e)
+
+no_bracket : (rest : List ℕ) → HasNoBracket (32 ∷ 34 ∷ rest)
+no_bracket rest = by where
+  by : (blanks after : List ℕ) → All IsBlank blanks → 32 ∷ 34 ∷ rest ≡ blanks ++ 91 ∷ after → ⊥
+  by [] after all same = let is : 32 ≡ 91 = ap (λ (l : List ℕ). get_or l 0 0) same in omega (arith, is)
+  by (b ∷ []) after all same = let is : 34 ≡ 91 = ap (λ (l : List ℕ). get_or l 1 0) same in omega (arith, is)
+  by (b ∷ c ∷ blanks) after all same = let is : c ≡ 34 = ap (λ (l : List ℕ). get_or l 1 0) (sym same) in quote_no_blank (All-head IsBlank c blanks (All-tail IsBlank b (c ∷ blanks) all)) is
 
 pub context_keyword : IsKeyword (codes "msgctxt") MsgCtxt
-unfolding first_token keyword_token
-context_keyword = record { tail = codes "sgctxt"; begins = refl; token = λ rest. refl }
+context_keyword rest = msgctxt (word_ends (34 ∷ rest))
 
 pub id_keyword : IsKeyword (codes "msgid") MsgId
-unfolding first_token keyword_token
-id_keyword = record { tail = codes "sgid"; begins = refl; token = λ rest. refl }
+id_keyword rest = msgid (word_ends (34 ∷ rest))
 
 pub plural_keyword : IsKeyword (codes "msgid_plural") MsgIdPlural
-unfolding first_token keyword_token
-plural_keyword = record { tail = codes "sgid_plural"; begins = refl; token = λ rest. refl }
+plural_keyword rest = msgid_plural (word_ends (34 ∷ rest))
 
 pub single_keyword : IsKeyword (codes "msgstr") MsgStr
-unfolding first_token keyword_token
-single_keyword = record { tail = codes "sgstr"; begins = refl; token = λ rest. refl }
-
-keyword_tokens : QuotedFormsSpell → (spelling : List ℕ) (keyword : Keyword) (marks : Marks) (number : ℕ) (text : List ℕ) → IsKeyword spelling keyword → All (λ b. (0 < b) × (b < 256)) text
-    → SpellsTokens marks number (spelling ++ 32 ∷ quoted text) (Word keyword marks number ∷ Str text marks number ∷ [])
-keyword_tokens law spelling keyword marks number text h some =
-    word (h.token (written_bytes text ++ 34 ∷ [])) (same_tokens (32 ∷ quoted text) (ap first_token (skip_blank (quoted text))) (string_tokens law marks number text some))
+single_keyword rest = msgstr (word_ends (34 ∷ rest)) (no_bracket rest)
 
 -- a prefix, a keyword and a string
-pub keyword_spells : QuotedFormsSpell → (prefix spelling : List ℕ) (keyword : Keyword) (marks : Marks) (number : ℕ) (text : List ℕ) → IsPrefix prefix marks → IsKeyword spelling keyword → All (λ b. (0 < b) × (b < 256)) text
-    → SpellsLine number (prefix ++ (spelling ++ 32 ∷ quoted text)) (Word keyword marks number ∷ Str text marks number ∷ [])
-keyword_spells law prefix spelling keyword marks number text h k some =
-    let spelt = rw k.begins at (keyword_tokens law spelling keyword marks number text k some) in
-    rw k.begins (prefixed prefix marks number 109 (k.tail ++ 32 ∷ quoted text) _ h refl refl spelt)
+pub keyword_spells : QuotedFormsSpell → (prefix spelling : List ℕ) (word : Keyword) (marks : Marks) (number : ℕ) (text : List ℕ) → IsPrefix prefix marks → IsKeyword spelling word → All (λ b. (0 < b) × (b < 256)) text
+    → HoldsItems number (prefix ++ (spelling ++ 32 ∷ quoted text)) (Word word marks number ∷ Str text marks number ∷ [])
+keyword_spells law prefix spelling word marks number text h k some =
+    h number (spelling ++ 32 ∷ quoted text) (Word word marks number ∷ Str text marks number ∷ [])
+    (keyword (k (written_bytes text ++ 34 ∷ [])) (blank space (string_tokens law marks number text some)))

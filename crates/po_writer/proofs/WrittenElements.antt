@@ -1,5 +1,5 @@
 -- A line of elements between separators gives the elements back.
-use Rattle.std.proofs.Common.{◌≡◌, ◌∙◌, ◌==◌, ◌||◌, refl, sym, ap, subst, ℕ, ◌+◌, ◌-◌, ◌<◌, Bool, true, false, cond, List, [], ◌∷◌, ◌++◌, append_assoc, length, length-drop, drop, map, filter, All, arith}
+use Rattle.std.proofs.Common.{◌≡◌, ◌∙◌, ◌==◌, ◌||◌, refl, sym, ap, subst, ℕ, suc, ◌+◌, ◌-◌, ◌<◌, Bool, true, false, cond, List, [], ◌∷◌, ◌++◌, append_assoc, length, length-drop, drop, map, filter, All, arith}
 use Rattle.std.specs.Prelude.{reverse}
 use Rattle.std.specs.List.{flat_map, slice_split, prefix_len, suffix_len}
 use Rattle.std.proofs.lemmas.List.{append-nil, take_all, length-take, reverse-append, length-reverse}
@@ -8,11 +8,10 @@ use Rattle.std.proofs.lemmas.List.Folds.{prefix_len-append}
 use Rattle.std.proofs.lemmas.List.Splits.{slice_split_at, slice_split_none}
 use Rattle.std.proofs.lemmas.List.Sums.{prefix_len-le-length, suffix_len-le-length, suffix_len_is}
 use Rattle.std.proofs.lemmas.Bool.{ne_eqb}
-use Rattle.po_syntax.specs.Line.{trim_returns}
-use Rattle.po_syntax.specs.Token.{is_blank, skip_blanks}
+use Rattle.po_syntax.specs.ItemContents.{trim_returns}
+use Rattle.po_syntax.specs.Blanks.{is_blank, skip_blanks}
 use Rattle.po_entry.specs.Bytes.{trimmed, without_end_blanks}
 use Rattle.po_entry.specs.Comments.{listed_references, listed_flags, is_comma, is_not_empty}
-use Rattle.po_writer.proofs.Tokens.{skip_blank}
 
 -- the element holds a byte, and ends with no blank
 abbrev pub IsEnded : List ℕ → Type 0
@@ -94,6 +93,12 @@ flag_ended element h =
     let whole : prefix_len is_blank element ≡ 0 = omega (arith, same, kept, cut, h.some, prefix_len-le-length is_blank element, suffix_len-le-length is_blank after) in
     let nothing : suffix_len is_blank after ≡ 0 = omega (arith, same, kept, cut, h.some, prefix_len-le-length is_blank element, suffix_len-le-length is_blank after) in
     (h.some, subst (λ n. suffix_len is_blank (drop n element) ≡ 0) whole nothing)
+
+one_more : (n : ℕ) → 1 + n ≡ suc n
+one_more n = omega arith
+
+skip_blank : (text : List ℕ) → skip_blanks (32 ∷ text) ≡ skip_blanks text
+skip_blank text = ap (λ n. drop n (32 ∷ text)) (one_more (prefix_len is_blank text))
 
 trimmed_element : (element : List ℕ) → IsFlagElement element → trimmed (32 ∷ element) ≡ element
 trimmed_element element h = ap without_end_blanks (skip_blank element) ∙ h.no_blank_ends

@@ -8,10 +8,10 @@ use Rattle.po_syntax.specs.declared.line.Shape.{Shape}
 use Rattle.po_syntax.specs.declared.line.Shape.TheVariants as shape
 use Rattle.po_syntax.specs.declared.token.Token.{Token}
 use Rattle.po_syntax.specs.declared.token.Token.TheVariants as token
-use Rattle.po_syntax.specs.Line as line
-use Rattle.po_syntax.specs.QuotedString.{Step, Byte, Stop}
+use Rattle.po_syntax.specs.Internal.Line as line
+use Rattle.po_syntax.specs.Internal.QuotedString.{Step, Byte, Stop}
 use Rattle.po_syntax.specs.TextItem.{TextItem, views}
-use Rattle.po_syntax.specs.Token as spec
+use Rattle.po_syntax.specs.Internal.Token as spec
 
 abbrev pub token_view : Token → spec.Token
 token_view token.LineEnd = spec.LineEnd

@@ -2,10 +2,10 @@ use Rattle.std.proofs.Common.{◌≡◌, ◌∙◌, ap, [], ◌∷◌, ◌++◌,
 use Rattle.std.proofs.lemmas.List.{map_push}
 use Rattle.std.proofs.lemmas.Result.{err_from_is_err_and}
 use Rattle.std.specs.Cow.{cow_slice_items}
-use Rattle.po_syntax.specs.QuotedString.{IsQuoted}
-use Rattle.po_syntax.specs.Line.{none, word, string, halt, in_string, after_word, after_string}
+use Rattle.po_syntax.specs.Internal.QuotedString.{IsQuoted}
+use Rattle.po_syntax.specs.Internal.Line.{none, word, string, halt, in_string, after_word, after_string}
 use Rattle.po_syntax.specs.TextItem.{Word, Str}
-use Rattle.po_syntax.specs.Token.{LineEnd, OpeningQuote, KeywordToken, token_at}
+use Rattle.po_syntax.specs.Internal.Token.{LineEnd, OpeningQuote, KeywordToken, token_at}
 use Rattle.po_syntax.specs.Internal.LineView.{token_view}
 use Rattle.po_syntax.proofs.QuotedStrings.{quoted-shorter}
 use Rattle.po_syntax.proofs.Tokens.{keyword-shorter, quote-shorter}

@@ -1,6 +1,6 @@
 use Rattle.std.proofs.Common.{◌≡◌, ◌++◌, List, length}
 use Rattle.po_syntax.specs.declared.fault.PoFault.{PoFault}
-use Rattle.po_syntax.specs.Line.{SpellsTokens, TokensStop}
+use Rattle.po_syntax.specs.Internal.Line.{SpellsTokens, TokensStop}
 use Rattle.po_syntax.specs.TextItem.{TextItem, views}
 use Rattle.po_syntax.proofs.line.add_tokens.Given as goal
 

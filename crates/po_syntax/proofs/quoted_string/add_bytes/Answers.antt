@@ -1,6 +1,6 @@
 use Rattle.std.proofs.Common.{◌∙◌, [], ◌∷◌, ◌++◌, append_assoc, append-nil, arith}
 use Rattle.std.proofs.lemmas.Result.{err_from_is_err_and}
-use Rattle.po_syntax.specs.QuotedString.{ended, spelt, here, later}
+use Rattle.po_syntax.specs.Internal.QuotedString.{ended, spelt, here, later}
 use Rattle.po_syntax.proofs.QuotedStrings.{quote_ends, escape_begins, stops_at_end, escape-rest}
 use Rattle.po_syntax.proofs.quoted_string.add_bytes.Goals as goal
 

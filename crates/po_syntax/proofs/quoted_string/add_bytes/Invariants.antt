@@ -1,6 +1,6 @@
 use Rattle.std.proofs.Common.{◌≡◌, ℕ, ◌++◌, List, length}
 use Rattle.po_syntax.specs.declared.fault.PoFault.{PoFault}
-use Rattle.po_syntax.specs.QuotedString.{IsQuoted, QuotedStops}
+use Rattle.po_syntax.specs.Internal.QuotedString.{IsQuoted, QuotedStops}
 use Rattle.po_syntax.proofs.quoted_string.add_bytes.Given as goal
 
 abbrev pub invariant-loop-mark : goal.invariant-loop-mark

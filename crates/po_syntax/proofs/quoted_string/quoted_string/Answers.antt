@@ -1,5 +1,5 @@
 use Rattle.std.proofs.Common.{[], append-nil}
-use Rattle.po_syntax.specs.QuotedString.{ended}
+use Rattle.po_syntax.specs.Internal.QuotedString.{ended}
 use Rattle.po_syntax.proofs.QuotedStrings.{quote_ends, stops_at_end}
 use Rattle.po_syntax.proofs.quoted_string.quoted_string.Goals as goal
 

@@ -9,7 +9,8 @@ use Rattle.po_syntax.specs.declared.fault.PoFault.{PoFault}
 use Rattle.po_syntax.specs.declared.fault.PoFault.TheVariants.{BadToken, BadPluralIndex}
 use Rattle.po_syntax.specs.declared.item.Keyword.{Keyword}
 use Rattle.po_syntax.specs.declared.item.Keyword.TheVariants.{MsgCtxt, MsgId, MsgIdPlural, MsgStr, MsgStrAt}
-use Rattle.po_syntax.specs.QuotedString.{digit_count}
+use Rattle.po_syntax.specs.Internal.QuotedString.{digit_count}
+use Rattle.po_syntax.specs.Blanks.{skip_blanks}
 
 -- The next token of a line: none, at its end; an opening quote or a keyword, with the text after
 -- it; or a fault.
@@ -18,14 +19,6 @@ pub data Token : Type 0 where
   OpeningQuote : List ℕ → Token
   KeywordToken : Keyword → List ℕ → Token
   WrongToken : PoFault → Token
-
--- space, TAB, VT, FF and CR; an LF is in no line
-abbrev pub is_blank : ℕ → Bool
-is_blank b = b == 32 || b == 9 || b == 11 || b == 12 || b == 13
-
--- the text without the blanks at its beginning
-abbrev pub skip_blanks : List ℕ → List ℕ
-skip_blanks text = drop (prefix_len is_blank text) text
 
 -- an ASCII letter, a digit or `_`
 abbrev pub is_word_byte : ℕ → Bool

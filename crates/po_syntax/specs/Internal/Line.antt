@@ -1,17 +1,18 @@
 -- The lines of a PO text: comments, and tokens under marks (manual, "The Format of PO Files").
 -- This is how a line is read, token by token; `Spelling` has what spells it, with a case for each
 -- form, and `LineFaults` its first fault.
-use Rattle.std.specs.Prelude.{◌≡◌, ℕ, ◌-◌, ◌==◌, true, false, if◌then◌else◌, List, [], ◌∷◌, length, take}
-use Rattle.std.specs.List.{suffix_len}
+use Rattle.std.specs.Prelude.{◌≡◌, ℕ, ◌==◌, true, false, if◌then◌else◌, List, [], ◌∷◌}
 use Rattle.po_syntax.specs.declared.fault.PoFault.{PoFault}
 use Rattle.po_syntax.specs.declared.fault.PoFault.TheVariants.{BadToken}
 use Rattle.po_syntax.specs.declared.item.CommentKind.{CommentKind}
 use Rattle.po_syntax.specs.declared.item.CommentKind.TheVariants.{Translator, Extracted, Reference, Flags}
 use Rattle.po_syntax.specs.declared.item.Keyword.{Keyword}
 use Rattle.po_syntax.specs.declared.item.Marks.{Marks}
-use Rattle.po_syntax.specs.QuotedString.{IsQuoted, QuotedStops}
+use Rattle.po_syntax.specs.Internal.QuotedString.{IsQuoted, QuotedStops}
+use Rattle.po_syntax.specs.ItemContents.{trim_returns}
 use Rattle.po_syntax.specs.TextItem.{TextItem, Comment, Word, Str}
-use Rattle.po_syntax.specs.Token.{LineEnd, OpeningQuote, KeywordToken, WrongToken, token_at, skip_blanks}
+use Rattle.po_syntax.specs.Internal.Token.{LineEnd, OpeningQuote, KeywordToken, WrongToken, token_at}
+use Rattle.po_syntax.specs.Blanks.{skip_blanks}
 
 -- What a line is by its first bytes: a comment with its text; tokens under marks, with the text
 -- that they are in; or neither.
@@ -66,10 +67,6 @@ first_shape (b ∷ rest) =
 -- the shape of a line, before which blanks may stand
 abbrev pub shape_of : List ℕ → Shape
 shape_of line = first_shape (skip_blanks line)
-
--- a comment's text ends before the CRs at its end
-abbrev pub trim_returns : List ℕ → List ℕ
-trim_returns text = take (length text - suffix_len (λ b. b == 13) text) text
 
 -- Under these marks, on the line of this number, the text spells these items: keywords and strings,
 -- to its end.
