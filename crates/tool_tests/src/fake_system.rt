@@ -59,7 +59,7 @@ impl Arguments for Line {
     }
 }
 
-/// Inputs of one text, each of which fails at a call, and an environment without a variable.
+/// Inputs of one text, each of which fails at a call, and an environment: the locale, and one variable `A`.
 #[derive(Drop)]
 pub(crate) struct FakeSource {
     /// The text.
@@ -95,8 +95,12 @@ impl InputSource for FakeSource {
 impl VariableSource for FakeSource {
     ghost variable = { λ _ _ _. Unit {0} };
 
-    fn read_variable(&self, _alloc: Global, _name: &str) -> Result<Option<Vec<u8>>, AllocError> {
-        Ok(None)
+    fn read_variable(&self, alloc: Global, name: &str) -> Result<Option<Vec<u8>>, AllocError> {
+        if name == "LANG" {
+            Ok(Some(copy_of(alloc, b"de")?))
+        } else {
+            Ok(None)
+        }
     }
 }
 
@@ -104,8 +108,17 @@ impl EntrySource for FakeSource {
     ghost entries = { λ _ _. Unit {0} };
 
     fn read_entries(&self, alloc: Global) -> Result<Vec<Vec<u8>>, AllocError> {
-        Ok(Vec::new(alloc))
+        let mut entries = Vec::new(alloc);
+        entries.push(copy_of(alloc, b"A=b")?)?;
+        Ok(entries)
     }
+}
+
+/// A copy of a text.
+fn copy_of(alloc: Global, text: &[u8]) -> Result<Vec<u8>, AllocError> {
+    let mut copy = Vec::new(alloc);
+    copy.extend_from_slice(text)?;
+    Ok(copy)
 }
 
 /// The files of a system that has none at first: what was written last, and whether it got its path.

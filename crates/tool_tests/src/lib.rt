@@ -3,7 +3,8 @@
 //! crate once more together with the tests in it.
 //!
 //! The modules in reading order: `arguments`, `locales`, `substitution`, `answers`,
-//! `readers_and_writers`, `failing_calls`, `fake_system`, `whole_tools`, `damaged_files`.
+//! `readers_and_writers`, `failing_calls`, `fake_system`, `whole_tools`,
+//! `whole_look_ups`, `damaged_files`.
 
 #![tactic(auto)]
 
@@ -23,5 +24,7 @@ mod locales;
 mod readers_and_writers;
 #[cfg(test)]
 mod substitution;
+#[cfg(test)]
+mod whole_look_ups;
 #[cfg(test)]
 mod whole_tools;

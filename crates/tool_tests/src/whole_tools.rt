@@ -7,26 +7,26 @@ use runs::OutputSystem;
 use std::alloc::Global;
 
 /// A tool with its command line and input, and what it writes.
-struct Row {
-    tool: Tool,
-    line: Line,
-    input: &'static [u8],
-    asked: u32,
-    output: &'static [u8],
-    messages: &'static [u8],
-    status: u8,
+pub(crate) struct Row {
+    pub(crate) tool: Tool,
+    pub(crate) line: Line,
+    pub(crate) input: &'static [u8],
+    pub(crate) asked: u32,
+    pub(crate) output: &'static [u8],
+    pub(crate) messages: &'static [u8],
+    pub(crate) status: u8,
 }
 
 /// The call that fails of each input, of the file and standard output, and of standard error; 0 for none.
 #[derive(Clone, Copy)]
-struct Calls {
-    input: u64,
-    output: u64,
-    messages: u64,
+pub(crate) struct Calls {
+    pub(crate) input: u64,
+    pub(crate) output: u64,
+    pub(crate) messages: u64,
 }
 
 /// No call fails.
-const WELL: Calls = Calls {
+pub(crate) const WELL: Calls = Calls {
     input: 0,
     output: 0,
     messages: 0,
@@ -34,7 +34,7 @@ const WELL: Calls = Calls {
 
 /// What a tool comes to.
 #[derive(Clone, Copy, PartialEq, Eq)]
-enum Outcome {
+pub(crate) enum Outcome {
     Status(u8),
     ReadFault,
     WriteFault,
@@ -43,7 +43,7 @@ enum Outcome {
 
 const ONE_MESSAGE: &[u8] = b"msgid \"a\"\nmsgstr \"b\"\n";
 
-const ONE_FILE: &[u8] =
+pub(crate) const ONE_FILE: &[u8] =
     b"\xde\x12\x04\x95\0\0\0\0\x01\0\0\0\x1c\0\0\0\x24\0\0\0\0\0\0\0\x2c\0\0\0\x01\0\0\0\x2c\0\0\0\x01\0\0\0\x2e\0\0\0a\0b\0";
 
 const ROWS: &[Row] = &[
@@ -130,7 +130,7 @@ fn is_left(files: &FakeFiles, gone_out: &[u8], output: &[u8]) -> bool {
 
 /// Whether a tool over a system with these calls comes to this outcome, and leaves this output and these
 /// messages.
-fn leaves(
+pub(crate) fn leaves(
     alloc: Global,
     row: &Row,
     calls: Calls,
@@ -143,7 +143,7 @@ fn leaves(
         failing: calls.input,
         asked: 0,
     };
-    let mut reader = Counted::new(Failing::new(row.input, 0, 1));
+    let mut reader = Counted::new(Failing::new(row.input, calls.input, 1));
     let mut system = OutputSystem {
         files: FakeFiles {
             alloc,
@@ -206,6 +206,22 @@ fn wrong_output(alloc: Global, row: &Row) -> Option<usize> {
     None
 }
 
+/// After how many bytes of the messages a failing call doesn't leave what it should, where one does: the
+/// whole output, and the messages before it.
+fn wrong_messages(alloc: Global, row: &Row) -> Option<usize> {
+    for taken in 0..row.messages.len() {
+        let calls = Calls {
+            messages: taken as u64 + 1,
+            ..WELL
+        };
+        let before = &row.messages[..taken];
+        if !leaves(alloc, row, calls, Outcome::WriteFault, row.output, before) {
+            return Some(taken);
+        }
+    }
+    None
+}
+
 #[test]
 fn each_tool_runs(rt: HostRuntime) {
     for (index, row) in ROWS.iter().enumerate() {
@@ -227,6 +243,14 @@ fn each_input_fails(rt: HostRuntime) {
 fn each_output_fails(rt: HostRuntime) {
     for (index, row) in ROWS.iter().enumerate() {
         let wrong = wrong_output(rt.alloc(), row);
+        assert!(rt; wrong.is_none(), "row {index}, after {wrong:?}");
+    }
+}
+
+#[test]
+fn the_messages_fail(rt: HostRuntime) {
+    for (index, row) in ROWS.iter().enumerate() {
+        let wrong = wrong_messages(rt.alloc(), row);
         assert!(rt; wrong.is_none(), "row {index}, after {wrong:?}");
     }
 }

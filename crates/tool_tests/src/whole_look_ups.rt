@@ -1,0 +1,138 @@
+//! gettext, ngettext and envsubst as wholes, over a system in memory whose calls fail in turn.
+use crate::fake_system::Line;
+use crate::whole_tools::{Calls, ONE_FILE, Outcome, Row, WELL, leaves};
+use po_tools::Tool;
+use std::alloc::Global;
+
+/// A command line of arguments alone.
+const fn line_of(others: &'static [&'static str]) -> Line {
+    Line {
+        files: &[],
+        others,
+        output: None,
+        flags: &[],
+    }
+}
+
+/// A look-up in a catalogue of one message.
+const fn answer(tool: Tool, others: &'static [&'static str]) -> Row {
+    Row {
+        tool,
+        line: line_of(others),
+        input: ONE_FILE,
+        asked: 1,
+        output: b"b",
+        messages: b"",
+        status: 0,
+    }
+}
+
+/// The same look-up where the catalogue can't be read: the msgid, and a message.
+const fn no_answer(tool: Tool, others: &'static [&'static str], messages: &'static [u8]) -> Row {
+    Row {
+        output: b"a",
+        messages,
+        ..answer(tool, others)
+    }
+}
+
+/// Each look-up, with its catalogue and without.
+const LOOK_UPS: &[(Row, Row)] = &[
+    (
+        answer(Tool::Gettext, &["d", "a"]),
+        no_answer(
+            Tool::Gettext,
+            &["d", "a"],
+            b"pokit gettext: /usr/share/locale/de/LC_MESSAGES/d.mo: read fault\n",
+        ),
+    ),
+    (
+        answer(Tool::Ngettext, &["d", "a", "c", "1"]),
+        no_answer(
+            Tool::Ngettext,
+            &["d", "a", "c", "1"],
+            b"pokit ngettext: /usr/share/locale/de/LC_MESSAGES/d.mo: read fault\n",
+        ),
+    ),
+];
+
+/// An input with a variable of the environment.
+const REPLACED: Row = Row {
+    tool: Tool::Envsubst,
+    line: line_of(&[]),
+    input: b"c $A.",
+    asked: 0,
+    output: b"c b.",
+    messages: b"",
+    status: 0,
+};
+
+/// What has gone out of that where the read after so many bytes of the input fails: all that these bytes
+/// decide.
+const REPLACED_BEFORE: &[&[u8]] = &[b"", b"c", b"c ", b"c ", b"c ", b"c b."];
+
+/// The call at which a row whose call of the output fails doesn't leave what it should, where one does:
+/// what went out before it.
+fn wrong_output(alloc: Global, row: &Row) -> Option<usize> {
+    for taken in 0..row.output.len() {
+        let calls = Calls {
+            output: taken as u64 + 1,
+            ..WELL
+        };
+        if !leaves(
+            alloc,
+            row,
+            calls,
+            Outcome::WriteFault,
+            &row.output[..taken],
+            b"",
+        ) {
+            return Some(taken);
+        }
+    }
+    None
+}
+
+#[test]
+fn messages_are_looked_up(rt: HostRuntime) {
+    for (index, (row, _)) in LOOK_UPS.iter().enumerate() {
+        let wanted = Outcome::Status(row.status);
+        let is_right = leaves(rt.alloc(), row, WELL, wanted, row.output, row.messages);
+        assert!(rt; is_right, "row {index}");
+        let wrong = wrong_output(rt.alloc(), row);
+        assert!(rt; wrong.is_none(), "row {index}, after {wrong:?}");
+    }
+}
+
+#[test]
+fn a_catalogue_fails(rt: HostRuntime) {
+    for (index, (_, row)) in LOOK_UPS.iter().enumerate() {
+        for input in 1..=row.input.len() as u64 + 1 {
+            let calls = Calls { input, ..WELL };
+            let wanted = Outcome::Status(row.status);
+            let is_right = leaves(rt.alloc(), row, calls, wanted, row.output, row.messages);
+            assert!(rt; is_right, "row {index}, call {input}");
+        }
+    }
+}
+
+#[test]
+fn variables_are_replaced(rt: HostRuntime) {
+    let wanted = Outcome::Status(REPLACED.status);
+    let is_right = leaves(rt.alloc(), &REPLACED, WELL, wanted, REPLACED.output, b"");
+    assert!(rt; is_right);
+    let wrong = wrong_output(rt.alloc(), &REPLACED);
+    assert!(rt; wrong.is_none(), "after {wrong:?}");
+}
+
+#[test]
+fn standard_input_fails(rt: HostRuntime) {
+    for (read, left) in REPLACED_BEFORE.iter().enumerate() {
+        let calls = Calls {
+            input: read as u64 + 1,
+            ..WELL
+        };
+        let is_right = leaves(rt.alloc(), &REPLACED, calls, Outcome::ReadFault, left, b"");
+        assert!(rt; is_right, "after {read}");
+    }
+}
