@@ -14,11 +14,11 @@ use Rattle.po_writer.specs.WrittenText.{written_text}
 use Rattle.po_unformat.specs.declared.fault.UnformatError.TheVariants.{Mo, NotUtf8, ForbiddenByte, ForeignCharset, OutOfMemory}
 use Rattle.po_unformat.specs.RoundTrip.{EmptyText, NoFaultWhereUnformatted, OneText}
 use Rattle.po_unformat.specs.Unformatted.{unformatted}
-use Rattle.po_unformat.specs.UnformattedText.{AreWrittenAs, HasFirstTextsFault, HasForeignCharset, IsFileOf}
+use Rattle.po_unformat.specs.UnformattedText.{AreWrittenAs, HasFirstEntryTextFault, HasForeignCharset, IsFileOf}
 use Rattle.po_unformat.proofs.MessageLemmas.{texts_of}
 
 -- messages that are written have no fault in their texts
-no_first_fault : (text : List ℕ) (messages : List Message) (i : ℕ) (kind : PoFault) → AreWrittenAs text messages → HasFirstTextsFault i kind messages → ⊥
+no_first_fault : (text : List ℕ) (messages : List Message) (i : ℕ) (kind : PoFault) → AreWrittenAs text messages → HasFirstEntryTextFault i kind messages → ⊥
 no_first_fault text messages i kind written fault =
     let entries = unformatted messages in
     let here : get_or entries i fault.entry ≡ fault.entry = get_or_from_slice_get entries i fault.entry fault.entry fault.is_entry in
@@ -37,9 +37,9 @@ moved unique bytes P Q file other =
 pub no_fault : OneMessageList → NoFaultWhereUnformatted
 no_fault unique bytes text (Mo f) file fault = absurd (file.valid.faultless f fault.holds)
 no_fault unique bytes text (NotUtf8 i) file fault =
-    absurd (no_first_fault text file.messages i BadText file.holds (moved unique bytes (AreWrittenAs text) (HasFirstTextsFault i BadText) file fault))
+    absurd (no_first_fault text file.messages i BadText file.holds (moved unique bytes (AreWrittenAs text) (HasFirstEntryTextFault i BadText) file fault))
 no_fault unique bytes text (ForbiddenByte i) file fault =
-    absurd (no_first_fault text file.messages i BadByte file.holds (moved unique bytes (AreWrittenAs text) (HasFirstTextsFault i BadByte) file fault))
+    absurd (no_first_fault text file.messages i BadByte file.holds (moved unique bytes (AreWrittenAs text) (HasFirstEntryTextFault i BadByte) file fault))
 no_fault unique bytes text ForeignCharset file fault =
     absurd (no_foreign text file.messages file.holds (moved unique bytes (AreWrittenAs text) HasForeignCharset file fault))
 no_fault unique bytes text OutOfMemory file fault = refl
