@@ -14,6 +14,7 @@ use std::alloc::{AllocError, Global};
 const UNKNOWN_LEN: u64 = 0;
 
 /// What a command line gives.
+#[derive(Drop)]
 pub(crate) struct Line {
     /// The arguments FILE.
     pub(crate) files: &'static [&'static str],

@@ -4,21 +4,16 @@ use crate::whole_tools::{Calls, ONE_FILE, Outcome, Row, WELL, leaves};
 use po_tools::Tool;
 use std::alloc::Global;
 
-/// A command line of arguments alone.
-const fn line_of(others: &'static [&'static str]) -> Line {
-    Line {
-        files: &[],
-        others,
-        output: None,
-        flags: &[],
-    }
-}
-
 /// A look-up in a catalogue of one message.
-const fn answer(tool: Tool, others: &'static [&'static str]) -> Row {
+fn answer(tool: Tool, others: &'static [&'static str]) -> Row {
     Row {
         tool,
-        line: line_of(others),
+        line: Line {
+            files: &[],
+            others,
+            output: None,
+            flags: &[],
+        },
         input: ONE_FILE,
         asked: 1,
         output: b"b",
@@ -27,39 +22,40 @@ const fn answer(tool: Tool, others: &'static [&'static str]) -> Row {
     }
 }
 
-/// The same look-up where the catalogue can't be read: the msgid, and a message.
-const fn no_answer(tool: Tool, others: &'static [&'static str], messages: &'static [u8]) -> Row {
-    Row {
-        output: b"a",
-        messages,
-        ..answer(tool, others)
-    }
+/// Look-ups in a catalogue of one message.
+fn answers() -> [Row; 2] {
+    [
+        answer(Tool::Gettext, &["d", "a"]),
+        answer(Tool::Ngettext, &["d", "a", "c", "1"]),
+    ]
 }
 
-/// Each look-up, with its catalogue and without.
-const LOOK_UPS: &[(Row, Row)] = &[
-    (
-        answer(Tool::Gettext, &["d", "a"]),
-        no_answer(
-            Tool::Gettext,
-            &["d", "a"],
-            b"pokit gettext: /usr/share/locale/de/LC_MESSAGES/d.mo: read fault\n",
-        ),
-    ),
-    (
-        answer(Tool::Ngettext, &["d", "a", "c", "1"]),
-        no_answer(
-            Tool::Ngettext,
-            &["d", "a", "c", "1"],
-            b"pokit ngettext: /usr/share/locale/de/LC_MESSAGES/d.mo: read fault\n",
-        ),
-    ),
-];
+/// The same where the catalogue can't be read: the msgid, and a message.
+fn untranslated() -> [Row; 2] {
+    let [gettext, ngettext] = answers();
+    [
+        Row {
+            output: b"a",
+            messages: b"pokit gettext: /usr/share/locale/de/LC_MESSAGES/d.mo: read fault\n",
+            ..gettext
+        },
+        Row {
+            output: b"a",
+            messages: b"pokit ngettext: /usr/share/locale/de/LC_MESSAGES/d.mo: read fault\n",
+            ..ngettext
+        },
+    ]
+}
 
 /// An input with a variable of the environment.
 const REPLACED: Row = Row {
     tool: Tool::Envsubst,
-    line: line_of(&[]),
+    line: Line {
+        files: &[],
+        others: &[],
+        output: None,
+        flags: &[],
+    },
     input: b"c $A.",
     asked: 0,
     output: b"c b.",
@@ -95,7 +91,7 @@ fn wrong_output(alloc: Global, row: &Row) -> Option<usize> {
 
 #[test]
 fn messages_are_looked_up(rt: HostRuntime) {
-    for (index, (row, _)) in LOOK_UPS.iter().enumerate() {
+    for (index, row) in answers().iter().enumerate() {
         let wanted = Outcome::Status(row.status);
         let is_right = leaves(rt.alloc(), row, WELL, wanted, row.output, row.messages);
         assert!(rt; is_right, "row {index}");
@@ -106,7 +102,7 @@ fn messages_are_looked_up(rt: HostRuntime) {
 
 #[test]
 fn a_catalogue_fails(rt: HostRuntime) {
-    for (index, (_, row)) in LOOK_UPS.iter().enumerate() {
+    for (index, row) in untranslated().iter().enumerate() {
         for input in 1..=row.input.len() as u64 + 1 {
             let calls = Calls { input, ..WELL };
             let wanted = Outcome::Status(row.status);

@@ -7,6 +7,7 @@ use runs::OutputSystem;
 use std::alloc::Global;
 
 /// A tool with its command line and input, and what it writes.
+#[derive(Drop)]
 pub(crate) struct Row {
     pub(crate) tool: Tool,
     pub(crate) line: Line,
