@@ -22,12 +22,13 @@ use Rattle.po_syntax.specs.ItemContents.{IsComment, IsText}
 use Rattle.po_writer.specs.WrittenText.{arranged, written_text}
 use Rattle.po_messages.specs.Duplicate.{AllDiffer, HasNoDuplicate}
 use Rattle.po_messages.specs.Joined.{is_live, joined_entries}
-use Rattle.po_messages.specs.Statistics.{has_translation}
+use Rattle.po_messages.specs.Statistics.{has_translation, stats_of}
 use Rattle.po_messages.specs.DistinctText.{ReadsDistinct}
 use Rattle.po_compile.specs.CompiledList.{compiled_list, is_compiled}
 use Rattle.po_compile.specs.CompiledMessages.{AreMessagesOf, message_of, messages_of_entries, original_of, translation_of}
 use Rattle.po_compile.specs.Compiling.{IsCompilation}
-use Rattle.po_compile.specs.Headline.{MessagesAreOne}
+use Rattle.po_compile.specs.Accepted.{AreAccepted}
+use Rattle.po_compile.specs.Headline.{LookUpMeansEntries, MessagesAreOne}
 use Rattle.po_compile.specs.MessageLaws.{HasParts, JoinedEntriesCanStand, MessagesDiffer, MessagesHaveParts, OneTextIsRead}
 use Rattle.po_compile.specs.declared.options.Compiled.{Compiled}
 use Rattle.po_compile.specs.declared.options.Options.{Options}
@@ -208,7 +209,7 @@ one_catalogue one text read [] reads each = absurd each
 one_catalogue one text read (c ∷ []) reads each = ap (λ (e : List TextEntry). e ∷ []) (one text c read each.0.reads reads)
 one_catalogue one text read (c ∷ d ∷ catalogues) reads each = absurd each.1
 
-module _ (parts : MessagesHaveParts) (differ : MessagesDiffer) (joined_stand : JoinedEntriesCanStand) (one_text : OneTextIsRead) (one_list : MessagesAreOne)
+module _ (parts : MessagesHaveParts) (differ : MessagesDiffer) (joined_stand : JoinedEntriesCanStand) (one_text : OneTextIsRead) (one_list : MessagesAreOne) (means : LookUpMeansEntries)
     (one_reading : OneReading) (stand : EntriesCanStand) (reads : WrittenTextReads) (stay : LiveEntriesStay) where
   module _ (options : Options) (list : List TextEntry) (compiled' : Compiled) (is : IsCompilation options list compiled') (all : All IsReturned is.messages) where
     abbrev text : List ℕ
@@ -227,11 +228,33 @@ module _ (parts : MessagesHaveParts) (differ : MessagesDiffer) (joined_stand : J
         let none = distinct messages all read lines differ list' is.are_messages (stand text read found.1) in
         let alone = one_text text read (record { reads = found.1; distinct = none }) in
         let same_list : compiled_list use_fuzzy (joined_entries (read ∷ [])) ≡ read = ap (compiled_list use_fuzzy) alone.1 ∙ all_compiled messages all read lines use_fuzzy in
+        let back : Options = record { use_fuzzy = use_fuzzy; order = options.order } in
+        let of_list = subst (λ l. AreMessagesOf l messages) (sym same_list) are in
+        let accepted : AreAccepted back (text ∷ []) (read ∷ []) =
+        record { read = alone.0; layout = record { messages = messages; are_messages = of_list; small = is.small } } in
+        let count : compiled'.n ≡ length (compiled_list use_fuzzy (joined_entries (read ∷ []))) =
+        is.file_count ∙ ap length (sym (read_messages messages all read lines)) ∙ length-map read message_of ∙ ap length (sym same_list) in
         record {
           catalogues = read ∷ [];
-          accepted = record {
+          accepted = accepted;
+          messages = messages;
+          are_messages = of_list;
+          layout_is = sym is.bytes;
+          compiled = record { bytes = compiled'.bytes; n = compiled'.n; stats = stats_of (joined_entries (read ∷ [])) };
+          is_compiled = record {
+            catalogues = read ∷ [];
             read = alone.0;
-            layout = record { messages = messages; are_messages = subst (λ l. AreMessagesOf l messages) (sym same_list) are; small = is.small };
+            is_compiled = record {
+              messages = messages;
+              are_messages = of_list;
+              bytes = is.bytes;
+              small = is.small;
+              valid = is.valid;
+              means = (means back (text ∷ []) (read ∷ []) messages accepted of_list).1;
+              count = count;
+              file_count = is.file_count;
+              stats = refl;
+            };
           };
           same_bytes = λ other compiled.
               let only = one_catalogue one_reading text read compiled.catalogues found.1 compiled.read.each in

@@ -1,7 +1,12 @@
 -- Laws of the PO text of an MO file: a compiled file comes back as the same bytes.
 use Rattle.std.specs.Prelude.{◌≡◌, ◌≢◌, ◌⊎◌, ◌↔◌, ℕ, Bool, List, [], ◌∷◌}
+use Rattle.mo_file.specs.Layout.{layout}
+use Rattle.mo_file.specs.Message.{Message}
 use Rattle.po_syntax.specs.PoText.{IsSmall}
 use Rattle.po_entry.specs.TextEntry.{TextEntry}
+use Rattle.po_messages.specs.Joined.{joined_entries}
+use Rattle.po_compile.specs.CompiledList.{compiled_list}
+use Rattle.po_compile.specs.CompiledMessages.{AreMessagesOf}
 use Rattle.po_compile.specs.Accepted.{AreAccepted, AreCompiled}
 use Rattle.po_compile.specs.declared.options.Compiled.{Compiled}
 use Rattle.po_compile.specs.declared.options.Options.{Options}
@@ -9,10 +14,16 @@ use Rattle.po_unformat.specs.UnformattedText.{IsUnformatted, IsUnformatFault}
 use Rattle.po_unformat.specs.declared.fault.UnformatError.{UnformatError}
 use Rattle.po_unformat.specs.declared.fault.UnformatError.TheVariants.{OutOfMemory}
 
--- under these options the text is accepted, and whatever it is compiled to has these bytes
+-- Under these options the text is accepted: the layout of its compiled list is these bytes. It is compiled
+-- to something, and whatever it is compiled to has them.
 pub record CompilesTo (options : Options) (text bytes : List ℕ) : Type 0 where
   pub catalogues : List (List TextEntry)
   pub accepted : AreAccepted options (text ∷ []) catalogues
+  pub messages : List Message
+  pub are_messages : AreMessagesOf (compiled_list options.use_fuzzy (joined_entries catalogues)) messages
+  pub layout_is : layout options.order messages ≡ bytes
+  pub compiled : Compiled
+  pub is_compiled : AreCompiled options (text ∷ []) compiled
   pub same_bytes : (compiled : Compiled) → AreCompiled options (text ∷ []) compiled → compiled.bytes.items ≡ bytes
 
 -- What texts are compiled to has a PO text, which compiles to the same bytes in the same byte order

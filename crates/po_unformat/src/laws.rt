@@ -6,14 +6,14 @@ ghost use Rattle.po_unformat.specs.RoundTrip.{EmptyText, NoFaultWhereUnformatted
 
 use mo_file::{mo_file_or_fault, one_first_fault, one_message_list};
 use po_compile::laws::{
-    joined_entries_can_stand, messages_are_one, messages_differ, messages_have_parts,
-    one_text_is_read,
+    joined_entries_can_stand, look_up_means_entries, messages_are_one, messages_differ,
+    messages_have_parts, one_text_is_read,
 };
 use po_reader::laws::{entries_can_stand, one_reading};
 use po_writer::laws::{live_entries_stay, some_entry_is_written, written_text_reads};
 
-/// A compiled file has a PO text, which compiles to the same bytes in the same byte order, if it is
-/// not too large.
+/// A compiled file has a PO text, which is accepted if it is not too large: the layout of its compiled list
+/// in the same byte order is the same bytes, and so is what it is compiled to.
 pub fn unformat_then_compile()
     ensures { UnformatThenCompile }
 {
@@ -22,6 +22,7 @@ pub fn unformat_then_compile()
     joined_entries_can_stand();
     one_text_is_read();
     messages_are_one();
+    look_up_means_entries();
     one_reading();
     entries_can_stand();
     written_text_reads();
