@@ -1,6 +1,6 @@
 //! Looking up a message.
 
-ghost use Rattle.std.specs.Prelude.{◌≡◌, ◌≤◌, length, false};
+ghost use Rattle.std.specs.Prelude.{◌≡◌, ◌+◌, ◌^◌, ◌<◌, ◌≤◌, length, false};
 ghost use Rattle.plural_rule.specs.Expression.{nodes};
 ghost use Rattle.mo_lookup.specs.Bound.{search_bound};
 ghost use Rattle.mo_lookup.specs.CatalogView.{CatalogView, answered};
@@ -37,18 +37,36 @@ pub extern "C" fn pokit_catalog_look(
     ensures nodes { (view : CatalogView) → IsOpened catalog.now view
         → located.new.steps ≤ nodes view.rule.tree }
 {
+    *located = look(catalog, query, &mut Meter::new());
+}
+
+/// What [`pokit_catalog_look`] says. The meter counts the comparisons.
+#[inline(always)]
+fn look(catalog: &PokitCatalog<'_>, query: &PokitQuery<'_>, meter: &mut Meter) -> PokitLocated
+    requires opened { (view : CatalogView) × IsOpened catalog.now view }
+    requires room { meter.old < 2 ^ 63 }
+    ensures counted { meter.new ≡ meter.old + result.comparisons }
+    ensures answered { (view : CatalogView) → IsOpened catalog.now view
+        → answer_view catalog.now.bytes.now query.now result ≡ answered view (query_view query.now) }
+    ensures terminated { IsTerminated catalog.now.bytes.now result }
+    ensures of_query { IsOfQuery query.now result }
+    ensures comparisons { (view : CatalogView) → IsOpened catalog.now view
+        → result.comparisons ≡ query_comparisons view.messages (query_view query.now) }
+    ensures bound { (view : CatalogView) → IsOpened catalog.now view
+        → result.comparisons ≤ search_bound (length view.messages) }
+    ensures no_key { can_be_key (query_view query.now).context query.now.id.now ≡ false
+        → result.comparisons ≡ 0 }
+    ensures nodes { (view : CatalogView) → IsOpened catalog.now view
+        → result.steps ≤ nodes view.rule.tree }
+{
     let view = MoView::reopen(catalog.bytes);
-    let mut meter = Meter::new();
     let found = locate(
-        &mut ViewMessages {
-            view: &view,
-            meter: &mut meter,
-        },
+        &mut ViewMessages { view: &view, meter },
         catalog.nplurals,
         catalog.program(),
         query.context(),
         query.id,
         query.plural(),
     );
-    *located = PokitLocated::of(found);
+    PokitLocated::of(found)
 }

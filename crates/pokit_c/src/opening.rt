@@ -1,10 +1,10 @@
 //! Opening a catalogue.
 
-ghost use Rattle.std.specs.Prelude.{◌≡◌, ◌<◌, ◌≤◌, List, length};
+ghost use Rattle.std.specs.Prelude.{◌≡◌, ◌+◌, ◌^◌, ◌<◌, ◌≤◌, List, length};
 ghost use Rattle.mo_file.specs.declared.byte_order.Order.{Order};
 ghost use Rattle.mo_file.specs.declared.fault.MoError.{MoError};
 ghost use Rattle.mo_file.specs.MoFile.{IsMoFile};
-ghost use Rattle.mo_file.specs.Fault.{IsFirstFault, kind, index};
+ghost use Rattle.mo_file.specs.Fault.{IsFirstFault, comparisons_before, kind, index};
 ghost use Rattle.mo_file.specs.Message.{Message};
 ghost use Rattle.mo_lookup.specs.CatalogView.{CatalogView};
 ghost use Rattle.pokit_c.specs.Opened.{IsOpened};
@@ -32,8 +32,32 @@ pub extern "C" fn pokit_catalog_open<'a>(
     ensures unchanged { 0 < result → catalog.new ≡ catalog.old }
     ensures only { (order : Order) (messages : List Message) → IsMoFile order bytes.now messages → result ≡ 0 }
 {
-    let mut meter = Meter::new();
-    match open_into(bytes, &mut meter, &mut catalog.instructions) {
+    open(catalog, bytes, message, &mut Meter::new())
+}
+
+/// What [`pokit_catalog_open`] says. The meter counts the comparisons: as many as there are messages, or those
+/// before the fault.
+#[inline(always)]
+fn open<'a>(
+    catalog: &mut PokitCatalog<'a>,
+    bytes: &'a [u8],
+    message: &mut u32,
+    meter: &mut Meter,
+) -> u32
+    requires { meter.old < 2 ^ 63 }
+    ensures opened { result ≡ 0 → (view : CatalogView) × IsOpened catalog.new view }
+    ensures same { result ≡ 0 → catalog.new.bytes.now ≡ bytes.now }
+    ensures no_message { result ≡ 0 → message.new ≡ 0 }
+    ensures fault { 0 < result → (fault : MoError) × (result ≡ kind fault) × (message.new ≡ index fault)
+        × IsFirstFault bytes.now fault }
+    ensures unchanged { 0 < result → catalog.new ≡ catalog.old }
+    ensures only { (order : Order) (messages : List Message) → IsMoFile order bytes.now messages → result ≡ 0 }
+    ensures cost { result ≡ 0 → (view : CatalogView) × IsOpened catalog.new view
+        × (meter.new ≡ meter.old + length view.messages) }
+    ensures cost_of_fault { 0 < result → (fault : MoError) × IsFirstFault bytes.now fault
+        × (meter.new ≡ meter.old + comparisons_before fault) }
+{
+    match open_into(bytes, meter, &mut catalog.instructions) {
         Ok((_, rule)) => {
             catalog.bytes = bytes;
             catalog.nplurals = rule.nplurals;

@@ -1,5 +1,5 @@
-use Rattle.std.proofs.Common.{sym, ◌∙◌}
-use Rattle.pokit_c.proofs.looking.pokit_catalog_look.Goals as goal
+use Rattle.std.proofs.Common.{◌∙◌}
+use Rattle.pokit_c.proofs.looking.look.Goals as goal
 
 pub returns-clause-answered : goal.returns-clause-answered
 returns-clause-answered c view opened =
