@@ -1,5 +1,4 @@
 //! What the options of a command line mean for msgattrib.
-ghost use Rattle.std.specs.Prelude.{◌≡◌, ◌||◌};
 ghost use Rattle.msgattrib.specs.Options.{IsSelection};
 
 use po_select::Selection;
@@ -15,21 +14,14 @@ pub fn selection_of<A: Arguments>(arguments: &A) -> Selection
         translated: arguments.is_given("translated"),
         untranslated: arguments.is_given("untranslated"),
         no_fuzzy: arguments.is_given("no-fuzzy"),
-        only_fuzzy: either(arguments.is_given("only-fuzzy"), fuzzy),
+        only_fuzzy: arguments.is_given("only-fuzzy") | fuzzy,
         no_obsolete: arguments.is_given("no-obsolete"),
-        only_obsolete: either(arguments.is_given("only-obsolete"), obsolete),
+        only_obsolete: arguments.is_given("only-obsolete") | obsolete,
         set_fuzzy: arguments.is_given("set-fuzzy"),
-        clear_fuzzy: either(arguments.is_given("clear-fuzzy"), fuzzy),
+        clear_fuzzy: arguments.is_given("clear-fuzzy") | fuzzy,
         set_obsolete: arguments.is_given("set-obsolete"),
-        clear_obsolete: either(arguments.is_given("clear-obsolete"), obsolete),
+        clear_obsolete: arguments.is_given("clear-obsolete") | obsolete,
         clear_previous: arguments.is_given("clear-previous"),
         empty: arguments.is_given("empty"),
     }
-}
-
-/// Whether one of two options is given.
-fn either(one: bool, other: bool) -> bool
-    ensures { result ≡ (one || other) }
-{
-    one || other
 }
