@@ -3,7 +3,7 @@
 //! of their own, since the gate proves a crate once more together with the tests in it.
 //!
 //! `texts`, `summary` and `assertions` serve the others, which are in reading order: `items`,
-//! `reading`, `built_entries`, `writing`, `catalogues`, `compiling`, `damaged`, `documented`.
+//! `reading`, `built_entries`, `writing`, `catalogues`, `tools`, `compiling`, `damaged`, `documented`.
 
 #![tactic(auto)]
 
@@ -27,5 +27,7 @@ mod reading;
 mod summary;
 #[cfg(test)]
 mod texts;
+#[cfg(test)]
+mod tools;
 #[cfg(test)]
 mod writing;
