@@ -30,18 +30,16 @@ fn answers() -> [Row; 2] {
     ]
 }
 
-/// The same where the catalogue can't be read: the msgid, and a message.
+/// The same where the catalogue can't be read: no message says so.
 fn untranslated() -> [Row; 2] {
     let [gettext, ngettext] = answers();
     [
         Row {
             output: b"a",
-            messages: b"pokit gettext: /usr/share/locale/de/LC_MESSAGES/d.mo: read fault\n",
             ..gettext
         },
         Row {
             output: b"a",
-            messages: b"pokit ngettext: /usr/share/locale/de/LC_MESSAGES/d.mo: read fault\n",
             ..ngettext
         },
     ]
