@@ -2,7 +2,7 @@
 use Rattle.std.proofs.Common.{◌≡◌, ℕ, suc, ◌<◌, ◌≤◌, ◌^◌, ◌==◌, true, false, nat_le, nat_lt, List, [], ◌∷◌, ◌++◌, Some, option_and_then, refl, sym, ap, ◌∙◌, append_assoc, append-nil, arith}
 use Rattle.std.proofs.lemmas.Bool.Decides.{nat_tests}
 use Rattle.plural_rule.specs.declared.operator.Operator.{Operator}
-use Rattle.plural_rule.specs.declared.operator.Operator.TheVariants.{Or, And, Equal, NotEqual, Less, Greater, AtMost, AtLeast, Add, Subtract, Multiply, Divide, Remainder}
+use Rattle.plural_rule.specs.declared.operator.Operator.TheVariants.{Or}
 use Rattle.plural_rule.specs.declared.token.Token.{Token}
 use Rattle.plural_rule.specs.declared.token.Token.TheVariants.{Binary as BinaryToken, Question, Colon, Close}
 use Rattle.plural_rule.specs.Expression.{Tree, Count, Number, Binary}
@@ -11,39 +11,20 @@ use Rattle.plural_rule.specs.Internal.ShiftReduce.{Waiting, WaitNot, WaitOpen, W
 
 -- every operator's level is from 1 to 6
 pub level-range : (op : Operator) → (1 ≤ level op) × (level op ≤ 6)
-level-range op = elim op as (λ v. (1 ≤ level v) × (level v ≤ 6)) [
-  | Or ↦ (omega arith, omega arith)
-  | And ↦ (omega arith, omega arith)
-  | Equal ↦ (omega arith, omega arith)
-  | NotEqual ↦ (omega arith, omega arith)
-  | Less ↦ (omega arith, omega arith)
-  | Greater ↦ (omega arith, omega arith)
-  | AtMost ↦ (omega arith, omega arith)
-  | AtLeast ↦ (omega arith, omega arith)
-  | Add ↦ (omega arith, omega arith)
-  | Subtract ↦ (omega arith, omega arith)
-  | Multiply ↦ (omega arith, omega arith)
-  | Divide ↦ (omega arith, omega arith)
-  | Remainder ↦ (omega arith, omega arith)
-]
+level-range Or = (omega arith, omega arith)
+level-range _ = (omega arith, omega arith)
 
 -- an operand of level k may stand after what waits: only `!` and operators that bind less tight are
 -- on top
 abbrev pub Fits : ℕ → List Waiting → Type 0
-Fits k [] = Unit {0}
 Fits k (WaitNot ∷ stack) = 7 ≤ k
-Fits k (WaitOpen ∷ stack) = Unit {0}
 Fits k (WaitBinary op a ∷ stack) = level op < k
-Fits k (WaitQuestion a ∷ stack) = Unit {0}
-Fits k (WaitColon a b ∷ stack) = Unit {0}
+Fits k stack = Unit {0}
 
 pub Fits-later : (j k : ℕ) (stack : List Waiting) → j ≤ k → Fits j stack → Fits k stack
-Fits-later j k [] h f = tt
 Fits-later j k (WaitNot ∷ stack) h f = omega arith
-Fits-later j k (WaitOpen ∷ stack) h f = tt
 Fits-later j k (WaitBinary op a ∷ stack) h f = omega arith
-Fits-later j k (WaitQuestion a ∷ stack) h f = tt
-Fits-later j k (WaitColon a b ∷ stack) h f = tt
+Fits-later j k _ h f = tt
 
 pub reduce-binary : (k : ℕ) (op : Operator) (a : Tree) (stack : List Waiting) (t : Tree) → k ≤ level op → reduce k (WaitBinary op a ∷ stack) t ≡ reduce k stack (Binary op a t)
 reduce-binary k op a stack t h =
@@ -51,14 +32,12 @@ reduce-binary k op a stack t h =
 
 -- nothing that waits binds as tight as an operand that fits, from level 1 on
 pub reduce-fits : (k : ℕ) (stack : List Waiting) (t : Tree) → 1 ≤ k → k ≤ 6 → Fits k stack → reduce k stack t ≡ record { stack = stack; tree = t }
-reduce-fits k [] t low high f = refl
 reduce-fits k (WaitNot ∷ stack) t low high f = absurd (omega arith)
-reduce-fits k (WaitOpen ∷ stack) t low high f = refl
 reduce-fits k (WaitBinary op a ∷ stack) t low high f =
     let e : nat_le k (level op) ≡ false = grind (arith, nat_tests) in rw e
-reduce-fits k (WaitQuestion a ∷ stack) t low high f = refl
 reduce-fits k (WaitColon a b ∷ stack) t low high f =
     let e : (k == 0) ≡ false = grind (arith, nat_tests) in rw e
+reduce-fits k _ t low high f = refl
 
 -- after the tokens of an operand it is complete, and what binds less tight than its level finds it
 -- as it is

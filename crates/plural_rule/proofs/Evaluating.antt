@@ -14,68 +14,52 @@ zero-test x h = grind (arith, nat_tests)
 other-test : (x : ℕ) → x ≢ 0 → is_zero x ≡ false
 other-test x h = grind (arith, nat_tests)
 
+-- the value, as a record, which shows the tree and the number
+record Has (n : ℕ) (t : Tree) (v : ℕ) : Type 0 where
+  is : value t n ≡ Some v
+
 -- an operator whose second operand is needed
-needed-value : (n : ℕ) (op : Operator) (a b : Tree) (x y v : ℕ) → value a n ≡ Some x → value b n ≡ Some y → needs_right op x ≡ true → combined op x y ≡ Some v → value (Binary op a b) n ≡ Some v
-needed-value n op a b x y v first second needed is = rw (first, second) (rw needed is)
+needed : {n : ℕ} {a b : Tree} {x y v : ℕ} (op : Operator) → needs_right op x ≡ true → combined op x y ≡ Some v → Has n a x → Has n b y → Has n (Binary op a b) v
+needed op need is h k = record { is = rw (h.is, k.is) (rw need is) }
 
 -- a comparison
-test-value : (n : ℕ) (op : Operator) (a b : Tree) (x y : ℕ) (test holds : Bool) → value a n ≡ Some x → value b n ≡ Some y → needs_right op x ≡ true → combined op x y ≡ Some (truth test) → test ≡ holds → value (Binary op a b) n ≡ Some (truth holds)
-test-value n op a b x y test holds first second needed is same =
-    needed-value n op a b x y (truth holds) first second needed (is ∙ ap (λ t. Some (truth t)) same)
+compared : {n : ℕ} {a b : Tree} {x y : ℕ} (op : Operator) (test holds : Bool) → needs_right op x ≡ true → combined op x y ≡ Some (truth test) → test ≡ holds → Has n a x → Has n b y → Has n (Binary op a b) (truth holds)
+compared op test holds need is same h k = needed op need (is ∙ ap (λ t. Some (truth t)) same) h k
 
-pub evaluates-value : (n : ℕ) (t : Tree) (v : ℕ) → Evaluates n t v → value t n ≡ Some v
-evaluates-value n _ _ count = refl
-evaluates-value n _ _ (numeral v) = refl
-evaluates-value n _ _ (not_zero {a} x z h) = rw (evaluates-value n a x h) (rw (zero-test x z) refl)
-evaluates-value n _ _ (not_other {a} x z h) = rw (evaluates-value n a x h) (rw (other-test x z) refl)
-evaluates-value n _ _ (or_first {a} {b} x z h) = rw (evaluates-value n a x h) (rw (other-test x z) refl)
-evaluates-value n _ _ (or_second {a} {b} x y z w h k) =
-    test-value n Or a b x y (not (is_zero y)) true (evaluates-value n a x h) (evaluates-value n b y k) (zero-test x z) refl (rw (other-test y w) refl)
-evaluates-value n _ _ (or_neither {a} {b} x y z w h k) =
-    test-value n Or a b x y (not (is_zero y)) false (evaluates-value n a x h) (evaluates-value n b y k) (zero-test x z) refl (rw (zero-test y w) refl)
-evaluates-value n _ _ (and_first {a} {b} x z h) = rw (evaluates-value n a x h) (rw (zero-test x z) refl)
-evaluates-value n _ _ (and_second {a} {b} x y z w h k) =
-    test-value n And a b x y (not (is_zero y)) false (evaluates-value n a x h) (evaluates-value n b y k) (rw (other-test x z) refl) refl (rw (zero-test y w) refl)
-evaluates-value n _ _ (and_both {a} {b} x y z w h k) =
-    test-value n And a b x y (not (is_zero y)) true (evaluates-value n a x h) (evaluates-value n b y k) (rw (other-test x z) refl) refl (rw (other-test y w) refl)
-evaluates-value n _ _ (equal {a} {b} x y z h k) =
-    test-value n Equal a b x y (x == y) true (evaluates-value n a x h) (evaluates-value n b y k) refl refl (grind (arith, nat_tests))
-evaluates-value n _ _ (equal_not {a} {b} x y z h k) =
-    test-value n Equal a b x y (x == y) false (evaluates-value n a x h) (evaluates-value n b y k) refl refl (grind (arith, nat_tests))
-evaluates-value n _ _ (unequal {a} {b} x y z h k) =
-    test-value n NotEqual a b x y (not (x == y)) true (evaluates-value n a x h) (evaluates-value n b y k) refl refl (grind (arith, nat_tests))
-evaluates-value n _ _ (unequal_not {a} {b} x y z h k) =
-    test-value n NotEqual a b x y (not (x == y)) false (evaluates-value n a x h) (evaluates-value n b y k) refl refl (grind (arith, nat_tests))
-evaluates-value n _ _ (less {a} {b} x y z h k) =
-    test-value n Less a b x y (nat_lt x y) true (evaluates-value n a x h) (evaluates-value n b y k) refl refl (grind (arith, nat_tests))
-evaluates-value n _ _ (less_not {a} {b} x y z h k) =
-    test-value n Less a b x y (nat_lt x y) false (evaluates-value n a x h) (evaluates-value n b y k) refl refl (grind (arith, nat_tests))
-evaluates-value n _ _ (greater {a} {b} x y z h k) =
-    test-value n Greater a b x y (nat_lt y x) true (evaluates-value n a x h) (evaluates-value n b y k) refl refl (grind (arith, nat_tests))
-evaluates-value n _ _ (greater_not {a} {b} x y z h k) =
-    test-value n Greater a b x y (nat_lt y x) false (evaluates-value n a x h) (evaluates-value n b y k) refl refl (grind (arith, nat_tests))
-evaluates-value n _ _ (at_most {a} {b} x y z h k) =
-    test-value n AtMost a b x y (nat_le x y) true (evaluates-value n a x h) (evaluates-value n b y k) refl refl (grind (arith, nat_tests))
-evaluates-value n _ _ (at_most_not {a} {b} x y z h k) =
-    test-value n AtMost a b x y (nat_le x y) false (evaluates-value n a x h) (evaluates-value n b y k) refl refl (grind (arith, nat_tests))
-evaluates-value n _ _ (at_least {a} {b} x y z h k) =
-    test-value n AtLeast a b x y (nat_le y x) true (evaluates-value n a x h) (evaluates-value n b y k) refl refl (grind (arith, nat_tests))
-evaluates-value n _ _ (at_least_not {a} {b} x y z h k) =
-    test-value n AtLeast a b x y (nat_le y x) false (evaluates-value n a x h) (evaluates-value n b y k) refl refl (grind (arith, nat_tests))
-evaluates-value n _ _ (sum {a} {b} x y h k) =
-    needed-value n Add a b x y _ (evaluates-value n a x h) (evaluates-value n b y k) refl refl
-evaluates-value n _ _ (difference {a} {b} x y h k) =
-    needed-value n Subtract a b x y _ (evaluates-value n a x h) (evaluates-value n b y k) refl refl
-evaluates-value n _ _ (product {a} {b} x y h k) =
-    needed-value n Multiply a b x y _ (evaluates-value n a x h) (evaluates-value n b y k) refl refl
-evaluates-value n _ _ (quotient {a} {b} x y z h k) =
-    needed-value n Divide a b x y _ (evaluates-value n a x h) (evaluates-value n b y k) refl (rw (other-test y z) refl)
-evaluates-value n _ _ (remainder {a} {b} x y z h k) =
-    needed-value n Remainder a b x y _ (evaluates-value n a x h) (evaluates-value n b y k) refl (rw (other-test y z) refl)
-evaluates-value n _ _ (then_case {a} {b} {c} x v z h k) =
-    rw (evaluates-value n a x h) (rw (other-test x z) (evaluates-value n b v k))
-evaluates-value n _ _ (else_case {a} {b} {c} x v z h k) =
-    rw (evaluates-value n a x h) (rw (zero-test x z) (evaluates-value n c v k))
+has : {n : ℕ} {t : Tree} {v : ℕ} → Evaluates n t v → Has n t v
+has count = record { is = refl }
+has (numeral v) = record { is = refl }
+has (not_zero x z h) = record { is = rw (has h).is (rw (zero-test x z) refl) }
+has (not_other x z h) = record { is = rw (has h).is (rw (other-test x z) refl) }
+has (or_first x z h) = record { is = rw (has h).is (rw (other-test x z) refl) }
+has (or_second x y z w h k) =
+    compared Or (not (is_zero y)) true (zero-test x z) refl (rw (other-test y w) refl) (has h) (has k)
+has (or_neither x y z w h k) =
+    compared Or (not (is_zero y)) false (zero-test x z) refl (rw (zero-test y w) refl) (has h) (has k)
+has (and_first x z h) = record { is = rw (has h).is (rw (zero-test x z) refl) }
+has (and_second x y z w h k) =
+    compared And (not (is_zero y)) false (rw (other-test x z) refl) refl (rw (zero-test y w) refl) (has h) (has k)
+has (and_both x y z w h k) =
+    compared And (not (is_zero y)) true (rw (other-test x z) refl) refl (rw (other-test y w) refl) (has h) (has k)
+has (equal x y z h k) = compared Equal (x == y) true refl refl (grind (arith, nat_tests)) (has h) (has k)
+has (equal_not x y z h k) = compared Equal (x == y) false refl refl (grind (arith, nat_tests)) (has h) (has k)
+has (unequal x y z h k) = compared NotEqual (not (x == y)) true refl refl (grind (arith, nat_tests)) (has h) (has k)
+has (unequal_not x y z h k) = compared NotEqual (not (x == y)) false refl refl (grind (arith, nat_tests)) (has h) (has k)
+has (less x y z h k) = compared Less (nat_lt x y) true refl refl (grind (arith, nat_tests)) (has h) (has k)
+has (less_not x y z h k) = compared Less (nat_lt x y) false refl refl (grind (arith, nat_tests)) (has h) (has k)
+has (greater x y z h k) = compared Greater (nat_lt y x) true refl refl (grind (arith, nat_tests)) (has h) (has k)
+has (greater_not x y z h k) = compared Greater (nat_lt y x) false refl refl (grind (arith, nat_tests)) (has h) (has k)
+has (at_most x y z h k) = compared AtMost (nat_le x y) true refl refl (grind (arith, nat_tests)) (has h) (has k)
+has (at_most_not x y z h k) = compared AtMost (nat_le x y) false refl refl (grind (arith, nat_tests)) (has h) (has k)
+has (at_least x y z h k) = compared AtLeast (nat_le y x) true refl refl (grind (arith, nat_tests)) (has h) (has k)
+has (at_least_not x y z h k) = compared AtLeast (nat_le y x) false refl refl (grind (arith, nat_tests)) (has h) (has k)
+has (sum x y h k) = needed Add refl refl (has h) (has k)
+has (difference x y h k) = needed Subtract refl refl (has h) (has k)
+has (product x y h k) = needed Multiply refl refl (has h) (has k)
+has (quotient x y z h k) = needed Divide refl (rw (other-test y z) refl) (has h) (has k)
+has (remainder x y z h k) = needed Remainder refl (rw (other-test y z) refl) (has h) (has k)
+has (then_case x v z h k) = record { is = rw (has h).is (rw (other-test x z) (has k).is) }
+has (else_case x v z h k) = record { is = rw (has h).is (rw (zero-test x z) (has k).is) }
 
 -- the expression evaluates to a value, where there is one
 abbrev Known : ℕ → Tree → Option ℕ → Type 0
@@ -158,8 +142,5 @@ known n (Not a) = known-not n a (value a n) (known n a)
 known n (Binary op a b) = known-first n op a b (value a n) (value b n) (known n a) (known n b)
 known n (Conditional a b c) = known-chosen n a b c (value a n) (value b n) (value c n) (known n a) (known n b) (known n c)
 
-value-evaluates : (n : ℕ) (t : Tree) (v : ℕ) → value t n ≡ Some v → Evaluates n t v
-value-evaluates n t v e = rw e at (known n t)
-
 pub value_evaluates : (n : ℕ) (t : Tree) (v : ℕ) → value t n ≡ Some v ↔ Evaluates n t v
-value_evaluates n t v = (value-evaluates n t v, evaluates-value n t v)
+value_evaluates n t v = (λ e. rw e at (known n t), λ h. (has h).is)

@@ -40,18 +40,7 @@ token_of (c ∷ d ∷ rest) = if is_ascii_digit c then Number (digits_value 10 (
 -- what the bytes of an operator are no spelling of, and what they are read as
 pub operator-facts : (op : Operator) → (is_blank (first_byte (operator_bytes op)) ≡ false) × (is_ascii_digit (first_byte (operator_bytes op)) ≡ false) × (token_of (operator_bytes op) ≡ Binary op)
 operator-facts Or = (refl, refl, refl)
-operator-facts And = (refl, refl, refl)
-operator-facts Equal = (refl, refl, refl)
-operator-facts NotEqual = (refl, refl, refl)
-operator-facts Less = (refl, refl, refl)
-operator-facts Greater = (refl, refl, refl)
-operator-facts AtMost = (refl, refl, refl)
-operator-facts AtLeast = (refl, refl, refl)
-operator-facts Add = (refl, refl, refl)
-operator-facts Subtract = (refl, refl, refl)
-operator-facts Multiply = (refl, refl, refl)
-operator-facts Divide = (refl, refl, refl)
-operator-facts Remainder = (refl, refl, refl)
+operator-facts _ = (refl, refl, refl)
 
 -- no spelling begins with a blank, or is empty
 digits-not_blank : (own : List ℕ) → own ≢ [] → AllDigits 10 own → is_blank (first_byte own) ≡ false
@@ -59,14 +48,9 @@ digits-not_blank [] n h = absurd (n refl)
 digits-not_blank (c ∷ rest) n h = digit-not_blank c (below_ten_digit c h.0)
 
 pub spelling-not_blank : (t : Token) (own : List ℕ) → IsSpelling t own → is_blank (first_byte own) ≡ false
-spelling-not_blank Count own h = ap (λ xs. is_blank (first_byte xs)) h
 spelling-not_blank (Number v) own h = digits-not_blank own h.0 h.1
-spelling-not_blank Not own h = ap (λ xs. is_blank (first_byte xs)) h
 spelling-not_blank (Binary op) own h = ap (λ xs. is_blank (first_byte xs)) h ∙ (operator-facts op).0
-spelling-not_blank Question own h = ap (λ xs. is_blank (first_byte xs)) h
-spelling-not_blank Colon own h = ap (λ xs. is_blank (first_byte xs)) h
-spelling-not_blank Open own h = ap (λ xs. is_blank (first_byte xs)) h
-spelling-not_blank Close own h = ap (λ xs. is_blank (first_byte xs)) h
+spelling-not_blank _ own h = ap (λ xs. is_blank (first_byte xs)) h
 
 token_of-digits : (own : List ℕ) → own ≢ [] → AllDigits 10 own → token_of own ≡ Number (digits_value 10 own)
 token_of-digits [] n h = absurd (n refl)
@@ -74,14 +58,9 @@ token_of-digits (c ∷ []) n h = rw (below_ten_digit c h.0)
 token_of-digits (c ∷ d ∷ rest) n h = rw (below_ten_digit c h.0)
 
 token_of-spelling : (t : Token) (own : List ℕ) → IsSpelling t own → token_of own ≡ t
-token_of-spelling Count own h = ap token_of h
 token_of-spelling (Number v) own h = token_of-digits own h.0 h.1 ∙ ap Number h.2
-token_of-spelling Not own h = ap token_of h
 token_of-spelling (Binary op) own h = ap token_of h ∙ (operator-facts op).2
-token_of-spelling Question own h = ap token_of h
-token_of-spelling Colon own h = ap token_of h
-token_of-spelling Open own h = ap token_of h
-token_of-spelling Close own h = ap token_of h
+token_of-spelling _ own h = ap token_of h
 
 -- of two prefixes of a text one goes on from the other
 pub record GoesOn (xs us ys vs : List ℕ) : Type 0 where
@@ -107,36 +86,32 @@ longest-ends u own rest other after (m ∷ more) longest spelt e f =
     absurd (longest u (m ∷ more) after f (λ h. cc) (subst (IsSpelling u) e spelt))
 
 -- the longest token at the beginning of a text is one alone
-pub record SamePrefix (t u : Token) (own rest other after : List ℕ) : Type 0 where
+pub record SamePrefix (t u : Token) (rest after : List ℕ) : Type 0 where
   pub same_token : t ≡ u
-  pub same_bytes : own ≡ other
   pub same_rest : rest ≡ after
 
-pub one_prefix : (t u : Token) (own rest other after : List ℕ) → IsSpelling t own → IsLongest own rest → IsSpelling u other → IsLongest other after → own ++ rest ≡ other ++ after → SamePrefix t u own rest other after
+one-longer : (t u : Token) (own rest other after : List ℕ) → IsSpelling t own → IsLongest own rest → IsSpelling u other → GoesOn own rest other after → SamePrefix t u rest after
+one-longer t u own rest other after spelt longest spelt' g =
+    let none : g.more ≡ [] = longest-ends u own rest other after g.more longest spelt' g.longer g.rest in
+    let bytes : other ≡ own = g.longer ∙ ap (λ m. own ++ m) none ∙ append-nil own in
+    record {
+      same_token = sym (token_of-spelling t own spelt) ∙ ap token_of (sym bytes) ∙ token_of-spelling u other spelt';
+      same_rest = g.rest ∙ ap (λ m. m ++ after) none;
+    }
+
+pub one_prefix : (t u : Token) (own rest other after : List ℕ) → IsSpelling t own → IsLongest own rest → IsSpelling u other → IsLongest other after → own ++ rest ≡ other ++ after → SamePrefix t u rest after
 one_prefix t u own rest other after spelt longest spelt' longest' h =
     elim (prefixes own rest other after h) [
-      | inl g ↦
-          let none : g.more ≡ [] = longest-ends u own rest other after g.more longest spelt' g.longer g.rest in
-          let bytes : other ≡ own = g.longer ∙ ap (λ m. own ++ m) none ∙ append-nil own in
-          record {
-            same_token = sym (token_of-spelling t own spelt) ∙ ap token_of (sym bytes) ∙ token_of-spelling u other spelt';
-            same_bytes = sym bytes;
-            same_rest = g.rest ∙ ap (λ m. m ++ after) none;
-          }
+      | inl g ↦ one-longer t u own rest other after spelt longest spelt' g
       | inr g ↦
-          let none : g.more ≡ [] = longest-ends t other after own rest g.more longest' spelt g.longer g.rest in
-          let bytes : own ≡ other = g.longer ∙ ap (λ m. other ++ m) none ∙ append-nil other in
-          record {
-            same_token = sym (token_of-spelling t own spelt) ∙ ap token_of bytes ∙ token_of-spelling u other spelt';
-            same_bytes = bytes;
-            same_rest = sym (g.rest ∙ ap (λ m. m ++ rest) none);
-          }
+          let s = one-longer u t other after own rest spelt' longest' spelt g in
+          record { same_token = sym s.same_token; same_rest = sym s.same_rest }
     ]
 
--- what stands after a first token
-pub record After (t : Token) (rest : List ℕ) (ts : List Token) : Type 0 where
+-- the tokens of a text after those read
+pub record Split (read : List Token) (rest : List ℕ) (ts : List Token) : Type 0 where
   pub later : List Token
-  pub is : ts ≡ t ∷ later
+  pub is : ts ≡ read ++ later
   pub lexes : Lexes rest later
 
 blank-first : (t : Token) (own rest text : List ℕ) (c : ℕ) → IsSpelling t own → own ++ rest ≡ c ∷ text → is_blank c ≡ true → ⊥
@@ -149,7 +124,7 @@ no-spelling_of-nothing t [] rest spelt e = false≢true (sym (spelling-not_blank
 no-spelling_of-nothing t (x ∷ own) rest spelt e = cc
 
 -- a text that begins with a longest token spells it first
-after : (t : Token) (own rest text : List ℕ) (ts : List Token) → IsSpelling t own → IsLongest own rest → text ≡ own ++ rest → Lexes text ts → After t rest ts
+after : (t : Token) (own rest text : List ℕ) (ts : List Token) → IsSpelling t own → IsLongest own rest → text ≡ own ++ rest → Lexes text ts → Split (t ∷ []) rest ts
 after t own rest text ts spelt longest e end = absurd (no-spelling_of-nothing t own rest spelt (sym e))
 after t own rest text ts spelt longest e (blank {c} {text = text'} b d) = absurd (blank-first t own rest text' c spelt (sym e) b)
 after t own rest text ts spelt longest e (token {rest = rest'} {ts = ts'} u other spelt' longest' d) =
@@ -160,7 +135,7 @@ after t own rest text ts spelt longest e (token {rest = rest'} {ts = ts'} u othe
       lexes = subst (λ r. Lexes r ts') (sym same.same_rest) d;
     }
 
-pub Lexes-token : (t : Token) (own rest : List ℕ) (ts : List Token) → IsSpelling t own → IsLongest own rest → Lexes (own ++ rest) ts → After t rest ts
+pub Lexes-token : (t : Token) (own rest : List ℕ) (ts : List Token) → IsSpelling t own → IsLongest own rest → Lexes (own ++ rest) ts → Split (t ∷ []) rest ts
 Lexes-token t own rest ts spelt longest d = after t own rest (own ++ rest) ts spelt longest refl d
 
 after-blank : (c : ℕ) (text whole : List ℕ) (ts : List Token) → is_blank c ≡ true → whole ≡ c ∷ text → Lexes whole ts → Lexes text ts

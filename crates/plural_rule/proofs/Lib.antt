@@ -6,7 +6,6 @@ pub mod Numerals
 pub mod Scanning
 pub mod ParserRun
 pub mod Programs
-pub mod Depths
 pub mod Searches
 pub mod Rules
 pub mod Uniqueness

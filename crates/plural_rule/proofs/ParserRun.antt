@@ -5,11 +5,11 @@ use Rattle.std.specs.Str.Parse.{digits_value}
 use Rattle.std.proofs.lemmas.Int.Digits.{digits_value-lt}
 use Rattle.std.proofs.lemmas.List.{length-take-le}
 use Rattle.plural_rule.specs.declared.operator.Operator.{Operator}
-use Rattle.plural_rule.specs.declared.operator.Operator.TheVariants.{Or, And, Equal, NotEqual, Less, Greater, AtMost, AtLeast, Add, Subtract, Multiply, Divide, Remainder}
+use Rattle.plural_rule.specs.declared.operator.Operator.TheVariants.{Or, And}
 use Rattle.std.proofs.lemmas.Bool.{false≢true, cases_Bool, cases_lt}
 use Rattle.std.proofs.lemmas.Bool.Decides.{nat_tests}
 use Rattle.plural_rule.specs.declared.token.Token.{Token}
-use Rattle.plural_rule.specs.declared.token.Token.TheVariants.{Count as CountToken, Number as NumberToken, Not as NotToken, Binary as BinaryToken, Question, Colon, Open, Close}
+use Rattle.plural_rule.specs.declared.token.Token.TheVariants.{Number as NumberToken, Binary as BinaryToken}
 use Rattle.plural_rule.specs.Expression.{Tree}
 use Rattle.plural_rule.specs.Tokens.{is_blank, operator_bytes, IsSpelling, IsLongest, Lexes, end, blank, token}
 use Rattle.plural_rule.specs.Grammar.{Spelt, Spells}
@@ -20,7 +20,7 @@ use Rattle.plural_rule.specs.Internal.ParserState.{Held, Represents, Answers, Ho
 use Rattle.plural_rule.specs.declared.instruction.Instruction.{Instruction}
 use Rattle.plural_rule.proofs.Complete.{complete}
 use Rattle.plural_rule.proofs.Sound.{sound}
-use Rattle.plural_rule.proofs.Lexing.{first_byte, Lexes-token, Lexes-blank, Lexes-nothing}
+use Rattle.plural_rule.proofs.Lexing.{first_byte, Split, Lexes-token, Lexes-blank, Lexes-nothing}
 
 -- blanks at the beginning change nothing
 without_blanks-blank : (c : ℕ) (text : List ℕ) → is_blank c ≡ true → without_blanks (c ∷ text) ≡ without_blanks text
@@ -68,12 +68,6 @@ of-next xs ys go (Some s) = go s
 pub run-append : (xs ys : List Token) (state : State) → run state (xs ++ ys) ≡ option_and_then (λ next. run next ys) (run state xs)
 run-append [] ys state = refl
 run-append (x ∷ xs) ys state = of-next xs ys (λ s. run-append xs ys s) (step state x)
-
--- the tokens of a text after those read
-pub record Split (read : List Token) (rest : List ℕ) (ts : List Token) : Type 0 where
-  pub later : List Token
-  pub is : ts ≡ read ++ later
-  pub lexes : Lexes rest later
 
 -- the parser has read the text up to a rest
 pub record Reached (text rest : List ℕ) (parser : Held) (complete : Bool) : Type 0 where
@@ -133,7 +127,6 @@ reached-token text rest t n before after complete complete' r at answers =
 
 -- a token has as many bytes as it adds instructions
 pub most-added : (text : List ℕ) (t : Token) (n : ℕ) → IsTokenAt text t n → most_added t ≤ n
-most-added text CountToken n at = at.some
 most-added text (NumberToken v) n at =
     let long : length (take n text) ≡ n = length-take-le n text at.within in
     let below = digits_value-lt 10 (take n text) at.spelling.1 in
@@ -151,27 +144,13 @@ most-added text (NumberToken v) n at =
                 absurd (omega arith)
             | inr enough ↦ enough
           ]
-most-added text NotToken n at = at.some
 most-added text (BinaryToken op) n at =
     two op (length-take-le n text at.within) at.spelling at.some where
       two : (op : Operator) → length (take n text) ≡ n → take n text ≡ operator_bytes op → 0 < n → most_added (BinaryToken op) ≤ n
       two Or long is some = omega (arith, ap length is, long)
       two And long is some = omega (arith, ap length is, long)
-      two Equal long is some = some
-      two NotEqual long is some = some
-      two Less long is some = some
-      two Greater long is some = some
-      two AtMost long is some = some
-      two AtLeast long is some = some
-      two Add long is some = some
-      two Subtract long is some = some
-      two Multiply long is some = some
-      two Divide long is some = some
-      two Remainder long is some = some
-most-added text Question n at = at.some
-most-added text Colon n at = at.some
-most-added text Open n at = at.some
-most-added text Close n at = at.some
+      two _ long is some = some
+most-added text _ n at = at.some
 
 -- the first token of a text
 record First (rest : List ℕ) (ts : List Token) : Type 0 where
@@ -200,22 +179,9 @@ refused read later t state tree runs none spells =
     cc
 
 too_large : (state : State) (t : Token) → IsTooLarge t → step state t ≡ None
-too_large (Want stack) CountToken h = absurd h
 too_large (Want stack) (NumberToken v) h = let e : nat_lt v (2 ^ 64) ≡ false = grind (arith, nat_tests) in rw e refl
-too_large (Want stack) NotToken h = absurd h
-too_large (Want stack) (BinaryToken op) h = absurd h
-too_large (Want stack) Question h = absurd h
-too_large (Want stack) Colon h = absurd h
-too_large (Want stack) Open h = absurd h
-too_large (Want stack) Close h = absurd h
-too_large (Have stack t) CountToken h = absurd h
 too_large (Have stack t) (NumberToken v) h = refl
-too_large (Have stack t) NotToken h = absurd h
-too_large (Have stack t) (BinaryToken op) h = absurd h
-too_large (Have stack t) Question h = absurd h
-too_large (Have stack t) Colon h = absurd h
-too_large (Have stack t) Open h = absurd h
-too_large (Have stack t) Close h = absurd h
+too_large state _ h = absurd h
 
 abbrev pub SpellsNothing : List ℕ → Type 0
 SpellsNothing text = (tree : Tree) → Spelt tree text → ⊥

@@ -6,7 +6,7 @@ use Rattle.std.proofs.lemmas.Bool.{false≢true, cases_Bool, cond-true, cond-fal
 use Rattle.std.proofs.lemmas.List.Sums.{prefix_len_stops, prefix_len-le-length, take_while-cons}
 use Rattle.std.proofs.lemmas.List.Folds.{length-prefix_len}
 use Rattle.plural_rule.specs.declared.token.Token.{Token}
-use Rattle.plural_rule.specs.declared.token.Token.TheVariants.{Count, Number, Not, Binary, Question, Colon, Open, Close}
+use Rattle.plural_rule.specs.declared.token.Token.TheVariants.{Number, Binary}
 use Rattle.std.specs.Str.Parse.{AllDigits, digits_value}
 use Rattle.std.specs.Char.{is_ascii_digit}
 use Rattle.plural_rule.specs.Tokens.{IsSpelling, IsLongest}
@@ -16,14 +16,9 @@ use Rattle.plural_rule.proofs.Lexing.{one_prefix, first_byte, operator-facts}
 
 -- bytes that spell a token and begin with a digit are digits
 digits-only : (u : Token) (bytes : List ℕ) → is_ascii_digit (first_byte bytes) ≡ true → IsSpelling u bytes → AllDigits 10 bytes
-digits-only Count bytes d h = absurd (false≢true (sym (ap (λ xs. is_ascii_digit (first_byte xs)) h) ∙ d))
 digits-only (Number v) bytes d h = h.1
-digits-only Not bytes d h = absurd (false≢true (sym (ap (λ xs. is_ascii_digit (first_byte xs)) h) ∙ d))
 digits-only (Binary op) bytes d h = absurd (false≢true (sym (ap (λ xs. is_ascii_digit (first_byte xs)) h ∙ (operator-facts op).1) ∙ d))
-digits-only Question bytes d h = absurd (false≢true (sym (ap (λ xs. is_ascii_digit (first_byte xs)) h) ∙ d))
-digits-only Colon bytes d h = absurd (false≢true (sym (ap (λ xs. is_ascii_digit (first_byte xs)) h) ∙ d))
-digits-only Open bytes d h = absurd (false≢true (sym (ap (λ xs. is_ascii_digit (first_byte xs)) h) ∙ d))
-digits-only Close bytes d h = absurd (false≢true (sym (ap (λ xs. is_ascii_digit (first_byte xs)) h) ∙ d))
+digits-only _ bytes d h = absurd (false≢true (sym (ap (λ xs. is_ascii_digit (first_byte xs)) h) ∙ d))
 
 -- the digits at the beginning of a text
 pub AllDigits-take_while : (text : List ℕ) → AllDigits 10 (take_while is_ascii_digit text)

@@ -74,12 +74,9 @@ last : {w : Waiting} {stack : List Waiting} {read : List Token} → Waits (w ∷
 last (more {before} own waits entry) = record { before = before; own = own; read_is = refl; waits = waits; entry = entry }
 
 Fits-seven : (stack : List Waiting) → Fits 7 stack
-Fits-seven [] = tt
 Fits-seven (WaitNot ∷ stack) = omega arith
-Fits-seven (WaitOpen ∷ stack) = tt
 Fits-seven (WaitBinary op a ∷ stack) = omega (arith, (level-range op).1)
-Fits-seven (WaitQuestion a ∷ stack) = tt
-Fits-seven (WaitColon a b ∷ stack) = tt
+Fits-seven _ = tt
 
 -- an operator's entry and its second operand spell its tree, and the like
 holds-not : (m : ℕ) (stack : List Waiting) (t : Tree) (read : List Token) → Holds m (WaitNot ∷ stack) t read → Holds 7 stack (Not t) read
@@ -103,9 +100,7 @@ holds-binary m op a stack t read h =
     record {
       before = l.before;
       own = e.left ++ BinaryToken op ∷ h.own;
-      read_is = h.read_is ∙ ap (λ b. b ++ h.own) (l.read_is ∙ ap (λ o. l.before ++ o) e.own_is)
-          ∙ append_assoc l.before (e.left ++ BinaryToken op ∷ []) h.own
-          ∙ ap (λ o. l.before ++ o) (append_assoc e.left (BinaryToken op ∷ []) h.own);
+      read_is = h.read_is ∙ ap (λ b. b ++ h.own) (l.read_is ∙ ap (λ o. l.before ++ o) e.own_is) ∙ simp append_assoc;
       waits = l.waits;
       spells = binary op e.spells (loosen (suc (level op)) m loose h.spells);
       fits = e.fits;
@@ -113,12 +108,9 @@ holds-binary m op a stack t read h =
 
 -- only `!` and operators don't fit, from level 1 down
 Fits-zero : (stack : List Waiting) → Fits 1 stack → Fits 0 stack
-Fits-zero [] f = tt
 Fits-zero (WaitNot ∷ stack) f = absurd (omega arith)
-Fits-zero (WaitOpen ∷ stack) f = tt
 Fits-zero (WaitBinary op a ∷ stack) f = absurd (omega (arith, (level-range op).0))
-Fits-zero (WaitQuestion a ∷ stack) f = tt
-Fits-zero (WaitColon a b ∷ stack) f = tt
+Fits-zero _ f = tt
 
 holds-colon : (m : ℕ) (a b : Tree) (stack : List Waiting) (t : Tree) (read : List Token) → Holds m (WaitColon a b ∷ stack) t read → Holds 0 stack (Conditional a b t) read
 holds-colon m a b stack t read h =
@@ -127,10 +119,7 @@ holds-colon m a b stack t read h =
     record {
       before = l.before;
       own = e.left ++ Question ∷ (e.middle ++ Colon ∷ h.own);
-      read_is = h.read_is ∙ ap (λ b. b ++ h.own) (l.read_is ∙ ap (λ o. l.before ++ o) e.own_is)
-          ∙ append_assoc l.before (e.left ++ (Question ∷ (e.middle ++ Colon ∷ []))) h.own
-          ∙ ap (λ o. l.before ++ o) (append_assoc e.left (Question ∷ (e.middle ++ Colon ∷ [])) h.own)
-          ∙ ap (λ o. l.before ++ (e.left ++ Question ∷ o)) (append_assoc e.middle (Colon ∷ []) h.own);
+      read_is = h.read_is ∙ ap (λ b. b ++ h.own) (l.read_is ∙ ap (λ o. l.before ++ o) e.own_is) ∙ simp append_assoc;
       waits = l.waits;
       spells = conditional e.spells e.spells_middle (loosen 0 m (omega arith) h.spells);
       fits = Fits-zero stack e.fits;
@@ -140,32 +129,29 @@ holds-colon m a b stack t read h =
 abbrev Reduced : ℕ → Operand → List Token → Type 0
 Reduced k o read = Holds k o.stack o.tree read
 
+stays : (k : ℕ) (stack : List Waiting) (m : ℕ) (t : Tree) (read : List Token) → k ≤ m → Fits k stack → Holds m stack t read → Holds k stack t read
+stays k stack m t read low fits h =
+    record { before = h.before; own = h.own; read_is = h.read_is; waits = h.waits; spells = loosen k m low h.spells; fits = fits }
+
 pub reduces : (k : ℕ) (stack : List Waiting) (m : ℕ) (t : Tree) (read : List Token) → k ≤ m → k ≤ 7 → Holds m stack t read → Reduced k (reduce k stack t) read
-reduces k [] m t read low high h =
-    record { before = h.before; own = h.own; read_is = h.read_is; waits = h.waits; spells = loosen k m low h.spells; fits = tt }
 reduces k (WaitNot ∷ stack) m t read low high h =
     reduces k stack 7 (Not t) read high high (holds-not m stack t read h)
-reduces k (WaitOpen ∷ stack) m t read low high h =
-    record { before = h.before; own = h.own; read_is = h.read_is; waits = h.waits; spells = loosen k m low h.spells; fits = tt }
 reduces k (WaitBinary op a ∷ stack) m t read low high h =
     elim (cases_Bool (nat_le k (level op))) [
       | inl e ↦
           let at_most : k ≤ level op = grind (arith, nat_tests) in
           rw e (reduces k stack (level op) (Binary op a t) read at_most high (holds-binary m op a stack t read h))
       | inr e ↦
-          let below : level op < k = grind (arith, nat_tests) in
-          rw e (record { before = h.before; own = h.own; read_is = h.read_is; waits = h.waits; spells = loosen k m low h.spells; fits = below })
+          let below : level op < k = grind (arith, nat_tests) in rw e (stays k (WaitBinary op a ∷ stack) m t read low below h)
     ]
-reduces k (WaitQuestion a ∷ stack) m t read low high h =
-    record { before = h.before; own = h.own; read_is = h.read_is; waits = h.waits; spells = loosen k m low h.spells; fits = tt }
 reduces k (WaitColon a b ∷ stack) m t read low high h =
     elim (cases_Bool (k == 0)) [
       | inl e ↦
           let zero_is : k ≤ 0 = grind (arith, nat_tests) in
           rw e (reduces k stack 0 (Conditional a b t) read zero_is high (holds-colon m a b stack t read h))
-      | inr e ↦
-          rw e (record { before = h.before; own = h.own; read_is = h.read_is; waits = h.waits; spells = loosen k m low h.spells; fits = tt })
+      | inr e ↦ rw e (stays k (WaitColon a b ∷ stack) m t read low tt h)
     ]
+reduces k stack m t read low high h = stays k stack m t read low tt h
 
 -- what was read, in a state
 abbrev pub Read : State → List Token → Type 0
@@ -190,51 +176,31 @@ want-reads stack (NumberToken v) read w =
       | inr e ↦ rw e tt
     ]
 want-reads stack NotToken read w = more (NotToken ∷ []) w refl
-want-reads stack (BinaryToken op) read w = tt
-want-reads stack Question read w = tt
-want-reads stack Colon read w = tt
 want-reads stack Open read w = more (Open ∷ []) w refl
-want-reads stack Close read w = tt
+want-reads stack _ read w = tt
 
 at_colon-reads : (stack : List Waiting) (t : Tree) (read : List Token) → Holds 0 stack t read → ReadSome (at_colon stack t) (read ++ Colon ∷ [])
-at_colon-reads [] t read h = tt
-at_colon-reads (WaitNot ∷ stack) t read h = tt
-at_colon-reads (WaitOpen ∷ stack) t read h = tt
-at_colon-reads (WaitBinary op a ∷ stack) t read h = tt
 at_colon-reads (WaitQuestion a ∷ stack) t read h =
     let l = last h.waits in
     let e : WaitsQuestion a l.own stack = l.entry in
     let own = e.left ++ (Question ∷ (h.own ++ Colon ∷ [])) in
     let is : read ++ Colon ∷ [] ≡ l.before ++ own =
-    ap (λ r. r ++ Colon ∷ []) (h.read_is ∙ ap (λ b. b ++ h.own) (l.read_is ∙ ap (λ o. l.before ++ o) e.own_is)
-    ∙ append_assoc l.before (e.left ++ Question ∷ []) h.own
-    ∙ ap (λ o. l.before ++ o) (append_assoc e.left (Question ∷ []) h.own))
-    ∙ append_assoc l.before (e.left ++ (Question ∷ h.own)) (Colon ∷ [])
-    ∙ ap (λ o. l.before ++ o) (append_assoc e.left (Question ∷ h.own) (Colon ∷ [])) in
+    ap (λ r. r ++ Colon ∷ []) (h.read_is ∙ ap (λ b. b ++ h.own) (l.read_is ∙ ap (λ o. l.before ++ o) e.own_is)) ∙ simp append_assoc in
     let entry : WaitsColon a t own stack =
     record { left = e.left; middle = h.own; own_is = refl; spells = e.spells; spells_middle = h.spells; fits = e.fits } in
     subst (Waits (WaitColon a t ∷ stack)) (sym is) (more own l.waits entry)
-at_colon-reads (WaitColon a b ∷ stack) t read h = tt
+at_colon-reads _ t read h = tt
 
 at_close-reads : (stack : List Waiting) (t : Tree) (read : List Token) → Holds 0 stack t read → ReadSome (at_close stack t) (read ++ Close ∷ [])
-at_close-reads [] t read h = tt
-at_close-reads (WaitNot ∷ stack) t read h = tt
 at_close-reads (WaitOpen ∷ stack) t read h =
     let l = last h.waits in
     let e : l.own ≡ Open ∷ [] = l.entry in
     let is : read ++ Close ∷ [] ≡ l.before ++ (Open ∷ (h.own ++ Close ∷ [])) =
-    ap (λ r. r ++ Close ∷ []) (h.read_is ∙ ap (λ b. b ++ h.own) (l.read_is ∙ ap (λ o. l.before ++ o) e)
-    ∙ append_assoc l.before (Open ∷ []) h.own)
-    ∙ append_assoc l.before (Open ∷ h.own) (Close ∷ []) in
+    ap (λ r. r ++ Close ∷ []) (h.read_is ∙ ap (λ b. b ++ h.own) (l.read_is ∙ ap (λ o. l.before ++ o) e)) ∙ simp append_assoc in
     subst (Holds 7 stack t) (sym is) (have stack t l.before (Open ∷ (h.own ++ Close ∷ [])) l.waits (parentheses h.spells))
-at_close-reads (WaitBinary op a ∷ stack) t read h = tt
-at_close-reads (WaitQuestion a ∷ stack) t read h = tt
-at_close-reads (WaitColon a b ∷ stack) t read h = tt
+at_close-reads _ t read h = tt
 
 have-reads : (stack : List Waiting) (t : Tree) (token : Token) (read : List Token) → Holds 7 stack t read → ReadSome (have_step stack t token) (read ++ token ∷ [])
-have-reads stack t CountToken read h = tt
-have-reads stack t (NumberToken v) read h = tt
-have-reads stack t NotToken read h = tt
 have-reads stack t (BinaryToken op) read h =
     let range = level-range op in
     let o = reduce (level op) stack t in
@@ -254,9 +220,9 @@ have-reads stack t Question read h =
     subst (Waits (WaitQuestion o.tree ∷ o.stack)) (sym is) (more _ r.waits entry)
 have-reads stack t Colon read h =
     at_colon-reads _ _ read (reduces 0 stack 7 t read (omega arith) (omega arith) h)
-have-reads stack t Open read h = tt
 have-reads stack t Close read h =
     at_close-reads _ _ read (reduces 0 stack 7 t read (omega arith) (omega arith) h)
+have-reads stack t _ read h = tt
 
 step-reads : (state : State) (token : Token) (read : List Token) → Read state read → ReadSome (step state token) (read ++ token ∷ [])
 step-reads (Want stack) token read h = want-reads stack token read h

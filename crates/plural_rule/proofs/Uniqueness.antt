@@ -1,5 +1,5 @@
 -- Laws of visits and of the rule of a header.
-use Rattle.std.proofs.Common.{◌≡◌, ℕ, ◌+◌, ◌≤◌, inl, inr, List, length, Option, Some, None, refl, sym, ap, subst, ◌∙◌, arith}
+use Rattle.std.proofs.Common.{◌≡◌, ℕ, ◌+◌, ◌<◌, ◌≤◌, inl, inr, List, length, Option, Some, None, refl, sym, ap, subst, ◌∙◌, arith}
 use Rattle.std.specs.Prelude.{◌↔◌}
 use Rattle.std.proofs.lemmas.Bool.{cases_Bool}
 use Rattle.plural_rule.specs.declared.operator.Operator.{Operator}
@@ -31,14 +31,14 @@ chosen-le None j k = omega arith
 chosen-le (Some x) j k =
     elim (cases_Bool (is_zero x)) [ inl e ↦ rw e (omega arith) | inr e ↦ rw e (omega arith) ]
 
-pub visited-le-nodes : (tree : Tree) (n : ℕ) → visited tree n ≤ nodes tree
-visited-le-nodes Count n = omega arith
-visited-le-nodes (Number v) n = omega arith
-visited-le-nodes (Not a) n = omega (arith, visited-le-nodes a n)
-visited-le-nodes (Binary op a b) n =
-    omega (arith, visited-le-nodes a n, visited-le-nodes b n, visited_right-le op (value a n) (visited b n))
-visited-le-nodes (Conditional a b c) n =
-    omega (arith, visited-le-nodes a n, visited-le-nodes b n, visited-le-nodes c n, chosen-le (value a n) (visited b n) (visited c n))
+pub visited_le_nodes : (tree : Tree) (n : ℕ) → visited tree n ≤ nodes tree
+visited_le_nodes Count n = omega arith
+visited_le_nodes (Number v) n = omega arith
+visited_le_nodes (Not a) n = omega (arith, visited_le_nodes a n)
+visited_le_nodes (Binary op a b) n =
+    omega (arith, visited_le_nodes a n, visited_le_nodes b n, visited_right-le op (value a n) (visited b n))
+visited_le_nodes (Conditional a b c) n =
+    omega (arith, visited_le_nodes a n, visited_le_nodes b n, visited_le_nodes c n, chosen-le (value a n) (visited b n) (visited c n))
 
 -- two texts that the header names are one
 same-text : (header text text' : List ℕ) → expression_of header ≡ Some text → expression_of header ≡ Some text' → text ≡ text'
@@ -75,21 +75,15 @@ fits-not_too_long limit header u h =
 
 one_reason : (limit : ℕ) (header : List ℕ) (a b : Reason) → IsReason limit header a → IsReason limit header b → a ≡ b
 one_reason limit header NoNumber NoNumber h k = refl
-one_reason limit header NoNumber NoExpression h k = absurd (named _ _ k.nplurals_is h)
-one_reason limit header NoNumber Unreadable h k = absurd (named _ _ k.nplurals_is h)
-one_reason limit header NoNumber TooLong h k = absurd (named _ _ k.nplurals_is h)
-one_reason limit header NoExpression NoNumber h k = absurd (named _ _ h.nplurals_is k)
 one_reason limit header NoExpression NoExpression h k = refl
-one_reason limit header NoExpression Unreadable h k = absurd (named _ _ k.text_is h.text_is)
-one_reason limit header NoExpression TooLong h k = absurd (named _ _ k.text_is h.text_is)
-one_reason limit header Unreadable NoNumber h k = absurd (named _ _ h.nplurals_is k)
-one_reason limit header Unreadable NoExpression h k = absurd (named _ _ h.text_is k.text_is)
 one_reason limit header Unreadable Unreadable h k = refl
-one_reason limit header Unreadable TooLong h k = absurd (fits-not_too_long limit header h k)
-one_reason limit header TooLong NoNumber h k = absurd (named _ _ h.nplurals_is k)
-one_reason limit header TooLong NoExpression h k = absurd (named _ _ h.text_is k.text_is)
-one_reason limit header TooLong Unreadable h k = absurd (fits-not_too_long limit header k h)
 one_reason limit header TooLong TooLong h k = refl
+one_reason limit header NoNumber b h k = absurd (named _ _ k.nplurals_is h)
+one_reason limit header a NoNumber h k = absurd (named _ _ h.nplurals_is k)
+one_reason limit header NoExpression b h k = absurd (named _ _ k.text_is h.text_is)
+one_reason limit header a NoExpression h k = absurd (named _ _ h.text_is k.text_is)
+one_reason limit header Unreadable TooLong h k = absurd (fits-not_too_long limit header h k)
+one_reason limit header TooLong Unreadable h k = absurd (fits-not_too_long limit header k h)
 
 same-rule : (rule other : RuleView) → rule.source ≡ other.source → rule.nplurals ≡ other.nplurals → rule.tree ≡ other.tree → rule ≡ other
 same-rule rule other source nplurals tree =
@@ -117,38 +111,18 @@ within : (limit : ℕ) (header text : List ℕ) (nplurals : ℕ) → IsWithin li
 within limit header text nplurals (inl none) e e' = absurd (named _ _ e none)
 within limit header text nplurals (inr short) e e' = short text e'
 
-longer-reason : (limit longer : ℕ) (header : List ℕ) (reason : Reason) → limit ≤ longer → IsWithin limit header → IsReason limit header reason → IsReason longer header reason
-longer-reason limit longer header NoNumber le w h = h
-longer-reason limit longer header NoExpression le w h = h
-longer-reason limit longer header Unreadable le w h =
-    let fits = h.text_fits in
-    record { nplurals = h.nplurals; text = h.text; nplurals_is = h.nplurals_is; text_is = h.text_is; text_fits = omega arith; wrong = h.wrong }
-longer-reason limit longer header TooLong le w h =
-    let fits = within limit header h.text h.nplurals w h.nplurals_is h.text_is in
-    let fits_not = h.text_fits_not in
-    absurd (omega arith)
-
-shorter-reason : (limit longer : ℕ) (header : List ℕ) (reason : Reason) → limit ≤ longer → IsWithin limit header → IsReason longer header reason → IsReason limit header reason
-shorter-reason limit longer header NoNumber le w h = h
-shorter-reason limit longer header NoExpression le w h = h
-shorter-reason limit longer header Unreadable le w h =
-    record { nplurals = h.nplurals; text = h.text; nplurals_is = h.nplurals_is; text_is = h.text_is; text_fits = within limit header h.text h.nplurals w h.nplurals_is h.text_is; wrong = h.wrong }
-shorter-reason limit longer header TooLong le w h =
-    let fits = within limit header h.text h.nplurals w h.nplurals_is h.text_is in
-    let fits_not = h.text_fits_not in
-    absurd (omega arith)
-
-longer-by : (limit longer : ℕ) (header : List ℕ) (rule : RuleView) (source : Source) → limit ≤ longer → IsWithin limit header → Gives limit header rule source → Gives longer header rule source
-longer-by limit longer header rule Header le w h =
-    let fits = h.text_fits in
-    record { text = h.text; nplurals_is = h.nplurals_is; nplurals_fits = h.nplurals_fits; text_is = h.text_is; text_fits = omega arith; spelt = h.spelt }
-longer-by limit longer header rule (Default reason) le w h = (longer-reason limit longer header reason le w h.0, h.1)
-
-shorter-by : (limit longer : ℕ) (header : List ℕ) (rule : RuleView) (source : Source) → limit ≤ longer → IsWithin limit header → Gives longer header rule source → Gives limit header rule source
-shorter-by limit longer header rule Header le w h =
-    record { text = h.text; nplurals_is = h.nplurals_is; nplurals_fits = h.nplurals_fits; text_is = h.text_is; text_fits = within limit header h.text rule.nplurals w h.nplurals_is h.text_is; spelt = h.spelt }
-shorter-by limit longer header rule (Default reason) le w h = (shorter-reason limit longer header reason le w h.0, h.1)
+-- under another limit, where the text that the header names fits that if it fits the first
+other-limit : (limit other : ℕ) (header : List ℕ) (rule : RuleView) (source : Source) → ((text : List ℕ) (nplurals : ℕ) → nplurals_of header ≡ Some nplurals → expression_of header ≡ Some text → (length text ≤ limit → length text ≤ other) × (limit < length text → other < length text)) → Gives limit header rule source → Gives other header rule source
+other-limit limit other header rule Header within h =
+    record { text = h.text; nplurals_is = h.nplurals_is; nplurals_fits = h.nplurals_fits; text_is = h.text_is; text_fits = (within h.text rule.nplurals h.nplurals_is h.text_is).0 h.text_fits; spelt = h.spelt }
+other-limit limit other header rule (Default Unreadable) within (h, is) =
+    (record { nplurals = h.nplurals; text = h.text; nplurals_is = h.nplurals_is; text_is = h.text_is; text_fits = (within h.text h.nplurals h.nplurals_is h.text_is).0 h.text_fits; wrong = h.wrong }, is)
+other-limit limit other header rule (Default TooLong) within (h, is) =
+    (record { nplurals = h.nplurals; text = h.text; nplurals_is = h.nplurals_is; text_is = h.text_is; text_fits_not = (within h.text h.nplurals h.nplurals_is h.text_is).1 h.text_fits_not }, is)
+other-limit limit other header rule (Default reason) within h = h
 
 pub longer_limit : (limit longer : ℕ) (header : List ℕ) (rule : RuleView) → limit ≤ longer → IsWithin limit header → IsRuleOf limit header rule ↔ IsRuleOf longer header rule
-longer_limit limit longer header rule le w =
-    (λ h. longer-by limit longer header rule rule.source le w h, λ h. shorter-by limit longer header rule rule.source le w h)
+longer_limit limit longer header rule le w = (
+  other-limit limit longer header rule rule.source (λ text n e e'. let fits = within limit header text n w e e' in (λ _. omega arith, λ long. absurd (omega arith))),
+  other-limit longer limit header rule rule.source (λ text n e e'. let fits = within limit header text n w e e' in (λ _. fits, λ long. absurd (omega arith))),
+)

@@ -43,18 +43,7 @@ operator_of code =
 
 pub operator_of-code : (op : Operator) → operator_of (operator_code op) ≡ op
 operator_of-code Or = refl
-operator_of-code And = refl
-operator_of-code Equal = refl
-operator_of-code NotEqual = refl
-operator_of-code Less = refl
-operator_of-code Greater = refl
-operator_of-code AtMost = refl
-operator_of-code AtLeast = refl
-operator_of-code Add = refl
-operator_of-code Subtract = refl
-operator_of-code Multiply = refl
-operator_of-code Divide = refl
-operator_of-code Remainder = refl
+operator_of-code _ = refl
 
 -- `n`, with which so many nodes begin
 abbrev pub count_instruction : ℕ → Instruction

@@ -1,8 +1,9 @@
 -- The program of a tree: operands before their operator, with jumps that go forward only.
-use Rattle.std.specs.Prelude.{◌≡◌, ℕ, zero, suc, ◌+◌, ◌-◌, ◌*◌, ◌/◌, ◌%◌, ◌^◌, Bool, true, false, nat_lt, List, [], ◌∷◌, ◌++◌, length}
+use Rattle.std.specs.Prelude.{◌≡◌, ℕ, zero, suc, ◌+◌, ◌-◌, ◌*◌, ◌/◌, ◌%◌, ◌^◌, Bool, true, false, nat_lt, List, [], ◌∷◌, ◌++◌, length, drop}
 use Rattle.std.specs.Prelude.{if◌then◌else◌, refl}
 use Rattle.std.specs.Coded.{Coded, code_by, coded_list}
-use Rattle.std.proofs.Common.{◌∙◌, inl, inr, ap, sym, append_assoc, append-nil, length-append, arith}
+use Rattle.std.proofs.Common.{◌∙◌, inl, inr, ap, sym, arith}
+use Rattle.std.proofs.Math.Seq.{drop-append-add, drop-nil}
 use Rattle.std.proofs.lemmas.Bool.{cases_Bool}
 use Rattle.std.proofs.lemmas.Nat.{div-add-mod'}
 use Rattle.plural_rule.specs.Instruction.{operator_of-code}
@@ -17,11 +18,11 @@ use Rattle.plural_rule.specs.Instruction.{count_instruction, number_instruction,
 use Rattle.plural_rule.specs.Instruction.{binary_instruction, branch_instruction, choose_instruction, jump_instruction, action_of}
 use Rattle.plural_rule.specs.Expression.{Tree, Count, Number, Not, Binary, Conditional}
 
--- a numeral, with which so many nodes begin
-abbrev pub numeral_program : ℕ → ℕ → List Instruction
-numeral_program begins v =
-    if nat_lt v (2 ^ 32) then number_instruction begins v ∷ []
-    else wide_instruction begins (v / 2 ^ 32) ∷ low_instruction (v % 2 ^ 32) ∷ []
+-- a numeral, with which so many nodes begin, before other instructions
+abbrev pub numeral_then : ℕ → ℕ → List Instruction → List Instruction
+numeral_then begins v rest =
+    if nat_lt v (2 ^ 32) then number_instruction begins v ∷ rest
+    else wide_instruction begins (v / 2 ^ 32) ∷ low_instruction (v % 2 ^ 32) ∷ rest
 
 -- the second operand isn't always needed
 abbrev pub is_lazy : Operator → Bool
@@ -30,8 +31,8 @@ is_lazy And = true
 is_lazy _ = false
 
 -- what stands between two operands
-abbrev pub branch_program : Operator → ℕ → List Instruction
-branch_program op skip = if is_lazy op then branch_instruction op skip ∷ [] else []
+abbrev pub branch_then : Operator → ℕ → List Instruction → List Instruction
+branch_then op skip rest = if is_lazy op then branch_instruction op skip ∷ rest else rest
 
 -- how many instructions a tree has
 abbrev pub size : Tree → ℕ
@@ -41,17 +42,21 @@ size (Not a) = size a + 1
 size (Binary op a b) = size a + ((if is_lazy op then 1 else 0) + (size b + 1))
 size (Conditional a b c) = size a + (1 + (size b + (1 + size c)))
 
--- the program of a tree, with the first operand of which `outer` nodes begin: each node is counted
--- where it begins, at its first operand that has none
+-- the instructions of a tree, with the first operand of which `outer` nodes begin, and then `rest`: each
+-- node is counted where it begins, at its first operand that has none
+abbrev pub program_then : ℕ → Tree → List Instruction → List Instruction
+program_then outer Count rest = count_instruction (1 + outer) ∷ rest
+program_then outer (Number v) rest = numeral_then (1 + outer) v rest
+program_then outer (Not a) rest = program_then (1 + outer) a (not_instruction ∷ rest)
+program_then outer (Binary op a b) rest =
+    program_then (1 + outer) a (branch_then op (size b + 1) (program_then 0 b (binary_instruction op ∷ rest)))
+program_then outer (Conditional a b c) rest =
+    program_then (1 + outer) a
+    (choose_instruction (size b + 1) ∷ program_then 0 b (jump_instruction (size c) ∷ program_then 0 c rest))
+
+-- the program of a tree
 abbrev pub program : ℕ → Tree → List Instruction
-program outer Count = count_instruction (1 + outer) ∷ []
-program outer (Number v) = numeral_program (1 + outer) v
-program outer (Not a) = program (1 + outer) a ++ not_instruction ∷ []
-program outer (Binary op a b) =
-    program (1 + outer) a ++ (branch_program op (size b + 1) ++ (program 0 b ++ binary_instruction op ∷ []))
-program outer (Conditional a b c) =
-    program (1 + outer) a
-    ++ choose_instruction (size b + 1) ∷ (program 0 b ++ jump_instruction (size c) ∷ program 0 c)
+program outer t = program_then outer t []
 
 -- the number of the first instruction: the low half of a numeral
 abbrev pub low_of : List Instruction → ℕ
@@ -91,32 +96,67 @@ newest (t ∷ trees) = t
 unfoldable pub tree_of : List Instruction → Tree
 tree_of instructions = newest (read instructions 0 (length instructions) [])
 
-pub length-program : (t : Tree) (k : ℕ) → length (program k t) ≡ size t
-length-program Count k = refl
-length-program (Number v) k = elim (cases_Bool (nat_lt v (2 ^ 32))) [ inl e ↦ rw e refl | inr e ↦ rw e refl ]
-length-program (Not a) k = simp length-append (omega (arith, length-program a (1 + k)))
-length-program (Binary op a b) k =
+pub branch-append : (op : Operator) (skip : ℕ) (xs ys : List Instruction) → branch_then op skip xs ++ ys ≡ branch_then op skip (xs ++ ys)
+branch-append op skip xs ys = elim (cases_Bool (is_lazy op)) [ inl e ↦ rw e refl | inr e ↦ rw e refl ]
+
+pub program-append : (t : Tree) (k : ℕ) (xs ys : List Instruction) → program_then k t xs ++ ys ≡ program_then k t (xs ++ ys)
+program-append Count k xs ys = refl
+program-append (Number v) k xs ys =
+    elim (cases_Bool (nat_lt v (2 ^ 32))) [ inl e ↦ rw e refl | inr e ↦ rw e refl ]
+program-append (Not a) k xs ys = program-append a (1 + k) (not_instruction ∷ xs) ys
+program-append (Binary op a b) k xs ys =
+    program-append a (1 + k) _ ys ∙ ap (program_then (1 + k) a) (branch-append op (size b + 1) _ ys
+    ∙ ap (branch_then op (size b + 1)) (program-append b 0 (binary_instruction op ∷ xs) ys))
+program-append (Conditional a b c) k xs ys =
+    program-append a (1 + k) _ ys
+    ∙ ap (λ p. program_then (1 + k) a (choose_instruction (size b + 1) ∷ p)) (program-append b 0 _ ys
+    ∙ ap (λ p. program_then 0 b (jump_instruction (size c) ∷ p)) (program-append c 0 xs ys))
+
+pub length-program : (t : Tree) (k : ℕ) (rest : List Instruction) → length (program_then k t rest) ≡ size t + length rest
+length-program Count k rest = omega arith
+length-program (Number v) k rest =
+    elim (cases_Bool (nat_lt v (2 ^ 32))) [ inl e ↦ rw e (omega arith) | inr e ↦ rw e (omega arith) ]
+length-program (Not a) k rest = length-program a (1 + k) (not_instruction ∷ rest) ∙ omega arith
+length-program (Binary op a b) k rest =
+    let last = length-program b 0 (binary_instruction op ∷ rest) in
     elim (cases_Bool (is_lazy op)) [
-      | inl e ↦ rw e (simp length-append (omega (arith, length-program a (1 + k), length-program b 0)))
-      | inr e ↦ rw e (simp length-append (omega (arith, length-program a (1 + k), length-program b 0)))
+      | inl e ↦ rw e (length-program a (1 + k) _ ∙ omega (arith, last))
+      | inr e ↦ rw e (length-program a (1 + k) _ ∙ omega (arith, last))
     ]
-length-program (Conditional a b c) k =
-    simp length-append (omega (arith, length-program a (1 + k), length-program b 0, length-program c 0))
+length-program (Conditional a b c) k rest =
+    length-program a (1 + k) _ ∙ omega (arith, length-program b 0 (jump_instruction (size c) ∷ program_then 0 c rest), length-program c 0 rest)
+
+-- what follows a program, and then some instructions
+pub drop-program : (t : Tree) (rest : List Instruction) (n : ℕ) → drop (size t + n) (program_then 0 t rest) ≡ drop n rest
+drop-program t rest n =
+    let long : size t ≡ length (program 0 t) = omega (arith, length-program t 0 []) in
+    ap (λ m. drop (m + n) (program_then 0 t rest)) long ∙ ap (drop (length (program 0 t) + n)) (sym (program-append t 0 [] rest))
+    ∙ drop-append-add (program 0 t) rest n
+
+read-drop : (p : List Instruction) (skip more : ℕ) (trees : List Tree) → read p skip more trees ≡ read (drop skip p) 0 more trees
+read-drop [] skip more trees = ap (λ p. read p 0 more trees) (sym (drop-nil skip))
+read-drop (i ∷ p) zero more trees = refl
+read-drop (i ∷ p) (suc skip) more trees = read-drop p skip more trees
 
 read-none : (rest : List Instruction) (trees : List Tree) → read rest 0 0 trees ≡ trees
 read-none [] trees = refl
 read-none (i ∷ rest) trees = refl
 
-read-skip : (xs rest : List Instruction) (skip more : ℕ) (trees : List Tree) → skip ≡ length xs → read (xs ++ rest) skip more trees ≡ read rest 0 more trees
-read-skip [] rest skip more trees e = ap (λ k. read rest k more trees) e
-read-skip (x ∷ xs) rest skip more trees e =
-    let one : skip ≡ suc (length xs) = omega arith in
-    ap (λ k. read ((x ∷ xs) ++ rest) k more trees) one ∙ read-skip xs rest (length xs) more trees refl
+read-branch : (op : Operator) (skip : ℕ) (rest : List Instruction) (m n : ℕ) (trees : List Tree) → m ≡ (if is_lazy op then 1 else 0) + n → read (branch_then op skip rest) 0 m trees ≡ read rest 0 n trees
+read-branch op skip rest m n trees e =
+    elim (cases_Bool (is_lazy op)) [
+      | inl lazy ↦
+          let one : m ≡ suc n = omega (arith, rw lazy at e) in
+          rw lazy (ap (λ m. read (branch_instruction op skip ∷ rest) 0 m trees) one)
+      | inr strict ↦
+          let same : m ≡ n = omega (arith, rw strict at e) in
+          rw strict (ap (λ m. read rest 0 m trees) same)
+    ]
 
-read-program : (t : Tree) (k : ℕ) (rest : List Instruction) (m n : ℕ) (trees : List Tree) → m ≡ size t + n → read (program k t ++ rest) 0 m trees ≡ read rest 0 n (t ∷ trees)
+read-program : (t : Tree) (k : ℕ) (rest : List Instruction) (m n : ℕ) (trees : List Tree) → m ≡ size t + n → read (program_then k t rest) 0 m trees ≡ read rest 0 n (t ∷ trees)
 read-program Count k rest m n trees e =
     let one : m ≡ suc n = omega arith in
-    ap (λ m. read (program k Count ++ rest) 0 m trees) one
+    ap (λ m. read (program_then k Count rest) 0 m trees) one
 read-program (Number v) k rest m n trees e =
     elim (cases_Bool (nat_lt v (2 ^ 32))) [
       | inl small ↦
@@ -130,48 +170,28 @@ read-program (Number v) k rest m n trees e =
           ∙ ap (λ m. read rest 0 m (Number (v / 2 ^ 32 * 2 ^ 32 + v % 2 ^ 32) ∷ trees)) less
           ∙ ap (λ x. read rest 0 n (Number x ∷ trees)) (div-add-mod' v (2 ^ 32)))
     ]
-read-program (Not a) k rest m n trees e =
-    let more : m ≡ size a + suc n = omega arith in
-    ap (λ p. read p 0 m trees) (append_assoc (program (1 + k) a) (not_instruction ∷ []) rest)
-    ∙ read-program a (1 + k) (not_instruction ∷ rest) m (suc n) trees more
+read-program (Not a) k rest m n trees e = read-program a (1 + k) (not_instruction ∷ rest) m (suc n) trees (omega arith)
 read-program (Binary op a b) k rest m n trees e =
-    let last : List Instruction = binary_instruction op ∷ [] in
-    let branch = branch_program op (size b + 1) in
-    let after : List Instruction = program 0 b ++ (binary_instruction op ∷ rest) in
-    let done : read (binary_instruction op ∷ rest) 0 (suc n) (b ∷ a ∷ trees) ≡ read rest 0 n (Binary op a b ∷ trees) =
-    ap (λ o. read rest 0 n (Binary o a b ∷ trees)) (operator_of-code op) in
-    ap (λ p. read p 0 m trees) (append_assoc (program (1 + k) a) (branch ++ (program 0 b ++ last)) rest
-    ∙ ap (λ p. program (1 + k) a ++ p) (append_assoc branch (program 0 b ++ last) rest
-    ∙ ap (λ p. branch ++ p) (append_assoc (program 0 b) last rest)))
-    ∙ elim (cases_Bool (is_lazy op)) [
-      | inl lazy ↦
-          let e' : m ≡ size a + (1 + (size b + 1)) + n = rw lazy at e in
-          rw lazy (read-program a (1 + k) (branch_instruction op (size b + 1) ∷ after) m (suc (size b + suc n)) trees (omega arith)
-          ∙ read-program b 0 (binary_instruction op ∷ rest) (size b + suc n) (suc n) (a ∷ trees) refl ∙ done)
-      | inr strict ↦
-          let e' : m ≡ size a + (0 + (size b + 1)) + n = rw strict at e in
-          rw strict (read-program a (1 + k) after m (size b + suc n) trees (omega arith)
-          ∙ read-program b 0 (binary_instruction op ∷ rest) (size b + suc n) (suc n) (a ∷ trees) refl ∙ done)
-    ]
+    let lazy : ℕ = if is_lazy op then 1 else 0 in
+    read-program a (1 + k) _ m (lazy + (size b + suc n)) trees (omega arith)
+    ∙ read-branch op (size b + 1) _ (lazy + (size b + suc n)) (size b + suc n) (a ∷ trees) refl
+    ∙ read-program b 0 (binary_instruction op ∷ rest) (size b + suc n) (suc n) (a ∷ trees) refl
+    ∙ ap (λ o. read rest 0 n (Binary o a b ∷ trees)) (operator_of-code op)
 read-program (Conditional a b c) k rest m n trees e =
-    let second = jump_instruction (size c) ∷ program 0 c in
-    let third : List Instruction = program 0 c ++ rest in
-    let choose = choose_instruction (size b + 1) in
+    let third = program_then 0 c rest in
     let left : size c + n - size c ≡ n = omega arith in
-    ap (λ p. read p 0 m trees) (append_assoc (program (1 + k) a) (choose ∷ (program 0 b ++ second)) rest
-    ∙ ap (λ p. program (1 + k) a ++ choose ∷ p) (append_assoc (program 0 b) second rest))
-    ∙ read-program a (1 + k) (choose ∷ (program 0 b ++ (jump_instruction (size c) ∷ third))) m (suc (size b + suc (size c + n))) trees (omega arith)
+    let none : size c ≡ size c + 0 = omega arith in
+    read-program a (1 + k) _ m (suc (size b + suc (size c + n))) trees (omega arith)
     ∙ read-program b 0 (jump_instruction (size c) ∷ third) (size b + suc (size c + n)) (suc (size c + n)) (a ∷ trees) refl
     ∙ ap (λ m. read third (size c) m (with_third (read third 0 (size c) []) (b ∷ a ∷ trees))) left
-    ∙ ap (λ ts. read third (size c) n (with_third ts (b ∷ a ∷ trees))) (read-program c 0 rest (size c) 0 [] (omega arith) ∙ read-none rest (c ∷ []))
-    ∙ read-skip (program 0 c) rest (size c) n (Conditional a b c ∷ trees) (sym (length-program c 0))
+    ∙ ap (λ ts. read third (size c) n (with_third ts (b ∷ a ∷ trees))) (read-program c 0 rest (size c) 0 [] none ∙ read-none rest (c ∷ []))
+    ∙ read-drop third (size c) n (Conditional a b c ∷ trees)
+    ∙ ap (λ p. read p 0 n (Conditional a b c ∷ trees)) (ap (λ j. drop j third) none ∙ drop-program c rest 0)
 
 -- a program is that of one tree
 pub tree_of-program : (t : Tree) → tree_of (program 0 t) ≡ t
 unfolding tree_of
-tree_of-program t =
-    ap (λ p. newest (read p 0 (length (program 0 t)) [])) (sym (append-nil (program 0 t)))
-    ∙ ap newest (read-program t 0 [] (length (program 0 t)) 0 [] (omega (arith, length-program t 0)))
+tree_of-program t = ap newest (read-program t 0 [] (length (program 0 t)) 0 [] (length-program t 0 []))
 
 -- a tree is stored as data by its program
 abbrev pub tree_code : Coded Instruction → Coded Tree

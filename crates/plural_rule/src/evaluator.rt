@@ -7,7 +7,7 @@ ghost use Rattle.plural_rule.specs.Instruction.{action_of};
 ghost use Rattle.plural_rule.specs.Expression.{nodes, value, visited};
 ghost use Rattle.plural_rule.specs.PluralRule.{expression_limit};
 ghost use Rattle.plural_rule.specs.Program.{program, tree_of, low_of};
-ghost use Rattle.plural_rule.specs.Internal.Run.{act, Go, Leads};
+ghost use Rattle.plural_rule.specs.Internal.Run.{act, Go, next_of, outcome};
 
 use crate::instruction::{Action, Instruction};
 use crate::operator::{Operator, truth};
@@ -25,6 +25,7 @@ const MEDIUM: usize = 128;
 
 /// The value of the expression with this program at `count`, or `None` where it divides by 0, and
 /// how many nodes were evaluated.
+#[tactic(auto, using(crate::proofs::Uniqueness::visited_le_nodes))]
 pub fn evaluate(instructions: &[Instruction], count: u64) -> (Option<u64>, u32)
     requires program { instructions.now ≡ program 0 (tree_of instructions.now) }
     requires limit { length instructions.now ≤ expression_limit }
@@ -49,9 +50,7 @@ fn evaluate_within<const N: usize>(instructions: &[Instruction], count: u64) -> 
     requires program { instructions.now ≡ program 0 (tree_of instructions.now) }
     requires room { length instructions.now + 3 ≤ 2 * N }
     requires size { N ≤ expression_limit }
-    ensures value { result.0 ≡ value (tree_of instructions.now) count }
-    ensures steps { result.1 ≡ visited (tree_of instructions.now) count }
-    ensures bound { result.1 ≤ nodes (tree_of instructions.now) }
+    ensures { record { value = result.0; steps = result.1 } ≡ outcome (tree_of instructions.now) count }
 {
     let mut stack = [0; N];
     let mut values = Values::new(&mut stack);
@@ -96,8 +95,8 @@ fn low_at(instructions: &[Instruction], index: usize) -> u32
 /// The value of `n` or of a numeral below 2^32.
 #[inline(always)]
 fn leaf(instruction: Instruction, count: u64) -> Option<u64>
-    ensures next { MatchOption result ⊤ (λ operand. (low : ℕ) (values : List ℕ) →
-        act count (action_of instruction) low values ≡ Go 0 (operand ∷ values) instruction.count) }
+    ensures next { MatchOption result ⊤ (λ operand. (low : ℕ) (values : List ℕ) (steps : ℕ) →
+        act count (action_of instruction) low values steps ≡ Go 0 (operand ∷ values) (steps + instruction.count)) }
     ensures fits { instruction.count < 2 ^ 16 }
 {
     if instruction.kind == 0 {
@@ -130,8 +129,8 @@ fn operator_at(instructions: &[Instruction], index: usize) -> Option<Operator>
 #[inline(always)]
 fn apply<const N: usize>(operator: Operator, right: u64, values: &mut Values<'_, N>) -> Option<u16>
     requires { length values.old ≤ N }
-    ensures leads { (count low steps : ℕ) →
-        Leads (act count (Binary operator) low (right ∷ values.old)) result values.new steps steps }
+    ensures { (count low steps : ℕ) →
+        act count (Binary operator) low (right ∷ values.old) steps ≡ next_of result values.new steps }
 {
     let Some(left) = values.pop() else {
         return None;
@@ -156,7 +155,8 @@ fn act<const N: usize>(
 ) -> Option<u16>
     requires room { length values.old < N }
     requires steps { steps.old + 2 ^ 16 < 2 ^ 32 }
-    ensures leads { Leads (act count action (low_of (drop next instructions.now)) values.old) result values.new steps.old steps.new }
+    ensures next { act count action (low_of (drop next instructions.now)) values.old steps.old
+        ≡ next_of result values.new steps.new }
     ensures bound { steps.new < steps.old + 2 ^ 16 }
 {
     match action {
@@ -186,14 +186,7 @@ fn act<const N: usize>(
             let Some(right) = values.pop() else {
                 return None;
             };
-            let Some(left) = values.pop() else {
-                return None;
-            };
-            let Some(value) = operator.combined(left, right) else {
-                return None;
-            };
-            values.push(value);
-            Some(0)
+            apply(operator, right, values)
         }
         Action::Branch(operator, skip) => {
             let Some(left) = values.pop() else {

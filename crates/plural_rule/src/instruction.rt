@@ -1,6 +1,6 @@
 //! The instructions of a program that computes an expression.
 ghost use Rattle.std.specs.Prelude.{◌≡◌};
-ghost use Rattle.plural_rule.specs.Instruction.{count_instruction, number_instruction, wide_instruction, low_instruction, not_instruction, binary_instruction, branch_instruction, choose_instruction, jump_instruction, begins, action_of};
+ghost use Rattle.plural_rule.specs.Instruction.{binary_instruction, begins, action_of};
 
 use crate::operator::Operator;
 
@@ -63,41 +63,21 @@ impl Instruction {
         number: 0,
     };
 
-    /// A numeral below 2^32.
-    pub(crate) fn number(number: u32) -> Instruction
-        ensures { result ≡ number_instruction 1 number }
-    {
-        Instruction {
-            kind: 1,
-            operator: 0,
-            count: 1,
-            number,
-        }
-    }
+    /// `?`, which skips nothing yet.
+    pub(crate) const CHOOSE: Instruction = Instruction {
+        kind: 6,
+        operator: 0,
+        count: 0,
+        number: 0,
+    };
 
-    /// The high half of a numeral.
-    pub(crate) fn wide(high: u32) -> Instruction
-        ensures { result ≡ wide_instruction 1 high }
-    {
-        Instruction {
-            kind: 2,
-            operator: 0,
-            count: 1,
-            number: high,
-        }
-    }
-
-    /// The low half of a numeral.
-    pub(crate) fn low(low: u32) -> Instruction
-        ensures { result ≡ low_instruction low }
-    {
-        Instruction {
-            kind: 7,
-            operator: 0,
-            count: 0,
-            number: low,
-        }
-    }
+    /// `:`, which skips nothing yet.
+    pub(crate) const JUMP: Instruction = Instruction {
+        kind: 7,
+        operator: 0,
+        count: 0,
+        number: 0,
+    };
 
     /// An operator after both operands.
     pub(crate) fn binary(operator: Operator) -> Instruction
@@ -106,44 +86,7 @@ impl Instruction {
         Instruction {
             kind: 4,
             operator: operator.code(),
-            count: 0,
-            number: 0,
-        }
-    }
-
-    /// `||` or `&&` before the second operand, which skips nothing yet.
-    pub(crate) fn branch(operator: Operator) -> Instruction
-        ensures { result ≡ branch_instruction operator 0 }
-    {
-        Instruction {
-            kind: 5,
-            operator: operator.code(),
-            count: 0,
-            number: 0,
-        }
-    }
-
-    /// `?`, which skips nothing yet.
-    pub(crate) fn choose() -> Instruction
-        ensures { result ≡ choose_instruction 0 }
-    {
-        Instruction {
-            kind: 6,
-            operator: 0,
-            count: 0,
-            number: 0,
-        }
-    }
-
-    /// `:`, which skips nothing yet.
-    pub(crate) fn jump() -> Instruction
-        ensures { result ≡ jump_instruction 0 }
-    {
-        Instruction {
-            kind: 7,
-            operator: 0,
-            count: 0,
-            number: 0,
+            ..Instruction::NOT
         }
     }
 

@@ -16,20 +16,18 @@
 //!
 //! The instructions stand in memory of the caller, and what waits for an operand in an array of fixed
 //! size, so the machine's stack doesn't grow with the expression.
-ghost use Rattle.std.specs.Prelude.{◌≡◌, ◌+◌, ◌<◌, ◌≤◌, List, ◌∷◌, Some, None, true, false, length, take, MatchBool, OnSome};
+ghost use Rattle.std.specs.Prelude.{◌≡◌, ◌≤◌, List, Some, None, true, length, take, MatchBool, OnSome};
 ghost use Rattle.plural_rule.specs.Expression.{Tree};
-ghost use Rattle.plural_rule.specs.Internal.ShiftReduce.{Waiting, WaitBinary, WaitQuestion, State, reduce, want_step, have_step, step, finish, at_colon};
-ghost use Rattle.plural_rule.specs.declared.token.Token.TheVariants.{Binary as BinaryToken};
-ghost use Rattle.plural_rule.specs.Internal.ParserState.{held, IsWaiting, IsOperand, Represents, Answers, HoldsTree, HoldsExpression, most_added};
-ghost use Rattle.plural_rule.specs.Internal.Pending.{weight};
+ghost use Rattle.plural_rule.specs.Internal.ShiftReduce.{Waiting, State, reduce, want_step, have_step, step, finish};
+ghost use Rattle.plural_rule.specs.Internal.ParserState.{held, IsWaiting, IsOperand, Represents, Answers, HoldsTree, HoldsExpression, HasRoom, Grows, most_added};
 ghost use Rattle.plural_rule.specs.Grammar.{Spelt};
 ghost use Rattle.plural_rule.specs.PluralRule.{expression_limit};
 
 use crate::instruction::Instruction;
 use crate::lexer;
 use crate::operator::Operator;
-use crate::parts::{Parts, Room, begin, complete, push, push_branch, push_numeral, skip_operand};
-use crate::pending::Pending;
+use crate::parts::{Parser, Room, begin, complete, push, push_branch, push_numeral, skip_operand};
+use crate::pending::{Pending, Stack};
 use crate::token::Token;
 
 /// The most bytes of a text that is read with the smaller stack: the larger one takes longer to set up.
@@ -37,28 +35,18 @@ const SHORT: usize = 240;
 
 /// Completes what waits for the last operand and binds at least as tight as `next_level`.
 #[inline(always)]
-fn reduce<const N: usize>(
-    room: &mut Room,
-    len: &mut usize,
-    parts: &mut Parts<'_, N>,
-    next_level: u8,
-)
-    requires count { length parts.old.waiting ≤ N }
-    requires weight { len.old + weight parts.old.waiting ≤ expression_limit }
-    ensures reduced { (waiting : List Waiting) (tree : Tree) →
-        IsOperand (held (take len.old room.old) parts.old) waiting tree →
-        IsOperand (held (take len.new room.new) parts.new)
-        (reduce next_level waiting tree).stack (reduce next_level waiting tree).tree }
-    ensures weight { len.new + weight parts.new.waiting
-        ≤ len.old + weight parts.old.waiting }
-    ensures count { length parts.new.waiting ≤ length parts.old.waiting }
+fn reduce<const N: usize>(room: &mut Room, parser: &mut Parser<'_, N>, next_level: u8)
+    requires room { HasRoom parser.old 0 0 }
+    ensures reduced { (waiting : List Waiting) (tree : Tree) → IsOperand (held room.old parser.old) waiting tree →
+        IsOperand (held room.new parser.new) (reduce next_level waiting tree).stack (reduce next_level waiting tree).tree }
+    ensures room { Grows parser.old parser.new 0 0 }
 {
-    while let Some(top) = parts.waiting.pop() {
+    while let Some(top) = parser.waiting.pop() {
         if !top.binds(next_level) {
-            parts.waiting.push(top);
+            parser.waiting.push(top);
             return;
         }
-        parts.start = complete(room, len, parts.start, top);
+        parser.start = complete(room, &mut parser.len, parser.start, top);
     }
 }
 
@@ -66,139 +54,76 @@ fn reduce<const N: usize>(
 /// where it can't stand here.
 fn take_operand<const N: usize>(
     room: &mut Room,
-    len: &mut usize,
-    parts: &mut Parts<'_, N>,
+    parser: &mut Parser<'_, N>,
     token: Token,
 ) -> Option<bool>
-    requires weight { len.old + weight parts.old.waiting + most_added token ≤ expression_limit }
-    requires count { length parts.old.waiting < N }
-    ensures step { (waiting : List Waiting) →
-        IsWaiting (held (take len.old room.old) parts.old) waiting →
-        Answers (want_step waiting token) result (held (take len.new room.new) parts.new) }
-    ensures weight { OnSome result (len.new + weight parts.new.waiting
-        ≤ len.old + weight parts.old.waiting + most_added token) }
-    ensures count { OnSome result (length parts.new.waiting ≤ length parts.old.waiting + 1) }
+    requires room { HasRoom parser.old (most_added token) 1 }
+    ensures step { (waiting : List Waiting) → IsWaiting (held room.old parser.old) waiting →
+        Answers (want_step waiting token) result (held room.new parser.new) }
+    ensures room { OnSome result (Grows parser.old parser.new (most_added token) 1) }
 {
     match token {
         Token::Count => {
-            parts.start = *len as u16;
-            push(room, len, Instruction::COUNT);
+            parser.start = push(room, &mut parser.len, Instruction::COUNT);
             Some(true)
         }
         Token::Number(number) => {
-            parts.start = *len as u16;
-            push_numeral(room, len, number);
+            parser.start = push_numeral(room, &mut parser.len, number);
             Some(true)
         }
         Token::Not => {
-            parts.waiting.push(Pending::Not);
+            parser.waiting.push(Pending::Not);
             Some(false)
         }
         Token::Open => {
-            parts.waiting.push(Pending::Open);
+            parser.waiting.push(Pending::Open);
             Some(false)
         }
         _ => None,
     }
 }
 
-/// Goes on with an operator after a complete operand.
-fn wait_binary<const N: usize>(
-    room: &mut Room,
-    len: &mut usize,
-    parts: &mut Parts<'_, N>,
-    operator: Operator,
-)
-    requires weight { len.old + weight parts.old.waiting + most_added (BinaryToken operator) ≤ expression_limit }
-    requires count { length parts.old.waiting < N }
-    ensures step { (waiting : List Waiting) (tree : Tree) →
-        IsOperand (held (take len.old room.old) parts.old) waiting tree →
-        IsWaiting (held (take len.new room.new) parts.new) (WaitBinary operator tree ∷ waiting) }
-    ensures weight { len.new + weight parts.new.waiting
-        ≤ len.old + weight parts.old.waiting + most_added (BinaryToken operator) }
-    ensures count { length parts.new.waiting ≤ length parts.old.waiting + 1 }
-{
-    begin(room, *len, parts.start);
-    push_branch(room, len, operator);
-    parts.waiting.push(Pending::Binary(operator, parts.start));
-}
-
-/// Goes on with `?` after a condition.
-fn wait_question<const N: usize>(room: &mut Room, len: &mut usize, parts: &mut Parts<'_, N>)
-    requires weight { len.old + weight parts.old.waiting < expression_limit }
-    requires count { length parts.old.waiting < N }
-    ensures step { (waiting : List Waiting) (tree : Tree) →
-        IsOperand (held (take len.old room.old) parts.old) waiting tree →
-        IsWaiting (held (take len.new room.new) parts.new) (WaitQuestion tree ∷ waiting) }
-    ensures weight { len.new + weight parts.new.waiting
-        ≤ len.old + weight parts.old.waiting + 1 }
-    ensures count { length parts.new.waiting ≤ length parts.old.waiting + 1 }
-{
-    begin(room, *len, parts.start);
-    push(room, len, Instruction::choose());
-    parts.waiting.push(Pending::Question(parts.start));
-}
-
-/// Goes on with `:` after the second operand, or says that no `?` waits for it.
-fn wait_colon<const N: usize>(room: &mut Room, len: &mut usize, parts: &mut Parts<'_, N>) -> bool
-    requires count { length parts.old.waiting ≤ N }
-    requires weight { len.old + weight parts.old.waiting < expression_limit }
-    ensures step { (waiting : List Waiting) (tree : Tree) →
-        IsOperand (held (take len.old room.old) parts.old) waiting tree →
-        MatchBool result (Answers (at_colon waiting tree) (Some false) (held (take len.new room.new) parts.new))
-        (at_colon waiting tree ≡ None) }
-    ensures weight { len.new + weight parts.new.waiting
-        ≤ len.old + weight parts.old.waiting + 1 }
-    ensures count { length parts.new.waiting ≤ length parts.old.waiting }
-{
-    let Some(Pending::Question(first)) = parts.waiting.pop() else {
-        return false;
-    };
-    skip_operand(room, *len, parts.start, 1);
-    push(room, len, Instruction::jump());
-    parts.waiting.push(Pending::Colon(first));
-    true
-}
-
 /// Reads a token after a complete operand: whether one is complete after the token too, or `None`
 /// where it can't stand here.
 fn take_operator<const N: usize>(
     room: &mut Room,
-    len: &mut usize,
-    parts: &mut Parts<'_, N>,
+    parser: &mut Parser<'_, N>,
     token: Token,
 ) -> Option<bool>
-    requires weight { len.old + weight parts.old.waiting + most_added token ≤ expression_limit }
-    requires count { length parts.old.waiting < N }
-    ensures step { (waiting : List Waiting) (tree : Tree) →
-        IsOperand (held (take len.old room.old) parts.old) waiting tree →
-        Answers (have_step waiting tree token) result (held (take len.new room.new) parts.new) }
-    ensures weight { OnSome result (len.new + weight parts.new.waiting
-        ≤ len.old + weight parts.old.waiting + most_added token) }
-    ensures count { OnSome result (length parts.new.waiting ≤ length parts.old.waiting + 1) }
+    requires room { HasRoom parser.old (most_added token) 1 }
+    ensures step { (waiting : List Waiting) (tree : Tree) → IsOperand (held room.old parser.old) waiting tree →
+        Answers (have_step waiting tree token) result (held room.new parser.new) }
+    ensures room { OnSome result (Grows parser.old parser.new (most_added token) 1) }
 {
     match token {
         Token::Binary(operator) => {
-            reduce(room, len, parts, operator.level());
-            wait_binary(room, len, parts, operator);
+            reduce(room, parser, operator.level());
+            begin(room, parser.len, parser.start);
+            push_branch(room, &mut parser.len, operator);
+            parser.waiting.push(Pending::Binary(operator, parser.start));
             Some(false)
         }
         Token::Question => {
             // `?:` groups to the right, so what waits after a `:` isn't completed here.
-            reduce(room, len, parts, 1);
-            wait_question(room, len, parts);
+            reduce(room, parser, 1);
+            begin(room, parser.len, parser.start);
+            push(room, &mut parser.len, Instruction::CHOOSE);
+            parser.waiting.push(Pending::Question(parser.start));
             Some(false)
         }
         Token::Colon => {
-            reduce(room, len, parts, 0);
-            if !wait_colon(room, len, parts) {
+            reduce(room, parser, 0);
+            let Some(Pending::Question(first)) = parser.waiting.pop() else {
                 return None;
-            }
+            };
+            skip_operand(room, parser.len, parser.start, 1);
+            push(room, &mut parser.len, Instruction::JUMP);
+            parser.waiting.push(Pending::Colon(first));
             Some(false)
         }
         Token::Close => {
-            reduce(room, len, parts, 0);
-            let Some(Pending::Open) = parts.waiting.pop() else {
+            reduce(room, parser, 0);
+            let Some(Pending::Open) = parser.waiting.pop() else {
                 return None;
             };
             Some(true)
@@ -211,46 +136,34 @@ fn take_operator<const N: usize>(
 /// here.
 fn take<const N: usize>(
     room: &mut Room,
-    len: &mut usize,
-    parts: &mut Parts<'_, N>,
+    parser: &mut Parser<'_, N>,
     complete: bool,
     token: Token,
 ) -> Option<bool>
-    requires weight { len.old + weight parts.old.waiting + most_added token ≤ expression_limit }
-    requires count { length parts.old.waiting < N }
-    ensures step { (state : State) →
-        Represents (held (take len.old room.old) parts.old) complete state →
-        Answers (step state token) result (held (take len.new room.new) parts.new) }
-    ensures weight { OnSome result (len.new + weight parts.new.waiting
-        ≤ len.old + weight parts.old.waiting + most_added token) }
-    ensures count { OnSome result (length parts.new.waiting ≤ length parts.old.waiting + 1) }
+    requires room { HasRoom parser.old (most_added token) 1 }
+    ensures step { (state : State) → Represents (held room.old parser.old) complete state →
+        Answers (step state token) result (held room.new parser.new) }
+    ensures room { OnSome result (Grows parser.old parser.new (most_added token) 1) }
 {
     if complete {
-        take_operator(room, len, parts, token)
+        take_operator(room, parser, token)
     } else {
-        take_operand(room, len, parts, token)
+        take_operand(room, parser, token)
     }
 }
 
 /// Whether the tokens end with a whole expression, whose instructions then are the only ones.
-fn finish<const N: usize>(
-    room: &mut Room,
-    len: &mut usize,
-    parts: &mut Parts<'_, N>,
-    complete: bool,
-) -> bool
-    requires count { length parts.old.waiting ≤ N }
-    requires weight { len.old + weight parts.old.waiting ≤ expression_limit }
-    ensures tree { (state : State) →
-        Represents (held (take len.old room.old) parts.old) complete state →
-        MatchBool result (HoldsTree (finish state) (take len.new room.new)) (finish state ≡ None) }
-    ensures limit { len.new ≤ expression_limit }
+fn finish<const N: usize>(room: &mut Room, parser: &mut Parser<'_, N>, complete: bool) -> bool
+    requires room { HasRoom parser.old 0 0 }
+    ensures tree { (state : State) → Represents (held room.old parser.old) complete state →
+        MatchBool result (HoldsTree (finish state) (held room.new parser.new).code) (finish state ≡ None) }
+    ensures room { Grows parser.old parser.new 0 0 }
 {
     if !complete {
         return false;
     }
-    reduce(room, len, parts, 0);
-    parts.waiting.is_empty()
+    reduce(room, parser, 0);
+    parser.waiting.is_empty()
 }
 
 /// Whether a text spells an expression, whose program is then the first `len` instructions of `room`.
@@ -276,23 +189,25 @@ fn parse_within<const N: usize>(text: &[u8], room: &mut Room, len: &mut usize) -
         ((tree : Tree) → Spelt tree text.now → ⊥) }
     ensures limit { result ≡ true → len.new ≤ expression_limit }
 {
-    // A count of its own stays in a register.
-    let mut count = 0;
     let mut codes = [0; N];
-    let mut parts = Parts::new(&mut codes);
+    let mut parser = Parser {
+        len: 0,
+        waiting: Stack::new(&mut codes),
+        start: 0,
+    };
     let mut complete = false;
     let mut rest = lexer::without_blanks(text);
     while !rest.is_empty() {
         let Some((token, token_len)) = lexer::token(rest) else {
             return false;
         };
-        let Some(taken) = take(room, &mut count, &mut parts, complete, token) else {
+        let Some(taken) = take(room, &mut parser, complete, token) else {
             return false;
         };
         complete = taken;
         rest = lexer::without_blanks(&rest[token_len..]);
     }
-    let whole = finish(room, &mut count, &mut parts, complete);
-    *len = count;
+    let whole = finish(room, &mut parser, complete);
+    *len = parser.len;
     whole
 }

@@ -3,7 +3,7 @@ ghost use Rattle.std.specs.Prelude.{◌≡◌, ◌+◌, ◌-◌, ◌<◌, ◌≤
 ghost use Rattle.plural_rule.specs.Internal.ParserState.{begun, skipping, completed_program, first_of};
 ghost use Rattle.plural_rule.specs.Internal.Pending.{weight_of};
 ghost use Rattle.plural_rule.specs.PluralRule.{expression_limit};
-ghost use Rattle.plural_rule.specs.Program.{numeral_program, branch_program};
+ghost use Rattle.plural_rule.specs.Program.{numeral_then, branch_then};
 
 use crate::instruction::Instruction;
 use crate::operator::Operator;
@@ -13,47 +13,41 @@ use crate::rule::EXPRESSION_LIMIT;
 /// The memory of the caller, whose first instructions are the program.
 pub(crate) type Room = [Instruction; EXPRESSION_LIMIT];
 
-/// What waits, and where the last complete operand begins.
+/// What the parser holds: how many instructions it has written, what waits, and where the last complete operand
+/// begins.
 #[derive(Drop)]
-pub(crate) struct Parts<'s, const N: usize> {
+pub(crate) struct Parser<'s, const N: usize> {
+    pub(crate) len: usize,
     pub(crate) waiting: Stack<'s, N>,
     pub(crate) start: u16,
 }
 
-impl<'s, const N: usize> Parts<'s, N> {
-    /// Nothing waits.
-    #[inline(always)]
-    pub(crate) fn new(codes: &'s mut [u16; N]) -> Self
-        requires { N ≤ expression_limit }
-        ensures waiting { result.waiting ≡ [] }
-        ensures start { result.start ≡ 0 }
-    {
-        Parts {
-            waiting: Stack::new(codes),
-            start: 0,
-        }
-    }
-}
-
-/// Adds an instruction to a program of `len` instructions.
+/// Adds an instruction to a program of `len` instructions: its index.
 #[inline(always)]
-pub(crate) fn push(room: &mut Room, len: &mut usize, instruction: Instruction)
+pub(crate) fn push(room: &mut Room, len: &mut usize, instruction: Instruction) -> u16
     requires { len.old < expression_limit }
+    ensures index { result ≡ length (take len.old room.old) }
     ensures items { take len.new room.new ≡ take len.old room.old ++ instruction ∷ [] }
     ensures len { len.new ≡ len.old + 1 }
 {
-    room[*len] = instruction;
+    let index = *len;
+    room[index] = instruction;
     *len += 1;
+    index as u16
 }
 
 /// Adds the instruction between the operands of `||` or `&&`.
 pub(crate) fn push_branch(room: &mut Room, len: &mut usize, operator: Operator)
-    requires { len.old + length (branch_program operator 0) ≤ expression_limit }
-    ensures items { take len.new room.new ≡ take len.old room.old ++ branch_program operator 0 }
-    ensures len { len.new ≡ len.old + length (branch_program operator 0) }
+    requires { len.old + length (branch_then operator 0 []) ≤ expression_limit }
+    ensures items { take len.new room.new ≡ take len.old room.old ++ branch_then operator 0 [] }
+    ensures len { len.new ≡ len.old + length (branch_then operator 0 []) }
 {
     if operator.is_lazy() {
-        push(room, len, Instruction::branch(operator));
+        let branch = Instruction {
+            kind: 5,
+            ..Instruction::binary(operator)
+        };
+        push(room, len, branch);
     }
 }
 
@@ -91,18 +85,33 @@ pub(crate) fn skip_operand(room: &mut Room, len: usize, start: u16, more: u16)
     set_skip(room, len, start.saturating_sub(1), skip);
 }
 
-/// Adds a numeral.
-pub(crate) fn push_numeral(room: &mut Room, len: &mut usize, value: u64)
-    requires { len.old + length (numeral_program 1 value) ≤ expression_limit }
-    ensures items { take len.new room.new ≡ take len.old room.old ++ numeral_program 1 value }
-    ensures len { len.new ≡ len.old + length (numeral_program 1 value) }
+/// Adds a numeral: its index.
+pub(crate) fn push_numeral(room: &mut Room, len: &mut usize, value: u64) -> u16
+    requires { len.old + length (numeral_then 1 value []) ≤ expression_limit }
+    ensures index { result ≡ length (take len.old room.old) }
+    ensures items { take len.new room.new ≡ take len.old room.old ++ numeral_then 1 value [] }
+    ensures len { len.new ≡ len.old + length (numeral_then 1 value []) }
 {
+    let number = Instruction {
+        kind: 1,
+        number: (value % 4294967296) as u32,
+        ..Instruction::COUNT
+    };
     if value < 4294967296 {
-        push(room, len, Instruction::number(value as u32));
-    } else {
-        push(room, len, Instruction::wide((value / 4294967296) as u32));
-        push(room, len, Instruction::low((value % 4294967296) as u32));
+        return push(room, len, number);
     }
+    let high = Instruction {
+        kind: 2,
+        number: (value / 4294967296) as u32,
+        ..Instruction::COUNT
+    };
+    let low = Instruction {
+        number: number.number,
+        ..Instruction::JUMP
+    };
+    let index = push(room, len, high);
+    push(room, len, low);
+    index
 }
 
 /// Completes what waits for the last operand, which begins at `start`: where the new one begins.

@@ -1,7 +1,7 @@
 //! What waits for its last operand while an expression is read.
-ghost use Rattle.std.specs.Prelude.{◌≡◌, ◌+◌, ◌<◌, ◌≤◌, [], ◌∷◌, ◌++◌, length, ◌==◌, MatchOption, IfSome, OnSome};
+ghost use Rattle.std.specs.Prelude.{◌≡◌, ◌<◌, ◌≤◌, [], ◌∷◌, length, ◌==◌, MatchOption};
 ghost use Rattle.plural_rule.specs.PluralRule.{expression_limit};
-ghost use Rattle.plural_rule.specs.Internal.Pending.{binds, pending_of, within, weight, weight_of};
+ghost use Rattle.plural_rule.specs.Internal.Pending.{binds, pending_of, within};
 
 use crate::operator::Operator;
 use std::marker::Model;
@@ -66,7 +66,7 @@ impl Pending {
     }
 }
 
-/// What waits, `N` at most and the newest last, in two bytes each.
+/// What waits, `N` at most and the newest first, in two bytes each.
 ///
 /// The array is borrowed, so that the count stays in a register.
 #[derive(Drop)]
@@ -76,14 +76,14 @@ pub(crate) struct Stack<'s, const N: usize> {
 }
 
 impl<'s, const N: usize> Model for Stack<'s, N> {
-    ghost use Rattle.std.specs.Prelude.{◌≡◌, ◌≤◌, List, length, map, take};
+    ghost use Rattle.std.specs.Prelude.{◌≡◌, ◌≤◌, List, length, map, take, reverse};
     ghost use Rattle.plural_rule.specs.declared.pending.Pending.{Pending as Entry};
     ghost use Rattle.plural_rule.specs.Internal.Pending.{pending_of};
     ghost use Rattle.plural_rule.specs.PluralRule.{expression_limit};
 
     ghost Value = { List Entry };
 
-    ghost view = { λ s. map pending_of (take s.count s.codes.now) };
+    ghost view = { λ s. map pending_of (reverse (take s.count s.codes.now)) };
 
     ghost invariant = { λ s. (s.count ≤ N) × (length s.codes.now ≡ N) × (N ≤ expression_limit) };
 }
@@ -109,9 +109,7 @@ impl<'s, const N: usize> Stack<'s, N> {
     #[inline(always)]
     pub(crate) fn push(&mut self, pending: Pending)
         requires { length self.old < N }
-        ensures items { self.new ≡ self.old ++ within pending ∷ [] }
-        ensures weight { weight self.new ≡ weight self.old + weight_of pending }
-        ensures count { length self.new ≡ length self.old + 1 }
+        ensures { self.new ≡ within pending ∷ self.old }
     {
         self.codes[self.count] = pending.code();
         self.count += 1;
@@ -120,10 +118,8 @@ impl<'s, const N: usize> Stack<'s, N> {
     /// Takes the newest of what waits.
     #[inline(always)]
     pub(crate) fn pop(&mut self) -> Option<Pending>
-        ensures items { MatchOption result ((self.old ≡ []) × (self.new ≡ []))
-            (λ top. (self.old ≡ self.new ++ top ∷ []) × (within top ≡ top)) }
-        ensures weight { IfSome result (λ top. weight self.old ≡ weight self.new + weight_of top) }
-        ensures count { OnSome result (length self.old ≡ length self.new + 1) }
+        ensures { MatchOption result ((self.old ≡ []) × (self.new ≡ []))
+            (λ top. (self.old ≡ top ∷ self.new) × (within top ≡ top)) }
     {
         if self.count == 0 {
             return None;

@@ -208,6 +208,10 @@ fn write_default(room: &mut Room)
         count: 2,
         ..Instruction::COUNT
     };
-    room[1] = Instruction::number(1);
+    room[1] = Instruction {
+        kind: 1,
+        number: 1,
+        ..Instruction::COUNT
+    };
     room[2] = Instruction::binary(Operator::NotEqual);
 }

@@ -22,77 +22,23 @@ from_left op op' = Binary op' (Binary op (Number 1) (Number 2)) (Number 3)
 abbrev from_right : Operator → Operator → Tree
 from_right op op' = Binary op (Number 1) (Binary op' (Number 2) (Number 3))
 
--- 1 || 2 && 3 is 1 || (2 && 3)
-pub or_and : outcome (tokens Or And) ≡ Some (from_right Or And)
-or_and = refl
+abbrev GroupsRight : Operator → Operator → Type 0
+GroupsRight op op' = outcome (tokens op op') ≡ Some (from_right op op')
 
--- 1 && 2 == 3 is 1 && (2 == 3)
-pub and_equal : outcome (tokens And Equal) ≡ Some (from_right And Equal)
-and_equal = refl
+abbrev GroupsLeft : Operator → Operator → Type 0
+GroupsLeft op op' = outcome (tokens op op') ≡ Some (from_left op op')
 
--- 1 != 2 < 3 is 1 != (2 < 3)
-pub unequal_less : outcome (tokens NotEqual Less) ≡ Some (from_right NotEqual Less)
-unequal_less = refl
+-- the second operator binds tighter: 1 || 2 && 3 is 1 || (2 && 3), and so on
+pub tighter : GroupsRight Or And × GroupsRight And Equal × GroupsRight NotEqual Less × GroupsRight AtLeast Add
+    × GroupsRight Subtract Multiply
+tighter = (refl, refl, refl, refl, refl)
 
--- 1 >= 2 + 3 is 1 >= (2 + 3)
-pub at_least_sum : outcome (tokens AtLeast Add) ≡ Some (from_right AtLeast Add)
-at_least_sum = refl
-
--- 1 - 2 * 3 is 1 - (2 * 3)
-pub difference_product : outcome (tokens Subtract Multiply) ≡ Some (from_right Subtract Multiply)
-difference_product = refl
-
--- 1 || 2 || 3 is (1 || 2) || 3
-pub or_or : outcome (tokens Or Or) ≡ Some (from_left Or Or)
-or_or = refl
-
--- 1 && 2 && 3 is (1 && 2) && 3
-pub and_and : outcome (tokens And And) ≡ Some (from_left And And)
-and_and = refl
-
--- 1 == 2 != 3 is (1 == 2) != 3
-pub equal_unequal : outcome (tokens Equal NotEqual) ≡ Some (from_left Equal NotEqual)
-equal_unequal = refl
-
--- 1 != 2 == 3 is (1 != 2) == 3
-pub unequal_equal : outcome (tokens NotEqual Equal) ≡ Some (from_left NotEqual Equal)
-unequal_equal = refl
-
--- 1 < 2 > 3 is (1 < 2) > 3
-pub less_greater : outcome (tokens Less Greater) ≡ Some (from_left Less Greater)
-less_greater = refl
-
--- 1 > 2 <= 3 is (1 > 2) <= 3
-pub greater_at_most : outcome (tokens Greater AtMost) ≡ Some (from_left Greater AtMost)
-greater_at_most = refl
-
--- 1 <= 2 >= 3 is (1 <= 2) >= 3
-pub at_most_at_least : outcome (tokens AtMost AtLeast) ≡ Some (from_left AtMost AtLeast)
-at_most_at_least = refl
-
--- 1 >= 2 < 3 is (1 >= 2) < 3
-pub at_least_less : outcome (tokens AtLeast Less) ≡ Some (from_left AtLeast Less)
-at_least_less = refl
-
--- 1 + 2 - 3 is (1 + 2) - 3
-pub sum_difference : outcome (tokens Add Subtract) ≡ Some (from_left Add Subtract)
-sum_difference = refl
-
--- 1 - 2 + 3 is (1 - 2) + 3
-pub difference_sum : outcome (tokens Subtract Add) ≡ Some (from_left Subtract Add)
-difference_sum = refl
-
--- 1 * 2 / 3 is (1 * 2) / 3
-pub product_quotient : outcome (tokens Multiply Divide) ≡ Some (from_left Multiply Divide)
-product_quotient = refl
-
--- 1 / 2 % 3 is (1 / 2) % 3
-pub quotient_remainder : outcome (tokens Divide Remainder) ≡ Some (from_left Divide Remainder)
-quotient_remainder = refl
-
--- 1 % 2 * 3 is (1 % 2) * 3
-pub remainder_product : outcome (tokens Remainder Multiply) ≡ Some (from_left Remainder Multiply)
-remainder_product = refl
+-- operators of one level group to the left: 1 || 2 || 3 is (1 || 2) || 3, and so on
+pub to_the_left : GroupsLeft Or Or × GroupsLeft And And × GroupsLeft Equal NotEqual × GroupsLeft NotEqual Equal
+    × GroupsLeft Less Greater × GroupsLeft Greater AtMost × GroupsLeft AtMost AtLeast × GroupsLeft AtLeast Less
+    × GroupsLeft Add Subtract × GroupsLeft Subtract Add × GroupsLeft Multiply Divide × GroupsLeft Divide Remainder
+    × GroupsLeft Remainder Multiply
+to_the_left = (refl, refl, refl, refl, refl, refl, refl, refl, refl, refl, refl, refl, refl)
 
 -- !n == 1 is (!n) == 1
 pub not_equal : outcome (bang ∷ n ∷ operator Equal ∷ number 1 ∷ []) ≡ Some (Binary Equal (Not Count) (Number 1))

@@ -1,8 +1,8 @@
 -- Internal: how the parser's program and stack stand for what waits and for a complete operand.
-use Rattle.std.specs.Prelude.{◌≡◌, ℕ, ◌+◌, ◌-◌, ◌%◌, ◌^◌, nat_lt, Bool, true, false, List, [], ◌∷◌, ◌++◌, length, Option, Some}
+use Rattle.std.specs.Prelude.{◌≡◌, ℕ, ◌+◌, ◌-◌, ◌%◌, ◌^◌, nat_lt, Bool, true, false, List, [], ◌∷◌, ◌++◌, length, take, ◌≤◌, Option, Some}
 use Rattle.std.specs.Prelude.{None, if◌then◌else◌, slice_set, slice_index_or}
 use Rattle.plural_rule.specs.declared.instruction.Instruction.{Instruction}
-use Rattle.plural_rule.specs.declared.parts.Parts.{Parts}
+use Rattle.plural_rule.specs.declared.parts.Parser.{Parser}
 use Rattle.plural_rule.specs.declared.pending.Pending.{Pending}
 use Rattle.plural_rule.specs.declared.pending.Pending.TheVariants.{Not as NotPending, Open as OpenPending}
 use Rattle.plural_rule.specs.declared.pending.Pending.TheVariants.{Binary as BinaryPending, Question as QuestionPending}
@@ -13,20 +13,21 @@ use Rattle.plural_rule.specs.Expression.{Tree}
 use Rattle.plural_rule.specs.Grammar.{Spelt}
 use Rattle.plural_rule.specs.Instruction.{count_instruction, not_instruction, binary_instruction, choose_instruction}
 use Rattle.plural_rule.specs.Instruction.{jump_instruction}
-use Rattle.plural_rule.specs.PluralRule.{IsReadable}
-use Rattle.plural_rule.specs.Program.{program, size, is_lazy, branch_program}
+use Rattle.plural_rule.specs.PluralRule.{IsReadable, expression_limit}
+use Rattle.plural_rule.specs.Program.{program, program_then, size, is_lazy, branch_then}
+use Rattle.plural_rule.specs.Internal.Pending.{weight}
 use Rattle.plural_rule.specs.Internal.ShiftReduce.{Waiting, WaitNot, WaitOpen, WaitBinary, WaitQuestion, WaitColon, State, Want}
 use Rattle.plural_rule.specs.Internal.ShiftReduce.{Have}
 
--- the instructions of what waits, before its last operand: what is skipped over that isn't known yet
-abbrev pub waiting_program : List Waiting → List Instruction
-waiting_program [] = []
-waiting_program (WaitNot ∷ stack) = waiting_program stack
-waiting_program (WaitOpen ∷ stack) = waiting_program stack
-waiting_program (WaitBinary op a ∷ stack) = waiting_program stack ++ (program 1 a ++ branch_program op 0)
-waiting_program (WaitQuestion a ∷ stack) = waiting_program stack ++ (program 1 a ++ choose_instruction 0 ∷ [])
-waiting_program (WaitColon a b ∷ stack) =
-    waiting_program stack ++ (program 1 a ++ choose_instruction (size b + 1) ∷ (program 0 b ++ jump_instruction 0 ∷ []))
+-- the instructions of what waits, before its last operand, and then `rest`: what is skipped over isn't known
+-- yet
+abbrev pub waiting_then : List Waiting → List Instruction → List Instruction
+waiting_then [] rest = rest
+waiting_then (WaitBinary op a ∷ stack) rest = waiting_then stack (program_then 1 a (branch_then op 0 rest))
+waiting_then (WaitQuestion a ∷ stack) rest = waiting_then stack (program_then 1 a (choose_instruction 0 ∷ rest))
+waiting_then (WaitColon a b ∷ stack) rest =
+    waiting_then stack (program_then 1 a (choose_instruction (size b + 1) ∷ program_then 0 b (jump_instruction 0 ∷ rest)))
+waiting_then (w ∷ stack) rest = waiting_then stack rest
 
 -- what waits, as the parser's stack has it, whose instructions begin at an index
 abbrev pub pending : ℕ → Waiting → Pending
@@ -36,10 +37,14 @@ pending first (WaitBinary op a) = BinaryPending op first
 pending first (WaitQuestion a) = QuestionPending first
 pending first (WaitColon a b) = ColonPending first
 
--- the parser's stack, oldest first
+-- where the instructions of an operand begin after what waits
+abbrev pub start_after : List Waiting → ℕ
+start_after stack = length (waiting_then stack [])
+
+-- the parser's stack
 abbrev pub pendings : List Waiting → List Pending
 pendings [] = []
-pendings (w ∷ stack) = pendings stack ++ pending (length (waiting_program stack)) w ∷ []
+pendings (w ∷ stack) = pending (start_after stack) w ∷ pendings stack
 
 -- what the parser holds: instructions, what waits, and where the last operand begins
 pub record Held : Type 0 where
@@ -47,19 +52,19 @@ pub record Held : Type 0 where
   pub entries : List Pending
   pub start : ℕ
 
-abbrev pub held : {N : ℕ} → List Instruction → Parts N → Held
-held {N} code parts = record { code = code; entries = parts.waiting; start = parts.start }
+abbrev pub held : {N : ℕ} → List Instruction → Parser N → Held
+held {N} room parser = record { code = take parser.len room; entries = parser.waiting; start = parser.start }
 
 -- that stands for what waits
 pub record IsWaiting (parser : Held) (stack : List Waiting) : Type 0 where
-  pub code_is : parser.code ≡ waiting_program stack
+  pub code_is : parser.code ≡ waiting_then stack []
   pub entries_are : parser.entries ≡ pendings stack
 
 -- that stands for what waits and an operand after it
 pub record IsOperand (parser : Held) (stack : List Waiting) (tree : Tree) : Type 0 where
-  pub code_is : parser.code ≡ waiting_program stack ++ program 0 tree
+  pub code_is : parser.code ≡ waiting_then stack (program 0 tree)
   pub entries_are : parser.entries ≡ pendings stack
-  pub start_is : parser.start ≡ length (waiting_program stack)
+  pub start_is : parser.start ≡ start_after stack
 
 -- that and whether an operand is complete stand for a state
 abbrev pub Represents : Held → Bool → State → Type 0
@@ -91,7 +96,7 @@ with_skip skip i = record { kind = i.kind; operator = i.operator; count = skip; 
 abbrev pub skipping : ℕ → ℕ → List Instruction → List Instruction
 skipping index skip code = edited (with_skip skip) index code
 
--- the instructions once it has, and where the new operand begins
+-- the instructions once an operand completes what waits, and where the new operand begins
 abbrev pub completed_program : Pending → ℕ → List Instruction → List Instruction
 completed_program NotPending start code = begun start code ++ not_instruction ∷ []
 completed_program (BinaryPending op first) start code =
@@ -112,6 +117,17 @@ abbrev pub most_added : Token → ℕ
 most_added (NumberToken v) = if nat_lt v (2 ^ 32) then 1 else 2
 most_added (BinaryToken op) = if is_lazy op then 2 else 1
 most_added _ = 1
+
+-- there is room for the instructions to come of what waits and so many more, and for so many more entries
+abbrev pub HasRoom : {N : ℕ} → Parser N → ℕ → ℕ → Type 0
+HasRoom {N} parser added entries =
+    (parser.len + weight parser.waiting + added ≤ expression_limit) × (length parser.waiting + entries ≤ N)
+
+-- what waits and is to come has grown by so many entries and instructions at most
+abbrev pub Grows : {N : ℕ} → Parser N → Parser N → ℕ → ℕ → Type 0
+Grows {N} before after added entries =
+    (after.len + weight after.waiting ≤ before.len + weight before.waiting + added)
+    × (length after.waiting ≤ length before.waiting + entries)
 
 -- the program is that of the tree that was read
 pub record HoldsTree (read : Option Tree) (code : List Instruction) : Type 0 where

@@ -15,9 +15,9 @@ empty (c ∷ text) h = absurd (omega arith)
 pub loop-rest-init : goal.loop-rest-init
 loop-rest-init g c =
     record {
-      reached = rw (c.without_blanks-rest.ensures.value, c.new-parts.ensures.waiting, c.new-parts.ensures.start) (reached-start c.args.text.now);
-      weight = rw c.new-parts.ensures.waiting (omega (arith, c.without_blanks-rest.ensures.shorter));
-      count = rw c.new-parts.ensures.waiting (omega (arith, c.without_blanks-rest.ensures.shorter));
+      reached = rw (c.without_blanks-rest.ensures.value, c.new.ensures) (reached-start c.args.text.now);
+      weight = rw c.new.ensures (omega (arith, c.without_blanks-rest.ensures.shorter));
+      count = rw c.new.ensures (omega (arith, c.without_blanks-rest.ensures.shorter));
     }
 
 pub returns-in_default-clause-expression : goal.returns-in_default-clause-expression
@@ -29,7 +29,7 @@ returns-in_default-clause-expression g c =
 pub take-requires : goal.take-requires
 take-requires g c =
     let at = c.in-Some.ensures in
-    let weight : c.loop-rest.count + weight c.loop-rest.parts.waiting + most_added c.in-Some.token ≤ 4096 = omega (arith, most-added c.loop-rest.rest.now c.in-Some.token c.in-Some.token_len at, at.within, c.loop-rest.invariant.weight, c.requires.room, c.requires.limit) in
+    let weight : c.loop-rest.parser.len + weight c.loop-rest.parser.waiting + most_added c.in-Some.token ≤ 4096 = omega (arith, most-added c.loop-rest.rest.now c.in-Some.token c.in-Some.token_len at, at.within, c.loop-rest.invariant.weight, c.requires.room, c.requires.limit) in
     (search rules, (weight, omega (arith, at.some, at.within, c.loop-rest.invariant.count, c.requires.room)))
 
 pub returns-in_default-take-clause-expression : goal.returns-in_default-take-clause-expression
@@ -50,12 +50,12 @@ loop-rest-preserved g c =
       reached =
           rw (after.value, part)
           (reached-token c.args.text.now c.loop-rest.rest.now c.in-Some.token n _ _ _ _ r at (took.step r.state r.represents));
-      weight = omega (arith, took.weight, c.loop-rest.invariant.weight, most-added c.loop-rest.rest.now c.in-Some.token n at, at.within, after.shorter, ap length part, length-drop n c.loop-rest.rest.now);
-      count = omega (arith, took.count, c.loop-rest.invariant.count, at.some, at.within, after.shorter, ap length part, length-drop n c.loop-rest.rest.now);
+      weight = omega (arith, took.room.0, c.loop-rest.invariant.weight, most-added c.loop-rest.rest.now c.in-Some.token n at, at.within, after.shorter, ap length part, length-drop n c.loop-rest.rest.now);
+      count = omega (arith, took.room.1, c.loop-rest.invariant.count, at.some, at.within, after.shorter, ap length part, length-drop n c.loop-rest.rest.now);
     }
 
 pub returns-clause-expression : goal.returns-clause-expression
 returns-clause-expression g c =
     let none : c.loop-rest.rest.now ≡ [] = empty c.loop-rest.rest.now (search rules) in
-    let r : Reached c.args.text.now [] (held (take c.loop-rest.count c.loop-rest.room) c.loop-rest.parts) c.loop-rest.complete = rw none at c.loop-rest.invariant.reached in
+    let r : Reached c.args.text.now [] (held c.loop-rest.room c.loop-rest.parser) c.loop-rest.complete = rw none at c.loop-rest.invariant.reached in
     reached-end c.args.text.now _ _ _ c.finish-whole.result r (c.finish-whole.ensures.tree r.state r.represents)

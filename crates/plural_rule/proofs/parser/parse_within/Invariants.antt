@@ -1,4 +1,4 @@
-use Rattle.std.proofs.Common.{take, ◌+◌, ◌≤◌, length}
+use Rattle.std.proofs.Common.{◌+◌, ◌≤◌, length}
 use Rattle.plural_rule.specs.Internal.ParserState.{held}
 use Rattle.plural_rule.specs.Internal.Pending.{weight}
 use Rattle.plural_rule.proofs.ParserRun.{Reached}
@@ -6,9 +6,9 @@ use Rattle.plural_rule.proofs.parser.parse_within.Given as goal
 
 abbrev pub invariant-loop-rest : goal.invariant-loop-rest
 invariant-loop-rest g l = record {
-  reached : Reached l.fn.text l.rest (held (take l.count l.room) l.parts) l.complete;
-  weight : l.count + weight l.parts.waiting + length l.rest ≤ length l.fn.text;
-  count : length l.parts.waiting + length l.rest ≤ length l.fn.text;
+  reached : Reached l.fn.text l.rest (held l.room l.parser) l.complete;
+  weight : l.parser.len + weight l.parser.waiting + length l.rest ≤ length l.fn.text;
+  count : length l.parser.waiting + length l.rest ≤ length l.fn.text;
 }
 
 abbrev pub decreases-loop-rest : goal.decreases-loop-rest

@@ -6,5 +6,5 @@ use Rattle.plural_rule.proofs.rule.write_default.Goals as goal
 
 pub returns : goal.returns
 returns c =
-    rw (c.number.ensures, c.binary.ensures)
+    rw c.binary.ensures
     (first-three c.args.room.now (count_instruction 2) (number_instruction 1 1) (binary_instruction NotEqual) (omega (arith, c.told-room)))

@@ -1,0 +1,8 @@
+use Rattle.std.proofs.Common.{drop}
+use Rattle.plural_rule.specs.Program.{low_of}
+use Rattle.plural_rule.proofs.evaluator.act.Goals as goal
+
+pub returns-in-Some-pop-clause-next : goal.returns-in-Some-pop-clause-next
+returns-in-Some-pop-clause-next g c =
+    rw (c.in-Binary.is, c.in-Some-pop.ensures)
+    (c.apply.ensures c.args.count (low_of (drop c.args.next c.args.instructions.now)) c.args.steps.now)
