@@ -1,2 +1,8 @@
 pub mod JoiningLemmas
+pub mod ListingLemmas
+pub mod SearchLemmas
+pub mod CompletingLemmas
+pub mod LayingOutLemmas
+pub mod RisingLemmas
+pub mod ExpandedFileLemmas
 pub mod Examples

@@ -2,8 +2,13 @@
 use Rattle.std.specs.Prelude.{◌≡◌, ℕ, List, [], ◌∷◌, None, Some, codes}
 use Rattle.mo_file.specs.declared.byte_order.Order.{Order}
 use Rattle.mo_file.specs.declared.byte_order.Order.TheVariants.{Little, Big}
+use Rattle.mo_file.specs.Layout.{LayoutFits}
+use Rattle.mo_file.specs.Message.{Message}
+use Rattle.mo_file.specs.MoFile.{IsMoFile}
 use Rattle.mo_expand.specs.declared.platform_text.PlatformText.{PlatformText}
 use Rattle.mo_expand.specs.Expanded.{system_message}
+use Rattle.mo_expand.specs.ExpandedFile.{expanded_file}
+use Rattle.mo_expand.specs.Merging.{expanded_messages}
 
 -- a file with no message but a system-dependent one: its strings are `%`, the text for PRIu64, and ` kB` or ` ko`
 abbrev pub example_file : Order → List ℕ
@@ -27,6 +32,14 @@ ExampleIsCompleted =
     → (system_message order (example_file order) (t ∷ []) 0
     ≡ Some (record { original = codes "%lu kB"; translation = codes "%lu ko" }))
     × (system_message order (example_file order) (t ∷ []) 1 ≡ None)
+
+-- an expanded file that 32 bits reach is valid, and its messages are those
+abbrev pub ExpandedFileIsMoFile : Type 0
+ExpandedFileIsMoFile =
+    (order : Order) (bytes : List ℕ) (texts : List PlatformText) (messages : List Message)
+    → IsMoFile order bytes messages
+    → LayoutFits order (expanded_messages order bytes texts messages)
+    → IsMoFile order (expanded_file order bytes texts messages) (expanded_messages order bytes texts messages)
 
 -- a platform that lacks it hasn't
 abbrev pub ExampleNeedsItsText : Type 0

@@ -37,7 +37,7 @@ pub fn system_count(bytes: &[u8]) -> u32
 }
 
 /// The same in a byte order that is known.
-fn count_in(order: Order, bytes: &[u8]) -> u32
+pub(crate) fn count_in(order: Order, bytes: &[u8]) -> u32
     ensures count { result ≡ system_count order bytes.now }
     ensures long { 0 < result → 48 ≤ length bytes.now }
 {
@@ -74,7 +74,7 @@ pub fn expand<'b>(
 }
 
 /// The same in a byte order that is known.
-fn expand_in<'b>(
+pub(crate) fn expand_in<'b>(
     order: Order,
     bytes: &'b [u8],
     texts: &[PlatformText<'b>],

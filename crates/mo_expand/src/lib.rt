@@ -8,12 +8,18 @@
 //! The modules in reading order: `platform_text`, `segments`, `joining`, `expanding`, `laws`.
 #![tactic(auto)]
 
+mod completing;
+mod expanded_file;
 mod expanding;
 mod joining;
 mod laws;
+mod laying_out;
+mod listing;
 mod platform_text;
 mod segments;
 
+pub use expanded_file::{ExpandedFile, expand_file};
 pub use expanding::{Expanded, expand, system_count};
-pub use laws::{example_is_completed, example_needs_its_text};
+pub use laws::{example_is_completed, example_needs_its_text, expanded_file_is_mo_file};
+pub use listing::ListedMessage;
 pub use platform_text::PlatformText;

@@ -1,0 +1,22 @@
+-- An expanded file is valid.
+use Rattle.std.proofs.Common.{ℕ, ◌+◌, List, refl, subst, sym}
+use Rattle.mo_file.specs.Key.{AreRising, keys}
+use Rattle.mo_file.specs.Message.{Message}
+use Rattle.mo_file.specs.MoFile.{IsMoFile}
+use Rattle.mo_file.specs.declared.byte_order.Order.{Order}
+use Rattle.mo_file.specs.declared.fault.MoError.TheVariants.{NotSorted}
+use Rattle.mo_file.proofs.ViewLemmas.{AreRising-messages_of}
+use Rattle.mo_file.proofs.RoundTripLemmas.{layout_is_mo_file}
+use Rattle.mo_expand.specs.Laws.{ExpandedFileIsMoFile}
+use Rattle.mo_expand.specs.Merging.{system_messages, with_messages}
+use Rattle.mo_expand.proofs.RisingLemmas.{rising-with_messages}
+
+pub rising : (order : Order) (bytes : List ℕ) (messages : List Message) → IsMoFile order bytes messages → AreRising (keys messages)
+rising order bytes messages is =
+    let P : List Message → Type 0 = λ ms. AreRising (keys ms) in
+    subst P (sym is.lists) (AreRising-messages_of order bytes (λ i inside not. is.faultless (NotSorted (i + 1)) (order, is.shows, (i, refl, inside, not))))
+
+pub expanded_file_is_mo_file : ExpandedFileIsMoFile
+expanded_file_is_mo_file order bytes texts messages is fits =
+    layout_is_mo_file order (with_messages messages (system_messages order bytes texts))
+    (rising-with_messages messages (system_messages order bytes texts) (rising order bytes messages is)) fits

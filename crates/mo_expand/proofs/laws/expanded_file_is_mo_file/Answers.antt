@@ -1,0 +1,5 @@
+use Rattle.mo_expand.proofs.ExpandedFileLemmas.{expanded_file_is_mo_file}
+use Rattle.mo_expand.proofs.laws.expanded_file_is_mo_file.Goals as goal
+
+pub returns : goal.returns
+returns c = expanded_file_is_mo_file

@@ -1,0 +1,90 @@
+//! A file with system-dependent messages, expanded into one that has none.
+
+ghost use Rattle.std.specs.Prelude.{◌≡◌, List, length};
+ghost use Rattle.mo_file.specs.declared.byte_order.Order.{Order};
+ghost use Rattle.mo_file.specs.Message.{Message};
+ghost use Rattle.mo_file.specs.MoFile.{IsMoFile};
+ghost use Rattle.mo_expand.specs.declared.expanded_file.ExpandedFile.TheVariants.{NotMoFile};
+ghost use Rattle.mo_expand.specs.ExpandedFile.{IsExpandedFile};
+
+use crate::completing::add_completed;
+use crate::expanding::count_in;
+use crate::laying_out::{lay_out, layout_len};
+use crate::listing::{ListedMessage, list_own};
+use crate::platform_text::PlatformText;
+use mo_file::{Meter, MoView, Order, one_message_list};
+
+/// What has become of a file that was to be expanded.
+#[derive(Clone, Copy, Debug)]
+pub enum ExpandedFile {
+    /// The expanded file is so long, and is there where it fits.
+    Len(u32),
+    /// The bytes aren't an MO file.
+    NotMoFile,
+    /// The list is too short for the messages.
+    ListTooShort,
+    /// The room is too short for the strings of the system-dependent messages.
+    RoomTooShort,
+    /// The expanded file would have more than 4,294,967,295 bytes.
+    TooLarge,
+}
+
+/// Expands an MO file into one without system-dependent messages: it has those of the file, and of
+/// the system-dependent ones, completed by the texts of a platform, those whose keys the file lacks,
+/// in rising order of their keys. The new file is written from the beginning of `file` on, in the
+/// byte order of the old one. The bytes may be any; `list` and `room` are for the messages and for
+/// the strings that are completed.
+pub fn expand_file<'b>(
+    bytes: &'b [u8],
+    texts: &[PlatformText<'b>],
+    list: &mut [ListedMessage<'b>],
+    room: &'b mut [u8],
+    file: &mut [u8],
+) -> ExpandedFile
+    ensures len { length file.new ≡ length file.old }
+    ensures file { (order : Order) (messages : List Message) → IsMoFile order bytes.now messages
+        → IsExpandedFile order bytes.now texts.now messages (length list.old) (length room.old) file.old file.new result }
+    ensures no_file { ((order : Order) (messages : List Message) → ¬ IsMoFile order bytes.now messages)
+        → (result ≡ NotMoFile) × (file.new ≡ file.old) }
+{
+    one_message_list();
+    let Some(order) = Order::of_file(bytes) else {
+        return ExpandedFile::NotMoFile;
+    };
+    match MoView::open(bytes, &mut Meter::new()) {
+        Ok(view) => expand_view(order, &view, texts, list, room, file),
+        Err(_) => ExpandedFile::NotMoFile,
+    }
+}
+
+/// The same for a file that was opened, in its byte order.
+fn expand_view<'b>(
+    order: Order,
+    view: &MoView<'b>,
+    texts: &[PlatformText<'b>],
+    list: &mut [ListedMessage<'b>],
+    room: &'b mut [u8],
+    file: &mut [u8],
+) -> ExpandedFile
+    ensures len { length file.new ≡ length file.old }
+    ensures file { IsExpandedFile order view.now.bytes texts.now view.now.messages
+        (length list.old) (length room.old) file.old file.new result }
+{
+    let bytes = view.bytes();
+    let own = view.len() as usize;
+    if list.len() < own + count_in(order, bytes) as usize {
+        return ExpandedFile::ListTooShort;
+    }
+    list_own(view, list);
+    let Some(count) = add_completed(order, bytes, texts, list, own, room) else {
+        return ExpandedFile::RoomTooShort;
+    };
+    let len = layout_len(&list[..count]);
+    if len > u64::from(u32::MAX) {
+        return ExpandedFile::TooLarge;
+    }
+    if len <= file.len() as u64 {
+        lay_out(order, file, &list[..count]);
+    }
+    ExpandedFile::Len(len as u32)
+}
