@@ -1,8 +1,9 @@
 -- Lemmas on what writers and readers do piece by piece.
-use Rattle.std.proofs.Common.{◌≡◌, ℕ, ◌+◌, ◌-◌, ◌<◌, ◌≤◌, List, [], ◌++◌, length, take, drop, Option, Some, None, IfSome, Result, Ok, Err, OnErr, sym, ap, subst, ◌∙◌, append-nil, arith, length-take-le}
-use Rattle.std.proofs.lemmas.List.{take_rest, take_all, take_at}
+use Rattle.std.proofs.Common.{◌≡◌, ℕ, zero, suc, ◌+◌, ◌-◌, ◌<◌, ◌≤◌, List, [], ◌++◌, length, take, drop, Option, Some, None, IfSome, Result, Ok, Err, OnErr, sym, ap, subst, ◌∙◌, refl, ◌∷◌, append-nil, arith, length-take-le}
+use Rattle.std.proofs.lemmas.List.{append_assoc, take_rest, take_all, take_at}
 use Rattle.std.proofs.Math.Seq.{take-add}
 use Rattle.std.proofs.KnownBytes.{Appends-trans, Consumes-trans}
+use Rattle.devices.specs.Device.{Gives, GivesFirst}
 use Rattle.std.specs.Io.KnownBytes.{Appends, Consumes, IsAtEnd}
 
 -- the first n + k of xs: the first n, then the first k of what `&xs[n..]` is
@@ -44,3 +45,26 @@ on-err (Err e) P p = p
 pub at-err : {T E : Type 0} (r : Result T E) (e : E) (P : Type 0) → r ≡ Err e → OnErr r P → P
 at-err (Ok x) e P is h = cc
 at-err (Err d) e P is h = h
+
+-- the first call is given the whole piece
+Gives-one : (xs : List (List ℕ)) (b c : Option (List (List ℕ))) (piece given : List ℕ) → given ≡ piece → b ≡ Some xs
+    → Gives b c given → GivesFirst (Some xs) c piece
+Gives-one xs None c piece given whole same is = cc
+Gives-one xs (Some ys) None piece given whole same is = absurd is
+Gives-one xs (Some ys) (Some zs) piece given whole same is =
+    let before : ys ≡ xs = cc in
+    ([], is ∙ ap (λ l. l ++ given ∷ []) before ∙ ap (λ p. xs ++ p ∷ []) whole)
+
+-- the call for what is left of a piece after its first n bytes: the first such call is given the whole piece
+pub Gives-next : (a b c : Option (List (List ℕ))) (n : ℕ) (piece : List ℕ) → (n ≡ 0 → b ≡ a) → (0 < n → GivesFirst a b piece)
+    → Gives b c (take (length piece - n) (drop n piece)) → GivesFirst a c piece
+Gives-next None b c n piece untouched first given = tt
+Gives-next (Some xs) b c zero piece untouched first given =
+    Gives-one xs b c piece _ (take_rest piece zero) (untouched refl) given
+Gives-next (Some xs) None c (suc n) piece untouched first given = absurd (first (omega arith))
+Gives-next (Some xs) (Some ys) None (suc n) piece untouched first given = absurd given
+Gives-next (Some xs) (Some ys) (Some zs) (suc n) piece untouched first given =
+    let before = first (omega arith) in (
+      before.0 ++ take (length piece - suc n) (drop (suc n) piece) ∷ [],
+      given ∙ ap (λ l. l ++ take (length piece - suc n) (drop (suc n) piece) ∷ []) before.1 ∙ append_assoc xs _ _,
+    )

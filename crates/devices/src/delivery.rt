@@ -1,7 +1,7 @@
 //! Writing a whole piece.
-ghost use Rattle.std.specs.Prelude.{◌≡◌, [], ◌+◌, ◌-◌, ◌^◌, ◌<◌, OnOk, OnErr, Err};
+ghost use Rattle.std.specs.Prelude.{◌≡◌, ◌≢◌, [], ◌+◌, ◌-◌, ◌^◌, ◌<◌, OnOk, OnErr, Err};
 ghost use Rattle.std.specs.Io.KnownBytes.{Appends};
-ghost use Rattle.devices.specs.Device.{AppendsPrefix};
+ghost use Rattle.devices.specs.Device.{AppendsPrefix, GivesFirst};
 
 use crate::device::ByteOut;
 use crate::fault::ToolFault;
@@ -19,6 +19,9 @@ pub fn put_all<W: ByteOut>(writer: &mut W, piece: &[u8]) -> Result<(), ToolFault
 
     // A piece without a byte is written without a call.
     ensures nothing { piece.now ≡ [] → writer.new ≡ writer.old }
+
+    // Another is given whole to the first call.
+    ensures first { piece.now ≢ [] → GivesFirst (W.given writer.old) (W.given writer.new) piece.now }
 {
     let mut at = 0;
     while at < piece.len() {

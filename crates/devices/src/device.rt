@@ -1,9 +1,9 @@
 //! Readers and writers that count their calls and failures.
 ghost use Rattle.std.specs.Prelude.{◌≡◌, ℕ, ◌+◌, ◌-◌, ◌^◌, ◌<◌, List};
-ghost use Rattle.std.specs.Prelude.{Option};
+ghost use Rattle.std.specs.Prelude.{None, Option};
 ghost use Rattle.std.specs.Io.{ReadsAtMost, WritesAtMost};
 ghost use Rattle.std.specs.Io.KnownBytes.{ReadConsumes, WriteAppends};
-ghost use Rattle.devices.specs.Device.{failure_of_read, failure_of_write};
+ghost use Rattle.devices.specs.Device.{Gives, failure_of_read, failure_of_write};
 ghost use Rattle.devices.specs.Counted.{counted_inner, counted_calls, counted_failures};
 
 use std::io::{self, Read, Write};
@@ -38,13 +38,17 @@ pub trait ByteOut {
     // How many calls failed.
     ghost failures: { Self → ℕ };
 
+    // The pieces that calls were given so far, where they are known.
+    ghost given: { Self → Option (List (List ℕ)) };
+
     /// Writes as `Write::write` does: `Ok(n)` took the first n bytes of `piece`. A call that takes
     /// no byte of a piece that isn't empty counts as one that failed.
     fn put(&mut self, piece: &[u8]) -> io::Result<usize>
         requires { failures self.old < 2 ^ 64 - 1 }
         ensures bound { WritesAtMost result piece.now }
         ensures bytes { WriteAppends (contents self.old) (contents self.new) result piece.now }
-        ensures fails { failures self.new ≡ failures self.old + failure_of_write result piece.now };
+        ensures fails { failures self.new ≡ failures self.old + failure_of_write result piece.now }
+        ensures given { Gives (given self.old) (given self.new) piece.now };
 }
 
 /// A reader with counts of its calls and of those that failed, or a writer with a count of the
@@ -99,6 +103,8 @@ impl<W: Write> ByteOut for Counted<W> {
     ghost contents = { λ w. W.contents (counted_inner w) };
 
     ghost failures = { λ w. counted_failures w };
+
+    ghost given = { λ _. None };
 
     fn put(&mut self, piece: &[u8]) -> io::Result<usize> {
         let outcome = self.inner.write(piece);

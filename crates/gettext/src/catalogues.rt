@@ -1,5 +1,5 @@
 //! The compiled catalogues of a text domain.
-ghost use Rattle.std.specs.Prelude.{◌≡◌, ◌-◌, ◌^◌, ◌<◌, IfOk, OnOk, length, map, option_map, take};
+ghost use Rattle.std.specs.Prelude.{◌≡◌, ◌-◌, ◌^◌, ◌<◌, IfOk, IfSome, OnErr, OnOk, length, map, option_map, take};
 ghost use Rattle.std.specs.Option.{option_copied};
 ghost use Rattle.gettext.specs.Catalogues.{AreCatalogues, AreFound, AsksAt, AsksPaths, IsCatalogueAt, catalogue_file, catalogue_files};
 ghost use Rattle.runs.specs.NamedFile.{named_files};
@@ -62,6 +62,9 @@ pub fn read_catalogues<S: InputSource>(
         (map (λ path. path.items) paths.now) (catalogue_files found.items)) }
     ensures asked { OnOk result (AsksPaths (S.asked source.old) (map (λ path. path.items) paths.now)
         (S.asked source.new)) }
+
+    // The catalogue that was asked for last isn't one that can't be read: that is skipped.
+    ensures memory { OnErr result (S.refused source.new → ⊥) }
 {
     let mut found = Vec::new(alloc);
     for path in paths {
@@ -81,6 +84,8 @@ fn read_catalogue<S: InputSource>(
 ) -> Result<Option<CatalogueFile>, AllocError>
     ensures catalogue { IfOk result (λ found. IsCatalogueAt S.file path.now (option_map catalogue_file found)) }
     ensures asked { AsksAt (S.asked source.old) (S.asked source.new) path.now }
+    ensures found { IfOk result (λ found. IfSome found (λ _. S.refused source.new → ⊥)) }
+    ensures memory { OnErr result (S.refused source.new → ⊥) }
 {
     let Ok(name) = str::from_utf8(path) else {
         return Ok(None);

@@ -34,6 +34,8 @@ impl<'r, R: Files + Input> InputSource for System<'r, R> {
 
     ghost asked = { λ _. None };
 
+    ghost refused = { λ _. ⊥ };
+
     fn read_file(&mut self, alloc: Global, name: &str) -> Result<Vec<u8>, InputFault> {
         read_named(alloc, self.0, name)
     }

@@ -118,6 +118,6 @@ fn own_tool(tool: Tool) -> po_tools::Tool {
 fn report_fault(rt: &HostRuntime, tool: Option<Tool>, fault: ProgramFault<'_>) -> Ending {
     let mut errors = Counted::new(rt.stderr());
     let name = tool.map(|tool| tool.name());
-    let _ = runs::report_fault(rt.alloc(), &mut errors, name, fault);
+    let _ = runs::report_fault(&mut errors, name, fault);
     Ending::Refused
 }

@@ -1,5 +1,5 @@
 //! The inputs of a tool, read in the order of the command line.
-ghost use Rattle.std.specs.Prelude.{◌≡◌, ◌≢◌, ◌⊎◌, ◌^◌, ◌+◌, ◌<◌, ◌≤◌, ◌∷◌, [], take, Err, IfErr, IfSome, IsErrOf, OnOk, map, option_map, false, None, Some, MatchOption, MatchResult, IfOk};
+ghost use Rattle.std.specs.Prelude.{◌≡◌, ◌≢◌, ◌⊎◌, ◌^◌, ◌+◌, ◌<◌, ◌≤◌, ◌∷◌, [], take, Err, IfErr, IfSome, IsErrOf, OnErr, OnOk, map, option_map, false, None, Some, MatchOption, MatchResult, IfOk};
 ghost use Rattle.std.specs.Io.KnownBytes.{Consumes};
 ghost use Rattle.runs.specs.Inputs.{AreInputs, Asks, AsksFirst, IsInputFault, ReadsAs, asked_arguments, asked_by, asked_for, gives, refuses, named_inputs, input_fault_text};
 ghost use Rattle.runs.specs.NamedFile.{named_files};
@@ -36,17 +36,24 @@ pub trait InputSource {
     // What it was asked for so far, where that is known.
     ghost asked: { Self → Option (List Asked) };
 
+    // The input that it was asked for last can't be opened or read.
+    ghost refused: { Self → Type 0 };
+
     /// The bytes of the file of this name.
     fn read_file(&mut self, alloc: Global, name: &str) -> Result<Vec<u8>, InputFault>
         ensures reading { MatchResult result (λ bytes. file name.now (gives bytes.items))
             (λ why. (why ≡ InputFault.OutOfMemory) ⊎ file name.now (refuses why)) }
-        ensures asked { Asks (asked self.old) (asked self.new) (file_of name.now ∷ []) };
+        ensures asked { Asks (asked self.old) (asked self.new) (file_of name.now ∷ []) }
+        ensures refused { MatchResult result (λ _. refused self.new → ⊥)
+            (λ why. why ≡ InputFault.OutOfMemory → refused self.new → ⊥) };
 
     /// The bytes of standard input.
     fn read_standard(&mut self, alloc: Global) -> Result<Vec<u8>, InputFault>
         ensures reading { MatchResult result (λ bytes. standard (gives bytes.items))
             (λ why. (why ≡ InputFault.OutOfMemory) ⊎ standard (refuses why)) }
-        ensures asked { Asks (asked self.old) (asked self.new) (standard_input ∷ []) };
+        ensures asked { Asks (asked self.old) (asked self.new) (standard_input ∷ []) }
+        ensures refused { MatchResult result (λ _. refused self.new → ⊥)
+            (λ why. why ≡ InputFault.OutOfMemory → refused self.new → ⊥) };
 }
 
 /// An input with its name in fault lines.
@@ -87,6 +94,9 @@ impl<'a> Inputs<'a> {
         ensures asked_read { IfOk result (λ inputs. Asks (S.asked source.old) (S.asked source.new)
             (asked_by false (asked_arguments (map (λ argument. argument.now) arguments.now)
             (named_inputs inputs.texts.items) (option_map program_text inputs.fault)))) }
+
+        // One that can't be read is never the reason.
+        ensures memory { OnErr result (S.refused source.new → S.refused source.old) }
     {
         let mut texts = Vec::new(alloc);
         let mut is_stdin_read = false;
@@ -129,11 +139,17 @@ pub fn read_one<'a, S: InputSource>(
         ⊎ IsInputFault S.file S.standard argument.now (program_text reported)) }
     ensures asked { Asks (S.asked source.old) (S.asked source.new)
         (asked_for argument.now (is_standard argument.now) false) }
+
+    // It isn't called out of memory where it can't be read.
+    ensures memory { IsErrOf result ProgramFault.OutOfMemory → S.refused source.new → ⊥ }
 {
-    read_argument(alloc, source, argument, is_standard(argument), false).map_err(|why| fault_of(
-        shown_name(argument),
-        why,
-    ).unwrap_or(ProgramFault::OutOfMemory))
+    match read_argument(alloc, source, argument, is_standard(argument), false) {
+        Ok(bytes) => Ok(bytes),
+        Err(why) => match fault_of(shown_name(argument), why) {
+            Some(fault) => Err(fault),
+            None => Err(ProgramFault::OutOfMemory),
+        },
+    }
 }
 
 /// The bytes that are left of an open file or of standard input, but no more than 2,147,483,648.
@@ -182,6 +198,8 @@ fn read_argument<S: InputSource>(
         ⊎ ReadsAs S.file S.standard argument.now standard is_stdin_read (refuses why)) }
     ensures asked { Asks (S.asked source.old) (S.asked source.new)
         (asked_for argument.now standard is_stdin_read) }
+    ensures refused { MatchResult result (λ _. S.refused source.new → S.refused source.old)
+        (λ why. why ≡ InputFault.OutOfMemory → S.refused source.new → ⊥) }
 {
     match (standard, is_stdin_read) {
         (false, _) => source.read_file(alloc, argument),
@@ -196,9 +214,10 @@ fn ended<'a>(
     argument: &'a str,
     why: InputFault,
 ) -> Result<Inputs<'a>, AllocError>
-    ensures { IfOk result (λ inputs. (inputs.texts.items ≡ texts.entry.items)
+    ensures inputs { IfOk result (λ inputs. (inputs.texts.items ≡ texts.entry.items)
         × (option_map program_text inputs.fault ≡ Some (input_fault_text (shown_name argument.now) why))
         × (why ≢ InputFault.OutOfMemory)) }
+    ensures memory { OnErr result (why ≡ InputFault.OutOfMemory) }
 {
     let fault = Some(fault_of(shown_name(argument), why).ok_or(AllocError)?);
     Ok(Inputs { texts, fault })
@@ -208,7 +227,8 @@ fn ended<'a>(
 /// input.
 fn fault_of(name: &str, why: InputFault) -> Option<ProgramFault<'_>>
     ensures { MatchOption result (why ≡ InputFault.OutOfMemory)
-        (λ fault. (why ≢ InputFault.OutOfMemory) × (program_text fault ≡ input_fault_text name.now why)) }
+        (λ fault. (why ≢ InputFault.OutOfMemory) × (fault ≢ ProgramFault.OutOfMemory)
+        × (program_text fault ≡ input_fault_text name.now why)) }
 {
     match why {
         InputFault::CannotOpen => Some(ProgramFault::CannotOpen(name)),

@@ -1,13 +1,15 @@
 //! Faults of the program itself, and the lines that report them.
-ghost use Rattle.std.specs.Prelude.{◌≡◌, ◌+◌, ◌^◌, ◌<◌, ◌++◌, IfOk, OnOk, OnErr, Err};
+ghost use Rattle.std.specs.Prelude.{◌≡◌, ◌+◌, ◌^◌, ◌<◌, ◌≤◌, ◌++◌, length, IfOk, OnOk, OnErr, Err};
 ghost use Rattle.std.specs.Io.KnownBytes.{Appends};
 ghost use Rattle.std.specs.Option.{option_copied};
+ghost use Rattle.devices.specs.Device.{GivesFirst};
 ghost use Rattle.runs.specs.ProgramFaults.{input_fault, program_line, program_text, stdin_text, tool_prefix};
 ghost use Rattle.runs.specs.declared.program_fault.ProgramFault.TheVariants.{OutOfMemory};
 
 use crate::run::STDIN_NAME;
+use arrayvec::{ArrayVec, CapacityError};
 use devices::{ByteOut, ToolFault, put_all};
-use std::alloc::{AllocError, AllocFailed, Global};
+use std::alloc::{AllocError, AllocFailed};
 use thiserror::Error;
 
 /// Why a tool gave no answer of its own.
@@ -74,11 +76,14 @@ impl<T: Drop> From<AllocFailed<T>> for ProgramFault<'_> {
     }
 }
 
-/// Writes the line of a fault after `pokit TOOL: `, or after `pokit: ` where no tool is known, all
-/// at once, or part by part where an allocation failed. Returns `WriteFault` where a call of the
-/// writer failed or took no byte.
+/// A fault line that is written at once: 4,096 bytes at most, as many as a pipe takes without a part of
+/// another process's among them.
+type Line = ArrayVec<u8, 4096>;
+
+/// Writes the line of a fault after `pokit TOOL: `, or after `pokit: ` where no tool is known, at once,
+/// or part by part where it has more than 4,096 bytes. Nothing is allocated. Returns `WriteFault` where
+/// a call of the writer failed or took no byte.
 pub fn report_fault<E: ByteOut>(
-    alloc: Global,
     err: &mut E,
     tool: Option<&str>,
     fault: ProgramFault<'_>,
@@ -89,38 +94,59 @@ pub fn report_fault<E: ByteOut>(
     ensures fault { OnErr result (result ≡ Err ToolFault.WriteFault) }
     ensures no_failure { OnOk result (E.failures err.new ≡ E.failures err.old) }
     ensures cause { OnErr result (E.failures err.new ≡ E.failures err.old + 1) }
+
+    // A line that isn't longer is given whole to the first call.
+    ensures at_once { length (program_line (option_copied tool.entry) fault.entry) ≤ 4096
+        → GivesFirst (E.given err.old) (E.given err.new) (program_line (option_copied tool.entry) fault.entry) }
 {
-    match line_of(alloc, tool, fault) {
+    match line_of(tool, fault) {
         Ok(line) => put_all(err, &line),
         Err(_) => put_parts(err, tool, fault),
     }
 }
 
-/// The line of a fault.
-fn line_of(
-    alloc: Global,
-    tool: Option<&str>,
-    fault: ProgramFault<'_>,
-) -> Result<Vec<u8>, AllocError>
-    ensures { IfOk result (λ line. line.items ≡ program_line (option_copied tool.entry) fault.entry) }
+/// The line of a fault, where it isn't longer than a `Line`.
+fn line_of(tool: Option<&str>, fault: ProgramFault<'_>) -> Result<Line, CapacityError>
+    ensures line { IfOk result (λ line. line.items ≡ program_line (option_copied tool.entry) fault.entry) }
+    ensures long { OnErr result (4096 < length (program_line (option_copied tool.entry) fault.entry)) }
 {
-    let mut line = Vec::new(alloc);
+    let (file, text) = parts_of(fault);
+    let mut line = Line::new();
     push_tool(&mut line, tool)?;
-    push_text(&mut line, fault)?;
-    line.extend_from_slice(b"\n")?;
+    push_both(&mut line, file, text)?;
+    push(&mut line, "\n")?;
     Ok(line)
 }
 
 /// Appends which tool reports a fault.
-fn push_tool(line: &mut Vec<u8>, tool: Option<&str>) -> Result<(), AllocError>
-    ensures { OnOk result (line.new.items ≡ line.old.items ++ tool_prefix (option_copied tool.entry)) }
+fn push_tool(line: &mut Line, tool: Option<&str>) -> Result<(), CapacityError>
+    ensures ok { OnOk result (line.new.items ≡ line.old.items ++ tool_prefix (option_copied tool.entry)) }
+    ensures long { OnErr result (4096 < length (line.old.items ++ tool_prefix (option_copied tool.entry))) }
 {
-    let Some(tool) = tool else {
-        return line.extend_from_slice(b"pokit: ");
-    };
-    line.extend_from_slice(b"pokit ")?;
-    line.extend_from_slice(tool.as_bytes())?;
-    line.extend_from_slice(b": ")
+    match tool {
+        None => push(line, "pokit: "),
+        Some(tool) => {
+            push(line, "pokit ")?;
+            push_both(line, tool, ": ")
+        }
+    }
+}
+
+/// Appends one text and then another.
+fn push_both(line: &mut Line, first: &str, second: &str) -> Result<(), CapacityError>
+    ensures ok { OnOk result (line.new.items ≡ line.old.items ++ (first.now ++ second.now)) }
+    ensures long { OnErr result (4096 < length (line.old.items ++ (first.now ++ second.now))) }
+{
+    push(line, first)?;
+    push(line, second)
+}
+
+/// Appends a text.
+fn push(line: &mut Line, text: &str) -> Result<(), CapacityError>
+    ensures ok { OnOk result (line.new.items ≡ line.old.items ++ text.now) }
+    ensures long { OnErr result (4096 < length (line.old.items ++ text.now)) }
+{
+    line.try_extend_from_slice(text.as_bytes())
 }
 
 /// The name of a file, where a fault has one, and what is wrong.
@@ -138,16 +164,7 @@ fn parts_of<'a>(fault: ProgramFault<'a>) -> (&'a str, &'a str)
     }
 }
 
-/// Appends what is wrong.
-fn push_text(line: &mut Vec<u8>, fault: ProgramFault<'_>) -> Result<(), AllocError>
-    ensures { OnOk result (line.new.items ≡ line.old.items ++ program_text fault.entry) }
-{
-    let (file, text) = parts_of(fault);
-    line.extend_from_slice(file.as_bytes())?;
-    line.extend_from_slice(text.as_bytes())
-}
-
-/// Writes the line of a fault part by part, without an allocation.
+/// Writes the line of a fault part by part.
 fn put_parts<E: ByteOut>(
     err: &mut E,
     tool: Option<&str>,

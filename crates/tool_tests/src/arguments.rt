@@ -49,7 +49,7 @@ const FAULTS: &[(Option<&str>, ProgramFault<'static>, &[u8])] = &[
 /// Whether a fault is reported by this line.
 fn is_reported(alloc: Global, tool: Option<&str>, fault: ProgramFault<'_>, line: &[u8]) -> bool {
     let mut err = Counted::new(Vec::new(alloc));
-    let reported = report_fault(alloc, &mut err, tool, fault);
+    let reported = report_fault(&mut err, tool, fault);
     let gone_out = err.into_inner();
     reported.is_ok() && gone_out.as_slice() == line
 }
@@ -91,14 +91,14 @@ fn reports_faults_in_lines(rt: HostRuntime) {
 fn reports_a_fault_in_one_write(rt: HostRuntime) {
     let mut once = Counted::new(Failing::new(Vec::new(rt.alloc()), 2, 100));
     let fault = ProgramFault::CannotOpen("a.po");
-    let reported = report_fault(rt.alloc(), &mut once, Some("msgfmt"), fault);
+    let reported = report_fault(&mut once, Some("msgfmt"), fault);
     assert!(rt; reported.is_ok());
 }
 
 #[test]
 fn reports_a_writer_that_fails(rt: HostRuntime) {
     let mut full = Counted::new(Failing::new(Vec::new(rt.alloc()), 1, 1));
-    let reported = report_fault(rt.alloc(), &mut full, None, ProgramFault::NotText);
+    let reported = report_fault(&mut full, None, ProgramFault::NotText);
     assert!(rt; reported == Err(ToolFault::WriteFault));
 }
 

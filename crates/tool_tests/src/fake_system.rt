@@ -78,6 +78,8 @@ impl InputSource for FakeSource {
 
     ghost asked = { λ _. None };
 
+    ghost refused = { λ _. ⊥ };
+
     fn read_file(&mut self, alloc: Global, name: &str) -> Result<Vec<u8>, InputFault> {
         if name == "absent" {
             Err(InputFault::CannotOpen)

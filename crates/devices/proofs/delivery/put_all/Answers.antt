@@ -1,7 +1,7 @@
 use Rattle.std.proofs.Common.{◌≡◌, ◌≤◌, ◌-◌, length, take, drop, ap, arith, length-drop}
 use Rattle.std.proofs.lemmas.Bool.Decides.{nat_tests}
 use Rattle.std.proofs.lemmas.List.{take_rest}
-use Rattle.devices.proofs.DeviceLemmas.{Appends-rest}
+use Rattle.devices.proofs.DeviceLemmas.{Appends-rest, Gives-next}
 use Rattle.devices.proofs.delivery.put_all.Goals as goal
 
 pub loop-at-preserved : goal.loop-at-preserved
@@ -11,5 +11,7 @@ loop-at-preserved g c =
       within = omega arith;
       written = Appends-rest _ _ _ c.loop-at.at c.in-Ok.taken c.args.piece.now c.loop-at.invariant.written c.in-Ok.ensures.bytes;
       nothing = λ empty. let none : length c.args.piece.now ≡ 0 = ap length empty in absurd (omega arith);
+      untouched = λ none. absurd (omega (arith, none, c.in-Ok.taken-test.1));
+      first = λ more. Gives-next _ _ _ c.loop-at.at c.args.piece.now c.loop-at.invariant.untouched c.loop-at.invariant.first c.put.ensures.given;
       no_failure = grind (arith, nat_tests, c.in-Ok.ensures.fails, c.in-Ok.taken-test.1);
     }

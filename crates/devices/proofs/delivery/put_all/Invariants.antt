@@ -1,5 +1,6 @@
-use Rattle.std.proofs.Common.{length, take, [], ◌-◌, ◌≡◌, ◌≤◌}
+use Rattle.std.proofs.Common.{length, take, [], ◌-◌, ◌≡◌, ◌<◌, ◌≤◌}
 use Rattle.std.specs.Io.KnownBytes.{Appends}
+use Rattle.devices.specs.Device.{GivesFirst}
 use Rattle.devices.proofs.delivery.put_all.Given as goal
 
 abbrev pub invariant-loop-at : goal.invariant-loop-at
@@ -7,6 +8,8 @@ invariant-loop-at g l = record {
   within : l.at ≤ length l.piece;
   written : Appends (g.W.ByteOut.contents l.fn.writer) (g.W.ByteOut.contents l.writer) (take l.at l.piece);
   nothing : l.piece ≡ [] → l.writer ≡ l.fn.writer;
+  untouched : l.at ≡ 0 → g.W.ByteOut.given l.writer ≡ g.W.ByteOut.given l.fn.writer;
+  first : 0 < l.at → GivesFirst (g.W.ByteOut.given l.fn.writer) (g.W.ByteOut.given l.writer) l.piece;
   no_failure : g.W.ByteOut.failures l.writer ≡ g.W.ByteOut.failures l.fn.writer;
 }
 

@@ -10,6 +10,7 @@ pub loop-argument-init : goal.loop-argument-init
 loop-argument-init g c = record {
   inputs = rw c.new-texts.ensures.items (Completes-none _ _ _);
   asked = AsksBefore-none _ _;
+  refused = λ r. r;
   count = rw c.new-texts.ensures.items refl;
 }
 
@@ -41,6 +42,7 @@ loop-argument-preserved g c =
       asked = subst AskedOnce seen
           (AsksBefore-more _ _ _ c.args.arguments.now c.loop-argument.argument-index _ c.loop-argument.is_stdin_read c.loop-argument-test.true c.loop-argument.invariant.asked
           (rw c.is_standard-standard.ensures at c.read_argument.ensures.asked));
+      refused = λ now. c.loop-argument.invariant.refused (c.in-Ok.ensures.refused now);
       count = ap length texts ∙ length-append (named_inputs c.loop-argument.texts.items) _ ∙ ap (λ n. n + 1) c.loop-argument.invariant.count;
     }
 
@@ -51,7 +53,7 @@ returns-in-Err-clause-inputs g c =
     rw (reported.0, reported.1)
     (Completes-unread _ _ c.args.arguments.now c.loop-argument.argument-index _ c.loop-argument.is_stdin_read (named_inputs c.loop-argument.texts.items) c.in-Err.why c.loop-argument-test.true
     (⊎_elim (λ memory. absurd (reported.2 memory)) (λ reads. rw c.is_standard-standard.ensures at reads) c.in-Err.ensures.reading) c.loop-argument.invariant.inputs))
-    c.ended.ensures
+    c.ended.ensures.inputs
 
 pub returns-in-Err-clause-asked : goal.returns-in-Err-clause-asked
 returns-in-Err-clause-asked g c =
@@ -73,4 +75,4 @@ returns-in-Err-clause-asked_read g c =
     (ap (λ texts. length (named_inputs texts)) reported.0 ∙ c.loop-argument.invariant.count)
     (AsksBefore-more _ _ _ c.args.arguments.now c.loop-argument.argument-index _ c.loop-argument.is_stdin_read c.loop-argument-test.true c.loop-argument.invariant.asked
     (rw c.is_standard-standard.ensures at c.read_argument.ensures.asked)))
-    c.ended.ensures
+    c.ended.ensures.inputs
