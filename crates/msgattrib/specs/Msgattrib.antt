@@ -1,5 +1,5 @@
 -- What msgattrib writes and reports (manual, "Invoking the msgattrib Program").
-use Rattle.std.specs.Prelude.{◌≡◌, ◌≢◌, ◌⊎◌, ℕ, List, map, codes}
+use Rattle.std.specs.Prelude.{◌≡◌, ◌≢◌, ◌⊎◌, ℕ, List, map, codes, refl}
 use Rattle.po_syntax.specs.declared.fault.PoError.{PoError}
 use Rattle.po_syntax.specs.declared.fault.PoFault.TheVariants.{Duplicate, OutOfMemory}
 use Rattle.po_entry.specs.TextEntry.{TextEntry}
@@ -15,6 +15,10 @@ use Rattle.text_runs.specs.TextRuns.{written_run}
 -- the line that reports a fault of a file
 abbrev pub error_line : List ℕ → PoError → List ℕ
 error_line name error = text_line (codes "msgattrib") name error
+
+-- the status of one that is refused is 1, and `written_status` says that of any other
+pub refused_status : (name : List ℕ) (error : PoError) → (refusal (error_line name error)).status ≡ 1
+refused_status name error = refl
 
 -- the text is refused for its first fault
 pub record IsRefused (name text : List ℕ) (run : RunView) : Type 0 where

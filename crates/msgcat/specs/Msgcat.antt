@@ -1,5 +1,5 @@
 -- What msgcat writes and reports (manual, "Invoking the msgcat Program").
-use Rattle.std.specs.Prelude.{◌≡◌, ◌≢◌, ◌⊎◌, ℕ, All, Contains, List, [], ◌∷◌, ◌++◌, codes}
+use Rattle.std.specs.Prelude.{◌≡◌, ◌≢◌, ◌⊎◌, ℕ, All, Contains, List, [], ◌∷◌, ◌++◌, codes, refl}
 use Rattle.std.specs.List.{AllZip}
 use Rattle.po_syntax.specs.declared.fault.PoError.{PoError}
 use Rattle.po_syntax.specs.declared.fault.PoFault.TheVariants.{ForeignCharset, OutOfMemory as NoMemory}
@@ -38,6 +38,10 @@ pub record IsFileFault (files : List NamedFile) (name : List ℕ) (error : PoErr
 -- the line that reports a fault of a file
 abbrev pub msgcat_line : List ℕ → PoError → List ℕ
 msgcat_line name error = text_line (codes "msgcat") name error
+
+-- the status of one that is refused is 1, and `written_status` says that of any other
+pub refused_status : (name : List ℕ) (error : PoError) → (refusal (msgcat_line name error)).status ≡ 1
+refused_status name error = refl
 
 -- a file isn't read, which is reported of the first such file
 pub record IsUnread (files : List NamedFile) (run : RunView) : Type 0 where

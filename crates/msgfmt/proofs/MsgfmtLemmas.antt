@@ -21,7 +21,7 @@ use Rattle.msgfmt.specs.declared.profile.CheckFault.TheVariants.{OutOfMemory}
 use Rattle.runs.specs.declared.program_fault.ProgramFault.{ProgramFault}
 use Rattle.runs.specs.declared.program_fault.ProgramFault.TheVariants.{OutOfMemory as OutOfMemory', WrongArguments}
 use Rattle.runs.specs.declared.run.Run.{Run}
-use Rattle.msgfmt.specs.Msgfmt.{AreChecked, NoneRefused, IsMsgfmtRun, AreNoneOrTooMany, IsRefused, check_line, compile_options, compiled_run, input_texts, join_line}
+use Rattle.msgfmt.specs.Msgfmt.{AreChecked, NoneRefused, IsMsgfmtRun, AreWrong, IsRefused, check_line, compile_options, compiled_run, input_texts, join_line}
 use Rattle.runs.specs.NamedFile.{NamedFile, named_file, named_files}
 use Rattle.msgfmt.specs.Profile.{Reported}
 use Rattle.runs.specs.Run.{RunView, refusal, run_view}
@@ -89,7 +89,7 @@ refused inputs o unchecked run none same (inr (inr done)) bad = absurd (bad (ap 
 -- what is reported where an input can't be read is reported of the inputs before it
 pub before-reported : (r : Result Run ProgramFault) (inputs others : List NamedFile) (o : MsgfmtOptions) (given : Option ProgramFault) (fault : ProgramFault) → others ≡ inputs → given ≡ Some fault
     → IfErr r (λ reported. (reported ≡ OutOfMemory') ⊎ ((reported ≡ fault) × NoneRefused others o))
-    → IfErr r (λ reported. (reported ≡ OutOfMemory') ⊎ ((reported ≡ WrongArguments) × AreNoneOrTooMany inputs) ⊎ ((given ≡ Some reported) × NoneRefused inputs o))
+    → IfErr r (λ reported. (reported ≡ OutOfMemory') ⊎ ((reported ≡ WrongArguments) × AreWrong inputs given) ⊎ ((given ≡ Some reported) × NoneRefused inputs o))
 before-reported (Ok run) inputs others o given fault same is h = tt
 before-reported (Err reported) inputs others o given fault same is h =
     ⊎_elim (λ memory. inl memory)

@@ -1,5 +1,5 @@
 -- What msgfmt writes and reports (manual, "Invoking the msgfmt Program").
-use Rattle.std.specs.Prelude.{◌≡◌, ◌≢◌, ◌⊎◌, ◌^◌, ◌≤◌, length, nat_lt, ◌==◌, ℕ, Bool, true, List, [], ◌∷◌, map}
+use Rattle.std.specs.Prelude.{◌≡◌, ◌≢◌, ◌⊎◌, ◌^◌, ◌≤◌, length, nat_lt, ◌==◌, ℕ, Bool, true, List, [], ◌∷◌, map, refl}
 use Rattle.std.specs.Prelude.{slice_get, Option, None, Some, codes, decimal, ◌++◌, if◌then◌else◌}
 use Rattle.std.specs.Option.{option_map_or}
 use Rattle.po_syntax.specs.declared.fault.PoFault.{PoFault}
@@ -89,6 +89,16 @@ compiled_run o compiled = record {
   status = 0;
 }
 
+-- the status is 0 of inputs that are compiled, and 1 where they aren't or fail the check
+pub compiled_status : (o : MsgfmtOptions) (compiled : Compiled) → (compiled_run o compiled).status ≡ 0
+compiled_status o compiled = refl
+
+pub refused_status : (inputs : List NamedFile) (error : JoinError) → (refusal (join_line inputs error)).status ≡ 1
+refused_status inputs error = refl
+
+pub failed_status : (inputs : List NamedFile) (fault : Reported) → (refusal (check_line inputs fault)).status ≡ 1
+failed_status inputs fault = refl
+
 -- The inputs aren't compiled, which is reported before any fault of the check. A failed allocation
 -- (`NoMemory`) makes no run: it is reported without a file.
 pub record IsRefused (inputs : List NamedFile) (o : MsgfmtOptions) (run : RunView) : Type 0 where
@@ -126,9 +136,10 @@ abbrev pub NoneRefused : List NamedFile → MsgfmtOptions → Type 0
 NoneRefused inputs o =
     (inputs ≡ []) ⊎ ((compiled : Compiled) × AreCompiled (compile_options o) (input_texts inputs) compiled)
 
--- the inputs are none, or 2^32 and more: no command line of msgfmt names so many
-abbrev pub AreNoneOrTooMany : List NamedFile → Type 0
-AreNoneOrTooMany inputs = (inputs ≡ []) ⊎ (2 ^ 32 ≤ length inputs)
+-- the arguments for the inputs are wrong: they name none, or 2^32 and more, which no command line of
+-- msgfmt does; where the first one can't be read, they name one
+abbrev pub AreWrong : {A : Type 0} → List NamedFile → Option A → Type 0
+AreWrong inputs unread = ((inputs ≡ []) × (unread ≡ None)) ⊎ (2 ^ 32 ≤ length inputs)
 
 -- what a run of msgfmt on one input with this name comes to
 abbrev pub IsMsgfmtRunOf : List ℕ → MsgfmtOptions → List ℕ → RunView → Type 0

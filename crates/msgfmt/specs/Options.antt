@@ -1,5 +1,5 @@
 -- What the options of a command line mean (manual, "Invoking the msgfmt Program").
-use Rattle.std.specs.Prelude.{◌≡◌, ℕ, Bool, if◌then◌else◌, List, Option, None, Some, codes}
+use Rattle.std.specs.Prelude.{◌≡◌, ℕ, Bool, if◌then◌else◌, List, Option, None, Some, codes, refl, [], ◌∷◌}
 use Rattle.std.specs.Str.{bytes_eq}
 use Rattle.mo_file.specs.declared.byte_order.Order.{Order}
 use Rattle.mo_file.specs.declared.byte_order.Order.TheVariants.{Big, Little}
@@ -23,3 +23,15 @@ pub record AreMsgfmtOptions (flag : List ℕ → Bool → Type 0)
   pub order : IsOrder text o.order
   pub statistics : flag (codes "statistics") o.statistics
   pub profile_check : flag (codes "profile-check") o.profile_check
+
+-- the output where `-o` isn't given: `messages.mo`, this project's own; and the bytes of this name
+abbrev pub default_output : List ℕ
+default_output = codes "messages.mo"
+
+pub default_output_is :
+    default_output ≡ 109 ∷ 101 ∷ 115 ∷ 115 ∷ 97 ∷ 103 ∷ 101 ∷ 115 ∷ 46 ∷ 109 ∷ 111 ∷ []
+default_output_is = refl
+
+-- the byte order is little-endian where none is named
+pub default_order : order_of None ≡ Little
+default_order = refl

@@ -1,7 +1,7 @@
 //! What the options of a command line mean for msgfmt.
 ghost use Rattle.std.specs.Prelude.{◌≡◌, codes};
 ghost use Rattle.std.specs.Option.{option_copied};
-ghost use Rattle.msgfmt.specs.Options.{AreMsgfmtOptions, order_of};
+ghost use Rattle.msgfmt.specs.Options.{AreMsgfmtOptions, default_output, order_of};
 ghost use Rattle.runs.specs.ArgumentValues.{IsTextOr};
 
 use mo_file::Order;
@@ -37,7 +37,7 @@ pub fn msgfmt_options_of<A: Arguments>(arguments: &A) -> MsgfmtOptions
 
 /// The argument for the output of `msgfmt`: that of `-o`, or `messages.mo`.
 pub fn msgfmt_output_of<A: Arguments>(arguments: &A) -> &str
-    ensures { IsTextOr (A.text arguments.now) (codes "output-file") (codes "messages.mo") result.now }
+    ensures { IsTextOr (A.text arguments.now) (codes "output-file") default_output result.now }
 {
     text_or(arguments, "output-file", DEFAULT_OUTPUT)
 }

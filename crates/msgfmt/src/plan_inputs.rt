@@ -1,6 +1,6 @@
 //! What msgfmt comes to with the inputs of a command line, also where one can't be read.
-ghost use Rattle.std.specs.Prelude.{◌≡◌, ◌≢◌, ◌⊎◌, ◌^◌, ◌<◌, [], None, Some, length, IfOk, IfErr};
-ghost use Rattle.msgfmt.specs.Msgfmt.{NoneRefused, AreNoneOrTooMany, IsMsgfmtRun, IsRefused};
+ghost use Rattle.std.specs.Prelude.{◌≡◌, ◌≢◌, ◌⊎◌, ◌^◌, ◌<◌, [], None, Some, length, IfOk, IfErr, OnOk};
+ghost use Rattle.msgfmt.specs.Msgfmt.{AreWrong, IsMsgfmtRun, IsRefused, NoneRefused};
 ghost use Rattle.runs.specs.Inputs.{named_inputs};
 ghost use Rattle.runs.specs.NamedFile.{named_files};
 ghost use Rattle.runs.specs.Run.{run_view};
@@ -39,7 +39,7 @@ pub fn plan_msgfmt_before<'a>(
 
 /// What `msgfmt` comes to with the inputs that a command line names: the plan of all of them, or,
 /// where one can't be read, what `plan_msgfmt_before` says of those before it. The command line
-/// names one at least, and fewer than 4,294,967,296.
+/// names one at least, and fewer than 4,294,967,296; else, and only then, it is `WrongArguments`.
 pub fn plan_msgfmt_of<'a>(
     alloc: Global,
     inputs: &Inputs<'a>,
@@ -49,8 +49,9 @@ pub fn plan_msgfmt_of<'a>(
         → IfOk result (λ run. IsMsgfmtRun (named_inputs inputs.now.texts.items) options.now (run_view run)) }
     ensures refused { inputs.now.fault ≢ None
         → IfOk result (λ run. IsRefused (named_inputs inputs.now.texts.items) options.now (run_view run)) }
+    ensures right { OnOk result (AreWrong (named_inputs inputs.now.texts.items) inputs.now.fault → ⊥) }
     ensures fault { IfErr result (λ reported. (reported ≡ ProgramFault.OutOfMemory)
-        ⊎ ((reported ≡ ProgramFault.WrongArguments) × AreNoneOrTooMany (named_inputs inputs.now.texts.items))
+        ⊎ ((reported ≡ ProgramFault.WrongArguments) × AreWrong (named_inputs inputs.now.texts.items) inputs.now.fault)
         ⊎ ((inputs.now.fault ≡ Some reported) × NoneRefused (named_inputs inputs.now.texts.items) options.now)) }
 {
     let texts = inputs.borrowed(alloc)?;
@@ -71,6 +72,7 @@ fn plan_all<'a>(
 ) -> Result<Run, ProgramFault<'a>>
     requires { length inputs.now < 2 ^ 32 }
     ensures run { IfOk result (λ run. IsMsgfmtRun (named_files inputs.now) options.now (run_view run)) }
+    ensures some { OnOk result (named_files inputs.now ≢ []) }
     ensures fault { IfErr result (λ reported. (reported ≡ ProgramFault.OutOfMemory)
         ⊎ ((reported ≡ ProgramFault.WrongArguments) × (named_files inputs.now ≡ []))) }
 {

@@ -1,5 +1,5 @@
 -- What msgunfmt writes and reports (manual, "Invoking the msgunfmt Program").
-use Rattle.std.specs.Prelude.{◌≡◌, ◌≢◌, ◌⊎◌, nat_lt, ℕ, List, [], length, codes, decimal, ◌++◌}
+use Rattle.std.specs.Prelude.{◌≡◌, ◌≢◌, ◌⊎◌, nat_lt, ℕ, List, [], length, codes, decimal, ◌++◌, refl}
 use Rattle.mo_file.specs.Message.{Message}
 use Rattle.po_unformat.specs.UnformattedText.{IsUnformatted, IsUnformatFault}
 use Rattle.po_unformat.specs.declared.fault.UnformatError.{UnformatError}
@@ -24,6 +24,13 @@ unformat_line name error = fault_line (codes "msgunfmt") name 0 (unformat_text e
 -- the text, which is written where there is a message
 abbrev pub unformatted_run : List Message → List ℕ → RunView
 unformatted_run messages text = record { output = text; create = nat_lt 0 (length messages); messages = []; status = 0 }
+
+-- the status is 0 of a file that has a text, and 1 of one that has none
+pub unformatted_status : (messages : List Message) (text : List ℕ) → (unformatted_run messages text).status ≡ 0
+unformatted_status messages text = refl
+
+pub refused_status : (name : List ℕ) (error : UnformatError) → (refusal (unformat_line name error)).status ≡ 1
+refused_status name error = refl
 
 -- the file has no text
 pub record HasNoText (file : NamedFile) (run : RunView) : Type 0 where

@@ -6,7 +6,7 @@ use Rattle.gettext.specs.Options.{IsGettextRequest, IsNgettextRequest}
 use Rattle.msgfmt.specs.declared.options.MsgfmtOptions.{MsgfmtOptions}
 use Rattle.msgfmt.specs.WholeRun.{RunsMsgfmt}
 use Rattle.msgunfmt.specs.Msgunfmt.{IsMsgunfmtRun}
-use Rattle.msgfmt.specs.Options.{AreMsgfmtOptions}
+use Rattle.msgfmt.specs.Options.{AreMsgfmtOptions, default_output}
 use Rattle.po_merge.specs.declared.input.MergeOptions.{MergeOptions}
 use Rattle.po_select.specs.declared.selection.Selection.{Selection}
 use Rattle.devices.specs.declared.fault.ToolFault.{ToolFault}
@@ -81,7 +81,7 @@ pub record RunsMsgfmtLine (line : CommandLine) (answers : Answers) (before after
   pub output : List ℕ
   pub options : MsgfmtOptions
   pub arguments_are : line.texts (codes "FILE") arguments
-  pub output_is : IsTextOr line.text (codes "output-file") (codes "messages.mo") output
+  pub output_is : IsTextOr line.text (codes "output-file") default_output output
   pub options_are : AreMsgfmtOptions line.flag line.text options
   pub runs : RunsMsgfmt answers.file answers.standard arguments output options before.asked after.asked
       before.written after.written result

@@ -1,5 +1,5 @@
 -- The run of a tool that writes a catalogue (manual, "The Format of PO Files").
-use Rattle.std.specs.Prelude.{nat_lt, List, [], length}
+use Rattle.std.specs.Prelude.{nat_lt, List, [], length, refl, ◌≡◌}
 use Rattle.po_entry.specs.TextEntry.{TextEntry}
 use Rattle.po_writer.specs.WrittenText.{written_text}
 use Rattle.runs.specs.Run.{RunView}
@@ -12,3 +12,6 @@ written_run entries = record {
   messages = [];
   status = 0;
 }
+
+pub written_status : (entries : List TextEntry) → (written_run entries).status ≡ 0
+written_status entries = refl
