@@ -270,6 +270,27 @@ uint32_t pokit_system_count(const uint8_t *bytes, size_t len);
 uint32_t pokit_system_message(const uint8_t *bytes, size_t len, const pokit_platform_text *texts, size_t count,
                               uint32_t index, uint8_t *room, size_t size, pokit_ends *ends);
 
+/*@ requires bytes != \null && \valid_read(bytes + (0 .. len - 1));
+    requires texts != \null && \valid_read(texts + (0 .. count - 1));
+    requires \forall integer i; 0 <= i < count ==> pokit_readable(texts[i].name) && pokit_readable(texts[i].text);
+    requires list != \null && \valid(list + (0 .. places - 1));
+    requires \forall integer i; 0 <= i < places ==>
+      pokit_readable(list[i].original) && pokit_readable(list[i].translation);
+    requires room != \null && \valid(room + (0 .. size - 1));
+    requires file != \null && \valid(file + (0 .. file_size - 1));
+    requires \separated(list + (0 .. places - 1), room + (0 .. size - 1), file + (0 .. file_size - 1),
+      bytes + (0 .. len - 1)) && \separated(list + (0 .. places - 1), texts + (0 .. count - 1))
+      && \separated(room + (0 .. size - 1), texts + (0 .. count - 1))
+      && \separated(file + (0 .. file_size - 1), texts + (0 .. count - 1));
+    assigns list[0 .. places - 1], room[0 .. size - 1], file[0 .. file_size - 1], \result
+      \from bytes, len, bytes[0 .. len - 1], texts, count, texts[0 .. count - 1], places, size, file_size;
+    ensures small: file_size < \result ==> \forall integer i; 0 <= i < file_size ==> file[i] == \old(file[i]);
+    ensures unchanged: \result == 0 ==> \forall integer i; 0 <= i < file_size ==> file[i] == \old(file[i]);
+*/
+uint32_t pokit_expanded_file(const uint8_t *bytes, size_t len, const pokit_platform_text *texts, size_t count,
+                             pokit_listed_message *list, size_t places, uint8_t *room, size_t size, uint8_t *file,
+                             size_t file_size);
+
 /* What is proved of the functions of pokit.h. */
 
 /*@ predicate pokit_is_catalog{L}(pokit_catalog *c) =

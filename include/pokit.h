@@ -169,6 +169,12 @@ typedef struct pokit_platform_text {
     pokit_bytes text;
 } pokit_platform_text;
 
+/* A message of a file, as pokit_expanded_file lists them. */
+typedef struct pokit_listed_message {
+    pokit_bytes original;
+    pokit_bytes translation;
+} pokit_listed_message;
+
 /* Where the strings of a system-dependent message end in the room that they were written to. */
 typedef struct pokit_ends {
     size_t original;    /* the end of the original, which begins at 0 */
@@ -184,6 +190,7 @@ enum pokit_written {
 
 /* The structs are those that the library was compiled with. */
 typedef char pokit_platform_text_has_32_bytes[sizeof(pokit_platform_text) == 32 ? 1 : -1];
+typedef char pokit_listed_message_has_32_bytes[sizeof(pokit_listed_message) == 32 ? 1 : -1];
 typedef char pokit_ends_has_16_bytes[sizeof(pokit_ends) == 16 ? 1 : -1];
 typedef char pokit_bytes_has_16_bytes[sizeof(pokit_bytes) == 16 ? 1 : -1];
 typedef char pokit_instruction_has_8_bytes[sizeof(pokit_instruction) == 8 ? 1 : -1];
@@ -218,10 +225,22 @@ size_t pokit_candidate(const uint8_t *locale, size_t locale_len, const uint8_t *
  * where they end. Else the result is an enum pokit_written, `ends` is as it was, and what the room has is left open.
  * No more than `size` bytes are written. The bytes of the file may be any, and each call takes time in proportion to
  * what it writes and to the number of texts; a string has 256 segments at most. A program that wants them found
- * makes a file of its messages and these, as the drop-in for libintl does. */
+ * opens an expanded file, as the drop-in for libintl does. */
 uint32_t pokit_system_count(const uint8_t *bytes, size_t len);
 uint32_t pokit_system_message(const uint8_t *bytes, size_t len, const pokit_platform_text *texts, size_t count,
                               uint32_t index, uint8_t *room, size_t size, pokit_ends *ends);
+
+/* Expands a file into one without system-dependent messages: the messages of the file, and those that
+ * pokit_system_message completes and whose keys the file lacks, in rising order of their keys. The result is how long
+ * the new file is; where it has no more than `file_size` bytes it stands at the beginning of `file`, and
+ * pokit_catalog_open takes it. Else `file` stays as it is, so that a call with no room at all says how much is wanted.
+ * The result is 0 where there is no such file: the bytes aren't an MO file; `list` has fewer places than the messages
+ * of the file and pokit_system_count together; `room` is too short for the strings that are completed; or the new file
+ * would have 2^32 bytes or more. What `list` and `room` have is left open; before the call no pointer in the list is
+ * NULL. A call takes time in proportion to both files, and for each system-dependent message to the places. */
+uint32_t pokit_expanded_file(const uint8_t *bytes, size_t len, const pokit_platform_text *texts, size_t count,
+                             pokit_listed_message *list, size_t places, uint8_t *room, size_t size, uint8_t *file,
+                             size_t file_size);
 
 /* The contracts of these functions, which Frama-C proves. */
 #ifdef __FRAMAC__

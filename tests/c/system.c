@@ -1,5 +1,5 @@
-/* System-dependent messages: a file in both byte orders, what it lacks, room that is too short, and every truncation of
- * it and change of one of its bytes. */
+/* System-dependent messages, one by one and in an expanded file: a file in both byte orders, what it lacks, room that is
+ * too short, and every truncation of it and change of one of its bytes. */
 #include "files.h"
 
 static const pokit_platform_text texts[] = {
@@ -50,6 +50,44 @@ static void rows(const uint8_t *file)
     check(written == POKIT_NO_MESSAGE, "no texts");
 }
 
+/* The expanded file, in a list of so many places and room of so many bytes. */
+static uint32_t expand(const uint8_t *bytes, size_t len, size_t places, size_t size, uint8_t *file, size_t file_size)
+{
+    static pokit_listed_message list[64];
+    static uint8_t room[1000];
+    for (size_t i = 0; i < 64; i++)
+        list[i].original = list[i].translation = pokit_bytes_of(room, 0);
+    return pokit_expanded_file(bytes, len, texts, TEXTS, list, places, room, size, file, file_size);
+}
+
+/* That of the file as it is: 28 bytes, 16 for the message, "%lu kB" and "nothing". */
+static void expanded_rows(const uint8_t *file)
+{
+    enum { EXPANDED = 28 + 16 + 7 + 8 };
+    pokit_catalog *catalog = (pokit_catalog *)malloc(sizeof *catalog);
+    uint8_t made[100];
+    memset(made, 7, sizeof made);
+    check(expand(file, LEN, 2, 13, made, 0) == EXPANDED && made[0] == 7, "how long the expanded file is");
+    check(expand(file, LEN, 2, 13, made, EXPANDED - 1) == EXPANDED && made[0] == 7, "no room for the expanded file");
+    check(expand(file, LEN, 2, 12, made, sizeof made) == 0 && made[0] == 7, "no room for its strings");
+    check(expand(file, LEN, 1, 13, made, sizeof made) == 0 && made[0] == 7, "no place for its messages");
+    check(expand(file, LEN, 2, 13, made, sizeof made) == EXPANDED && made[EXPANDED] == 7, "the expanded file");
+    check(pokit_open(catalog, made, EXPANDED, NULL) == POKIT_OK && pokit_len(catalog) == 1
+              && strcmp(pokit_gettext(catalog, "%lu kB"), "nothing") == 0, "its message");
+    check(pokit_system_count(made, EXPANDED) == 0, "no system-dependent messages");
+    free(catalog);
+}
+
+/* Whether a file that is expanded can be opened, where the bytes can. */
+static int expands(const uint8_t *bytes, size_t len)
+{
+    static pokit_catalog catalog;
+    static uint8_t made[3000];
+    bool is_file = pokit_open(&catalog, bytes, len, NULL) == POKIT_OK;
+    uint32_t wanted = expand(bytes, len, 64, 1000, made, sizeof made);
+    return wanted == 0 || (is_file && (wanted > sizeof made || pokit_open(&catalog, made, wanted, NULL) == POKIT_OK));
+}
+
 /* Whether answers on any bytes are such as the header says. */
 static int is_fine(const uint8_t *bytes, size_t len)
 {
@@ -63,7 +101,7 @@ static int is_fine(const uint8_t *bytes, size_t len)
                                          : written > POKIT_NO_ROOM || ends.original != 7 || ends.translation != 7)
                 return 0;
         }
-    return 1;
+    return expands(bytes, len);
 }
 
 int main(void)
@@ -80,6 +118,7 @@ int main(void)
         uint8_t *file = (uint8_t *)malloc(LEN);
         write_file(file, is_big);
         rows(file);
+        expanded_rows(file);
         for (size_t at = 0; at < LEN; at++) {
             uint8_t was = file[at];
             int fine = 1;
