@@ -76,15 +76,17 @@ static bool opens(struct opening *it)
     return on_large_stack(open_catalog, it) != NULL;
 }
 
-/* The catalogue with the system-dependent messages of its file, where it has some; else the catalogue itself. */
-static const pokit_catalog *with_system_messages(pokit_catalog *catalog, size_t size)
+/* The catalogue with the system-dependent messages of its file, where it has some; else the catalogue itself.
+ * `*again` tells that memory was missing. */
+static const pokit_catalog *with_system_messages(pokit_catalog *catalog, size_t size, bool *again)
 {
     struct opening it = {.len = 0};
-    it.catalog = expanded(catalog, &it.len);
+    it.catalog = expanded(catalog, &it.len, again);
     if (it.catalog == NULL)
         return catalog;
     size_t expanded_size = sizeof(pokit_catalog) + it.len;
-    if (opens(&it) && it.error == POKIT_OK && mprotect(it.catalog, expanded_size, PROT_READ) == 0) {
+    *again = !opens(&it) || (it.error == POKIT_OK && mprotect(it.catalog, expanded_size, PROT_READ) != 0);
+    if (!*again && it.error == POKIT_OK) {
         munmap(catalog, size);
         return it.catalog;
     }
@@ -105,15 +107,18 @@ static const pokit_catalog *read_catalog(int fd, bool *again)
     *again = catalog == MAP_FAILED;
     if (*again)
         return NULL;
+    const pokit_catalog *whole = NULL;
     struct opening it = {.catalog = catalog, .len = read_all(fd, (char *)(catalog + 1), len)};
     if (!opens(&it))
         *again = true;
     else if (it.error != POKIT_OK)
         tell(pokit_error_text(it.error), it.error >= POKIT_STRING_OUTSIDE ? (int64_t)it.message : -1);
-    else if (mprotect(catalog, size, PROT_READ) == 0)
-        return with_system_messages(catalog, size);
-    else
+    else if (mprotect(catalog, size, PROT_READ) != 0)
         *again = true;
+    else
+        whole = with_system_messages(catalog, size, again);
+    if (whole != NULL && !*again)
+        return whole;
     munmap(catalog, size);
     return NULL;
 }

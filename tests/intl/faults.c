@@ -36,6 +36,12 @@ static bool fails(int error)
 
 static const struct message german[] = {HEADER("UTF-8", GERMAN), MESSAGE("Open", "Öffnen"), MESSAGE("file\0files", "a\0b")};
 static const struct message latin[] = {HEADER("ISO-8859-1", GERMAN), MESSAGE("Open", "\326ffnen")};
+/* A file with a system-dependent message, whose strings are "%", PRIu64 and " kB", and "many": the words of the file
+ * header, of the name, and where the strings are described; and the strings. */
+static const uint32_t system_words[] = {0x950412de, 1, 0, 28, 28, 0, 28, 1, 48, 1, 56, 60, 7, 96, 64, 84,
+                                        103, 1, 0, 4, 0xffffffff, 108, 5, 0xffffffff};
+static const char system_strings[] = "PRIu64\0% kB\0many";
+#define SYSTEM "%" PRIu64 " kB"
 static const char *folder;
 
 static bool is_right(const char *domain, const char *msgid, const char *wanted, bool in_any_case)
@@ -49,7 +55,7 @@ static bool all_right(bool in_any_case)
     errno = 7;
     const char *plural = dngettext("app", "file", "files", 2);
     return is_right("app", "Open", "Öffnen", in_any_case) && is_right("latin", "Open", "Öffnen", in_any_case) &&
-           is_right("absent", "Open", "Open", true) && strcmp(plural, in_any_case || *plural == 'b' ? "b" : "files") == 0 &&
+           is_right("system", SYSTEM, "many", in_any_case) && is_right("absent", "Open", "Open", true) && strcmp(plural, in_any_case || *plural == 'b' ? "b" : "files") == 0 &&
            errno == 7;
 }
 
@@ -57,10 +63,12 @@ static void *ask(void *result)
 {
     bindtextdomain("app", folder);
     bindtextdomain("latin", folder);
+    bindtextdomain("system", folder);
     *(bool *)result = all_right(false);
     first_failing = last_failing = -1;
     bindtextdomain("app", folder);
     bindtextdomain("latin", folder);
+    bindtextdomain("system", folder);
     *(bool *)result = *(bool *)result && all_right(true);
     return NULL;
 }
@@ -114,6 +122,15 @@ static void count_calls(void)
     check(right && calls == before, "no call and no lock for what was loaded");
 }
 
+static void write_system(void)
+{
+    struct mo_file file = {.len = sizeof system_words + sizeof system_strings};
+    for (size_t i = 0; i < sizeof system_words / 4; i++)
+        put_word(&file, 4 * i, system_words[i]);
+    memcpy(file.bytes + sizeof system_words, system_strings, sizeof system_strings);
+    write_messages(folder, "de/LC_MESSAGES/system.mo", file);
+}
+
 int main(int argc, char **argv)
 {
     if (argc != 3)
@@ -121,6 +138,7 @@ int main(int argc, char **argv)
     folder = argv[1];
     write_messages(folder, "de/LC_MESSAGES/app.mo", FILE_OF(german));
     write_messages(folder, "de/LC_MESSAGES/latin.mo", FILE_OF(latin));
+    write_system();
     setenv("LANGUAGE", "de", 1);
     if (setlocale(LC_ALL, argv[2]) == NULL) {
         printf("skipped  failing calls (the machine has no locale %s)\n", argv[2]);
