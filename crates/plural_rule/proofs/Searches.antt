@@ -41,14 +41,14 @@ after_first-none name text some none = after_first-skip name text (length text) 
 goes-on : (b : Bool) → (b ≡ true → ⊥) → not b ≡ true
 goes-on b h = ap not (false_from_ne_true b h)
 
-pub before_first-some : (text : List ℕ) (k : ℕ) → IsFirstByte (is_byte2 59 10) text (Some k) → before_first is_end text ≡ take k text
-before_first-some text k h =
+pub before_first_some : (text : List ℕ) (k : ℕ) → IsFirstByte (is_byte2 59 10) text (Some k) → before_first is_end text ≡ take k text
+before_first_some text k h =
     let low = h.0 in
     ap (λ n. take n text)
     (prefix_len_is (λ c. not (is_end c)) text k 0 (let high = low.high in omega arith) (λ j l. goes-on _ (low.before j (omega arith) l)) (λ _. ap not h.1))
 
-pub before_first-none : (text : List ℕ) → IsFirstByte (is_byte2 59 10) text None → before_first is_end text ≡ text
-before_first-none text h =
+pub before_first_none : (text : List ℕ) → IsFirstByte (is_byte2 59 10) text None → before_first is_end text ≡ text
+before_first_none text h =
     ap (λ n. take n text)
     (prefix_len_is (λ c. not (is_end c)) text (length text) 0 (omega arith) (λ j l. goes-on _ (h j (omega arith) l)) (λ l. absurd (omega arith)))
     ∙ take_all (length text) text (omega arith)

@@ -51,6 +51,7 @@ pub(crate) fn expression(header: &[u8]) -> Option<&[u8]>
 }
 
 /// The text up to the first `;` or LF, or to the end.
+#[tactic(auto, using(crate::proofs::Searches::before_first_some, crate::proofs::Searches::before_first_none))]
 fn first_statement(text: &[u8]) -> &[u8]
     ensures { result.now ≡ before_first is_end text.now }
 {
