@@ -19,18 +19,18 @@ use Rattle.po_merge.specs.declared.definition.NamedEntry.{NamedEntry as Borrowed
 use Rattle.po_merge.specs.declared.input.MergeOptions.{MergeOptions}
 use Rattle.po_merge.specs.EntryLaws.{IsSameButLine}
 use Rattle.po_merge.specs.Grouping.{IsDefinition, IsGroup, message_numbers, named_messages}
-use Rattle.po_merge.specs.Groups.{by_number, definitions, first_ones, groups, with_number}
+use Rattle.po_merge.specs.Groups.{by_number, definitions, definitions_by, first_ones, groups, with_number}
 use Rattle.po_merge.specs.Inputs.{NamedEntry}
 use Rattle.po_merge.specs.InputsView.{named_entries, named_entry}
-use Rattle.po_merge.specs.Merged.{IsMergeFault, is_kept, is_wanted, merged_messages}
+use Rattle.po_merge.specs.Merged.{IsMergeFault, is_kept, is_kept_by, is_wanted, merged_messages}
 use Rattle.po_merge.specs.MergeLaws.{GroupsByNumber}
 use Rattle.po_merge.specs.MergedEntry.{merged_entry}
-use Rattle.po_merge.proofs.GroupsMerged.{groups_valid, messages_append}
+use Rattle.po_merge.proofs.GroupsMerged.{dropped_one, groups_valid, kept_one}
 use Rattle.po_writer.specs.TextParts.{AreParts, AreSeparated, separated}
 use Rattle.po_writer.specs.WrittenText.{arranged, entry_lines, in_order, written_text}
 use Rattle.po_writer.specs.declared.parts.TextParts.{TextParts}
 use Rattle.msgcat.specs.Internal.Entries.{AreRows, IsRow}
-use Rattle.msgcat.specs.Internal.MergedText.{AreGroups, AreReadBack, AreWritten, IsOnly}
+use Rattle.msgcat.specs.Internal.MergedText.{AreGroups, AreReadBack, AreWritten, IsGroupOf, IsOnly}
 use Rattle.msgcat.specs.declared.entries.EntryRow.{EntryRow}
 use Rattle.po_messages.specs.Facts.Zips.{zip_all, zip_get, zip_length, zip_more}
 
@@ -51,41 +51,36 @@ module _ (text : List ℕ) (p : NamedEntry → Bool) (q : EntryRow → Bool) (sa
     found true one more = (one, more)
     found false one more = more
 
-pub any_live : (text : List ℕ) (entries : List NamedEntry) (rows : List EntryRow) → AreRows text entries rows → list_any (λ r. r.is_live) rows ≡ list_any (λ e. is_live e.entry) entries
+any_live : (text : List ℕ) (entries : List NamedEntry) (rows : List EntryRow) → AreRows text entries rows → list_any (λ r. r.is_live) rows ≡ list_any (λ e. is_live e.entry) entries
 any_live text = any_row text (λ e. is_live e.entry) (λ r. r.is_live) (λ e r h. h.live)
-
-pub any_obsolete : (text : List ℕ) (entries : List NamedEntry) (rows : List EntryRow) → AreRows text entries rows → list_any (λ r. not r.is_live) rows ≡ list_any (λ e. not (is_live e.entry)) entries
-any_obsolete text = any_row text (λ e. not (is_live e.entry)) (λ r. not r.is_live) (λ e r h. ap not h.live)
 
 any_header : (text : List ℕ) (entries : List NamedEntry) (rows : List EntryRow) → AreRows text entries rows → list_any (λ r. r.is_header) rows ≡ list_any (λ e. is_header e.entry) entries
 any_header text = any_row text (λ e. is_header e.entry) (λ r. r.is_header) (λ e r h. h.header)
 
-pub live_rows : (text : List ℕ) (entries : List NamedEntry) (rows : List EntryRow) → AreRows text entries rows → AreRows text (filter (λ e. is_live e.entry) entries) (filter (λ r. r.is_live) rows)
+live_rows : (text : List ℕ) (entries : List NamedEntry) (rows : List EntryRow) → AreRows text entries rows → AreRows text (filter (λ e. is_live e.entry) entries) (filter (λ r. r.is_live) rows)
 live_rows text = filter_rows text (λ e. is_live e.entry) (λ r. r.is_live) (λ e r h. h.live)
 
-pub kept_rows : (o : MergeOptions) (text : List ℕ) (entries : List NamedEntry) (rows : List EntryRow) → AreRows text entries rows → (list_any (λ r. r.is_header) rows || is_wanted o (length rows)) ≡ is_kept o entries
+pub kept_rows : (o : MergeOptions) (text : List ℕ) (entries : List NamedEntry) (rows : List EntryRow) → AreRows text entries rows → is_kept_by (λ r. r.is_header) o rows ≡ is_kept o entries
 kept_rows o text entries rows h = ap₂ (λ (b : Bool) (n : ℕ). b || is_wanted o n) (any_header text entries rows h) (sym (zip_length (IsRow text) entries rows h))
 
--- what defines a message, where its entries are mixed and where they aren't
-pub mixed : (entries : List NamedEntry) → list_any (λ e. is_live e.entry) entries ≡ true → definitions entries ≡ filter (λ e. is_live e.entry) entries
-mixed entries some = ap (λ (b : Bool). if b then filter (λ e. is_live e.entry) entries else entries) some
+-- the rows of what defines a message
+pub definitions_rows : (text : List ℕ) (entries : List NamedEntry) (rows : List EntryRow) → AreRows text entries rows → AreRows text (definitions entries) (definitions_by (λ r. r.is_live) rows)
+definitions_rows text entries rows h =
+    subst (λ b. AreRows text (definitions entries) (if b then filter (λ r. r.is_live) rows else rows)) (sym (any_live text entries rows h)) (found (list_any (λ e. is_live e.entry) entries)) where
+      found : (b : Bool) → AreRows text (if b then filter (λ e. is_live e.entry) entries else entries) (if b then filter (λ r. r.is_live) rows else rows)
+      found true = live_rows text entries rows h
+      found false = h
 
-pub none_live : (entries : List NamedEntry) → list_any (λ e. is_live e.entry) entries ≡ false → definitions entries ≡ entries
-none_live entries none = ap (λ (b : Bool). if b then filter (λ e. is_live e.entry) entries else entries) none
+-- the rows of a message that is kept, and one that isn't
+pub rows_kept : (o : MergeOptions) (text : List ℕ) (entries : List NamedEntry) (group rows : List EntryRow) → AreRows text entries group → rows ≡ definitions_by (λ r. r.is_live) group → is_kept_by (λ r. r.is_header) o rows ≡ true
+    → AreRows text (definitions entries) rows × (is_kept o (definitions entries) ≡ true)
+rows_kept o text entries group rows h are keeps =
+    let held = subst (AreRows text (definitions entries)) (sym are) (definitions_rows text entries group h) in
+    (held, sym (kept_rows o text (definitions entries) rows held) ∙ keeps)
 
-all_live : (entries : List NamedEntry) → list_any (λ e. not (is_live e.entry)) entries ≡ false → filter (λ e. is_live e.entry) entries ≡ entries
-all_live [] none = refl
-all_live (e ∷ entries) none = found (is_live e.entry) refl none (all_live entries) where
-  found : (b : Bool) → is_live e.entry ≡ b → (not b || list_any (λ x. not (is_live x.entry)) entries) ≡ false
-      → (list_any (λ x. not (is_live x.entry)) entries ≡ false → filter (λ x. is_live x.entry) entries ≡ entries) → filter (λ x. is_live x.entry) (e ∷ entries) ≡ e ∷ entries
-  found true is rest more = ap (λ b. cond b (e ∷ filter (λ x. is_live x.entry) entries) (filter (λ x. is_live x.entry) entries)) is ∙ ap (λ l. e ∷ l) (more rest)
-  found false is rest more = cc
-
-pub none_obsolete : (entries : List NamedEntry) → list_any (λ e. not (is_live e.entry)) entries ≡ false → definitions entries ≡ entries
-none_obsolete entries none = found (list_any (λ e. is_live e.entry) entries) where
-  found : (b : Bool) → (if b then filter (λ e. is_live e.entry) entries else entries) ≡ entries
-  found true = all_live entries none
-  found false = refl
+pub rows_dropped : (o : MergeOptions) (text : List ℕ) (entries : List NamedEntry) (group : List EntryRow) → AreRows text entries group → is_kept_by (λ r. r.is_header) o (definitions_by (λ r. r.is_live) group) ≡ false → merged_messages o (definitions entries ∷ []) ≡ []
+rows_dropped o text entries group h none =
+    dropped_one o (definitions entries) (sym (kept_rows o text (definitions entries) (definitions_by (λ r. r.is_live) group) (definitions_rows text entries group h)) ∙ none)
 
 -- an entry's text
 pub arranged_one : (e : TextEntry) → arranged (e ∷ []) ≡ e ∷ []
@@ -178,32 +173,10 @@ fault_unlined a b error same (inl memory) = inl memory
 fault_unlined a b error same (inr foreign) =
     inr ((λ all. foreign.0 (All-cons HasAdmittedCharset a [] (charset_unlined b a (sym same) (all 0 b (omega arith))) (All-nil HasAdmittedCharset))), foreign.1)
 
-pub kept : (o : MergeOptions) (ds : List NamedEntry) → is_kept o ds ≡ true → merged_messages o (ds ∷ []) ≡ merged_entry o ds ∷ []
-kept o ds some = ap (λ (b : Bool). map (merged_entry o) (cond b (ds ∷ []) [])) some
-
 pub only_row : (text : List ℕ) (ds : List NamedEntry) (row : EntryRow) → AreRows text ds (row ∷ []) → (d : NamedEntry) × (ds ≡ d ∷ []) × IsRow text d row
 only_row text [] row h = absurd h
 only_row text (d ∷ []) row h = (d, refl, h.0)
 only_row text (d ∷ e ∷ ds) row h = absurd h.1
-
-abbrev pub of_groups : MergeOptions → List (List NamedEntry) → List TextEntry
-of_groups o all = merged_messages o (map definitions all)
-
-pub of_groups_more : (o : MergeOptions) (all : List (List NamedEntry)) (i : ℕ) (d : List NamedEntry) → i < length all → of_groups o (take i all) ++ merged_messages o (definitions (get_or all i d) ∷ []) ≡ of_groups o (take (i + 1) all)
-of_groups_more o all i d inside =
-    sym (ap (of_groups o) (take_more all i d inside) ∙ ap (merged_messages o) (map-append definitions (take i all) (get_or all i d ∷ [])) ∙ messages_append o (map definitions (take i all)) (definitions (get_or all i d) ∷ []))
-
-within : (o : MergeOptions) (all : List (List NamedEntry)) (i : ℕ) (d : List NamedEntry) → i < length all → All HasAdmittedCharset (of_groups o all) → All HasAdmittedCharset (merged_messages o (definitions (get_or all i d) ∷ []))
-within o [] i d inside admitted = absurd (omega (arith, inside))
-within o (g ∷ all) zero d inside admitted =
-    All-left HasAdmittedCharset (merged_messages o (definitions g ∷ [])) (of_groups o all) (subst (All HasAdmittedCharset) (messages_append o (definitions g ∷ []) (map definitions all)) admitted)
-within o (g ∷ all) (suc i) d inside admitted =
-    let less : i < length all = omega (arith, inside) in
-    within o all i d less (All-right HasAdmittedCharset (merged_messages o (definitions g ∷ [])) (of_groups o all) (subst (All HasAdmittedCharset) (messages_append o (definitions g ∷ []) (map definitions all)) admitted))
-
-pub fault_within : (o : MergeOptions) (all : List (List NamedEntry)) (i : ℕ) (d : List NamedEntry) (error : PoError) → i < length all → IsMergeFault (merged_messages o (definitions (get_or all i d) ∷ [])) error → IsMergeFault (of_groups o all) error
-fault_within o all i d error inside (inl memory) = inl memory
-fault_within o all i d error inside (inr foreign) = inr (λ admitted. foreign.0 (within o all i d inside admitted), foreign.1)
 
 -- groups by numbers
 module _ (text : List ℕ) where
@@ -241,20 +214,6 @@ module _ (text : List ℕ) where
 all_valid : (text : List ℕ) (entries : List NamedEntry) (rows : List EntryRow) → AreRows text entries rows → All IsDefinition entries
 all_valid text = zip_all (IsRow text) IsDefinition (λ e r h. h.can.valid)
 
-pub mixed_rows : (text : List ℕ) (entries : List NamedEntry) (rows : List EntryRow) → AreRows text entries rows
-    → (list_any (λ r. r.is_live) rows && list_any (λ r. not r.is_live) rows) ≡ (list_any (λ e. is_live e.entry) entries && list_any (λ e. not (is_live e.entry)) entries)
-mixed_rows text entries rows h = ap₂ (λ (a b : Bool). a && b) (any_live text entries rows h) (any_obsolete text entries rows h)
-
-pub some_live : (a b : Bool) → (a && b) ≡ true → a ≡ true
-some_live true b h = refl
-some_live false b h = h
-
-pub unmixed : (entries : List NamedEntry) → (list_any (λ e. is_live e.entry) entries && list_any (λ e. not (is_live e.entry)) entries) ≡ false → definitions entries ≡ entries
-unmixed entries h = found (list_any (λ e. is_live e.entry) entries) refl h where
-  found : (b : Bool) → list_any (λ e. is_live e.entry) entries ≡ b → (b && list_any (λ e. not (is_live e.entry)) entries) ≡ false → definitions entries ≡ entries
-  found true some none = none_obsolete entries none
-  found false none h = none_live entries none
-
 -- one more definition that is read again
 pub definition_more : (text : List ℕ) (definitions : List NamedEntry) (rows : List EntryRow) (es : List TextEntry) (i : ℕ) (r : TextEntry) (row : EntryRow) (found new : List BorrowedEntry) (x : BorrowedEntry) → i < length rows → AreRows text definitions rows
     → AreReadBack definitions es → All IsCatalogueEntry es → r ≡ get_or es i r → new ≡ found ++ x ∷ [] → x.name.now ≡ (get_or rows i row).name.now → x.entry.now ≡ r
@@ -280,19 +239,23 @@ definition_more text definitions rows es i r row found new x below h back valid 
           (record { valid = good.valid; utf8 = subst IsUtf8 (sym name_is) at.can.valid.utf8; no_nul = subst (λ l. Lacks 0 l) (sym name_is) at.can.valid.no_nul })),
     )
 
+-- the group at an index
+pub group_at : (text : List ℕ) (all : List (List NamedEntry)) (groups : List (Vec EntryRow)) (i : ℕ) (group : Vec EntryRow) → AreGroups text all groups → i < length groups → group ≡ get_or groups i group → IsGroupOf text (get_or all i []) group
+group_at text all groups i group h below here = subst (IsGroupOf text (get_or all i [])) (sym here) (zip_get (IsGroupOf text) all groups i [] group h below)
+
 -- one more message
 pub message_copied : (o : MergeOptions) (text : List ℕ) (ds : List NamedEntry) (row : EntryRow) (before : List TextEntry) (parts : TextParts) → ((d : NamedEntry) → merged_entry o (d ∷ []) ≡ d.entry) → AreRows text ds (row ∷ []) → is_kept o ds ≡ true
     → ((d : NamedEntry) → IsRow text d row → AreWritten (before ++ d.entry ∷ []) parts) → AreWritten (before ++ merged_messages o (ds ∷ [])) parts
 message_copied o text ds row before parts law h keeps copied =
     let only = only_row text ds row h in
-    let is : merged_messages o (ds ∷ []) ≡ only.0.entry ∷ [] = kept o ds keeps ∙ ap (λ l. merged_entry o l ∷ []) only.1 ∙ ap (λ e. e ∷ []) (law only.0) in
+    let is : merged_messages o (ds ∷ []) ≡ only.0.entry ∷ [] = kept_one o ds keeps ∙ ap (λ l. merged_entry o l ∷ []) only.1 ∙ ap (λ e. e ∷ []) (law only.0) in
     subst (λ l. AreWritten (before ++ l) parts) (sym is) (copied only.0 only.2)
 
 pub message_merged : (o : MergeOptions) (ds : List NamedEntry) (before merged : List TextEntry) (parts : TextParts) → is_kept o ds ≡ true → IsOnly (merged_entry o ds) merged → All IsCatalogueEntry merged → AreParts (before ++ merged) parts → All HasAdmittedCharset before
     → AreWritten (before ++ merged_messages o (ds ∷ [])) parts
 message_merged o ds before merged parts keeps only valid are admitted =
     let one : IsCatalogueEntry only.only = (subst (All IsCatalogueEntry) only.entries_are valid) 0 only.only (omega arith) in
-    subst (λ l. AreWritten (before ++ l) parts) (sym (kept o ds keeps))
+    subst (λ l. AreWritten (before ++ l) parts) (sym (kept_one o ds keeps))
     (written_more before only.only (merged_entry o ds) parts only.same (subst (λ l. AreParts (before ++ l) parts) only.entries_are are) admitted one.charset)
 
 -- a list of one
@@ -302,9 +265,9 @@ one_of (r ∷ []) d some few = refl
 one_of (r ∷ s ∷ rows) d some few = absurd (omega (arith, few))
 
 -- the groups of rows by the numbers of their messages
-pub groups_hold : (text now : List ℕ) (es : List NamedEntry) (rows list : List EntryRow) (found items : List (Vec EntryRow)) (ns : List ℕ) → AreRows text es rows → now ≡ text → list ≡ rows → items ≡ found → ns ≡ message_numbers es
-    → map (λ g. g.items) found ≡ by_number (length (first_ones same_message (named_messages es))) ns list → GroupsByNumber es → AreGroups now (groups es) items
-groups_hold text now es rows list found items ns h now_is list_is items_are numbers of_rows law =
+pub groups_hold : (text now : List ℕ) (es : List NamedEntry) (rows list : List EntryRow) (found : List (Vec EntryRow)) (ns : List ℕ) → AreRows text es rows → now ≡ text → list ≡ rows → ns ≡ message_numbers es
+    → map (λ g. g.items) found ≡ by_number (length (first_ones same_message (named_messages es))) ns list → GroupsByNumber es → AreGroups now (groups es) found
+groups_hold text now es rows list found ns h now_is list_is numbers of_rows law =
     let held : AreRows now es list = subst (λ t. AreRows t es list) (sym now_is) (subst (AreRows text es) (sym list_is) h) in
     let count = length (first_ones same_message (named_messages es)) in
-    subst (AreGroups now (groups es)) (sym items_are) (groups_are now count ns es list found (groups es) held of_rows (ap (λ (l : List ℕ). by_number count l es) numbers ∙ law) (groups_valid es (all_valid now es list held)))
+    groups_are now count ns es list found (groups es) held of_rows (ap (λ (l : List ℕ). by_number count l es) numbers ∙ law) (groups_valid es (all_valid now es list held))

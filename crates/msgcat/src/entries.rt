@@ -7,6 +7,7 @@ ghost use Rattle.po_merge.specs.Inputs.{NamedEntry, named};
 ghost use Rattle.msgcat.specs.Internal.Entries.{HoldEntries};
 
 use po_entry::Entry;
+use po_merge::Member;
 use po_messages::is_live;
 use po_writer::append_separated;
 use std::alloc::{AllocError, Global};
@@ -25,6 +26,20 @@ pub(crate) struct EntryRow<'a> {
     pub(crate) is_live: bool,
     /// Whether it is a header.
     pub(crate) is_header: bool,
+}
+
+impl Member for EntryRow<'_> {
+    ghost live = { λ row. row.is_live };
+
+    ghost header = { λ row. row.is_header };
+
+    fn is_live(&self) -> bool {
+        self.is_live
+    }
+
+    fn is_header(&self) -> bool {
+        self.is_header
+    }
 }
 
 /// Entries of inputs, in their order.

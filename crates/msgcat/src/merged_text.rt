@@ -1,7 +1,7 @@
 //! Merging the entries of inputs, message by message: the text of a message's only definition is
 //! copied, and several are read again from their texts.
-ghost use Rattle.std.specs.Prelude.{◌≡◌, ◌<◌, ◌&&◌, ◌++◌, ◌∷◌, ℕ, [], All, IfErr, IfOk, List, MatchResult, OnOk, filter, length, map, not};
-ghost use Rattle.std.specs.List.{AllZip, list_any};
+ghost use Rattle.std.specs.Prelude.{◌≡◌, ◌<◌, ◌++◌, ◌∷◌, ℕ, [], All, IfErr, IfOk, List, MatchResult, OnOk, length, map};
+ghost use Rattle.std.specs.List.{AllZip};
 ghost use Rattle.po_entry.specs.Header.{HasAdmittedCharset};
 ghost use Rattle.po_entry.specs.TextEntry.{TextEntry};
 ghost use Rattle.po_merge.specs.EntryLaws.{IsSameButLine};
@@ -9,7 +9,7 @@ ghost use Rattle.po_merge.specs.Grouping.{IsDefinition};
 ghost use Rattle.po_merge.specs.Groups.{definitions, groups};
 ghost use Rattle.po_merge.specs.Inputs as merge;
 ghost use Rattle.po_merge.specs.InputsView.{named_entries};
-ghost use Rattle.po_merge.specs.Merged.{IsMergeFault, is_kept, merged_messages};
+ghost use Rattle.po_merge.specs.Merged.{IsMergeFault, merged_messages};
 ghost use Rattle.po_merge.specs.MergedEntry.{merged_entry};
 ghost use Rattle.po_writer.specs.TextParts.{separated};
 ghost use Rattle.po_writer.specs.WrittenText.{written_text};
@@ -22,7 +22,7 @@ use crate::inputs::Inputs;
 use po_catalog::laws::what_is_written_reads_back;
 use po_entry::Catalogue;
 use po_merge::laws::{groups_are_numbered, lines_are_not_merged, one_definition_stays};
-use po_merge::{MergeOptions, NamedEntry, groups_of, is_wanted, merge_definitions};
+use po_merge::{MergeOptions, NamedEntry, groups_of, kept_definitions, merge_definitions};
 use po_reader::read;
 use po_syntax::PoError;
 use po_writer::TextParts;
@@ -125,119 +125,46 @@ fn push_copy(parts: &mut TextParts, text: &[u8], row: &EntryRow<'_>) -> Result<(
     }
 }
 
-/// Whether one of the definitions is a header.
-fn has_header(rows: &[EntryRow<'_>]) -> bool
-    ensures { result ≡ list_any (λ row. row.is_header) rows.now }
-{
-    rows.iter().any(|row| row.is_header)
-}
-
-/// Whether the message of these definitions is kept.
-fn is_kept(rows: &[EntryRow<'_>], options: &MergeOptions) -> bool
-    ensures { (text : List ℕ) (definitions : List merge.NamedEntry) → AreRows text definitions rows.now
-        → result ≡ is_kept options.now definitions }
-{
-    has_header(rows) || is_wanted(options, rows.len())
-}
-
-/// Adds what the definitions of one message are merged to, where the message is kept.
-fn push_message(
-    alloc: Global,
-    parts: &mut TextParts,
-    text: &[u8],
-    options: &MergeOptions,
-    rows: &[EntryRow<'_>],
-) -> Result<(), PoError>
-    requires some { 0 < length rows.now }
-    requires rows { (definitions : List merge.NamedEntry) × AreRows text.now definitions rows.now }
-    ensures pushed { OnOk result ((definitions : List merge.NamedEntry) (before : List TextEntry)
-        → AreRows text.now definitions rows.now → AreWritten before parts.old
-        → AreWritten (before ++ merged_messages options.now (definitions ∷ [])) parts.new) }
-    ensures fault { IfErr result (λ error. (definitions : List merge.NamedEntry)
-        → AreRows text.now definitions rows.now
-        → IsMergeFault (merged_messages options.now (definitions ∷ [])) error) }
-{
-    one_definition_stays();
-    if !is_kept(rows, options) {
-        return Ok(());
-    }
-    if rows.len() < 2 {
-        return Ok(push_copy(parts, text, &rows[0])?);
-    }
-    let merged = match merged_again(alloc, text, options, rows) {
-        Ok(merged) => merged,
-        Err(error) => return Err(error),
-    };
-    Ok(parts.add(merged.entries())?)
-}
-
-/// Whether one of the entries is live.
-fn has_live(group: &[EntryRow<'_>]) -> bool
-    ensures { result ≡ list_any (λ row. row.is_live) group.now }
-{
-    group.iter().any(|row| row.is_live)
-}
-
-/// Whether one of the entries is obsolete.
-fn has_obsolete(group: &[EntryRow<'_>]) -> bool
-    ensures { result ≡ list_any (λ row. not row.is_live) group.now }
-{
-    group.iter().any(|row| !row.is_live)
-}
-
-/// Whether some of the entries are live and others obsolete.
-fn are_mixed(group: &[EntryRow<'_>]) -> bool
-    ensures { result ≡ (list_any (λ row. row.is_live) group.now && list_any (λ row. not row.is_live) group.now) }
-{
-    has_live(group) && has_obsolete(group)
-}
-
-/// The live ones of the entries.
-fn live<'a>(alloc: Global, group: &[EntryRow<'a>]) -> Result<Vec<EntryRow<'a>>, AllocError>
-    ensures { IfOk result (λ found. found.items ≡ filter (λ row. row.is_live) group.now) }
-{
-    let mut found = Vec::with_capacity(alloc, group.len())?;
-    for row in group {
-        if row.is_live {
-            found.push(*row)?;
-        }
-    }
-    Ok(found)
-}
-
 /// Adds what the entries of one message are merged to, where the message is kept.
 fn push_group(
     alloc: Global,
     parts: &mut TextParts,
     text: &[u8],
     options: &MergeOptions,
-    group: &[EntryRow<'_>],
+    group: Vec<EntryRow<'_>>,
 ) -> Result<(), PoError>
-    requires some { 0 < length group.now }
-    requires rows { (entries : List merge.NamedEntry) × AreRows text.now entries group.now }
+    requires some { 0 < length group.items }
+    requires rows { (entries : List merge.NamedEntry) × AreRows text.now entries group.items }
     ensures pushed { OnOk result ((entries : List merge.NamedEntry) (before : List TextEntry)
-        → AreRows text.now entries group.now → AreWritten before parts.old
+        → AreRows text.now entries group.entry.items → AreWritten before parts.old
         → AreWritten (before ++ merged_messages options.now (definitions entries ∷ [])) parts.new) }
     ensures fault { IfErr result (λ error. (entries : List merge.NamedEntry)
-        → AreRows text.now entries group.now
+        → AreRows text.now entries group.entry.items
         → IsMergeFault (merged_messages options.now (definitions entries ∷ [])) error) }
 {
-    if are_mixed(group) {
-        let live = live(alloc, group)?;
-        return push_message(alloc, parts, text, options, &live);
+    one_definition_stays();
+    let Some(rows) = kept_definitions(group, options) else {
+        return Ok(());
+    };
+    if rows.len() < 2 {
+        return Ok(push_copy(parts, text, &rows[0])?);
     }
-    push_message(alloc, parts, text, options, group)
+    let merged = match merged_again(alloc, text, options, &rows) {
+        Ok(merged) => merged,
+        Err(error) => return Err(error),
+    };
+    Ok(parts.add(merged.entries())?)
 }
 
 /// What the groups of entries are merged to.
 fn merge_groups(
     alloc: Global,
     text: &[u8],
-    groups: &[Vec<EntryRow<'_>>],
+    groups: Vec<Vec<EntryRow<'_>>>,
     options: &MergeOptions,
 ) -> Result<TextParts, PoError>
-    requires { (all : List (List merge.NamedEntry)) × AreGroups text.now all groups.now }
-    ensures { (all : List (List merge.NamedEntry)) → AreGroups text.now all groups.now
+    requires { (all : List (List merge.NamedEntry)) × AreGroups text.now all groups.items }
+    ensures { (all : List (List merge.NamedEntry)) → AreGroups text.now all groups.entry.items
         → MatchResult result (AreWritten (merged_messages options.now (map definitions all)))
         (IsMergeFault (merged_messages options.now (map definitions all))) }
 {
@@ -265,7 +192,7 @@ pub(crate) fn merged_text(
 {
     groups_are_numbered();
     let groups = groups_of(alloc, &inputs.rows, &inputs.numbers)?;
-    match merge_groups(alloc, &inputs.text, &groups, options) {
+    match merge_groups(alloc, &inputs.text, groups, options) {
         Ok(parts) => Ok(parts.join()?),
         Err(error) => Err(error),
     }

@@ -1,8 +1,8 @@
 -- The groups of valid entries, and what is merged of them.
 use Rattle.std.proofs.Common.{◌≡◌, ℕ, ◌+◌, ◌<◌, Bool, true, false, cond, ◌||◌, List, [], ◌∷◌, ◌++◌, refl, sym, ap, ap₂, ◌∙◌, subst, map, filter, take, get_or, length, arith, zero, suc, inl, inr}
 use Rattle.std.specs.Prelude.{All, if◌then◌else◌}
-use Rattle.std.specs.List.{list_any}
 use Rattle.std.specs.Global.{Vec}
+use Rattle.std.specs.List.{list_any}
 use Rattle.std.proofs.lemmas.Bool.{false≢true}
 use Rattle.std.proofs.Math.ListN.{get_or-map}
 use Rattle.std.proofs.lemmas.List.{take_more, map-append, length-map}
@@ -10,7 +10,7 @@ use Rattle.std.proofs.lemmas.List.Folds.{list_any_at}
 use Rattle.std.proofs.lemmas.List.Elements.{All-head, All-filter, All-map, filter-append}
 use Rattle.po_syntax.specs.declared.fault.PoError.{PoError}
 use Rattle.po_entry.specs.Facts.Halves.{All-left, All-right}
-use Rattle.po_entry.specs.Header.{HasAdmittedCharset}
+use Rattle.po_entry.specs.Header.{HasAdmittedCharset, is_header}
 use Rattle.po_entry.specs.TextEntry.{TextEntry}
 use Rattle.po_entry.specs.Validity.{IsRefusedEntry}
 use Rattle.po_messages.specs.Joined.{is_live}
@@ -18,13 +18,14 @@ use Rattle.po_messages.proofs.FirstOnes.{any_first_ones}
 use Rattle.po_merge.specs.declared.definition.NamedEntry.{NamedEntry as BorrowedEntry}
 use Rattle.po_merge.specs.declared.input.MergeOptions.{MergeOptions}
 use Rattle.po_merge.specs.Inputs.{NamedEntry}
-use Rattle.po_merge.specs.InputsView.{named_entries}
-use Rattle.po_merge.specs.Groups.{same_message, first_ones, groups, definitions}
+use Rattle.po_merge.specs.InputsView.{named_entries, named_entry}
+use Rattle.po_merge.specs.Groups.{same_message, first_ones, groups, definitions, definitions_by}
 use Rattle.po_merge.specs.Grouping.{IsDefinition, IsGroup, group_entries}
 use Rattle.po_merge.specs.MergedEntry.{merged_entry}
-use Rattle.po_merge.specs.Merged.{is_kept, merged_messages, IsMergeFault}
+use Rattle.po_merge.specs.Merged.{is_kept, is_kept_by, is_wanted, merged_messages, IsMergeFault}
 use Rattle.po_merge.proofs.FirstOnes.{group_of}
 use Rattle.po_merge.proofs.Messages.{same_message_laws}
+use Rattle.po_merge.proofs.Views.{any_named}
 
 pub some_passes : {X : Type 0} (p : X → Bool) (xs : List X) → list_any p xs ≡ true → 0 < length (filter p xs)
 some_passes p [] h = absurd (false≢true h)
@@ -48,51 +49,92 @@ groups_valid es h = All-map IsGroup (group_of same_message es) F (λ k d below. 
     valid = All-filter (λ e. same_message e f) IsDefinition es h;
   }
 
--- the group at an index
-pub group_at : (gs : List (Vec BorrowedEntry)) (i : ℕ) (g : Vec BorrowedEntry) → i < length gs → g ≡ get_or gs i g → All IsGroup (group_entries gs) → IsGroup (named_entries g.items)
-group_at gs i g below at all =
-    let f : Vec BorrowedEntry → List NamedEntry = λ v. named_entries v.items in
-    let inside : i < length (map f gs) = omega (arith, below, length-map gs f) in
-    subst IsGroup (get_or-map f gs i g ∙ ap f (sym at)) (all i (f g) inside)
-
 pub live_valid : (group : List NamedEntry) → IsGroup group → list_any (λ d. is_live d.entry) group ≡ true → IsGroup (filter (λ d. is_live d.entry) group)
 live_valid group h live = record { some = some_passes (λ (d : NamedEntry). is_live d.entry) group live; valid = All-filter (λ d. is_live d.entry) IsDefinition group h.valid }
 
-pub all_live : (group : List NamedEntry) → list_any (λ d. is_live d.entry) group ≡ true → definitions group ≡ filter (λ d. is_live d.entry) group
-all_live group live = ap (λ (b : Bool). if b then filter (λ d. is_live d.entry) group else group) live
+pub definitions_some : {X : Type 0} (live : X → Bool) (group : List X) → 0 < length group → 0 < length (definitions_by live group)
+definitions_some live group some = found (list_any live group) refl where
+  found : (b : Bool) → list_any live group ≡ b → 0 < length (if b then filter live group else group)
+  found true e = some_passes live group e
+  found false e = some
 
-pub none_live : (group : List NamedEntry) → list_any (λ d. is_live d.entry) group ≡ false → definitions group ≡ group
-none_live group none = ap (λ (b : Bool). if b then filter (λ d. is_live d.entry) group else group) none
+pub definitions_valid : (group : List NamedEntry) → IsGroup group → IsGroup (definitions group)
+definitions_valid group h = found (list_any (λ d. is_live d.entry) group) refl where
+  found : (b : Bool) → list_any (λ d. is_live d.entry) group ≡ b → IsGroup (if b then filter (λ d. is_live d.entry) group else group)
+  found true e = live_valid group h e
+  found false e = h
+
+live_named : (ds : List BorrowedEntry) → named_entries (filter (λ d. is_live d.entry.now) ds) ≡ filter (λ d. is_live d.entry) (named_entries ds)
+live_named [] = refl
+live_named (d ∷ ds) = found (is_live d.entry.now) (live_named ds) where
+  found : (b : Bool) → named_entries (filter (λ x. is_live x.entry.now) ds) ≡ filter (λ x. is_live x.entry) (named_entries ds)
+      → named_entries (cond b (d ∷ filter (λ x. is_live x.entry.now) ds) (filter (λ x. is_live x.entry.now) ds)) ≡ cond b (named_entry d ∷ filter (λ x. is_live x.entry) (named_entries ds)) (filter (λ x. is_live x.entry) (named_entries ds))
+  found true more = ap (λ (l : List NamedEntry). named_entry d ∷ l) more
+  found false more = more
+
+-- what defines a message, and whether it is kept, by the entries as the code holds them
+pub definitions_named : (ds : List BorrowedEntry) → named_entries (definitions_by (λ d. is_live d.entry.now) ds) ≡ definitions (named_entries ds)
+definitions_named ds =
+    found (list_any (λ d. is_live d.entry.now) ds)
+    ∙ ap (λ (b : Bool). if b then filter (λ d. is_live d.entry) (named_entries ds) else named_entries ds) (any_named is_live ds) where
+      found : (b : Bool) → named_entries (if b then filter (λ d. is_live d.entry.now) ds else ds) ≡ (if b then filter (λ d. is_live d.entry) (named_entries ds) else named_entries ds)
+      found true = live_named ds
+      found false = refl
+
+pub kept_named : (o : MergeOptions) (ds : List BorrowedEntry) → is_kept_by (λ d. is_header d.entry.now) o ds ≡ is_kept o (named_entries ds)
+kept_named o ds = ap₂ (λ (b : Bool) (n : ℕ). b || is_wanted o n) (any_named is_header ds) (sym (length-map ds named_entry))
+
+-- what is merged of one message
+pub kept_one : (o : MergeOptions) (ds : List NamedEntry) → is_kept o ds ≡ true → merged_messages o (ds ∷ []) ≡ merged_entry o ds ∷ []
+kept_one o ds some = ap (λ (b : Bool). map (merged_entry o) (cond b (ds ∷ []) [])) some
+
+pub dropped_one : (o : MergeOptions) (ds : List NamedEntry) → is_kept o ds ≡ false → merged_messages o (ds ∷ []) ≡ []
+dropped_one o ds none = ap (λ (b : Bool). map (merged_entry o) (cond b (ds ∷ []) [])) none
+
+-- and of a group
+pub dropped_group : (o : MergeOptions) (group : List BorrowedEntry) → is_kept_by (λ d. is_header d.entry.now) o (definitions_by (λ d. is_live d.entry.now) group) ≡ false → merged_messages o (definitions (named_entries group) ∷ []) ≡ []
+dropped_group o group none =
+    dropped_one o (definitions (named_entries group)) (ap (is_kept o) (sym (definitions_named group)) ∙ sym (kept_named o (definitions_by (λ d. is_live d.entry.now) group)) ∙ none)
+
+module _ (group ds : List BorrowedEntry) (are : ds ≡ definitions_by (λ d. is_live d.entry.now) group) where
+  pub of_group : named_entries ds ≡ definitions (named_entries group)
+  of_group = ap named_entries are ∙ definitions_named group
+
+  pub kept_group : (o : MergeOptions) → is_kept_by (λ d. is_header d.entry.now) o ds ≡ true → merged_messages o (definitions (named_entries group) ∷ []) ≡ merged_entry o (named_entries ds) ∷ []
+  kept_group o some = ap (λ (l : List NamedEntry). merged_messages o (l ∷ [])) (sym of_group) ∙ kept_one o (named_entries ds) (sym (kept_named o ds) ∙ some)
+
+  pub group_kept : IsGroup (named_entries group) → IsGroup (named_entries ds)
+  group_kept h = subst IsGroup (sym of_group) (definitions_valid (named_entries group) h)
 
 pub messages_append : (o : MergeOptions) (xs ys : List (List NamedEntry)) → merged_messages o (xs ++ ys) ≡ merged_messages o xs ++ merged_messages o ys
 messages_append o xs ys = ap (map (merged_entry o)) (filter-append (is_kept o) xs ys) ∙ map-append (merged_entry o) (filter (is_kept o) xs) (filter (is_kept o) ys)
 
-abbrev pub of_groups : MergeOptions → List (Vec BorrowedEntry) → List TextEntry
-of_groups o gs = merged_messages o (map definitions (group_entries gs))
-
-pub of_groups_more : (o : MergeOptions) (gs : List (Vec BorrowedEntry)) (i : ℕ) (g : Vec BorrowedEntry) → i < length gs → g ≡ get_or gs i g
-    → of_groups o (take (i + 1) gs) ≡ of_groups o (take i gs) ++ merged_messages o (definitions (named_entries g.items) ∷ [])
-of_groups_more o gs i g below at =
+-- the group at an index
+pub group_here : (gs : List (Vec BorrowedEntry)) (i : ℕ) (g : Vec BorrowedEntry) → i < length gs → g ≡ get_or gs i g
+    → (i < length (group_entries gs)) × (get_or (group_entries gs) i (named_entries g.items) ≡ named_entries g.items)
+group_here gs i g below at =
     let f : Vec BorrowedEntry → List NamedEntry = λ v. named_entries v.items in
-    ap (of_groups o) (take_more gs i g below ∙ ap (λ (x : Vec BorrowedEntry). take i gs ++ x ∷ []) (sym at))
-    ∙ ap (λ (l : List (List NamedEntry)). merged_messages o (map definitions l)) (map-append f (take i gs) (g ∷ []))
-    ∙ ap (merged_messages o) (map-append definitions (map f (take i gs)) (f g ∷ [])) ∙ messages_append o (map definitions (map f (take i gs))) (definitions (f g) ∷ [])
+    (omega (arith, below, length-map gs f), get_or-map f gs i g ∙ ap f (sym at))
+
+abbrev pub of_groups : MergeOptions → List (List NamedEntry) → List TextEntry
+of_groups o all = merged_messages o (map definitions all)
+
+pub of_groups_more : (o : MergeOptions) (all : List (List NamedEntry)) (i : ℕ) (d : List NamedEntry) → i < length all → of_groups o (take i all) ++ merged_messages o (definitions (get_or all i d) ∷ []) ≡ of_groups o (take (i + 1) all)
+of_groups_more o all i d inside =
+    sym (ap (of_groups o) (take_more all i d inside) ∙ ap (merged_messages o) (map-append definitions (take i all) (get_or all i d ∷ [])) ∙ messages_append o (map definitions (take i all)) (definitions (get_or all i d) ∷ []))
 
 -- entries among others that can't stand in a catalogue
-within : (o : MergeOptions) (gs : List (Vec BorrowedEntry)) (i : ℕ) (g : Vec BorrowedEntry) → i < length gs → g ≡ get_or gs i g → All HasAdmittedCharset (of_groups o gs) → All HasAdmittedCharset (merged_messages o (definitions (named_entries g.items) ∷ []))
-within o [] i g below at all = absurd (omega (arith, below))
-within o (x ∷ gs) zero g below at all =
-    let split = subst (All HasAdmittedCharset) (messages_append o (definitions (named_entries x.items) ∷ []) (map definitions (group_entries gs))) all in
-    subst (λ (v : Vec BorrowedEntry). All HasAdmittedCharset (merged_messages o (definitions (named_entries v.items) ∷ []))) (sym at) (All-left HasAdmittedCharset (merged_messages o (definitions (named_entries x.items) ∷ [])) (of_groups o gs) split)
-within o (x ∷ gs) (suc i) g below at all =
-    let split = subst (All HasAdmittedCharset) (messages_append o (definitions (named_entries x.items) ∷ []) (map definitions (group_entries gs))) all in
-    let less : i < length gs = omega (arith, below) in
-    within o gs i g less at (All-right HasAdmittedCharset (merged_messages o (definitions (named_entries x.items) ∷ [])) (of_groups o gs) split)
+within : (o : MergeOptions) (all : List (List NamedEntry)) (i : ℕ) (d : List NamedEntry) → i < length all → All HasAdmittedCharset (of_groups o all) → All HasAdmittedCharset (merged_messages o (definitions (get_or all i d) ∷ []))
+within o [] i d inside admitted = absurd (omega (arith, inside))
+within o (g ∷ all) zero d inside admitted =
+    All-left HasAdmittedCharset (merged_messages o (definitions g ∷ [])) (of_groups o all) (subst (All HasAdmittedCharset) (messages_append o (definitions g ∷ []) (map definitions all)) admitted)
+within o (g ∷ all) (suc i) d inside admitted =
+    let less : i < length all = omega (arith, inside) in
+    within o all i d less (All-right HasAdmittedCharset (merged_messages o (definitions g ∷ [])) (of_groups o all) (subst (All HasAdmittedCharset) (messages_append o (definitions g ∷ []) (map definitions all)) admitted))
 
-pub fault_within : (o : MergeOptions) (gs : List (Vec BorrowedEntry)) (i : ℕ) (g : Vec BorrowedEntry) (error : PoError) → i < length gs → g ≡ get_or gs i g
-    → IsMergeFault (merged_messages o (definitions (named_entries g.items) ∷ [])) error → IsMergeFault (of_groups o gs) error
-fault_within o gs i g error below at (inl memory) = inl memory
-fault_within o gs i g error below at (inr foreign) = inr (λ all. foreign.0 (within o gs i g below at all), foreign.1)
+pub fault_within : (o : MergeOptions) (all : List (List NamedEntry)) (i : ℕ) (d : List NamedEntry) (error : PoError) → i < length all → IsMergeFault (merged_messages o (definitions (get_or all i d) ∷ [])) error → IsMergeFault (of_groups o all) error
+fault_within o all i d error inside (inl memory) = inl memory
+fault_within o all i d error inside (inr foreign) = inr (λ admitted. foreign.0 (within o all i d inside admitted), foreign.1)
 
 abbrev at_no_line : PoError → PoError
 at_no_line e = record { kind = e.kind; line = 0 }

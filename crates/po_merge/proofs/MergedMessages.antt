@@ -14,7 +14,7 @@ use Rattle.po_merge.specs.MergedEntry.{merged_entry, joined_forms, translations,
 use Rattle.po_merge.specs.Merged.{is_kept, messages}
 use Rattle.po_merge.specs.MergeLaws.{IsInput, OneDefinitionStays, MergedAreEntries, MergedCanStand, FormsAreOfOne}
 use Rattle.po_merge.proofs.Valid.{merged_is_entry, first_with_keeps}
-use Rattle.po_merge.proofs.GroupsMerged.{groups_valid, live_valid}
+use Rattle.po_merge.proofs.GroupsMerged.{definitions_valid, groups_valid}
 use Rattle.po_merge.proofs.OneDefinition.{one_definition}
 
 inputs_valid : (inputs : List Named) → All IsInput inputs → All IsDefinition (all_entries inputs)
@@ -24,12 +24,6 @@ inputs_valid (input ∷ inputs) h =
     All-append IsDefinition (map (named input.name) input.entries) (all_entries inputs)
     (All-map IsDefinition (named input.name) input.entries (All-weaker IsCatalogueEntry (λ e. IsDefinition (named input.name e)) (λ e v. record { valid = v.valid; utf8 = here.name.utf8; no_nul = here.name.no_nul }) input.entries here.entries))
     (inputs_valid inputs (All-tail IsInput input inputs h))
-
-definitions_valid : (group : List NamedEntry) → IsGroup group → IsGroup (definitions group)
-definitions_valid group h = found (list_any (λ d. is_live d.entry) group) refl where
-  found : (b : Bool) → list_any (λ d. is_live d.entry) group ≡ b → IsGroup (if b then filter (λ d. is_live d.entry) group else group)
-  found true e = live_valid group h e
-  found false e = h
 
 pub merged_entries : (o : MergeOptions) (inputs : List Named) → MergedAreEntries o inputs
 merged_entries o inputs h =

@@ -25,6 +25,9 @@ with_number n (number ∷ numbers) (thing ∷ things) =
 abbrev pub by_number : {X : Type 0} → ℕ → List ℕ → List X → List (List X)
 by_number count numbers things = map (λ n. with_number n numbers things) (range_with_len 0 count)
 
--- What defines the message of a group: its live entries, or all where none is live.
+-- What defines the message of a group: its live members, or all where none is live.
+abbrev pub definitions_by : {X : Type 0} → (X → Bool) → List X → List X
+definitions_by live group = if list_any live group then filter live group else group
+
 abbrev pub definitions : List NamedEntry → List NamedEntry
-definitions group = if list_any (λ d. is_live d.entry) group then filter (λ d. is_live d.entry) group else group
+definitions group = definitions_by (λ d. is_live d.entry) group

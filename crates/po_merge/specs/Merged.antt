@@ -22,8 +22,11 @@ abbrev pub is_wanted : MergeOptions → ℕ → Bool
 is_wanted o count = nat_lt o.more_than count && is_below o.less_than count && (not o.unique || nat_lt count 2)
 
 -- The message of a header is kept, however many definitions it has.
+abbrev pub is_kept_by : {X : Type 0} → (X → Bool) → MergeOptions → List X → Bool
+is_kept_by header o ds = list_any header ds || is_wanted o (length ds)
+
 abbrev pub is_kept : MergeOptions → List NamedEntry → Bool
-is_kept o ds = list_any (λ d. is_header d.entry) ds || is_wanted o (length ds)
+is_kept o ds = is_kept_by (λ d. is_header d.entry) o ds
 
 -- the definitions of each message, in the order in which the messages first appear
 abbrev pub messages : List Named → List (List NamedEntry)

@@ -1,18 +1,16 @@
-//! The definitions of one message, and which of them is taken.
+//! The definitions of one message: which members of a group they are, and which of them is taken.
 
-ghost use Rattle.std.specs.Prelude.{◌≡◌, ◌<◌, ◌||◌, length, is_some, filter, IfOk};
+ghost use Rattle.std.specs.Prelude.{◌≡◌, ◌<◌, ◌||◌, Bool, IfNone, IfSome, false, filter, is_some, length, true};
 ghost use Rattle.std.specs.List.{list_any};
-ghost use Rattle.po_messages.specs.Joined.{is_live};
-ghost use Rattle.po_entry.specs.Header.{is_header};
+ghost use Rattle.po_merge.specs.Groups.{definitions_by};
 ghost use Rattle.po_merge.specs.InputsView.{named_entries};
-ghost use Rattle.po_merge.specs.Merged.{is_kept, is_wanted};
+ghost use Rattle.po_merge.specs.Merged.{is_kept_by, is_wanted};
 ghost use Rattle.po_merge.specs.MergedEntry.{first_with};
 ghost use Rattle.po_merge.specs.Internal.FirstParts.{has_part};
 
 use crate::input::MergeOptions;
 use po_entry::{Entry, Previous};
 use po_messages::{has_translation, is_live};
-use std::alloc::{AllocError, Global};
 
 /// An entry of one of several inputs, with that input's name.
 #[derive(Clone, Copy)]
@@ -23,41 +21,40 @@ pub struct NamedEntry<'a> {
     pub entry: &'a Entry,
 }
 
-/// Whether one of the entries is live.
-pub(crate) fn has_live(group: &[NamedEntry<'_>]) -> bool
-    ensures { result ≡ list_any (λ d. is_live d.entry.now) group.now }
-{
-    group.iter().any(|definition| is_live(definition.entry))
+/// An entry that is grouped with others of its message, however its texts are kept.
+pub trait Member: Copy {
+    ghost live: { Self → Bool };
+
+    ghost header: { Self → Bool };
+
+    /// Whether it isn't obsolete.
+    fn is_live(&self) -> bool
+        ensures { result ≡ live self.now };
+
+    /// Whether it is a header.
+    fn is_header(&self) -> bool
+        ensures { result ≡ header self.now };
 }
 
-/// The live entries of a group.
-pub(crate) fn live<'a>(
-    alloc: Global,
-    group: &[NamedEntry<'a>],
-) -> Result<Vec<NamedEntry<'a>>, AllocError>
-    ensures { IfOk result (λ found. named_entries found.items
-        ≡ filter (λ d. is_live d.entry) (named_entries group.now)) }
-{
-    let mut found = Vec::with_capacity(alloc, group.len())?;
-    for definition in group {
-        if is_live(definition.entry) {
-            found.push(*definition)?;
-        }
+impl Member for NamedEntry<'_> {
+    ghost use Rattle.po_entry.specs.Header.{is_header};
+    ghost use Rattle.po_messages.specs.Joined.{is_live};
+
+    ghost live = { λ d. is_live d.entry.now };
+
+    ghost header = { λ d. is_header d.entry.now };
+
+    fn is_live(&self) -> bool {
+        is_live(self.entry)
     }
-    Ok(found)
-}
 
-/// Whether one of the definitions is a header.
-fn has_header(definitions: &[NamedEntry<'_>]) -> bool
-    ensures { result ≡ list_any (λ d. is_header d.entry.now) definitions.now }
-{
-    definitions
-        .iter()
-        .any(|definition| definition.entry.is_header())
+    fn is_header(&self) -> bool {
+        self.entry.is_header()
+    }
 }
 
 /// Whether messages with this many definitions are asked for.
-pub fn is_wanted(options: &MergeOptions, count: usize) -> bool
+fn is_wanted(options: &MergeOptions, count: usize) -> bool
     ensures { result ≡ is_wanted options.now count }
 {
     let is_below = match options.less_than {
@@ -67,11 +64,55 @@ pub fn is_wanted(options: &MergeOptions, count: usize) -> bool
     (options.more_than as usize) < count && is_below && (!options.unique || count < 2)
 }
 
+/// Whether one of the definitions is a header.
+fn has_header<T: Member>(definitions: &[T]) -> bool
+    ensures { result ≡ list_any T.header definitions.now }
+{
+    definitions.iter().any(|definition| definition.is_header())
+}
+
 /// Whether the message of these definitions is kept.
-pub(crate) fn is_kept(definitions: &[NamedEntry<'_>], options: &MergeOptions) -> bool
-    ensures { result ≡ is_kept options.now (named_entries definitions.now) }
+fn is_kept<T: Member>(definitions: &[T], options: &MergeOptions) -> bool
+    ensures { result ≡ is_kept_by T.header options.now definitions.now }
 {
     has_header(definitions) || is_wanted(options, definitions.len())
+}
+
+/// Whether one of the members is live.
+fn has_live<T: Member>(group: &[T]) -> bool
+    ensures { result ≡ list_any T.live group.now }
+{
+    group.iter().any(|member| member.is_live())
+}
+
+/// Leaves the live members.
+fn keep_live<T: Member>(group: &mut Vec<T>)
+    ensures { group.new.items ≡ filter T.live group.old.items }
+{
+    group.retain(|member| member.is_live());
+}
+
+/// Leaves the definitions of a group's message: its live members, or all where none is live.
+fn keep_definitions<T: Member>(group: &mut Vec<T>)
+    ensures { group.new.items ≡ definitions_by T.live group.old.items }
+{
+    if has_live(group) {
+        keep_live(group);
+    }
+}
+
+/// The definitions of a group's message, where the message is kept.
+pub fn kept_definitions<T: Member>(group: Vec<T>, options: &MergeOptions) -> Option<Vec<T>>
+    ensures none { IfNone result (is_kept_by T.header options.now (definitions_by T.live group.items) ≡ false) }
+    ensures some { IfSome result (λ definitions. (definitions.items ≡ definitions_by T.live group.items)
+        × (is_kept_by T.header options.now definitions.items ≡ true)) }
+{
+    let mut definitions = group;
+    keep_definitions(&mut definitions);
+    if !is_kept(&definitions, options) {
+        return None;
+    }
+    Some(definitions)
 }
 
 /// A part that some definitions have.

@@ -17,7 +17,7 @@ mod joined_translations;
 pub mod laws;
 mod merging;
 
-pub use crate::definition::{NamedEntry, is_wanted};
+pub use crate::definition::{Member, NamedEntry, kept_definitions};
 pub use crate::grouping::groups_of;
 pub use crate::input::{MergeOptions, Named};
 pub use crate::merging::{merge, merge_definitions};

@@ -10,7 +10,7 @@ ghost use Rattle.po_merge.specs.Groups.{definitions};
 ghost use Rattle.po_merge.specs.Merged.{IsMergeFault, merged, merged_messages};
 
 use crate::comments::comment_of;
-use crate::definition::{NamedEntry, Part, first_with, has_live, is_kept, live};
+use crate::definition::{NamedEntry, Part, first_with, kept_definitions};
 use crate::grouping::grouped;
 use crate::input::{MergeOptions, Named};
 use crate::joined_translations::{joined_forms, translations};
@@ -136,58 +136,37 @@ pub fn merge_definitions(
     Ok(merged)
 }
 
-/// Adds what the definitions of one message are merged to, where the message is kept.
-fn push_message(
-    alloc: Global,
-    merged: &mut Catalogue,
-    options: &MergeOptions,
-    definitions: &[NamedEntry<'_>],
-) -> Result<(), PoError>
-    requires some { 0 < length definitions.now }
-    requires valid { All IsDefinition (named_entries definitions.now) }
-    ensures pushed { OnOk result (merged.new ≡ merged.old
-        ++ merged_messages options.now (named_entries definitions.now ∷ [])) }
-    ensures fault { IfErr result (IsMergeFault (merged_messages options.now (named_entries definitions.now ∷ []))) }
-{
-    if !is_kept(definitions, options) {
-        return Ok(());
-    }
-    let entry = merged_entry(alloc, options, definitions)?;
-    push_entry(merged, entry)
-}
-
 /// Adds what the entries of one message are merged to, where the message is kept.
 fn push_group(
     alloc: Global,
     merged: &mut Catalogue,
     options: &MergeOptions,
-    group: &[NamedEntry<'_>],
+    group: Vec<NamedEntry<'_>>,
 ) -> Result<(), PoError>
-    requires some { 0 < length group.now }
-    requires valid { All IsDefinition (named_entries group.now) }
+    requires { IsGroup (named_entries group.items) }
     ensures pushed { OnOk result (merged.new ≡ merged.old
-        ++ merged_messages options.now (definitions (named_entries group.now) ∷ [])) }
+        ++ merged_messages options.now (definitions (named_entries group.entry.items) ∷ [])) }
     ensures fault { IfErr result (IsMergeFault
-        (merged_messages options.now (definitions (named_entries group.now) ∷ []))) }
+        (merged_messages options.now (definitions (named_entries group.entry.items) ∷ []))) }
 {
-    if has_live(group) {
-        let live = live(alloc, group)?;
-        return push_message(alloc, merged, options, &live);
-    }
-    push_message(alloc, merged, options, group)
+    let Some(definitions) = kept_definitions(group, options) else {
+        return Ok(());
+    };
+    let entry = merged_entry(alloc, options, &definitions)?;
+    push_entry(merged, entry)
 }
 
 /// What the entries of all messages are merged to.
 fn merge_groups(
     alloc: Global,
-    groups: &[Vec<NamedEntry<'_>>],
+    groups: Vec<Vec<NamedEntry<'_>>>,
     options: &MergeOptions,
 ) -> Result<Catalogue, PoError>
-    requires { All IsGroup (group_entries groups.now) }
+    requires { All IsGroup (group_entries groups.items) }
     ensures merged { IfOk result (λ catalogue. catalogue
-        ≡ merged_messages options.now (map definitions (group_entries groups.now))) }
+        ≡ merged_messages options.now (map definitions (group_entries groups.entry.items))) }
     ensures fault { IfErr result (IsMergeFault
-        (merged_messages options.now (map definitions (group_entries groups.now)))) }
+        (merged_messages options.now (map definitions (group_entries groups.entry.items)))) }
 {
     let mut merged = Catalogue::new(alloc);
     for group in groups {
@@ -215,5 +194,5 @@ pub fn merge<'a>(
     ensures fault { IfErr result (IsMergeFault (merged options.now (inputs_view inputs.now))) }
 {
     let groups = grouped(alloc, inputs)?;
-    merge_groups(alloc, &groups, options)
+    merge_groups(alloc, groups, options)
 }

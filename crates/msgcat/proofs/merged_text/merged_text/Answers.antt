@@ -23,18 +23,18 @@ merge_groups-requires c =
     let es = c.requires.0 in
     let h = c.requires.1 in (
       groups es,
-      groups_hold c.args.inputs.now.text.items c.deref-3.result.now es c.args.inputs.now.rows.items c.deref.result.now c.in_ok-groups.groups.items c.deref-4.result.now c.deref-2.result.now h.rows c.deref-3.ensures.value c.deref.ensures.value
-          c.deref-4.ensures.value (c.deref-2.ensures.value ∙ h.numbers) (c.in_ok-groups.ensures (named_messages es) (c.deref-2.ensures.value ∙ h.numbers)) (c.groups_are_numbered.ensures es),
+      groups_hold c.args.inputs.now.text.items c.deref-3.result.now es c.args.inputs.now.rows.items c.deref.result.now c.in_ok-groups.groups.items c.deref-2.result.now h.rows c.deref-3.ensures.value c.deref.ensures.value
+          (c.deref-2.ensures.value ∙ h.numbers) (c.in_ok-groups.ensures (named_messages es) (c.deref-2.ensures.value ∙ h.numbers)) (c.groups_are_numbered.ensures es),
     )
 
-pub returns-in-Ok : goal.returns-in-Ok
-returns-in-Ok c = λ es h.
-    let are = groups_hold c.args.inputs.now.text.items c.deref-3.result.now es c.args.inputs.now.rows.items c.deref.result.now c.in_ok-groups.groups.items c.deref-4.result.now c.deref-2.result.now h.rows c.deref-3.ensures.value c.deref.ensures.value
-    c.deref-4.ensures.value (c.deref-2.ensures.value ∙ h.numbers) (c.in_ok-groups.ensures (named_messages es) (c.deref-2.ensures.value ∙ h.numbers)) (c.groups_are_numbered.ensures es) in
+pub returns-in_ok-join-in-Ok : goal.returns-in_ok-join-in-Ok
+returns-in_ok-join-in-Ok c = λ es h.
+    let are = groups_hold c.args.inputs.now.text.items c.deref-3.result.now es c.args.inputs.now.rows.items c.deref.result.now c.in_ok-groups.groups.items c.deref-2.result.now h.rows c.deref-3.ensures.value c.deref.ensures.value
+    (c.deref-2.ensures.value ∙ h.numbers) (c.in_ok-groups.ensures (named_messages es) (c.deref-2.ensures.value ∙ h.numbers)) (c.groups_are_numbered.ensures es) in
     let written = c.in-Ok.ensures (groups es) are in
     record { admitted = written.admitted; text_is = c.in_ok-join-in-Ok.ensures.written _ written.parts_are }
 
-pub returns : goal.returns
-returns c = λ es h.
-    c.in-Err.ensures (groups es) (groups_hold c.args.inputs.now.text.items c.deref-3.result.now es c.args.inputs.now.rows.items c.deref.result.now c.in_ok-groups.groups.items c.deref-4.result.now c.deref-2.result.now h.rows c.deref-3.ensures.value c.deref.ensures.value
-    c.deref-4.ensures.value (c.deref-2.ensures.value ∙ h.numbers) (c.in_ok-groups.ensures (named_messages es) (c.deref-2.ensures.value ∙ h.numbers)) (c.groups_are_numbered.ensures es))
+pub returns-in-Err : goal.returns-in-Err
+returns-in-Err c = λ es h.
+    c.in-Err.ensures (groups es) (groups_hold c.args.inputs.now.text.items c.deref-3.result.now es c.args.inputs.now.rows.items c.deref.result.now c.in_ok-groups.groups.items c.deref-2.result.now h.rows c.deref-3.ensures.value c.deref.ensures.value
+    (c.deref-2.ensures.value ∙ h.numbers) (c.in_ok-groups.ensures (named_messages es) (c.deref-2.ensures.value ∙ h.numbers)) (c.groups_are_numbered.ensures es))

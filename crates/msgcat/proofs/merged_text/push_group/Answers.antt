@@ -1,58 +1,85 @@
-use Rattle.std.proofs.Common.{◌++◌, ◌∷◌, [], ◌∙◌, ap, arith, filter, length, subst, sym}
-use Rattle.std.specs.List.{list_any}
-use Rattle.std.proofs.lemmas.Result.{IfErr-weaker, on_ok_weaker}
-use Rattle.po_messages.specs.Joined.{is_live}
-use Rattle.po_merge.specs.Merged.{IsMergeFault, merged_messages}
-use Rattle.po_merge.proofs.GroupsMerged.{some_passes}
+use Rattle.std.proofs.Common.{◌≡◌, ◌++◌, ◌∷◌, [], ◌∙◌, Bool, ap, append-nil, arith, false, length, subst, sym, true}
+use Rattle.std.specs.Prelude.{All, IfNone, IfSome}
+use Rattle.std.specs.Global.{Vec}
+use Rattle.po_entry.specs.Validity.{IsCatalogueEntry}
+use Rattle.po_merge.proofs.GroupsMerged.{definitions_some, kept_one}
+use Rattle.po_merge.specs.Groups.{definitions, definitions_by}
+use Rattle.po_merge.specs.Merged.{IsMergeFault, is_kept_by, merged_messages}
+use Rattle.po_writer.specs.TextParts.{AreParts}
 use Rattle.msgcat.specs.Internal.Entries.{AreRows}
 use Rattle.msgcat.specs.Internal.MergedText.{AreWritten}
-use Rattle.msgcat.proofs.MergedLemmas.{live_rows, mixed, mixed_rows, some_live, unmixed}
+use Rattle.msgcat.specs.declared.entries.EntryRow.{EntryRow}
+use Rattle.msgcat.proofs.MergedLemmas.{message_copied, message_merged, one_of, rows_dropped, rows_kept}
 use Rattle.msgcat.proofs.merged_text.push_group.Goals as goal
 
-pub push_message-requires-clause-some : goal.push_message-requires-clause-some
-push_message-requires-clause-some c =
-    let group = c.args.group.now in
-    let live = some_live (list_any (λ r. r.is_live) group) _ (sym c.are_mixed.ensures ∙ c.if-are_mixed.true) in
-    let some = some_passes (λ r. r.is_live) group live in
-    omega (arith, some, ap length (c.deref.ensures.value ∙ c.in_ok-live.ensures))
+abbrev live : EntryRow → Bool
+live r = r.is_live
 
-pub push_message-requires-clause-rows : goal.push_message-requires-clause-rows
-push_message-requires-clause-rows c =
+abbrev header : EntryRow → Bool
+header r = r.is_header
+
+pub returns-in_default-clause-pushed : goal.returns-in_default-clause-pushed
+returns-in_default-clause-pushed c = λ es before h have.
+    let o = c.args.options.now in
+    let group = c.args.group.items in
+    let dropped = subst (λ r. IfNone r (is_kept_by header o (definitions_by live group) ≡ false)) c.in_default.is c.kept_definitions.ensures.none in
+    subst (λ l. AreWritten l c.args.parts.now) (sym (ap (λ l. before ++ l) (rows_dropped o c.args.text.now es group h dropped) ∙ append-nil before)) have
+
+pub index-requires : goal.index-requires
+index-requires c =
+    let o = c.args.options.now in
+    let text = c.args.text.now in
+    let group = c.args.group.items in
+    let some = subst (λ r. IfSome r (λ (d : Vec EntryRow). (d.items ≡ definitions_by live group) × (is_kept_by header o d.items ≡ true))) c.in-Some.is c.kept_definitions.ensures.some in
+    omega (arith, definitions_some live group c.requires.some, ap length some.0, c.in-Some.rows.ok.0)
+
+pub returns-then-len-lt2-clause-pushed : goal.returns-then-len-lt2-clause-pushed
+returns-then-len-lt2-clause-pushed c = λ es before h have.
+    let o = c.args.options.now in
+    let text = c.args.text.now in
+    let group = c.args.group.items in
+    let some = subst (λ r. IfSome r (λ (d : Vec EntryRow). (d.items ≡ definitions_by live group) × (is_kept_by header o d.items ≡ true))) c.in-Some.is c.kept_definitions.ensures.some in
+    let held = rows_kept o text es group c.in-Some.rows.items h some.0 some.1 in
+    let few = definitions_some live group c.requires.some in
+    let one =
+    one_of c.in-Some.rows.items c.index.result.now (omega (arith, few, ap length some.0)) (omega (arith, c.if-len-lt2.true, c.len.ensures, c.in-Some.rows.ok.0)) ∙ ap (λ r. r ∷ []) (sym c.index.ensures) in
+    message_copied o text (definitions es) c.index.result.now before c.push_copy.new.parts (c.one_definition_stays.ensures o) (subst (AreRows text (definitions es)) one held.0) held.1
+    (λ d row. c.in_ok-push_copy.ensures d before row have)
+
+pub merged_again-requires-clause-some : goal.merged_again-requires-clause-some
+merged_again-requires-clause-some c =
+    let o = c.args.options.now in
+    let text = c.args.text.now in
+    let group = c.args.group.items in
+    let some = subst (λ r. IfSome r (λ (d : Vec EntryRow). (d.items ≡ definitions_by live group) × (is_kept_by header o d.items ≡ true))) c.in-Some.is c.kept_definitions.ensures.some in
+    omega (arith, definitions_some live group c.requires.some, ap length some.0, ap length c.deref.ensures.value)
+
+pub merged_again-requires-clause-rows : goal.merged_again-requires-clause-rows
+merged_again-requires-clause-rows c =
+    let o = c.args.options.now in
+    let text = c.args.text.now in
+    let group = c.args.group.items in
+    let some = subst (λ r. IfSome r (λ (d : Vec EntryRow). (d.items ≡ definitions_by live group) × (is_kept_by header o d.items ≡ true))) c.in-Some.is c.kept_definitions.ensures.some in
     let es = c.requires.rows.0 in
-    (filter (λ e. is_live e.entry) es, subst (AreRows c.args.text.now (filter (λ e. is_live e.entry) es)) (sym (c.deref.ensures.value ∙ c.in_ok-live.ensures)) (live_rows c.args.text.now es c.args.group.now c.requires.rows.1))
+    (definitions es, subst (AreRows text (definitions es)) (sym c.deref.ensures.value) (rows_kept o text es group c.in-Some.rows.items c.requires.rows.1 some.0 some.1).0)
 
-pub returns-then-are_mixed-clause-pushed : goal.returns-then-are_mixed-clause-pushed
-returns-then-are_mixed-clause-pushed c =
-    on_ok_weaker c.push_message.result
-    (λ pushed es before h have.
+pub returns-in-Err-clause-fault : goal.returns-in-Err-clause-fault
+returns-in-Err-clause-fault c = λ es h.
+    let o = c.args.options.now in
     let text = c.args.text.now in
-    let live = some_live (list_any (λ e. is_live e.entry) es) _ (sym (mixed_rows text es c.args.group.now h) ∙ sym c.are_mixed.ensures ∙ c.if-are_mixed.true) in
-    let rows = subst (AreRows text (filter (λ e. is_live e.entry) es)) (sym (c.deref.ensures.value ∙ c.in_ok-live.ensures)) (live_rows text es c.args.group.now h) in
-    subst (λ l. AreWritten (before ++ merged_messages c.args.options.now (l ∷ [])) c.push_message.new.parts) (sym (mixed es live)) (pushed (filter (λ e. is_live e.entry) es) before rows have))
-    c.push_message.ensures.pushed
-
-pub returns-then-are_mixed-clause-fault : goal.returns-then-are_mixed-clause-fault
-returns-then-are_mixed-clause-fault c =
-    IfErr-weaker c.push_message.result _ _
-    (λ error fault es h.
-    let text = c.args.text.now in
-    let live = some_live (list_any (λ e. is_live e.entry) es) _ (sym (mixed_rows text es c.args.group.now h) ∙ sym c.are_mixed.ensures ∙ c.if-are_mixed.true) in
-    let rows = subst (AreRows text (filter (λ e. is_live e.entry) es)) (sym (c.deref.ensures.value ∙ c.in_ok-live.ensures)) (live_rows text es c.args.group.now h) in
-    subst (λ l. IsMergeFault (merged_messages c.args.options.now (l ∷ [])) error) (sym (mixed es live)) (fault (filter (λ e. is_live e.entry) es) rows))
-    c.push_message.ensures.fault
+    let group = c.args.group.items in
+    let some = subst (λ r. IfSome r (λ (d : Vec EntryRow). (d.items ≡ definitions_by live group) × (is_kept_by header o d.items ≡ true))) c.in-Some.is c.kept_definitions.ensures.some in
+    let held = rows_kept o text es group c.in-Some.rows.items h some.0 some.1 in
+    let rows = subst (AreRows text (definitions es)) (sym c.deref.ensures.value) held.0 in
+    subst (λ l. IsMergeFault l c.in-Err.error) (sym (kept_one o (definitions es) held.1)) (c.in-Err.ensures.fault (definitions es) rows)
 
 pub returns-clause-pushed : goal.returns-clause-pushed
-returns-clause-pushed c =
-    on_ok_weaker c.push_message-2.result
-    (λ pushed es before h have.
-    let same = unmixed es (sym (mixed_rows c.args.text.now es c.args.group.now h) ∙ sym c.are_mixed.ensures ∙ c.if-are_mixed.false) in
-    subst (λ l. AreWritten (before ++ merged_messages c.args.options.now (l ∷ [])) c.push_message-2.new.parts) (sym same) (pushed es before h have))
-    c.push_message-2.ensures.pushed
-
-pub returns-clause-fault : goal.returns-clause-fault
-returns-clause-fault c =
-    IfErr-weaker c.push_message-2.result _ _
-    (λ error fault es h.
-    let same = unmixed es (sym (mixed_rows c.args.text.now es c.args.group.now h) ∙ sym c.are_mixed.ensures ∙ c.if-are_mixed.false) in
-    subst (λ l. IsMergeFault (merged_messages c.args.options.now (l ∷ [])) error) (sym same) (fault es h))
-    c.push_message-2.ensures.fault
+returns-clause-pushed c = λ es before h have.
+    let o = c.args.options.now in
+    let text = c.args.text.now in
+    let group = c.args.group.items in
+    let some = subst (λ r. IfSome r (λ (d : Vec EntryRow). (d.items ≡ definitions_by live group) × (is_kept_by header o d.items ≡ true))) c.in-Some.is c.kept_definitions.ensures.some in
+    let held = rows_kept o text es group c.in-Some.rows.items h some.0 some.1 in
+    let rows = subst (AreRows text (definitions es)) (sym c.deref.ensures.value) held.0 in
+    message_merged o (definitions es) before c.in-Ok.merged c.add.new.self held.1 (c.in-Ok.ensures.merged (definitions es) rows) (subst (All IsCatalogueEntry) c.entries.ensures.entries c.entries.ensures.valid)
+    (subst (λ l. AreParts (before ++ l) c.add.new.self) c.entries.ensures.entries (c.in_ok-add.ensures.parts before have.parts_are)) have.admitted

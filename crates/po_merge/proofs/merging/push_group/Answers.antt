@@ -1,56 +1,60 @@
-use Rattle.std.proofs.Common.{◌≡◌, ◌<◌, ◌++◌, ◌∷◌, [], ap, sym, ◌∙◌, subst, arith, length, true, false, List}
-use Rattle.std.specs.Prelude.{All, OnOk, IfErr}
-use Rattle.std.specs.List.{list_any}
+use Rattle.std.proofs.Common.{◌≡◌, ◌++◌, ◌∷◌, [], ◌∙◌, Bool, ap, append-nil, arith, false, length, sym, subst, true}
+use Rattle.std.specs.Prelude.{IfNone, IfSome}
+use Rattle.std.specs.Global.{Vec}
 use Rattle.std.proofs.lemmas.List.{length-map}
+use Rattle.std.proofs.lemmas.Result.{IfErr-weaker, on_ok_weaker}
+use Rattle.po_entry.specs.Header.{is_header}
 use Rattle.po_messages.specs.Joined.{is_live}
-use Rattle.po_merge.specs.Inputs.{NamedEntry}
+use Rattle.po_merge.specs.declared.definition.NamedEntry.{NamedEntry as BorrowedEntry}
+use Rattle.po_merge.specs.Groups.{definitions, definitions_by}
 use Rattle.po_merge.specs.InputsView.{named_entry, named_entries}
-use Rattle.po_merge.specs.Grouping.{IsDefinition}
-use Rattle.po_merge.specs.Merged.{merged_messages, IsMergeFault}
-use Rattle.po_merge.proofs.Views.{any_named}
-use Rattle.po_merge.proofs.GroupsMerged.{live_valid, all_live, none_live}
+use Rattle.po_merge.specs.Merged.{IsMergeFault, is_kept_by, merged_messages}
+use Rattle.po_merge.specs.MergedEntry.{merged_entry}
+use Rattle.po_merge.proofs.GroupsMerged.{dropped_group, group_kept, kept_group}
 use Rattle.po_merge.proofs.merging.push_group.Goals as goal
 
-pub push_message-requires-clause-some : goal.push_message-requires-clause-some
-push_message-requires-clause-some c =
-    let group = c.args.group.now in
-    let live : list_any (λ d. is_live d.entry) (named_entries group) ≡ true = sym (any_named is_live group) ∙ sym c.has_live.ensures ∙ c.if-has_live.true in
-    let same = ap named_entries c.deref.ensures.value ∙ c.in_ok-live.ensures in
-    let some : 0 < length (named_entries group) = omega (arith, c.requires.some, length-map group named_entry) in
-    let found = live_valid (named_entries group) (record { some = some; valid = c.requires.valid }) live in
-    omega (arith, length-map c.deref.result.now named_entry, ap length same, found.some)
+abbrev live : BorrowedEntry → Bool
+live d = is_live d.entry.now
 
-pub push_message-requires-clause-valid : goal.push_message-requires-clause-valid
-push_message-requires-clause-valid c =
-    let group = c.args.group.now in
-    let live : list_any (λ d. is_live d.entry) (named_entries group) ≡ true = sym (any_named is_live group) ∙ sym c.has_live.ensures ∙ c.if-has_live.true in
-    let same = ap named_entries c.deref.ensures.value ∙ c.in_ok-live.ensures in
-    let some : 0 < length (named_entries group) = omega (arith, c.requires.some, length-map group named_entry) in
-    let found = live_valid (named_entries group) (record { some = some; valid = c.requires.valid }) live in
-    subst (All IsDefinition) (sym same) found.valid
+abbrev header : BorrowedEntry → Bool
+header d = is_header d.entry.now
 
-pub returns-then-has_live-clause-pushed : goal.returns-then-has_live-clause-pushed
-returns-then-has_live-clause-pushed c =
-    let group = c.args.group.now in
-    let live : list_any (λ d. is_live d.entry) (named_entries group) ≡ true = sym (any_named is_live group) ∙ sym c.has_live.ensures ∙ c.if-has_live.true in
-    let same = ap named_entries c.deref.ensures.value ∙ c.in_ok-live.ensures in
-    subst (λ (ds : List NamedEntry). OnOk c.push_message.result (c.push_message.new.merged ≡ c.args.merged.now ++ merged_messages c.args.options.now (ds ∷ []))) (same ∙ sym (all_live (named_entries group) live)) c.push_message.ensures.pushed
+pub returns-in_default-clause-pushed : goal.returns-in_default-clause-pushed
+returns-in_default-clause-pushed c =
+    let o = c.args.options.now in
+    let group = c.args.group.items in
+    let none = subst (λ r. IfNone r (is_kept_by header o (definitions_by live group) ≡ false)) c.in_default.is c.kept_definitions.ensures.none in
+    sym (ap (λ l. c.args.merged.now ++ l) (dropped_group o group none) ∙ append-nil c.args.merged.now)
 
-pub returns-then-has_live-clause-fault : goal.returns-then-has_live-clause-fault
-returns-then-has_live-clause-fault c =
-    let group = c.args.group.now in
-    let live : list_any (λ d. is_live d.entry) (named_entries group) ≡ true = sym (any_named is_live group) ∙ sym c.has_live.ensures ∙ c.if-has_live.true in
-    let same = ap named_entries c.deref.ensures.value ∙ c.in_ok-live.ensures in
-    subst (λ (ds : List NamedEntry). IfErr c.push_message.result (IsMergeFault (merged_messages c.args.options.now (ds ∷ [])))) (same ∙ sym (all_live (named_entries group) live)) c.push_message.ensures.fault
+pub merged_entry-requires-clause-some : goal.merged_entry-requires-clause-some
+merged_entry-requires-clause-some c =
+    let o = c.args.options.now in
+    let group = c.args.group.items in
+    let ds = c.in-Some.definitions.items in
+    let some = subst (λ r. IfSome r (λ (d : Vec BorrowedEntry). (d.items ≡ definitions_by live group) × (is_kept_by header o d.items ≡ true))) c.in-Some.is c.kept_definitions.ensures.some in
+    let valid = group_kept group ds some.0 c.requires in
+    omega (arith, valid.some, length-map ds named_entry, ap length c.deref.ensures.value)
+
+pub merged_entry-requires-clause-valid : goal.merged_entry-requires-clause-valid
+merged_entry-requires-clause-valid c =
+    let o = c.args.options.now in
+    let group = c.args.group.items in
+    let some = subst (λ r. IfSome r (λ (d : Vec BorrowedEntry). (d.items ≡ definitions_by live group) × (is_kept_by header o d.items ≡ true))) c.in-Some.is c.kept_definitions.ensures.some in
+    let valid = group_kept group c.in-Some.definitions.items some.0 c.requires in
+    rw c.deref.ensures.value valid.valid
 
 pub returns-clause-pushed : goal.returns-clause-pushed
 returns-clause-pushed c =
-    let group = c.args.group.now in
-    let none : list_any (λ d. is_live d.entry) (named_entries group) ≡ false = sym (any_named is_live group) ∙ sym c.has_live.ensures ∙ c.if-has_live.false in
-    subst (λ (ds : List NamedEntry). OnOk c.push_message-2.result (c.push_message-2.new.merged ≡ c.args.merged.now ++ merged_messages c.args.options.now (ds ∷ []))) (sym (none_live (named_entries group) none)) c.push_message-2.ensures.pushed
+    let o = c.args.options.now in
+    let group = c.args.group.items in
+    let some = subst (λ r. IfSome r (λ (d : Vec BorrowedEntry). (d.items ≡ definitions_by live group) × (is_kept_by header o d.items ≡ true))) c.in-Some.is c.kept_definitions.ensures.some in
+    let is = kept_group group c.in-Some.definitions.items some.0 o some.1 ∙ ap (λ e. e ∷ []) (ap (λ l. merged_entry o (named_entries l)) (sym c.deref.ensures.value) ∙ sym c.in_ok-entry.ensures) in
+    on_ok_weaker c.push_entry.result (λ pushed. pushed ∙ ap (λ l. c.args.merged.now ++ l) (sym is)) c.push_entry.ensures.pushed
 
 pub returns-clause-fault : goal.returns-clause-fault
 returns-clause-fault c =
-    let group = c.args.group.now in
-    let none : list_any (λ d. is_live d.entry) (named_entries group) ≡ false = sym (any_named is_live group) ∙ sym c.has_live.ensures ∙ c.if-has_live.false in
-    subst (λ (ds : List NamedEntry). IfErr c.push_message-2.result (IsMergeFault (merged_messages c.args.options.now (ds ∷ [])))) (sym (none_live (named_entries group) none)) c.push_message-2.ensures.fault
+    let o = c.args.options.now in
+    let group = c.args.group.items in
+    let some = subst (λ r. IfSome r (λ (d : Vec BorrowedEntry). (d.items ≡ definitions_by live group) × (is_kept_by header o d.items ≡ true))) c.in-Some.is c.kept_definitions.ensures.some in
+    let is = kept_group group c.in-Some.definitions.items some.0 o some.1 ∙ ap (λ e. e ∷ []) (ap (λ l. merged_entry o (named_entries l)) (sym c.deref.ensures.value) ∙ sym c.in_ok-entry.ensures) in
+    IfErr-weaker c.push_entry.result _ _ (λ error fault. subst (λ l. IsMergeFault l error) (sym is) fault) c.push_entry.ensures.fault
