@@ -6,10 +6,10 @@ ghost use Rattle.mo_file.specs.Fault.{IsFirstFault, comparisons_before};
 ghost use Rattle.mo_file.specs.Internal.Checking.{AreRisingBelow, HasStrings, IsHeader};
 
 use crate::byte_order::FileOrder;
-use crate::counting::Meter;
 use crate::fault::MoError;
 use crate::file_header::FileHeader;
 use crate::key::is_below;
+use crate::meter::Meter;
 use crate::strings::{range_at, rest_in};
 
 /// Checks that each string lies inside the file and that a NUL follows it. A string outside the

@@ -8,7 +8,7 @@
 //! promise how few it needs.
 //!
 //! To read a file: `fault`, `byte_order`, `file_header`, `strings`, `common_prefix`, `key`,
-//! `counting`, `checking`, `view`. To build one: `pairs`, `writing`, `building`. Then `laws`.
+//! `meter`, `checking`, `view`. To build one: `pairs`, `writing`, `building`. Then `laws`.
 
 #![tactic(auto)]
 
@@ -16,11 +16,11 @@ mod building;
 mod byte_order;
 mod checking;
 mod common_prefix;
-mod counting;
 mod fault;
 mod file_header;
 mod key;
 mod laws;
+mod meter;
 mod pairs;
 mod strings;
 mod view;
@@ -29,12 +29,12 @@ mod writing;
 pub use building::{BuildError, build, build_sorted};
 pub use byte_order::Order;
 pub use common_prefix::find_byte;
-pub use counting::Meter;
 pub use fault::MoError;
 pub use key::compare_key;
 pub use laws::{
     known_revisions_are_valid, layout_is_mo_file, mo_file_or_fault, no_fault_of_mo_file,
     no_hash_table_is_laid_out, one_first_fault, one_message_list,
 };
+pub use meter::Meter;
 pub use pairs::{BorrowedPair, Pair};
 pub use view::MoView;

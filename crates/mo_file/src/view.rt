@@ -12,10 +12,10 @@ ghost use Rattle.mo_file.specs.Message.{Message, originals, translations};
 
 use crate::byte_order::{FileOrder, Order};
 use crate::checking::{check_keys, check_strings};
-use crate::counting::Meter;
 use crate::fault::MoError;
 use crate::file_header::{FileHeader, order_of};
 use crate::key::compare_key;
+use crate::meter::Meter;
 use crate::strings::{original_at, rest_at, translation_range};
 use byteorder::{BigEndian, LittleEndian};
 use std::cmp::Ordering;
@@ -89,7 +89,7 @@ impl<'a> MoView<'a> {
 
     /// The view of bytes that [`MoView::open`] has accepted, and that haven't changed since. It
     /// reads the file header and checks nothing.
-    pub fn reopen(bytes: &'a [u8]) -> MoView<'a>
+    pub fn open_checked(bytes: &'a [u8]) -> MoView<'a>
         requires { (order : Order) × (messages : List Message) × IsMoFile order bytes.now messages }
         ensures messages { (order : Order) (messages : List Message)
             → IsMoFile order bytes.now messages → result.messages ≡ messages }

@@ -16,7 +16,7 @@ ghost use Rattle.mo_lookup.specs.CatalogView.{IsCatalogView, header_text, forms,
 ghost use Rattle.mo_lookup.specs.Answer.{answer_view, translated};
 
 use crate::answer::Answer;
-use crate::looking::{answered_form, look, translation};
+use crate::lookup::{answered_form, look, translation};
 use crate::messages::ViewMessages;
 use crate::opening::checked;
 use mo_file::{Meter, MoError, MoView};

@@ -9,7 +9,7 @@
 //! is the binary search over any list of [`Keys`], which it only compares.
 //!
 //! The modules in reading order: `query`, `search`, `messages`, `forms`, `answer`, `place`,
-//! `looking`, `opening`, `catalog`, `chain`, `laws`.
+//! `lookup`, `opening`, `catalog`, `chain`, `laws`.
 
 #![tactic(auto)]
 
@@ -18,7 +18,7 @@ mod catalog;
 mod chain;
 mod forms;
 mod laws;
-mod looking;
+mod lookup;
 mod messages;
 mod opening;
 mod place;
@@ -32,7 +32,7 @@ pub use laws::{
     bound_halves, bound_is_logarithm, each_key_finds_its_translation, other_keys_find_none,
     search_halves, search_is_bounded,
 };
-pub use looking::{locate, look};
+pub use lookup::{locate, look};
 pub use messages::{Messages, ViewMessages};
 pub use opening::open_into;
 pub use place::{Located, Place};

@@ -16,7 +16,7 @@ use Rattle.mo_lookup.specs.CatalogView.{translation_under, forms, header_text}
 use Rattle.plural_rule.specs.PluralRule.{IsRuleOf, expression_limit}
 use Rattle.po_entry.specs.TextEntry.{TextEntry, quoted_texts, previous_texts}
 use Rattle.po_entry.specs.Bytes.{Lacks}
-use Rattle.po_entry.specs.Facts.Halves.{All-left, All-right}
+use Rattle.po_entry.specs.Facts.AllAppend.{All-left, All-right}
 use Rattle.po_entry.specs.Header.{first_form}
 use Rattle.po_entry.specs.Validity.{IsEntry}
 use Rattle.po_messages.specs.Duplicate.{is_of_message}

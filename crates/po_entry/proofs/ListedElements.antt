@@ -14,9 +14,9 @@ use Rattle.po_syntax.specs.Spelling.{IsBlank}
 use Rattle.po_syntax.specs.Blanks.{is_blank, skip_blanks}
 use Rattle.po_syntax.proofs.SpeltKeywords.{blank_says, blank_passes, skip_prefix}
 use Rattle.po_entry.specs.Bytes.{Lacks, without_end_blanks, trimmed}
-use Rattle.po_entry.specs.Parts.{CommentText}
+use Rattle.po_entry.specs.EntryParts.{CommentText}
 use Rattle.po_entry.specs.Comments.{is_not_empty, listed_references, is_comma, listed_flags, all_listed_flags, is_fuzzy_flag, with_flag, flags_of}
-use Rattle.po_entry.specs.Listed.{EndsReference, ListsReferences, no_text, blank, reference, IsWithoutBlanks, NamesFlag, no_flag, flag, ListsFlags, last, more, KeepsFlags, none, first, fuzzy, repeated}
+use Rattle.po_entry.specs.CommentLists.{EndsReference, ListsReferences, no_text, blank, reference, IsWithoutBlanks, NamesFlag, no_flag, flag, ListsFlags, last, more, KeepsFlags, none, first, fuzzy, repeated}
 
 no_blank : (b : ℕ) → is_blank b ≡ false → IsBlank b → ⊥
 no_blank b e h = both_ways (is_blank b) e (blank_passes h)

@@ -8,7 +8,7 @@ use Rattle.po_syntax.specs.declared.item.CommentKind.TheVariants.{Translator, Ex
 use Rattle.po_entry.specs.TextEntry.{TextPrevious, no_previous}
 use Rattle.po_syntax.specs.Blanks.{is_blank}
 use Rattle.po_entry.specs.Bytes.{trimmed}
-use Rattle.po_entry.specs.Parts.{CommentText, PreviousText, rank}
+use Rattle.po_entry.specs.EntryParts.{CommentText, PreviousText, rank}
 
 -- whether two of the four kinds of comments are the same
 abbrev pub same_kind : CommentKind → CommentKind → Bool

@@ -1,3 +1,3 @@
 -- Facts about lists and values, with their proofs, which any crate may cite.
 pub mod EqualityLaws
-pub mod Halves
+pub mod AllAppend

@@ -4,9 +4,9 @@ pub mod Bytes
 pub mod Header
 pub mod Charset
 pub mod Validity
-pub mod Parts
+pub mod EntryParts
 pub mod Comments
-pub mod Listed
+pub mod CommentLists
 pub mod Spelling
 pub mod ReadsText
 pub mod Viable

@@ -7,7 +7,7 @@ use Rattle.po_syntax.specs.declared.item.Keyword.TheVariants.{MsgCtxt, MsgId, Ms
 use Rattle.po_syntax.specs.declared.item.Marks.{Marks}
 use Rattle.po_syntax.specs.TextItem.{TextItem, Comment, Word, Str}
 use Rattle.po_entry.specs.TextEntry.{TextEntry}
-use Rattle.po_entry.specs.Parts.{CommentText, PreviousText, Body}
+use Rattle.po_entry.specs.EntryParts.{CommentText, PreviousText, Body}
 use Rattle.po_entry.specs.Comments.{comments_of, extracted_of, references_of, fuzzy_of, flags_of, previous_of}
 
 -- one string or more, all under these marks: their bytes, joined

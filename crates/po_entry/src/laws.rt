@@ -7,9 +7,9 @@ ghost use Rattle.po_syntax.specs.TextItem.{TextItem};
 ghost use Rattle.po_entry.specs.TextEntry.{TextEntry, SameButLine};
 ghost use Rattle.po_entry.specs.Charset.{NamesAdmitted, NamesCharset};
 ghost use Rattle.po_entry.specs.Equality.{entry_eq};
-ghost use Rattle.po_entry.specs.Parts.{CommentText};
+ghost use Rattle.po_entry.specs.EntryParts.{CommentText};
 ghost use Rattle.po_entry.specs.Header.{charset_of, IsAdmittedName};
-ghost use Rattle.po_entry.specs.Listed.{HaveFuzzyFlag, KeepsFlags, ListsFlags, ListsReferences};
+ghost use Rattle.po_entry.specs.CommentLists.{HaveFuzzyFlag, KeepsFlags, ListsFlags, ListsReferences};
 ghost use Rattle.po_entry.specs.Comments.{listed_flags, all_listed_flags, flags_of, fuzzy_of, listed_references};
 ghost use Rattle.po_entry.specs.Spelling.{SpellsEntries};
 

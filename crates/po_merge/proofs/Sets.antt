@@ -18,7 +18,7 @@ use Rattle.po_entry.specs.Internal.SeenTexts.{HoldsTexts}
 use Rattle.po_entry.proofs.SeenTexts.{cond_or}
 use Rattle.po_merge.specs.Inputs.{NamedEntry}
 use Rattle.po_merge.specs.MergedEntry.{with_others}
-use Rattle.po_merge.specs.Internal.Sets.{HasForms}
+use Rattle.po_merge.specs.Internal.FormsByIndex.{HasForms}
 
 forms_tie : (a b : List (Vec ℕ)) → texts_eq (texts a) (texts b) ≡ is_eq (slice_cmp (λ v w. slice_cmp nat_cmp v.items w.items) a b)
 forms_tie [] [] = refl

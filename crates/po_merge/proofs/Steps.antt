@@ -15,7 +15,7 @@ use Rattle.po_merge.specs.Inputs.{NamedEntry}
 use Rattle.po_merge.specs.InputsView.{named_entry, named_entries}
 use Rattle.po_merge.specs.Groups.{with_new, first_ones}
 use Rattle.po_merge.specs.MergedEntry.{with_others, collected, same_forms, translations, form_count, joined_form, marked}
-use Rattle.po_merge.specs.Internal.Sets.{with_form}
+use Rattle.po_merge.specs.Internal.FormsByIndex.{with_form}
 
 pub texts_more : (others : List (Vec ℕ)) (i : ℕ) (x : Vec ℕ) → i < length others → x ≡ get_or others i x → texts (take (i + 1) others) ≡ texts (take i others) ++ x.items ∷ []
 texts_more others i x below at = ap texts (take_more others i x below ∙ ap (λ (v : Vec ℕ). take i others ++ v ∷ []) (sym at)) ∙ map-append (λ (v : Vec ℕ). v.items) (take i others) (x ∷ [])

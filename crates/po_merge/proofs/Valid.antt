@@ -14,7 +14,7 @@ use Rattle.std.proofs.lemmas.List.Elements.{All-nil, All-cons, All-head, All-tai
 use Rattle.po_syntax.specs.declared.item.CommentKind.{CommentKind}
 use Rattle.po_syntax.specs.declared.item.CommentKind.TheVariants.{Translator, Extracted, Reference, Flags}
 use Rattle.po_entry.specs.Bytes.{Lacks, AreDistinct}
-use Rattle.po_entry.specs.Facts.Halves.{All-left, All-right}
+use Rattle.po_entry.specs.Facts.AllAppend.{All-left, All-right}
 use Rattle.po_entry.specs.TextEntry.{TextEntry, previous_texts}
 use Rattle.po_syntax.specs.ItemContents.{IsText, IsComment}
 use Rattle.po_entry.specs.Validity.{IsEntry, IsTranslatorComment, IsReference, IsFlag}

@@ -1,3 +1,3 @@
 -- What private functions, proofs and laws cite; no clause of a public function does.
 pub mod FirstParts
-pub mod Sets
+pub mod FormsByIndex

@@ -3,7 +3,7 @@
 ghost use Rattle.std.specs.Prelude.{◌≡◌, ◌<◌, ◌++◌, length, IfOk, OnOk};
 ghost use Rattle.po_entry.specs.TextEntry.{texts};
 ghost use Rattle.po_merge.specs.InputsView.{named_entries};
-ghost use Rattle.po_merge.specs.Internal.Sets.{with_form};
+ghost use Rattle.po_merge.specs.Internal.FormsByIndex.{with_form};
 ghost use Rattle.po_merge.specs.MergedEntry.{ended, form_count, joined_form, joined_forms, marked, translations};
 
 use crate::definition::NamedEntry;

@@ -6,7 +6,7 @@ use Rattle.po_entry.specs.TextEntry.{TextEntry}
 use Rattle.po_reader.specs.Internal.Head as head
 use Rattle.po_reader.specs.Internal.Reads.{Reads, comments, entry}
 use Rattle.po_entry.specs.Spelling.{SpellsEntries}
-use Rattle.po_entry.specs.Parts.{CommentText, PreviousText, rank}
+use Rattle.po_entry.specs.EntryParts.{CommentText, PreviousText, rank}
 use Rattle.po_reader.proofs.Spelt.{reads_spelt}
 use Rattle.po_reader.specs.Internal.Stops as stop
 use Rattle.po_entry.specs.Viable.{IsViable}

@@ -6,7 +6,7 @@ use Rattle.po_syntax.specs.declared.item.Keyword.TheVariants.{MsgCtxt, MsgId, Ms
 use Rattle.po_syntax.specs.declared.item.Marks.{Marks}
 use Rattle.po_syntax.specs.TextItem.{TextItem, Word, Str}
 use Rattle.po_entry.specs.Spelling.{own_marks}
-use Rattle.po_entry.specs.Parts.{Body}
+use Rattle.po_entry.specs.EntryParts.{Body}
 use Rattle.po_reader.specs.Internal.Strings as string
 use Rattle.po_reader.specs.Internal.Keywords as word
 use Rattle.po_reader.specs.Internal.Body as body

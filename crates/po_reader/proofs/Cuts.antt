@@ -6,7 +6,7 @@ use Rattle.po_syntax.specs.declared.item.CommentKind.{CommentKind}
 use Rattle.po_syntax.specs.declared.item.Keyword.{Keyword}
 use Rattle.po_syntax.specs.declared.item.Marks.{Marks}
 use Rattle.po_syntax.specs.TextItem.{TextItem}
-use Rattle.po_entry.specs.Parts.{CommentText, PreviousText, Body}
+use Rattle.po_entry.specs.EntryParts.{CommentText, PreviousText, Body}
 use Rattle.po_reader.specs.Internal.Strings as string
 use Rattle.po_reader.specs.Internal.Keywords as word
 use Rattle.po_reader.specs.Internal.Body as body

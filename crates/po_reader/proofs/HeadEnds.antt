@@ -9,7 +9,7 @@ use Rattle.po_syntax.specs.declared.item.Keyword.TheVariants.{MsgCtxt, MsgId, Ms
 use Rattle.po_syntax.specs.declared.item.Marks.{Marks}
 use Rattle.po_syntax.specs.TextItem.{TextItem, Comment, Word, Str}
 use Rattle.po_reader.specs.Internal.Body.{body_start, NoStart}
-use Rattle.po_entry.specs.Parts.{CommentText, PreviousText, rank}
+use Rattle.po_entry.specs.EntryParts.{CommentText, PreviousText, rank}
 use Rattle.po_reader.specs.Internal.Head.{HeadComment, Previous, Over, Refuse, head_step, begins_body, IsHead, over, head_comment, previous}
 use Rattle.po_entry.specs.Spelling.{AreComments}
 

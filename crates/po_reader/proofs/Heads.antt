@@ -2,7 +2,7 @@
 use Rattle.std.proofs.Common.{◌≡◌, List, [], ◌∷◌, ◌++◌, sym, ap, ◌∙◌}
 use Rattle.std.proofs.lemmas.List.Sums.{fold_push}
 use Rattle.po_entry.specs.TextEntry.{no_previous, TextPrevious}
-use Rattle.po_entry.specs.Parts.{CommentText, PreviousText}
+use Rattle.po_entry.specs.EntryParts.{CommentText, PreviousText}
 use Rattle.po_entry.specs.Comments.{with_previous}
 use Rattle.po_reader.specs.declared.head.Head.{Head}
 use Rattle.po_reader.specs.Internal.HeadView.{HoldsHead}

@@ -6,7 +6,7 @@ use Rattle.std.proofs.lemmas.List.Elements.{All-nil, All-cons, All-head, All-tai
 use Rattle.po_syntax.specs.declared.item.CommentKind.{CommentKind}
 use Rattle.po_syntax.specs.declared.item.CommentKind.TheVariants.{Translator, Extracted, Reference, Flags}
 use Rattle.po_entry.specs.TextEntry.{TextEntry}
-use Rattle.po_entry.specs.Parts.{Body, CommentText, PreviousText}
+use Rattle.po_entry.specs.EntryParts.{Body, CommentText, PreviousText}
 use Rattle.po_entry.specs.Header.{HasAdmittedCharset}
 use Rattle.po_entry.specs.Comments.{same_kind, texts_of, listed_references, listed_flags, is_fuzzy_flag, with_flag, previous_of}
 use Rattle.po_entry.specs.Validity.{HasTexts, IsTranslatorComment, IsReference}

@@ -15,7 +15,7 @@ use Rattle.po_reader.specs.Internal.Body as body
 use Rattle.po_reader.specs.Internal.Head as head
 use Rattle.po_reader.specs.Internal.Reads.{Reads, comments, entry}
 use Rattle.po_entry.specs.Spelling.{AreComments, own_marks}
-use Rattle.po_entry.specs.Parts.{CommentText, PreviousText, Body}
+use Rattle.po_entry.specs.EntryParts.{CommentText, PreviousText, Body}
 use Rattle.po_reader.specs.Internal.Stops as stop
 use Rattle.po_reader.proofs.Steps.{keyword_reported}
 

@@ -17,7 +17,7 @@ use Rattle.po_reader.specs.Internal.Reads.{Reads, comments, entry}
 use Rattle.po_entry.specs.ReadsText.{ReadsText}
 use Rattle.po_entry.specs.Validity.{HasTexts}
 use Rattle.po_entry.specs.Spelling.{AreComments, SpellsEntries}
-use Rattle.po_entry.specs.Parts.{CommentText, PreviousText, Body}
+use Rattle.po_entry.specs.EntryParts.{CommentText, PreviousText, Body}
 use Rattle.po_entry.proofs.TextsFaults.{no_texts_fault}
 use Rattle.po_reader.proofs.SpeltReads.{spelt_reads}
 use Rattle.po_reader.specs.Internal.Stops as stop

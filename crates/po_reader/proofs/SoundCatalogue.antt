@@ -8,7 +8,7 @@ use Rattle.po_entry.specs.EntryView.{entry_view}
 use Rattle.po_syntax.specs.TextItem.{TextItem}
 use Rattle.po_entry.specs.TextEntry.{TextEntry, quoted_texts}
 use Rattle.po_entry.specs.Bytes.{Lacks, AreDistinct}
-use Rattle.po_entry.specs.Parts.{Body, CommentText, PreviousText}
+use Rattle.po_entry.specs.EntryParts.{Body, CommentText, PreviousText}
 use Rattle.po_entry.specs.Comments.{texts_of, comments_of, extracted_of, references_of, all_listed_flags, flags_of}
 use Rattle.po_reader.specs.Internal.Reads.{Reads, comments, entry}
 use Rattle.po_entry.specs.Validity.{HasTexts, IsEntry, IsTranslatorComment, IsReference, IsFlag}

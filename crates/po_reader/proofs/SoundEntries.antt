@@ -13,7 +13,7 @@ use Rattle.po_reader.specs.Internal.Strings.{IsStrings, last, more, string_step,
 use Rattle.po_reader.specs.Internal.Keywords as word
 use Rattle.po_reader.specs.Internal.Body as body
 use Rattle.po_reader.specs.Internal.Head as head
-use Rattle.po_entry.specs.Parts.{CommentText, PreviousText, Body, rank}
+use Rattle.po_entry.specs.EntryParts.{CommentText, PreviousText, Body, rank}
 
 -- a comment of a head is one of its kind
 abbrev pub SoundCommentText : CommentText → Type 0

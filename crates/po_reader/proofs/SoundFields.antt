@@ -10,8 +10,8 @@ use Rattle.po_syntax.specs.declared.item.CommentKind.{CommentKind}
 use Rattle.po_syntax.specs.declared.item.CommentKind.TheVariants.{Translator, Extracted, Reference, Flags}
 use Rattle.po_syntax.specs.Blanks.{is_blank, skip_blanks}
 use Rattle.po_entry.specs.Bytes.{Lacks, trimmed, AreDistinct}
-use Rattle.po_entry.specs.Facts.Halves.{All-left}
-use Rattle.po_entry.specs.Parts.{CommentText}
+use Rattle.po_entry.specs.Facts.AllAppend.{All-left}
+use Rattle.po_entry.specs.EntryParts.{CommentText}
 use Rattle.po_entry.specs.Comments.{same_kind, texts_of, is_not_empty, is_comma, listed_references, listed_flags, is_fuzzy_flag, with_flag}
 use Rattle.po_syntax.specs.ItemContents.{IsText, IsCommentOf}
 use Rattle.po_entry.specs.Validity.{IsReference, IsFlag}

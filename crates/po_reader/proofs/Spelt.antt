@@ -18,7 +18,7 @@ use Rattle.po_reader.specs.Internal.Head as head
 use Rattle.po_reader.specs.Internal.Reads as read
 use Rattle.po_entry.specs.Spelling as spell
 use Rattle.po_entry.specs.Spelling.{own_marks}
-use Rattle.po_entry.specs.Parts.{CommentText, PreviousText, Body, rank}
+use Rattle.po_entry.specs.EntryParts.{CommentText, PreviousText, Body, rank}
 use Rattle.po_syntax.specs.Spelling.{marked}
 use Rattle.po_reader.proofs.SameMarks.{same_marks_true}
 use Rattle.po_reader.proofs.PreviousOrder.{Rise, keywords, rise_order}

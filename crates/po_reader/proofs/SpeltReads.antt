@@ -14,7 +14,7 @@ use Rattle.po_reader.specs.Internal.Head as head
 use Rattle.po_reader.specs.Internal.Reads as read
 use Rattle.po_entry.specs.Spelling as spell
 use Rattle.po_entry.specs.Spelling.{own_marks}
-use Rattle.po_entry.specs.Parts.{CommentText, PreviousText, Body, rank}
+use Rattle.po_entry.specs.EntryParts.{CommentText, PreviousText, Body, rank}
 use Rattle.po_reader.proofs.SameMarks.{same_marks-refl}
 use Rattle.po_reader.proofs.PreviousOrder.{Rise, keywords, order_rises}
 

@@ -9,7 +9,7 @@ use Rattle.po_syntax.specs.declared.item.Keyword.{Keyword}
 use Rattle.po_syntax.specs.declared.item.Keyword.TheVariants.{MsgCtxt, MsgId, MsgIdPlural, MsgStr, MsgStrAt}
 use Rattle.po_syntax.specs.declared.item.Marks.{Marks}
 use Rattle.po_syntax.specs.TextItem.{TextItem, Comment, Word, Str}
-use Rattle.po_entry.specs.Parts.{rank}
+use Rattle.po_entry.specs.EntryParts.{rank}
 use Rattle.po_reader.specs.Internal.Strings as string
 use Rattle.po_reader.specs.Internal.Keywords as word
 use Rattle.po_reader.specs.Internal.Body as body

@@ -13,7 +13,7 @@ use Rattle.po_reader.specs.Internal.Body as body
 use Rattle.po_reader.specs.Internal.Head as head
 use Rattle.po_reader.specs.Internal.Reads.{Reads, comments, entry}
 use Rattle.po_entry.specs.Spelling.{entry_from, own_marks}
-use Rattle.po_entry.specs.Parts.{CommentText, PreviousText, Body, rank}
+use Rattle.po_entry.specs.EntryParts.{CommentText, PreviousText, Body, rank}
 use Rattle.po_reader.specs.Internal.Stops as stop
 use Rattle.po_reader.proofs.Steps.{string_item, keyword_item, start_item, StartDoes, head_item, HeadDoes}
 use Rattle.po_reader.proofs.TakenKeywords.{translation_keyword}

@@ -4,7 +4,7 @@ use Rattle.std.specs.Prelude.{All}
 use Rattle.std.specs.List.{prefix_len}
 use Rattle.std.proofs.lemmas.List.Elements.{All-nil, All-head, All-tail}
 use Rattle.po_syntax.specs.Facts.Runs.{FailsFirst, without_end, from_end, parts_of, run_length, end_parts, kept_is}
-use Rattle.po_entry.specs.Facts.Halves.{All-left, All-right}
+use Rattle.po_entry.specs.Facts.AllAppend.{All-left, All-right}
 
 abbrev Pass : (ℕ → Bool) → List ℕ → Type 0
 Pass p xs = All (λ b. p b ≡ true) xs

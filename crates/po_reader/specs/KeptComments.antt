@@ -3,7 +3,7 @@
 use Rattle.std.specs.Prelude.{Bool, true, false, List, [], filter}
 use Rattle.po_syntax.specs.declared.item.CommentKind.TheVariants.{Flags}
 use Rattle.po_entry.specs.TextEntry.{TextEntry}
-use Rattle.po_entry.specs.Parts.{CommentText}
+use Rattle.po_entry.specs.EntryParts.{CommentText}
 use Rattle.po_entry.specs.Comments.{same_kind}
 
 -- the entry without its comments and references

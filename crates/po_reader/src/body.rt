@@ -8,14 +8,14 @@ ghost use Rattle.po_entry.specs.Faults.{IsStop};
 ghost use Rattle.po_reader.specs.Internal.Stops.{FormsStop, TranslationStops, BodyStops};
 ghost use Rattle.po_reader.specs.Internal.ReaderView.{start_view, body_view};
 
+use crate::cursor::Cursor;
 use crate::keywords::{Wanted, take_keyword_text};
-use crate::rest::Rest;
 use crate::strings::take_strings;
 use po_syntax::{Item, Keyword, Marks, PoError, PoFault};
 use std::alloc::Global;
 
 /// Whether a `msgstr[i]` is the first item, and not one of a previous text.
-fn begins_form(rest: &Rest<'_, '_>) -> bool
+fn begins_form(rest: &Cursor<'_, '_>) -> bool
     ensures { result ≡ begins_form rest.now }
 {
     match rest.first() {
@@ -27,7 +27,7 @@ fn begins_form(rest: &Rest<'_, '_>) -> bool
 /// Takes the plural forms that stand first, from index 0 on.
 fn take_forms(
     alloc: Global,
-    rest: &mut Rest<'_, '_>,
+    rest: &mut Cursor<'_, '_>,
     obsolete: bool,
     end: u32,
 ) -> Result<Vec<Vec<u8>>, PoError>
@@ -59,7 +59,7 @@ pub(crate) struct Translation {
 /// Takes what follows a msgid, which stands first: a `msgstr`, or a plural and its forms.
 fn take_translation(
     alloc: Global,
-    rest: &mut Rest<'_, '_>,
+    rest: &mut Cursor<'_, '_>,
     obsolete: bool,
     end: u32,
 ) -> Result<Translation, PoError>
@@ -112,7 +112,7 @@ enum Start {
 }
 
 /// Takes the keyword with which a body begins, or nothing where none does.
-fn take_start(rest: &mut Rest<'_, '_>) -> Option<Start>
+fn take_start(rest: &mut Cursor<'_, '_>) -> Option<Start>
     ensures start { MatchOption result (body_start rest.old ≡ spec.NoStart)
         (λ start. body_start rest.old ≡ start_view start rest.new) }
     ensures fewer { IfSome result (λ _. length rest.new < length rest.old) }
@@ -133,7 +133,7 @@ fn take_start(rest: &mut Rest<'_, '_>) -> Option<Start>
 /// Takes the rest of a body, whose context and msgid are taken.
 fn take_body_after(
     alloc: Global,
-    rest: &mut Rest<'_, '_>,
+    rest: &mut Cursor<'_, '_>,
     original: Original,
     end: u32,
 ) -> Result<Body, PoError>
@@ -153,7 +153,7 @@ fn take_body_after(
 }
 
 /// Takes the own lines of an entry, which stand first.
-pub(crate) fn take_body(alloc: Global, rest: &mut Rest<'_, '_>, end: u32) -> Result<Body, PoError>
+pub(crate) fn take_body(alloc: Global, rest: &mut Cursor<'_, '_>, end: u32) -> Result<Body, PoError>
     requires few { length rest.old < 2 ^ 32 }
     requires begins { body_start rest.old ≢ spec.NoStart }
     ensures found { IfOk result (λ b. IsBody rest.old (body_view b) rest.new) }

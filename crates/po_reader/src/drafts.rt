@@ -3,7 +3,7 @@
 ghost use Rattle.std.specs.Prelude.{◌≡◌, ◌≢◌, ◌<◌, ◌^◌, ℕ, List, map, length, IfOk, IfErr};
 ghost use Rattle.po_syntax.specs.TextItem.{views};
 ghost use Rattle.po_entry.specs.EntryView.{entry_view};
-ghost use Rattle.po_entry.specs.Parts.{CommentText, PreviousText};
+ghost use Rattle.po_entry.specs.EntryParts.{CommentText, PreviousText};
 ghost use Rattle.po_reader.specs.Internal.Reads.{Reads};
 ghost use Rattle.po_entry.specs.Spelling.{entry_from};
 ghost use Rattle.po_entry.specs.TextEntry.{TextEntry};
@@ -14,9 +14,9 @@ ghost use Rattle.po_entry.specs.Faults.{IsStop};
 ghost use Rattle.po_reader.specs.Internal.Stops.{EntriesStop};
 
 use crate::body::{Body, Original, Translation, take_body};
+use crate::cursor::Cursor;
 use crate::flags::flags_of;
 use crate::head::{Head, take_head};
-use crate::rest::Rest;
 use po_entry::Fields;
 use po_syntax::{Item, PoError, PoFault};
 use std::alloc::{AllocError, Global};
@@ -80,7 +80,7 @@ pub(crate) fn drafts_of(
     ensures memory { IfErr result (λ e. e.kind ≡ PoFault.OutOfMemory → e.line ≡ 0) }
 {
     let mut drafts = Vec::with_capacity(alloc, items.len() / LEAST_ITEMS)?;
-    let mut rest = Rest::of(items);
+    let mut rest = Cursor::of(items);
     loop {
         let head = take_head(alloc, &mut rest, end, with_comments)?;
         if rest.is_empty() {

@@ -1,7 +1,7 @@
 //! The first half of an entry: comments, previous texts and context.
 
 ghost use Rattle.std.specs.Prelude.{◌≡◌, ◌≢◌, ◌<◌, ◌≤◌, ◌++◌, ◌∷◌, [], Some, ℕ, List, length, IfOk, IfErr, OnOk, OnErr, IfSome, MatchResult, ◌||◌};
-ghost use Rattle.po_entry.specs.Parts.{CommentText, PreviousText, rank};
+ghost use Rattle.po_entry.specs.EntryParts.{CommentText, PreviousText, rank};
 ghost use Rattle.po_reader.specs.Internal.Head.{IsHead, head_step, begins_body};
 ghost use Rattle.po_reader.specs.Internal.Head as spec;
 ghost use Rattle.po_entry.specs.Comments.{same_kind, with_previous};
@@ -13,7 +13,7 @@ ghost use Rattle.po_reader.specs.Internal.ReaderView.{head_view};
 ghost use Rattle.po_reader.specs.Internal.HeadView.{HoldsHead, HoldsComments};
 
 use crate::comment_texts::{add_flags, add_references};
-use crate::rest::Rest;
+use crate::cursor::Cursor;
 use crate::strings::take_strings;
 use po_entry::Previous;
 use po_syntax::{CommentKind, Item, Keyword, Marks, PoError, PoFault};
@@ -60,7 +60,7 @@ fn begins_body(keyword: Keyword) -> bool
 }
 
 /// Takes the first item, where the head goes on with it; `above` is the rank of the last previous text, or 0.
-fn take_step<'i>(rest: &mut Rest<'i, '_>, above: u32) -> Result<Step<'i>, PoFault>
+fn take_step<'i>(rest: &mut Cursor<'i, '_>, above: u32) -> Result<Step<'i>, PoFault>
     ensures step { MatchResult result
         (λ step. head_step above rest.old ≡ head_view step rest.new)
         (λ fault. (head_step above rest.old ≡ spec.Refuse fault) × (rest.new ≡ rest.old)) }
@@ -159,7 +159,7 @@ fn set_previous(previous: &mut Previous, keyword: Keyword, text: Vec<u8>)
 /// Takes what stands before an entry's own lines, all of it or without comments other than flags.
 pub(crate) fn take_head(
     alloc: Global,
-    rest: &mut Rest<'_, '_>,
+    rest: &mut Cursor<'_, '_>,
     end: u32,
     with_comments: bool,
 ) -> Result<Head, PoError>

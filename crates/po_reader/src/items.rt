@@ -11,8 +11,8 @@ ghost use Rattle.po_reader.specs.ItemsRead.{ReadsItems, ItemsStop};
 ghost use Rattle.po_reader.specs.Internal.Keeping.{KeepsItems};
 ghost use Rattle.po_entry.specs.Viable.{last_line};
 
+use crate::cursor::line_of;
 use crate::drafts::drafts_of;
-use crate::rest::line_of;
 use po_entry::{Catalogue, Entry, Fields, check_texts};
 use po_syntax::{Item, PoError, PoFault};
 use std::alloc::Global;

@@ -8,7 +8,7 @@ ghost use Rattle.po_reader.specs.Internal.ReaderView.{wanted_view};
 ghost use Rattle.po_entry.specs.Faults.{IsStop};
 ghost use Rattle.po_reader.specs.Internal.Stops.{KeywordTextStops};
 
-use crate::rest::Rest;
+use crate::cursor::Cursor;
 use crate::strings::take_strings;
 use po_syntax::{Item, Keyword, Marks, PoError, PoFault};
 use std::alloc::Global;
@@ -66,7 +66,7 @@ fn keyword_fault(wanted: Wanted, obsolete: bool, keyword: Keyword, marks: Marks)
 
 /// Takes the wanted keyword, which is the first item, and gives its line too.
 fn take_keyword(
-    rest: &mut Rest<'_, '_>,
+    rest: &mut Cursor<'_, '_>,
     wanted: Wanted,
     obsolete: bool,
 ) -> Result<(Keyword, u32), PoFault>
@@ -100,7 +100,7 @@ pub(crate) struct KeywordText {
 /// Takes the wanted keyword, which stands first, with its text.
 pub(crate) fn take_keyword_text(
     alloc: Global,
-    rest: &mut Rest<'_, '_>,
+    rest: &mut Cursor<'_, '_>,
     wanted: Wanted,
     obsolete: bool,
     end: u32,

@@ -5,13 +5,14 @@
 //! [`read`] reads a text piece by piece. A caller that keeps no catalogue takes the pieces one by
 //! one: [`next_catalogue`] and [`next_messages`].
 //!
-//! The modules in reading order: `rest`, `strings`, `keywords`, `body`, `comment_texts`, `head`,
+//! The modules in reading order: `cursor`, `strings`, `keywords`, `body`, `comment_texts`, `head`,
 //! `flags`, `drafts`, `items`, `piecewise`, `reading`, `laws`.
 
 #![tactic(auto)]
 
 mod body;
 mod comment_texts;
+mod cursor;
 mod drafts;
 mod flags;
 mod head;
@@ -20,7 +21,6 @@ mod keywords;
 pub mod laws;
 mod piecewise;
 mod reading;
-mod rest;
 mod strings;
 
 pub use crate::piecewise::{next_catalogue, next_messages};

@@ -7,7 +7,7 @@ ghost use Rattle.po_reader.specs.Internal.Strings as spec;
 ghost use Rattle.po_entry.specs.Faults.{IsStop};
 ghost use Rattle.po_reader.specs.Internal.Stops.{StringsStop};
 
-use crate::rest::Rest;
+use crate::cursor::Cursor;
 use po_syntax::{Item, Marks, PoError, PoFault};
 use std::alloc::Global;
 
@@ -31,7 +31,7 @@ fn same_marks(a: Marks, b: Marks) -> bool
 }
 
 /// Takes the string that is the first item, under these marks.
-fn take_string<'i>(rest: &mut Rest<'i, '_>, marks: Marks) -> Result<&'i [u8], PoFault>
+fn take_string<'i>(rest: &mut Cursor<'i, '_>, marks: Marks) -> Result<&'i [u8], PoFault>
     ensures step { MatchResult result
         (λ bytes. string_step marks rest.old ≡ spec.Take bytes.now rest.new)
         (λ fault. (string_step marks rest.old ≡ spec.Refuse fault) × (rest.new ≡ rest.old)) }
@@ -51,7 +51,7 @@ fn take_string<'i>(rest: &mut Rest<'i, '_>, marks: Marks) -> Result<&'i [u8], Po
 }
 
 /// Whether a string is the first item.
-fn begins_string(rest: &Rest<'_, '_>) -> bool
+fn begins_string(rest: &Cursor<'_, '_>) -> bool
     ensures { result ≡ begins_string rest.now }
 {
     matches!(rest.first(), Some(Item::Str(..)))
@@ -60,7 +60,7 @@ fn begins_string(rest: &Rest<'_, '_>) -> bool
 /// Takes the text of the strings that stand first, under these marks.
 pub(crate) fn take_strings(
     alloc: Global,
-    rest: &mut Rest<'_, '_>,
+    rest: &mut Cursor<'_, '_>,
     marks: Marks,
     end: u32,
 ) -> Result<Vec<u8>, PoError>

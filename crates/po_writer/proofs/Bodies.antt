@@ -6,7 +6,7 @@ use Rattle.po_syntax.specs.declared.item.Keyword.{Keyword}
 use Rattle.po_syntax.specs.declared.item.Keyword.TheVariants.{MsgCtxt, MsgId, MsgIdPlural, MsgStr, MsgStrAt}
 use Rattle.po_syntax.specs.TextItem.{TextItem}
 use Rattle.po_entry.specs.TextEntry.{TextPrevious}
-use Rattle.po_entry.specs.Parts.{PreviousText}
+use Rattle.po_entry.specs.EntryParts.{PreviousText}
 use Rattle.po_entry.specs.Comments.{previous_of}
 use Rattle.po_entry.specs.Spelling.{own_marks, previous_marks, SpellsHead, none, with, without, AreInOrder, SpellsContext, SpellsKeywordText, SpellsForms, SpellsTranslation, SpellsBody}
 use Rattle.po_entry.specs.Spelling as spell

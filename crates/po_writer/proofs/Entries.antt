@@ -4,7 +4,7 @@ use Rattle.std.specs.List.{flat_map, list_any}
 use Rattle.std.proofs.lemmas.List.{append-nil}
 use Rattle.std.proofs.lemmas.List.Elements.{All-nil, All-cons, All-head, All-weaker}
 use Rattle.std.proofs.lemmas.Bool.{ne_eqb}
-use Rattle.po_entry.specs.Facts.Halves.{All-left, All-right}
+use Rattle.po_entry.specs.Facts.AllAppend.{All-left, All-right}
 use Rattle.po_syntax.specs.declared.item.CommentKind.TheVariants.{Translator, Extracted, Reference, Flags}
 use Rattle.po_syntax.specs.TextItem.{TextItem}
 use Rattle.po_entry.specs.Bytes.{Lacks, AreDistinct}
@@ -12,7 +12,7 @@ use Rattle.po_entry.specs.TextEntry.{TextEntry, TextPrevious, with_line, previou
 use Rattle.po_syntax.specs.ItemContents.{IsText, IsComment}
 use Rattle.po_entry.specs.Validity.{IsTranslatorComment, IsReference, IsFlag, IsEntry}
 use Rattle.po_entry.specs.Comments.{comments_of, extracted_of, references_of, all_listed_flags, fuzzy_of, flags_of, listed_references, listed_flags, is_fuzzy_flag, with_flag, is_comma}
-use Rattle.po_entry.specs.Parts.{CommentText, Body}
+use Rattle.po_entry.specs.EntryParts.{CommentText, Body}
 use Rattle.po_entry.specs.Spelling.{own_marks, previous_marks, entry_from, SpellsHead, SpellsEntry, entry}
 use Rattle.po_writer.specs.WrittenText.{comment_lines, elements_line, all_flags, previous_prefix, own_prefix, previous_lines, own_lines, entry_lines}
 use Rattle.po_writer.proofs.Utf8.{IsLine, is_plain, line-append, line-empty, plain_line}

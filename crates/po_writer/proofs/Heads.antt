@@ -7,7 +7,7 @@ use Rattle.po_syntax.specs.Facts.Returns.{kept_text}
 use Rattle.po_syntax.specs.ItemContents.{trim_returns}
 use Rattle.po_syntax.specs.Spelling.{IsMark, dot, colon, comma, bar, tilde, SpellsComment, extracted, reference, flags, translator, IsWithoutReturns, HoldsItems, comment}
 use Rattle.po_syntax.specs.TextItem.{TextItem, Comment}
-use Rattle.po_entry.specs.Parts.{CommentText, PreviousText}
+use Rattle.po_entry.specs.EntryParts.{CommentText, PreviousText}
 use Rattle.po_entry.specs.Spelling.{SpellsHead, nothing, head_comment, previous_text}
 use Rattle.po_entry.specs.Validity.{IsTranslatorComment}
 use Rattle.po_writer.specs.WrittenText.{comment_lines}

@@ -7,7 +7,7 @@ use Rattle.std.proofs.Math.Utf8.{encode, scalar_cases, low_scalar}
 use Rattle.std.proofs.lemmas.Str.{IsUtf8-append, IsUtf8-nil, IsUtf8-encode, IsUtf8-from_ascii, encode_ascii}
 use Rattle.std.proofs.lemmas.List.Elements.{All-nil, All-cons, All-head, All-tail, All-append, All-weaker}
 use Rattle.std.proofs.lemmas.Grind.{flat_map-append}
-use Rattle.po_entry.specs.Facts.Halves.{All-right}
+use Rattle.po_entry.specs.Facts.AllAppend.{All-right}
 use Rattle.std.proofs.lemmas.Bool.{ne_eqb, lt-ltb, ltb-true, le-ltb, ltb-false, and_parts}
 use Rattle.po_syntax.specs.QuotedForm.{octal_escape, is_control, written_byte, written_bytes, quoted}
 use Rattle.po_writer.specs.WrittenText.{lines_with_ends}

@@ -59,7 +59,7 @@ fn look(catalog: &PokitCatalog<'_>, query: &PokitQuery<'_>, meter: &mut Meter) -
     ensures nodes { (view : CatalogView) → IsOpened catalog.now view
         → result.steps ≤ nodes view.rule.tree }
 {
-    let view = MoView::reopen(catalog.bytes);
+    let view = MoView::open_checked(catalog.bytes);
     let found = locate(
         &mut ViewMessages { view: &view, meter },
         catalog.nplurals,

@@ -78,5 +78,5 @@ pub extern "C" fn pokit_catalog_len(catalog: &PokitCatalog<'_>) -> u32
     requires { (view : CatalogView) × IsOpened catalog.now view }
     ensures { (view : CatalogView) → IsOpened catalog.now view → result ≡ length view.messages }
 {
-    MoView::reopen(catalog.bytes).len()
+    MoView::open_checked(catalog.bytes).len()
 }

@@ -9,7 +9,7 @@ use Rattle.std.proofs.Math.Seq.{drop-cons}
 use Rattle.po_entry.specs.TextEntry.{TextEntry}
 use Rattle.po_messages.specs.Duplicate.{AllDiffer, IsFirstDuplicate, live_entries}
 use Rattle.po_messages.specs.Joined.{InputEntry, entries_of, in_input, is_live}
-use Rattle.po_entry.specs.Facts.Halves.{All-left, All-right}
+use Rattle.po_entry.specs.Facts.AllAppend.{All-left, All-right}
 use Rattle.po_messages.specs.Message.{Message, entry_message}
 use Rattle.po_messages.proofs.DuplicateLemmas.{entries_of_input, message_is}
 use Rattle.text_runs.specs.Repeats.{IsEarliestRepeat, IsUnseen, NumbersDiffer, line_seen, numbered}

@@ -7,7 +7,7 @@ use Rattle.po_syntax.specs.declared.item.Keyword.{Keyword}
 use Rattle.po_syntax.specs.declared.item.Keyword.TheVariants.{MsgCtxt, MsgId, MsgIdPlural, MsgStr, MsgStrAt}
 use Rattle.po_syntax.specs.declared.item.Marks.{Marks}
 use Rattle.po_syntax.specs.TextItem.{TextItem, Comment, Word, Str}
-use Rattle.po_entry.specs.Parts.{CommentText, PreviousText, rank}
+use Rattle.po_entry.specs.EntryParts.{CommentText, PreviousText, rank}
 use Rattle.po_reader.specs.Internal.Strings.{IsStrings}
 
 -- an entry's own lines may begin with this keyword

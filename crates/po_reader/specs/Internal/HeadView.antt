@@ -2,7 +2,7 @@
 use Rattle.std.specs.Prelude.{◌≡◌, List}
 use Rattle.po_reader.specs.declared.head.Head.{Head}
 use Rattle.po_entry.specs.TextEntry.{texts}
-use Rattle.po_entry.specs.Parts.{CommentText, PreviousText}
+use Rattle.po_entry.specs.EntryParts.{CommentText, PreviousText}
 use Rattle.po_entry.specs.Comments.{comments_of, extracted_of, references_of, all_listed_flags, previous_of}
 
 -- the head holds these comments

@@ -8,7 +8,7 @@ use Rattle.po_reader.specs.declared.body.Body.{Body}
 use Rattle.po_reader.specs.declared.head.Step.{Step}
 use Rattle.po_reader.specs.declared.head.Step.TheVariants as step
 use Rattle.po_syntax.specs.TextItem.{TextItem}
-use Rattle.po_entry.specs.Parts as parts
+use Rattle.po_entry.specs.EntryParts as parts
 use Rattle.po_entry.specs.TextEntry.{texts, optional_text}
 use Rattle.po_reader.specs.Internal.Keywords as spec
 use Rattle.po_reader.specs.Internal.Body as body

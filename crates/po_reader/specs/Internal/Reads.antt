@@ -3,7 +3,7 @@
 use Rattle.std.specs.Prelude.{List, [], ◌∷◌}
 use Rattle.po_syntax.specs.TextItem.{TextItem}
 use Rattle.po_entry.specs.TextEntry.{TextEntry}
-use Rattle.po_entry.specs.Parts.{CommentText, PreviousText, Body}
+use Rattle.po_entry.specs.EntryParts.{CommentText, PreviousText, Body}
 use Rattle.po_entry.specs.Spelling.{entry_from, AreComments}
 use Rattle.po_reader.specs.Internal.Body.{IsBody}
 use Rattle.po_reader.specs.Internal.Head.{IsHead}

@@ -13,7 +13,7 @@ use Rattle.po_entry.specs.Spelling.{own_marks}
 use Rattle.po_reader.specs.Internal.Strings as string
 use Rattle.po_reader.specs.Internal.Keywords.{Wanted, Id, Translation, Form, IsKeywordText, next_keyword}
 use Rattle.po_reader.specs.Internal.Keywords as word
-use Rattle.po_entry.specs.Parts.{Body, CommentText, PreviousText, rank}
+use Rattle.po_entry.specs.EntryParts.{Body, CommentText, PreviousText, rank}
 use Rattle.po_reader.specs.Internal.Body.{IsBody, begins_form, body_start, WithContext, WithoutContext}
 use Rattle.po_reader.specs.Internal.Head.{IsHead, head_step}
 use Rattle.po_reader.specs.Internal.Head as head

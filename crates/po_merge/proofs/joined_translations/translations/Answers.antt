@@ -11,7 +11,7 @@ use Rattle.po_entry.specs.Equality.{texts_eq}
 use Rattle.po_merge.specs.Inputs.{NamedEntry}
 use Rattle.po_merge.specs.InputsView.{named_entry, named_entries}
 use Rattle.po_merge.specs.MergedEntry.{translations, same_forms}
-use Rattle.po_merge.specs.Internal.Sets.{HasForms}
+use Rattle.po_merge.specs.Internal.FormsByIndex.{HasForms}
 use Rattle.po_merge.proofs.Sets.{one_definition_more}
 use Rattle.po_merge.proofs.Steps.{translations_more}
 use Rattle.po_merge.proofs.joined_translations.translations.Goals as goal

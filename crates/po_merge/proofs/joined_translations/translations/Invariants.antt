@@ -1,7 +1,7 @@
 use Rattle.std.proofs.Common.{◌≡◌, take}
 use Rattle.po_merge.specs.InputsView.{named_entries}
 use Rattle.po_merge.specs.MergedEntry.{translations}
-use Rattle.po_merge.specs.Internal.Sets.{HasForms}
+use Rattle.po_merge.specs.Internal.FormsByIndex.{HasForms}
 use Rattle.po_merge.proofs.joined_translations.translations.Given as goal
 
 -- the distinct translations so far are found, and the set has their forms

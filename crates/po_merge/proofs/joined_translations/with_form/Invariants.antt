@@ -1,6 +1,6 @@
 use Rattle.std.proofs.Common.{◌≡◌, take}
 use Rattle.po_merge.specs.InputsView.{named_entries}
-use Rattle.po_merge.specs.Internal.Sets.{with_form}
+use Rattle.po_merge.specs.Internal.FormsByIndex.{with_form}
 use Rattle.po_merge.proofs.joined_translations.with_form.Given as goal
 
 -- those of the translations so far that have a form of the index

@@ -1,7 +1,7 @@
 use Rattle.std.proofs.Common.{refl, ◌++◌, ◌∷◌, [], ◌∙◌, append_assoc, arith}
 use Rattle.std.proofs.lemmas.Result.{err_from_is_err_and}
 use Rattle.std.proofs.lemmas.List.{append-nil}
-use Rattle.po_entry.specs.Parts.{CommentText, PreviousText}
+use Rattle.po_entry.specs.EntryParts.{CommentText, PreviousText}
 use Rattle.po_reader.specs.Internal.Head.IsHead.{over, head_comment, previous}
 use Rattle.po_reader.specs.Internal.Stops.HeadStops.{refused, in_previous, after_comment, after_previous}
 use Rattle.po_reader.specs.KeptComments.{kept_comments}

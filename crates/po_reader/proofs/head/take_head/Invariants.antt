@@ -1,7 +1,7 @@
 use Rattle.std.proofs.Common.{ℕ, List, ◌++◌, ◌≤◌, length}
 use Rattle.po_syntax.specs.declared.fault.PoFault.{PoFault}
 use Rattle.po_syntax.specs.TextItem.{TextItem}
-use Rattle.po_entry.specs.Parts.{CommentText, PreviousText}
+use Rattle.po_entry.specs.EntryParts.{CommentText, PreviousText}
 use Rattle.po_reader.specs.Internal.Head.{IsHead}
 use Rattle.po_reader.specs.Internal.Stops.{HeadStops}
 use Rattle.po_reader.specs.Internal.HeadView.{HoldsHead}

@@ -1,7 +1,7 @@
 use Rattle.std.proofs.Common.{drop, ap, ◌∙◌, length, arith}
 use Rattle.std.proofs.lemmas.List.{length-drop}
 use Rattle.po_reader.proofs.Advancing.{after_first}
-use Rattle.po_reader.proofs.rest.Rest.advance.Goals as goal
+use Rattle.po_reader.proofs.cursor.Cursor.advance.Goals as goal
 
 pub returns : goal.returns
 returns c =

@@ -4,7 +4,7 @@ use Rattle.std.specs.Prelude.{◌≡◌, ◌≢◌, ℕ, List, [], ◌∷◌, �
 use Rattle.po_syntax.specs.Spelling.{IsBlank}
 use Rattle.po_syntax.specs.declared.item.CommentKind.TheVariants.{Flags}
 use Rattle.po_entry.specs.Bytes.{Lacks}
-use Rattle.po_entry.specs.Parts.{CommentText}
+use Rattle.po_entry.specs.EntryParts.{CommentText}
 
 -- a reference ends before this text, which is empty or begins with a blank
 abbrev pub EndsReference : List ℕ → Type 0

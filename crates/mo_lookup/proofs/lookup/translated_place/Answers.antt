@@ -1,7 +1,7 @@
 use Rattle.std.proofs.Common.{sym}
 use Rattle.plural_rule.specs.declared.rule.Source.TheVariants.{Header}
 use Rattle.mo_lookup.proofs.PlaceLemmas.{form-in-file}
-use Rattle.mo_lookup.proofs.looking.translated_place.Goals as goal
+use Rattle.mo_lookup.proofs.lookup.translated_place.Goals as goal
 
 pub returns-clause-place : goal.returns-clause-place
 returns-clause-place c bytes there =

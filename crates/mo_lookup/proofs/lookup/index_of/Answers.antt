@@ -1,5 +1,5 @@
 use Rattle.mo_lookup.proofs.TranslationLemmas.{index-listed}
-use Rattle.mo_lookup.proofs.looking.index_of.Goals as goal
+use Rattle.mo_lookup.proofs.lookup.index_of.Goals as goal
 
 pub returns-clause-found : goal.returns-clause-found
 returns-clause-found g c =

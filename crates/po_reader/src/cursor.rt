@@ -9,13 +9,13 @@ use std::marker::Model;
 
 /// The items that are left to be read.
 #[derive(Drop)]
-pub(crate) struct Rest<'i, 'a> {
+pub(crate) struct Cursor<'i, 'a> {
     items: &'i [Item<'a>],
     /// The index of the first that is left.
     at: usize,
 }
 
-impl<'i, 'a> Model for Rest<'i, 'a> {
+impl<'i, 'a> Model for Cursor<'i, 'a> {
     ghost use Rattle.std.specs.Prelude.{◌≤◌, List, drop, length};
     ghost use Rattle.po_syntax.specs.TextItem.{TextItem, views};
 
@@ -26,12 +26,12 @@ impl<'i, 'a> Model for Rest<'i, 'a> {
     ghost invariant = { λ rest. rest.at ≤ length rest.items.now };
 }
 
-impl<'i, 'a> Rest<'i, 'a> {
+impl<'i, 'a> Cursor<'i, 'a> {
     /// All of these items.
     pub(crate) fn of(items: &'i [Item<'a>]) -> Self
         ensures { result ≡ views items.now }
     {
-        Rest { items, at: 0 }
+        Cursor { items, at: 0 }
     }
 
     /// The first item, if one is left.
