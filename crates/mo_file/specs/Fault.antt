@@ -47,11 +47,7 @@ HasFaultIn order bytes (NotSorted i) =
 abbrev pub HasFault : List ℕ → MoError → Type 0
 HasFault bytes TooShort = length bytes < 28
 HasFault bytes BadMagic = (order : Order) → ¬ HasMagicOf order bytes
-HasFault bytes BadRevision = (order : Order) × HasMagicOf order bytes × HasFaultIn order bytes BadRevision
-HasFault bytes TableOutside = (order : Order) × HasMagicOf order bytes × HasFaultIn order bytes TableOutside
-HasFault bytes (StringOutside i) = (order : Order) × HasMagicOf order bytes × HasFaultIn order bytes (StringOutside i)
-HasFault bytes (NoTerminator i) = (order : Order) × HasMagicOf order bytes × HasFaultIn order bytes (NoTerminator i)
-HasFault bytes (NotSorted i) = (order : Order) × HasMagicOf order bytes × HasFaultIn order bytes (NotSorted i)
+HasFault bytes f = (order : Order) × HasMagicOf order bytes × HasFaultIn order bytes f
 
 -- the order in which kinds of faults are reported
 abbrev pub kind : MoError → ℕ
@@ -65,13 +61,10 @@ kind (NotSorted i) = 7
 
 -- the message that a fault names; 0 for one that names none
 abbrev pub index : MoError → ℕ
-index TooShort = 0
-index BadMagic = 0
-index BadRevision = 0
-index TableOutside = 0
 index (StringOutside i) = i
 index (NoTerminator i) = i
 index (NotSorted i) = i
+index f = 0
 
 -- a fault is reported before another by its kind, then by its message
 abbrev pub IsBefore : MoError → MoError → Type 0
@@ -84,10 +77,5 @@ pub record IsFirstFault (bytes : List ℕ) (e : MoError) : Type 0 where
 
 -- the comparisons of neighbouring keys that come before a fault is found
 abbrev pub comparisons_before : MoError → ℕ
-comparisons_before TooShort = 0
-comparisons_before BadMagic = 0
-comparisons_before BadRevision = 0
-comparisons_before TableOutside = 0
-comparisons_before (StringOutside i) = 0
-comparisons_before (NoTerminator i) = 0
 comparisons_before (NotSorted i) = i
+comparisons_before f = 0

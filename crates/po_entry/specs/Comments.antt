@@ -13,21 +13,10 @@ use Rattle.po_entry.specs.EntryParts.{CommentText, PreviousText, rank}
 -- whether two of the four kinds of comments are the same
 abbrev pub same_kind : CommentKind → CommentKind → Bool
 same_kind Translator Translator = true
-same_kind Translator Extracted = false
-same_kind Translator Reference = false
-same_kind Translator Flags = false
-same_kind Extracted Translator = false
 same_kind Extracted Extracted = true
-same_kind Extracted Reference = false
-same_kind Extracted Flags = false
-same_kind Reference Translator = false
-same_kind Reference Extracted = false
 same_kind Reference Reference = true
-same_kind Reference Flags = false
-same_kind Flags Translator = false
-same_kind Flags Extracted = false
-same_kind Flags Reference = false
 same_kind Flags Flags = true
+same_kind a b = false
 
 -- the texts of the comments of a kind, in order
 abbrev pub texts_of : CommentKind → List CommentText → List (List ℕ)

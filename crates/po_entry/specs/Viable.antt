@@ -33,12 +33,7 @@ abbrev pub IsWrongIndex : List TextItem → TextItem → Type 0
 IsWrongIndex prefix (Word (MsgStrAt index) marks line) =
     (marks.previous ≡ false) × (other : ℕ) × (obsolete : Bool) × (other ≢ index)
     × IsViable (prefix ++ Word (MsgStrAt other) (own_marks obsolete) line ∷ [])
-IsWrongIndex prefix (Word MsgCtxt marks line) = ⊥
-IsWrongIndex prefix (Word MsgId marks line) = ⊥
-IsWrongIndex prefix (Word MsgIdPlural marks line) = ⊥
-IsWrongIndex prefix (Word MsgStr marks line) = ⊥
-IsWrongIndex prefix (Comment kind text line) = ⊥
-IsWrongIndex prefix (Str bytes marks line) = ⊥
+IsWrongIndex prefix item = ⊥
 
 -- the item is one of an entry's own lines, and it could follow the prefix under some obsolete mark
 abbrev pub IsMixed : List TextItem → TextItem → Type 0

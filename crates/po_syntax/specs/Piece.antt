@@ -15,13 +15,9 @@ IsString (Str bytes marks line) = Unit {0}
 
 -- `msgstr` or `msgstr[i]`
 abbrev pub IsTranslationWord : TextItem → Type 0
-IsTranslationWord (Comment kind text line) = ⊥
-IsTranslationWord (Word MsgCtxt marks line) = ⊥
-IsTranslationWord (Word MsgId marks line) = ⊥
-IsTranslationWord (Word MsgIdPlural marks line) = ⊥
 IsTranslationWord (Word MsgStr marks line) = Unit {0}
 IsTranslationWord (Word (MsgStrAt index) marks line) = Unit {0}
-IsTranslationWord (Str bytes marks line) = ⊥
+IsTranslationWord item = ⊥
 
 -- `msgstr` or `msgstr[i]`, and then strings alone, at least one
 abbrev pub IsTranslation : List TextItem → Type 0
@@ -34,13 +30,9 @@ EndsTranslation items = (before : ℕ) × IsTranslation (drop before items)
 
 -- an item with which no entry goes on after its last string: neither a string nor `msgstr[i]`
 abbrev pub IsNew : TextItem → Type 0
-IsNew (Comment kind text line) = Unit {0}
-IsNew (Word MsgCtxt marks line) = Unit {0}
-IsNew (Word MsgId marks line) = Unit {0}
-IsNew (Word MsgIdPlural marks line) = Unit {0}
-IsNew (Word MsgStr marks line) = Unit {0}
 IsNew (Word (MsgStrAt index) marks line) = ⊥
 IsNew (Str bytes marks line) = ⊥
+IsNew item = Unit {0}
 
 -- there is a first item, and it is such an item
 abbrev pub BeginsAnew : List TextItem → Type 0
