@@ -100,7 +100,7 @@ pub failed_status : (inputs : List NamedFile) (fault : Reported) → (refusal (c
 failed_status inputs fault = refl
 
 -- The inputs aren't compiled, which is reported before any fault of the check. A failed allocation
--- (`NoMemory`) makes no run: it is reported without a file.
+-- (`NoMemory`, which is `OutOfMemory` of PoFault) makes no run: it is reported without a file.
 pub record IsRefused (inputs : List NamedFile) (o : MsgfmtOptions) (run : RunView) : Type 0 where
   pub error : JoinError
   pub fault : IsCompileFault (compile_options o) (input_texts inputs) error

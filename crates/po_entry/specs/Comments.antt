@@ -27,7 +27,7 @@ texts_of kind comment_texts =
 abbrev pub is_not_empty : List ℕ → Bool
 is_not_empty text = not (length text == 0)
 
--- the elements of one reference line, between blanks
+-- the elements of one reference line, between blanks; U+2068 and U+2069 have no meaning here
 abbrev pub listed_references : List ℕ → List (List ℕ)
 listed_references text = filter is_not_empty (slice_split is_blank text)
 

@@ -1,4 +1,5 @@
--- Blanks before, between and after the parts of a line (manual, "The Format of PO Files").
+-- Blanks around references and flags, the same five bytes as `IsBlank` has for lines (manual, "The
+-- Format of PO Files").
 use Rattle.std.specs.Prelude.{ℕ, Bool, ◌||◌, ◌==◌, List, drop}
 use Rattle.std.specs.List.{prefix_len}
 

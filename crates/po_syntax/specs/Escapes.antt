@@ -9,13 +9,14 @@ abbrev pub NoDigitFirst : ℕ → List ℕ → Type 0
 NoDigitFirst base [] = Unit {0}
 NoDigitFirst base (b ∷ text) = base ≤ digit_value b
 
--- the number of a byte other than NUL
+-- the number of a byte that a string may hold: any but NUL
 abbrev pub IsByteNumber : ℕ → Type 0
 IsByteNumber number = (0 < number) × (number < 256)
 
--- After a backslash the text spells this byte, and the rest stands after the escape. Octal digits
--- give the byte's number, as many as stand there, up to three; or hex digits after an `x` do, all
--- that stand there.
+-- After a backslash the text spells this byte, and the rest stands after the escape: `\a` is 7, `\b`
+-- 8, `\t` 9, `\n` 10, `\v` 11, `\f` 12, `\r` 13, `\\` and `\"` themselves. Octal digits give the
+-- byte's number, as many as stand there, up to three; or hex digits after an `x` do, all that stand
+-- there. C's `\'` and `\?` and a backslash at the end of a line are no escapes: this project's choice.
 pub data SpellsEscape : List ℕ → ℕ → List ℕ → Type 0 where
   alert : {rest : List ℕ} → SpellsEscape (97 ∷ rest) 7 rest
   backspace : {rest : List ℕ} → SpellsEscape (98 ∷ rest) 8 rest

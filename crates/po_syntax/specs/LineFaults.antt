@@ -1,5 +1,5 @@
--- The first fault of a line, with a case for each place that can have one (manual, "The Format of
--- PO Files").
+-- The first fault of a line, with a case for each place that can have one: this project's own, as the
+-- manual names no faults (FORMATS.md, "Which fault is reported").
 use Rattle.std.specs.Prelude.{◌≡◌, ◌≢◌, ◌⊎◌, ℕ, ◌^◌, ◌<◌, ◌≤◌, List, [], ◌∷◌, ◌++◌, length, All, codes}
 use Rattle.std.specs.Char.{digit_value}
 use Rattle.std.specs.Str.Parse.{IsNumeral, digits_value}
@@ -29,7 +29,7 @@ pub data NumberFault : ℕ → PoFault → Type 0 where
   nul : NumberFault 0 ForbiddenByte
   large : {number : ℕ} → 256 ≤ number → NumberFault number BadEscape
 
--- after a backslash no escape stands, or that of a byte that a string may not hold
+-- after a backslash no escape stands, or one whose number is 0 or above 255
 pub data EscapeFault : List ℕ → PoFault → Type 0 where
   at_end : EscapeFault [] BadEscape
   no_escape : {b : ℕ} {text : List ℕ} → (StartsEscape b → ⊥) → EscapeFault (b ∷ text) BadEscape
@@ -93,11 +93,12 @@ pub data TokensFault : List ℕ → PoFault → Type 0 where
   after_string : {text bytes rest : List ℕ} {fault : PoFault} → SpellsString text bytes rest → TokensFault rest fault
       → TokensFault (34 ∷ text) fault
 
--- the text begins with no blank and no `#`
+-- the text begins with no blank and no `#`, so that blanks before it are those of `indented`
 abbrev pub BeginsTokens : List ℕ → Type 0
 BeginsTokens [] = Unit {0}
 BeginsTokens (b ∷ text) = (IsBlank b → ⊥) × (b ≢ 35)
 
+-- the text begins with no `|`
 abbrev pub BeginsWithNoBar : List ℕ → Type 0
 BeginsWithNoBar [] = Unit {0}
 BeginsWithNoBar (b ∷ text) = b ≢ 124

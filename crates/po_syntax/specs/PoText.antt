@@ -1,4 +1,5 @@
--- The items of a PO text, and its first fault (manual, "The Format of PO Files").
+-- The items of a PO text (manual, "The Format of PO Files"), and its first fault: this project's own,
+-- as the manual names no faults (FORMATS.md, "Which fault is reported").
 use Rattle.std.specs.Prelude.{◌≡◌, ℕ, ◌+◌, ◌^◌, ◌<◌, ◌≤◌, ◌⊎◌, ◌==◌, List, [], ◌∷◌, ◌++◌, take, drop, length}
 use Rattle.std.specs.Prelude.{if◌then◌else◌, IsUtf8, nat_eq, position, count_by, Some, None}
 use Rattle.std.specs.List.{slice_split, starts_with}
@@ -21,7 +22,7 @@ HasNoNul text = position (λ b. b == 0) text ≡ None
 abbrev pub line_number : List ℕ → ℕ → ℕ
 line_number text index = 1 + count_by (λ b. b == 10) (take index text)
 
--- the text after a byte order mark at its start
+-- the text without a byte order mark (EF BB BF) at its start, if it has one
 abbrev pub without_byte_order_mark : List ℕ → List ℕ
 without_byte_order_mark text = if starts_with nat_eq text (0xEF ∷ 0xBB ∷ 0xBF ∷ []) then drop 3 text else text
 
@@ -45,7 +46,8 @@ LinesStop number (line ∷ lines) fault at =
     (LineFault line fault × (at ≡ number))
     ⊎ ((here : List TextItem) × HoldsItems number line here × LinesStop (number + 1) lines fault at)
 
--- the text spells these items
+-- The text spells these items: it is small, UTF-8 in whole and without NUL, which are this project's
+-- limits, and its lines, after a byte order mark, spell them.
 pub record SpellsText (text : List ℕ) (items : List TextItem) : Type 0 where
   pub small : IsSmall text
   pub utf8 : IsUtf8 text

@@ -30,12 +30,13 @@ abbrev pub EndsWord : List ℕ → Type 0
 EndsWord [] = Unit {0}
 EndsWord (b ∷ text) = IsWordByte b → ⊥
 
--- after blanks no opening bracket follows
+-- no `[` follows directly after any blanks, or at once
 abbrev pub HasNoBracket : List ℕ → Type 0
 HasNoBracket text = (blanks rest : List ℕ) → All IsBlank blanks → text ≡ blanks ++ 91 ∷ rest → ⊥
 
 -- The text begins with this keyword, and the rest stands after it. After `msgstr` a bracket, an
--- index and a closing bracket may follow, with blanks before and between them.
+-- index and a closing bracket may follow, on the same line, with blanks before and between them. The
+-- index may begin with zeros, and is at most 4,294,967,295: this project's limit.
 pub data SpellsKeyword : List ℕ → Keyword → List ℕ → Type 0 where
   msgctxt : {rest : List ℕ} → EndsWord rest → SpellsKeyword (codes "msgctxt" ++ rest) MsgCtxt rest
   msgid : {rest : List ℕ} → EndsWord rest → SpellsKeyword (codes "msgid" ++ rest) MsgId rest
@@ -46,7 +47,7 @@ pub data SpellsKeyword : List ℕ → Keyword → List ℕ → Type 0 where
       → SpellsKeyword (codes "msgstr" ++ (before ++ 91 ∷ (inside ++ (digits ++ (after ++ 93 ∷ rest)))))
       (MsgStrAt (digits_value 10 digits)) rest
 
--- keywords and strings, with any blanks before, between and after them
+-- keywords and strings in any order and number, with blanks or none before, between and after them
 pub data HoldsTokens (marks : Marks) (line : ℕ) : List ℕ → List TextItem → Type 0 where
   end : HoldsTokens marks line [] []
   blank : {b : ℕ} {text : List ℕ} {items : List TextItem} → IsBlank b → HoldsTokens marks line text items
@@ -64,6 +65,7 @@ pub data IsMark : ℕ → Type 0 where
   bar : IsMark 124
   tilde : IsMark 126
 
+-- the text begins with none of these
 abbrev pub BeginsWithNoMark : List ℕ → Type 0
 BeginsWithNoMark [] = Unit {0}
 BeginsWithNoMark (b ∷ text) = IsMark b → ⊥
@@ -75,18 +77,20 @@ pub data SpellsComment : List ℕ → CommentKind → List ℕ → Type 0 where
   flags : {rest : List ℕ} → SpellsComment (44 ∷ rest) Flags rest
   translator : {text : List ℕ} → BeginsWithNoMark text → SpellsComment text Translator text
 
--- the text without the CRs at its end
+-- `kept` is the text without the CRs at its end; a CR inside, or before another blank, stays
 pub record IsWithoutReturns (text kept : List ℕ) : Type 0 where
   pub returns : List ℕ
   pub whole : text ≡ kept ++ returns
   pub are_returns : All (λ b. b ≡ 13) returns
   pub none_left : (before : List ℕ) → kept ≢ before ++ 13 ∷ []
 
+-- the marks of a line: whether its entry is obsolete, and whether it has a previous text
 abbrev pub marked : Bool → Bool → Marks
 marked obsolete previous = record { obsolete = obsolete; previous = previous }
 
--- the line of this number holds these items: tokens, alone or after `#|`, `#~` or `#~|`; or a
--- comment, alone or after `#~`
+-- The line of this number, after any blanks, holds these items: tokens, alone or after `#|`, `#~` or
+-- `#~|`; or a comment, alone or after `#~`, which leaves no mark on it. An empty line, and `#|`, `#~`
+-- or `#~|` alone, hold none. Each line has one list of items, or one fault, and not both.
 pub data HoldsItems (line : ℕ) : List ℕ → List TextItem → Type 0 where
   indented : {b : ℕ} {text : List ℕ} {items : List TextItem} → IsBlank b → HoldsItems line text items
       → HoldsItems line (b ∷ text) items
