@@ -1,42 +1,100 @@
 -- The first occurrence of a name in a text.
-use Rattle.std.proofs.Common.{◌≡◌, ℕ, zero, suc, ◌-◌, ◌<◌, Bool, true, false, not, nat_eq, List, [], ◌∷◌, length, take, drop, slice_index, Some, None, refl, sym, ap, ◌∙◌, arith, length-drop}
+use Rattle.std.proofs.Common.{◌≡◌, ℕ, zero, suc, ◌+◌, ◌-◌, ◌<◌, ◌≤◌, Bool, true, not, nat_eq, inl, inr, List, [], ◌∷◌, length, take, drop, slice_index, Some, None, refl, sym, ap, subst, ◌∙◌, arith, length-append, length-drop, length-take}
 use Rattle.std.specs.List.{starts_with, before_first}
-use Rattle.std.proofs.Math.Seq.{drop-length}
-use Rattle.std.proofs.lemmas.Bool.{false_from_ne_true}
-use Rattle.std.proofs.lemmas.Bool.Decides.{nat_tests}
-use Rattle.std.proofs.lemmas.List.{take_all}
+use Rattle.std.proofs.Math.Seq.{take-append_seam}
+use Rattle.std.proofs.lemmas.Bool.{cases_Bool, cases_lt, false_from_ne_true}
+use Rattle.std.proofs.lemmas.Bool.Decides.{Decides-eqb}
+use Rattle.std.proofs.lemmas.Slice.Eq.{starts_is}
+use Rattle.std.proofs.lemmas.List.{take_all, get_or-drop, get_or-take}
 use Rattle.std.proofs.lemmas.List.Sums.{prefix_len_is}
-use Rattle.memchr.specs.Find.{IsFirstByte, Nowhere, Passes, is_byte, is_byte2}
+use Rattle.memchr.specs.Find.{OccursAt, IsFirstByte, Nowhere, Passes, is_byte, is_byte2}
+use Rattle.memchr.proofs.lemmas.MatchLemmas.{OccursAt-part, OccursAt-from_part, OccursAt-split}
 use Rattle.plural_rule.specs.Header.{after_first, is_end}
+
+-- a name that occurs after the first byte
+occurs-later : (name rest : List ℕ) (c k : ℕ) → OccursAt rest name k → OccursAt (c ∷ rest) name (suc k)
+occurs-later name rest c k h =
+    let fits = h.fits in OccursAt-from_part (c ∷ rest) name (suc k) (omega arith) (OccursAt-part rest name k h)
+
+occurs-earlier : (name rest : List ℕ) (c k : ℕ) → OccursAt (c ∷ rest) name (suc k) → OccursAt rest name k
+occurs-earlier name rest c k h =
+    let fits = h.fits in OccursAt-from_part rest name k (omega arith) (OccursAt-part (c ∷ rest) name (suc k) h)
+
+starts-occurs : (name text : List ℕ) → starts_with nat_eq text name ≡ true → OccursAt text name 0
+starts-occurs name text e =
+    let split = (starts_is Decides-eqb text name (starts_with nat_eq text name) refl).0 e in
+    let lengths = ap length split in
+    OccursAt-from_part text name 0 (omega (arith, length-append name (drop (length name) text))) (ap (take (length name)) split ∙ take-append_seam name (drop (length name) text))
+
+occurs-starts : (name text : List ℕ) → OccursAt text name 0 → starts_with nat_eq text name ≡ true
+occurs-starts name text h =
+    (starts_is Decides-eqb text name (starts_with nat_eq text name) refl).1 _ (OccursAt-split text name 0 h)
+
+pub after_first-none : (name text : List ℕ) → ((k : ℕ) → OccursAt text name k → ⊥) → after_first name text ≡ None
+after_first-none name [] none = refl
+after_first-none name (c ∷ rest) none =
+    elim (cases_Bool (starts_with nat_eq (c ∷ rest) name)) [
+      | inl e ↦ absurd (none 0 (starts-occurs name (c ∷ rest) e))
+      | inr e ↦ rw e (after_first-none name rest (λ k h. none (suc k) (occurs-later name rest c k h)))
+    ]
+
+pub after_first-some : (name text : List ℕ) (k : ℕ) → 0 < length name → OccursAt text name k → ((j : ℕ) → j < k → OccursAt text name j → ⊥) → after_first name text ≡ Some (drop (k + length name) text)
+after_first-some name [] k some h none = let fits = h.fits in absurd (omega arith)
+after_first-some name (c ∷ rest) zero some h none =
+    let e = occurs-starts name (c ∷ rest) h in
+    let sum : length name ≡ zero + length name = omega arith in
+    rw e (ap (λ n. Some (drop n (c ∷ rest))) sum)
+after_first-some name (c ∷ rest) (suc k) some h none =
+    elim (cases_Bool (starts_with nat_eq (c ∷ rest) name)) [
+      | inl e ↦ absurd (none 0 (omega arith) (starts-occurs name (c ∷ rest) e))
+      | inr e ↦
+          let sum : suc (k + length name) ≡ suc k + length name = omega arith in
+          rw e
+          (after_first-some name rest k some (occurs-earlier name rest c k h) (λ j l o. none (suc j) (omega arith) (occurs-later name rest c j o))
+          ∙ ap (λ n. Some (drop n (c ∷ rest))) sum)
+    ]
 
 -- the part of a text from an index on
 pub rest_from : (text : List ℕ) (n : ℕ) → take (length text - n) (drop n text) ≡ drop n text
 rest_from text n = take_all _ _ (omega (arith, length-drop n text))
 
--- a name doesn't occur where its first byte isn't
-pub after_first-skip : (name text : List ℕ) (k : ℕ) → 0 < length name → Nowhere (Passes (is_byte (slice_index name 0)) text) 0 k → after_first name text ≡ after_first name (drop k text)
-after_first-skip name text zero some none = refl
-after_first-skip name [] (suc k) some none = refl
-after_first-skip [] (c ∷ text) (suc k) some none = absurd (omega arith)
-after_first-skip (d ∷ name) (c ∷ text) (suc k) some none =
-    let other : nat_eq d c ≡ false = false_from_ne_true (nat_eq d c) (λ e. none 0 (omega arith) (omega arith) (grind (arith, nat_tests))) in
-    rw other (after_first-skip (d ∷ name) text k some (λ j low high h. none (suc j) (omega arith) (omega arith) h))
+-- an occurrence that ends after `end` shows the last byte of the name to a search from there on
+last-passes : (name text : List ℕ) (end j : ℕ) → 0 < length name → OccursAt text name j → end < j + length name → Passes (is_byte (slice_index name (length name - 1))) (take (length text - end) (drop end text)) (j + length name - 1 - end)
+last-passes name text end j some h after =
+    let place : end + (j + length name - 1 - end) ≡ j + (length name - 1) = omega arith in
+    let read : slice_index (drop end text) (j + length name - 1 - end) ≡ slice_index name (length name - 1) =
+    get_or-drop end text (j + length name - 1 - end) 0 ∙ ap (slice_index text) place ∙ h.reads (length name - 1) (omega arith) in
+    rw (rest_from text end) ((Decides-eqb _ _).1 read)
 
-pub after_first-from : (name text rest place : List ℕ) (k : ℕ) → after_first name rest ≡ after_first name text → 0 < length name → Nowhere (Passes (is_byte (slice_index name 0)) rest) 0 k → place ≡ drop k rest → after_first name text ≡ after_first name place
-after_first-from name text rest place k same some none is =
-    sym same ∙ after_first-skip name rest k some none ∙ ap (after_first name) (sym is)
+-- where no name ends up to `end`, none ends before the last byte of the name stands there again
+pub none-before : (name text : List ℕ) (end before : ℕ) → 0 < length name → ((j : ℕ) → j + length name ≤ end → OccursAt text name j → ⊥) → Nowhere (Passes (is_byte (slice_index name (length name - 1))) (take (length text - end) (drop end text))) 0 before → (j : ℕ) → j + length name ≤ end + before → OccursAt text name j → ⊥
+none-before name text end before some none nowhere j at h =
+    elim (cases_lt end (j + length name)) [
+      | inl after ↦ nowhere _ (omega arith) (omega arith) (last-passes name text end j some h after)
+      | inr up ↦ none j up h
+    ]
 
--- where it occurs at the beginning of a text, and where it doesn't
-pub after_first-here : (name text : List ℕ) → 0 < length text → starts_with nat_eq text name ≡ true → after_first name text ≡ Some (drop (length name) text)
-after_first-here name [] some e = absurd (omega arith)
-after_first-here name (c ∷ text) some e = rw e refl
+-- a name that ends where a part of the text does
+pub ends-text : (name text : List ℕ) (end : ℕ) → end ≤ length text → length name ≤ length (take end text) → OccursAt (take end text) name (length (take end text) - length name) → OccursAt text name (end - length name)
+ends-text name text end inside fits h =
+    let whole : length (take end text) ≡ end = omega (arith, length-take end text) in
+    let part = subst (λ n. OccursAt (take end text) name (n - length name)) whole h in
+    record {
+      fits = omega (arith, fits, whole);
+      reads = λ j l. sym (get_or-take end text (end - length name + j) 0 (omega (arith, fits, whole))) ∙ part.reads j l;
+    }
 
-pub after_first-later : (name text : List ℕ) → 0 < length text → starts_with nat_eq text name ≡ false → after_first name text ≡ after_first name (drop 1 text)
-after_first-later name [] some e = absurd (omega arith)
-after_first-later name (c ∷ text) some e = rw e refl
+pub ends-part : (name text : List ℕ) (end j : ℕ) → end ≤ length text → j + length name ≡ end → OccursAt text name j → OccursAt (take end text) name (length (take end text) - length name)
+ends-part name text end j inside at h =
+    let whole : length (take end text) - length name ≡ j = omega (arith, length-take end text) in
+    rw whole (record {
+      fits = omega (arith, length-take end text);
+      reads = λ i l. get_or-take end text (j + i) 0 (omega arith) ∙ h.reads i l;
+    })
 
-pub after_first-none : (name text : List ℕ) → 0 < length name → Nowhere (Passes (is_byte (slice_index name 0)) text) 0 (length text) → after_first name text ≡ None
-after_first-none name text some none = after_first-skip name text (length text) some none ∙ ap (after_first name) (drop-length text)
+-- what is found in the rest of a text ends inside of the text
+pub found-within : (text : List ℕ) (end before : ℕ) → before < length (take (length text - end) (drop end text)) → end + (before + 1) ≤ length text
+found-within text end before high = omega (arith, high, length-take (length text - end) (drop end text), length-drop end text)
 
 goes-on : (b : Bool) → (b ≡ true → ⊥) → not b ≡ true
 goes-on b h = ap not (false_from_ne_true b h)

@@ -5,21 +5,23 @@ ghost use Rattle.std.specs.Str.Parse.{AllDigits, digits_value};
 ghost use Rattle.plural_rule.specs.Header.{after_first, nplurals_of, is_end, expression_of};
 
 use crate::lexer;
+use memchr::arch::all::is_suffix;
 use memchr::{memchr, memchr2};
 
-/// What follows the first `name` in a text.
+/// What follows the first `name` in a text. It looks at the places of the last byte of `name`: here
+/// that is a `=`, which headers have few of.
 fn after_first<'a>(text: &'a [u8], name: &[u8]) -> Option<&'a [u8]>
     requires { 0 < length name.now }
     ensures { MatchOption result (after_first name.now text.now ≡ None)
         (λ rest. after_first name.now text.now ≡ Some rest.now) }
 {
-    let mut rest = text;
-    while let Some(before) = memchr(name[0], rest) {
-        let place = &rest[before..];
-        if place.starts_with(name) {
-            return Some(&place[name.len()..]);
+    let last = name[name.len() - 1];
+    let mut end = 0;
+    while let Some(before) = memchr(last, &text[end..]) {
+        end += before + 1;
+        if is_suffix(&text[..end], name) {
+            return Some(&text[end..]);
         }
-        rest = &place[1..];
     }
     None
 }

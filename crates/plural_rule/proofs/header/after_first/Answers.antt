@@ -1,28 +1,46 @@
-use Rattle.std.proofs.Common.{◌<◌, ◌-◌, length, take, drop, sym, ap, Some, ◌∙◌, length-drop, arith}
-use Rattle.plural_rule.proofs.Searches.{rest_from, after_first-from, after_first-here, after_first-later, after_first-none}
+use Rattle.std.proofs.Common.{◌≡◌, ◌+◌, ◌-◌, ◌≤◌, Some, length, take, drop, ap, ◌∙◌, sym, rules, arith, inl, inr, length-take, length-drop}
+use Rattle.std.proofs.lemmas.Bool.{cases_lt, true≢false}
+use Rattle.memchr.specs.Find.{OccursAt}
+use Rattle.plural_rule.proofs.Searches.{none-before, ends-text, ends-part, found-within, after_first-none, after_first-some, rest_from}
 use Rattle.plural_rule.proofs.header.after_first.Goals as goal
 
 pub loop-before-preserved : goal.loop-before-preserved
 loop-before-preserved c =
-    let rest = c.loop-before.rest.now in
-    let k = c.in-Some.before in
-    let place = take (length rest - k) (drop k rest) in
-    let low = c.in-Some.ensures.0 in
-    let some : 0 < length place = omega (arith, ap length (rest_from rest k), length-drop k rest, low.high) in
-    rw (rest_from place 1)
-    (sym (after_first-from c.args.name.now c.args.text.now rest place k c.loop-before.invariant c.requires low.before (rest_from rest k)
-    ∙ after_first-later c.args.name.now place some (sym c.starts_with.ensures.value ∙ c.if-starts_with.false)))
+    let text = c.args.text.now in
+    let name = c.args.name.now in
+    let end = c.loop-before.end + (c.in-Some.before + 1) in
+    let reaches = found-within text c.loop-before.end c.in-Some.before c.in-Some.ensures.0.high in
+    record {
+      inside = reaches;
+      none = λ j at h. elim (cases_lt (c.loop-before.end + c.in-Some.before) (j + length name)) [
+        | inl after ↦
+            let part = ends-part name text end j reaches (omega (arith, at, after)) h in
+            let fits = part.fits in
+            absurd (true≢false (sym (c.if-is_suffix.ensures.1 (omega (arith, fits), part))))
+        | inr up ↦ none-before name text c.loop-before.end c.in-Some.before c.requires c.loop-before.invariant.none c.in-Some.ensures.0.before j up h
+      ];
+    }
 
-pub returns-then-starts_with : goal.returns-then-starts_with
-returns-then-starts_with c =
-    let rest = c.loop-before.rest.now in
-    let k = c.in-Some.before in
-    let place = take (length rest - k) (drop k rest) in
-    let low = c.in-Some.ensures.0 in
-    let some : 0 < length place = omega (arith, ap length (rest_from rest k), length-drop k rest, low.high) in
-    after_first-from c.args.name.now c.args.text.now rest place k c.loop-before.invariant c.requires low.before (rest_from rest k)
-    ∙ after_first-here c.args.name.now place some (sym c.starts_with.ensures.value ∙ c.if-starts_with.true)
-    ∙ ap Some (sym (rest_from place (length c.args.name.now)))
+pub returns-then-is_suffix : goal.returns-then-is_suffix
+returns-then-is_suffix c =
+    let text = c.args.text.now in
+    let name = c.args.name.now in
+    let end = c.loop-before.end + (c.in-Some.before + 1) in
+    let reaches = found-within text c.loop-before.end c.in-Some.before c.in-Some.ensures.0.high in
+    let suffix : (length name ≤ length (take end text)) × OccursAt (take end text) name (length (take end text) - length name) = search rules in
+    let fits = suffix.0 in
+    let whole : end - length name + length name ≡ end = omega (arith, fits, length-take end text) in
+    after_first-some name text (end - length name) c.requires (ends-text name text end reaches suffix.0 suffix.1)
+    (λ j before h. none-before name text c.loop-before.end c.in-Some.before c.requires c.loop-before.invariant.none c.in-Some.ensures.0.before j (omega (arith, before, fits, whole)) h)
+    ∙ ap (λ n. Some (drop n text)) whole
+    ∙ ap Some (sym (rest_from text end))
 
 pub returns : goal.returns
-returns c = sym c.loop-before.invariant ∙ after_first-none c.args.name.now c.loop-before.rest.now c.requires c.in_default.ensures
+returns c =
+    let inside = c.loop-before.invariant.inside in
+    let text = c.args.text.now in
+    after_first-none c.args.name.now text (λ k h.
+    let fits = h.fits in
+    none-before c.args.name.now text c.loop-before.end (length text - c.loop-before.end) c.requires c.loop-before.invariant.none
+    (λ j low high. c.in_default.ensures j low (omega (arith, high, length-take (length text - c.loop-before.end) (drop c.loop-before.end text), length-drop c.loop-before.end text)))
+    k (omega (arith, fits, inside)) h)

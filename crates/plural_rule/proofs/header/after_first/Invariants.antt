@@ -1,9 +1,12 @@
-use Rattle.std.proofs.Common.{◌≡◌, length}
-use Rattle.plural_rule.specs.Header.{after_first}
+use Rattle.std.proofs.Common.{◌≤◌, length, ℕ, ◌+◌, ◌-◌}
+use Rattle.memchr.specs.Find.{OccursAt}
 use Rattle.plural_rule.proofs.header.after_first.Given as goal
 
 abbrev pub invariant-loop-before : goal.invariant-loop-before
-invariant-loop-before l = after_first l.name l.rest ≡ after_first l.name l.fn.text
+invariant-loop-before l = record {
+  inside : l.end ≤ length l.text;
+  none : (j : ℕ) → j + length l.name ≤ l.end → OccursAt l.text l.name j → ⊥;
+}
 
 abbrev pub decreases-loop-before : goal.decreases-loop-before
-decreases-loop-before l = length l.rest
+decreases-loop-before l = length l.text - l.end
