@@ -57,7 +57,7 @@ pub fn expand_file<'b>(
     }
 }
 
-/// The same for a file that was opened, in its byte order.
+/// Expands a file that was opened, in its byte order.
 fn expand_view<'b>(
     order: Order,
     view: &MoView<'b>,
