@@ -13,15 +13,7 @@ use Rattle.mo_file.specs.Message.{Message, originals, translations}
 use Rattle.mo_file.specs.Layout.{layout, header, table, terminated}
 use Rattle.mo_file.specs.declared.pairs.Part.TheVariants.{Original, Translation}
 use Rattle.mo_file.specs.Key.{key_of, keys, key_at}
-use Rattle.mo_file.specs.declared.pairs.BorrowedPair.{BorrowedPair}
-use Rattle.mo_file.specs.Pairs.{message, messages_of_pairs, borrowed_message, messages_of_borrowed, strings_of}
-
--- what a pair adds to the length of a file
-abbrev pub pair_len : Pair → ℕ
-pair_len pair = 18 + length pair.original.items + length pair.translation.items
-
-abbrev pub borrowed_pair_len : BorrowedPair → ℕ
-borrowed_pair_len pair = 18 + length pair.original.now + length pair.translation.now
+use Rattle.mo_file.specs.Pairs.{messages_of_pairs, strings_of}
 
 abbrev message_len : Message → ℕ
 message_len m = 18 + length m.original + length m.translation
@@ -48,27 +40,18 @@ pub length-layout : (order : Order) (messages : List Message) →
     length (layout order messages) ≡ 28 + 16 * length messages + length (terminated (originals messages)) + length (terminated (translations messages))
 length-layout order messages = simp (length-append, length-magic, length-word_bytes, length-table, length-map) (omega arith)
 
-originals-borrowed : (pairs : List BorrowedPair) → originals (messages_of_borrowed pairs) ≡ strings_of Original pairs
-originals-borrowed [] = refl
-originals-borrowed (p ∷ ps) = ap (λ ss. p.original.now ∷ ss) (originals-borrowed ps)
+originals-strings : (messages : List Message) → originals messages ≡ strings_of Original messages
+originals-strings [] = refl
+originals-strings (m ∷ ms) = ap (λ ss. m.original ∷ ss) (originals-strings ms)
 
-translations-borrowed : (pairs : List BorrowedPair) →
-    translations (messages_of_borrowed pairs) ≡ strings_of Translation pairs
-translations-borrowed [] = refl
-translations-borrowed (p ∷ ps) = ap (λ ss. p.translation.now ∷ ss) (translations-borrowed ps)
+translations-strings : (messages : List Message) → translations messages ≡ strings_of Translation messages
+translations-strings [] = refl
+translations-strings (m ∷ ms) = ap (λ ss. m.translation ∷ ss) (translations-strings ms)
 
 pub keys-pairs : (pairs : List Pair) →
     keys (messages_of_pairs pairs) ≡ map (λ pair. key_of pair.original.items) pairs
 keys-pairs [] = refl
 keys-pairs (p ∷ ps) = ap (λ ks. key_of p.original.items ∷ ks) (keys-pairs ps)
-
--- how long the layout of pairs is, by its parts
-pub length-layout-strings : (order : Order) (pairs : List BorrowedPair) →
-    length (layout order (messages_of_borrowed pairs))
-    ≡ 28 + 16 * length pairs + length (terminated (strings_of Original pairs))
-    + length (terminated (strings_of Translation pairs))
-length-layout-strings order pairs =
-    length-layout order (messages_of_borrowed pairs) ∙ rw (originals-borrowed pairs, translations-borrowed pairs, length-map pairs borrowed_message)
 
 sum_by-message_len : (messages : List Message) →
     sum_by message_len messages
@@ -79,30 +62,34 @@ sum_by-message_len (m ∷ ms) =
     sum_by-cons message_len m ms
     ∙ simp length-append (omega (arith, sum_by-message_len ms))
 
-sum_by-pairs : (pairs : List Pair) → sum_by message_len (messages_of_pairs pairs) ≡ sum_by pair_len pairs
-sum_by-pairs [] = refl
-sum_by-pairs (p ∷ ps) = sum_by-cons message_len (message p) (messages_of_pairs ps) ∙ ap (λ n. pair_len p + n) (sum_by-pairs ps) ∙ sym (sum_by-cons pair_len p ps)
+-- pairs of any kind, as messages
+module _ {P : Type 0} (f : P → Message) where
+  -- what a pair adds to the length of a file
+  abbrev pub pair_len : P → ℕ
+  pair_len pair = 18 + length (f pair).original + length (f pair).translation
 
-sum_by-borrowed : (pairs : List BorrowedPair) → sum_by message_len (messages_of_borrowed pairs) ≡ sum_by borrowed_pair_len pairs
-sum_by-borrowed [] = refl
-sum_by-borrowed (p ∷ ps) = sum_by-cons message_len (borrowed_message p) (messages_of_borrowed ps) ∙ ap (λ n. borrowed_pair_len p + n) (sum_by-borrowed ps) ∙ sym (sum_by-cons borrowed_pair_len p ps)
+  sum_by-pairs : (pairs : List P) → sum_by message_len (map f pairs) ≡ sum_by pair_len pairs
+  sum_by-pairs [] = refl
+  sum_by-pairs (p ∷ ps) = sum_by-cons message_len (f p) (map f ps) ∙ ap (λ n. pair_len p + n) (sum_by-pairs ps) ∙ sym (sum_by-cons pair_len p ps)
 
--- the same, pair by pair
-pub length-layout-pairs : (order : Order) (pairs : List Pair) →
-    length (layout order (messages_of_pairs pairs)) ≡ 28 + sum_by pair_len pairs
-length-layout-pairs order pairs = omega (arith, length-layout order (messages_of_pairs pairs), sum_by-message_len (messages_of_pairs pairs), sum_by-pairs pairs)
+  -- how long the layout is, pair by pair
+  pub length-layout-pairs : (order : Order) (pairs : List P) → length (layout order (map f pairs)) ≡ 28 + sum_by pair_len pairs
+  length-layout-pairs order pairs = omega (arith, length-layout order (map f pairs), sum_by-message_len (map f pairs), sum_by-pairs pairs)
 
-pub length-layout-borrowed : (order : Order) (pairs : List BorrowedPair) →
-    length (layout order (messages_of_borrowed pairs)) ≡ 28 + sum_by borrowed_pair_len pairs
-length-layout-borrowed order pairs = omega (arith, length-layout order (messages_of_borrowed pairs), sum_by-message_len (messages_of_borrowed pairs), sum_by-borrowed pairs)
+  -- and by its parts
+  pub length-layout-strings : (order : Order) (pairs : List P) →
+      length (layout order (map f pairs))
+      ≡ 28 + 16 * length pairs + length (terminated (strings_of Original (map f pairs)))
+      + length (terminated (strings_of Translation (map f pairs)))
+  length-layout-strings order pairs =
+      length-layout order (map f pairs) ∙ rw (originals-strings (map f pairs), translations-strings (map f pairs), length-map pairs f)
 
--- the layout of pairs, by its parts
-pub layout-pairs : (order : Order) (pairs : List BorrowedPair) →
-    layout order (messages_of_borrowed pairs)
-    ≡ header order (length pairs) ++ table order (28 + 16 * length pairs) (strings_of Original pairs)
-    ++ table order (28 + 16 * length pairs + length (terminated (strings_of Original pairs))) (strings_of Translation pairs)
-    ++ terminated (strings_of Original pairs) ++ terminated (strings_of Translation pairs)
-layout-pairs order pairs = rw (originals-borrowed pairs, translations-borrowed pairs, length-map pairs borrowed_message)
+  pub layout-pairs : (order : Order) (pairs : List P) →
+      layout order (map f pairs)
+      ≡ header order (length pairs) ++ table order (28 + 16 * length pairs) (strings_of Original (map f pairs))
+      ++ table order (28 + 16 * length pairs + length (terminated (strings_of Original (map f pairs)))) (strings_of Translation (map f pairs))
+      ++ terminated (strings_of Original (map f pairs)) ++ terminated (strings_of Translation (map f pairs))
+  layout-pairs order pairs = rw (originals-strings (map f pairs), translations-strings (map f pairs), length-map pairs f)
 
 -- the key of a pair
 pub keys-pair : (pairs : List Pair) (i : ℕ) (pair : Pair) → i < length pairs → pair ≡ get_or pairs i pair →

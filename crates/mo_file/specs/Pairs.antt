@@ -19,11 +19,11 @@ borrowed_message pair = record { original = pair.original.now; translation = pai
 abbrev pub messages_of_borrowed : List BorrowedPair → List Message
 messages_of_borrowed pairs = map borrowed_message pairs
 
--- one string of a pair
-abbrev pub string_of : Part → BorrowedPair → List ℕ
-string_of Original pair = pair.original.now
-string_of Translation pair = pair.translation.now
+-- one string of a message
+abbrev pub string_of : Part → Message → List ℕ
+string_of Original m = m.original
+string_of Translation m = m.translation
 
--- that string of each pair
-abbrev pub strings_of : Part → List BorrowedPair → List (List ℕ)
-strings_of part pairs = map (string_of part) pairs
+-- that string of each message
+abbrev pub strings_of : Part → List Message → List (List ℕ)
+strings_of part messages = map (string_of part) messages

@@ -1,6 +1,6 @@
 //! An MO file built from pairs, in any order or already in that of the originals.
 
-ghost use Rattle.std.specs.Prelude.{◌≡◌, ◌+◌, ◌-◌, ◌^◌, ◌<◌, length, min, IfErr, IfOk, OnOk};
+ghost use Rattle.std.specs.Prelude.{◌≡◌, ◌+◌, ◌-◌, ◌^◌, ◌<◌, ◌≤◌, length, map, min, IfErr, IfOk, OnOk};
 ghost use Rattle.mo_file.specs.Building.{IsBuildFault};
 ghost use Rattle.mo_file.specs.Key.{AreRising, keys};
 ghost use Rattle.mo_file.specs.Layout.{LayoutFits, layout};
@@ -8,7 +8,7 @@ ghost use Rattle.mo_file.specs.Pairs.{messages_of_borrowed, messages_of_pairs};
 
 use crate::byte_order::{FileOrder, Order};
 use crate::file_header::HEADER_LEN;
-use crate::pairs::{BorrowedPair, Pair, Part, are_rising, borrowed_pairs};
+use crate::pairs::{BorrowedPair, Pair, Part, StringPair, are_rising};
 use crate::writing::{originals_offset, push_header, push_strings, push_table};
 use byteorder::{BigEndian, LittleEndian};
 use std::alloc::{AllocError, Global};
@@ -53,15 +53,11 @@ pub fn build(alloc: Global, order: Order, pairs: &[Pair]) -> Result<Vec<u8>, Bui
     ensures rising { OnOk result (AreRising (keys (messages_of_pairs pairs.now))) }
     ensures fault { IfErr result (IsBuildFault order (messages_of_pairs pairs.now)) }
 {
-    let len = layout_len(pairs);
-    if len > u64::from(u32::MAX) {
-        return Err(BuildError::TooLarge);
-    }
+    let len = file_len(pairs)?;
     if !are_rising(pairs) {
         return Err(BuildError::NotSorted);
     }
-    let borrowed = borrowed_pairs(alloc, pairs)?;
-    Ok(laid_out(alloc, order, &borrowed, len as u32)?)
+    Ok(laid_out(alloc, order, pairs, len)?)
 }
 
 /// The MO file of pairs whose keys rise, as [`build`] lays it out. It doesn't check the keys again,
@@ -76,11 +72,7 @@ pub fn build_sorted(
     ensures fits { OnOk result (LayoutFits order (messages_of_borrowed pairs.now)) }
     ensures fault { IfErr result (IsBuildFault order (messages_of_borrowed pairs.now)) }
 {
-    let len = borrowed_layout_len(pairs);
-    if len > u64::from(u32::MAX) {
-        return Err(BuildError::TooLarge);
-    }
-    Ok(laid_out(alloc, order, pairs, len as u32)?)
+    Ok(laid_out(alloc, order, pairs, file_len(pairs)?)?)
 }
 
 /// The length of a file of `len` bytes with one more pair, or 2^64 - 1 where it is longer.
@@ -93,60 +85,64 @@ fn with_pair(len: u64, original: &[u8], translation: &[u8]) -> u64
 }
 
 /// The length of the file in either byte order, or 2^64 - 1 where it is longer.
-fn layout_len(pairs: &[Pair]) -> u64
-    ensures { (order : Order)
-        → result ≡ min (length (layout order (messages_of_pairs pairs.now))) (2 ^ 64 - 1) }
+fn layout_len<P: StringPair>(pairs: &[P]) -> u64
+    ensures { (order : Order) → result ≡ min (length (layout order (map P.message pairs.now))) (2 ^ 64 - 1) }
 {
     let mut len = u64::from(HEADER_LEN);
     for pair in pairs {
-        len = with_pair(len, &pair.original, &pair.translation);
+        len = with_pair(
+            len,
+            pair.string(Part::Original),
+            pair.string(Part::Translation),
+        );
     }
     len
 }
 
-/// The length of the file of borrowed pairs, in either byte order, or 2^64 - 1 where it is longer.
-fn borrowed_layout_len(pairs: &[BorrowedPair<'_>]) -> u64
-    ensures { (order : Order)
-        → result ≡ min (length (layout order (messages_of_borrowed pairs.now))) (2 ^ 64 - 1) }
+/// The length of the file in either byte order. Refused where 32 bits don't reach its end.
+fn file_len<P: StringPair>(pairs: &[P]) -> Result<u32, BuildError>
+    ensures len { IfOk result (λ len. (order : Order) → len ≡ length (layout order (map P.message pairs.now))) }
+    ensures fault { IfErr result (λ e. (e ≡ BuildError.TooLarge)
+        × ((order : Order) → 2 ^ 32 ≤ length (layout order (map P.message pairs.now)))) }
 {
-    let mut len = u64::from(HEADER_LEN);
-    for pair in pairs {
-        len = with_pair(len, pair.original, pair.translation);
+    let len = layout_len(pairs);
+    if len > u64::from(u32::MAX) {
+        return Err(BuildError::TooLarge);
     }
-    len
+    Ok(len as u32)
 }
 
 /// The file of pairs whose layout has this length.
-fn laid_out(
+fn laid_out<P: StringPair>(
     alloc: Global,
     order: Order,
-    pairs: &[BorrowedPair<'_>],
+    pairs: &[P],
     len: u32,
 ) -> Result<Vec<u8>, AllocError>
-    requires { len ≡ length (layout order (messages_of_borrowed pairs.now)) }
-    ensures { IfOk result (λ bytes. bytes.items ≡ layout order (messages_of_borrowed pairs.now)) }
+    requires { len ≡ length (layout order (map P.message pairs.now)) }
+    ensures { IfOk result (λ bytes. bytes.items ≡ layout order (map P.message pairs.now)) }
 {
     match order {
-        Order::Little => laid_out_in::<LittleEndian>(alloc, pairs, len),
-        Order::Big => laid_out_in::<BigEndian>(alloc, pairs, len),
+        Order::Little => laid_out_in::<LittleEndian, P>(alloc, pairs, len),
+        Order::Big => laid_out_in::<BigEndian, P>(alloc, pairs, len),
     }
 }
 
 /// The same in a byte order that is known here.
-fn laid_out_in<T: FileOrder>(
+fn laid_out_in<T: FileOrder, P: StringPair>(
     alloc: Global,
-    pairs: &[BorrowedPair<'_>],
+    pairs: &[P],
     len: u32,
 ) -> Result<Vec<u8>, AllocError>
-    requires { len ≡ length (layout T.order (messages_of_borrowed pairs.now)) }
-    ensures { IfOk result (λ bytes. bytes.items ≡ layout T.order (messages_of_borrowed pairs.now)) }
+    requires { len ≡ length (layout T.order (map P.message pairs.now)) }
+    ensures { IfOk result (λ bytes. bytes.items ≡ layout T.order (map P.message pairs.now)) }
 {
     let count = pairs.len() as u32;
     let mut out = Vec::with_capacity(alloc, len as usize)?;
     push_header::<T>(&mut out, count)?;
     let originals = originals_offset(count);
-    let translations = push_table::<T>(&mut out, pairs, Part::Original, originals)?;
-    push_table::<T>(&mut out, pairs, Part::Translation, translations)?;
+    let translations = push_table::<T, P>(&mut out, pairs, Part::Original, originals)?;
+    push_table::<T, P>(&mut out, pairs, Part::Translation, translations)?;
     push_strings(&mut out, pairs, Part::Original)?;
     push_strings(&mut out, pairs, Part::Translation)?;
     Ok(out)

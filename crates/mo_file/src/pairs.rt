@@ -1,11 +1,10 @@
 //! The pairs of original and translation that a file is built from.
 
-ghost use Rattle.std.specs.Prelude.{◌≡◌, ◌↔◌, IfOk, IsTrue};
+ghost use Rattle.std.specs.Prelude.{◌↔◌, IsTrue};
 ghost use Rattle.mo_file.specs.Key.{AreRising, keys};
-ghost use Rattle.mo_file.specs.Pairs.{messages_of_borrowed, messages_of_pairs};
+ghost use Rattle.mo_file.specs.Pairs.{messages_of_pairs};
 
 use crate::key::key_of;
-use std::alloc::{AllocError, Global};
 use std::cmp::Ordering;
 
 /// An original and its translation, as they stand in a file, without the NUL that ends each. The
@@ -36,35 +35,43 @@ pub struct BorrowedPair<'a> {
     pub translation: &'a [u8],
 }
 
-impl<'a> BorrowedPair<'a> {
+/// A pair, whoever owns its strings.
+pub(crate) trait StringPair {
+    ghost use Rattle.std.specs.Prelude.{◌≡◌};
+    ghost use Rattle.mo_file.specs.Message.{Message};
     ghost use Rattle.mo_file.specs.Pairs.{string_of};
 
+    ghost message: { Self → Message };
+
     /// The original or the translation, as `part` says.
-    pub(crate) fn string(&self, part: Part) -> &'a [u8]
-        ensures { result.now ≡ string_of part self.now }
-    {
+    fn string(&self, part: Part) -> &[u8]
+        ensures { result.now ≡ string_of part (message self.now) };
+}
+
+impl StringPair for Pair {
+    ghost use Rattle.mo_file.specs.Pairs.{message};
+
+    ghost message = { message };
+
+    fn string(&self, part: Part) -> &[u8] {
+        match part {
+            Part::Original => &self.original,
+            Part::Translation => &self.translation,
+        }
+    }
+}
+
+impl StringPair for BorrowedPair<'_> {
+    ghost use Rattle.mo_file.specs.Pairs.{borrowed_message};
+
+    ghost message = { borrowed_message };
+
+    fn string(&self, part: Part) -> &[u8] {
         match part {
             Part::Original => self.original,
             Part::Translation => self.translation,
         }
     }
-}
-
-/// The same pairs, with their strings borrowed.
-pub(crate) fn borrowed_pairs(
-    alloc: Global,
-    pairs: &[Pair],
-) -> Result<Vec<BorrowedPair<'_>>, AllocError>
-    ensures { IfOk result (λ borrowed. messages_of_borrowed borrowed.items ≡ messages_of_pairs pairs.now) }
-{
-    let mut borrowed = Vec::with_capacity(alloc, pairs.len())?;
-    for pair in pairs {
-        borrowed.push(BorrowedPair {
-            original: &pair.original,
-            translation: &pair.translation,
-        })?;
-    }
-    Ok(borrowed)
 }
 
 /// Whether each key is above the one before it.

@@ -1,13 +1,13 @@
 //! The header, the tables and the strings of an MO file, in the order in which they are written.
 
-ghost use Rattle.std.specs.Prelude.{◌≡◌, ◌+◌, ◌*◌, ◌^◌, ◌<◌, ◌++◌, length, IfOk, OnOk};
+ghost use Rattle.std.specs.Prelude.{◌≡◌, ◌+◌, ◌*◌, ◌^◌, ◌<◌, ◌++◌, length, map, IfOk, OnOk};
 ghost use Rattle.mo_file.specs.Layout.{header, table, terminated};
 ghost use Rattle.mo_file.specs.Pairs.{strings_of};
 ghost use Rattle.mo_file.specs.Word.{word_bytes};
 
 use crate::byte_order::{BIG_MAGIC, FileOrder, LITTLE_MAGIC, Order, push_word};
 use crate::file_header::{DESCRIPTOR_LEN, HEADER_LEN};
-use crate::pairs::{BorrowedPair, Part};
+use crate::pairs::{Part, StringPair};
 use std::alloc::AllocError;
 
 /// Where the originals begin in a file of so many messages: after the file header and both tables.
@@ -47,17 +47,17 @@ fn push_descriptor<T: FileOrder>(out: &mut Vec<u8>, len: u32, offset: u32) -> Re
 
 /// Appends the table of strings of which the first is to stand at `offset`, and returns the offset
 /// after the NUL of the last.
-pub(crate) fn push_table<T: FileOrder>(
+pub(crate) fn push_table<T: FileOrder, P: StringPair>(
     out: &mut Vec<u8>,
-    pairs: &[BorrowedPair<'_>],
+    pairs: &[P],
     part: Part,
     offset: u32,
 ) -> Result<u32, AllocError>
-    requires { offset + length (terminated (strings_of part pairs.now)) < 2 ^ 32 }
+    requires { offset + length (terminated (strings_of part (map P.message pairs.now))) < 2 ^ 32 }
     ensures entries { OnOk result
-        (out.new.items ≡ out.old.items ++ table T.order offset (strings_of part pairs.now)) }
+        (out.new.items ≡ out.old.items ++ table T.order offset (strings_of part (map P.message pairs.now))) }
     ensures offset { IfOk result
-        (λ end. end ≡ offset + length (terminated (strings_of part pairs.now))) }
+        (λ end. end ≡ offset + length (terminated (strings_of part (map P.message pairs.now)))) }
 {
     let mut at = offset;
     for pair in pairs {
@@ -69,12 +69,12 @@ pub(crate) fn push_table<T: FileOrder>(
 }
 
 /// Appends the strings, each with its NUL.
-pub(crate) fn push_strings(
+pub(crate) fn push_strings<P: StringPair>(
     out: &mut Vec<u8>,
-    pairs: &[BorrowedPair<'_>],
+    pairs: &[P],
     part: Part,
 ) -> Result<(), AllocError>
-    ensures { OnOk result (out.new.items ≡ out.old.items ++ terminated (strings_of part pairs.now)) }
+    ensures { OnOk result (out.new.items ≡ out.old.items ++ terminated (strings_of part (map P.message pairs.now))) }
 {
     for pair in pairs {
         out.extend_from_slice(pair.string(part))?;
