@@ -11,7 +11,8 @@ use Rattle.po_reader.proofs.Spelt.{reads_spelt}
 use Rattle.po_reader.specs.Internal.Stops as stop
 use Rattle.po_entry.specs.Viable.{IsViable}
 use Rattle.po_reader.proofs.OneReading.{spelt_or_stop}
-use Rattle.po_reader.proofs.Looks.{FormsEnd, forms_end, head_look, reads_look, body_starts, stop_starts}
+use Rattle.po_reader.proofs.SpeltReads.{FormsEnd, forms_end}
+use Rattle.po_reader.proofs.Looks.{head_look, reads_look, body_starts, stop_starts}
 use Rattle.po_reader.proofs.Cuts.{followed, extended, comment_cut, previous_cut, strings_cut, body_cut, head_cut}
 use Rattle.po_reader.proofs.Blocked.{Blocked, Context, AtHead, shorter, as_long, lifted, deeper}
 use Rattle.po_reader.proofs.BlockedParts.{AreBody, empty_message, message_empty, strings_blocked, body_blocked}
@@ -58,7 +59,7 @@ head_blocked context (stop.after_previous {above = above} {keyword = keyword} {m
     let cut = followed (previous_cut above items text keyword marks e) (strings_cut u) (λ x y q. tt) in
     head_blocked
     (deeper context cut (λ others fault line alike stopped. (sym alike.0 ∙ cut.look, λ start p. stop.after_previous p.1 p.2 stopped))
-    (λ others part. (others, as_long others, (head_look part.3).0, λ start p. (part.0, _, part.2, head.previous p.1 p.2 part.3, part.4))))
+    (λ others part. (others, as_long others, (head_look part.3 (body_starts part.4.1).1).0, λ start p. (part.0, _, part.2, head.previous p.1 p.2 part.3, part.4))))
     s
 
 entries_blocked : {end : ℕ} {whole items : List TextItem} {fault : PoFault} {line : ℕ} → Context whole (stop.EntriesStop end) AreEntries items → stop.EntriesStop end items fault line → Blocked end whole fault line

@@ -12,7 +12,8 @@ use Rattle.po_reader.specs.Internal.Keywords as word
 use Rattle.po_reader.specs.Internal.Body as body
 use Rattle.po_reader.specs.Internal.Stops as stop
 use Rattle.po_entry.specs.Viable.{IsViable}
-use Rattle.po_reader.proofs.Looks.{strings_look, keyword_text_look, keyword_text_wanted, forms_look, translation_look}
+use Rattle.po_reader.proofs.Spelt.{keyword_prefix}
+use Rattle.po_reader.proofs.Looks.{strings_look, keyword_text_look, forms_look, translation_look}
 use Rattle.po_reader.proofs.Cuts.{followed, extended, string_cut, keyword_cut, context_cut, id_cut, strings_cut, keyword_text_cut}
 use Rattle.po_reader.proofs.Blocked.{Blocked, Context, Longer, AtString, AtKeyword, shorter, as_long, lifted, deeper}
 
@@ -120,9 +121,9 @@ translated : {obsolete : Bool} (items : List TextItem) (keyword : Keyword) (line
 translated items MsgStr line bytes w = (items, as_long items, (None, bytes ∷ [], body.single w))
 translated {obsolete} items MsgIdPlural line bytes w =
     (items ++ empty_form obsolete, (empty_form obsolete, refl), (Some bytes, [] ∷ [], body.plural (extended (keyword_text_cut w) (empty_form obsolete) refl) (forms_empty obsolete)))
-translated items MsgCtxt line bytes w = let wanted = keyword_text_wanted w in absurd cc
-translated items MsgId line bytes w = let wanted = keyword_text_wanted w in absurd cc
-translated items (MsgStrAt index) line bytes w = let wanted = keyword_text_wanted w in absurd cc
+translated items MsgCtxt line bytes w = let wanted = (keyword_prefix w).1 in absurd cc
+translated items MsgId line bytes w = let wanted = (keyword_prefix w).1 in absurd cc
+translated items (MsgStrAt index) line bytes w = let wanted = (keyword_prefix w).1 in absurd cc
 
 translation_blocked : {end : ℕ} {obsolete : Bool} {whole items : List TextItem} {fault : PoFault} {line : ℕ} → Context whole (stop.TranslationStops end obsolete) (AreTranslated obsolete) items
     → stop.TranslationStops end obsolete items fault line → Blocked end whole fault line

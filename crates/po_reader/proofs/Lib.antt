@@ -1,8 +1,8 @@
 pub mod SameMarks
 pub mod PreviousOrder
+pub mod Taken
 pub mod Spelt
 pub mod SpeltReads
-pub mod TakenKeywords
 pub mod Results
 pub mod Splits
 pub mod Heads

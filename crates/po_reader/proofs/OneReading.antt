@@ -1,12 +1,8 @@
 -- A list of items reads as at most one list of entries, and none both reads and stops.
-use Rattle.std.proofs.Common.{◌≡◌, ℕ, Bool, true, false, ◌==◌, List, [], ◌∷◌, refl, sym, ap, subst}
-use Rattle.std.specs.Prelude.{All, if◌then◌else◌}
+use Rattle.std.proofs.Common.{◌≡◌, ℕ, List, [], ◌∷◌, refl, sym, subst}
+use Rattle.std.specs.Prelude.{All}
 use Rattle.std.proofs.lemmas.List.Elements.{All-head, All-tail}
 use Rattle.po_syntax.specs.declared.fault.PoFault.{PoFault}
-use Rattle.po_syntax.specs.declared.fault.PoFault.TheVariants.{BadOrder}
-use Rattle.po_syntax.specs.declared.item.CommentKind.{CommentKind}
-use Rattle.po_syntax.specs.declared.item.Keyword.{Keyword}
-use Rattle.po_syntax.specs.declared.item.Marks.{Marks}
 use Rattle.po_syntax.specs.TextItem.{TextItem, Comment, Word, Str}
 use Rattle.po_syntax.specs.PoText.{SpellsText, TextFault}
 use Rattle.po_entry.specs.TextEntry.{TextEntry}
@@ -17,33 +13,15 @@ use Rattle.po_reader.specs.Internal.Reads.{Reads, comments, entry}
 use Rattle.po_entry.specs.ReadsText.{ReadsText}
 use Rattle.po_entry.specs.Validity.{HasTexts}
 use Rattle.po_entry.specs.Spelling.{AreComments, SpellsEntries}
-use Rattle.po_entry.specs.EntryParts.{CommentText, PreviousText, Body}
+use Rattle.po_entry.specs.EntryParts.{CommentText, PreviousText}
 use Rattle.po_entry.proofs.TextsFaults.{no_texts_fault}
+use Rattle.po_reader.proofs.Taken.{comment_taken, previous_taken}
 use Rattle.po_reader.proofs.SpeltReads.{spelt_reads}
+use Rattle.po_reader.proofs.Looks.{body_starts, stop_starts, starts_somewhere}
 use Rattle.po_reader.specs.Internal.Stops as stop
 use Rattle.po_entry.specs.Faults as fault
 use Rattle.po_reader.proofs.ItemsFaults.{fault_unread}
 use Rattle.po_reader.proofs.Once.{head_once, head_or_stop, body_once, body_or_stop}
-
--- a step over a comment goes on after it
-comment_after : (above : ℕ) (items after : List TextItem) (kind : CommentKind) (text : List ℕ) → head.head_step above items ≡ head.HeadComment kind text after → AreComments items → AreComments after
-comment_after above [] after kind text e only = empty (above == 0) e where
-  empty : (t : Bool) → (if t then head.Over else head.Refuse BadOrder) ≡ head.HeadComment kind text after → AreComments after
-  empty true q = cc
-  empty false q = cc
-comment_after above (Comment k t l ∷ items) after kind text e only = let same : items ≡ after = cc in subst AreComments same only.1
-comment_after above (Word k m l ∷ items) after kind text e only = absurd only.0
-comment_after above (Str b m l ∷ items) after kind text e only = absurd only.0
-
--- comments alone hold no previous text
-no_previous_text : (above : ℕ) (items text : List TextItem) (keyword : Keyword) (marks : Marks) → head.head_step above items ≡ head.Previous keyword marks text → AreComments items → ⊥
-no_previous_text above [] text keyword marks e only = empty (above == 0) e where
-  empty : (t : Bool) → (if t then head.Over else head.Refuse BadOrder) ≡ head.Previous keyword marks text → ⊥
-  empty true q = cc
-  empty false q = cc
-no_previous_text above (Comment k t l ∷ items) text keyword marks e only = cc
-no_previous_text above (Word k m l ∷ items) text keyword marks e only = only.0
-no_previous_text above (Str b m l ∷ items) text keyword marks e only = only.0
 
 over_end : (above : ℕ) (items : List TextItem) → head.head_step above items ≡ head.Over → AreComments items → items ≡ []
 over_end above [] e only = refl
@@ -54,8 +32,10 @@ over_end above (Str b m l ∷ items) e only = absurd only.0
 -- comments alone are a head up to the end
 comments_end : {above : ℕ} {items rest : List TextItem} {a : List CommentText} {p : List PreviousText} → head.IsHead above items a p rest → AreComments items → rest ≡ []
 comments_end (head.over {above = above} {items = items} e) only = over_end above items e only
-comments_end (head.head_comment {above = above} {kind = kind} {text = text} {items = items} {after = after} e h) only = comments_end h (comment_after above items after kind text e only)
-comments_end (head.previous {above = above} {keyword = keyword} {marks = marks} {items = items} {text = text} e s h) only = absurd (no_previous_text above items text keyword marks e only)
+comments_end (head.head_comment {above = above} {kind = kind} {text = text} {items = items} {after = after} e h) only =
+    comments_end h (subst AreComments (comment_taken above items after kind text e).1 only).1
+comments_end (head.previous {above = above} {keyword = keyword} {marks = marks} {items = items} {text = text} e s h) only =
+    absurd (subst AreComments (previous_taken above items text keyword marks e).1 only).0
 
 refused_comments : (items : List TextItem) (kind : PoFault) → head.head_step 0 items ≡ head.Refuse kind → AreComments items → ⊥
 refused_comments [] kind e only = cc
@@ -65,25 +45,17 @@ refused_comments (Str b m l ∷ items) kind e only = only.0
 
 comments_go_on : {end line above : ℕ} {kind : PoFault} {items : List TextItem} → stop.HeadStops end above items kind line → above ≡ 0 → AreComments items → ⊥
 comments_go_on (stop.refused {above = above} {items = items} {fault = kind} e l) zero only = refused_comments items kind (subst (λ (a : ℕ). head.head_step a items ≡ head.Refuse kind) zero e) only
-comments_go_on (stop.in_previous {above = above} {keyword = keyword} {marks = marks} {items = items} {text = text} e s) zero only = no_previous_text above items text keyword marks e only
-comments_go_on (stop.after_comment {above = above} {kind = kind} {text = text} {items = items} {after = after} e h) zero only = comments_go_on h zero (comment_after above items after kind text e only)
-comments_go_on (stop.after_previous {above = above} {keyword = keyword} {marks = marks} {items = items} {text = text} e s h) zero only = no_previous_text above items text keyword marks e only
-
-body_somewhere : {items rest : List TextItem} {a : Body} → body.IsBody items a rest → items ≡ [] → ⊥
-body_somewhere (body.without_context {items = items} e s t) none = let start : body.body_start items ≡ body.NoStart = ap body.body_start none in cc
-body_somewhere (body.with_context {items = items} e s w t) none = let start : body.body_start items ≡ body.NoStart = ap body.body_start none in cc
-
-stop_somewhere : {end line : ℕ} {kind : PoFault} {items : List TextItem} → stop.BodyStops end items kind line → items ≡ [] → ⊥
-stop_somewhere (stop.in_context {items = items} e s) none = let start : body.body_start items ≡ body.NoStart = ap body.body_start none in cc
-stop_somewhere (stop.at_id {items = items} e s t) none = let start : body.body_start items ≡ body.NoStart = ap body.body_start none in cc
-stop_somewhere (stop.in_id {items = items} e s) none = let start : body.body_start items ≡ body.NoStart = ap body.body_start none in cc
-stop_somewhere (stop.after_context {items = items} e s t u) none = let start : body.body_start items ≡ body.NoStart = ap body.body_start none in cc
-stop_somewhere (stop.after_id {items = items} e s t) none = let start : body.body_start items ≡ body.NoStart = ap body.body_start none in cc
+comments_go_on (stop.in_previous {above = above} {keyword = keyword} {marks = marks} {items = items} {text = text} e s) zero only =
+    (subst AreComments (previous_taken above items text keyword marks e).1 only).0
+comments_go_on (stop.after_comment {above = above} {kind = kind} {text = text} {items = items} {after = after} e h) zero only =
+    comments_go_on h zero (subst AreComments (comment_taken above items after kind text e).1 only).1
+comments_go_on (stop.after_previous {above = above} {keyword = keyword} {marks = marks} {items = items} {text = text} e s h) zero only =
+    (subst AreComments (previous_taken above items text keyword marks e).1 only).0
 
 pub reads_once : {items : List TextItem} {a b : List TextEntry} → Reads items a → Reads items b → a ≡ b
 reads_once (comments only) (comments also) = refl
-reads_once (comments only) (entry h own more) = absurd (body_somewhere own (comments_end h only))
-reads_once (entry h own more) (comments only) = absurd (body_somewhere own (comments_end h only))
+reads_once (comments only) (entry h own more) = absurd (starts_somewhere (body_starts own) (comments_end h only))
+reads_once (entry h own more) (comments only) = absurd (starts_somewhere (body_starts own) (comments_end h only))
 reads_once (entry {comment_texts = comment_texts} {previous = previous} {body = a} {entries = entries} h own more) (entry {own = here} {rest = after} {comment_texts = head_comments} {previous = texts} {body = b} {entries = again} k also others) =
     let heads = head_once h k in
     let bodies = body_once own (subst (λ (i : List TextItem). body.IsBody i b after) (sym heads.2) also) in
@@ -95,8 +67,8 @@ reads_once (entry {comment_texts = comment_texts} {previous = previous} {body = 
 
 pub reads_or_stop : {end line : ℕ} {kind : PoFault} {items : List TextItem} {a : List TextEntry} → Reads items a → stop.EntriesStop end items kind line → ⊥
 reads_or_stop (comments only) (stop.in_head s) = comments_go_on s refl only
-reads_or_stop (comments only) (stop.in_body h s) = stop_somewhere s (comments_end h only)
-reads_or_stop (comments only) (stop.later h own s) = body_somewhere own (comments_end h only)
+reads_or_stop (comments only) (stop.in_body h s) = starts_somewhere (stop_starts s) (comments_end h only)
+reads_or_stop (comments only) (stop.later h own s) = starts_somewhere (body_starts own) (comments_end h only)
 reads_or_stop (entry h own more) (stop.in_head s) = head_or_stop h s
 reads_or_stop {end} {line} {kind} (entry h own more) (stop.in_body k s) =
     let heads = head_once h k in

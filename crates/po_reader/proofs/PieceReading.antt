@@ -14,7 +14,7 @@ use Rattle.po_entry.specs.ReadsText.{ReadsText, ReadsLeft}
 use Rattle.po_entry.specs.Spelling.{SpellsEntries}
 use Rattle.po_entry.specs.Spelling as spelling
 use Rattle.po_entry.proofs.JoinedPieces.{entries_joined}
-use Rattle.po_reader.proofs.Looks.{IsApart}
+use Rattle.po_reader.proofs.SpeltReads.{IsApart}
 use Rattle.po_reader.proofs.RestFaults.{items_stop_after, no_entries, nothing_stops}
 use Rattle.po_entry.specs.Faults.{IsReadFault}
 use Rattle.po_entry.specs.Faults as faults

@@ -25,7 +25,8 @@ use Rattle.po_reader.specs.Internal.Stops.{EntriesStop}
 use Rattle.po_reader.specs.Internal.Stops as stop
 use Rattle.po_entry.specs.Viable.{ItemsFault, last_line}
 use Rattle.po_reader.proofs.Cuts.{head_cut, body_cut}
-use Rattle.po_reader.proofs.Looks.{IsApart, body_starts, forms_end, reads_look}
+use Rattle.po_reader.proofs.SpeltReads.{IsApart, forms_end}
+use Rattle.po_reader.proofs.Looks.{body_starts, reads_look}
 use Rattle.po_reader.proofs.OneReading.{reads_or_stop, spelt_once, texts_go_on, charsets_go_on}
 
 -- where neither begins with a string or a form, both together don't

@@ -1,19 +1,19 @@
 -- The entries that the items of a text spell are entries, if they can have their texts.
-use Rattle.std.proofs.Common.{◌≡◌, ℕ, ◌<◌, List, [], ◌∷◌, None, length, map}
-use Rattle.std.specs.Prelude.{All, IsUtf8}
+use Rattle.std.proofs.Common.{◌≡◌, ◌<◌, List, [], ◌∷◌, ◌++◌, None, length, map}
+use Rattle.std.specs.Prelude.{All}
 use Rattle.std.proofs.lemmas.List.Elements.{All-nil, All-cons, All-head, All-tail, All-weaker}
 use Rattle.po_syntax.specs.declared.item.CommentKind.TheVariants.{Translator, Extracted, Reference, Flags}
 use Rattle.po_entry.specs.declared.fields.Fields.{Fields}
 use Rattle.po_entry.specs.EntryView.{entry_view}
 use Rattle.po_syntax.specs.TextItem.{TextItem}
-use Rattle.po_entry.specs.TextEntry.{TextEntry, quoted_texts}
-use Rattle.po_entry.specs.Bytes.{Lacks, AreDistinct}
+use Rattle.po_entry.specs.TextEntry.{TextEntry}
+use Rattle.po_entry.specs.Bytes.{AreDistinct}
 use Rattle.po_entry.specs.EntryParts.{Body, CommentText, PreviousText}
 use Rattle.po_entry.specs.Comments.{texts_of, comments_of, extracted_of, references_of, all_listed_flags, flags_of}
-use Rattle.po_reader.specs.Internal.Reads.{Reads, comments, entry}
 use Rattle.po_entry.specs.Validity.{HasTexts, IsEntry, IsTranslatorComment, IsReference, IsFlag}
-use Rattle.po_entry.specs.Spelling.{entry_from}
-use Rattle.po_syntax.specs.ItemContents.{IsText, IsComment, IsCommentOf, HoldsText}
+use Rattle.po_entry.specs.Facts.AllAppend.{All-left, All-right}
+use Rattle.po_entry.specs.Spelling.{entry_from, SpellsEntries, comments, entries, entry}
+use Rattle.po_syntax.specs.ItemContents.{IsComment, IsCommentOf, HoldsText}
 use Rattle.po_reader.proofs.SoundEntries.{SoundCommentText, SoundBody, body_sound, head_sound}
 use Rattle.po_reader.proofs.SoundFields.{SoundFlagElement, SoundFlags, kind_sound, references_sound, all_flag_elements_sound, flags_sound}
 
@@ -27,8 +27,8 @@ pub record SoundEntry (spelt : TextEntry) : Type 0 where
   pub some_form : 0 < length spelt.forms
   pub one_form : spelt.plural ≡ None → length spelt.forms ≡ 1
 
-entry_sound : (comment_texts : List CommentText) (previous : List PreviousText) (own : Body) (rest : List TextItem) → All SoundCommentText comment_texts → SoundBody own rest → SoundEntry (entry_from comment_texts previous own)
-entry_sound comment_texts previous own rest n b =
+entry_sound : (comment_texts : List CommentText) (previous : List PreviousText) (own : Body) → All SoundCommentText comment_texts → SoundBody own → SoundEntry (entry_from comment_texts previous own)
+entry_sound comment_texts previous own n b =
     let translator : All (IsCommentOf Translator) (comments_of comment_texts) = kind_sound Translator comment_texts n in
     let extracted : All (IsCommentOf Extracted) (extracted_of comment_texts) = kind_sound Extracted comment_texts n in
     let references : All IsReference (references_of comment_texts) = references_sound (texts_of Reference comment_texts) (kind_sound Reference comment_texts n) in
@@ -45,22 +45,17 @@ entry_sound comment_texts previous own rest n b =
     }
 
 -- every entry that sound items spell
-pub entries_sound : {items : List TextItem} {entries : List TextEntry} → Reads items entries → All HoldsText items → All SoundEntry entries
+pub entries_sound : {items : List TextItem} {entries : List TextEntry} → SpellsEntries items entries → All HoldsText items → All SoundEntry entries
 entries_sound (comments only) h = All-nil SoundEntry
-entries_sound (entry {rest = rest} {comment_texts = comment_texts} {previous = previous} {body = own} {entries = entries} head body more) h =
-    let before = head_sound head h in
-    let own_lines = body_sound body before.after in
-    All-cons SoundEntry (entry_from comment_texts previous own) entries (entry_sound comment_texts previous own rest before.comments_sound own_lines) (entries_sound more own_lines.after)
-
-both_texts : (texts : List (List ℕ)) → All IsUtf8 texts → All (Lacks 0) texts → All IsText texts
-both_texts [] a b = All-nil IsText
-both_texts (text ∷ texts) a b =
-    All-cons IsText text texts (record { utf8 = All-head IsUtf8 text texts a; no_nul = All-head (Lacks 0) text texts b }) (both_texts texts (All-tail IsUtf8 text texts a) (All-tail (Lacks 0) text texts b))
+entries_sound (entries {items = rest} {others = others} (entry {head = head} {own = own} {comment_texts = comment_texts} {previous = previous} {body = body} above order lines) more) h =
+    let first = All-left HoldsText head own (All-left HoldsText (head ++ own) rest h) in
+    All-cons SoundEntry (entry_from comment_texts previous body) others (entry_sound comment_texts previous body (head_sound above first) (body_sound lines))
+    (entries_sound more (All-right HoldsText (head ++ own) rest h))
 
 -- with texts that it can have, it is an entry
 pub entry_valid : (spelt : TextEntry) → SoundEntry spelt → HasTexts spelt → IsEntry spelt
 entry_valid spelt h t = record {
-  quoted_texts = both_texts (quoted_texts spelt) t.utf8 t.clean.no_nul;
+  quoted_texts = λ k d inside. record { utf8 = t.utf8 k d inside; no_nul = t.clean.no_nul k d inside };
   comments = h.comments;
   extracted = h.extracted;
   references = h.references;

@@ -1,11 +1,6 @@
 -- What reads from some items to a rest is a spelling before that rest.
-use Rattle.std.proofs.Common.{◌≡◌, ◌==◌, ℕ, ◌<◌, nat_lt, Bool, true, false, List, [], ◌∷◌, ◌++◌, Option, Some, None, append_assoc, refl, sym, ap, ap₂, subst, ◌∙◌}
-use Rattle.std.specs.Prelude.{if◌then◌else◌}
-use Rattle.std.specs.Bool.{beq}
-use Rattle.std.specs.Cmp.{booleans_Decides}
-use Rattle.std.proofs.lemmas.Bool.{ltb-true, eqb-true}
-use Rattle.po_syntax.specs.declared.fault.PoFault.TheVariants.{BadOrder, BadPluralIndex, MixedObsolete}
-use Rattle.po_syntax.specs.declared.item.CommentKind.{CommentKind}
+use Rattle.std.proofs.Common.{◌≡◌, ℕ, Bool, true, List, [], ◌∷◌, ◌++◌, Option, Some, None, append_assoc, refl, sym, ap, subst, ◌∙◌}
+use Rattle.std.proofs.lemmas.Bool.{eqb-true}
 use Rattle.po_syntax.specs.declared.item.Keyword.{Keyword}
 use Rattle.po_syntax.specs.declared.item.Keyword.TheVariants.{MsgCtxt, MsgId, MsgIdPlural, MsgStr, MsgStrAt}
 use Rattle.po_syntax.specs.declared.item.Marks.{Marks}
@@ -18,28 +13,22 @@ use Rattle.po_reader.specs.Internal.Head as head
 use Rattle.po_reader.specs.Internal.Reads as read
 use Rattle.po_entry.specs.Spelling as spell
 use Rattle.po_entry.specs.Spelling.{own_marks}
-use Rattle.po_entry.specs.EntryParts.{CommentText, PreviousText, Body, rank}
-use Rattle.po_syntax.specs.Spelling.{marked}
-use Rattle.po_reader.proofs.SameMarks.{same_marks_true}
+use Rattle.po_entry.specs.EntryParts.{CommentText, PreviousText, Body}
 use Rattle.po_reader.proofs.PreviousOrder.{Rise, keywords, rise_order}
+use Rattle.po_reader.proofs.Taken.{string_taken, keyword_taken, context_taken, id_taken, comment_taken, previous_taken}
 
 -- the items are a spelling before the rest
-abbrev Prefix : (List TextItem → Type 0) → List TextItem → List TextItem → Type 0
+abbrev pub Prefix : (List TextItem → Type 0) → List TextItem → List TextItem → Type 0
 Prefix P items rest = (own : List TextItem) × P own × (items ≡ own ++ rest)
+
+-- what a part looks like before any rest is what the items look like
+pub seen : {P : List TextItem → Type 0} {items rest : List TextItem} (Q : List TextItem → Type 0) → Prefix P items rest → ((own : List TextItem) → P own → Q (own ++ rest)) → Q items
+seen Q prefix f = subst Q (sym prefix.2) (f prefix.0 prefix.1)
 
 joined : (items own after later rest : List TextItem) → items ≡ own ++ after → after ≡ later ++ rest → items ≡ (own ++ later) ++ rest
 joined items own after later rest e f = e ∙ ap (λ (x : List TextItem). own ++ x) f ∙ sym (append_assoc own later rest)
 
-string_taken : (marks : Marks) (items rest : List TextItem) (bytes : List ℕ) → string.string_step marks items ≡ string.Take bytes rest → (line : ℕ) × (items ≡ Str bytes marks line ∷ rest)
-string_taken marks [] rest bytes e = absurd cc
-string_taken marks (Comment kind text line ∷ items) rest bytes e = absurd cc
-string_taken marks (Word keyword found line ∷ items) rest bytes e = absurd cc
-string_taken marks (Str text found line ∷ items) rest bytes e = (line, taken (string.same_marks marks found) refl e) where
-  taken : (same : Bool) → string.same_marks marks found ≡ same → (if same then string.Take text items else string.Refuse (string.stray_string marks found)) ≡ string.Take bytes rest → Str text found line ∷ items ≡ Str bytes marks line ∷ rest
-  taken true t q = let m : marks ≡ found = same_marks_true marks found t in cc
-  taken false t q = cc
-
-strings_prefix : {marks : Marks} {items rest : List TextItem} {bytes : List ℕ} → string.IsStrings marks items bytes rest → Prefix (λ own. spell.SpellsStrings marks own bytes) items rest
+pub strings_prefix : {marks : Marks} {items rest : List TextItem} {bytes : List ℕ} → string.IsStrings marks items bytes rest → Prefix (λ own. spell.SpellsStrings marks own bytes) items rest
 strings_prefix {marks} (string.last {items = items} {rest = rest} {bytes = bytes} e f) =
     let here = string_taken marks items rest bytes e in
     (Str bytes marks here.0 ∷ [], spell.last, here.1)
@@ -48,26 +37,7 @@ strings_prefix {marks} (string.more {items = items} {after = after} {rest = rest
     let later = strings_prefix s in
     (Str bytes marks here.0 ∷ later.0, spell.more later.1, joined items (Str bytes marks here.0 ∷ []) after later.0 rest here.1 later.2)
 
--- a keyword that is taken is wanted, and bears the marks of the entry's own lines
-keyword_taken : (wanted : word.Wanted) (obsolete : Bool) (items rest : List TextItem) (keyword : Keyword) (line : ℕ) → word.next_keyword wanted obsolete items ≡ word.Take keyword line rest
-    → (items ≡ Word keyword (own_marks obsolete) line ∷ rest) × (word.is_wanted wanted keyword ≡ true)
-keyword_taken wanted obsolete [] rest keyword line e = absurd cc
-keyword_taken wanted obsolete (Comment kind text at ∷ items) rest keyword line e = absurd cc
-keyword_taken wanted obsolete (Str text found at ∷ items) rest keyword line e = absurd cc
-keyword_taken wanted obsolete (Word found marks at ∷ items) rest keyword line e = taken marks.previous refl (word.is_wanted wanted found) refl (beq obsolete marks.obsolete) refl (word.is_wrong_form wanted found) e where
-  taken : (p : Bool) → marks.previous ≡ p → (w : Bool) → word.is_wanted wanted found ≡ w → (s : Bool) → beq obsolete marks.obsolete ≡ s → (f : Bool)
-      → (if p then word.Refuse BadOrder else if w then (if s then word.Take found at items else word.Refuse MixedObsolete) else if f then word.Refuse BadPluralIndex else word.Refuse BadOrder) ≡ word.Take keyword line rest
-      → (Word found marks at ∷ items ≡ Word keyword (own_marks obsolete) line ∷ rest) × (word.is_wanted wanted keyword ≡ true)
-  taken true p w t s u f q = absurd cc
-  taken false p true t true u f q =
-      let same : found ≡ keyword = cc in
-      let own : marked marks.obsolete marks.previous ≡ marked obsolete false = ap₂ marked (sym ((booleans_Decides obsolete marks.obsolete).0 u)) p in
-      (cc, subst (λ (k : Keyword). word.is_wanted wanted k ≡ true) same t)
-  taken false p true t false u f q = absurd cc
-  taken false p false t s u true q = absurd cc
-  taken false p false t s u false q = absurd cc
-
-keyword_prefix : {wanted : word.Wanted} {obsolete : Bool} {items rest : List TextItem} {keyword : Keyword} {line : ℕ} {text : List ℕ} → word.IsKeywordText wanted obsolete items keyword line text rest
+pub keyword_prefix : {wanted : word.Wanted} {obsolete : Bool} {items rest : List TextItem} {keyword : Keyword} {line : ℕ} {text : List ℕ} → word.IsKeywordText wanted obsolete items keyword line text rest
     → Prefix (λ own. spell.SpellsKeywordText keyword (own_marks obsolete) line own text) items rest × (word.is_wanted wanted keyword ≡ true)
 keyword_prefix {wanted} {obsolete} (word.keyword_text {items = items} {text = text} {rest = rest} {keyword = keyword} {line = line} e s) =
     let here = keyword_taken wanted obsolete items text keyword line e in
@@ -95,57 +65,19 @@ form_prefix {obsolete} {index} {items} {rest} {keyword} {line} {form} w =
     let prefix = keyword_prefix w in
     subst (λ (k : Keyword). Prefix (λ own. spell.SpellsKeywordText k (own_marks obsolete) line own form) items rest) (wanted_form index keyword prefix.1) prefix.0
 
-forms_prefix : {obsolete : Bool} {index : ℕ} {items rest : List TextItem} {forms : List (List ℕ)} → body.IsForms obsolete index items forms rest → Prefix (λ own. spell.SpellsForms obsolete index own forms) items rest
+pub forms_prefix : {obsolete : Bool} {index : ℕ} {items rest : List TextItem} {forms : List (List ℕ)} → body.IsForms obsolete index items forms rest → Prefix (λ own. spell.SpellsForms obsolete index own forms) items rest
 forms_prefix (body.last w f) = let prefix = form_prefix w in (prefix.0, spell.last_form prefix.1, prefix.2)
 forms_prefix (body.more {items = items} {after = after} {rest = rest} w f s) =
     let prefix = form_prefix w in
     let later = forms_prefix s in
     (prefix.0 ++ later.0, spell.more_forms prefix.1 later.1, joined items prefix.0 after later.0 rest prefix.2 later.2)
 
-translation_prefix : {obsolete : Bool} {items rest : List TextItem} {plural : Option (List ℕ)} {forms : List (List ℕ)} → body.IsTranslationText obsolete items plural forms rest → Prefix (λ own. spell.SpellsTranslation obsolete own plural forms) items rest
+pub translation_prefix : {obsolete : Bool} {items rest : List TextItem} {plural : Option (List ℕ)} {forms : List (List ℕ)} → body.IsTranslationText obsolete items plural forms rest → Prefix (λ own. spell.SpellsTranslation obsolete own plural forms) items rest
 translation_prefix (body.single w) = let prefix = (keyword_prefix w).0 in (prefix.0, spell.single prefix.1, prefix.2)
 translation_prefix (body.plural {items = items} {after = after} {rest = rest} w f) =
     let prefix = (keyword_prefix w).0 in
     let later = forms_prefix f in
     (prefix.0 ++ later.0, spell.plural prefix.1 later.1, joined items prefix.0 after later.0 rest prefix.2 later.2)
-
-context_taken : (obsolete : Bool) (items rest : List TextItem) → body.body_start items ≡ body.WithContext obsolete rest → (line : ℕ) × (items ≡ Word MsgCtxt (own_marks obsolete) line ∷ rest)
-context_taken obsolete [] rest e = absurd cc
-context_taken obsolete (Comment kind text line ∷ items) rest e = absurd cc
-context_taken obsolete (Str text found line ∷ items) rest e = absurd cc
-context_taken obsolete (Word MsgCtxt marks line ∷ items) rest e = (line, taken marks.previous refl e) where
-  taken : (p : Bool) → marks.previous ≡ p → (if p then body.NoStart else body.WithContext marks.obsolete items) ≡ body.WithContext obsolete rest → Word MsgCtxt marks line ∷ items ≡ Word MsgCtxt (own_marks obsolete) line ∷ rest
-  taken true p q = cc
-  taken false p q =
-      let same : marks.obsolete ≡ obsolete = cc in
-      let own : marked marks.obsolete marks.previous ≡ marked obsolete false = ap₂ marked same p in
-      cc
-context_taken obsolete (Word MsgId marks line ∷ items) rest e = absurd (other marks.previous e) where
-  other : (p : Bool) → (if p then body.NoStart else body.WithoutContext marks.obsolete line items) ≡ body.WithContext obsolete rest → ⊥
-  other true q = cc
-  other false q = cc
-context_taken obsolete (Word MsgIdPlural marks line ∷ items) rest e = absurd cc
-context_taken obsolete (Word MsgStr marks line ∷ items) rest e = absurd cc
-context_taken obsolete (Word (MsgStrAt index) marks line ∷ items) rest e = absurd cc
-
-id_taken : (obsolete : Bool) (line : ℕ) (items rest : List TextItem) → body.body_start items ≡ body.WithoutContext obsolete line rest → items ≡ Word MsgId (own_marks obsolete) line ∷ rest
-id_taken obsolete line [] rest e = cc
-id_taken obsolete line (Comment kind text at ∷ items) rest e = cc
-id_taken obsolete line (Str text found at ∷ items) rest e = cc
-id_taken obsolete line (Word MsgCtxt marks at ∷ items) rest e = absurd (other marks.previous e) where
-  other : (p : Bool) → (if p then body.NoStart else body.WithContext marks.obsolete items) ≡ body.WithoutContext obsolete line rest → ⊥
-  other true q = cc
-  other false q = cc
-id_taken obsolete line (Word MsgId marks at ∷ items) rest e = taken marks.previous refl e where
-  taken : (p : Bool) → marks.previous ≡ p → (if p then body.NoStart else body.WithoutContext marks.obsolete at items) ≡ body.WithoutContext obsolete line rest → Word MsgId marks at ∷ items ≡ Word MsgId (own_marks obsolete) line ∷ rest
-  taken true p q = cc
-  taken false p q =
-      let same : marks.obsolete ≡ obsolete = cc in
-      let own : marked marks.obsolete marks.previous ≡ marked obsolete false = ap₂ marked same p in
-      cc
-id_taken obsolete line (Word MsgIdPlural marks at ∷ items) rest e = cc
-id_taken obsolete line (Word MsgStr marks at ∷ items) rest e = cc
-id_taken obsolete line (Word (MsgStrAt index) marks at ∷ items) rest e = cc
 
 -- an entry's msgid and its translation
 lines_prefix : (obsolete : Bool) (line : ℕ) (items after rest : List TextItem) (context : Option (List ℕ)) (id : List ℕ) (plural : Option (List ℕ)) (forms : List (List ℕ)) (first : List TextItem) → spell.SpellsContext obsolete first context
@@ -156,7 +88,7 @@ lines_prefix obsolete line items after rest context id plural forms first c pref
     let start = joined (first ++ items) first items prefix.0 after refl prefix.2 in
     (first ++ prefix.0 ++ later.0, spell.own_lines c prefix.1 later.1, joined (first ++ items) (first ++ prefix.0) after later.0 rest start later.2)
 
-body_prefix : {items rest : List TextItem} {own : Body} → body.IsBody items own rest → Prefix (λ here. spell.SpellsBody here own) items rest
+pub body_prefix : {items rest : List TextItem} {own : Body} → body.IsBody items own rest → Prefix (λ here. spell.SpellsBody here own) items rest
 body_prefix (body.without_context {obsolete = obsolete} {line = line} {items = items} {text = text} {after = after} {rest = rest} {id = id} {plural = plural} {forms = forms} e s t) =
     let here = id_taken obsolete line items text e in
     let strings = strings_prefix s in
@@ -172,50 +104,11 @@ body_prefix (body.with_context {obsolete = obsolete} {keyword = keyword} {line =
     let prefix = lines_prefix obsolete line middle after rest (Some context) id plural forms first (spell.context (spell.keyword_text strings.1)) found t in
     (prefix.0, prefix.1, whole ∙ prefix.2)
 
-comment_taken : (above : ℕ) (items rest : List TextItem) (kind : CommentKind) (text : List ℕ) → head.head_step above items ≡ head.HeadComment kind text rest → (line : ℕ) × (items ≡ Comment kind text line ∷ rest)
-comment_taken above [] rest kind text e = absurd (end (above == 0) e) where
-  end : (t : Bool) → (if t then head.Over else head.Refuse BadOrder) ≡ head.HeadComment kind text rest → ⊥
-  end true q = cc
-  end false q = cc
-comment_taken above (Comment sort keywords line ∷ items) rest kind text e = (line, cc)
-comment_taken above (Str bytes marks line ∷ items) rest kind text e = absurd cc
-comment_taken above (Word keyword marks line ∷ items) rest kind text e = absurd (other marks.previous (nat_lt above (rank keyword)) (head.begins_body keyword) e) where
-  other : (p r b : Bool) → (if p then (if r then head.Previous keyword marks items else head.Refuse BadOrder) else if b then head.Over else head.Refuse BadOrder) ≡ head.HeadComment kind text rest → ⊥
-  other true true b q = cc
-  other true false b q = cc
-  other false r true q = cc
-  other false r false q = cc
-
--- a previous text's keyword is marked so, and its rank is above those before it
-previous_taken : (above : ℕ) (items rest : List TextItem) (keyword : Keyword) (marks : Marks) → head.head_step above items ≡ head.Previous keyword marks rest
-    → (line : ℕ) × (items ≡ Word keyword marks line ∷ rest) × (marks ≡ spell.previous_marks marks.obsolete) × (above < rank keyword)
-previous_taken above [] rest keyword marks e = absurd (end (above == 0) e) where
-  end : (t : Bool) → (if t then head.Over else head.Refuse BadOrder) ≡ head.Previous keyword marks rest → ⊥
-  end true q = cc
-  end false q = cc
-previous_taken above (Comment kind text line ∷ items) rest keyword marks e = absurd cc
-previous_taken above (Str bytes found line ∷ items) rest keyword marks e = absurd cc
-previous_taken above (Word word found line ∷ items) rest keyword marks e = (line, here.0, here.1, here.2) where
-  taken : (p : Bool) → found.previous ≡ p → (r : Bool) → nat_lt above (rank word) ≡ r → (b : Bool)
-      → (if p then (if r then head.Previous word found items else head.Refuse BadOrder) else if b then head.Over else head.Refuse BadOrder) ≡ head.Previous keyword marks rest
-      → (Word word found line ∷ items ≡ Word keyword marks line ∷ rest) × (marks ≡ spell.previous_marks marks.obsolete) × (above < rank keyword)
-  taken true p true t b q =
-      let same : word ≡ keyword = cc in
-      let mark : found ≡ marks = cc in
-      let own : marked marks.obsolete marks.previous ≡ marked marks.obsolete true = ap (λ (x : Bool). marked marks.obsolete x) (subst (λ (m : Marks). m.previous ≡ true) mark p) in
-      (cc, own, subst (λ (k : Keyword). above < rank k) same (ltb-true above (rank word) t))
-  taken true p false t b q = absurd cc
-  taken false p r t true q = absurd cc
-  taken false p r t false q = absurd cc
-
-  here : (Word word found line ∷ items ≡ Word keyword marks line ∷ rest) × (marks ≡ spell.previous_marks marks.obsolete) × (above < rank keyword)
-  here = taken found.previous refl (nat_lt above (rank word)) refl (head.begins_body word) e
-
 -- a head is spelt, with previous texts whose ranks rise
-abbrev HeadOf : ℕ → List CommentText → List PreviousText → List TextItem → Type 0
+abbrev pub HeadOf : ℕ → List CommentText → List PreviousText → List TextItem → Type 0
 HeadOf above comment_texts previous own = spell.SpellsHead own comment_texts previous × Rise above (keywords previous)
 
-head_prefix : {above : ℕ} {items rest : List TextItem} {comment_texts : List CommentText} {previous : List PreviousText} → head.IsHead above items comment_texts previous rest → Prefix (HeadOf above comment_texts previous) items rest
+pub head_prefix : {above : ℕ} {items rest : List TextItem} {comment_texts : List CommentText} {previous : List PreviousText} → head.IsHead above items comment_texts previous rest → Prefix (HeadOf above comment_texts previous) items rest
 head_prefix (head.over e) = ([], (spell.nothing, tt), refl)
 head_prefix (head.head_comment {above = above} {kind = kind} {text = text} {items = items} {after = after} {rest = rest} e h) =
     let here = comment_taken above items after kind text e in

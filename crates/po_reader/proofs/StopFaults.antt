@@ -1,6 +1,5 @@
 -- Items that stop have the fault of the item after their longest viable prefix, or end too early.
-use Rattle.std.proofs.Common.{◌≡◌, ℕ, Bool, true, false, ◌==◌, List, [], ◌∷◌, ◌++◌, refl, sym, subst, subst₂, ◌∙◌, append_assoc, append-nil, inl, inr}
-use Rattle.std.specs.Prelude.{if◌then◌else◌}
+use Rattle.std.proofs.Common.{◌≡◌, ℕ, List, [], ◌∷◌, ◌++◌, refl, sym, subst, subst₂, ◌∙◌, append_assoc, append-nil, inl, inr}
 use Rattle.po_syntax.specs.declared.fault.PoFault.{PoFault}
 use Rattle.po_syntax.specs.declared.fault.PoFault.TheVariants.{BadOrder}
 use Rattle.po_syntax.specs.TextItem.{TextItem}
@@ -10,7 +9,7 @@ use Rattle.po_reader.specs.Internal.Head as head
 use Rattle.po_entry.specs.Spelling.{SpellsEntries}
 use Rattle.po_reader.specs.Internal.Stops.{EntriesStop, line_at}
 use Rattle.po_entry.specs.Viable.{IsViable, ItemsFault, at, at_end, last_line}
-use Rattle.po_reader.proofs.Steps.{string_item, keyword_item, head_item, HeadDoes}
+use Rattle.po_reader.proofs.Steps.{string_item, keyword_item, head_item, HeadDoes, head_end}
 use Rattle.po_reader.proofs.Blocked.{Point, AtString, AtKeyword, AtHead, Refuses, Accepts, Alike, IsUnread, first_alike, shorter}
 use Rattle.po_reader.proofs.BlockedEntries.{items_blocked}
 use Rattle.po_reader.proofs.Misfits.{Shuns, NeverAfter, misfit_at, stands}
@@ -18,16 +17,16 @@ use Rattle.po_reader.proofs.Misfits.{Shuns, NeverAfter, misfit_at, stands}
 -- what is refused is so whatever follows
 shunned : (point : Point) (item : TextItem) (rest : List TextItem) (fault : PoFault) → Refuses point (item ∷ rest) fault → Shuns point item
 shunned (AtString marks) item rest fault e = elim (string_item marks item) [
-  | inl does ↦ let step : string.Take does.0 rest ≡ string.Refuse fault = sym (does.1 rest) ∙ e in absurd cc
+  | inl does ↦ let step : string.Take does.0 rest ≡ string.Refuse fault = sym (does.3 rest) ∙ e in absurd cc
   | inr does ↦ does
 ]
 shunned (AtKeyword wanted obsolete) item rest fault e = elim (keyword_item wanted obsolete item) [
-  | inl does ↦ let step : word.Take does.0 does.1 rest ≡ word.Refuse fault = sym (does.2 rest) ∙ e in absurd cc
+  | inl does ↦ let step : word.Take does.0 does.1 rest ≡ word.Refuse fault = sym (does.4 rest) ∙ e in absurd cc
   | inr does ↦ does
 ]
 shunned (AtHead above) item rest fault e = elim (head_item above item) [
-  | HeadDoes.head_comments kind text does ↦ let step : head.HeadComment kind text rest ≡ head.Refuse fault = sym (does rest) ∙ e in absurd cc
-  | HeadDoes.texts keyword marks does ↦ let step : head.Previous keyword marks rest ≡ head.Refuse fault = sym (does rest) ∙ e in absurd cc
+  | HeadDoes.head_comments kind text line is does ↦ let step : head.HeadComment kind text rest ≡ head.Refuse fault = sym (does rest) ∙ e in absurd cc
+  | HeadDoes.texts keyword marks line is own under does ↦ let step : head.Previous keyword marks rest ≡ head.Refuse fault = sym (does rest) ∙ e in absurd cc
   | HeadDoes.ends does ↦ let step : head.Over ≡ head.Refuse fault = sym (does rest) ∙ e in absurd cc
   | HeadDoes.refuses reported does ↦ (reported, does)
 ]
@@ -36,10 +35,7 @@ shunned (AtHead above) item rest fault e = elim (head_item above item) [
 early : (point : Point) (fault : PoFault) → Refuses point [] fault → BadOrder ≡ fault
 early (AtString marks) fault e = cc
 early (AtKeyword wanted obsolete) fault e = cc
-early (AtHead above) fault e = nothing (above == 0) e where
-  nothing : (t : Bool) → (if t then head.Over else head.Refuse BadOrder) ≡ head.Refuse fault → BadOrder ≡ fault
-  nothing true q = cc
-  nothing false q = cc
+early (AtHead above) fault e = elim (head_end above) [ inl ends ↦ absurd (cc ends.1) | inr refused ↦ cc ]
 
 reported : (items prefix tail : List TextItem) (point : Point) (fault : PoFault) (line : ℕ) → items ≡ prefix ++ tail → Refuses point tail fault → line ≡ line_at (last_line items) tail
     → ((others : List TextItem) (other : PoFault) → Alike tail others → Refuses point others other → IsUnread (prefix ++ others)) → ((item : TextItem) → Accepts point item → IsViable (prefix ++ item ∷ []))

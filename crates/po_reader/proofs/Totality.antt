@@ -1,6 +1,5 @@
 -- Each list of items reads as entries or stops.
-use Rattle.std.proofs.Common.{◌≡◌, ℕ, zero, suc, ◌+◌, ◌<◌, ◌≤◌, Bool, true, false, ◌==◌, List, [], ◌∷◌, ◌++◌, length, Option, Some, None, refl, subst, inl, inr, ◌⊎◌, arith}
-use Rattle.std.specs.Prelude.{if◌then◌else◌}
+use Rattle.std.proofs.Common.{◌≡◌, ℕ, zero, suc, ◌+◌, ◌<◌, ◌≤◌, Bool, true, false, List, [], ◌∷◌, ◌++◌, length, Option, Some, None, refl, subst, inl, inr, ◌⊎◌, arith}
 use Rattle.po_syntax.specs.declared.fault.PoFault.{PoFault}
 use Rattle.po_syntax.specs.declared.fault.PoFault.TheVariants.{BadOrder}
 use Rattle.po_syntax.specs.declared.item.Keyword.{Keyword}
@@ -15,8 +14,8 @@ use Rattle.po_reader.specs.Internal.Reads.{Reads, comments, entry}
 use Rattle.po_entry.specs.Spelling.{entry_from, own_marks}
 use Rattle.po_entry.specs.EntryParts.{CommentText, PreviousText, Body, rank}
 use Rattle.po_reader.specs.Internal.Stops as stop
-use Rattle.po_reader.proofs.Steps.{string_item, keyword_item, start_item, StartDoes, head_item, HeadDoes}
-use Rattle.po_reader.proofs.TakenKeywords.{translation_keyword}
+use Rattle.po_reader.proofs.Steps.{string_item, keyword_item, start_item, StartDoes, head_item, HeadDoes, head_end}
+use Rattle.po_reader.proofs.Looks.{translation_keyword}
 use Rattle.po_reader.proofs.HeadEnds.{head_over, over_cases, head_at_end}
 
 -- the strings of a text
@@ -36,7 +35,7 @@ after_string end marks item items bytes step next true e = elim next [
 strings_end : (end : ℕ) (marks : Marks) (items : List TextItem) → StringsEnd end marks items
 strings_end end marks [] = inr (BadOrder, end, stop.StringsStop.refused refl refl)
 strings_end end marks (item ∷ items) = elim (string_item marks item) [
-  | inl taken ↦ after_string end marks item items taken.0 (taken.1 items) (strings_end end marks items) (string.begins_string items) refl
+  | inl taken ↦ after_string end marks item items taken.0 (taken.3 items) (strings_end end marks items) (string.begins_string items) refl
   | inr refused ↦ inr (refused.0, line_of item, stop.StringsStop.refused (refused.1 items) refl)
 ]
 
@@ -50,8 +49,8 @@ keyword_text_end : (end : ℕ) (wanted : word.Wanted) (obsolete : Bool) (items :
 keyword_text_end end wanted obsolete [] = inr (BadOrder, end, stop.KeywordTextStops.refused refl refl)
 keyword_text_end end wanted obsolete (item ∷ items) = elim (keyword_item wanted obsolete item) [
   | inl taken ↦ elim (strings_end end (own_marks obsolete) items) [
-    | inl found ↦ inl (taken.0, taken.1, found.0, found.1, word.keyword_text (taken.2 items) found.2, omega (arith, found.3))
-    | inr found ↦ inr (found.0, found.1, stop.in_text (taken.2 items) found.2)
+    | inl found ↦ inl (taken.0, taken.1, found.0, found.1, word.keyword_text (taken.4 items) found.2, omega (arith, found.3))
+    | inr found ↦ inr (found.0, found.1, stop.in_text (taken.4 items) found.2)
   ]
   | inr refused ↦ inr (refused.0, line_of item, stop.KeywordTextStops.refused (refused.1 items) refl)
 ]
@@ -137,8 +136,8 @@ after_context end obsolete item items start = elim (strings_end end (own_marks o
 body_end : (end : ℕ) (items : List TextItem) → (body.body_start items ≡ body.NoStart → ⊥) → BodyEnds end items
 body_end end [] starts = absurd (starts refl)
 body_end end (item ∷ items) starts = elim (start_item item) [
-  | StartDoes.contexts obsolete start ↦ after_context end obsolete item items (start items)
-  | StartDoes.ids obsolete line start ↦ after_id end line obsolete item items (start items)
+  | StartDoes.contexts obsolete line is start ↦ after_context end obsolete item items (start items)
+  | StartDoes.ids obsolete line is start ↦ after_id end line obsolete item items (start items)
   | StartDoes.starts_nothing start ↦ absurd (starts (start items))
 ]
 
@@ -148,25 +147,16 @@ HeadEnds end above items =
     ((comment_texts : List CommentText) × (previous : List PreviousText) × (rest : List TextItem) × head.IsHead above items comment_texts previous rest × (length rest ≤ length items))
     ⊎ ((fault : PoFault) × (line : ℕ) × stop.HeadStops end above items fault line)
 
-head_at : (end above : ℕ) (at_start : Bool) → (above == 0) ≡ at_start → HeadEnds end above []
-head_at end above true e = inl ([], [], [], head.over (ended (above == 0) e), omega arith) where
-  ended : (t : Bool) → t ≡ true → (if t then head.Over else head.Refuse BadOrder) ≡ head.Over
-  ended true q = refl
-  ended false q = cc
-head_at end above false e = inr (BadOrder, end, stop.HeadStops.refused (ended (above == 0) e) refl) where
-  ended : (t : Bool) → t ≡ false → (if t then head.Over else head.Refuse BadOrder) ≡ head.Refuse BadOrder
-  ended true q = cc
-  ended false q = refl
-
 head_below : (end n above : ℕ) (items : List TextItem) → length items < n → HeadEnds end above items
 head_below end zero above items h = absurd (omega arith)
-head_below end (suc n) above [] h = head_at end above (above == 0) refl
+head_below end (suc n) above [] h =
+    elim (head_end above) [ inl ends ↦ inl ([], [], [], head.over ends.1, omega arith) | inr refused ↦ inr (BadOrder, end, stop.HeadStops.refused refused refl) ]
 head_below end (suc n) above (item ∷ items) h = elim (head_item above item) [
-  | HeadDoes.head_comments kind text step ↦ elim (head_below end n above items (omega arith)) [
+  | HeadDoes.head_comments kind text line is step ↦ elim (head_below end n above items (omega arith)) [
     | inl found ↦ inl (record { kind = kind; text = text } ∷ found.0, found.1, found.2, head.head_comment (step items) found.3, omega (arith, found.4))
     | inr found ↦ inr (found.0, found.1, stop.after_comment (step items) found.2)
   ]
-  | HeadDoes.texts keyword marks step ↦ elim (strings_end end marks items) [
+  | HeadDoes.texts keyword marks line is own under step ↦ elim (strings_end end marks items) [
     | inl text ↦ elim (head_below end n (rank keyword) text.1 (omega (arith, text.3))) [
       | inl found ↦ inl (found.0, record { keyword = keyword; text = text.0 } ∷ found.1, found.2, head.previous (step items) text.2 found.3, omega (arith, text.3, found.4))
       | inr found ↦ inr (found.0, found.1, stop.after_previous (step items) text.2 found.2)

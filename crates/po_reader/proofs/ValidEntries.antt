@@ -7,12 +7,11 @@ use Rattle.po_syntax.specs.PoText.{SpellsText}
 use Rattle.po_entry.specs.TextEntry.{TextEntry}
 use Rattle.po_entry.specs.ReadsText.{ReadsText}
 use Rattle.po_entry.specs.Validity.{IsCatalogueEntry}
-use Rattle.po_reader.proofs.SpeltReads.{spelt_reads}
 use Rattle.po_reader.proofs.SoundCatalogue.{entries_sound, entry_valid}
 
 pub read_valid : ((text : List ℕ) (items : List TextItem) → SpellsText text items → All HoldsText items)
     → (text : List ℕ) (entries : List TextEntry) → ReadsText text entries → All IsCatalogueEntry entries
 read_valid hold text entries read =
-    let sound = entries_sound (spelt_reads read.reads) (hold text read.items read.spelt) in
+    let sound = entries_sound read.reads (hold text read.items read.spelt) in
     λ k d inside.
     record { valid = entry_valid (get_or entries k d) (sound k d inside) (read.texts k d inside); charset = read.charsets k d inside }

@@ -1,12 +1,12 @@
 -- The reader's steps at the keywords of an entry's own lines, each with its text.
-use Rattle.std.specs.Prelude.{◌≡◌, ℕ, Bool, true, false, ◌==◌, List, [], ◌∷◌, if◌then◌else◌}
+use Rattle.std.specs.Prelude.{◌≡◌, ℕ, Bool, true, false, ◌==◌, List, ◌∷◌, if◌then◌else◌}
 use Rattle.std.specs.Bool.{beq}
 use Rattle.po_syntax.specs.declared.fault.PoFault.{PoFault}
 use Rattle.po_syntax.specs.declared.fault.PoFault.TheVariants.{BadOrder, BadPluralIndex, MixedObsolete}
 use Rattle.po_syntax.specs.declared.item.Keyword.{Keyword}
-use Rattle.po_syntax.specs.declared.item.Keyword.TheVariants.{MsgCtxt, MsgId, MsgIdPlural, MsgStr, MsgStrAt}
+use Rattle.po_syntax.specs.declared.item.Keyword.TheVariants.{MsgId, MsgIdPlural, MsgStr, MsgStrAt}
 use Rattle.po_syntax.specs.declared.item.Marks.{Marks}
-use Rattle.po_syntax.specs.TextItem.{TextItem, Comment, Word, Str}
+use Rattle.po_syntax.specs.TextItem.{TextItem, Word}
 use Rattle.po_entry.specs.Spelling.{own_marks}
 use Rattle.po_reader.specs.Internal.Strings.{IsStrings}
 

@@ -1,11 +1,11 @@
 -- The reader's steps through the quoted strings of one text: one or more, directly after their
 -- keyword and under its marks, joined.
-use Rattle.std.specs.Prelude.{◌≡◌, ℕ, Bool, true, false, ◌&&◌, ◌||◌, List, [], ◌∷◌, ◌++◌, if◌then◌else◌}
+use Rattle.std.specs.Prelude.{◌≡◌, ℕ, Bool, true, false, ◌&&◌, ◌||◌, List, ◌∷◌, ◌++◌, if◌then◌else◌}
 use Rattle.std.specs.Bool.{beq}
 use Rattle.po_syntax.specs.declared.fault.PoFault.{PoFault}
 use Rattle.po_syntax.specs.declared.fault.PoFault.TheVariants.{BadOrder, MixedObsolete}
 use Rattle.po_syntax.specs.declared.item.Marks.{Marks}
-use Rattle.po_syntax.specs.TextItem.{TextItem, Comment, Word, Str}
+use Rattle.po_syntax.specs.TextItem.{TextItem, Str}
 
 abbrev pub same_marks : Marks → Marks → Bool
 same_marks a b = beq a.obsolete b.obsolete && beq a.previous b.previous

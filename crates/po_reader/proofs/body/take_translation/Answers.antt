@@ -1,5 +1,5 @@
 use Rattle.std.proofs.lemmas.Result.{err_from_is_err_and}
-use Rattle.po_reader.proofs.TakenKeywords.{translation_alone}
+use Rattle.po_reader.proofs.Looks.{translation_alone}
 use Rattle.po_reader.specs.Internal.Body.IsTranslationText.{single, plural}
 use Rattle.po_reader.specs.Internal.Stops.TranslationStops.{here, in_forms}
 use Rattle.po_reader.proofs.body.take_translation.Goals as goal

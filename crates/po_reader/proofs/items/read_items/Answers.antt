@@ -38,7 +38,7 @@ returns-in_err-check_drafts-clause-memory c =
 pub catalogue_of-requires : goal.catalogue_of-requires
 catalogue_of-requires c =
     let spelt = rw c.deref.ensures.value at c.in_ok-drafts.ensures.found in
-    let sound = subst (All SoundEntry) (sym spelt.2) (kept_sound c.args.with_comments spelt.0 (entries_sound spelt.1 c.requires.hold)) in
+    let sound = subst (All SoundEntry) (sym spelt.2) (kept_sound c.args.with_comments spelt.0 (entries_sound (reads_spelt spelt.1) c.requires.hold)) in
     let asked = rw c.deref-3.ensures.value at c.in_ok-check_drafts.ensures.ok in
     drafts_valid _ sound asked
 
