@@ -1,7 +1,8 @@
 //! A string spelled as one quoted string.
 
-ghost use Rattle.std.specs.Prelude.{◌≡◌, ◌+◌, ◌≤◌, ◌++◌, length, take, true, OnOk, OnErr, IfErr};
+ghost use Rattle.std.specs.Prelude.{◌≡◌, ◌+◌, ◌-◌, ◌^◌, ◌≤◌, ◌++◌, length, min, true, IsOk, OnOk, OnErr, IfErr};
 ghost use Rattle.std.specs.List.{prefix_len};
+ghost use Rattle.std.specs.Vec.{vec_len, vec_capacity};
 ghost use Rattle.po_syntax.specs.declared.fault.PoFault.TheVariants.{OutOfMemory};
 ghost use Rattle.po_syntax.specs.QuotedForm.{is_raw, quoted, written_byte, written_bytes};
 
@@ -67,11 +68,42 @@ fn split_raw(bytes: &[u8]) -> (&[u8], &[u8])
     bytes.split_at(raw_count(bytes))
 }
 
+/// How many bytes are written for one byte.
+#[tactic(auto, unfolding(crate::specs::QuotedForm::written_byte))]
+fn written_len(byte: u8) -> usize
+    ensures { result ≡ length (written_byte byte) }
+{
+    match byte {
+        7..14 | b'"' | b'\\' => 2,
+        0..32 | 127 => 4,
+        _ => 1,
+    }
+}
+
+/// The length of the quoted form, or 2^64 - 1 where it is longer.
+fn quoted_len(bytes: &[u8]) -> usize
+    ensures { result ≡ min (length (quoted bytes.now)) (2 ^ 64 - 1) }
+{
+    let mut len: usize = 2;
+    let mut rest = bytes;
+    loop {
+        let (raw, special) = split_raw(rest);
+        len = len.saturating_add(raw.len());
+        let Some((byte, after)) = special.split_first() else {
+            return len;
+        };
+        len = len.saturating_add(written_len(*byte));
+        rest = after;
+    }
+}
+
 /// Appends what is written for one byte.
 #[tactic(auto, unfolding(crate::specs::QuotedForm::written_byte))]
 fn write_byte(byte: u8, out: &mut Vec<u8>) -> Result<(), AllocError>
     ensures ok { OnOk result (out.new.items ≡ out.old.items ++ written_byte byte) }
-    ensures unchanged { OnErr result (out.new.items ≡ out.old.items) }
+    ensures len { OnOk result (vec_len out.new ≡ vec_len out.old + length (written_byte byte)) }
+    ensures capacity { vec_capacity out.old ≤ vec_capacity out.new }
+    ensures room { vec_len out.old + length (written_byte byte) ≤ vec_capacity out.old → IsOk result }
 {
     match byte {
         7 => out.extend_from_slice(b"\\a"),
@@ -93,10 +125,10 @@ fn write_byte(byte: u8, out: &mut Vec<u8>) -> Result<(), AllocError>
     }
 }
 
-/// Appends the quoted form; after a refusal `out` begins with what it was.
+/// Appends the quoted form. Where there is room for it, nothing is refused.
 fn write_quoted(bytes: &[u8], out: &mut Vec<u8>) -> Result<(), AllocError>
     ensures ok { OnOk result (out.new.items ≡ out.old.items ++ quoted bytes.now) }
-    ensures kept { OnErr result (take (length out.old.items) out.new.items ≡ out.old.items) }
+    ensures room { vec_len out.old + length (quoted bytes.now) ≤ vec_capacity out.old → IsOk result }
 {
     out.extend_from_slice(b"\"")?;
     let mut rest = bytes;
@@ -113,18 +145,17 @@ fn write_quoted(bytes: &[u8], out: &mut Vec<u8>) -> Result<(), AllocError>
 }
 
 /// Appends the quoted form of a text, as PO files are written (manual, "The Format of PO Files").
-/// Refused only where an allocation failed; then `out` is as it was.
+/// Room for all of it is made first. Refused only where that allocation failed; then `out` is as it
+/// was.
 pub fn quote(bytes: &[u8], out: &mut Vec<u8>) -> Result<(), PoError>
     ensures ok { OnOk result (out.new.items ≡ out.old.items ++ quoted bytes.now) }
     ensures unchanged { OnErr result (out.new.items ≡ out.old.items) }
     ensures memory { IfErr result (λ e. e ≡ record { kind = OutOfMemory; line = 0 }) }
+
+    // Where there is room for it, nothing is refused.
+    ensures room { vec_len out.old + length (quoted bytes.now) ≤ vec_capacity out.old → IsOk result }
 {
-    let len = out.len();
-    match write_quoted(bytes, out) {
-        Ok(()) => Ok(()),
-        Err(error) => {
-            out.truncate(len);
-            Err(PoError::from(error))
-        }
-    }
+    out.reserve(quoted_len(bytes))?;
+    write_quoted(bytes, out)?;
+    Ok(())
 }
