@@ -2,7 +2,12 @@
 //! a proof.
 
 ghost use Rattle.mo_file.specs.Laws.{OneMessageList, MoFileOrFault, LayoutIsMoFile, NoFaultOfMoFile, OneFirstFault};
+ghost use Rattle.std.specs.Prelude.{◌≡◌};
 ghost use Rattle.mo_file.specs.Laws.{KnownRevisionsAreValid, NoHashTableIsLaidOut};
+ghost use Rattle.mo_file.specs.Laws.{big_file_of_one, file_of_two, one_message, two_messages};
+ghost use Rattle.mo_file.specs.Layout.{layout};
+
+use crate::byte_order::Order;
 
 /// What is laid out in the order of its keys is a valid file with these very messages.
 pub fn layout_is_mo_file()
@@ -12,6 +17,13 @@ pub fn layout_is_mo_file()
 /// What is laid out has no hash table: the size of it that the file header names is 0.
 pub fn no_hash_table_is_laid_out()
     ensures { NoHashTableIsLaidOut }
+{}
+
+/// A file is laid out as the manual draws it: the tables of the originals and of the translations, then
+/// the originals and then the translations, in either byte order.
+pub fn files_are_laid_out()
+    ensures little { layout Order.Little two_messages ≡ file_of_two }
+    ensures big { layout Order.Big one_message ≡ big_file_of_one }
 {}
 
 /// With any minor revision of the major revisions 0 and 1 in its place, what is laid out in the
