@@ -5,6 +5,7 @@ pub mod Stream
 pub mod PendingReference
 pub mod SubstituterView
 pub mod Envsubst
+pub mod Failures
 pub mod EnvsubstLaw
 pub mod Variables
 pub mod ByArguments

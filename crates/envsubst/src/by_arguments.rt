@@ -2,6 +2,7 @@
 ghost use Rattle.std.specs.Prelude.{◌≡◌, ◌+◌, ◌^◌, ◌<◌, ◌≤◌, ◌⊎◌, OnOk, OnErr, IsErrOf, IfOk, map};
 ghost use Rattle.std.specs.Option.{option_copied};
 ghost use Rattle.envsubst.specs.ByArguments.{RunsEnvsubst, WritesNames};
+ghost use Rattle.envsubst.specs.Failures.{read_failures, write_failures};
 ghost use Rattle.envsubst.specs.Usage.{replaced};
 ghost use Rattle.envsubst.specs.UsageView.{envsubst_arguments};
 
@@ -39,22 +40,10 @@ pub fn envsubst<S: EntrySource, R: ByteIn, W: ByteOut>(
     requires write_failures { W.failures writer.old < 2 ^ 63 }
     ensures output { RunsEnvsubst (S.entries source.now) (R.remaining reader.old) (R.remaining reader.new)
         (W.contents writer.old) (W.contents writer.new) (envsubst_arguments given.entry) result }
-    ensures no_read_failure { OnOk result (R.failures reader.new ≡ R.failures reader.old) }
-    ensures no_write_failure { OnOk result (W.failures writer.new ≡ W.failures writer.old) }
-    ensures read_cause { IsErrOf result ToolFault.ReadFault
-        → (R.failures reader.new ≡ R.failures reader.old + 1)
-        ⊎ ((R.failures reader.new ≡ R.failures reader.old)
+    ensures read_failures { (R.failures reader.new ≡ R.failures reader.old + read_failures result)
+        ⊎ (IsErrOf result ToolFault.ReadFault × (R.failures reader.new ≡ R.failures reader.old)
         × (R.calls reader.new ≡ R.calls reader.old + 2 ^ 32)) }
-    ensures read_cause_alone { IsErrOf result ToolFault.ReadFault
-        → W.failures writer.new ≡ W.failures writer.old }
-    ensures write_cause { IsErrOf result ToolFault.WriteFault
-        → W.failures writer.new ≡ W.failures writer.old + 1 }
-    ensures write_cause_alone { IsErrOf result ToolFault.WriteFault
-        → R.failures reader.new ≡ R.failures reader.old }
-    ensures no_read_cause { IsErrOf result ToolFault.OutOfMemory
-        → R.failures reader.new ≡ R.failures reader.old }
-    ensures no_write_cause { IsErrOf result ToolFault.OutOfMemory
-        → W.failures writer.new ≡ W.failures writer.old }
+    ensures write_failures { W.failures writer.new ≡ W.failures writer.old + write_failures result }
     ensures calls { R.calls reader.new ≤ R.calls reader.old + 2 ^ 32 }
 {
     match given {
@@ -67,11 +56,7 @@ pub fn envsubst<S: EntrySource, R: ByteIn, W: ByteOut>(
 fn write_names<W: ByteOut>(alloc: Global, writer: &mut W, format: &str) -> Result<(), ToolFault>
     requires { W.failures writer.old < 2 ^ 63 }
     ensures output { WritesNames format.now (W.contents writer.old) (W.contents writer.new) result }
-    ensures no_failure { OnOk result (W.failures writer.new ≡ W.failures writer.old) }
-    ensures cause { IsErrOf result ToolFault.WriteFault
-        → W.failures writer.new ≡ W.failures writer.old + 1 }
-    ensures no_cause { IsErrOf result ToolFault.OutOfMemory
-        → W.failures writer.new ≡ W.failures writer.old }
+    ensures failures { W.failures writer.new ≡ W.failures writer.old + write_failures result }
 {
     match name_lines(alloc, format.as_bytes()) {
         Ok(lines) => put_all(writer, &lines),
@@ -92,22 +77,10 @@ fn substitute<S: EntrySource, R: ByteIn, W: ByteOut>(
     requires write_failures { W.failures writer.old < 2 ^ 63 }
     ensures output { RunsEnvsubst (S.entries source.now) (R.remaining reader.old) (R.remaining reader.new)
         (W.contents writer.old) (W.contents writer.new) (replaced (option_copied format.entry)) result }
-    ensures no_read_failure { OnOk result (R.failures reader.new ≡ R.failures reader.old) }
-    ensures no_write_failure { OnOk result (W.failures writer.new ≡ W.failures writer.old) }
-    ensures read_cause { IsErrOf result ToolFault.ReadFault
-        → (R.failures reader.new ≡ R.failures reader.old + 1)
-        ⊎ ((R.failures reader.new ≡ R.failures reader.old)
+    ensures read_failures { (R.failures reader.new ≡ R.failures reader.old + read_failures result)
+        ⊎ (IsErrOf result ToolFault.ReadFault × (R.failures reader.new ≡ R.failures reader.old)
         × (R.calls reader.new ≡ R.calls reader.old + 2 ^ 32)) }
-    ensures read_cause_alone { IsErrOf result ToolFault.ReadFault
-        → W.failures writer.new ≡ W.failures writer.old }
-    ensures write_cause { IsErrOf result ToolFault.WriteFault
-        → W.failures writer.new ≡ W.failures writer.old + 1 }
-    ensures write_cause_alone { IsErrOf result ToolFault.WriteFault
-        → R.failures reader.new ≡ R.failures reader.old }
-    ensures no_read_cause { IsErrOf result ToolFault.OutOfMemory
-        → R.failures reader.new ≡ R.failures reader.old }
-    ensures no_write_cause { IsErrOf result ToolFault.OutOfMemory
-        → W.failures writer.new ≡ W.failures writer.old }
+    ensures write_failures { W.failures writer.new ≡ W.failures writer.old + write_failures result }
     ensures calls { R.calls reader.new ≤ R.calls reader.old + 2 ^ 32 }
 {
     let Ok(entries) = source.read_entries(alloc) else {

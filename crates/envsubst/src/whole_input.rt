@@ -1,5 +1,6 @@
 //! Substitution of a whole input ("Invoking the envsubst program" of the GNU gettext manual).
 ghost use Rattle.std.specs.Prelude.{◌≡◌, ◌+◌, ◌^◌, ◌<◌, ◌≤◌, ◌⊎◌, ◌≢◌, ◌++◌, [], Some, length, false, IfOk, OnOk, OnErr, IsErrOf, Err};
+ghost use Rattle.envsubst.specs.Failures.{read_failures, write_failures};
 ghost use Rattle.envsubst.specs.Envsubst.{EndsAs, HasGoneOut, Substitutes, StopsAtEnd, StopsWithin};
 ghost use Rattle.envsubst.specs.Stream.{Advances, Stops};
 ghost use Rattle.envsubst.specs.SubstituterView.{values_of_substituter};
@@ -50,18 +51,10 @@ pub fn run_envsubst<R: ByteIn, W: ByteOut>(
         (R.remaining reader.old) (R.remaining reader.new) (W.contents writer.old) (W.contents writer.new)
         ⊎ StopsAtEnd (values_of_slices vars.now only.entry)
         (R.remaining reader.old) (W.contents writer.old) (W.contents writer.new) }
-    ensures no_read_failure { OnOk result (R.failures reader.new ≡ R.failures reader.old) }
-    ensures no_write_failure { OnOk result (W.failures writer.new ≡ W.failures writer.old) }
-    ensures read_cause { IsErrOf result ToolFault.ReadFault
-        → (R.failures reader.new ≡ R.failures reader.old + 1)
-        ⊎ ((R.failures reader.new ≡ R.failures reader.old)
+    ensures read_failures { (R.failures reader.new ≡ R.failures reader.old + read_failures result)
+        ⊎ (IsErrOf result ToolFault.ReadFault × (R.failures reader.new ≡ R.failures reader.old)
         × (R.calls reader.new ≡ R.calls reader.old + 2 ^ 32)) }
-    ensures read_cause_alone { IsErrOf result ToolFault.ReadFault
-        → W.failures writer.new ≡ W.failures writer.old }
-    ensures write_cause { IsErrOf result ToolFault.WriteFault
-        → W.failures writer.new ≡ W.failures writer.old + 1 }
-    ensures write_cause_alone { IsErrOf result ToolFault.WriteFault
-        → R.failures reader.new ≡ R.failures reader.old }
+    ensures write_failures { W.failures writer.new ≡ W.failures writer.old + write_failures result }
     ensures no_memory { result ≢ Err ToolFault.OutOfMemory }
     ensures calls { R.calls reader.new ≤ R.calls reader.old + 2 ^ 32 }
 {
@@ -95,22 +88,10 @@ pub fn run_envsubst_in_blocks<R: ByteIn, W: ByteOut>(
     // on; or after another fault a prefix.
     ensures output { EndsAs (values_of_slices vars.now only.entry) (R.remaining reader.old) (R.remaining reader.new)
         (W.contents writer.old) (W.contents writer.new) result }
-    ensures no_read_failure { OnOk result (R.failures reader.new ≡ R.failures reader.old) }
-    ensures no_write_failure { OnOk result (W.failures writer.new ≡ W.failures writer.old) }
-    ensures read_cause { IsErrOf result ToolFault.ReadFault
-        → (R.failures reader.new ≡ R.failures reader.old + 1)
-        ⊎ ((R.failures reader.new ≡ R.failures reader.old)
+    ensures read_failures { (R.failures reader.new ≡ R.failures reader.old + read_failures result)
+        ⊎ (IsErrOf result ToolFault.ReadFault × (R.failures reader.new ≡ R.failures reader.old)
         × (R.calls reader.new ≡ R.calls reader.old + 2 ^ 32)) }
-    ensures read_cause_alone { IsErrOf result ToolFault.ReadFault
-        → W.failures writer.new ≡ W.failures writer.old }
-    ensures write_cause { IsErrOf result ToolFault.WriteFault
-        → W.failures writer.new ≡ W.failures writer.old + 1 }
-    ensures write_cause_alone { IsErrOf result ToolFault.WriteFault
-        → R.failures reader.new ≡ R.failures reader.old }
-    ensures no_read_cause { IsErrOf result ToolFault.OutOfMemory
-        → R.failures reader.new ≡ R.failures reader.old }
-    ensures no_write_cause { IsErrOf result ToolFault.OutOfMemory
-        → W.failures writer.new ≡ W.failures writer.old }
+    ensures write_failures { W.failures writer.new ≡ W.failures writer.old + write_failures result }
     ensures calls { R.calls reader.new ≤ R.calls reader.old + 2 ^ 32 }
 {
     let Ok(vars) = sorted_variables(alloc, vars) else {
@@ -147,22 +128,10 @@ fn substitute_in_blocks<R: ByteIn, W: ByteOut>(
     requires write_failures { W.failures writer.old < 2 ^ 63 }
     ensures output { EndsAs (values_of_slices vars.now only.entry) (R.remaining reader.old) (R.remaining reader.new)
         (W.contents writer.old) (W.contents writer.new) result }
-    ensures no_read_failure { OnOk result (R.failures reader.new ≡ R.failures reader.old) }
-    ensures no_write_failure { OnOk result (W.failures writer.new ≡ W.failures writer.old) }
-    ensures read_cause { IsErrOf result ToolFault.ReadFault
-        → (R.failures reader.new ≡ R.failures reader.old + 1)
-        ⊎ ((R.failures reader.new ≡ R.failures reader.old)
+    ensures read_failures { (R.failures reader.new ≡ R.failures reader.old + read_failures result)
+        ⊎ (IsErrOf result ToolFault.ReadFault × (R.failures reader.new ≡ R.failures reader.old)
         × (R.calls reader.new ≡ R.calls reader.old + 2 ^ 32)) }
-    ensures read_cause_alone { IsErrOf result ToolFault.ReadFault
-        → W.failures writer.new ≡ W.failures writer.old }
-    ensures write_cause { IsErrOf result ToolFault.WriteFault
-        → W.failures writer.new ≡ W.failures writer.old + 1 }
-    ensures write_cause_alone { IsErrOf result ToolFault.WriteFault
-        → R.failures reader.new ≡ R.failures reader.old }
-    ensures no_read_cause { IsErrOf result ToolFault.OutOfMemory
-        → R.failures reader.new ≡ R.failures reader.old }
-    ensures no_write_cause { IsErrOf result ToolFault.OutOfMemory
-        → W.failures writer.new ≡ W.failures writer.old }
+    ensures write_failures { W.failures writer.new ≡ W.failures writer.old + write_failures result }
     ensures calls { R.calls reader.new ≤ R.calls reader.old + 2 ^ 32 }
 {
     let part_len = part_len(vars);
@@ -214,9 +183,7 @@ fn feed_in_blocks<W: ByteOut>(
     ensures sound { OnOk result (substituter.new.has_failed ≡ false) }
     ensures vars { substituter.new.vars ≡ substituter.old.vars }
     ensures only { substituter.new.only ≡ substituter.old.only }
-    ensures no_failure { OnOk result (W.failures writer.new ≡ W.failures writer.old) }
-    ensures cause { IsErrOf result ToolFault.WriteFault → W.failures writer.new ≡ W.failures writer.old + 1 }
-    ensures no_cause { IsErrOf result ToolFault.OutOfMemory → W.failures writer.new ≡ W.failures writer.old }
+    ensures failures { W.failures writer.new ≡ W.failures writer.old + write_failures result }
     ensures no_read_fault { result ≢ Err ToolFault.ReadFault }
     ensures few { length substituter.new.held ≤ 257 }
 {

@@ -42,7 +42,7 @@ loop-preserved g c = record {
   few = c.in_ok-block-in-Ok.ensures.few;
   calls = omega (arith, c.in-Ok.ensures.counts);
   no_read_failure = omega (arith, c.in-Ok.ensures.fails);
-  no_write_failure = c.in_ok-block-in-Ok.ensures.no_failure ∙ c.loop.invariant.no_write_failure;
+  no_write_failure = omega (arith, c.in_ok-block-in-Ok.ensures.failures, c.loop.invariant.no_write_failure);
 }
 
 pub returns-clause-output : goal.returns-clause-output

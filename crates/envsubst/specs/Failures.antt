@@ -1,0 +1,14 @@
+-- How often a run's reader and its writer failed, by the result of the run (this project's own).
+use Rattle.std.specs.Prelude.{ℕ, Result, Err}
+use Rattle.devices.specs.declared.fault.ToolFault.{ToolFault}
+use Rattle.devices.specs.declared.fault.ToolFault.TheVariants.{ReadFault, WriteFault}
+
+-- one failure of the reader where the run ends with a read fault, and none where it doesn't
+abbrev pub read_failures : {T : Type 0} → Result T ToolFault → ℕ
+read_failures (Err ReadFault) = 1
+read_failures result = 0
+
+-- one failure of the writer where the run ends with a write fault, and none where it doesn't
+abbrev pub write_failures : {T : Type 0} → Result T ToolFault → ℕ
+write_failures (Err WriteFault) = 1
+write_failures result = 0
