@@ -108,10 +108,10 @@ one_prefix t u own rest other after spelt longest spelt' longest' h =
           record { same_token = sym s.same_token; same_rest = sym s.same_rest }
     ]
 
--- the tokens of a text after those read
-pub record Split (read : List Token) (rest : List ℕ) (ts : List Token) : Type 0 where
+-- the tokens of a text after the first
+pub record Split (t : Token) (rest : List ℕ) (ts : List Token) : Type 0 where
   pub later : List Token
-  pub is : ts ≡ read ++ later
+  pub is : ts ≡ t ∷ later
   pub lexes : Lexes rest later
 
 blank-first : (t : Token) (own rest text : List ℕ) (c : ℕ) → IsSpelling t own → own ++ rest ≡ c ∷ text → is_blank c ≡ true → ⊥
@@ -119,15 +119,16 @@ blank-first t [] rest text c spelt e b = false≢true (sym (spelling-not_blank t
 blank-first t (x ∷ own) rest text c spelt e b =
     let same : x ≡ c = cc in false≢true (sym (spelling-not_blank t (x ∷ own) spelt) ∙ ap is_blank same ∙ b)
 
-pub no-spelling_of-nothing : (t : Token) (own rest : List ℕ) → IsSpelling t own → own ++ rest ≡ [] → ⊥
+no-spelling_of-nothing : (t : Token) (own rest : List ℕ) → IsSpelling t own → own ++ rest ≡ [] → ⊥
 no-spelling_of-nothing t [] rest spelt e = false≢true (sym (spelling-not_blank t [] spelt))
 no-spelling_of-nothing t (x ∷ own) rest spelt e = cc
 
 -- a text that begins with a longest token spells it first
-after : (t : Token) (own rest text : List ℕ) (ts : List Token) → IsSpelling t own → IsLongest own rest → text ≡ own ++ rest → Lexes text ts → Split (t ∷ []) rest ts
-after t own rest text ts spelt longest e end = absurd (no-spelling_of-nothing t own rest spelt (sym e))
-after t own rest text ts spelt longest e (blank {c} {text = text'} b d) = absurd (blank-first t own rest text' c spelt (sym e) b)
-after t own rest text ts spelt longest e (token {rest = rest'} {ts = ts'} u other spelt' longest' d) =
+pub Lexes-token : (t : Token) (own rest text : List ℕ) (ts : List Token) → IsSpelling t own → IsLongest own rest → text ≡ own ++ rest → Lexes text ts → Split t rest ts
+Lexes-token t own rest text ts spelt longest e end = absurd (no-spelling_of-nothing t own rest spelt (sym e))
+Lexes-token t own rest text ts spelt longest e (blank {c} {text = text'} b d) =
+    absurd (blank-first t own rest text' c spelt (sym e) b)
+Lexes-token t own rest text ts spelt longest e (token {rest = rest'} {ts = ts'} u other spelt' longest' d) =
     let same = one_prefix t u own rest other rest' spelt longest spelt' longest' (sym e) in
     record {
       later = ts';
@@ -135,30 +136,21 @@ after t own rest text ts spelt longest e (token {rest = rest'} {ts = ts'} u othe
       lexes = subst (λ r. Lexes r ts') (sym same.same_rest) d;
     }
 
-pub Lexes-token : (t : Token) (own rest : List ℕ) (ts : List Token) → IsSpelling t own → IsLongest own rest → Lexes (own ++ rest) ts → Split (t ∷ []) rest ts
-Lexes-token t own rest ts spelt longest d = after t own rest (own ++ rest) ts spelt longest refl d
-
-after-blank : (c : ℕ) (text whole : List ℕ) (ts : List Token) → is_blank c ≡ true → whole ≡ c ∷ text → Lexes whole ts → Lexes text ts
-after-blank c text whole ts b e end = absurd cc
-after-blank c text whole ts b e (blank {text = text'} {ts = ts'} b' d) =
+pub Lexes-blank : (c : ℕ) (text whole : List ℕ) (ts : List Token) → is_blank c ≡ true → whole ≡ c ∷ text → Lexes whole ts → Lexes text ts
+Lexes-blank c text whole ts b e end = absurd cc
+Lexes-blank c text whole ts b e (blank {text = text'} {ts = ts'} b' d) =
     let same : text' ≡ text = cc in subst (λ r. Lexes r ts') same d
-after-blank c text whole ts b e (token {rest} u own spelt longest d) = absurd (blank-first u own rest text c spelt e b)
+Lexes-blank c text whole ts b e (token {rest} u own spelt longest d) = absurd (blank-first u own rest text c spelt e b)
 
-pub Lexes-blank : (c : ℕ) (text : List ℕ) (ts : List Token) → is_blank c ≡ true → Lexes (c ∷ text) ts → Lexes text ts
-Lexes-blank c text ts b d = after-blank c text (c ∷ text) ts b refl d
-
-nothing : (text : List ℕ) (ts : List Token) → text ≡ [] → Lexes text ts → ts ≡ []
-nothing text ts e end = refl
-nothing text ts e (blank b d) = absurd cc
-nothing text ts e (token {rest} u own spelt longest d) = absurd (no-spelling_of-nothing u own rest spelt e)
-
-pub Lexes-nothing : (ts : List Token) → Lexes [] ts → ts ≡ []
-Lexes-nothing ts d = nothing [] ts refl d
+pub Lexes-nothing : (text : List ℕ) (ts : List Token) → text ≡ [] → Lexes text ts → ts ≡ []
+Lexes-nothing text ts e end = refl
+Lexes-nothing text ts e (blank b d) = absurd cc
+Lexes-nothing text ts e (token {rest} u own spelt longest d) = absurd (no-spelling_of-nothing u own rest spelt e)
 
 -- a text spells at most one list of tokens
 pub one_list : {text : List ℕ} {ts : List Token} → Lexes text ts → (us : List Token) → Lexes text us → ts ≡ us
-one_list end us d = sym (Lexes-nothing us d)
-one_list (blank {c} {text} b d) us e = one_list d us (Lexes-blank c text us b e)
+one_list end us d = sym (Lexes-nothing [] us refl d)
+one_list (blank {c} {text} b d) us e = one_list d us (Lexes-blank c text (c ∷ text) us b refl e)
 one_list (token {rest} {ts} t own spelt longest d) us e =
-    let b = Lexes-token t own rest us spelt longest e in
+    let b = Lexes-token t own rest (own ++ rest) us spelt longest refl e in
     ap (λ xs. t ∷ xs) (one_list d b.later b.lexes) ∙ sym b.is

@@ -1,5 +1,5 @@
 -- The parser between two tokens of a text.
-use Rattle.std.proofs.Common.{◌≡◌, ◌≢◌, ℕ, suc, ◌+◌, ◌^◌, ◌<◌, ◌≤◌, Bool, true, false, nat_lt, MatchBool, inl, inr, List, [], ◌∷◌, ◌++◌, length, take, drop, Option, Some, None, option_and_then, refl, sym, ap, ◌∙◌, arith, subst, append_assoc, append-nil, take-append-drop}
+use Rattle.std.proofs.Common.{◌≡◌, ◌≢◌, ℕ, suc, ◌+◌, ◌^◌, ◌<◌, ◌≤◌, Bool, true, false, nat_lt, MatchBool, inl, inr, List, [], ◌∷◌, length, take, drop, Option, Some, None, option_and_then, refl, sym, ap, ◌∙◌, arith, subst, take-append-drop}
 use Rattle.std.specs.List.{prefix_len}
 use Rattle.std.specs.Str.Parse.{digits_value}
 use Rattle.std.proofs.lemmas.Int.Digits.{digits_value-lt}
@@ -11,119 +11,83 @@ use Rattle.std.proofs.lemmas.Bool.Decides.{nat_tests}
 use Rattle.plural_rule.specs.declared.token.Token.{Token}
 use Rattle.plural_rule.specs.declared.token.Token.TheVariants.{Number as NumberToken, Binary as BinaryToken}
 use Rattle.plural_rule.specs.Expression.{Tree}
-use Rattle.plural_rule.specs.Tokens.{is_blank, operator_bytes, IsSpelling, IsLongest, Lexes, end, blank, token}
-use Rattle.plural_rule.specs.Grammar.{Spelt, Spells}
+use Rattle.plural_rule.specs.Tokens.{is_blank, operator_bytes, Lexes, end, blank, token}
+use Rattle.plural_rule.specs.Grammar.{Spelt}
 use Rattle.plural_rule.specs.Header.{without_blanks}
 use Rattle.plural_rule.specs.Internal.Scanner.{IsTokenAt, IsTooLarge, HasNoToken}
-use Rattle.plural_rule.specs.Internal.ShiftReduce.{State, Want, Have, step, run, finish, outcome}
+use Rattle.plural_rule.specs.Internal.ShiftReduce.{State, Want, Have, step, finish, outcome_from}
 use Rattle.plural_rule.specs.Internal.ParserState.{Held, Represents, Answers, HoldsTree, HoldsExpression, most_added}
 use Rattle.plural_rule.specs.declared.instruction.Instruction.{Instruction}
 use Rattle.plural_rule.proofs.Complete.{complete}
 use Rattle.plural_rule.proofs.Sound.{sound}
-use Rattle.plural_rule.proofs.Lexing.{first_byte, Split, Lexes-token, Lexes-blank, Lexes-nothing}
+use Rattle.plural_rule.proofs.Lexing.{first_byte, Lexes-token, Lexes-blank, Lexes-nothing}
 
 -- blanks at the beginning change nothing
-without_blanks-blank : (c : ℕ) (text : List ℕ) → is_blank c ≡ true → without_blanks (c ∷ text) ≡ without_blanks text
-without_blanks-blank c text b =
-    let n = prefix_len is_blank text in
-    let one : 1 + n ≡ suc n = omega arith in
-    rw b (ap (λ k. drop k (c ∷ text)) one)
+record Blanks (text rest : List ℕ) : Type 0 where
+  gives : (ts : List Token) → Lexes rest ts → Lexes text ts
+  only : (ts : List Token) → Lexes text ts → Lexes rest ts
+  begins : rest ≢ [] → is_blank (first_byte rest) ≡ false
 
-without_blanks-other : (c : ℕ) (text : List ℕ) → is_blank c ≡ false → without_blanks (c ∷ text) ≡ c ∷ text
-without_blanks-other c text b = rw b refl
-
-pub with-blanks : (text : List ℕ) (ts : List Token) → Lexes (without_blanks text) ts → Lexes text ts
-with-blanks [] ts d = d
-with-blanks (c ∷ text) ts d =
-    elim (cases_Bool (is_blank c)) [
-      | inl b ↦ blank b (with-blanks text ts (subst (λ x. Lexes x ts) (without_blanks-blank c text b) d))
-      | inr b ↦ subst (λ x. Lexes x ts) (without_blanks-other c text b) d
-    ]
-
-pub no-blanks : (text : List ℕ) (ts : List Token) → Lexes text ts → Lexes (without_blanks text) ts
-no-blanks [] ts d = d
-no-blanks (c ∷ text) ts d =
-    elim (cases_Bool (is_blank c)) [
-      | inl b ↦ subst (λ x. Lexes x ts) (sym (without_blanks-blank c text b)) (no-blanks text ts (Lexes-blank c text ts b d))
-      | inr b ↦ subst (λ x. Lexes x ts) (sym (without_blanks-other c text b)) d
-    ]
-
-abbrev BeginsWithNoBlank : List ℕ → Type 0
-BeginsWithNoBlank text = text ≢ [] → is_blank (first_byte text) ≡ false
-
-begins : (text : List ℕ) → BeginsWithNoBlank (without_blanks text)
-begins [] n = absurd (n refl)
-begins (c ∷ text) n =
+blanks : (text : List ℕ) → Blanks text (without_blanks text)
+blanks [] = record { gives = λ ts d. d; only = λ ts d. d; begins = λ n. absurd (n refl) }
+blanks (c ∷ text) =
     elim (cases_Bool (is_blank c)) [
       | inl b ↦
-          let e = without_blanks-blank c text b in
-          ap (λ x. is_blank (first_byte x)) e ∙ begins text (λ h. n (e ∙ h))
-      | inr b ↦ ap (λ x. is_blank (first_byte x)) (without_blanks-other c text b) ∙ b
+          let r = blanks text in
+          let n = prefix_len is_blank text in
+          let one : suc n ≡ 1 + n = omega arith in
+          rw b (subst (λ k. Blanks (c ∷ text) (drop k (c ∷ text))) one (record { gives = λ ts d. blank b (r.gives ts d); only = λ ts d. r.only ts (Lexes-blank c text (c ∷ text) ts b refl d); begins = r.begins }))
+      | inr b ↦ rw b (record { gives = λ ts d. d; only = λ ts d. d; begins = λ n. b })
     ]
 
-of-next : (xs ys : List Token) → ((s : State) → run s (xs ++ ys) ≡ option_and_then (λ next. run next ys) (run s xs)) → (next : Option State) → option_and_then (λ s. run s (xs ++ ys)) next ≡ option_and_then (λ s. run s ys) (option_and_then (λ s. run s xs) next)
-of-next xs ys go None = refl
-of-next xs ys go (Some s) = go s
-
-pub run-append : (xs ys : List Token) (state : State) → run state (xs ++ ys) ≡ option_and_then (λ next. run next ys) (run state xs)
-run-append [] ys state = refl
-run-append (x ∷ xs) ys state = of-next xs ys (λ s. run-append xs ys s) (step state x)
+-- a rest of the text spells a tree, after a state
+pub record Completes (next : Option State) (rest : List ℕ) (tree : Tree) : Type 0 where
+  pub ts : List Token
+  pub lexes : Lexes rest ts
+  pub is : option_and_then (λ state. outcome_from state ts) next ≡ Some tree
 
 -- the parser has read the text up to a rest
 pub record Reached (text rest : List ℕ) (parser : Held) (complete : Bool) : Type 0 where
   pub state : State
-  pub read : List Token
-  pub runs : run (Want []) read ≡ Some state
-  pub gives : (ts : List Token) → Lexes rest ts → Lexes text (read ++ ts)
-  pub only : (ts : List Token) → Lexes text ts → Split read rest ts
+  pub gives : (tree : Tree) → Completes (Some state) rest tree → Spelt tree text
+  pub only : (tree : Tree) → Spelt tree text → Completes (Some state) rest tree
   pub begins : rest ≢ [] → is_blank (first_byte rest) ≡ false
   pub represents : Represents parser complete state
 
 pub reached-start : (text : List ℕ) → Reached text (without_blanks text) (record { code = []; entries = []; start = 0 }) false
 reached-start text =
+    let b = blanks text in
     record {
       state = Want [];
-      read = [];
-      runs = refl;
-      gives = with-blanks text;
-      only = λ ts d. record { later = ts; is = refl; lexes = no-blanks text ts d };
-      begins = begins text;
+      gives = λ tree s. (s.ts, b.gives s.ts s.lexes, sound s.ts tree s.is);
+      only = λ tree (ts, lexes, spells). record { ts = ts; lexes = b.only ts lexes; is = complete ts tree spells };
+      begins = b.begins;
       represents = (refl, record { code_is = refl; entries_are = refl });
     }
 
--- the state after one more token
-record Next (next : Option State) (parser : Held) (complete : Bool) : Type 0 where
-  after : State
-  is : next ≡ Some after
-  represents : Represents parser complete after
+-- the first token of a rest, apart
+after-token : (state : State) (rest : List ℕ) (t : Token) (n : ℕ) (tree : Tree) → IsTokenAt rest t n → Completes (Some state) rest tree → Completes (step state t) (without_blanks (drop n rest)) tree
+after-token state rest t n tree at s =
+    let b = Lexes-token t (take n rest) (drop n rest) rest s.ts at.spelling at.longest (sym (take-append-drop n rest)) s.lexes in
+    record { ts = b.later; lexes = (blanks (drop n rest)).only b.later b.lexes; is = ap (outcome_from state) (sym b.is) ∙ s.is }
 
-next-some : (next : Option State) (parser : Held) (complete : Bool) → Answers next (Some complete) parser → Next next parser complete
-next-some None parser complete a = absurd cc
-next-some (Some s) parser complete a = record { after = s; is = refl; represents = a }
+before-token : (state : State) (rest : List ℕ) (t : Token) (n : ℕ) (tree : Tree) → IsTokenAt rest t n → Completes (step state t) (without_blanks (drop n rest)) tree → Completes (Some state) rest tree
+before-token state rest t n tree at s =
+    let lexes = token t (take n rest) at.spelling at.longest ((blanks (drop n rest)).gives s.ts s.lexes) in
+    record { ts = t ∷ s.ts; lexes = subst (λ x. Lexes x (t ∷ s.ts)) (take-append-drop n rest) lexes; is = s.is }
 
 pub reached-token : (text rest : List ℕ) (t : Token) (n : ℕ) (before after : Held) (complete complete' : Bool) → (r : Reached text rest before complete) → IsTokenAt rest t n → Answers (step r.state t) (Some complete') after → Reached text (without_blanks (drop n rest)) after complete'
-reached-token text rest t n before after complete complete' r at answers =
-    let next = next-some (step r.state t) after complete' answers in
-    let whole : take n rest ++ drop n rest ≡ rest = take-append-drop n rest in
-    record {
-      state = next.after;
-      read = r.read ++ t ∷ [];
-      runs = run-append r.read (t ∷ []) (Want []) ∙ ap (option_and_then (λ s. run s (t ∷ []))) r.runs ∙ ap (option_and_then (λ s. run s [])) next.is;
-      gives = λ ts d.
-          let own : Lexes rest (t ∷ ts) =
-          subst (λ x. Lexes x (t ∷ ts)) whole (token t (take n rest) at.spelling at.longest (with-blanks (drop n rest) ts d)) in
-          subst (Lexes text) (sym (append_assoc r.read (t ∷ []) ts)) (r.gives (t ∷ ts) own);
-      only = λ ts d.
-          let s = r.only ts d in
-          let b = Lexes-token t (take n rest) (drop n rest) s.later at.spelling at.longest (subst (λ x. Lexes x s.later) (sym whole) s.lexes) in
-          record {
-            later = b.later;
-            is = s.is ∙ ap (λ x. r.read ++ x) b.is ∙ sym (append_assoc r.read (t ∷ []) b.later);
-            lexes = no-blanks (drop n rest) b.later b.lexes;
-          };
-      begins = begins (drop n rest);
-      represents = next.represents;
-    }
+reached-token text rest t n before after complete complete' r at answers = next (step r.state t) refl answers where
+  next : (o : Option State) → step r.state t ≡ o → Answers o (Some complete') after → Reached text (without_blanks (drop n rest)) after complete'
+  next None is a = absurd cc
+  next (Some state) is a =
+      record {
+        state = state;
+        gives = λ tree s. r.gives tree (before-token r.state rest t n tree at (subst (λ o. Completes o (without_blanks (drop n rest)) tree) (sym is) s));
+        only = λ tree s. subst (λ o. Completes o (without_blanks (drop n rest)) tree) is (after-token r.state rest t n tree at (r.only tree s));
+        begins = (blanks (drop n rest)).begins;
+        represents = a;
+      }
 
 -- a token has as many bytes as it adds instructions
 pub most-added : (text : List ℕ) (t : Token) (n : ℕ) → IsTokenAt text t n → most_added t ≤ n
@@ -152,32 +116,6 @@ most-added text (BinaryToken op) n at =
       two _ long is some = some
 most-added text _ n at = at.some
 
--- the first token of a text
-record First (rest : List ℕ) (ts : List Token) : Type 0 where
-  prefix : Token
-  own : List ℕ
-  after : List ℕ
-  later : List Token
-  ts_is : ts ≡ prefix ∷ later
-  rest_is : rest ≡ own ++ after
-  spelling : IsSpelling prefix own
-  longest : IsLongest own after
-
-first : (rest text : List ℕ) (ts : List Token) → rest ≢ [] → is_blank (first_byte rest) ≡ false → text ≡ rest → Lexes text ts → First rest ts
-first rest text ts n b e end = absurd (n (sym e))
-first rest text ts n b e (blank {c} {text = text'} blank' d) =
-    absurd (false≢true (sym b ∙ ap (λ x. is_blank (first_byte x)) (sym e) ∙ blank'))
-first rest text ts n b e (token {rest = after} {ts = later} t own spelt longest d) =
-    record { prefix = t; own = own; after = after; later = later; ts_is = refl; rest_is = sym e; spelling = spelt; longest = longest }
-
--- a token that can't stand in a state
-refused : (read later : List Token) (t : Token) (state : State) (tree : Tree) → run (Want []) read ≡ Some state → step state t ≡ None → Spells 0 (read ++ t ∷ later) tree → ⊥
-refused read later t state tree runs none spells =
-    let stops : run (Want []) (read ++ t ∷ later) ≡ None =
-    run-append read (t ∷ later) (Want []) ∙ ap (option_and_then (λ s. run s (t ∷ later))) runs ∙ ap (option_and_then (λ s. run s later)) none in
-    let wrong : None ≡ Some tree = sym (ap (option_and_then finish) stops) ∙ complete (read ++ t ∷ later) tree spells in
-    cc
-
 too_large : (state : State) (t : Token) → IsTooLarge t → step state t ≡ None
 too_large (Want stack) (NumberToken v) h = let e : nat_lt v (2 ^ 64) ≡ false = grind (arith, nat_tests) in rw e refl
 too_large (Have stack t) (NumberToken v) h = refl
@@ -187,38 +125,26 @@ abbrev pub SpellsNothing : List ℕ → Type 0
 SpellsNothing text = (tree : Tree) → Spelt tree text → ⊥
 
 pub no-token : (text rest : List ℕ) (parser : Held) (complete : Bool) → Reached text rest parser complete → rest ≢ [] → HasNoToken rest → SpellsNothing text
-no-token text rest parser complete r n none tree (ts, lexes, spells) =
-    let s = r.only ts lexes in
-    let f = first rest rest s.later n (r.begins n) refl s.lexes in
-    let large = none f.prefix f.own f.after f.rest_is f.spelling f.longest in
-    refused r.read f.later f.prefix r.state tree r.runs (too_large r.state f.prefix large)
-    (subst (λ x. Spells 0 x tree) (s.is ∙ ap (λ x. r.read ++ x) f.ts_is) spells)
-
-stands-not : (next : Option State) (parser : Held) → Answers next None parser → next ≡ None
-stands-not None parser a = refl
-stands-not (Some s) parser a = absurd a
+no-token text rest parser complete r n none tree spelt = let s = r.only tree spelt in first rest s.ts refl s.lexes s.is where
+  first : (whole : List ℕ) (ts : List Token) → rest ≡ whole → Lexes whole ts → outcome_from r.state ts ≡ Some tree → ⊥
+  first whole ts e end is = n e
+  first whole ts e (blank {c} {text = text'} b d) is =
+      false≢true (sym (r.begins n) ∙ ap (λ x. is_blank (first_byte x)) e ∙ b)
+  first whole ts e (token {rest = after} {ts = later} t own spelt longest d) is =
+      let stops = too_large r.state t (none t own after e spelt longest) in
+      let wrong : None ≡ Some tree = sym (ap (option_and_then (λ next. outcome_from next later)) stops) ∙ is in cc
 
 pub no-index : (text rest : List ℕ) (t : Token) (n : ℕ) (before after : Held) (complete : Bool) → (r : Reached text rest before complete) → IsTokenAt rest t n → Answers (step r.state t) None after → SpellsNothing text
-no-index text rest t n before after complete r at answers tree (ts, lexes, spells) =
-    let s = r.only ts lexes in
-    let whole : take n rest ++ drop n rest ≡ rest = take-append-drop n rest in
-    let b = Lexes-token t (take n rest) (drop n rest) s.later at.spelling at.longest (subst (λ x. Lexes x s.later) (sym whole) s.lexes) in
-    refused r.read b.later t r.state tree r.runs (stands-not (step r.state t) after answers)
-    (subst (λ x. Spells 0 x tree) (s.is ∙ ap (λ x. r.read ++ x) b.is) spells)
+no-index text rest t n before after complete r at answers tree spelt =
+    refused (step r.state t) answers (after-token r.state rest t n tree at (r.only tree spelt)) where
+      refused : (o : Option State) → Answers o None after → Completes o (without_blanks (drop n rest)) tree → ⊥
+      refused None a s = let wrong : None ≡ Some tree = s.is in cc
+      refused (Some state) a s = absurd a
 
 -- at the end of the text
-pub reached-end : (text : List ℕ) (before : Held) (after : List Instruction) (complete whole : Bool) → (r : Reached text [] before complete) → MatchBool whole (HoldsTree (finish r.state) after) (finish r.state ≡ None) → MatchBool whole (HoldsExpression text after) (SpellsNothing text)
-reached-end text before after complete true r h =
-    let read : outcome r.read ≡ Some h.tree = ap (option_and_then finish) r.runs ∙ h.read_is in
-    record {
-      tree = h.tree;
-      spelt = (r.read, subst (Lexes text) (append-nil r.read) (r.gives [] end), sound r.read h.tree read);
-      code_is = h.code_is;
-    }
-reached-end text before after complete' false r h =
-    λ tree (ts, lexes, spells).
-    let s = r.only ts lexes in
-    let all : ts ≡ r.read = s.is ∙ ap (λ x. r.read ++ x) (Lexes-nothing s.later s.lexes) ∙ append-nil r.read in
-    let wrong : None ≡ Some tree =
-    sym (ap outcome all ∙ ap (option_and_then finish) r.runs ∙ h) ∙ complete ts tree spells in
-    cc
+pub reached-end : (text : List ℕ) (before : Held) (code : List Instruction) (complete whole : Bool) → (r : Reached text [] before complete) → MatchBool whole (HoldsTree (finish r.state) code) (finish r.state ≡ None) → MatchBool whole (HoldsExpression text code) (SpellsNothing text)
+reached-end text before code complete true r h =
+    record { tree = h.tree; spelt = r.gives h.tree (record { ts = []; lexes = end; is = h.read_is }); code_is = h.code_is }
+reached-end text before code complete' false r h = λ tree spelt.
+    let s = r.only tree spelt in
+    let wrong : None ≡ Some tree = sym h ∙ ap (outcome_from r.state) (sym (Lexes-nothing [] s.ts refl s.lexes)) ∙ s.is in cc

@@ -1,5 +1,5 @@
 -- The rule of a header, from the code that holds its tree.
-use Rattle.std.proofs.Common.{◌≡◌, ℕ, ◌≤◌, List, [], ◌∷◌, length, take, slice_set, refl, sym, ap, subst, ◌∙◌, arith}
+use Rattle.std.proofs.Common.{◌≡◌, ℕ, List, sym, ap, subst, ◌∙◌}
 use Rattle.plural_rule.specs.declared.instruction.Instruction.{Instruction}
 use Rattle.plural_rule.specs.declared.rule.Source.TheVariants.{Header, Default}
 use Rattle.plural_rule.specs.declared.rule.Reason.{Reason}
@@ -7,12 +7,6 @@ use Rattle.plural_rule.specs.Expression.{Tree}
 use Rattle.plural_rule.specs.PluralRule.{IsReadable, IsReason, IsRuleOf, default_tree}
 use Rattle.plural_rule.specs.Program.{program, tree_of, tree_of-program}
 use Rattle.plural_rule.specs.Internal.ParserState.{HoldsRule}
-
-pub first-three : (room : List Instruction) (x y z : Instruction) → 3 ≤ length room → take 3 (slice_set (slice_set (slice_set room 0 x) 1 y) 2 z) ≡ x ∷ y ∷ z ∷ []
-first-three [] x y z h = absurd (omega (arith, h))
-first-three (a ∷ []) x y z h = absurd (omega (arith, h))
-first-three (a ∷ b ∷ []) x y z h = absurd (omega (arith, h))
-first-three (a ∷ b ∷ c ∷ room) x y z h = refl
 
 pub tree_of_code : (code : List Instruction) (t : Tree) → code ≡ program 0 t → tree_of code ≡ t
 tree_of_code code t e = ap tree_of e ∙ tree_of-program t

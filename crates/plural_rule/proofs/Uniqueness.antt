@@ -10,7 +10,7 @@ use Rattle.plural_rule.specs.declared.rule.Reason.TheVariants.{NoNumber, NoExpre
 use Rattle.plural_rule.specs.Expression.{Tree, Count, Number, Not, Binary, Conditional, nodes, is_zero, needs_right, chosen, value, visited, visited_right}
 use Rattle.plural_rule.specs.Grammar.{Spelt}
 use Rattle.plural_rule.specs.Header.{nplurals_of, expression_of}
-use Rattle.plural_rule.specs.PluralRule.{RuleView, IsReadable, IsTooLong, IsUnreadable, IsReason, Gives, IsRuleOf, IsWithin, default_rule}
+use Rattle.plural_rule.specs.PluralRule.{RuleView, IsReadable, IsTooLong, IsReason, Gives, IsRuleOf, IsWithin, default_rule}
 use Rattle.plural_rule.proofs.Complete.{complete}
 use Rattle.plural_rule.proofs.Lexing.{one_list}
 use Rattle.plural_rule.specs.Internal.ShiftReduce.{outcome}
@@ -40,15 +40,16 @@ visited_le_nodes (Binary op a b) n =
 visited_le_nodes (Conditional a b c) n =
     omega (arith, visited_le_nodes a n, visited_le_nodes b n, visited_le_nodes c n, chosen-le (value a n) (visited b n) (visited c n))
 
--- two texts that the header names are one
-same-text : (header text text' : List ℕ) → expression_of header ≡ Some text → expression_of header ≡ Some text' → text ≡ text'
-same-text header text text' e e' = cc
-
-same-nplurals : (header : List ℕ) (n n' : ℕ) → nplurals_of header ≡ Some n → nplurals_of header ≡ Some n' → n ≡ n'
-same-nplurals header n n' e e' = cc
+-- what a header names is one
+same : {A : Type 0} (o : Option A) (x y : A) → o ≡ Some x → o ≡ Some y → x ≡ y
+same o x y e e' = cc
 
 named : {A : Type 0} (o : Option A) (x : A) → o ≡ Some x → o ≡ None → ⊥
 named o x e e' = cc
+
+not-too_long : (limit : ℕ) (header text : List ℕ) → expression_of header ≡ Some text → length text ≤ limit → IsTooLong limit header → ⊥
+not-too_long limit header text e fits h =
+    let fits_not = h.text_fits_not in omega (arith, ap length (same _ text h.text e h.text_is))
 
 -- a rule that can be read has no reason for the default
 readable-no_reason : (limit : ℕ) (header : List ℕ) (nplurals : ℕ) (tree : Tree) (reason : Reason) → IsReadable limit header nplurals tree → IsReason limit header reason → ⊥
@@ -56,22 +57,10 @@ readable-no_reason limit header nplurals tree NoNumber r h = named _ _ r.nplural
 readable-no_reason limit header nplurals tree NoExpression r h = named _ _ r.text_is h.text_is
 readable-no_reason limit header nplurals tree Unreadable r h =
     elim h.wrong [
-      | inl large ↦ let e = same-nplurals header nplurals h.nplurals r.nplurals_is h.nplurals_is in let fits = r.nplurals_fits in omega arith
-      | inr nothing ↦ nothing tree (subst (Spelt tree) (same-text header r.text h.text r.text_is h.text_is) r.spelt)
+      | inl large ↦ let fits = r.nplurals_fits in omega (arith, same _ nplurals h.nplurals r.nplurals_is h.nplurals_is)
+      | inr nothing ↦ nothing tree (subst (Spelt tree) (same _ r.text h.text r.text_is h.text_is) r.spelt)
     ]
-readable-no_reason limit header nplurals tree TooLong r h =
-    let e = ap length (same-text header r.text h.text r.text_is h.text_is) in
-    let fits = r.text_fits in
-    let fits_not = h.text_fits_not in
-    omega arith
-
--- only one reason holds
-fits-not_too_long : (limit : ℕ) (header : List ℕ) → IsUnreadable limit header → IsTooLong limit header → ⊥
-fits-not_too_long limit header u h =
-    let e = ap length (same-text header u.text h.text u.text_is h.text_is) in
-    let fits = u.text_fits in
-    let fits_not = h.text_fits_not in
-    omega arith
+readable-no_reason limit header nplurals tree TooLong r h = not-too_long limit header r.text r.text_is r.text_fits h
 
 one_reason : (limit : ℕ) (header : List ℕ) (a b : Reason) → IsReason limit header a → IsReason limit header b → a ≡ b
 one_reason limit header NoNumber NoNumber h k = refl
@@ -82,8 +71,8 @@ one_reason limit header NoNumber b h k = absurd (named _ _ k.nplurals_is h)
 one_reason limit header a NoNumber h k = absurd (named _ _ h.nplurals_is k)
 one_reason limit header NoExpression b h k = absurd (named _ _ k.text_is h.text_is)
 one_reason limit header a NoExpression h k = absurd (named _ _ h.text_is k.text_is)
-one_reason limit header Unreadable TooLong h k = absurd (fits-not_too_long limit header h k)
-one_reason limit header TooLong Unreadable h k = absurd (fits-not_too_long limit header k h)
+one_reason limit header Unreadable TooLong h k = absurd (not-too_long limit header h.text h.text_is h.text_fits k)
+one_reason limit header TooLong Unreadable h k = absurd (not-too_long limit header k.text k.text_is k.text_fits h)
 
 same-rule : (rule other : RuleView) → rule.source ≡ other.source → rule.nplurals ≡ other.nplurals → rule.tree ≡ other.tree → rule ≡ other
 same-rule rule other source nplurals tree =
@@ -93,8 +82,8 @@ same-rule rule other source nplurals tree =
 
 one_rule-by : (limit : ℕ) (header : List ℕ) (rule other : RuleView) (a b : Source) → rule.source ≡ a → other.source ≡ b → Gives limit header rule a → Gives limit header other b → rule ≡ other
 one_rule-by limit header rule other Header Header e e' h k =
-    let text = same-text header h.text k.text h.text_is k.text_is in
-    same-rule rule other (e ∙ sym e') (same-nplurals header rule.nplurals other.nplurals h.nplurals_is k.nplurals_is)
+    let text = same _ h.text k.text h.text_is k.text_is in
+    same-rule rule other (e ∙ sym e') (same _ rule.nplurals other.nplurals h.nplurals_is k.nplurals_is)
     (one_tree k.text rule.tree other.tree (subst (Spelt rule.tree) text h.spelt) k.spelt)
 one_rule-by limit header rule other Header (Default reason) e e' h k =
     absurd (readable-no_reason limit header rule.nplurals rule.tree reason h k.0)

@@ -85,10 +85,9 @@ fn evaluate_within<const N: usize>(instructions: &[Instruction], count: u64) -> 
 fn low_at(instructions: &[Instruction], index: usize) -> u32
     ensures { result ≡ low_of (drop index instructions.now) }
 {
-    if index < instructions.len() {
-        instructions[index].number
-    } else {
-        0
+    match instructions.get(index) {
+        Some(instruction) => instruction.number,
+        None => 0,
     }
 }
 
@@ -132,13 +131,8 @@ fn apply<const N: usize>(operator: Operator, right: u64, values: &mut Values<'_,
     ensures { (count low steps : ℕ) →
         act count (Binary operator) low (right ∷ values.old) steps ≡ next_of result values.new steps }
 {
-    let Some(left) = values.pop() else {
-        return None;
-    };
-    let Some(value) = operator.combined(left, right) else {
-        return None;
-    };
-    values.push(value);
+    let left = values.pop()?;
+    values.push(operator.combined(left, right)?);
     Some(0)
 }
 
@@ -176,22 +170,16 @@ fn act<const N: usize>(
             Some(1)
         }
         Action::Not => {
-            let Some(operand) = values.pop() else {
-                return None;
-            };
+            let operand = values.pop()?;
             values.push(truth(operand == 0));
             Some(0)
         }
         Action::Binary(operator) => {
-            let Some(right) = values.pop() else {
-                return None;
-            };
+            let right = values.pop()?;
             apply(operator, right, values)
         }
         Action::Branch(operator, skip) => {
-            let Some(left) = values.pop() else {
-                return None;
-            };
+            let left = values.pop()?;
             if operator.needs_right(left) {
                 values.push(left);
                 return Some(0);
@@ -200,9 +188,7 @@ fn act<const N: usize>(
             Some(skip)
         }
         Action::Choose(skip) => {
-            let Some(condition) = values.pop() else {
-                return None;
-            };
+            let condition = values.pop()?;
             Some(if condition == 0 { skip } else { 0 })
         }
         Action::Jump(skip) => Some(skip),

@@ -46,10 +46,7 @@ pub(crate) fn expression(header: &[u8]) -> Option<&[u8]>
     ensures { MatchOption result (expression_of header.now ≡ None)
         (λ text. expression_of header.now ≡ Some text.now) }
 {
-    match after_first(header, b"plural=") {
-        Some(rest) => Some(first_statement(rest)),
-        None => None,
-    }
+    Some(first_statement(after_first(header, b"plural=")?))
 }
 
 /// The text up to the first `;` or LF, or to the end.

@@ -55,21 +55,7 @@ impl Operator {
     pub(crate) fn code(self) -> u8
         ensures { result ≡ operator_code self }
     {
-        match self {
-            Operator::Or => 0,
-            Operator::And => 1,
-            Operator::Equal => 2,
-            Operator::NotEqual => 3,
-            Operator::Less => 4,
-            Operator::Greater => 5,
-            Operator::AtMost => 6,
-            Operator::AtLeast => 7,
-            Operator::Add => 8,
-            Operator::Subtract => 9,
-            Operator::Multiply => 10,
-            Operator::Divide => 11,
-            Operator::Remainder => 12,
-        }
+        self as u8
     }
 
     /// The operator for which a number stands; any number above 11 stands for `%`.
@@ -97,10 +83,7 @@ impl Operator {
     pub(crate) fn is_lazy(self) -> bool
         ensures { result ≡ is_lazy self }
     {
-        match self {
-            Operator::Or | Operator::And => true,
-            _ => false,
-        }
+        matches!(self, Operator::Or | Operator::And)
     }
 
     /// Whether the second operand is evaluated, where the value of the first is `left`.

@@ -8,7 +8,7 @@ ghost use Rattle.plural_rule.specs.Internal.ParserState.{HoldsRule};
 use crate::evaluator::evaluate;
 use crate::instruction::Instruction;
 use crate::operator::Operator;
-use crate::parts::Room;
+use crate::parts::{Room, begin, push, push_numeral};
 use crate::{header, lexer, parser};
 use arrayvec::ArrayVec;
 use std::marker::Model;
@@ -204,14 +204,9 @@ fn read(header: &[u8], room: &mut Room, len: &mut usize) -> Result<u64, Reason>
 fn write_default(room: &mut Room)
     ensures { take 3 room.new ≡ program_of 0 default_tree }
 {
-    room[0] = Instruction {
-        count: 2,
-        ..Instruction::COUNT
-    };
-    room[1] = Instruction {
-        kind: 1,
-        number: 1,
-        ..Instruction::COUNT
-    };
-    room[2] = Instruction::binary(Operator::NotEqual);
+    let mut len = 0;
+    push(room, &mut len, Instruction::COUNT);
+    push_numeral(room, &mut len, 1);
+    push(room, &mut len, Instruction::binary(Operator::NotEqual));
+    begin(room, len, 0);
 }

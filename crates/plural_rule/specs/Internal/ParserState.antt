@@ -102,15 +102,13 @@ completed_program NotPending start code = begun start code ++ not_instruction �
 completed_program (BinaryPending op first) start code =
     (if is_lazy op then skipping (start - 1) (length code - start + 1) code else code) ++ binary_instruction op ∷ []
 completed_program (ColonPending first) start code = skipping (start - 1) (length code - start) code
-completed_program OpenPending start code = code
-completed_program (QuestionPending first) start code = code
+completed_program _ start code = code
 
 abbrev pub first_of : Pending → ℕ → ℕ
-first_of NotPending start = start
-first_of OpenPending start = start
 first_of (BinaryPending op first) start = first
 first_of (QuestionPending first) start = first
 first_of (ColonPending first) start = first
+first_of _ start = start
 
 -- how many instructions a token adds at most
 abbrev pub most_added : Token → ℕ

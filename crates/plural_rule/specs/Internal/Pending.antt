@@ -20,19 +20,17 @@ pending_of code = pending_by (code / 4096) (code % 4096)
 
 -- the same with an index below 4,096
 abbrev pub within : Pending → Pending
-within NotPending = NotPending
-within OpenPending = OpenPending
 within (BinaryPending op first) = BinaryPending op (first % 4096)
 within (QuestionPending first) = QuestionPending (first % 4096)
 within (ColonPending first) = ColonPending (first % 4096)
+within entry = entry
 
 -- the operand completes what waits, where an operator of this level follows it
 abbrev pub binds : ℕ → Pending → Bool
 binds k NotPending = true
-binds k OpenPending = false
 binds k (BinaryPending op first) = nat_le k (level op)
-binds k (QuestionPending first) = false
 binds k (ColonPending first) = k == 0
+binds k _ = false
 
 -- how many instructions are added for what waits once it is complete
 abbrev pub weight_of : Pending → ℕ

@@ -30,10 +30,9 @@ pub data State : Type 0 where
 -- the tree that a last operand completes, where an operator of this level follows it
 abbrev pub completed : ℕ → Waiting → Tree → Option Tree
 completed k WaitNot t = Some (Not t)
-completed k WaitOpen t = None
 completed k (WaitBinary op a) t = if nat_le k (level op) then Some (Binary op a t) else None
-completed k (WaitQuestion a) t = None
 completed k (WaitColon a b) t = if k == 0 then Some (Conditional a b t) else None
+completed k _ t = None
 
 -- one step of `reduce`: where the operand completes nothing, it stays, and so does what waits
 abbrev pub reduce_by : (Tree → Operand) → Waiting → List Waiting → Tree → Option Tree → Operand
@@ -48,14 +47,12 @@ reduce k (w ∷ stack) t = reduce_by (reduce k stack) w stack t (completed k w t
 
 -- what `:` and `)` do after an operand
 abbrev pub at_colon : List Waiting → Tree → Option State
-at_colon [] b = None
 at_colon (WaitQuestion a ∷ stack) b = Some (Want (WaitColon a b ∷ stack))
-at_colon (_ ∷ stack) b = None
+at_colon _ b = None
 
 abbrev pub at_close : List Waiting → Tree → Option State
-at_close [] a = None
 at_close (WaitOpen ∷ stack) a = Some (Have stack a)
-at_close (_ ∷ stack) a = None
+at_close _ a = None
 
 -- the state after a token, or none where it can't stand here
 abbrev pub want_step : List Waiting → Token → Option State
@@ -77,11 +74,6 @@ abbrev pub step : State → Token → Option State
 step (Want stack) token = want_step stack token
 step (Have stack t) token = have_step stack t token
 
--- the state after tokens
-abbrev pub run : State → List Token → Option State
-run state [] = Some state
-run state (token ∷ ts) = option_and_then (λ next. run next ts) (step state token)
-
 -- the tree of a state at the end of the tokens
 abbrev pub alone : List Waiting → Tree → Option Tree
 alone [] t = Some t
@@ -91,6 +83,11 @@ abbrev pub finish : State → Option Tree
 finish (Want stack) = None
 finish (Have stack t) = let o = reduce 0 stack t in alone o.stack o.tree
 
+-- the tree that the tokens after a state complete
+abbrev pub outcome_from : State → List Token → Option Tree
+outcome_from state [] = finish state
+outcome_from state (token ∷ ts) = option_and_then (λ next. outcome_from next ts) (step state token)
+
 -- the tree that tokens spell
 abbrev pub outcome : List Token → Option Tree
-outcome ts = option_and_then finish (run (Want []) ts)
+outcome ts = outcome_from (Want []) ts

@@ -2,7 +2,7 @@ use Rattle.std.proofs.Common.{drop}
 use Rattle.plural_rule.specs.Program.{low_of}
 use Rattle.plural_rule.proofs.evaluator.act.Goals as goal
 
-pub returns-in-Some-pop-clause-next : goal.returns-in-Some-pop-clause-next
-returns-in-Some-pop-clause-next g c =
-    rw (c.in-Binary.is, c.in-Some-pop.ensures)
+pub returns-in_ok-right-in-Binary-clause-next : goal.returns-in_ok-right-in-Binary-clause-next
+returns-in_ok-right-in-Binary-clause-next g c =
+    rw (c.in-Binary.is, c.in_ok-right-in-Binary.ensures)
     (c.apply.ensures c.args.count (low_of (drop c.args.next c.args.instructions.now)) c.args.steps.now)
