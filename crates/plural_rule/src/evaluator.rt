@@ -85,9 +85,10 @@ fn evaluate_within<const N: usize>(instructions: &[Instruction], count: u64) -> 
 fn low_at(instructions: &[Instruction], index: usize) -> u32
     ensures { result ≡ low_of (drop index instructions.now) }
 {
-    match instructions.get(index) {
-        Some(instruction) => instruction.number,
-        None => 0,
+    if index < instructions.len() {
+        instructions[index].number
+    } else {
+        0
     }
 }
 
