@@ -30,15 +30,18 @@ pub data CharsetStops : List TextEntry → ℕ → Type 0 where
   later : {entry : TextEntry} {entries : List TextEntry} {line : ℕ} → HasAdmittedCharset entry
       → CharsetStops entries line → CharsetStops (entry ∷ entries) line
 
--- The first fault of a text, with its line: a fault of the text or of one of its lines; the fault
--- of items that spell no entries; the first entry that can't have its texts; the first header whose
--- charset is not admitted.
+-- The first fault of items that don't read, with its line: that of items that spell no entries; the
+-- first entry that can't have its texts; the first header whose charset is not admitted.
+pub data ItemsStop (items : List TextItem) : PoFault → ℕ → Type 0 where
+  in_items : {fault : PoFault} {line : ℕ} → ItemsFault items fault line → ItemsStop items fault line
+  in_texts : {entries : List TextEntry} {fault : PoFault} {line : ℕ} → SpellsEntries items entries
+      → TextsStop entries fault line → ItemsStop items fault line
+  in_charset : {entries : List TextEntry} {line : ℕ} → SpellsEntries items entries → All HasTexts entries
+      → CharsetStops entries line → ItemsStop items ForeignCharset line
+
+-- The first fault of a text, with its line: a fault of the text or of one of its lines; or that of
+-- its items.
 pub data IsReadFault (text : List ℕ) : PoFault → ℕ → Type 0 where
   in_text : {fault : PoFault} {line : ℕ} → TextFault text fault line → IsReadFault text fault line
-  in_items : {items : List TextItem} {fault : PoFault} {line : ℕ} → SpellsText text items → ItemsFault items fault line
+  in_items : {items : List TextItem} {fault : PoFault} {line : ℕ} → SpellsText text items → ItemsStop items fault line
       → IsReadFault text fault line
-  in_texts : {items : List TextItem} {entries : List TextEntry} {fault : PoFault} {line : ℕ} → SpellsText text items
-      → SpellsEntries items entries → TextsStop entries fault line → IsReadFault text fault line
-  in_charset : {items : List TextItem} {entries : List TextEntry} {line : ℕ} → SpellsText text items
-      → SpellsEntries items entries → All HasTexts entries → CharsetStops entries line
-      → IsReadFault text ForeignCharset line

@@ -45,8 +45,8 @@ parted (x ∷ prefix) (y ∷ other) item next rest after e =
           ]
     ]
 
-once : {items others : List TextItem} {f g : PoFault} {m n : ℕ} → items ≡ others → ItemsFault items f m → ItemsFault others g n → (f ≡ g) × (m ≡ n)
-once {g = g} e (at {prefix = prefix} {item = item} rest viable never misfit) (at {prefix = other} {item = next} after possible nowhere wrong) =
+pub items_fault_once : {items others : List TextItem} {f g : PoFault} {m n : ℕ} → items ≡ others → ItemsFault items f m → ItemsFault others g n → (f ≡ g) × (m ≡ n)
+items_fault_once {g = g} e (at {prefix = prefix} {item = item} rest viable never misfit) (at {prefix = other} {item = next} after possible nowhere wrong) =
     elim (parted prefix other item next rest after e) [
       | inl both ↦ (misfit_once misfit (subst₂ (λ (l : List TextItem) (i : TextItem). Misfit l i g) (sym both.0) (sym both.1) wrong), ap line_of both.1)
       | inr one ↦
@@ -55,9 +55,6 @@ once {g = g} e (at {prefix = prefix} {item = item} rest viable never misfit) (at
             | inr longer ↦ absurd (nowhere (viable_up_to other next longer.0 (subst IsViable longer.1 viable)))
           ]
     ]
-once e (at {prefix = prefix} {item = item} rest viable never misfit) (at_end possible none) = absurd (never (viable_up_to prefix item rest (subst IsViable (sym e) possible)))
-once e (at_end viable none) (at {prefix = other} {item = next} after possible nowhere wrong) = absurd (nowhere (viable_up_to other next after (subst IsViable e viable)))
-once e (at_end viable none) (at_end possible nowhere) = (refl, ap last_line e)
-
-pub items_fault_once : {items : List TextItem} {f g : PoFault} {m n : ℕ} → ItemsFault items f m → ItemsFault items g n → (f ≡ g) × (m ≡ n)
-items_fault_once a b = once refl a b
+items_fault_once e (at {prefix = prefix} {item = item} rest viable never misfit) (at_end possible none) = absurd (never (viable_up_to prefix item rest (subst IsViable (sym e) possible)))
+items_fault_once e (at_end viable none) (at {prefix = other} {item = next} after possible nowhere wrong) = absurd (nowhere (viable_up_to other next after (subst IsViable e viable)))
+items_fault_once e (at_end viable none) (at_end possible nowhere) = (refl, ap last_line e)

@@ -24,6 +24,6 @@ texts_reported (fault.TextsStop.later readable stops) = texts_reported stops
 
 pub read_reported : ((text : List ℕ) (kind : PoFault) (line : ℕ) → TextFault text kind line → kind ≢ OutOfMemory) → (text : List ℕ) (kind : PoFault) (line : ℕ) → fault.IsReadFault text kind line → kind ≢ OutOfMemory
 read_reported text_reported text kind line (fault.in_text why) = text_reported text kind line why
-read_reported text_reported text kind line (fault.in_items spelt why) = items_reported why
-read_reported text_reported text kind line (fault.in_texts spelt reads stops) = texts_reported stops
-read_reported text_reported text kind line (fault.in_charset spelt reads readable stops) = λ same. cc
+read_reported text_reported text kind line (fault.IsReadFault.in_items spelt (fault.ItemsStop.in_items why)) = items_reported why
+read_reported text_reported text kind line (fault.IsReadFault.in_items spelt (fault.in_texts reads stops)) = texts_reported stops
+read_reported text_reported text kind line (fault.IsReadFault.in_items spelt (fault.in_charset reads readable stops)) = λ same. cc

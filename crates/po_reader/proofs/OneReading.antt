@@ -7,10 +7,9 @@ use Rattle.po_syntax.specs.TextItem.{TextItem, Comment, Word, Str}
 use Rattle.po_syntax.specs.PoText.{SpellsText, TextFault}
 use Rattle.po_entry.specs.TextEntry.{TextEntry}
 use Rattle.po_entry.specs.Header.{HasAdmittedCharset}
-use Rattle.po_reader.specs.Internal.Body as body
 use Rattle.po_reader.specs.Internal.Head as head
 use Rattle.po_reader.specs.Internal.Reads.{Reads, comments, entry}
-use Rattle.po_entry.specs.ReadsText.{ReadsText}
+use Rattle.po_entry.specs.ReadsText.{ReadsItems, ReadsText}
 use Rattle.po_entry.specs.Validity.{HasTexts}
 use Rattle.po_entry.specs.Spelling.{AreComments, SpellsEntries}
 use Rattle.po_entry.specs.EntryParts.{CommentText, PreviousText}
@@ -52,37 +51,32 @@ comments_go_on (stop.after_comment {above = above} {kind = kind} {text = text} {
 comments_go_on (stop.after_previous {above = above} {keyword = keyword} {marks = marks} {items = items} {text = text} e s h) zero only =
     (subst AreComments (previous_taken above items text keyword marks e).1 only).0
 
-pub reads_once : {items : List TextItem} {a b : List TextEntry} → Reads items a → Reads items b → a ≡ b
-reads_once (comments only) (comments also) = refl
-reads_once (comments only) (entry h own more) = absurd (starts_somewhere (body_starts own) (comments_end h only))
-reads_once (entry h own more) (comments only) = absurd (starts_somewhere (body_starts own) (comments_end h only))
-reads_once (entry {comment_texts = comment_texts} {previous = previous} {body = a} {entries = entries} h own more) (entry {own = here} {rest = after} {comment_texts = head_comments} {previous = texts} {body = b} {entries = again} k also others) =
-    let heads = head_once h k in
-    let bodies = body_once own (subst (λ (i : List TextItem). body.IsBody i b after) (sym heads.2) also) in
-    let later = reads_once more (subst (λ (i : List TextItem). Reads i again) (sym bodies.1) others) in
+reads_once : {items others : List TextItem} {a b : List TextEntry} → items ≡ others → Reads items a → Reads others b → a ≡ b
+reads_once i (comments only) (comments also) = refl
+reads_once i (comments only) (entry h own more) = absurd (starts_somewhere (body_starts own) (comments_end h (subst AreComments i only)))
+reads_once i (entry h own more) (comments only) = absurd (starts_somewhere (body_starts own) (comments_end h (subst AreComments (sym i) only)))
+reads_once i (entry h own more) (entry k also others) =
+    let heads = head_once refl i h k in
+    let bodies = body_once heads.2 own also in
+    let later = reads_once bodies.1 more others in
     let same_comments = heads.0 in
     let same_previous = heads.1 in
     let same_body = bodies.0 in
     cc
 
-pub reads_or_stop : {end line : ℕ} {kind : PoFault} {items : List TextItem} {a : List TextEntry} → Reads items a → stop.EntriesStop end items kind line → ⊥
-reads_or_stop (comments only) (stop.in_head s) = comments_go_on s refl only
-reads_or_stop (comments only) (stop.in_body h s) = starts_somewhere (stop_starts s) (comments_end h only)
-reads_or_stop (comments only) (stop.later h own s) = starts_somewhere (body_starts own) (comments_end h only)
-reads_or_stop (entry h own more) (stop.in_head s) = head_or_stop h s
-reads_or_stop {end} {line} {kind} (entry h own more) (stop.in_body k s) =
-    let heads = head_once h k in
-    body_or_stop own (subst (λ (i : List TextItem). stop.BodyStops end i kind line) (sym heads.2) s)
-reads_or_stop {end} {line} {kind} (entry h own more) (stop.later {rest = after} {body = b} k also s) =
-    let heads = head_once h k in
-    let bodies = body_once own (subst (λ (i : List TextItem). body.IsBody i b after) (sym heads.2) also) in
-    reads_or_stop more (subst (λ (i : List TextItem). stop.EntriesStop end i kind line) (sym bodies.1) s)
+reads_or_stop : {end line : ℕ} {kind : PoFault} {items others : List TextItem} {a : List TextEntry} → items ≡ others → Reads items a → stop.EntriesStop end others kind line → ⊥
+reads_or_stop i (comments only) (stop.in_head s) = comments_go_on s refl (subst AreComments i only)
+reads_or_stop i (comments only) (stop.in_body h s) = starts_somewhere (stop_starts s) (comments_end h (subst AreComments i only))
+reads_or_stop i (comments only) (stop.later h own s) = starts_somewhere (body_starts own) (comments_end h (subst AreComments i only))
+reads_or_stop i (entry h own more) (stop.in_head s) = head_or_stop refl i h s
+reads_or_stop i (entry h own more) (stop.in_body k s) = body_or_stop (head_once refl i h k).2 own s
+reads_or_stop i (entry h own more) (stop.later k also s) = reads_or_stop (body_once (head_once refl i h k).2 own also).1 more s
 
-pub spelt_once : {items : List TextItem} {a b : List TextEntry} → SpellsEntries items a → SpellsEntries items b → a ≡ b
-spelt_once h k = reads_once (spelt_reads h) (spelt_reads k)
+pub spelt_once : {items others : List TextItem} {a b : List TextEntry} → items ≡ others → SpellsEntries items a → SpellsEntries others b → a ≡ b
+spelt_once i h k = reads_once i (spelt_reads h) (spelt_reads k)
 
 pub spelt_or_stop : {end line : ℕ} {kind : PoFault} {items : List TextItem} {a : List TextEntry} → SpellsEntries items a → stop.EntriesStop end items kind line → ⊥
-spelt_or_stop h s = reads_or_stop (spelt_reads h) s
+spelt_or_stop h s = reads_or_stop refl (spelt_reads h) s
 
 pub texts_go_on : {kind : PoFault} {line : ℕ} {entries : List TextEntry} → fault.TextsStop entries kind line → All HasTexts entries → ⊥
 texts_go_on {kind} (fault.TextsStop.here {entry = read} {entries = entries} f l) h = no_texts_fault (All-head HasTexts read entries h) f
@@ -92,23 +86,17 @@ pub charsets_go_on : {line : ℕ} {entries : List TextEntry} → fault.CharsetSt
 charsets_go_on (fault.CharsetStops.here {entry = read} {entries = entries} f l) h = f (All-head HasAdmittedCharset read entries h)
 charsets_go_on (fault.CharsetStops.later {entry = read} {entries = entries} r s) h = charsets_go_on s (All-tail HasAdmittedCharset read entries h)
 
+-- items that read have no fault
+pub read_or_stopped : {items others : List TextItem} {a : List TextEntry} {kind : PoFault} {line : ℕ} → items ≡ others → ReadsItems items a → fault.ItemsStop others kind line → ⊥
+read_or_stopped {a = a} i h (fault.ItemsStop.in_items s) = fault_unread s (subst (λ (x : List TextItem). SpellsEntries x a) i h.reads)
+read_or_stopped i h (fault.ItemsStop.in_texts reads s) = texts_go_on s (subst (All HasTexts) (spelt_once i h.reads reads) h.texts)
+read_or_stopped i h (fault.ItemsStop.in_charset reads texts s) = charsets_go_on s (subst (All HasAdmittedCharset) (spelt_once i h.reads reads) h.charsets)
+
 pub text_once : ((text : List ℕ) (items others : List TextItem) → SpellsText text items → SpellsText text others → items ≡ others) → (text : List ℕ) (a b : List TextEntry) → ReadsText text a → ReadsText text b → a ≡ b
-text_once items_once text a b h k =
-    let same = items_once text h.items k.items h.spelt k.spelt in
-    spelt_once h.reads (subst (λ (i : List TextItem). SpellsEntries i b) (sym same) k.reads)
+text_once items_once text a b h k = spelt_once (items_once text h.items k.items h.spelt k.spelt) h.read.reads k.read.reads
 
 pub text_or_fault : ((text : List ℕ) (items others : List TextItem) → SpellsText text items → SpellsText text others → items ≡ others)
     → ((text : List ℕ) (items : List TextItem) (kind : PoFault) (line : ℕ) → SpellsText text items → TextFault text kind line → ⊥)
     → (text : List ℕ) (a : List TextEntry) (kind : PoFault) (line : ℕ) → ReadsText text a → fault.IsReadFault text kind line → ⊥
-text_or_fault items_once no_fault text a kind line h (fault.in_text f) = no_fault text h.items kind line h.spelt f
-text_or_fault items_once no_fault text a kind line h (fault.in_items {items = items} spelt s) =
-    let same = items_once text h.items items h.spelt spelt in
-    fault_unread s (subst (λ (i : List TextItem). SpellsEntries i a) same h.reads)
-text_or_fault items_once no_fault text a kind line h (fault.in_texts {items = items} {entries = entries} spelt reads s) =
-    let same = items_once text h.items items h.spelt spelt in
-    let entries_same = spelt_once (subst (λ (i : List TextItem). SpellsEntries i a) same h.reads) reads in
-    texts_go_on s (subst (All HasTexts) entries_same h.texts)
-text_or_fault items_once no_fault text a kind line h (fault.in_charset {items = items} {entries = entries} spelt reads readable s) =
-    let same = items_once text h.items items h.spelt spelt in
-    let entries_same = spelt_once (subst (λ (i : List TextItem). SpellsEntries i a) same h.reads) reads in
-    charsets_go_on s (subst (All HasAdmittedCharset) entries_same h.charsets)
+text_or_fault items_once no_fault text a kind line h (fault.IsReadFault.in_text f) = no_fault text h.items kind line h.spelt f
+text_or_fault items_once no_fault text a kind line h (fault.IsReadFault.in_items {items = items} spelt s) = read_or_stopped (items_once text h.items items h.spelt spelt) h.read s

@@ -1,6 +1,5 @@
 -- A text that is read in pieces.
 use Rattle.std.proofs.Common.{◌≡◌, ◌⊎◌, inl, inr, refl, sym, subst, ℕ, Bool, List, [], ◌∷◌, ◌++◌, append-nil}
-use Rattle.std.proofs.lemmas.List.Elements.{All-nil, All-append}
 use Rattle.po_syntax.specs.declared.fault.PoFault.{PoFault}
 use Rattle.po_syntax.specs.LinesLeft.{LeftStops, LinesLeft, SpellsLeft}
 use Rattle.po_syntax.specs.Piece.{EndsInString, IsNew, LeftAnew}
@@ -8,18 +7,13 @@ use Rattle.po_syntax.specs.PoText.{SpellsText, SpellsLines, LinesStop, TextFault
 use Rattle.po_syntax.specs.TextItem.{TextItem, Comment, Word, Str}
 use Rattle.po_syntax.specs.declared.item.Keyword.TheVariants.{MsgCtxt, MsgId, MsgIdPlural, MsgStr, MsgStrAt}
 use Rattle.po_entry.specs.TextEntry.{TextEntry}
-use Rattle.po_entry.specs.Header.{HasAdmittedCharset}
-use Rattle.po_entry.specs.Validity.{HasTexts}
 use Rattle.po_entry.specs.ReadsText.{ReadsText, ReadsLeft}
-use Rattle.po_entry.specs.Spelling.{SpellsEntries}
-use Rattle.po_entry.specs.Spelling as spelling
-use Rattle.po_entry.proofs.JoinedPieces.{entries_joined}
 use Rattle.po_reader.proofs.SpeltReads.{IsApart}
-use Rattle.po_reader.proofs.RestFaults.{items_stop_after, no_entries, nothing_stops}
+use Rattle.po_reader.proofs.RestFaults.{items_stop_after, reads_joined, reads_nothing, no_entries, nothing_stops}
 use Rattle.po_entry.specs.Faults.{IsReadFault}
 use Rattle.po_entry.specs.Faults as faults
-use Rattle.po_reader.specs.ItemsRead.{ReadsItems, ItemsStop}
-use Rattle.po_reader.specs.ItemsRead as stops
+use Rattle.po_entry.specs.ReadsText.{ReadsItems}
+use Rattle.po_entry.specs.Faults.{ItemsStop}
 use Rattle.po_reader.specs.PieceRead.{ReadsOn, FaultsStay, IsLeftFault}
 use Rattle.po_reader.specs.Internal.Keeping.{SpellsOn, KeepsReading, KeepsItems, StopsStay}
 use Rattle.po_reader.specs.PieceRead as piece
@@ -29,9 +23,7 @@ pub left_over : (left : LinesLeft) → left.lines ≡ [] → ReadsLeft left []
 left_over left none = record {
   items = [];
   spelt = subst (λ (lines : List (List ℕ)). SpellsLines left.number lines []) (sym none) refl;
-  reads = spelling.comments tt;
-  texts = All-nil HasTexts;
-  charsets = All-nil HasAdmittedCharset;
+  read = reads_nothing;
 }
 
 -- nothing is spelt where no line is left
@@ -44,37 +36,17 @@ pub piece_joined : (old new : LinesLeft) (items : List TextItem) (entries : List
 piece_joined old new items entries spelt (inr ends) read more left = record {
   items = items ++ left.items;
   spelt = spelt left.items left.spelt;
-  reads = entries_joined read.reads ends left.reads;
-  texts = All-append HasTexts entries more read.texts left.texts;
-  charsets = All-append HasAdmittedCharset entries more read.charsets left.charsets;
+  read = reads_joined read ends left.read;
 }
 piece_joined old new items entries spelt (inl none) read more left =
     let nothing : left.items ≡ [] = nothing_left new left.items none left.spelt in
-    let no_more : more ≡ [] = no_entries left.reads nothing in
+    let no_more : more ≡ [] = no_entries left.read.reads nothing in
     let all : items ++ left.items ≡ items = rw nothing (append-nil items) in
-    rw (no_more, append-nil) (record {
-      items = items;
-      spelt = subst (SpellsLeft old) all (spelt left.items left.spelt);
-      reads = read.reads;
-      texts = read.texts;
-      charsets = read.charsets;
-    })
+    rw (no_more, append-nil) (record { items = items; spelt = subst (SpellsLeft old) all (spelt left.items left.spelt); read = read })
 
 -- what all of the text reads as
 pub whole_left : (text : List ℕ) (left : LinesLeft) → ((items : List TextItem) → SpellsLeft left items → SpellsText text items) → (entries : List TextEntry) → ReadsLeft left entries → ReadsText text entries
-whole_left text left spelt entries read = record {
-  items = read.items;
-  spelt = spelt read.items read.spelt;
-  reads = read.reads;
-  texts = read.texts;
-  charsets = read.charsets;
-}
-
--- the fault of the items of a text is that of the text
-pub stop_fault : {text : List ℕ} {items : List TextItem} {fault : PoFault} {line : ℕ} → SpellsText text items → ItemsStop items fault line → IsReadFault text fault line
-stop_fault spelt (stops.in_items stopped) = faults.in_items spelt stopped
-stop_fault spelt (stops.in_texts reads stopped) = faults.in_texts spelt reads stopped
-stop_fault spelt (stops.in_charset reads texts stopped) = faults.in_charset spelt reads texts stopped
+whole_left text left spelt entries read = record { items = read.items; spelt = spelt read.items read.spelt; read = read.read }
 
 -- lines that begin anew spell items that begin with neither a string nor a plural form
 apart : (left : LinesLeft) (items : List TextItem) → LeftAnew left → SpellsLeft left items → IsApart items
@@ -113,5 +85,5 @@ items_kept all old new items kept spelt ends h = (h.0, h.2, piece_joined old new
 -- the fault of all of a text is that of the text
 pub fault_of_text : (text : List ℕ) (old : LinesLeft) → ((items : List TextItem) → SpellsLeft old items → SpellsText text items) → ((fault : PoFault) (line : ℕ) → LeftStops old fault line → TextFault text fault line)
     → (fault : PoFault) (line : ℕ) → IsLeftFault old fault line → IsReadFault text fault line
-fault_of_text text old spelt stops fault line (piece.in_lines stopped) = faults.in_text (stops fault line stopped)
-fault_of_text text old spelt stops fault line (piece.in_items {items = items} h stopped) = stop_fault (spelt items h) stopped
+fault_of_text text old spelt stops fault line (piece.in_lines stopped) = faults.IsReadFault.in_text (stops fault line stopped)
+fault_of_text text old spelt stops fault line (piece.in_items {items = items} h stopped) = faults.IsReadFault.in_items (spelt items h) stopped

@@ -19,15 +19,15 @@ use Rattle.po_reader.proofs.SpeltReads.{spelt_reads}
 use Rattle.po_reader.proofs.StopFaults.{items_fault}
 use Rattle.po_reader.proofs.Totality.{entries_end}
 use Rattle.po_entry.specs.Faults as faults
-use Rattle.po_reader.specs.ItemsRead.{ReadsItems, ItemsStop}
-use Rattle.po_reader.specs.ItemsRead as items
+use Rattle.po_entry.specs.ReadsText.{ReadsItems}
+use Rattle.po_entry.specs.Faults.{ItemsStop}
 use Rattle.po_reader.specs.Internal.Stops.{EntriesStop}
 use Rattle.po_reader.specs.Internal.Stops as stop
 use Rattle.po_entry.specs.Viable.{ItemsFault, last_line}
 use Rattle.po_reader.proofs.Cuts.{head_cut, body_cut}
 use Rattle.po_reader.proofs.SpeltReads.{IsApart, forms_end}
 use Rattle.po_reader.proofs.Looks.{body_starts, reads_look}
-use Rattle.po_reader.proofs.OneReading.{reads_or_stop, spelt_once, texts_go_on, charsets_go_on}
+use Rattle.po_reader.proofs.OneReading.{spelt_or_stop, spelt_once, read_or_stopped}
 
 -- where neither begins with a string or a form, both together don't
 apart_joined : (front rest : List TextItem) → IsApart front → IsApart rest → IsApart (front ++ rest)
@@ -64,7 +64,7 @@ last_after (first ∷ second ∷ front) item rest = last_after (second ∷ front
 
 entries_stop_after : (front rest : List TextItem) {entries : List TextEntry} {line : ℕ} {fault : PoFault} → Reads front entries → EndsInString front → IsApart rest → EntriesStop (last_line rest) rest fault line
     → EntriesStop (last_line (front ++ rest)) (front ++ rest) fault line
-entries_stop_after front [] read ends apart stops = absurd (reads_or_stop (comments tt) stops)
+entries_stop_after front [] read ends apart stops = absurd (spelt_or_stop (spelling.comments tt) stops)
 entries_stop_after front (item ∷ rest) {line = line} {fault = fault} read ends apart stops =
     subst (λ (end : ℕ). EntriesStop end (front ++ item ∷ rest) fault line) (sym (last_after front item rest)) (stop_after read ends apart stops)
 
@@ -84,29 +84,35 @@ fault_stops : {items : List TextItem} {fault : PoFault} {line : ℕ} → ItemsFa
 fault_stops {items} {fault} {line} wrong = elim (entries_end (last_line items) items) [
   | inl found ↦ absurd (fault_unread wrong (reads_spelt found.1))
   | inr found ↦
-      let same = items_fault_once (items_fault found.2) wrong in
+      let same = items_fault_once refl (items_fault found.2) wrong in
       subst₂ (λ (f : PoFault) (l : ℕ). EntriesStop (last_line items) items f l) same.0 same.1 found.2
 ]
 
 -- the fault of items that begin anew is that of them after items that read
 pub items_stop_after : (front rest : List TextItem) (entries : List TextEntry) {fault : PoFault} {line : ℕ} → ReadsItems front entries → EndsInString front → IsApart rest → ItemsStop rest fault line
     → ItemsStop (front ++ rest) fault line
-items_stop_after front rest entries read ends apart (items.in_items stops) =
-    items.in_items (items_fault (entries_stop_after front rest (spelt_reads read.reads) ends apart (fault_stops stops)))
-items_stop_after front rest entries read ends apart (items.in_texts reads stops) =
-    items.in_texts (entries_joined read.reads ends reads) (texts_stop_after entries read.texts stops)
-items_stop_after front rest entries read ends apart (items.in_charset {entries = others} reads texts stops) =
-    items.in_charset (entries_joined read.reads ends reads) (All-append HasTexts entries others read.texts texts) (charset_stops_after entries read.charsets stops)
+items_stop_after front rest entries read ends apart (ItemsStop.in_items stops) =
+    ItemsStop.in_items (items_fault (entries_stop_after front rest (spelt_reads read.reads) ends apart (fault_stops stops)))
+items_stop_after front rest entries read ends apart (ItemsStop.in_texts reads stops) =
+    ItemsStop.in_texts (entries_joined read.reads ends reads) (texts_stop_after entries read.texts stops)
+items_stop_after front rest entries read ends apart (ItemsStop.in_charset {entries = others} reads texts stops) =
+    ItemsStop.in_charset (entries_joined read.reads ends reads) (All-append HasTexts entries others read.texts texts) (charset_stops_after entries read.charsets stops)
+
+-- what stands after items that end in a string reads with them
+pub reads_joined : {front rest : List TextItem} {entries others : List TextEntry} → ReadsItems front entries → EndsInString front → ReadsItems rest others → ReadsItems (front ++ rest) (entries ++ others)
+reads_joined {entries = entries} {others = others} read ends more = record {
+  reads = entries_joined read.reads ends more.reads;
+  texts = All-append HasTexts entries others read.texts more.texts;
+  charsets = All-append HasAdmittedCharset entries others read.charsets more.charsets;
+}
 
 -- no items read as no entries
+pub reads_nothing : ReadsItems [] []
+reads_nothing = record { reads = spelling.comments tt; texts = All-nil HasTexts; charsets = All-nil HasAdmittedCharset }
+
 pub no_entries : {rest : List TextItem} {entries : List TextEntry} → SpellsEntries rest entries → rest ≡ [] → entries ≡ []
-no_entries {entries = entries} read none = spelt_once (subst (λ (x : List TextItem). SpellsEntries x entries) none read) (spelling.comments tt)
+no_entries read none = spelt_once none read (spelling.comments tt)
 
 -- no items have no fault
 pub nothing_stops : {fault : PoFault} {line : ℕ} (rest : List TextItem) → rest ≡ [] → ItemsStop rest fault line → ⊥
-nothing_stops rest none (items.in_items stops) =
-    fault_unread stops (subst (λ (x : List TextItem). SpellsEntries x []) (sym none) (spelling.comments tt))
-nothing_stops rest none (items.in_texts reads stops) =
-    texts_go_on stops (subst (All HasTexts) (sym (no_entries reads none)) (All-nil HasTexts))
-nothing_stops rest none (items.in_charset reads texts stops) =
-    charsets_go_on stops (subst (All HasAdmittedCharset) (sym (no_entries reads none)) (All-nil HasAdmittedCharset))
+nothing_stops rest none stops = read_or_stopped (sym none) reads_nothing stops

@@ -19,12 +19,12 @@ text_ends items_or_fault text = elim (items_or_fault text) [
   | inl spelt ↦ elim (entries_end (last_line spelt.0) spelt.0) [
     | inl read ↦ elim (texts_end read.0) [
       | inl readable ↦ elim (charsets_end read.0) [
-        | inl admitted ↦ inl (read.0, record { items = spelt.0; spelt = spelt.1; reads = reads_spelt read.1; texts = readable; charsets = admitted })
-        | inr found ↦ inr (ForeignCharset, found.0, fault.in_charset spelt.1 (reads_spelt read.1) readable found.1)
+        | inl admitted ↦ inl (read.0, record { items = spelt.0; spelt = spelt.1; read = record { reads = reads_spelt read.1; texts = readable; charsets = admitted } })
+        | inr found ↦ inr (ForeignCharset, found.0, fault.IsReadFault.in_items spelt.1 (fault.in_charset (reads_spelt read.1) readable found.1))
       ]
-      | inr found ↦ inr (found.0, found.1, fault.in_texts spelt.1 (reads_spelt read.1) found.2)
+      | inr found ↦ inr (found.0, found.1, fault.IsReadFault.in_items spelt.1 (fault.in_texts (reads_spelt read.1) found.2))
     ]
-    | inr found ↦ inr (found.0, found.1, fault.in_items spelt.1 (items_fault found.2))
+    | inr found ↦ inr (found.0, found.1, fault.IsReadFault.in_items spelt.1 (fault.ItemsStop.in_items (items_fault found.2)))
   ]
   | inr found ↦ inr (found.0, found.1, fault.in_text found.2)
 ]

@@ -12,6 +12,6 @@ use Rattle.po_reader.proofs.SoundCatalogue.{entries_sound, entry_valid}
 pub read_valid : ((text : List ℕ) (items : List TextItem) → SpellsText text items → All HoldsText items)
     → (text : List ℕ) (entries : List TextEntry) → ReadsText text entries → All IsCatalogueEntry entries
 read_valid hold text entries read =
-    let sound = entries_sound read.reads (hold text read.items read.spelt) in
+    let sound = entries_sound read.read.reads (hold text read.items read.spelt) in
     λ k d inside.
-    record { valid = entry_valid (get_or entries k d) (sound k d inside) (read.texts k d inside); charset = read.charsets k d inside }
+    record { valid = entry_valid (get_or entries k d) (sound k d inside) (read.read.texts k d inside); charset = read.read.charsets k d inside }

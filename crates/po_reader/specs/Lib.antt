@@ -1,4 +1,3 @@
 pub mod KeptComments
-pub mod ItemsRead
 pub mod PieceRead
 pub mod Internal

@@ -11,7 +11,7 @@ use Rattle.po_syntax.specs.TextItem.{TextItem}
 use Rattle.po_entry.specs.TextEntry.{TextEntry}
 use Rattle.po_entry.specs.ReadsText.{ReadsLeft}
 use Rattle.po_reader.specs.KeptComments.{without_comments}
-use Rattle.po_reader.specs.ItemsRead.{ItemsStop}
+use Rattle.po_entry.specs.Faults.{ItemsStop}
 
 -- the error is such a fault, or out of memory, without a line
 pub record IsFaultOf (Has : PoFault → ℕ → Type 0) (error : PoError) : Type 0 where

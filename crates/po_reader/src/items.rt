@@ -6,8 +6,7 @@ ghost use Rattle.po_syntax.specs.TextItem.{views};
 ghost use Rattle.po_entry.specs.EntryView.{entry_view};
 ghost use Rattle.po_entry.specs.Header.{HasAdmittedCharset};
 ghost use Rattle.po_entry.specs.Validity.{IsEntry, HasTexts};
-ghost use Rattle.po_entry.specs.Faults.{CharsetStops, IsStop, TextsStop};
-ghost use Rattle.po_reader.specs.ItemsRead.{ReadsItems, ItemsStop};
+ghost use Rattle.po_entry.specs.Faults.{CharsetStops, IsStop, ItemsStop, TextsStop};
 ghost use Rattle.po_reader.specs.Internal.Keeping.{KeepsItems};
 ghost use Rattle.po_entry.specs.Viable.{last_line};
 

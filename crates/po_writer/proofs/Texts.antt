@@ -164,9 +164,11 @@ written_reads law entries h small =
       record {
         items = spelt.0;
         spelt = spelt.2;
-        reads = spelt.1.1;
-        texts = numbered_all IsCatalogueEntry HasTexts (arranged entries) read has_texts spelt.1.2 all;
-        charsets = numbered_all IsCatalogueEntry HasAdmittedCharset (arranged entries) read (λ e line g. g.charset) spelt.1.2 all;
+        read = record {
+          reads = spelt.1.1;
+          texts = numbered_all IsCatalogueEntry HasTexts (arranged entries) read has_texts spelt.1.2 all;
+          charsets = numbered_all IsCatalogueEntry HasAdmittedCharset (arranged entries) read (λ e line g. g.charset) spelt.1.2 all;
+        };
       },
       numbered_same (arranged entries) read spelt.1.2,
     )

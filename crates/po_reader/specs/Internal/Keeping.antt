@@ -7,7 +7,7 @@ use Rattle.po_syntax.specs.LinesLeft.{LinesLeft, SpellsLeft, LeftStops}
 use Rattle.po_syntax.specs.TextItem.{TextItem}
 use Rattle.po_entry.specs.TextEntry.{TextEntry}
 use Rattle.po_reader.specs.KeptComments.{kept_entry}
-use Rattle.po_reader.specs.ItemsRead.{ReadsItems}
+use Rattle.po_entry.specs.ReadsText.{ReadsItems}
 use Rattle.po_reader.specs.PieceRead.{IsFaultOf, ReadsOn}
 
 -- if the lines left in `new` spell some items, the lines left in `old` spell `items` and then those

@@ -9,7 +9,7 @@ use Rattle.po_entry.specs.TextEntry.{TextEntry}
 use Rattle.po_reader.proofs.Spelt.{reads_spelt}
 use Rattle.po_reader.proofs.StopFaults.{items_fault}
 use Rattle.po_entry.specs.Faults.{CharsetStops, TextsStop}
-use Rattle.po_reader.specs.ItemsRead.{in_items, in_texts, in_charset}
+use Rattle.po_entry.specs.Faults.ItemsStop.{in_items, in_texts, in_charset}
 use Rattle.po_reader.proofs.KeptEntries.{kept_sound, kept_texts, kept_admitted, kept_texts_stop, kept_charset_stops}
 use Rattle.po_reader.proofs.SoundCatalogue.{SoundEntry, entries_sound, drafts_valid}
 use Rattle.po_reader.proofs.NoMemory.{texts_reported}
