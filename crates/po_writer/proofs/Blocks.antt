@@ -35,19 +35,19 @@ pub low-append : (xs ys : List ℕ) → BeginsLow xs → BeginsLow ys → Begins
 low-append [] ys h g = g
 low-append (b ∷ xs) ys h g = h
 
-pub empty_block : (P : List TextItem → Type 0) → P [] → Block P []
-empty_block P h = record { utf8 = IsUtf8-nil; no_nul = All-nil (λ b. b ≢ 0); low = tt; spelling = λ number. record { items = []; holds = h; next = number; before = λ rest later g. g } }
+pub empty_block : {P : List TextItem → Type 0} → P [] → Block P []
+empty_block h = record { utf8 = IsUtf8-nil; no_nul = All-nil (λ b. b ≢ 0); low = tt; spelling = λ number. record { items = []; holds = h; next = number; before = λ rest later g. g } }
 
-pub weaker_block : (P Q : List TextItem → Type 0) (text : List ℕ) → ((items : List TextItem) → P items → Q items) → Block P text → Block Q text
-weaker_block P Q text more block = record {
+pub weaker_block : {P Q : List TextItem → Type 0} {text : List ℕ} → Block P text → ((items : List TextItem) → P items → Q items) → Block Q text
+weaker_block block more = record {
   utf8 = block.utf8;
   no_nul = block.no_nul;
   low = block.low;
   spelling = λ number. let s = block.spelling number in record { items = s.items; holds = more s.items s.holds; next = s.next; before = s.before };
 }
 
-pub two_blocks : (P Q R : List TextItem → Type 0) (xs ys : List ℕ) → ((here later : List TextItem) → P here → Q later → R (here ++ later)) → Block P xs → Block Q ys → Block R (xs ++ ys)
-two_blocks P Q R xs ys join first second = record {
+pub two_blocks : {P Q R : List TextItem → Type 0} {xs ys : List ℕ} → Block P xs → Block Q ys → ((here later : List TextItem) → P here → Q later → R (here ++ later)) → Block R (xs ++ ys)
+two_blocks {xs = xs} {ys = ys} first second join = record {
   utf8 = IsUtf8-append xs ys first.utf8 second.utf8;
   no_nul = All-append (λ b. b ≢ 0) xs ys first.no_nul second.no_nul;
   low = low-append xs ys first.low second.low;
@@ -75,8 +75,8 @@ plain_feed b false feed e h = cc
 abbrev pub LineItems : (List TextItem → Type 0) → List ℕ → Type 0
 LineItems P line = (number : ℕ) → (here : List TextItem) × P here × HoldsItems number line here
 
-pub line_block : (P : List TextItem → Type 0) (line : List ℕ) → IsLine line → BeginsLow line → LineItems P line → Block P (line ++ 10 ∷ [])
-line_block P line clean low spells = record {
+pub line_block : {P : List TextItem → Type 0} (line : List ℕ) → IsLine line → BeginsLow line → LineItems P line → Block P (line ++ 10 ∷ [])
+line_block line clean low spells = record {
   utf8 = IsUtf8-append line (10 ∷ []) clean.utf8 (ascii_utf8 10 (omega arith));
   no_nul = All-append (λ b. b ≢ 0) line (10 ∷ []) (All-weaker (λ b. is_plain b ≡ true) (λ b. b ≢ 0) plain_some line clean.plain) (All-cons (λ b. b ≢ 0) 10 [] (λ e. omega (arith, e)) (All-nil (λ b. b ≢ 0)));
   low = low-append line (10 ∷ []) low (omega arith);

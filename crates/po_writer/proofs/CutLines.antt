@@ -19,7 +19,7 @@ onto b other none = last (more b [] other empty)
 onto b other (last {b = c} {line = line} lacks) = last (more b (c ∷ line) other lacks)
 onto b other (ended line lacks lines) = ended (b ∷ line) (more b line other lacks) lines
 
-lines_are : (text : List ℕ) → ContainsLines text (lines_with_ends text)
+pub lines_are : (text : List ℕ) → ContainsLines text (lines_with_ends text)
 lines_are [] = none
 lines_are (b ∷ text) =
     let others = lines_are text in

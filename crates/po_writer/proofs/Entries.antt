@@ -14,15 +14,15 @@ use Rattle.po_entry.specs.Validity.{IsTranslatorComment, IsReference, IsFlag, Is
 use Rattle.po_entry.specs.Comments.{comments_of, extracted_of, references_of, all_listed_flags, fuzzy_of, flags_of, listed_references, listed_flags, is_fuzzy_flag, with_flag, is_comma}
 use Rattle.po_entry.specs.EntryParts.{CommentText, Body}
 use Rattle.po_entry.specs.Spelling.{own_marks, previous_marks, entry_from, SpellsHead, SpellsEntry, entry}
-use Rattle.po_writer.specs.WrittenText.{comment_lines, elements_line, all_flags, previous_prefix, own_prefix, previous_lines, own_lines, entry_lines}
+use Rattle.po_writer.specs.WrittenText.{all_flags, previous_prefix, own_prefix, entry_lines}
 use Rattle.po_writer.proofs.Utf8.{IsLine, is_plain, line-append, line-empty, plain_line}
-use Rattle.po_writer.proofs.Blocks.{Block, two_blocks}
+use Rattle.po_writer.proofs.Blocks.{Block, two_blocks, weaker_block}
 use Rattle.po_writer.proofs.Tokens.{no_prefix, previous_live, previous_obsolete, own_obsolete}
 use Rattle.po_writer.proofs.KeywordTexts.{IsLinePrefix, IsQuotable}
-use Rattle.po_writer.proofs.Heads.{HeadPart, two_parts, head_comments, IsMarked, comments_block, translator_shape, extracted_shape, reference_shape, flags_shape}
+use Rattle.po_writer.proofs.Heads.{HeadPart, head_blocks, IsMarked, comments_block, translator_shape, extracted_shape, reference_shape, flags_shape}
 use Rattle.po_writer.proofs.WrittenElements.{IsElement, IsEnded, element_ended, IsFlagElement, flag_ended}
 use Rattle.po_writer.proofs.Fields.{elements_text, all_comments, comments_kept, extracted_kept, reference_texts, flag_texts, references_kept, flag_elements_kept, fuzzy_kept, flags_kept, elements_block}
-use Rattle.po_writer.proofs.Bodies.{KeywordsWritten, BodyPart, HasForms, body_block, all_previous, previous_kept, previous_in_order, previous_lines_block}
+use Rattle.po_writer.proofs.Bodies.{BodyPart, HasForms, body_block, all_previous, previous_kept, previous_in_order, previous_lines_block}
 
 -- the items are this entry, but for its line
 abbrev pub EntryPart : TextEntry → List TextItem → Type 0
@@ -156,16 +156,12 @@ entry_forms : (e : TextEntry) → IsEntry e → IsShort e → All IsText e.forms
 entry_forms e h short forms plural = record { some = h.some_form; one = h.one_form; few = short; quotable = All-weaker IsText IsQuotable text_quotable e.forms forms; plural_text = optional_quotable e.plural plural }
 
 -- an entry's lines
-pub entry_block : KeywordsWritten → (e : TextEntry) → IsEntry e → IsShort e → Block (EntryPart e) (entry_lines e)
-entry_block written e h short =
+pub entry_block : (e : TextEntry) → IsEntry e → IsShort e → Block (EntryPart e) (entry_lines e)
+entry_block e h short =
     let cs = e.comments in
     let es = e.extracted in
     let rs = e.references in
     let fs = all_flags e.fuzzy e.flags in
-    let T = head_comments Translator cs in
-    let E = head_comments Extracted es in
-    let R = head_comments Reference (elements_text (32 ∷ []) rs) in
-    let F = head_comments Flags (elements_text (44 ∷ 32 ∷ []) fs) in
     let has_elements = elements_of_entry e h in
     let clean_flags = all_with IsLine e.fuzzy e.flags (plain_line (codes "fuzzy") refl) (All-weaker IsFlag IsLine (λ t g. text_line t g.valid g.one_line) e.flags h.flags) in
     let clean_references = All-weaker IsReference IsLine (λ t g. text_line t g.valid g.one_line) rs h.references in
@@ -186,11 +182,8 @@ entry_block written e h short =
     let extracted = comments_block Extracted (codes "#.") es (All-weaker IsComment (IsMarked Extracted (codes "#.")) extracted_marked es h.extracted) in
     let references = elements_block Reference (codes "#: ") (codes " ") rs (λ t. reference_shape (32 ∷ t)) (plain_line (codes "#: ") refl) (λ t. omega arith) (plain_line (codes " ") refl) clean_references (All-weaker IsElement IsEnded element_ended rs has_elements.references) in
     let flags = elements_block Flags (codes "#, ") (codes ", ") fs (λ t. flags_shape (32 ∷ t)) (plain_line (codes "#, ") refl) (λ t. omega arith) (plain_line (codes ", ") refl) clean_flags (All-weaker IsFlagElement IsEnded flag_ended fs has_elements.flags) in
-    let head = previous_lines_block written (previous_prefix e.obsolete) e.obsolete previous (previous_prefix_line e.obsolete) (optional_quotable previous.context (All-left IsText (option_to_list previous.context) (option_to_list previous.id) before_two)) (optional_quotable previous.id (All-right IsText (option_to_list previous.context) (option_to_list previous.id) before_two)) (optional_quotable previous.plural before_plural) in
-    let own = body_block written (own_prefix e.obsolete) e.obsolete e.context e.id e.plural e.forms (own_prefix_line e.obsolete) (optional_quotable e.context context) (text_quotable e.id id) (entry_forms e h short forms plural) in
-    let two = two_blocks (HeadPart T []) (HeadPart E []) (HeadPart (T ++ E) []) (comment_lines (codes "#") cs) (comment_lines (codes "#.") es) (λ a b g i. two_parts g i) comments extracted in
-    let three = two_blocks (HeadPart (T ++ E) []) (HeadPart R []) (HeadPart ((T ++ E) ++ R) []) _ (elements_line (codes "#: ") (codes " ") rs) (λ a b g i. two_parts g i) two references in
-    let four = two_blocks (HeadPart ((T ++ E) ++ R) []) (HeadPart F []) (HeadPart (((T ++ E) ++ R) ++ F) []) _ (elements_line (codes "#, ") (codes ", ") fs) (λ a b g i. two_parts g i) three flags in
-    let all = two_blocks (HeadPart (entry_comments e) []) (HeadPart [] (all_previous previous)) (HeadPart (entry_comments e) (all_previous previous)) _ (previous_lines (previous_prefix e.obsolete) previous)
-    (λ a b g i. subst (λ c. SpellsHead (a ++ b) c (all_previous previous)) (append-nil (entry_comments e)) (two_parts g i)) four head in
-    two_blocks (HeadPart (entry_comments e) (all_previous previous)) (BodyPart e.obsolete e.context e.id e.plural e.forms) (EntryPart e) _ (own_lines (own_prefix e.obsolete) e) (λ a b g i. entry_part e a b has_elements g i) all own
+    let head = previous_lines_block (previous_prefix e.obsolete) e.obsolete previous (previous_prefix_line e.obsolete) (optional_quotable previous.context (All-left IsText (option_to_list previous.context) (option_to_list previous.id) before_two)) (optional_quotable previous.id (All-right IsText (option_to_list previous.context) (option_to_list previous.id) before_two)) (optional_quotable previous.plural before_plural) in
+    let own = body_block (own_prefix e.obsolete) e.obsolete e.context e.id e.plural e.forms (own_prefix_line e.obsolete) (optional_quotable e.context context) (text_quotable e.id id) (entry_forms e h short forms plural) in
+    let all : Block (HeadPart (entry_comments e) (all_previous previous)) _ = weaker_block (head_blocks (head_blocks (head_blocks (head_blocks comments extracted) references) flags) head)
+    (λ items g. subst (λ c. SpellsHead items c (all_previous previous)) (append-nil (entry_comments e)) g) in
+    two_blocks all own (λ a b g i. entry_part e a b has_elements g i)

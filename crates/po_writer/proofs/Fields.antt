@@ -129,7 +129,7 @@ following_line separator (element ∷ elements) s h =
 -- a line of elements after the mark of its kind
 pub elements_block : (kind : CommentKind) (mark separator : List ℕ) (elements : List (List ℕ)) → ((text : List ℕ) → IsCommentLine kind (mark ++ text) (32 ∷ text)) → IsLine mark → ((text : List ℕ) → BeginsLow (mark ++ text)) → IsLine separator → All IsLine elements → All IsEnded elements
     → Block (HeadPart (head_comments kind (elements_text separator elements)) []) (elements_line mark separator elements)
-elements_block kind mark separator [] shape m low s h g = empty_block (HeadPart [] []) nothing
+elements_block kind mark separator [] shape m low s h g = empty_block nothing
 elements_block kind mark separator (element ∷ elements) shape m low s h g =
     let text = element ++ following separator elements in
     let clean = line-append element (following separator elements) (All-head IsLine element elements h) (following_line separator elements s (All-tail IsLine element elements h)) in

@@ -24,6 +24,11 @@ two_parts nothing g = g
 two_parts (head_comment h) g = head_comment (two_parts h g)
 two_parts {later = later} (previous_text {own = own} {items = items} w h) g = rw (append_assoc own items later) (previous_text w (two_parts h g))
 
+-- the comments and previous texts of two blocks
+pub head_blocks : {comment_texts more : List CommentText} {previous others : List PreviousText} {xs ys : List ℕ} → Block (HeadPart comment_texts previous) xs → Block (HeadPart more others) ys
+    → Block (HeadPart (comment_texts ++ more) (previous ++ others)) (xs ++ ys)
+head_blocks first second = two_blocks first second (λ here later g h. two_parts g h)
+
 abbrev pub comment_of : CommentKind → List ℕ → CommentText
 comment_of kind text = record { kind = kind; text = text }
 
@@ -40,7 +45,7 @@ comment_held kind (b ∷ text) rest number h trimmed =
 -- a line that is such a comment
 pub comment_block : (kind : CommentKind) (line rest : List ℕ) → IsLine line → BeginsLow line → IsCommentLine kind line rest → trim_returns rest ≡ rest → Block (HeadPart (comment_of kind rest ∷ []) []) (line ++ 10 ∷ [])
 comment_block kind line rest clean low shape trimmed =
-    line_block (HeadPart (comment_of kind rest ∷ []) []) line clean low (λ number. (Comment kind rest number ∷ [], head_comment nothing, comment_held kind line rest number shape trimmed))
+    line_block line clean low (λ number. (Comment kind rest number ∷ [], head_comment nothing, comment_held kind line rest number shape trimmed))
 
 -- the comments of one kind
 abbrev pub head_comments : CommentKind → List (List ℕ) → List CommentText
@@ -55,13 +60,10 @@ pub record IsMarked (kind : CommentKind) (mark : List ℕ) (text : List ℕ) : T
   pub trimmed : trim_returns text ≡ text
 
 pub comments_block : (kind : CommentKind) (mark : List ℕ) (texts : List (List ℕ)) → All (IsMarked kind mark) texts → Block (HeadPart (head_comments kind texts) []) (comment_lines mark texts)
-comments_block kind mark [] h = empty_block (HeadPart [] []) nothing
+comments_block kind mark [] h = empty_block nothing
 comments_block kind mark (text ∷ texts) h =
     let first = All-head (IsMarked kind mark) text texts h in
-    two_blocks (HeadPart (comment_of kind text ∷ []) []) (HeadPart (head_comments kind texts) []) (HeadPart (head_comments kind (text ∷ texts)) []) ((mark ++ text) ++ 10 ∷ []) (comment_lines mark texts)
-    (λ here later g i. two_parts g i)
-    (comment_block kind (mark ++ text) text first.line first.low first.shape first.trimmed)
-    (comments_block kind mark texts (All-tail (IsMarked kind mark) text texts h))
+    head_blocks (comment_block kind (mark ++ text) text first.line first.low first.shape first.trimmed) (comments_block kind mark texts (All-tail (IsMarked kind mark) text texts h))
 
 pub extracted_shape : (text : List ℕ) → IsCommentLine Extracted (codes "#." ++ text) text
 extracted_shape text = (refl, extracted)

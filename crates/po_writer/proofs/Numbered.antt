@@ -1,14 +1,15 @@
--- The keyword of a plural form, with its index.
-use Rattle.std.proofs.Common.{◌≡◌, ◌^◌, refl, sym, subst, ℕ, ◌<◌, ◌≤◌, false, List, [], ◌∷◌, ◌++◌, append_assoc, codes, decimal, arith}
+-- The keywords of an entry's lines, that of a plural form with its index.
+use Rattle.std.proofs.Common.{◌≡◌, ◌^◌, refl, sym, subst, ℕ, ◌<◌, ◌≤◌, List, [], ◌∷◌, ◌++◌, append_assoc, codes, decimal, arith}
 use Rattle.std.specs.Char.{digit_value}
 use Rattle.std.specs.Str.Parse.{AllDigits, IsNumeral, digits_value}
 use Rattle.std.proofs.lemmas.Fmt.{decimal_is_IsNumeral}
 use Rattle.std.proofs.lemmas.Str.Parse.{digit_from_value}
 use Rattle.std.proofs.lemmas.Bool.{ne_eqb}
 use Rattle.std.proofs.lemmas.List.Elements.{All-nil}
-use Rattle.po_syntax.specs.declared.item.Keyword.TheVariants.{MsgStrAt}
+use Rattle.po_syntax.specs.declared.item.Keyword.TheVariants.{MsgCtxt, MsgId, MsgIdPlural, MsgStr, MsgStrAt}
 use Rattle.po_syntax.specs.Spelling.{IsBlank, SpellsKeyword, form}
 use Rattle.po_writer.proofs.KeywordTexts.{IsLineKeyword}
+use Rattle.po_writer.proofs.Tokens.{context_keyword, id_keyword, plural_keyword, single_keyword}
 use Rattle.po_writer.proofs.Utf8.{IsPlainText, plain_one, no_text, line-ascii, line-append, plain_line}
 
 digit_facts : (d : ℕ) → digit_value d < 10 → (48 ≤ d) × (d < 58)
@@ -26,6 +27,18 @@ plain_digits [] h = no_text
 plain_digits (d ∷ digits) h =
     let range = digit_facts d h.0 in
     plain_one d digits (omega (arith, range.1)) (rw (ne_eqb d 0 (λ e. omega (arith, e, range.0)), ne_eqb d 10 (λ e. omega (arith, e, range.0))) refl) (plain_digits digits h.1)
+
+pub context_written : IsLineKeyword (codes "msgctxt") MsgCtxt
+context_written = record { token = context_keyword; line = plain_line (codes "msgctxt") refl; low = omega arith }
+
+pub id_written : IsLineKeyword (codes "msgid") MsgId
+id_written = record { token = id_keyword; line = plain_line (codes "msgid") refl; low = omega arith }
+
+pub plural_written : IsLineKeyword (codes "msgid_plural") MsgIdPlural
+plural_written = record { token = plural_keyword; line = plain_line (codes "msgid_plural") refl; low = omega arith }
+
+pub single_written : IsLineKeyword (codes "msgstr") MsgStr
+single_written = record { token = single_keyword; line = plain_line (codes "msgstr") refl; low = omega arith }
 
 pub numbered : (index : ℕ) → index < 2 ^ 32 → IsLineKeyword (codes "msgstr[" ++ decimal index ++ codes "]") (MsgStrAt index)
 numbered index below =

@@ -19,11 +19,7 @@ use Rattle.po_writer.specs.WrittenText.{keyword_lines, form_lines, translation_l
 use Rattle.po_writer.proofs.Separated.{keyword_some}
 use Rattle.po_writer.proofs.Utf8.{line-empty}
 use Rattle.po_writer.proofs.Blocks.{Spells, Block, BeginsLow, empty_block, two_blocks, line_block}
-use Rattle.po_writer.proofs.Tokens.{QuotedFormsSpell, context_keyword, id_keyword, plural_keyword, single_keyword}
-use Rattle.po_writer.proofs.Numbered.{numbered}
-use Rattle.po_writer.proofs.Bodies.{KeywordsWritten}
 use Rattle.po_writer.proofs.Entries.{EntryPart, IsShort, entry_block}
-use Rattle.po_writer.proofs.Utf8.{plain_line}
 
 -- the second list is the first, whatever the lines are
 abbrev IsNumbered : List TextEntry → List TextEntry → Type 0
@@ -35,7 +31,7 @@ abbrev ListPart : List TextEntry → List TextItem → Type 0
 ListPart entries here = (read : List TextEntry) × SpellsEntries here read × IsNumbered entries read
 
 empty_line : Block (λ here. here ≡ []) (10 ∷ [])
-empty_line = line_block (λ here. here ≡ []) [] line-empty tt (λ number. ([], refl, live end))
+empty_line = line_block [] line-empty tt (λ number. ([], refl, live end))
 
 one_more : (e : TextEntry) (entries : List TextEntry) (here later : List TextItem) → EntryPart e here → ListPart entries later → ListPart (e ∷ entries) (here ++ later)
 one_more e entries here later h g = (with_line h.0 e ∷ g.0, joined_entries h.1 g.1, (h.0, g.0, refl, g.2))
@@ -43,18 +39,17 @@ one_more e entries here later h g = (with_line h.0 e ∷ g.0, joined_entries h.1
 no_entries : ListPart [] []
 no_entries = ([], comments tt, refl)
 
-further_block : KeywordsWritten → (entries : List TextEntry) → All IsEntry entries → All IsShort entries → Block (ListPart entries) (flat_map (λ e. (10 ∷ []) ++ entry_lines e) entries)
-further_block keywords [] h short = empty_block (ListPart []) no_entries
-further_block keywords (e ∷ entries) h short =
-    two_blocks (EntryPart e) (ListPart entries) (ListPart (e ∷ entries)) ((10 ∷ []) ++ entry_lines e) (flat_map (λ x. (10 ∷ []) ++ entry_lines x) entries) (one_more e entries)
-    (two_blocks (λ here. here ≡ []) (EntryPart e) (EntryPart e) (10 ∷ []) (entry_lines e) (λ here later g i. rw g i) empty_line (entry_block keywords e (All-head IsEntry e entries h) (All-head IsShort e entries short)))
-    (further_block keywords entries (All-tail IsEntry e entries h) (All-tail IsShort e entries short))
+further_block : (entries : List TextEntry) → All IsEntry entries → All IsShort entries → Block (ListPart entries) (flat_map (λ e. (10 ∷ []) ++ entry_lines e) entries)
+further_block [] h short = empty_block no_entries
+further_block (e ∷ entries) h short =
+    let own : Block (EntryPart e) ((10 ∷ []) ++ entry_lines e) =
+    two_blocks empty_line (entry_block e (All-head IsEntry e entries h) (All-head IsShort e entries short)) (λ here later g i. rw g i) in
+    two_blocks own (further_block entries (All-tail IsEntry e entries h) (All-tail IsShort e entries short)) (one_more e entries)
 
-list_block : KeywordsWritten → (entries : List TextEntry) → All IsEntry entries → All IsShort entries → Block (ListPart entries) (join_by entry_lines (10 ∷ []) entries)
-list_block keywords [] h short = empty_block (ListPart []) no_entries
-list_block keywords (e ∷ entries) h short =
-    two_blocks (EntryPart e) (ListPart entries) (ListPart (e ∷ entries)) (entry_lines e) (flat_map (λ x. (10 ∷ []) ++ entry_lines x) entries) (one_more e entries)
-    (entry_block keywords e (All-head IsEntry e entries h) (All-head IsShort e entries short)) (further_block keywords entries (All-tail IsEntry e entries h) (All-tail IsShort e entries short))
+list_block : (entries : List TextEntry) → All IsEntry entries → All IsShort entries → Block (ListPart entries) (join_by entry_lines (10 ∷ []) entries)
+list_block [] h short = empty_block no_entries
+list_block (e ∷ entries) h short =
+    two_blocks (entry_block e (All-head IsEntry e entries h) (All-head IsShort e entries short)) (further_block entries (All-tail IsEntry e entries h) (All-tail IsShort e entries short)) (one_more e entries)
 
 -- each form takes a byte
 few_forms : (prefix : List ℕ) (index : ℕ) (forms : List (List ℕ)) → length forms ≤ length (form_lines prefix index forms)
@@ -138,26 +133,16 @@ numbered_same : (entries read : List TextEntry) → IsNumbered entries read → 
 numbered_same [] read same = rw same refl
 numbered_same (e ∷ entries) read same = rw same.2 (ap (λ t. with_line 0 e ∷ t) (numbered_same entries same.1 same.3))
 
-keywords_written : QuotedFormsSpell → KeywordsWritten
-keywords_written law = record {
-  law = law;
-  context = record { token = context_keyword; line = plain_line (codes "msgctxt") refl; low = omega arith };
-  id = record { token = id_keyword; line = plain_line (codes "msgid") refl; low = omega arith };
-  plural = record { token = plural_keyword; line = plain_line (codes "msgid_plural") refl; low = omega arith };
-  single = record { token = single_keyword; line = plain_line (codes "msgstr") refl; low = omega arith };
-  forms = numbered;
-}
-
 all_arranged : (entries : List TextEntry) → All IsCatalogueEntry entries → All IsCatalogueEntry (arranged entries)
 all_arranged entries h =
     All-append IsCatalogueEntry (filter (λ e. not e.obsolete) entries) (filter (λ e. e.obsolete) entries) (All-filter (λ e. not e.obsolete) IsCatalogueEntry entries h) (All-filter (λ e. e.obsolete) IsCatalogueEntry entries h)
 
 -- the entries that the written text reads as
-pub written_reads : QuotedFormsSpell → (entries : List TextEntry) → All IsCatalogueEntry entries → IsSmall (written_text entries)
+pub written_reads : (entries : List TextEntry) → All IsCatalogueEntry entries → IsSmall (written_text entries)
     → (read : List TextEntry) × ReadsText (written_text entries) read × (map (with_line 0) read ≡ map (with_line 0) (arranged entries))
-written_reads law entries h small =
+written_reads entries h small =
     let all = all_arranged entries h in
-    let block = list_block (keywords_written law) (arranged entries) (All-weaker IsCatalogueEntry IsEntry (λ e g. g.valid) (arranged entries) all) (short_entries (arranged entries) small) in
+    let block = list_block (arranged entries) (All-weaker IsCatalogueEntry IsEntry (λ e g. g.valid) (arranged entries) all) (short_entries (arranged entries) small) in
     let spelt = spelt_text (ListPart (arranged entries)) (written_text entries) block small in
     let read = spelt.1.0 in (
       read,

@@ -1,17 +1,14 @@
 -- What a written line spells: the marks of its prefix, its keyword and its string.
-use Rattle.std.proofs.Common.{◌≡◌, refl, sym, ap, ℕ, ◌<◌, ◌≤◌, false, true, List, [], ◌∷◌, ◌++◌, codes, All, get_or, arith}
+use Rattle.std.proofs.Common.{◌≡◌, refl, sym, ap, ℕ, ◌<◌, false, true, List, [], ◌∷◌, ◌++◌, codes, All, get_or, arith}
 use Rattle.std.proofs.lemmas.List.Elements.{All-head, All-tail}
 use Rattle.po_syntax.specs.declared.item.Keyword.{Keyword}
 use Rattle.po_syntax.specs.declared.item.Keyword.TheVariants.{MsgCtxt, MsgId, MsgIdPlural, MsgStr}
 use Rattle.po_syntax.specs.declared.item.Marks.{Marks}
-use Rattle.po_syntax.specs.Escapes.{SpellsString}
 use Rattle.po_syntax.specs.QuotedForm.{quoted, written_bytes}
 use Rattle.po_syntax.specs.Spelling.{IsBlank, space, tab, vertical_tab, form_feed, carriage_return, IsWordByte, upper, lower, digit, underscore, EndsWord, HasNoBracket, SpellsKeyword, msgctxt, msgid, msgid_plural, msgstr, HoldsTokens, end, blank, keyword, string, marked, HoldsItems, live, previous, obsolete, obsolete_previous}
 use Rattle.po_syntax.specs.TextItem.{TextItem, Word, Str}
-
--- the quoted form of bytes without NUL spells these bytes
-abbrev pub QuotedFormsSpell : Type 0
-QuotedFormsSpell = (bytes rest : List ℕ) → All (λ b. (0 < b) × (b < 256)) bytes → SpellsString (written_bytes bytes ++ 34 ∷ rest) bytes rest
+use Rattle.po_syntax.proofs.Escapes.{quoted_spelt}
+use Rattle.po_syntax.proofs.QuotedForms.{bytes_spell}
 
 -- after the prefix, tokens stand under these marks
 abbrev pub IsPrefix : List ℕ → Marks → Type 0
@@ -29,13 +26,13 @@ previous_obsolete number rest items h = obsolete_previous (blank space h)
 pub own_obsolete : IsPrefix (codes "#~ ") (marked true false)
 own_obsolete number rest items h = obsolete (blank space h)
 
-string_tokens : QuotedFormsSpell → (marks : Marks) (number : ℕ) (text : List ℕ) → All (λ b. (0 < b) × (b < 256)) text → HoldsTokens marks number (quoted text) (Str text marks number ∷ [])
-string_tokens law marks number text some = string (law text [] some) end
+string_tokens : (marks : Marks) (number : ℕ) (text : List ℕ) → All (λ b. (0 < b) × (b < 256)) text → HoldsTokens marks number (quoted text) (Str text marks number ∷ [])
+string_tokens marks number text some = string (quoted_spelt (bytes_spell text [] some)) end
 
 -- a prefix and a string
-pub string_spells : QuotedFormsSpell → (prefix : List ℕ) (marks : Marks) (number : ℕ) (text : List ℕ) → IsPrefix prefix marks → All (λ b. (0 < b) × (b < 256)) text
+pub string_spells : (prefix : List ℕ) (marks : Marks) (number : ℕ) (text : List ℕ) → IsPrefix prefix marks → All (λ b. (0 < b) × (b < 256)) text
     → HoldsItems number (prefix ++ quoted text) (Str text marks number ∷ [])
-string_spells law prefix marks number text h some = h number (quoted text) (Str text marks number ∷ []) (string_tokens law marks number text some)
+string_spells prefix marks number text h some = h number (quoted text) (Str text marks number ∷ []) (string_tokens marks number text some)
 
 -- the word is this keyword before a string
 abbrev pub IsKeyword : List ℕ → Keyword → Type 0
@@ -77,8 +74,8 @@ pub single_keyword : IsKeyword (codes "msgstr") MsgStr
 single_keyword rest = msgstr (word_ends (34 ∷ rest)) (no_bracket rest)
 
 -- a prefix, a keyword and a string
-pub keyword_spells : QuotedFormsSpell → (prefix spelling : List ℕ) (word : Keyword) (marks : Marks) (number : ℕ) (text : List ℕ) → IsPrefix prefix marks → IsKeyword spelling word → All (λ b. (0 < b) × (b < 256)) text
+pub keyword_spells : (prefix spelling : List ℕ) (word : Keyword) (marks : Marks) (number : ℕ) (text : List ℕ) → IsPrefix prefix marks → IsKeyword spelling word → All (λ b. (0 < b) × (b < 256)) text
     → HoldsItems number (prefix ++ (spelling ++ 32 ∷ quoted text)) (Word word marks number ∷ Str text marks number ∷ [])
-keyword_spells law prefix spelling word marks number text h k some =
+keyword_spells prefix spelling word marks number text h k some =
     h number (spelling ++ 32 ∷ quoted text) (Word word marks number ∷ Str text marks number ∷ [])
-    (keyword (k (written_bytes text ++ 34 ∷ [])) (blank space (string_tokens law marks number text some)))
+    (keyword (k (written_bytes text ++ 34 ∷ [])) (blank space (string_tokens marks number text some)))

@@ -10,8 +10,6 @@ ghost use Rattle.po_writer.specs.EntryLines.{IsArranged, StandInOrder, WritesEnt
 ghost use Rattle.po_writer.specs.TextLines.{EachEndsInItsOnlyFeed, TextsAreWritten};
 ghost use Rattle.po_writer.specs.WrittenText.{arranged, entry_lines, in_order, lines_with_ends, written_text};
 
-use po_syntax::laws::quoted_form_spells;
-
 /// The lines of a text, joined, are the text. Each but the last ends in its only LF; the last may
 /// have none, and then it isn't empty.
 pub fn lines_are_cut_after_feeds()
@@ -45,9 +43,7 @@ pub fn written_text_reads()
     ensures { (entries : List TextEntry) → All IsCatalogueEntry entries → IsSmall (written_text entries)
         → (read : List TextEntry) × ReadsText (written_text entries) read
         × (map (with_line 0) read ≡ map (with_line 0) (arranged entries)) }
-{
-    quoted_form_spells();
-}
+{}
 
 /// If entries are those of a list, arranged, but for their lines, they are written as the list is.
 /// So are the entries that are read from its written text.

@@ -2,4 +2,4 @@ use Rattle.po_writer.proofs.Texts.{written_reads}
 use Rattle.po_writer.proofs.laws.written_text_reads.Goals as goal
 
 pub returns : goal.returns
-returns c = written_reads c.quoted_form_spells.ensures.spelt
+returns c = written_reads
