@@ -2,7 +2,7 @@
 ghost use Rattle.std.specs.Prelude.{◌≡◌, ◌+◌, ◌^◌, ◌<◌, ◌≤◌, ◌⊎◌, OnOk, OnErr, IsErrOf, IfOk, map};
 ghost use Rattle.std.specs.Option.{option_copied};
 ghost use Rattle.envsubst.specs.ByArguments.{RunsEnvsubst, WritesNames};
-ghost use Rattle.envsubst.specs.Failures.{read_failures, write_failures};
+ghost use Rattle.envsubst.specs.Failures.{ReadsFail, write_failures};
 ghost use Rattle.envsubst.specs.Usage.{replaced};
 ghost use Rattle.envsubst.specs.UsageView.{envsubst_arguments};
 
@@ -40,9 +40,8 @@ pub fn envsubst<S: EntrySource, R: ByteIn, W: ByteOut>(
     requires write_failures { W.failures writer.old < 2 ^ 63 }
     ensures output { RunsEnvsubst (S.entries source.now) (R.remaining reader.old) (R.remaining reader.new)
         (W.contents writer.old) (W.contents writer.new) (envsubst_arguments given.entry) result }
-    ensures read_failures { (R.failures reader.new ≡ R.failures reader.old + read_failures result)
-        ⊎ (IsErrOf result ToolFault.ReadFault × (R.failures reader.new ≡ R.failures reader.old)
-        × (R.calls reader.new ≡ R.calls reader.old + 2 ^ 32)) }
+    ensures read_failures { ReadsFail result (R.calls reader.old) (R.calls reader.new)
+        (R.failures reader.old) (R.failures reader.new) }
     ensures write_failures { W.failures writer.new ≡ W.failures writer.old + write_failures result }
     ensures calls { R.calls reader.new ≤ R.calls reader.old + 2 ^ 32 }
 {
@@ -77,9 +76,8 @@ fn substitute<S: EntrySource, R: ByteIn, W: ByteOut>(
     requires write_failures { W.failures writer.old < 2 ^ 63 }
     ensures output { RunsEnvsubst (S.entries source.now) (R.remaining reader.old) (R.remaining reader.new)
         (W.contents writer.old) (W.contents writer.new) (replaced (option_copied format.entry)) result }
-    ensures read_failures { (R.failures reader.new ≡ R.failures reader.old + read_failures result)
-        ⊎ (IsErrOf result ToolFault.ReadFault × (R.failures reader.new ≡ R.failures reader.old)
-        × (R.calls reader.new ≡ R.calls reader.old + 2 ^ 32)) }
+    ensures read_failures { ReadsFail result (R.calls reader.old) (R.calls reader.new)
+        (R.failures reader.old) (R.failures reader.new) }
     ensures write_failures { W.failures writer.new ≡ W.failures writer.old + write_failures result }
     ensures calls { R.calls reader.new ≤ R.calls reader.old + 2 ^ 32 }
 {

@@ -1,6 +1,6 @@
 //! Substitution of a whole input ("Invoking the envsubst program" of the GNU gettext manual).
 ghost use Rattle.std.specs.Prelude.{◌≡◌, ◌+◌, ◌^◌, ◌<◌, ◌≤◌, ◌⊎◌, ◌≢◌, ◌++◌, [], Some, length, false, IfOk, OnOk, OnErr, IsErrOf, Err};
-ghost use Rattle.envsubst.specs.Failures.{read_failures, write_failures};
+ghost use Rattle.envsubst.specs.Failures.{ReadsFail, write_failures};
 ghost use Rattle.envsubst.specs.Envsubst.{EndsAs, HasGoneOut, Substitutes, StopsAtEnd, StopsWithin};
 ghost use Rattle.envsubst.specs.Stream.{Advances, Stops};
 ghost use Rattle.envsubst.specs.SubstituterView.{values_of_substituter};
@@ -51,9 +51,8 @@ pub fn run_envsubst<R: ByteIn, W: ByteOut>(
         (R.remaining reader.old) (R.remaining reader.new) (W.contents writer.old) (W.contents writer.new)
         ⊎ StopsAtEnd (values_of_slices vars.now only.entry)
         (R.remaining reader.old) (W.contents writer.old) (W.contents writer.new) }
-    ensures read_failures { (R.failures reader.new ≡ R.failures reader.old + read_failures result)
-        ⊎ (IsErrOf result ToolFault.ReadFault × (R.failures reader.new ≡ R.failures reader.old)
-        × (R.calls reader.new ≡ R.calls reader.old + 2 ^ 32)) }
+    ensures read_failures { ReadsFail result (R.calls reader.old) (R.calls reader.new)
+        (R.failures reader.old) (R.failures reader.new) }
     ensures write_failures { W.failures writer.new ≡ W.failures writer.old + write_failures result }
     ensures no_memory { result ≢ Err ToolFault.OutOfMemory }
     ensures calls { R.calls reader.new ≤ R.calls reader.old + 2 ^ 32 }
@@ -88,9 +87,8 @@ pub fn run_envsubst_in_blocks<R: ByteIn, W: ByteOut>(
     // on; or after another fault a prefix.
     ensures output { EndsAs (values_of_slices vars.now only.entry) (R.remaining reader.old) (R.remaining reader.new)
         (W.contents writer.old) (W.contents writer.new) result }
-    ensures read_failures { (R.failures reader.new ≡ R.failures reader.old + read_failures result)
-        ⊎ (IsErrOf result ToolFault.ReadFault × (R.failures reader.new ≡ R.failures reader.old)
-        × (R.calls reader.new ≡ R.calls reader.old + 2 ^ 32)) }
+    ensures read_failures { ReadsFail result (R.calls reader.old) (R.calls reader.new)
+        (R.failures reader.old) (R.failures reader.new) }
     ensures write_failures { W.failures writer.new ≡ W.failures writer.old + write_failures result }
     ensures calls { R.calls reader.new ≤ R.calls reader.old + 2 ^ 32 }
 {
@@ -128,9 +126,8 @@ fn substitute_in_blocks<R: ByteIn, W: ByteOut>(
     requires write_failures { W.failures writer.old < 2 ^ 63 }
     ensures output { EndsAs (values_of_slices vars.now only.entry) (R.remaining reader.old) (R.remaining reader.new)
         (W.contents writer.old) (W.contents writer.new) result }
-    ensures read_failures { (R.failures reader.new ≡ R.failures reader.old + read_failures result)
-        ⊎ (IsErrOf result ToolFault.ReadFault × (R.failures reader.new ≡ R.failures reader.old)
-        × (R.calls reader.new ≡ R.calls reader.old + 2 ^ 32)) }
+    ensures read_failures { ReadsFail result (R.calls reader.old) (R.calls reader.new)
+        (R.failures reader.old) (R.failures reader.new) }
     ensures write_failures { W.failures writer.new ≡ W.failures writer.old + write_failures result }
     ensures calls { R.calls reader.new ≤ R.calls reader.old + 2 ^ 32 }
 {

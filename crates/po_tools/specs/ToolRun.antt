@@ -1,5 +1,5 @@
 -- What each tool does as a whole, by what its command line gives.
-use Rattle.std.specs.Prelude.{◌≡◌, ℕ, Bool, List, Option, None, Some, Result, Ok, Err, codes, false}
+use Rattle.std.specs.Prelude.{◌≡◌, ◌+◌, ℕ, Bool, List, Option, None, Some, Result, Ok, Err, codes, false}
 use Rattle.gettext.specs.Gettext.{GettextRequest, NgettextRequest, IsGettextRun, IsNgettextRun}
 use Rattle.gettext.specs.WholeRun.{RunsLookUp}
 use Rattle.gettext.specs.Options.{IsGettextRequest, IsNgettextRequest}
@@ -17,6 +17,7 @@ use Rattle.msgcat.specs.Options.{AreMergeOptions}
 use Rattle.runs.specs.declared.program_fault.ProgramFault.{ProgramFault}
 use Rattle.runs.specs.declared.program_fault.ProgramFault.TheVariants.{WrongArguments}
 use Rattle.envsubst.specs.ByArguments.{RunsEnvsubst}
+use Rattle.envsubst.specs.Failures.{ReadsFail, write_failures}
 use Rattle.runs.specs.ArgumentValues.{IsTextOr}
 use Rattle.runs.specs.Inputs.{Asked, Asks, Reading, asked_for}
 use Rattle.runs.specs.NamedFile.{NamedFile}
@@ -44,11 +45,18 @@ pub record Answers : Type 1 where
   pub variable : List ℕ → Option (List ℕ) → Type 0
   pub entries : List (List ℕ) → Type 0
 
--- what a tool reaches of a system: what was asked for, what the reader of standard input has left, and
--- what was written
+-- what the reader has left from which envsubst reads its input, how often it was called, and how often
+-- a call failed
+pub record ReaderView : Type 0 where
+  pub left : Option (List ℕ)
+  pub calls : ℕ
+  pub failures : ℕ
+
+-- what a tool reaches of a system: what was asked for, the reader of envsubst's input, and what was
+-- written
 pub record Reached : Type 0 where
   pub asked : Option (List Asked)
-  pub input : Option (List ℕ)
+  pub reader : ReaderView
   pub written : SystemView
 
 abbrev pub line_of : (List ℕ → Bool → Type 0) → (List ℕ → Option (List ℕ) → Type 0)
@@ -60,8 +68,11 @@ abbrev pub answers_of : (List ℕ → Reading → Type 0) → (Reading → Type 
 answers_of file standard variable entries =
     record { file = file; standard = standard; variable = variable; entries = entries }
 
-abbrev pub reached : Option (List Asked) → Option (List ℕ) → SystemView → Reached
-reached asked input written = record { asked = asked; input = input; written = written }
+abbrev pub reader_of : Option (List ℕ) → (calls failures : ℕ) → ReaderView
+reader_of left calls failures = record { left = left; calls = calls; failures = failures }
+
+abbrev pub reached : Option (List Asked) → ReaderView → SystemView → Reached
+reached asked reader written = record { asked = asked; reader = reader; written = written }
 
 -- a tool of one input is run, by the arguments for its input and its output
 pub record RunsOne (line : CommandLine) (answers : Answers) (IsRun : NamedFile → RunView → Type 0)
@@ -72,7 +83,7 @@ pub record RunsOne (line : CommandLine) (answers : Answers) (IsRun : NamedFile �
   pub output_is : IsTextOr line.text (codes "output-file") (codes "-") output
   pub asks : Asks before.asked after.asked (asked_for argument (is_standard argument) false)
   pub runs : RunsInput answers.file answers.standard IsRun argument output before.written after.written result
-  pub unread : after.input ≡ before.input
+  pub unread : after.reader ≡ before.reader
 
 -- msgfmt is run, by all its arguments and options
 pub record RunsMsgfmtLine (line : CommandLine) (answers : Answers) (before after : Reached)
@@ -85,7 +96,7 @@ pub record RunsMsgfmtLine (line : CommandLine) (answers : Answers) (before after
   pub options_are : AreMsgfmtOptions line.flag line.text options
   pub runs : RunsMsgfmt answers.file answers.standard arguments output options before.asked after.asked
       before.written after.written result
-  pub unread : after.input ≡ before.input
+  pub unread : after.reader ≡ before.reader
 
 -- msgattrib is run, by its options
 pub record RunsMsgattribLine (line : CommandLine) (answers : Answers) (before after : Reached)
@@ -105,7 +116,7 @@ pub record RunsMsgcatLine (line : CommandLine) (answers : Answers) (before after
   pub options_are : AreMergeOptions line.flag line.number options
   pub runs : RunsMsgcat answers.file answers.standard arguments output options before.asked after.asked
       before.written after.written result
-  pub unread : after.input ≡ before.input
+  pub unread : after.reader ≡ before.reader
 
 -- the arguments fit no usage of the tool, and nothing is done
 pub record FitsNone {U : Type 0} (usage : Option U) (before after : Reached) (result : Result ℕ ProgramFault)
@@ -114,14 +125,14 @@ pub record FitsNone {U : Type 0} (usage : Option U) (before after : Reached) (re
   pub nothing : after ≡ before
   pub fault : result ≡ Err WrongArguments
 
--- gettext is run, by arguments that have one of its usages
+-- gettext or ngettext is run, by arguments that have one of its usages
 pub record LooksUp (line : CommandLine) (answers : Answers) (IsRun : List NamedFile → RunView → Type 0)
     (argument : Option (List ℕ)) (before after : Reached) (result : Result ℕ ProgramFault) : Type 0 where
   pub domain : Option (List ℕ)
   pub domain_is : line.text (codes "domain") domain
   pub runs : RunsLookUp answers.variable answers.file IsRun argument domain before.asked after.asked
       before.written after.written result
-  pub unread : after.input ≡ before.input
+  pub unread : after.reader ≡ before.reader
 
 -- gettext is run, by its arguments and options, or these fit no usage
 pub data RunsGettextLine (line : CommandLine) (answers : Answers) (before after : Reached)
@@ -152,12 +163,15 @@ AnswersStatus (Ok _) result = result ≡ Ok 0
 AnswersStatus (Err fault) (Ok status) = ⊥
 AnswersStatus (Err fault) (Err reported) = program_text reported ≡ stdin_text fault
 
--- envsubst is run, by its arguments
+-- envsubst is run, by its arguments; each fault is of the device that failed
 pub record Substitutes (answers : Answers) (usage : EnvsubstUsage) (before after : Reached)
     (result : Result ℕ ProgramFault) : Type 0 where
   pub outcome : Result (Unit {0}) ToolFault
-  pub runs : RunsEnvsubst answers.entries before.input after.input before.written.out.bytes after.written.out.bytes
-      usage outcome
+  pub runs : RunsEnvsubst answers.entries before.reader.left after.reader.left
+      before.written.out.bytes after.written.out.bytes usage outcome
+  pub read_failures : ReadsFail outcome before.reader.calls after.reader.calls
+      before.reader.failures after.reader.failures
+  pub write_failures : after.written.out.failures ≡ before.written.out.failures + write_failures outcome
   pub answer : AnswersStatus outcome result
   pub asks_nothing : after.asked ≡ before.asked
   pub files : after.written.files ≡ before.written.files

@@ -1,6 +1,6 @@
 //! Each tool as a whole, by what its command line gives.
-ghost use Rattle.std.specs.Prelude.{◌^◌, ◌<◌, ℕ, List, Option};
-ghost use Rattle.po_tools.specs.ToolRun.{RunsEnvsubstLine, RunsGettextLine, RunsNgettextLine, RunsTool, answers_of, line_of, reached};
+ghost use Rattle.std.specs.Prelude.{◌^◌, ◌<◌};
+ghost use Rattle.po_tools.specs.ToolRun.{ReaderView, RunsEnvsubstLine, RunsGettextLine, RunsNgettextLine, RunsTool, answers_of, line_of, reached, reader_of};
 
 use crate::tool::Tool;
 use devices::{ByteIn, ByteOut};
@@ -36,8 +36,10 @@ where
     ensures { RunsTool tool
         (line_of (A.flag given.now) (A.text given.now) (A.texts given.now) (A.number given.now))
         (answers_of S.file S.standard (S.variable source.old) (S.entries source.old))
-        (reached (S.asked source.old) (R.remaining reader.old) system.old)
-        (reached (S.asked source.new) (R.remaining reader.new) system.new) result }
+        (reached (S.asked source.old)
+        (reader_of (R.remaining reader.old) (R.calls reader.old) (R.failures reader.old)) system.old)
+        (reached (S.asked source.new)
+        (reader_of (R.remaining reader.new) (R.calls reader.new) (R.failures reader.new)) system.new) result }
 {
     match tool {
         Tool::Msgfmt => msgfmt::run(
@@ -82,11 +84,11 @@ where
     S: InputSource + VariableSource + EntrySource,
     requires out { system.old.out.failures < 2 ^ 63 }
     requires err { system.old.err.failures < 2 ^ 63 }
-    ensures { (input : Option (List ℕ)) → RunsGettextLine
+    ensures { (reader : ReaderView) → RunsGettextLine
         (line_of (A.flag given.now) (A.text given.now) (A.texts given.now) (A.number given.now))
         (answers_of S.file S.standard (S.variable source.old) (S.entries source.old))
-        (reached (S.asked source.old) input system.old)
-        (reached (S.asked source.new) input system.new) result }
+        (reached (S.asked source.old) reader system.old)
+        (reached (S.asked source.new) reader system.new) result }
 {
     let arguments = GettextArguments::given(given)?;
     run_gettext(
@@ -110,11 +112,11 @@ where
     S: InputSource + VariableSource + EntrySource,
     requires out { system.old.out.failures < 2 ^ 63 }
     requires err { system.old.err.failures < 2 ^ 63 }
-    ensures { (input : Option (List ℕ)) → RunsNgettextLine
+    ensures { (reader : ReaderView) → RunsNgettextLine
         (line_of (A.flag given.now) (A.text given.now) (A.texts given.now) (A.number given.now))
         (answers_of S.file S.standard (S.variable source.old) (S.entries source.old))
-        (reached (S.asked source.old) input system.old)
-        (reached (S.asked source.new) input system.new) result }
+        (reached (S.asked source.old) reader system.old)
+        (reached (S.asked source.new) reader system.new) result }
 {
     let arguments = NgettextArguments::given(given)?;
     run_ngettext(
@@ -144,8 +146,10 @@ where
     ensures { RunsEnvsubstLine
         (line_of (A.flag given.now) (A.text given.now) (A.texts given.now) (A.number given.now))
         (answers_of S.file S.standard (S.variable source.old) (S.entries source.old))
-        (reached (S.asked source.old) (R.remaining reader.old) system.old)
-        (reached (S.asked source.new) (R.remaining reader.new) system.new) result }
+        (reached (S.asked source.old)
+        (reader_of (R.remaining reader.old) (R.calls reader.old) (R.failures reader.old)) system.old)
+        (reached (S.asked source.new)
+        (reader_of (R.remaining reader.new) (R.calls reader.new) (R.failures reader.new)) system.new) result }
 {
     let arguments = EnvsubstArguments::given(given)?;
     envsubst(alloc, &*source, reader, &mut system.out, arguments)?;

@@ -18,6 +18,8 @@ returns-in_err-envsubst g c =
     (record {
       outcome = Err c.in_err-envsubst.field-0.0;
       runs = c.in_err-envsubst.ensures.output;
+      read_failures = c.in_err-envsubst.ensures.read_failures;
+      write_failures = c.in_err-envsubst.ensures.write_failures;
       answer = p.2;
       asks_nothing = refl;
       files = refl;
@@ -31,6 +33,8 @@ returns g c =
     (record {
       outcome = Ok tt;
       runs = c.in_ok-envsubst.ensures.output;
+      read_failures = c.in_ok-envsubst.ensures.read_failures;
+      write_failures = c.in_ok-envsubst.ensures.write_failures;
       answer = refl;
       asks_nothing = refl;
       files = refl;
