@@ -99,12 +99,10 @@ fn leaf(instruction: Instruction, count: u64) -> Option<u64>
         act count (action_of instruction) low values steps ≡ Go 0 (operand ∷ values) (steps + instruction.count)) }
     ensures fits { instruction.count < 2 ^ 16 }
 {
-    if instruction.kind == 0 {
-        Some(count)
-    } else if instruction.kind == 1 {
-        Some(instruction.number as u64)
-    } else {
-        None
+    match instruction.action() {
+        Action::Count(_) => Some(count),
+        Action::Number(_, number) => Some(number as u64),
+        _ => None,
     }
 }
 

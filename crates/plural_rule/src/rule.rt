@@ -187,16 +187,18 @@ fn read(header: &[u8], room: &mut Room, len: &mut usize) -> Result<u64, Reason>
         (λ reason. IsReason expression_limit header.now reason) }
     ensures limit { OnOk result (len.new ≤ expression_limit) }
 {
-    let digits = header::nplurals_digits(header).ok_or(Reason::NoNumber)?;
-    let text = header::expression(header).ok_or(Reason::NoExpression)?;
+    let Some(digits) = header::nplurals_digits(header) else {
+        return Err(Reason::NoNumber);
+    };
+    let Some(text) = header::expression(header) else {
+        return Err(Reason::NoExpression);
+    };
     if text.len() > EXPRESSION_LIMIT {
         return Err(Reason::TooLong);
     }
-    let nplurals = lexer::decimal_value(digits).ok_or(Reason::Unreadable)?;
-    if parser::parse(text, room, len) {
-        Ok(nplurals)
-    } else {
-        Err(Reason::Unreadable)
+    match lexer::decimal_value(digits) {
+        Some(nplurals) if parser::parse(text, room, len) => Ok(nplurals),
+        _ => Err(Reason::Unreadable),
     }
 }
 
