@@ -3,7 +3,7 @@ use Rattle.std.proofs.Common.{◌≡◌, ◌↔◌, ℕ, ◌<◌, Bool, true, fa
 use Rattle.std.specs.Prelude.{if◌then◌else◌}
 use Rattle.std.specs.List.{list_any}
 use Rattle.std.specs.Option.{option_map_or}
-use Rattle.std.proofs.lemmas.Bool.{and_parts, lt-ltb, ltb-true, not-false, not-true}
+use Rattle.std.proofs.lemmas.Bool.{and_parts, lt-ltb, ltb-true, not-false, not-true, cond_both}
 use Rattle.std.proofs.lemmas.List.Elements.{filter_agree}
 use Rattle.std.proofs.lemmas.List.Folds.{list_any-append}
 use Rattle.std.proofs.lemmas.List.FromFn.{get_or-map-range_with_len, length-map-range_with_len}
@@ -98,11 +98,9 @@ or_left false b e = refl
 
 live_first : (es : List NamedEntry) → list_any (λ e. is_live e.entry) es ≡ true → (first_of (filter (λ e. is_live e.entry) es)).obsolete ≡ false
 live_first [] h = cc
-live_first (e ∷ es) h = found (is_live e.entry) refl h (live_first es) where
-  found : (b : Bool) → is_live e.entry ≡ b → (b || list_any (λ x. is_live x.entry) es) ≡ true → (list_any (λ x. is_live x.entry) es ≡ true → (first_of (filter (λ x. is_live x.entry) es)).obsolete ≡ false)
-      → (first_of (cond b (e ∷ filter (λ x. is_live x.entry) es) (filter (λ x. is_live x.entry) es))).obsolete ≡ false
-  found true is h more = not-true e.entry.obsolete is
-  found false is h more = more h
+live_first (e ∷ es) h =
+    let live = filter (λ x. is_live x.entry) es in
+    cond_both (is_live e.entry) (e ∷ live) live (λ l. (first_of l).obsolete ≡ false) (not-true e.entry.obsolete) (λ none. live_first es (ap (λ (b : Bool). b || list_any (λ x. is_live x.entry) es) (sym none) ∙ h))
 
 obsolete_first : (es : List NamedEntry) → 0 < length es → list_any (λ e. is_live e.entry) es ≡ false → (first_of es).obsolete ≡ true
 obsolete_first [] some h = absurd (omega (arith, some))

@@ -1,12 +1,12 @@
 -- The first ones of a list, where being alike is an equivalence.
 use Rattle.std.proofs.Common.{◌≡◌, ℕ, ◌+◌, ◌<◌, Bool, true, false, cond, not, ◌||◌, List, [], ◌∷◌, ◌++◌, refl, sym, ap, ap₂, ◌∙◌, subst, length, map, filter, fold, suc, append-nil, get_or, set, arith}
-use Rattle.std.specs.Prelude.{if◌then◌else◌}
+use Rattle.std.specs.Prelude.{All, if◌then◌else◌}
 use Rattle.std.specs.List.{list_any, position_or_len}
 use Rattle.std.specs.Cmp.{IsEquivalence}
-use Rattle.std.proofs.lemmas.List.Folds.{list_any-append}
+use Rattle.std.proofs.lemmas.List.Folds.{list_any-append, list_any_at}
 use Rattle.std.proofs.lemmas.List.{map-append}
-use Rattle.std.proofs.lemmas.List.Elements.{filter-append}
-use Rattle.std.proofs.lemmas.Bool.{or_parts}
+use Rattle.std.proofs.lemmas.List.Elements.{All-head, All-nil, All-push, All-tail, filter-append}
+use Rattle.std.proofs.lemmas.Bool.{cond_both, or_parts, false_from_ne_true, false≢true}
 use Rattle.std.proofs.Math.Bool.{or-false}
 use Rattle.std.proofs.lemmas.List.Sums.{fold_push}
 use Rattle.po_messages.proofs.FirstOnes.{any_alike, any_first_ones}
@@ -16,6 +16,25 @@ use Rattle.po_merge.specs.Groups.{with_new, first_ones}
 abbrev pub Apart : {X : Type 0} → (X → X → Bool) → List X → Type 0
 Apart alike [] = Unit {0}
 Apart alike (x ∷ xs) = (list_any (alike x) xs ≡ false) × Apart alike xs
+
+-- of two values that are mapped a test takes what it takes of them
+pub cond_ap : {X Y : Type 0} (f : X → Y) (b : Bool) (x y : X) → cond b (f x) (f y) ≡ f (cond b x y)
+cond_ap f true x y = refl
+cond_ap f false x y = refl
+
+-- where no element passes, each one fails
+pub none_all : {X : Type 0} (p : X → Bool) (xs : List X) → list_any p xs ≡ false → All (λ x. p x ≡ false) xs
+none_all p xs none = λ k d inside. false_from_ne_true (p (get_or xs k d)) (λ e. false≢true (sym none ∙ list_any_at p xs k d inside e))
+
+-- what holds of each element holds of the first ones
+module _ {X : Type 0} (alike : X → X → Bool) (P : X → Type 0) where
+  all_fold : (xs ys : List X) → All P xs → All P ys → All P (fold (with_new alike) xs ys)
+  all_fold xs [] h g = h
+  all_fold xs (y ∷ ys) h g =
+      all_fold (with_new alike xs y) ys (cond_both (list_any (alike y) xs) xs (xs ++ y ∷ []) (All P) (λ _. h) (λ _. All-push P xs y h (All-head P y ys g))) (All-tail P y ys g)
+
+  pub all_first_ones : (xs : List X) → All P xs → All P (first_ones alike xs)
+  all_first_ones xs h = all_fold [] xs (All-nil P) h
 
 -- the elements that are like this one
 abbrev pub group_of : {X : Type 0} → (X → X → Bool) → List X → X → List X
@@ -29,10 +48,7 @@ module _ {X : Type 0} (alike : X → X → Bool) (laws : IsEquivalence alike) wh
       (list_any-append (alike y) ys (x ∷ []) ∙ ap₂ (λ (s t : Bool). s || t) h.0 (or-false (alike y x) ∙ laws.symm y x ∙ parts.0), apart_push ys x h.1 parts.1)
 
   apart_new : (xs : List X) (x : X) → Apart alike xs → Apart alike (with_new alike xs x)
-  apart_new xs x h = found (list_any (alike x) xs) refl where
-    found : (b : Bool) → list_any (alike x) xs ≡ b → Apart alike (if b then xs else xs ++ x ∷ [])
-    found true e = h
-    found false e = apart_push xs x h e
+  apart_new xs x h = cond_both (list_any (alike x) xs) xs (xs ++ x ∷ []) (Apart alike) (λ _. h) (apart_push xs x h)
 
   apart_fold : (xs ys : List X) → Apart alike xs → Apart alike (fold (with_new alike) xs ys)
   apart_fold xs [] h = h

@@ -1,5 +1,5 @@
 -- One more entry or message among those that are grouped.
-use Rattle.std.proofs.Common.{◌≡◌, ◌≢◌, ℕ, ◌+◌, Bool, true, false, ◌<◌, ◌≤◌, List, [], ◌∷◌, ◌++◌, refl, sym, ap, ap₂, ◌∙◌, length, length-append, take, get_or, arith}
+use Rattle.std.proofs.Common.{◌≡◌, ℕ, ◌+◌, Bool, true, false, ◌<◌, ◌≤◌, max, List, [], ◌∷◌, ◌++◌, refl, sym, ap, ap₂, ◌∙◌, length, length-append, take, get_or, arith}
 use Rattle.std.specs.List.{list_any, position_or_len}
 use Rattle.std.proofs.lemmas.List.{map-append, length-map, take_all, take_more, get_or-map}
 use Rattle.po_messages.specs.FirstOnes.{first_ones}
@@ -22,22 +22,21 @@ module _ (ms : List Message) (i : ℕ) (d : Message) (number : ℕ) (inside : i 
   abbrev F : List Message
   F = first_ones same_message (take i ms)
 
-  -- one that is not among them
-  pub count_first : number ≡ length F → length (first_ones same_message (take (i + 1) ms)) ≡ length F + 1
-  count_first last = found (list_any (same_message (get_or ms i d)) F) refl where
-    found : (b : Bool) → list_any (same_message (get_or ms i d)) F ≡ b → length (first_ones same_message (take (i + 1) ms)) ≡ length F + 1
-    found true met = let less = found_within (same_message (get_or ms i d)) F met in absurd (omega (arith, less, is, last))
-    found false unmet =
-        ap (λ l. length (first_ones same_message l)) (take_more ms i d inside) ∙ ap length (firsts_more same_message same_message_laws (take i ms) (get_or ms i d) unmet) ∙ length-append F (get_or ms i d ∷ [])
+  -- its number is among theirs, or the next one
+  pub count_more : (number ≤ length F) × (length (first_ones same_message (take (i + 1) ms)) ≡ max (length F) (number + 1))
+  count_more = found (list_any (same_message (get_or ms i d)) F) refl where
+    taken : length (first_ones same_message (take (i + 1) ms)) ≡ length (first_ones same_message (take i ms ++ get_or ms i d ∷ []))
+    taken = ap (λ l. length (first_ones same_message l)) (take_more ms i d inside)
 
-  -- one that is among them
-  pub count_later : number ≢ length F → (number < length F) × (length (first_ones same_message (take (i + 1) ms)) ≡ length F)
-  count_later other = found (list_any (same_message (get_or ms i d)) F) refl where
-    found : (b : Bool) → list_any (same_message (get_or ms i d)) F ≡ b → (number < length F) × (length (first_ones same_message (take (i + 1) ms)) ≡ length F)
+    found : (b : Bool) → list_any (same_message (get_or ms i d)) F ≡ b → (number ≤ length F) × (length (first_ones same_message (take (i + 1) ms)) ≡ max (length F) (number + 1))
     found true met =
         let less = found_within (same_message (get_or ms i d)) F met in
-        (omega (arith, less, is), ap (λ l. length (first_ones same_message l)) (take_more ms i d inside) ∙ ap length (firsts_same same_message same_message_laws (take i ms) (get_or ms i d) met))
-    found false unmet = absurd (other (is ∙ unfound (same_message (get_or ms i d)) F unmet))
+        let same = ap length (firsts_same same_message same_message_laws (take i ms) (get_or ms i d) met) in
+        (omega (arith, less, is), omega (arith, taken, same, less, is))
+    found false unmet =
+        let last = unfound (same_message (get_or ms i d)) F unmet in
+        let more = ap length (firsts_more same_message same_message_laws (take i ms) (get_or ms i d) unmet) ∙ length-append F (get_or ms i d ∷ []) in
+        (omega (arith, last, is), omega (arith, taken, more, last, is))
 
 -- the entries, with one more
 pub entries_taken : (ds : List BorrowedEntry) (i : ℕ) (d : BorrowedEntry) → i < length ds → d ≡ get_or ds i d → take (i + 1) (named_entries ds) ≡ take i (named_entries ds) ++ named_entry d ∷ []

@@ -3,7 +3,7 @@ use Rattle.std.proofs.Common.{◌≡◌, ℕ, ◌+◌, ◌<◌, Bool, true, fals
 use Rattle.std.specs.Prelude.{All, if◌then◌else◌}
 use Rattle.std.specs.Global.{Vec}
 use Rattle.std.specs.List.{list_any}
-use Rattle.std.proofs.lemmas.Bool.{false≢true}
+use Rattle.std.proofs.lemmas.Bool.{cond_both, false≢true}
 use Rattle.std.proofs.Math.ListN.{get_or-map}
 use Rattle.std.proofs.lemmas.List.{take_more, map-append, length-map}
 use Rattle.std.proofs.lemmas.List.Folds.{list_any_at}
@@ -23,16 +23,14 @@ use Rattle.po_merge.specs.Groups.{same_message, first_ones, groups, definitions,
 use Rattle.po_merge.specs.Grouping.{IsDefinition, IsGroup, group_entries}
 use Rattle.po_merge.specs.MergedEntry.{merged_entry}
 use Rattle.po_merge.specs.Merged.{is_kept, is_kept_by, is_wanted, merged_messages, IsMergeFault}
-use Rattle.po_merge.proofs.FirstOnes.{group_of}
+use Rattle.po_merge.proofs.FirstOnes.{group_of, cond_ap}
 use Rattle.po_merge.proofs.Messages.{same_message_laws}
 use Rattle.po_merge.proofs.Views.{any_named}
 
 pub some_passes : {X : Type 0} (p : X → Bool) (xs : List X) → list_any p xs ≡ true → 0 < length (filter p xs)
 some_passes p [] h = absurd (false≢true h)
-some_passes p (x ∷ xs) h = found (p x) h (some_passes p xs) where
-  found : (b : Bool) → (b || list_any p xs) ≡ true → (list_any p xs ≡ true → 0 < length (filter p xs)) → 0 < length (cond b (x ∷ filter p xs) (filter p xs))
-  found true g more = omega arith
-  found false g more = more g
+some_passes p (x ∷ xs) h =
+    cond_both (p x) (x ∷ filter p xs) (filter p xs) (λ l. 0 < length l) (λ _. omega arith) (λ e. some_passes p xs (ap (λ (b : Bool). b || list_any p xs) (sym e) ∙ h))
 
 pub any_same : {X : Type 0} (p q : X → Bool) → ((x : X) → p x ≡ q x) → (xs : List X) → list_any p xs ≡ list_any q xs
 any_same p q h [] = refl
@@ -53,33 +51,22 @@ pub live_valid : (group : List NamedEntry) → IsGroup group → list_any (λ d.
 live_valid group h live = record { some = some_passes (λ (d : NamedEntry). is_live d.entry) group live; valid = All-filter (λ d. is_live d.entry) IsDefinition group h.valid }
 
 pub definitions_some : {X : Type 0} (live : X → Bool) (group : List X) → 0 < length group → 0 < length (definitions_by live group)
-definitions_some live group some = found (list_any live group) refl where
-  found : (b : Bool) → list_any live group ≡ b → 0 < length (if b then filter live group else group)
-  found true e = some_passes live group e
-  found false e = some
+definitions_some live group some = cond_both (list_any live group) (filter live group) group (λ l. 0 < length l) (some_passes live group) (λ _. some)
 
 pub definitions_valid : (group : List NamedEntry) → IsGroup group → IsGroup (definitions group)
-definitions_valid group h = found (list_any (λ d. is_live d.entry) group) refl where
-  found : (b : Bool) → list_any (λ d. is_live d.entry) group ≡ b → IsGroup (if b then filter (λ d. is_live d.entry) group else group)
-  found true e = live_valid group h e
-  found false e = h
+definitions_valid group h = cond_both (list_any (λ d. is_live d.entry) group) (filter (λ d. is_live d.entry) group) group IsGroup (live_valid group h) (λ _. h)
 
 live_named : (ds : List BorrowedEntry) → named_entries (filter (λ d. is_live d.entry.now) ds) ≡ filter (λ d. is_live d.entry) (named_entries ds)
 live_named [] = refl
-live_named (d ∷ ds) = found (is_live d.entry.now) (live_named ds) where
-  found : (b : Bool) → named_entries (filter (λ x. is_live x.entry.now) ds) ≡ filter (λ x. is_live x.entry) (named_entries ds)
-      → named_entries (cond b (d ∷ filter (λ x. is_live x.entry.now) ds) (filter (λ x. is_live x.entry.now) ds)) ≡ cond b (named_entry d ∷ filter (λ x. is_live x.entry) (named_entries ds)) (filter (λ x. is_live x.entry) (named_entries ds))
-  found true more = ap (λ (l : List NamedEntry). named_entry d ∷ l) more
-  found false more = more
+live_named (d ∷ ds) =
+    let live = filter (λ x. is_live x.entry.now) ds in
+    sym (cond_ap named_entries (is_live d.entry.now) (d ∷ live) live) ∙ ap (λ (l : List NamedEntry). cond (is_live d.entry.now) (named_entry d ∷ l) l) (live_named ds)
 
 -- what defines a message, and whether it is kept, by the entries as the code holds them
 pub definitions_named : (ds : List BorrowedEntry) → named_entries (definitions_by (λ d. is_live d.entry.now) ds) ≡ definitions (named_entries ds)
 definitions_named ds =
-    found (list_any (λ d. is_live d.entry.now) ds)
-    ∙ ap (λ (b : Bool). if b then filter (λ d. is_live d.entry) (named_entries ds) else named_entries ds) (any_named is_live ds) where
-      found : (b : Bool) → named_entries (if b then filter (λ d. is_live d.entry.now) ds else ds) ≡ (if b then filter (λ d. is_live d.entry) (named_entries ds) else named_entries ds)
-      found true = live_named ds
-      found false = refl
+    sym (cond_ap named_entries (list_any (λ d. is_live d.entry.now) ds) (filter (λ d. is_live d.entry.now) ds) ds)
+    ∙ ap₂ (λ (b : Bool) (l : List NamedEntry). if b then l else named_entries ds) (any_named is_live ds) (live_named ds)
 
 pub kept_named : (o : MergeOptions) (ds : List BorrowedEntry) → is_kept_by (λ d. is_header d.entry.now) o ds ≡ is_kept o (named_entries ds)
 kept_named o ds = ap₂ (λ (b : Bool) (n : ℕ). b || is_wanted o n) (any_named is_header ds) (sym (length-map ds named_entry))

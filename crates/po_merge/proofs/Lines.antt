@@ -1,5 +1,5 @@
 -- The lines of definitions, which change nothing but the line of what they are merged to.
-use Rattle.std.proofs.Common.{◌≡◌, refl, sym, ap, ap₂, ◌∙◌, ℕ, Bool, true, false, cond, not, ◌&&◌, ◌||◌, List, [], ◌∷◌, ◌++◌, Option, Some, None, filter, find, fold, length, map, max, nat_lt}
+use Rattle.std.proofs.Common.{◌≡◌, refl, sym, ap, ap₂, ◌∙◌, ℕ, Bool, cond, not, ◌&&◌, ◌||◌, List, [], ◌∷◌, ◌++◌, Option, Some, None, filter, find, fold, length, map, max, nat_lt}
 use Rattle.std.specs.Prelude.{option_map, slice_get, if◌then◌else◌}
 use Rattle.std.specs.List.{AllZip, range_with_len}
 use Rattle.std.specs.Option.{option_map_or}
@@ -13,7 +13,7 @@ use Rattle.po_merge.specs.EntryLaws.{IsSameButLine, LinesAreNotMerged}
 use Rattle.po_merge.specs.Inputs.{NamedEntry, named}
 use Rattle.po_merge.specs.Groups.{first_ones}
 use Rattle.po_merge.specs.MergedEntry.{comment_of, first_of, first_translated, first_with, has_plural, has_previous, is_joined, joined_form, joined_forms, marked, merged_entry, same_forms, texts_of, translations, with_others}
-use Rattle.po_merge.proofs.FirstOnes.{first_ones-map}
+use Rattle.po_merge.proofs.FirstOnes.{first_ones-map, cond_ap}
 
 abbrev unlined : NamedEntry → NamedEntry
 unlined d = named d.name (with_line 0 d.entry)
@@ -31,10 +31,7 @@ first_unlined (d ∷ ds) = refl
 module _ (has : TextEntry → Bool) (same : (e : TextEntry) → has (with_line 0 e) ≡ has e) where
   find_unlined : (ds : List NamedEntry) → find (λ d. has d.entry) (map unlined ds) ≡ option_map unlined (find (λ d. has d.entry) ds)
   find_unlined [] = refl
-  find_unlined (d ∷ ds) = ap₂ (λ (b : Bool) (o : Option NamedEntry). cond b (Some (unlined d)) o) (same d.entry) (find_unlined ds) ∙ found (has d.entry) where
-    found : (b : Bool) → cond b (Some (unlined d)) (option_map unlined (find (λ x. has x.entry) ds)) ≡ option_map unlined (cond b (Some d) (find (λ x. has x.entry) ds))
-    found true = refl
-    found false = refl
+  find_unlined (d ∷ ds) = ap₂ (λ (b : Bool) (o : Option NamedEntry). cond b (Some (unlined d)) o) (same d.entry) (find_unlined ds) ∙ cond_ap (option_map unlined) (has d.entry) (Some d) (find (λ x. has x.entry) ds)
 
   with_unlined : (ds : List NamedEntry) → first_with has (map unlined ds) ≡ with_line 0 (first_with has ds)
   with_unlined ds = ap₂ (λ (o : Option NamedEntry) (e : TextEntry). option_map_or (λ (d : NamedEntry). d.entry) o e) (find_unlined ds) (first_unlined ds) ∙ found (find (λ d. has d.entry) ds) where
@@ -44,10 +41,7 @@ module _ (has : TextEntry → Bool) (same : (e : TextEntry) → has (with_line 0
 
   filter_unlined : (ds : List NamedEntry) → filter (λ d. has d.entry) (map unlined ds) ≡ map unlined (filter (λ d. has d.entry) ds)
   filter_unlined [] = refl
-  filter_unlined (d ∷ ds) = ap₂ (λ (b : Bool) (l : List NamedEntry). cond b (unlined d ∷ l) l) (same d.entry) (filter_unlined ds) ∙ found (has d.entry) where
-    found : (b : Bool) → cond b (unlined d ∷ map unlined (filter (λ x. has x.entry) ds)) (map unlined (filter (λ x. has x.entry) ds)) ≡ map unlined (cond b (d ∷ filter (λ x. has x.entry) ds) (filter (λ x. has x.entry) ds))
-    found true = refl
-    found false = refl
+  filter_unlined (d ∷ ds) = ap₂ (λ (b : Bool) (l : List NamedEntry). cond b (unlined d ∷ l) l) (same d.entry) (filter_unlined ds) ∙ cond_ap (map unlined) (has d.entry) (d ∷ filter (λ x. has x.entry) ds) (filter (λ x. has x.entry) ds)
 
 translated_unlined : (ds : List NamedEntry) → first_translated (map unlined ds) ≡ with_line 0 (first_translated ds)
 translated_unlined ds = with_unlined has_translation (λ e. refl) ds

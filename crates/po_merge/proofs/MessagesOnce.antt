@@ -1,9 +1,10 @@
 -- Each message that is kept stands once among the merged entries.
 use Rattle.std.proofs.Common.{◌≡◌, ℕ, ◌<◌, Bool, true, false, cond, ◌&&◌, ◌||◌, List, [], ◌∷◌, Option, None, refl, sym, ap, ap₂, ◌∙◌, map, filter, length, get_or, arith}
-use Rattle.std.specs.Prelude.{All, bytes_eq, if◌then◌else◌}
+use Rattle.std.specs.Prelude.{All, bytes_eq}
 use Rattle.std.specs.List.{list_any}
 use Rattle.std.specs.Option.{option_eq}
-use Rattle.std.proofs.lemmas.Bool.{and_parts, false≢true}
+use Rattle.std.proofs.Math.Bool.{and-false}
+use Rattle.std.proofs.lemmas.Bool.{and_parts, cond_both, false≢true}
 use Rattle.std.proofs.lemmas.Slice.Eq.{bytes_eq-Decides}
 use Rattle.std.proofs.lemmas.List.Folds.{list_any-append, list_any_at}
 use Rattle.std.proofs.lemmas.List.Kept.{AllPairs-cons}
@@ -22,7 +23,7 @@ use Rattle.po_merge.specs.MergeLaws.{has_message, MessagesStandOnce, KeptMessage
 use Rattle.po_merge.proofs.FirstOnes.{Apart, group_of, apart_first_ones}
 use Rattle.po_merge.proofs.Messages.{same_message_laws}
 use Rattle.po_merge.proofs.Valid.{first_keeps}
-use Rattle.po_merge.proofs.GroupsMerged.{some_passes, any_same}
+use Rattle.po_merge.proofs.GroupsMerged.{some_passes, any_same, definitions_some}
 
 pub same_is : (a b : NamedEntry) → same_message a b ≡ true → IsSameMessage a.entry b.entry
 same_is a b h =
@@ -33,20 +34,8 @@ pub is_same : (a b : NamedEntry) → IsSameMessage a.entry b.entry → same_mess
 is_same a b h = ap₂ (λ (c : Option (List ℕ)) (i : List ℕ). option_eq bytes_eq a.entry.context c && bytes_eq a.entry.id i) (sym h.0) (sym h.1) ∙ same_message_laws.refl a
 
 definitions_all : (P : NamedEntry → Type 0) (group : List NamedEntry) → All P group → All P (definitions group)
-definitions_all P group h = found (list_any (λ d. is_live d.entry) group) where
-  found : (b : Bool) → All P (if b then filter (λ d. is_live d.entry) group else group)
-  found true = All-filter (λ d. is_live d.entry) P group h
-  found false = h
-
-pub definitions_some : (group : List NamedEntry) → 0 < length group → 0 < length (definitions group)
-definitions_some group some = found (list_any (λ d. is_live d.entry) group) refl where
-  found : (b : Bool) → list_any (λ d. is_live d.entry) group ≡ b → 0 < length (if b then filter (λ d. is_live d.entry) group else group)
-  found true e = some_passes (λ (d : NamedEntry). is_live d.entry) group e
-  found false e = some
-
-and_false : (b : Bool) → (b && false) ≡ false
-and_false true = refl
-and_false false = refl
+definitions_all P group h =
+    cond_both (list_any (λ d. is_live d.entry) group) (filter (λ d. is_live d.entry) group) group (All P) (λ _. All-filter (λ d. is_live d.entry) P group h) (λ _. h)
 
 module _ (o : MergeOptions) (es : List NamedEntry) where
   -- what defines the message of an entry
@@ -64,7 +53,7 @@ module _ (o : MergeOptions) (es : List NamedEntry) where
       let alike : All (λ e. IsSameMessage e.entry f.entry) (group_of same_message es f) =
       All-weaker (λ e. same_message e f ≡ true) (λ e. IsSameMessage e.entry f.entry) (λ e p. same_is e f p) (group_of same_message es f) (filter_passes (λ e. same_message e f) es) in
       let some : 0 < length (group_of same_message es f) = some_passes (λ (e : NamedEntry). same_message e f) es (any_same (λ (e : NamedEntry). same_message e f) (same_message f) (λ e. same_message_laws.symm e f) es ∙ met) in
-      first_keeps (λ e. IsSameMessage e f.entry) (defined f) (definitions_some (group_of same_message es f) some) (definitions_all (λ e. IsSameMessage e.entry f.entry) (group_of same_message es f) alike)
+      first_keeps (λ e. IsSameMessage e f.entry) (defined f) (definitions_some (λ (d : NamedEntry). is_live d.entry) (group_of same_message es f) some) (definitions_all (λ e. IsSameMessage e.entry f.entry) (group_of same_message es f) alike)
 
   all_stay : All Stays (first_ones same_message es)
   all_stay k d below =
@@ -126,7 +115,7 @@ module _ (o : MergeOptions) (es : List NamedEntry) where
       found true false e g more = ap (λ (t : Bool). t || has_message context id (of_firsts fs)) (is ∙ g) ∙ more
       found false true e g more =
           let none : kept ≡ false = sym (kept_is f g) ∙ e in
-          more ∙ ap (λ (k : Bool). list_any (λ g. is_of_message context id g.entry) fs && k) none ∙ and_false (list_any (λ g. is_of_message context id g.entry) fs) ∙ sym none
+          more ∙ ap (λ (k : Bool). list_any (λ g. is_of_message context id g.entry) fs && k) none ∙ and-false (list_any (λ g. is_of_message context id g.entry) fs) ∙ sym none
       found false false e g more = more
 
     any_first : list_any (λ f. is_of_message context id f.entry) (first_ones same_message es) ≡ list_any (λ e. is_of_message context id e.entry) es

@@ -1,12 +1,11 @@
 -- The groups of entries, by the numbers of their messages.
 use Rattle.std.proofs.Common.{◌≡◌, ℕ, ◌+◌, ◌<◌, Bool, true, false, cond, not, ◌==◌, List, [], ◌∷◌, ◌++◌, refl, sym, ap, ap₂, ◌∙◌, length, map, filter, get_or, zero, suc, arith, append_assoc, length-append, inl, inr}
 use Rattle.std.specs.Global.{Vec}
-use Rattle.std.specs.List.{list_any, position_or_len, range_with_len}
-use Rattle.std.proofs.lemmas.Bool.{ne_eqb, eq-eqb, false≢true}
+use Rattle.std.specs.List.{position_or_len, range_with_len}
+use Rattle.std.proofs.lemmas.Bool.{ne_eqb, eq-eqb}
 use Rattle.std.proofs.lemmas.Bool.Decides.{eqb_tells}
 use Rattle.std.proofs.lemmas.List.{get_or_at, length-map}
 use Rattle.std.proofs.lemmas.Simd.{map-map}
-use Rattle.std.proofs.lemmas.List.Folds.{list_any_at}
 use Rattle.std.proofs.lemmas.List.Elements.{filter_agree}
 use Rattle.std.specs.Cmp.{IsEquivalence}
 use Rattle.po_merge.specs.Inputs.{NamedEntry}
@@ -17,7 +16,7 @@ use Rattle.po_merge.specs.InputsView.{named_entries, named_entry}
 use Rattle.po_merge.specs.Grouping.{group_entries, message_numbers, named_messages}
 use Rattle.po_merge.specs.Groups.{by_number, first_ones, groups, same_message, with_number}
 use Rattle.po_merge.specs.MergeLaws.{GroupsByNumber}
-use Rattle.po_merge.proofs.FirstOnes.{Apart, group_of, apart_first_ones, first_ones-map, place-map}
+use Rattle.po_merge.proofs.FirstOnes.{Apart, group_of, apart_first_ones, first_ones-map, place-map, cond_ap, none_all}
 use Rattle.po_merge.proofs.Messages.{same_message_laws}
 
 same_next : (p j : ℕ) → (1 + p == suc j) ≡ (p == j)
@@ -27,12 +26,6 @@ same_next p j = elim (eqb_tells p j) [
 ]
 
 module _ {X : Type 0} (alike : X → X → Bool) (laws : IsEquivalence alike) where
-  none_at : (x : X) (xs : List X) (i : ℕ) (d : X) → i < length xs → list_any (alike x) xs ≡ false → alike x (get_or xs i d) ≡ false
-  none_at x xs i d inside none = found (alike x (get_or xs i d)) refl where
-    found : (b : Bool) → alike x (get_or xs i d) ≡ b → b ≡ false
-    found true e = absurd (false≢true (sym none ∙ list_any_at (alike x) xs i d inside e))
-    found false e = refl
-
   -- where no two are alike, one stands at a place exactly if it is like the one there
   place_tells : (x : X) (fs : List X) (k : ℕ) (d : X) → Apart alike fs → k < length fs → (position_or_len (alike x) fs == k) ≡ alike x (get_or fs k d)
   place_tells x [] k d apart inside = absurd (omega (arith, inside))
@@ -45,7 +38,7 @@ module _ {X : Type 0} (alike : X → X → Bool) (laws : IsEquivalence alike) wh
     below = omega (arith, inside)
 
     found : (b : Bool) → alike x f ≡ b → (position_or_len (alike x) fs == k) ≡ alike x (get_or fs k d) → (cond (not b) (1 + position_or_len (alike x) fs) 0 == suc k) ≡ alike x (get_or fs k d)
-    found true e more = ne_eqb 0 (suc k) (λ z. omega (arith, z)) ∙ sym (laws.congr x f (get_or fs k d) e ∙ none_at f fs k d below apart.0)
+    found true e more = ne_eqb 0 (suc k) (λ z. omega (arith, z)) ∙ sym (laws.congr x f (get_or fs k d) e ∙ none_all (alike f) fs apart.0 k d below)
     found false e more = same_next (position_or_len (alike x) fs) k ∙ more
 
 -- of things that are numbered by a function, those with this number
@@ -57,10 +50,8 @@ with_number-map number_of n (x ∷ xs) = ap (λ l. cond (number_of x == n) (x �
 with_number-mapped : {X Y : Type 0} (f : X → Y) (n : ℕ) (ns : List ℕ) (xs : List X) → map f (with_number n ns xs) ≡ with_number n ns (map f xs)
 with_number-mapped f n [] xs = refl
 with_number-mapped f n (k ∷ ns) [] = refl
-with_number-mapped f n (k ∷ ns) (x ∷ xs) = found (k == n) ∙ ap (λ l. cond (k == n) (f x ∷ l) l) (with_number-mapped f n ns xs) where
-  found : (b : Bool) → map f (cond b (x ∷ with_number n ns xs) (with_number n ns xs)) ≡ cond b (f x ∷ map f (with_number n ns xs)) (map f (with_number n ns xs))
-  found true = refl
-  found false = refl
+with_number-mapped f n (k ∷ ns) (x ∷ xs) =
+    sym (cond_ap (map f) (k == n) (x ∷ with_number n ns xs) (with_number n ns xs)) ∙ ap (λ l. cond (k == n) (f x ∷ l) l) (with_number-mapped f n ns xs)
 
 by_number-mapped : {X Y : Type 0} (f : X → Y) (count : ℕ) (ns : List ℕ) (xs : List X) → map (map f) (by_number count ns xs) ≡ by_number count ns (map f xs)
 by_number-mapped f count ns xs = map-map (map f) (λ n. with_number n ns xs) (range_with_len 0 count) ∙ (λ i. map (λ n. with_number-mapped f n ns xs i) (range_with_len 0 count))

@@ -13,6 +13,7 @@ use Rattle.po_merge.specs.Inputs.{NamedEntry}
 use Rattle.po_merge.specs.InputsView.{named_entry, named_entries}
 use Rattle.po_merge.specs.Groups.{first_ones}
 use Rattle.po_merge.specs.MergedEntry.{first_of, first_with, has_previous, has_plural, first_translated, texts_of, collected, comment_of, same_forms, translations, is_joined, joined_forms, merged_entry}
+use Rattle.std.proofs.lemmas.Bool.{cond_both}
 
 only_one : (has : TextEntry → Bool) (d : NamedEntry) → first_with has (d ∷ []) ≡ d.entry
 only_one has d = found (has d.entry) where
@@ -25,10 +26,8 @@ all_kept [] = refl
 all_kept (t ∷ ts) = ap (λ (l : List (List ℕ)). t ∷ l) (all_kept ts)
 
 comment_one : (o : MergeOptions) (kind : CommentKind) (d : NamedEntry) → comment_of o kind (d ∷ []) ≡ texts_of kind d.entry
-comment_one o kind d = found o.use_first where
-  found : (b : Bool) → (if b then texts_of kind (first_translated (d ∷ [])) else collected (texts_of kind) (d ∷ [])) ≡ texts_of kind d.entry
-  found true = ap (texts_of kind) (only_one has_translation d)
-  found false = all_kept (texts_of kind d.entry)
+comment_one o kind d =
+    cond_both o.use_first (texts_of kind (first_translated (d ∷ []))) (collected (texts_of kind) (d ∷ [])) (λ l. l ≡ texts_of kind d.entry) (λ _. ap (texts_of kind) (only_one has_translation d)) (λ _. all_kept (texts_of kind d.entry))
 
 not_joined : (o : MergeOptions) (d : NamedEntry) → is_joined o (d ∷ []) ≡ false
 not_joined o d = found (has_translation d.entry) (not o.use_first) where

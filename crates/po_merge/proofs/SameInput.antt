@@ -6,7 +6,7 @@ use Rattle.std.specs.Option.{option_map_or}
 use Rattle.std.proofs.lemmas.Slice.Eq.{bytes_eq-Decides, slice_eq-Decides}
 use Rattle.std.proofs.lemmas.List.Folds.{list_any-append, list_any_at, list_any_none}
 use Rattle.std.proofs.lemmas.List.Elements.{All-nil, All-cons, All-head, All-tail, All-map, All-weaker, filter-append}
-use Rattle.std.proofs.lemmas.Bool.{or_parts}
+use Rattle.std.proofs.lemmas.Bool.{cond_both, false_from_ne_true}
 use Rattle.std.proofs.Math.Bool.{or-true}
 use Rattle.po_syntax.specs.declared.item.CommentKind.{CommentKind}
 use Rattle.po_syntax.specs.declared.item.CommentKind.TheVariants.{Translator, Extracted, Reference, Flags}
@@ -22,16 +22,12 @@ use Rattle.po_merge.specs.Groups.{with_new, first_ones, same_message, definition
 use Rattle.po_merge.specs.MergedEntry.{first_with, has_previous, has_plural, first_translated, texts_of, with_others, collected, comment_of, same_forms, translations, is_joined, joined_forms, merged_entry}
 use Rattle.po_merge.specs.Merged.{is_kept, merged_messages}
 use Rattle.po_merge.specs.MergeLaws.{keep_all, OneInputStays, WithItself}
-use Rattle.po_merge.proofs.FirstOnes.{Apart, group_of}
+use Rattle.po_merge.proofs.FirstOnes.{Apart, group_of, none_all}
 use Rattle.po_merge.proofs.Messages.{same_message_laws}
 use Rattle.po_merge.proofs.MessagesOnce.{same_is}
 use Rattle.po_merge.proofs.OneDefinition.{all_kept, rebuilt, one_definition}
 
 -- lists whose elements differ
-
-pub none_all : {X : Type 0} (p : X → Bool) (xs : List X) → list_any p xs ≡ false → All (λ x. p x ≡ false) xs
-none_all p [] h = All-nil (λ x. p x ≡ false)
-none_all p (x ∷ xs) h = let parts = or_parts (p x) (list_any p xs) h in All-cons (λ y. p y ≡ false) x xs parts.0 (none_all p xs parts.1)
 
 pub none_pass : {X : Type 0} (p : X → Bool) (xs : List X) → All (λ x. p x ≡ false) xs → filter p xs ≡ []
 none_pass p [] h = refl
@@ -67,10 +63,7 @@ differ_tail : (e : TextEntry) (es : List TextEntry) → AllDiffer (e ∷ es) →
 differ_tail e es h i j d lt within = h (suc i) (suc j) d (omega (arith, lt)) (omega (arith, within))
 
 differs : (a b : NamedEntry) → ¬ IsSameMessage a.entry b.entry → same_message a b ≡ false
-differs a b h = found (same_message a b) refl where
-  found : (t : Bool) → same_message a b ≡ t → t ≡ false
-  found true e = absurd (h (same_is a b e))
-  found false e = refl
+differs a b h = false_from_ne_true (same_message a b) (λ e. h (same_is a b e))
 
 others_differ : (n m : List ℕ) (e : TextEntry) (es : List TextEntry) → AllDiffer (e ∷ es) → All (λ x. same_message (named n e) (named m x) ≡ false) es
 others_differ n m e es h = All-weaker (λ x. ¬ IsSameMessage e x) (λ x. same_message (named n e) (named m x) ≡ false) (λ x other. differs (named n e) (named m x) other) es (differ_head e es h)
@@ -144,10 +137,10 @@ nothing_new ts =
     ∙ append-nil ts
 
 comment_of_two : (o : MergeOptions) (kind : CommentKind) (n m : List ℕ) (e : TextEntry) → comment_of o kind (named n e ∷ named m e ∷ []) ≡ texts_of kind e
-comment_of_two o kind n m e = found o.use_first where
-  found : (b : Bool) → (if b then texts_of kind (first_translated (named n e ∷ named m e ∷ [])) else collected (texts_of kind) (named n e ∷ named m e ∷ [])) ≡ texts_of kind e
-  found true = ap (texts_of kind) (first_of_two has_translation n m e)
-  found false = ap (λ (l : List (List ℕ)). with_others l (texts_of kind e)) (all_kept (texts_of kind e)) ∙ nothing_new (texts_of kind e)
+comment_of_two o kind n m e =
+    let ds = named n e ∷ named m e ∷ [] in
+    cond_both o.use_first (texts_of kind (first_translated ds)) (collected (texts_of kind) ds) (λ l. l ≡ texts_of kind e) (λ _. ap (texts_of kind) (first_of_two has_translation n m e))
+    (λ _. ap (λ (l : List (List ℕ)). with_others l (texts_of kind e)) (all_kept (texts_of kind e)) ∙ nothing_new (texts_of kind e))
 
 not_joined : (o : MergeOptions) (n m : List ℕ) (e : TextEntry) → is_joined o (named n e ∷ named m e ∷ []) ≡ false
 not_joined o n m e = found (has_translation e) (not o.use_first) where

@@ -1,11 +1,11 @@
 -- When translations are joined, and which definition's forms a merged entry has.
-use Rattle.std.proofs.Common.{◌≡◌, ◌≢◌, ◌==◌, ℕ, ◌<◌, ◌≤◌, Bool, true, false, cond, not, ◌&&◌, ◌||◌, nat_lt, max, List, [], ◌∷◌, ◌++◌, Option, Some, None, refl, sym, ap, ap₂, ◌∙◌, filter, find, fold, get_or, length, arith, suc, is_none, ◌⊎◌, inl, inr}
+use Rattle.std.proofs.Common.{◌≡◌, ◌≢◌, ◌==◌, ℕ, ◌<◌, ◌≤◌, Bool, true, false, cond, not, ◌&&◌, ◌||◌, nat_lt, max, List, [], ◌∷◌, Option, Some, None, refl, sym, ap, ap₂, ◌∙◌, filter, find, fold, get_or, length, arith, suc, is_none, ◌⊎◌, inl, inr}
 use Rattle.std.specs.Prelude.{All, Contains, if◌then◌else◌}
 use Rattle.std.specs.List.{list_any}
 use Rattle.std.specs.Option.{option_map_or}
 use Rattle.std.specs.Cmp.{IsEquivalence}
 use Rattle.std.proofs.lemmas.Bool.{and_parts, lt-ltb, ltb-true, ltb-false, ne_eqb, not-true, or_parts, false≢true}
-use Rattle.std.proofs.lemmas.List.Elements.{All-nil, All-cons, All-head, All-tail, All-append, All-contains, All-contains_itself, All-filter, All-weaker, filter_passes}
+use Rattle.std.proofs.lemmas.List.Elements.{All-nil, All-cons, All-head, All-tail, All-contains, All-contains_itself, All-filter, All-weaker, filter_passes}
 use Rattle.std.proofs.lemmas.Map.Views.{list_any-from_Contains}
 use Rattle.std.proofs.Math.Bool.{or-false}
 use Rattle.std.proofs.lemmas.List.FromFn.{length-map-range_with_len}
@@ -19,13 +19,12 @@ use Rattle.po_messages.specs.Statistics.{has_translation}
 use Rattle.po_messages.proofs.FirstOnes.{any_first_ones}
 use Rattle.po_merge.specs.declared.input.MergeOptions.{MergeOptions}
 use Rattle.po_merge.specs.Inputs.{NamedEntry}
-use Rattle.po_merge.specs.Groups.{first_ones, with_new}
 use Rattle.po_merge.specs.MergedEntry.{collected, form_count, joined_form, joined_forms, merged_entry, first_translated, same_forms, texts_of, translations}
 use Rattle.po_merge.specs.Merged.{is_wanted}
 use Rattle.po_merge.specs.TranslationLaws.{IsTranslated, IsUntranslated, TranslationsDiffer, JoinedWhereTheyDiffer, JoinedAsLongest, IsFirstTranslated, translated, none, FormsOfFirst, CommentsOfFirst, HeadersAreKept}
 use Rattle.po_merge.proofs.EntryLaws.{first_is, texts_merged}
 use Rattle.po_merge.proofs.Valid.{at_least}
-use Rattle.po_merge.proofs.FirstOnes.{Apart, apart_first_ones}
+use Rattle.po_merge.proofs.FirstOnes.{all_first_ones, Apart, apart_first_ones}
 
 -- the test of a definition with a translation, and what it decides
 abbrev pub has : NamedEntry → Bool
@@ -65,21 +64,6 @@ forms_laws = record {
   symm = λ a b. tests_alike (same_forms a b) (same_forms b a) (λ h. (forms_decide b a).1 (sym ((forms_decide a b).0 h))) (λ h. (forms_decide a b).1 (sym ((forms_decide b a).0 h)));
   congr = λ a b c h. tests_alike (same_forms a c) (same_forms b c) (λ g. (forms_decide b c).1 (sym ((forms_decide a b).0 h) ∙ (forms_decide a c).0 g)) (λ g. (forms_decide a c).1 ((forms_decide a b).0 h ∙ (forms_decide b c).0 g));
 }
-
--- what holds of each element holds of the first ones
-module _ {X : Type 0} (alike : X → X → Bool) (P : X → Type 0) where
-  all_with_new : (xs : List X) (x : X) → All P xs → P x → All P (with_new alike xs x)
-  all_with_new xs x h p = found (list_any (alike x) xs) where
-    found : (b : Bool) → All P (if b then xs else xs ++ x ∷ [])
-    found true = h
-    found false = All-append P xs (x ∷ []) h (All-cons P x [] p (All-nil P))
-
-  all_fold : (xs ys : List X) → All P xs → All P ys → All P (fold (with_new alike) xs ys)
-  all_fold xs [] h g = h
-  all_fold xs (y ∷ ys) h g = all_fold (with_new alike xs y) ys (all_with_new xs y h (All-head P y ys g)) (All-tail P y ys g)
-
-  pub all_first_ones : (xs : List X) → All P xs → All P (first_ones alike xs)
-  all_first_ones xs h = all_fold [] xs (All-nil P) h
 
 -- a definition of the message that has a translation
 record IsOne (ds : List NamedEntry) (d : NamedEntry) : Type 0 where

@@ -4,13 +4,13 @@ use Rattle.std.specs.Prelude.{All, Contains, IfSome, option_to_list, slice_get, 
 use Rattle.std.specs.List.{list_any, list_all, range_with_len, ends_with}
 use Rattle.std.specs.Option.{option_map_or}
 use Rattle.std.specs.Str.{IsAscii}
-use Rattle.std.proofs.lemmas.Bool.{and_parts, ltb-true, false≢true, eqb-false, not-true}
+use Rattle.std.proofs.lemmas.Bool.{and_parts, cond_both, ltb-true, false≢true, eqb-false, not-true}
 use Rattle.std.proofs.lemmas.Str.{IsUtf8-nil, IsUtf8-append, IsUtf8-from_ascii}
 use Rattle.std.proofs.lemmas.Slice.Eq.{bytes_eq-Decides}
 use Rattle.std.proofs.lemmas.List.{length-map}
 use Rattle.std.proofs.lemmas.List.FromFn.{length-range_with_len}
 use Rattle.std.proofs.lemmas.List.Folds.{list_any_at}
-use Rattle.std.proofs.lemmas.List.Elements.{All-nil, All-cons, All-head, All-tail, All-append, All-filter, All-push, All-weaker, All-contains, All-contains_itself, All-map, filter_passes, Contains-get_or, Contains-append_right, Contains-append_cases}
+use Rattle.std.proofs.lemmas.List.Elements.{All-nil, All-cons, All-head, All-tail, All-append, All-filter, All-weaker, All-contains, All-contains_itself, All-map, filter_passes, Contains-get_or, Contains-append_right, Contains-append_cases}
 use Rattle.po_syntax.specs.declared.item.CommentKind.{CommentKind}
 use Rattle.po_syntax.specs.declared.item.CommentKind.TheVariants.{Translator, Extracted, Reference, Flags}
 use Rattle.po_entry.specs.Bytes.{Lacks, AreDistinct}
@@ -21,18 +21,16 @@ use Rattle.po_entry.specs.Validity.{IsEntry, IsTranslatorComment, IsReference, I
 use Rattle.po_messages.specs.Statistics.{has_translation}
 use Rattle.po_merge.specs.declared.input.MergeOptions.{MergeOptions}
 use Rattle.po_merge.specs.Inputs.{NamedEntry}
-use Rattle.po_merge.specs.Groups.{with_new}
 use Rattle.po_merge.specs.Grouping.{IsDefinition}
 use Rattle.po_merge.specs.MergedEntry.{first_of, first_with, has_previous, has_plural, first_translated, texts_of, with_others, collected, comment_of, same_forms, translations, is_joined, ended, marked, joined_form, form_count, joined_forms, merged_entry}
+use Rattle.po_merge.proofs.FirstOnes.{all_first_ones}
 
 -- the first definition that has something
 
 found_keeps : (Q : TextEntry → Type 0) (p : NamedEntry → Bool) (ds : List NamedEntry) (e : TextEntry) → All (λ d. Q d.entry) ds → Q e → Q (option_map_or (λ (d : NamedEntry). d.entry) (find p ds) e)
 found_keeps Q p [] e h g = g
-found_keeps Q p (d ∷ ds) e h g = found (p d) (found_keeps Q p ds e (All-tail (λ x. Q x.entry) d ds h) g) where
-  found : (b : Bool) → Q (option_map_or (λ (x : NamedEntry). x.entry) (find p ds) e) → Q (option_map_or (λ (x : NamedEntry). x.entry) (cond b (Some d) (find p ds)) e)
-  found true more = All-head (λ x. Q x.entry) d ds h
-  found false more = more
+found_keeps Q p (d ∷ ds) e h g =
+    cond_both (p d) (Some d) (find p ds) (λ r. Q (option_map_or (λ (x : NamedEntry). x.entry) r e)) (λ _. All-head (λ x. Q x.entry) d ds h) (λ _. found_keeps Q p ds e (All-tail (λ x. Q x.entry) d ds h) g)
 
 pub first_keeps : (Q : TextEntry → Type 0) (ds : List NamedEntry) → 0 < length ds → All (λ d. Q d.entry) ds → Q (first_of ds)
 first_keeps Q [] some h = absurd (omega (arith, some))
@@ -52,20 +50,17 @@ collected_from P of done (d ∷ ds) h g =
     collected_from P of (with_others done (of d.entry)) ds (with_others_all P done (of d.entry) h (All-head (λ x. All P (of x.entry)) d ds g)) (All-tail (λ x. All P (of x.entry)) d ds g)
 
 comment_all : (P : List ℕ → Type 0) (o : MergeOptions) (kind : CommentKind) (ds : List NamedEntry) → 0 < length ds → All (λ d. All P (texts_of kind d.entry)) ds → All P (comment_of o kind ds)
-comment_all P o kind ds some h = found o.use_first where
-  found : (b : Bool) → All P (if b then texts_of kind (first_translated ds) else collected (texts_of kind) ds)
-  found true = first_with_keeps (λ e. All P (texts_of kind e)) has_translation ds some h
-  found false = collected_from P (texts_of kind) [] ds (All-nil P) h
+comment_all P o kind ds some h =
+    cond_both o.use_first (texts_of kind (first_translated ds)) (collected (texts_of kind) ds) (All P) (λ _. first_with_keeps (λ e. All P (texts_of kind e)) has_translation ds some h) (λ _. collected_from P (texts_of kind) [] ds (All-nil P) h)
 
 contains_filter : (p : List ℕ → Bool) (xs : List (List ℕ)) (t : List ℕ) → Contains (filter p xs) t → Contains xs t × (p t ≡ true)
 contains_filter p xs t h = (All-contains (Contains xs) (filter p xs) t (All-filter p (Contains xs) xs (All-contains_itself xs)) h, All-contains (λ x. p x ≡ true) (filter p xs) t (filter_passes p xs) h)
 
 distinct_filter : (p : List ℕ → Bool) (xs : List (List ℕ)) → AreDistinct xs → AreDistinct (filter p xs)
 distinct_filter p [] h = tt
-distinct_filter p (x ∷ xs) h = found (p x) (distinct_filter p xs h.1) where
-  found : (b : Bool) → AreDistinct (filter p xs) → AreDistinct (cond b (x ∷ filter p xs) (filter p xs))
-  found true more = (λ among. h.0 (contains_filter p xs x among).0, more)
-  found false more = more
+distinct_filter p (x ∷ xs) h =
+    let more = distinct_filter p xs h.1 in
+    cond_both (p x) (x ∷ filter p xs) (filter p xs) AreDistinct (λ _. (λ among. h.0 (contains_filter p xs x among).0, more)) (λ _. more)
 
 distinct_append : (xs ys : List (List ℕ)) → AreDistinct xs → AreDistinct ys → ((t : List ℕ) → Contains xs t → Contains ys t → ⊥) → AreDistinct (xs ++ ys)
 distinct_append [] ys h g apart = g
@@ -86,10 +81,8 @@ distinct_from of done (d ∷ ds) h g =
     distinct_from of (with_others done (of d.entry)) ds (with_others_distinct done (of d.entry) h (All-head (λ x. AreDistinct (of x.entry)) d ds g)) (All-tail (λ x. AreDistinct (of x.entry)) d ds g)
 
 flags_distinct : (o : MergeOptions) (ds : List NamedEntry) → 0 < length ds → All (λ d. AreDistinct d.entry.flags) ds → AreDistinct (comment_of o Flags ds)
-flags_distinct o ds some h = found o.use_first where
-  found : (b : Bool) → AreDistinct (if b then texts_of Flags (first_translated ds) else collected (texts_of Flags) ds)
-  found true = first_with_keeps (λ e. AreDistinct e.flags) has_translation ds some h
-  found false = distinct_from (texts_of Flags) [] ds tt h
+flags_distinct o ds some h =
+    cond_both o.use_first (texts_of Flags (first_translated ds)) (collected (texts_of Flags) ds) AreDistinct (λ _. first_with_keeps (λ e. AreDistinct e.flags) has_translation ds some h) (λ _. distinct_from (texts_of Flags) [] ds tt h)
 
 -- the quoted texts of an entry, part by part
 
@@ -138,10 +131,7 @@ IsText-append : (a b : List ℕ) → IsText a → IsText b → IsText (a ++ b)
 IsText-append a b h g = record { utf8 = IsUtf8-append a b h.utf8 g.utf8; no_nul = All-append (λ c. c ≡ 0 → ⊥) a b h.no_nul g.no_nul }
 
 ended_text : (form : List ℕ) → IsText form → IsText (ended form)
-ended_text form h = found (ends_with nat_eq form (10 ∷ [])) where
-  found : (b : Bool) → IsText (if b then form else form ++ 10 ∷ [])
-  found true = h
-  found false = IsText-append form (10 ∷ []) h (ascii_text (10 ∷ []) refl)
+ended_text form h = cond_both (ends_with nat_eq form (10 ∷ [])) form (form ++ 10 ∷ []) IsText (λ _. h) (λ _. IsText-append form (10 ∷ []) h (ascii_text (10 ∷ []) refl))
 
 marked_text : (name form : List ℕ) → IsText name → IsText form → IsText (marked name form)
 marked_text name form h g =
@@ -164,15 +154,8 @@ joined_text (t ∷ ts) i h =
 joined_texts : (ts : List NamedEntry) → All IsDefinition ts → All IsText (joined_forms ts)
 joined_texts ts h = All-map IsText (joined_form ts) (range_with_len 0 (form_count ts)) (λ k d below. joined_text ts _ h)
 
-first_ones_from : (P : NamedEntry → Type 0) (alike : NamedEntry → NamedEntry → Bool) (done ds : List NamedEntry) → All P done → All P ds → All P (fold (with_new alike) done ds)
-first_ones_from P alike done [] h g = h
-first_ones_from P alike done (d ∷ ds) h g = first_ones_from P alike (with_new alike done d) ds (found (list_any (alike d) done)) (All-tail P d ds g) where
-  found : (b : Bool) → All P (if b then done else done ++ d ∷ [])
-  found true = h
-  found false = All-push P done d h (All-head P d ds g)
-
 pub translations_all : (P : NamedEntry → Type 0) (ds : List NamedEntry) → All P ds → All P (translations ds)
-translations_all P ds h = first_ones_from P same_forms [] (filter (λ d. has_translation d.entry) ds) (All-nil P) (All-filter (λ d. has_translation d.entry) P ds h)
+translations_all P ds h = all_first_ones same_forms P (filter (λ d. has_translation d.entry) ds) (All-filter (λ d. has_translation d.entry) P ds h)
 
 -- how many forms
 
@@ -228,10 +211,8 @@ several o ds e = let more = ltb-true 1 (length (translations ds)) (and_parts (no
 
 -- a fact of the forms, where it holds of joined ones and of those of each definition
 forms_keep : (Q : List (List ℕ) → Type 0) (o : MergeOptions) (ds : List NamedEntry) → 0 < length ds → (is_joined o ds ≡ true → Q (joined_forms (translations ds))) → All (λ d. Q d.entry.forms) ds → Q (merged_forms o ds)
-forms_keep Q o ds some joined each = found (is_joined o ds) refl where
-  found : (b : Bool) → is_joined o ds ≡ b → Q (if b then joined_forms (translations ds) else (first_translated ds).forms)
-  found true e = joined e
-  found false e = first_with_keeps (λ x. Q x.forms) has_translation ds some each
+forms_keep Q o ds some joined each =
+    cond_both (is_joined o ds) (joined_forms (translations ds)) (first_translated ds).forms Q joined (λ _. first_with_keeps (λ x. Q x.forms) has_translation ds some each)
 
 pub merged_is_entry : (o : MergeOptions) (ds : List NamedEntry) → 0 < length ds → All IsDefinition ds → IsEntry (merged_entry o ds)
 merged_is_entry o ds some h = record {

@@ -1,6 +1,6 @@
 //! The entries of all inputs, grouped by context and msgid.
 
-ghost use Rattle.std.specs.Prelude.{◌≡◌, ◌++◌, ◌∷◌, [], All, IfOk, IsUtf8, List, OnOk, length, map};
+ghost use Rattle.std.specs.Prelude.{◌≡◌, ◌≤◌, ◌+◌, ◌++◌, ◌∷◌, [], ℕ, All, IfOk, IsUtf8, List, OnOk, get_or, length, map, max};
 ghost use Rattle.po_messages.specs.FirstOnes.{first_ones, group_numbers};
 ghost use Rattle.po_messages.specs.Message.{Message, same_message};
 ghost use Rattle.po_messages.specs.MessageView.{messages_of_keys};
@@ -60,13 +60,21 @@ fn keys_of<'a>(alloc: Global, entries: &[NamedEntry<'a>]) -> Result<Vec<MessageK
     Ok(keys)
 }
 
-/// A group of one.
-fn alone<T: Copy>(alloc: Global, thing: T) -> Result<Vec<T>, AllocError>
-    ensures { IfOk result (λ group. group.items ≡ thing ∷ []) }
+/// Room for a group of this number, which is begun where it is the next one.
+fn make_room<T: Copy>(
+    alloc: Global,
+    groups: &mut Vec<Vec<T>>,
+    number: usize,
+) -> Result<(), AllocError>
+    requires { number ≤ length groups.old.items }
+    ensures same { OnOk result ((n : ℕ) → get_or (map (λ group. group.items) groups.new.items) n []
+        ≡ get_or (map (λ group. group.items) groups.old.items) n []) }
+    ensures long { OnOk result (length groups.new.items ≡ max (length groups.old.items) (number + 1)) }
 {
-    let mut group = Vec::with_capacity(alloc, 1)?;
-    group.push(thing)?;
-    Ok(group)
+    if number == groups.len() {
+        groups.push(Vec::with_capacity(alloc, 1)?)?;
+    }
+    Ok(())
 }
 
 /// What belongs to each message, by the numbers of the messages, from 0 on. Refused only where an
@@ -86,10 +94,7 @@ pub fn groups_of<T: Copy>(
     let mut groups = Vec::new(alloc);
     for (index, thing) in things.iter().enumerate() {
         let number = numbers[index];
-        if number == groups.len() {
-            groups.push(alone(alloc, *thing)?)?;
-            continue;
-        }
+        make_room(alloc, &mut groups, number)?;
         groups[number].push(*thing)?;
     }
     Ok(groups)

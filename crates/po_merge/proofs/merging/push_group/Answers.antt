@@ -6,9 +6,9 @@ use Rattle.std.proofs.lemmas.Result.{IfErr-weaker, on_ok_weaker}
 use Rattle.po_entry.specs.Header.{is_header}
 use Rattle.po_messages.specs.Joined.{is_live}
 use Rattle.po_merge.specs.declared.definition.NamedEntry.{NamedEntry as BorrowedEntry}
-use Rattle.po_merge.specs.Groups.{definitions, definitions_by}
+use Rattle.po_merge.specs.Groups.{definitions_by}
 use Rattle.po_merge.specs.InputsView.{named_entry, named_entries}
-use Rattle.po_merge.specs.Merged.{IsMergeFault, is_kept_by, merged_messages}
+use Rattle.po_merge.specs.Merged.{IsMergeFault, is_kept_by}
 use Rattle.po_merge.specs.MergedEntry.{merged_entry}
 use Rattle.po_merge.proofs.GroupsMerged.{dropped_group, group_kept, kept_group}
 use Rattle.po_merge.proofs.merging.push_group.Goals as goal
