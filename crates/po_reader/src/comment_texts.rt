@@ -4,7 +4,7 @@ ghost use Rattle.std.specs.Prelude.{◌≡◌, ◌<◌, ◌≤◌, ◌++◌, ◌
 ghost use Rattle.std.specs.List.{slice_split, suffix_len};
 ghost use Rattle.po_syntax.specs.Blanks.{is_blank};
 ghost use Rattle.po_entry.specs.Bytes.{trimmed, without_end_blanks};
-ghost use Rattle.po_entry.specs.TextEntry.{texts};
+ghost use Rattle.po_entry.specs.TextEntry.{slice_texts, texts};
 ghost use Rattle.po_entry.specs.Comments.{is_comma, listed_references, listed_flags};
 
 use po_syntax::{is_blank, skip_blanks};
@@ -97,19 +97,15 @@ pub(crate) fn add_references(
 }
 
 /// Adds the flags of a text, `fuzzy` among them, which stand between commas.
-pub(crate) fn add_flags(
-    alloc: Global,
-    flags: &mut Vec<Vec<u8>>,
-    text: &[u8],
-) -> Result<(), AllocError>
-    ensures { OnOk result (texts flags.new.items ≡ texts flags.old.items ++ listed_flags text.now) }
+pub(crate) fn add_flags<'i>(flags: &mut Vec<&'i [u8]>, text: &'i [u8]) -> Result<(), AllocError>
+    ensures { OnOk result (slice_texts flags.new.items ≡ slice_texts flags.old.items ++ listed_flags text.now) }
 {
     let mut rest = text;
     loop {
         let (piece, after) = cut(rest, first_comma(rest));
         let element = trimmed(piece);
         if !element.is_empty() {
-            add_element(flags, element.to_vec(alloc)?)?;
+            flags.push(element)?;
         }
         let Some(after) = after else {
             return Ok(());

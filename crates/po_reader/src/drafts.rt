@@ -25,9 +25,9 @@ use std::alloc::{AllocError, Global};
 const LEAST_ITEMS: usize = 4;
 
 /// The fields of an entry, from its head and its body.
-fn fields_of(alloc: Global, head: Head, body: Body) -> Result<Fields, AllocError>
+fn fields_of(alloc: Global, head: Head<'_>, body: Body) -> Result<Fields, AllocError>
     ensures { IfOk result (λ fields. (comment_texts : List CommentText) (previous : List PreviousText)
-        → HoldsHead head comment_texts previous
+        → HoldsHead head.entry comment_texts previous
         → entry_view fields ≡ entry_from comment_texts previous (body_view body)) }
 {
     let Head {
@@ -37,7 +37,7 @@ fn fields_of(alloc: Global, head: Head, body: Body) -> Result<Fields, AllocError
         flags,
         previous,
     } = head;
-    let flags = flags_of(alloc, flags)?;
+    let flags = flags_of(alloc, &flags)?;
     let Body {
         original,
         translation,

@@ -21,12 +21,12 @@ use std::alloc::{AllocError, Global};
 
 /// What stands before an entry's own lines.
 #[derive(Drop)]
-pub(crate) struct Head {
+pub(crate) struct Head<'i> {
     pub(crate) comments: Vec<Vec<u8>>,
     pub(crate) extracted: Vec<Vec<u8>>,
     pub(crate) references: Vec<Vec<u8>>,
     /// The flags with their repeats, `fuzzy` among them.
-    pub(crate) flags: Vec<Vec<u8>>,
+    pub(crate) flags: Vec<&'i [u8]>,
     pub(crate) previous: Previous,
 }
 
@@ -104,12 +104,12 @@ fn is_kept(with_comments: bool, kind: CommentKind) -> bool
 }
 
 /// Adds a comment to the fields of its kind, where it is wanted.
-fn add_comment(
+fn add_comment<'i>(
     alloc: Global,
-    head: &mut Head,
+    head: &mut Head<'i>,
     with_comments: bool,
     kind: CommentKind,
-    text: &[u8],
+    text: &'i [u8],
 ) -> Result<(), AllocError>
     ensures comment_texts { OnOk result ((comment_texts : List CommentText)
         → HoldsComments head.old (kept_comments with_comments comment_texts)
@@ -124,11 +124,11 @@ fn add_comment(
 }
 
 /// Adds a comment to the fields of its kind.
-fn add_kept_comment(
+fn add_kept_comment<'i>(
     alloc: Global,
-    head: &mut Head,
+    head: &mut Head<'i>,
     kind: CommentKind,
-    text: &[u8],
+    text: &'i [u8],
 ) -> Result<(), AllocError>
     ensures comment_texts { OnOk result ((comment_texts : List CommentText) → HoldsComments head.old comment_texts
         → HoldsComments head.new (comment_texts ++ (record { kind = kind; text = text.now }) ∷ [])) }
@@ -138,7 +138,7 @@ fn add_kept_comment(
         CommentKind::Translator => head.comments.push(text.to_vec(alloc)?)?,
         CommentKind::Extracted => head.extracted.push(text.to_vec(alloc)?)?,
         CommentKind::Reference => add_references(alloc, &mut head.references, text)?,
-        CommentKind::Flags => add_flags(alloc, &mut head.flags, text)?,
+        CommentKind::Flags => add_flags(&mut head.flags, text)?,
     }
     Ok(())
 }
@@ -157,12 +157,12 @@ fn set_previous(previous: &mut Previous, keyword: Keyword, text: Vec<u8>)
 }
 
 /// Takes what stands before an entry's own lines, all of it or without comments other than flags.
-pub(crate) fn take_head(
+pub(crate) fn take_head<'i>(
     alloc: Global,
-    rest: &mut Cursor<'_, '_>,
+    rest: &mut Cursor<'i, '_>,
     end: u32,
     with_comments: bool,
-) -> Result<Head, PoError>
+) -> Result<Head<'i>, PoError>
     ensures found { IfOk result (λ head. (comment_texts : List CommentText) × (previous : List PreviousText)
         × IsHead 0 rest.old comment_texts previous rest.new
         × HoldsHead head (kept_comments with_comments comment_texts) previous) }

@@ -1,7 +1,7 @@
 -- What contracts see of a head while it is read.
 use Rattle.std.specs.Prelude.{◌≡◌, List}
 use Rattle.po_reader.specs.declared.head.Head.{Head}
-use Rattle.po_entry.specs.TextEntry.{texts}
+use Rattle.po_entry.specs.TextEntry.{slice_texts, texts}
 use Rattle.po_entry.specs.EntryParts.{CommentText, PreviousText}
 use Rattle.po_entry.specs.Comments.{comments_of, extracted_of, references_of, all_listed_flags, previous_of}
 
@@ -10,7 +10,7 @@ pub record HoldsComments (head : Head) (comment_texts : List CommentText) : Type
   pub comments : texts head.comments.items ≡ comments_of comment_texts
   pub extracted : texts head.extracted.items ≡ extracted_of comment_texts
   pub references : texts head.references.items ≡ references_of comment_texts
-  pub flags : texts head.flags.items ≡ all_listed_flags comment_texts
+  pub flags : slice_texts head.flags.items ≡ all_listed_flags comment_texts
 
 -- the head holds these comments and previous texts
 pub record HoldsHead (head : Head) (comment_texts : List CommentText) (previous : List PreviousText) : Type 0 where

@@ -1,6 +1,7 @@
-use Rattle.std.proofs.Common.{◌≡◌, ◌++◌, ◌∷◌, [], ◌||◌, false, refl, ap, sym, subst, ◌∙◌}
+use Rattle.std.proofs.Common.{◌≡◌, ℕ, List, get_or, ◌++◌, ◌∷◌, [], ◌||◌, false, refl, ap, sym, subst, ◌∙◌}
 use Rattle.std.specs.Prelude.{bytes_eq}
 use Rattle.std.specs.List.{list_any}
+use Rattle.std.specs.Borrow.{Bor}
 use Rattle.std.specs.Ordering.{nat_cmp}
 use Rattle.std.specs.Cmp.Lexicographic.{slice_cmp}
 use Rattle.std.specs.BTreeMap.{is_at}
@@ -22,18 +23,17 @@ loop-flag-init c = record {
 pub loop-flag-preserved : goal.loop-flag-preserved
 loop-flag-preserved c =
     let inv = c.loop-flag.invariant in
+    let none : Bor (List ℕ) = record { ref_ptr = (0, 0); now = [] } in
+    let flag = get_or c.args.elements.now c.loop-flag.flag-index none in
     let flags = texts c.loop-flag.kept.items in
-    let here = c.as_slice.ensures.value in
-    let unmet : list_any (bytes_eq c.as_slice.result.now) flags ≡ false =
-    sym (inv.seen c.as_slice.result) ∙ not-true _ (sym c.in_ok-insert.ensures.added ∙ c.if-not-branch.false) in
-    let other : is_fuzzy_flag c.as_slice.result.now ≡ false = ap is_fuzzy_flag (here ∙ sym c.deref.ensures.value) ∙ sym c.if-is_fuzzy_flag.ensures in
-    let fresh : (is_fuzzy_flag c.as_slice.result.now || list_any (bytes_eq c.as_slice.result.now) flags) ≡ false = rw (other, unmet) refl in
-    let same = c.in_ok-to_vec.ensures.items_if_clones_equal (λ x y e. e) ∙ c.as_slice-in-loop-flag.ensures.value ∙ sym here in
-    let pushed : texts c.push.new.self.items ≡ flags ++ c.as_slice.result.now ∷ [] =
+    let unmet : list_any (bytes_eq flag.now) flags ≡ false =
+    sym (inv.seen flag) ∙ not-true _ (sym c.in_ok-insert.ensures.added ∙ c.if-not-branch.false) in
+    let other : is_fuzzy_flag flag.now ≡ false = sym c.if-is_fuzzy_flag.ensures in
+    let fresh : (is_fuzzy_flag flag.now || list_any (bytes_eq flag.now) flags) ≡ false = rw (other, unmet) refl in
+    let same = c.in_ok-to_vec.ensures.items_if_clones_equal (λ x y e. e) in
+    let pushed : texts c.push.new.self.items ≡ flags ++ flag.now ∷ [] =
     ap texts c.in_ok-push.ensures.items ∙ map-append (λ v. v.items) c.loop-flag.kept.items (c.in_ok-to_vec.field-0 ∷ []) ∙ ap (λ n. flags ++ n ∷ []) same in
     record {
-      are_kept = pushed ∙ ap (λ n. flags ++ n ∷ []) here
-          ∙ flags_more c.args.elements.now c.loop-flag.flag-index c.flag-item.result flags false c.loop-flag-test.true c.flag-item.is inv.are_kept
-          (ap (λ n. is_fuzzy_flag n || list_any (bytes_eq n) flags) (sym here) ∙ fresh);
-      seen = subst (HoldsTexts c.insert.new.self) (sym pushed) (one_text_more c.loop-flag.seen c.insert.new.self c.as_slice.result flags inv.seen c.in_ok-insert.ensures.updates.0);
+      are_kept = pushed ∙ flags_more c.args.elements.now c.loop-flag.flag-index none flags false c.loop-flag-test.true inv.are_kept fresh;
+      seen = subst (HoldsTexts c.insert.new.self) (sym pushed) (one_text_more c.loop-flag.seen c.insert.new.self flag flags inv.seen c.in_ok-insert.ensures.updates.0);
     }
