@@ -12,10 +12,10 @@ use Rattle.po_select.specs.declared.selection.Selection.{Selection}
 use Rattle.po_select.specs.Selected.{changed, is_kept, obsolete_after, selected}
 use Rattle.po_messages.specs.Message.{Message, entry_message}
 use Rattle.msgattrib.specs.Msgattrib.{IsMsgattribRun, error_line}
-use Rattle.text_runs.specs.Repeats.{IsEarliestRepeat, NumbersDiffer, numbered}
+use Rattle.po_messages.specs.Places.{IsEarliestRepeat, NumbersDiffer, numbered}
 use Rattle.msgattrib.specs.Internal.SelectedText.{IsSelectionFault, RepeatsSelected, stays_live}
-use Rattle.text_runs.proofs.RepeatLemmas.{AreAmong, all_among, duplicate_of, numbers_differ}
-use Rattle.text_runs.proofs.NumberLemmas.{number_in, own_of}
+use Rattle.po_messages.proofs.PlaceLemmas.{AreAmong, all_among, duplicate_of, numbers_differ}
+use Rattle.po_messages.proofs.NumberLemmas.{number_in, own_of}
 use Rattle.runs.specs.Run.{refusal, run_view}
 use Rattle.runs.specs.declared.run.Run.{Run}
 

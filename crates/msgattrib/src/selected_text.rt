@@ -10,13 +10,12 @@ ghost use Rattle.po_syntax.specs.declared.fault.PoFault.{PoFault};
 ghost use Rattle.msgattrib.specs.Internal.SelectedText.{HaveNoDuplicate, AreSelected, HoldRows, IsRowsFault, IsSelectedText, IsSelectedWhole, IsSelectionFault, stays_live};
 
 use po_entry::{Catalogue, Entry};
-use po_messages::is_live;
+use po_messages::{EntryPlace, KeyBuffer, duplicate_at, is_live, repeated_lines};
 use po_reader::{PIECE, next_catalogue};
 use po_select::{Selection, select};
 use po_syntax::{Pieces, PoError};
 use po_writer::TextParts;
 use std::alloc::{AllocError, Global};
-use text_runs::{EntryPlace, KeyBuffer, duplicate, repeated_lines};
 
 /// What is kept of the entries that have been read.
 #[derive(Drop)]
@@ -84,10 +83,10 @@ impl Rows {
         let numbers = self.keys.numbers(alloc)?;
         let mut seen = Vec::new(alloc);
         if let Some((first, later)) = repeated_lines(alloc, &mut seen, 1, &numbers, &self.read)? {
-            return Err(duplicate(first, later));
+            return Err(duplicate_at(first, later));
         }
         match repeated_lines(alloc, &mut seen, 2, &numbers, &self.kept)? {
-            Some((first, _)) => Err(duplicate(first, 0)),
+            Some((first, _)) => Err(duplicate_at(first, 0)),
             None => Ok(()),
         }
     }

@@ -21,13 +21,13 @@ use Rattle.po_messages.specs.Facts.Zips.{zip_at, zip_length, zip_more, zip_split
 use Rattle.msgcat.specs.Internal.Entries.{HoldEntries, unnamed}
 use Rattle.msgcat.specs.Internal.Inputs.{AddsEntries, AreReadUpTo, IsFaultOfFirst, IsFirstRepeating, IsReadInput, IsTextOf}
 use Rattle.msgcat.specs.Msgcat.{AreReadAs, IsFileFault}
-use Rattle.text_runs.specs.Repeats.{IsEarliestRepeat, NumbersDiffer, are_numbered, are_placed, numbered, place_of}
+use Rattle.po_messages.specs.Places.{IsEarliestRepeat, NumbersDiffer, are_numbered, are_placed, numbered, place_of}
 use Rattle.msgcat.specs.declared.entries.Entries.{Entries}
 use Rattle.msgcat.specs.declared.inputs.FileFault.{FileFault}
 use Rattle.msgcat.specs.declared.inputs.ReadInput.{ReadInput}
 use Rattle.msgcat.specs.declared.inputs.ReadInputs.{ReadInputs}
-use Rattle.text_runs.proofs.RepeatLemmas.{AreAmong, all_among, numbers_differ}
-use Rattle.text_runs.proofs.NumberLemmas.{number_in, numbers_are, own_of, repeats_in}
+use Rattle.po_messages.proofs.PlaceLemmas.{AreAmong, all_among, numbers_differ}
+use Rattle.po_messages.proofs.NumberLemmas.{number_in, numbers_are, own_of, repeats_in}
 use Rattle.runs.specs.NamedFile.{NamedFile}
 
 pub unnamed_named : (name : List ℕ) (entries : List TextEntry) → unnamed (map (named name) entries) ≡ entries

@@ -8,10 +8,9 @@ ghost use Rattle.msgcat.specs.Internal.Entries.{HoldEntries};
 
 use po_entry::Entry;
 use po_merge::Member;
-use po_messages::is_live;
+use po_messages::{KeyBuffer, is_live};
 use po_writer::append_separated;
 use std::alloc::{AllocError, Global};
-use text_runs::KeyBuffer;
 
 /// Where the text of an entry stands, and what is known of the entry.
 #[derive(Clone, Copy)]

@@ -14,16 +14,15 @@ ghost use Rattle.po_merge.specs.Inputs as merge;
 ghost use Rattle.po_reader.specs.Internal.Keeping.{IsTextError};
 ghost use Rattle.msgcat.specs.Internal.Inputs.{AddsEntries, AreReadUpTo, HoldInputs, IsFirstRepeating, IsReadInput};
 ghost use Rattle.msgcat.specs.Msgcat.{AreReadAs, IsFileFault};
-ghost use Rattle.text_runs.specs.Repeats.{are_placed, place_of};
+ghost use Rattle.po_messages.specs.Places.{are_placed, place_of};
 ghost use Rattle.runs.specs.NamedFile.{named_files};
 
 use crate::entries::{Entries, EntryRow};
 use po_entry::{Catalogue, Entry};
-use po_messages::is_live;
+use po_messages::{EntryPlace, duplicate_at, is_live, repeated_lines, split_at_most};
 use po_reader::{PIECE, next_catalogue};
 use po_syntax::{Pieces, PoError, PoFault};
 use std::alloc::{AllocError, Global};
-use text_runs::{EntryPlace, duplicate, repeated_lines, split_at_most};
 
 /// Why an input isn't read.
 #[derive(Clone, Copy)]
@@ -65,9 +64,9 @@ pub(crate) struct ReadInputs<'a> {
     pub(crate) fault: Option<FileFault<'a>>,
 }
 
-/// Inputs in none of which a live entry repeats an earlier one.
+/// The entries of inputs in none of which a live entry repeats an earlier one.
 #[derive(Drop)]
-pub(crate) struct Inputs<'a> {
+pub(crate) struct NumberedEntries<'a> {
     /// The texts of their entries, each after an empty line.
     pub(crate) text: Vec<u8>,
     /// A row for each entry.
@@ -187,7 +186,7 @@ fn first_duplicate<'a>(
         if let Some((first, later)) = found {
             return Ok(Some(FileFault {
                 name: input.name,
-                error: duplicate(first, later),
+                error: duplicate_at(first, later),
             }));
         }
         rest = after;
@@ -200,7 +199,7 @@ fn first_duplicate<'a>(
 pub(crate) fn read_inputs<'a>(
     alloc: Global,
     inputs: &[(&'a str, &[u8])],
-) -> Result<Inputs<'a>, FileFault<'a>>
+) -> Result<NumberedEntries<'a>, FileFault<'a>>
     requires { All (λ file. Lacks 0 file.name) (named_files inputs.now) }
     ensures read { IfOk result (λ kept. (read : List merge.Named) × AreReadAs (named_files inputs.now) read
         × HoldInputs (merge.all_entries read) kept) }
@@ -219,7 +218,7 @@ pub(crate) fn read_inputs<'a>(
     }
     match fault {
         Some(fault) => Err(fault),
-        None => Ok(Inputs {
+        None => Ok(NumberedEntries {
             text,
             rows,
             numbers,

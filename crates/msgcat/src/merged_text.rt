@@ -18,7 +18,7 @@ ghost use Rattle.msgcat.specs.Internal.Inputs.{HoldInputs};
 ghost use Rattle.msgcat.specs.Internal.MergedText.{AreGroups, AreReadBack, AreWritten, IsOnly, IsTextOfMerged};
 
 use crate::entries::{EntryRow, between};
-use crate::inputs::Inputs;
+use crate::inputs::NumberedEntries;
 use po_catalog::laws::what_is_written_reads_back;
 use po_entry::Catalogue;
 use po_merge::laws::{groups_are_numbered, lines_are_not_merged, one_definition_stays};
@@ -182,7 +182,7 @@ fn merge_groups(
 /// header whose charset isn't admitted, and where an allocation failed.
 pub(crate) fn merged_text(
     alloc: Global,
-    inputs: &Inputs<'_>,
+    inputs: &NumberedEntries<'_>,
     options: &MergeOptions,
 ) -> Result<Vec<u8>, PoError>
     requires { (entries : List merge.NamedEntry) × HoldInputs entries inputs.now }

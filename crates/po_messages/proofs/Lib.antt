@@ -1,3 +1,4 @@
+pub mod RepeatLemmas
 pub mod StatisticsLemmas
 pub mod DuplicateLemmas
 pub mod JoiningLemmas
@@ -8,3 +9,6 @@ pub mod MessageIndex
 pub mod CountedOnce
 pub mod WrittenCounts
 pub mod EarlierNamed
+pub mod KeyLemmas
+pub mod PlaceLemmas
+pub mod NumberLemmas

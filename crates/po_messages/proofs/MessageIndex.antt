@@ -1,23 +1,20 @@
 -- The index of messages: its keys are the first ones of those so far.
-use Rattle.std.proofs.Common.{◌≡◌, ◌≢◌, ◌↔◌, ℕ, ◌+◌, ◌<◌, Bool, true, false, ◌&&◌, cond, not, List, [], ◌∷◌, ◌++◌, Option, Some, None, refl, sym, ap, ap₂, ◌∙◌, subst, length, take, get_or, AllPairs, arith, length-take, true≢false, get_or-take}
+use Rattle.std.proofs.Common.{◌≡◌, ◌↔◌, ℕ, ◌+◌, ◌<◌, Bool, true, false, ◌&&◌, cond, not, List, [], ◌∷◌, ◌++◌, Option, Some, None, refl, sym, ap, ap₂, ◌∙◌, length, take, get_or}
 use Rattle.std.specs.Borrow.{Bor}
 use Rattle.std.specs.Option.{option_eq, option_copied}
 use Rattle.std.specs.Str.{bytes_eq}
 use Rattle.std.specs.List.{list_any, position_or_len}
 use Rattle.std.specs.Cmp.{IsEquivalence, and_equiv, on_equiv}
 use Rattle.std.specs.Cmp.Lexicographic.{options_equiv, nat_list_eq_equiv}
-use Rattle.std.proofs.lemmas.List.{map-append, take_more, length-map, get_or-map, get_or_default, take-map}
-use Rattle.std.proofs.lemmas.List.Quantifiers.{all_pairs_push}
-use Rattle.std.proofs.lemmas.List.Folds.{list_any_at}
-use Rattle.std.proofs.lemmas.List.Sums.{passes_at_first}
+use Rattle.std.proofs.lemmas.List.{map-append, take_more, get_or-map}
 use Rattle.std.proofs.lemmas.Slice.Eq.{bytes_eq-Decides}
 use Rattle.std.proofs.lemmas.Bool.{and_parts}
 use Rattle.indexmap.specs.IndexSet.{insert_key}
 use Rattle.po_messages.specs.declared.message_index.MessageKey.{MessageKey}
 use Rattle.po_messages.specs.FirstOnes.{with_new, first_ones, group_numbers}
-use Rattle.po_messages.specs.Message.{Message, IsFirstRepeat, same_message}
+use Rattle.po_messages.specs.Message.{Message, same_message}
 use Rattle.po_messages.specs.MessageView.{message_of_key, messages_of_keys}
-use Rattle.po_messages.proofs.FirstOnes.{firsts_push, found_within, numbers_push, one_number}
+use Rattle.po_messages.proofs.FirstOnes.{firsts_push, numbers_push, one_number}
 
 -- whether two keys are equal
 abbrev pub same_key : MessageKey → MessageKey → Bool
@@ -85,76 +82,6 @@ messages_are a b h =
     ap₂ make contexts ids where
       make : Option (List ℕ) → List ℕ → Message
       make c i = record { context = c; id = i }
-
-abbrev Apart : List Message → Type 0
-Apart ms = AllPairs (λ a b. a ≢ b) ms
-
-pub none_apart : Apart []
-none_apart = λ i j d below inside. absurd (omega (arith, inside))
-
-module _ (ms : List Message) (i : ℕ) (m e : Message) (inside : i < length ms) (here : m ≡ get_or ms i e) (apart : Apart (take i ms)) where
-  short : length (take i ms) ≡ i
-  short = omega (arith, length-take i ms, inside)
-
-  -- a message that is none of those before it
-  pub still_apart : list_any (same_message m) (take i ms) ≡ false → Apart (take (i + 1) ms)
-  still_apart none =
-      subst Apart (ap (λ (x : Message). take i ms ++ x ∷ []) here ∙ sym (take_more ms i e inside))
-      (all_pairs_push (λ a b. a ≢ b) (take i ms) m apart (λ k d below same.
-      let met = list_any_at (same_message m) (take i ms) k d below (ap (same_message m) same ∙ same_message_laws.refl m) in
-      true≢false (sym met ∙ none)))
-
-  -- a message that is one of those before it
-  pub repeats : list_any (same_message m) (take i ms) ≡ true → (first : ℕ) → first ≡ position_or_len (same_message m) (take i ms) → IsFirstRepeat ms first i
-  repeats met first is =
-      let within = found_within (same_message m) (take i ms) met in
-      let before : first < i = omega (arith, within, is, short) in record {
-        earlier = before;
-        within = inside;
-        same = λ d.
-            let passes = passes_at_first (same_message m) (take i ms) d within in
-            let equal : m ≡ get_or (take i ms) (position_or_len (same_message m) (take i ms)) d = messages_are m _ passes in
-            let there : get_or (take i ms) first d ≡ get_or ms first d = get_or-take i ms first d before in
-            sym there ∙ ap (λ n. get_or (take i ms) n d) is ∙ sym equal ∙ here ∙ get_or_default ms i e d inside;
-        apart = apart;
-      }
-
--- the index has these keys, no two of which are equal
-pub record AreDifferent (keys index : List MessageKey) : Type 0 where
-  pub all : messages_of_keys index ≡ messages_of_keys keys
-  pub apart : Apart (messages_of_keys keys)
-
-module _ (keys index new : List MessageKey) (i : ℕ) (key d : MessageKey) (inside : i < length keys) (here : key ≡ get_or keys i d) (so_far : AreDifferent (take i keys) index) (is_new : Bool)
-    (added : is_new ≡ not (list_any (same_key key) index)) where
-  long : i < length (messages_of_keys keys)
-  long = omega (arith, inside, length-map keys message_of_key)
-
-  at : message_of_key key ≡ get_or (messages_of_keys keys) i (message_of_key key)
-  at = ap message_of_key here ∙ sym (get_or-map message_of_key keys i d (message_of_key key) inside)
-
-  seen : list_any (same_message (message_of_key key)) (take i (messages_of_keys keys)) ≡ not is_new
-  seen =
-      ap (list_any (same_message (message_of_key key))) (take-map message_of_key i keys ∙ sym so_far.all) ∙ any_key key index ∙ sym (ap not added ∙ twice (list_any (same_key key) index)) where
-        twice : (b : Bool) → not (not b) ≡ b
-        twice true = refl
-        twice false = refl
-
-  apart_before : Apart (take i (messages_of_keys keys))
-  apart_before = subst Apart (sym (take-map message_of_key i keys)) so_far.apart
-
-  pub different_more : is_new ≡ true → new ≡ insert_key same_key index key → AreDifferent (take (i + 1) keys) new
-  different_more is_true inserts =
-      let none : list_any (same_key key) index ≡ false = sym (any_key key index) ∙ ap (list_any (same_message (message_of_key key))) (so_far.all ∙ sym (take-map message_of_key i keys)) ∙ seen ∙ ap not is_true in
-      record {
-        all = ap messages_of_keys (inserts ∙ ap (λ (b : Bool). cond b index (index ++ key ∷ [])) none) ∙ map-append message_of_key index (key ∷ []) ∙ ap (λ (l : List Message). l ++ message_of_key key ∷ []) so_far.all
-            ∙ sym (messages_more keys i key d inside here);
-        apart = subst Apart (take-map message_of_key (i + 1) keys) (still_apart (messages_of_keys keys) i (message_of_key key) (message_of_key key) long at apart_before (seen ∙ ap not is_true));
-      }
-
-  pub key_repeats : is_new ≡ false → (first : ℕ) → first ≡ position_or_len (same_key key) index → IsFirstRepeat (messages_of_keys keys) first i
-  key_repeats is_false first is =
-      repeats (messages_of_keys keys) i (message_of_key key) (message_of_key key) long at apart_before (seen ∙ ap not is_false) first
-      (is ∙ sym (place_of_key key index) ∙ ap (λ (l : List Message). position_or_len (same_message (message_of_key key)) l) (so_far.all ∙ sym (take-map message_of_key i keys)))
 
 -- messages have one number exactly where they are the same
 pub numbers_tell : (ms : List Message) (i j : ℕ) (d : Message) → i < length ms → j < length ms

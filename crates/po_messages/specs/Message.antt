@@ -20,9 +20,9 @@ entry_message entry = record { context = entry.context; id = entry.id }
 abbrev pub entry_messages : List TextEntry → List Message
 entry_messages entries = map entry_message entries
 
--- the message at `later` is the first that stands before it too, at `first`
-pub record IsFirstRepeat (messages : List Message) (first later : ℕ) : Type 0 where
+-- what stands at `later` is the first that stands before it too, at `first`
+pub record IsFirstRepeat {X : Type 0} (list : List X) (first later : ℕ) : Type 0 where
   pub earlier : first < later
-  pub within : later < length messages
-  pub same : (d : Message) → get_or messages first d ≡ get_or messages later d
-  pub apart : AllPairs (λ a b. a ≢ b) (take later messages)
+  pub within : later < length list
+  pub same : (d : X) → get_or list first d ≡ get_or list later d
+  pub apart : AllPairs (λ a b. a ≢ b) (take later list)

@@ -9,9 +9,11 @@ ghost use Rattle.po_messages.specs.MessageView.{messages_of_keys};
 ghost use Rattle.po_entry.specs.Validity.{out_of_memory};
 
 use crate::joining::{InputEntry, add_entries, is_live, joined};
-use crate::message_index::{MessageKey, first_repeat, message_key};
+use crate::message_index::{MessageKey, grouped, message_key};
+use crate::places::duplicate_at;
+use crate::repeats::first_repeat;
 use po_entry::Catalogue;
-use po_syntax::{PoError, PoFault};
+use po_syntax::PoError;
 use std::alloc::{AllocError, AllocFailed, Global};
 use thiserror::Error;
 
@@ -86,7 +88,9 @@ fn first_duplicate(alloc: Global, entries: &[InputEntry<'_>]) -> Result<(), Join
 {
     let live = live_entries(alloc, entries)?;
     let keys = keys_of(alloc, &live)?;
-    match first_repeat(alloc, &keys)? {
+    let numbers = grouped(alloc, &keys)?;
+    let mut seen = Vec::new(alloc);
+    match first_repeat(&mut seen, 1, &numbers)? {
         Some(repeat) => Err(duplicate(&live[repeat.first], &live[repeat.later])),
         None => Ok(()),
     }
@@ -127,9 +131,6 @@ fn duplicate(first: &InputEntry<'_>, later: &InputEntry<'_>) -> JoinError
     JoinError {
         input: later.input,
         first_input: first.input,
-        error: PoError {
-            kind: PoFault::Duplicate(first.entry.line()),
-            line: later.entry.line(),
-        },
+        error: duplicate_at(first.entry.line(), later.entry.line()),
     }
 }

@@ -4,19 +4,26 @@
 //!
 //! [`joined`] lists the entries of several inputs, [`duplicates`] finds the first message that
 //! stands twice, [`grouped`] numbers the messages of keys, and [`statistics`] counts what is
-//! translated.
+//! translated. Of entries that are dropped before all are read, a [`KeyBuffer`] keeps the messages, by
+//! whose numbers [`repeated_lines`] finds the live ones that repeat an earlier one.
 //!
-//! The modules in reading order: `joining`, `message_index`, `duplicate`, `stats`, `laws`.
+//! The modules in reading order: `joining`, `message_index`, `keys`, `repeats`, `places`, `duplicate`, `stats`, `laws`.
 
 #![tactic(auto)]
 
 mod duplicate;
 mod joining;
+mod keys;
 pub mod laws;
 mod message_index;
+mod places;
+mod repeats;
 mod stats;
 
 pub use crate::duplicate::{JoinError, duplicates, joined_duplicates};
 pub use crate::joining::{InputEntry, is_live, is_live_header, joined};
-pub use crate::message_index::{MessageKey, Repeat, first_repeat, grouped, message_key};
+pub use crate::keys::{KeyBuffer, KeySpans, split_at_most};
+pub use crate::message_index::{MessageKey, grouped, message_key};
+pub use crate::places::{EntryPlace, duplicate_at, repeated_lines};
+pub use crate::repeats::{Repeat, Seen, first_repeat};
 pub use crate::stats::{Stats, entry_statistics, has_translation, statistics};

@@ -1,8 +1,8 @@
 //! An index of entries by context and msgid.
 
-ghost use Rattle.std.specs.Prelude.{◌≡◌, ◌≢◌, [], AllPairs, IfNone, IfOk, IfSome};
+ghost use Rattle.std.specs.Prelude.{◌≡◌, [], IfOk};
 ghost use Rattle.po_messages.specs.FirstOnes.{group_numbers};
-ghost use Rattle.po_messages.specs.Message.{IsFirstRepeat, entry_message, same_message};
+ghost use Rattle.po_messages.specs.Message.{entry_message, same_message};
 ghost use Rattle.po_messages.specs.MessageView.{message_of_key, messages_of_keys};
 
 use indexmap::IndexSet;
@@ -96,30 +96,4 @@ pub fn grouped(alloc: Global, keys: &[MessageKey<'_>]) -> Result<Vec<usize>, All
         numbers.push(number)?;
     }
     Ok(numbers)
-}
-
-/// A key that repeats an earlier one.
-#[derive(Clone, Copy, Debug, PartialEq, Eq)]
-pub struct Repeat {
-    /// The index of the earlier key.
-    pub first: usize,
-    /// The index of the key that repeats it.
-    pub later: usize,
-}
-
-/// The earliest key that repeats an earlier one, if there is one. Refused only where an allocation
-/// failed.
-pub fn first_repeat(alloc: Global, keys: &[MessageKey<'_>]) -> Result<Option<Repeat>, AllocError>
-    ensures none { IfOk result (λ found. IfNone found (AllPairs (λ a b. a ≢ b) (messages_of_keys keys.now))) }
-    ensures repeat { IfOk result (λ found. IfSome found
-        (λ r. IsFirstRepeat (messages_of_keys keys.now) r.first r.later)) }
-{
-    let mut index = empty_index(alloc, keys)?;
-    for (later, key) in keys.iter().enumerate() {
-        let (first, is_new) = index.insert_full(*key)?;
-        if !is_new {
-            return Ok(Some(Repeat { first, later }));
-        }
-    }
-    Ok(None)
 }

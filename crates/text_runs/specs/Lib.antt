@@ -1,3 +1,1 @@
-pub mod Keys
-pub mod Repeats
 pub mod TextRuns

@@ -11,8 +11,8 @@ use Rattle.po_select.specs.declared.selection.Selection.{Selection}
 use Rattle.po_select.specs.Selected.{is_kept, obsolete_after, selected}
 use Rattle.po_writer.specs.TextParts.{AreParts}
 use Rattle.po_writer.specs.WrittenText.{written_text}
-use Rattle.text_runs.specs.Keys.{HoldKeys}
-use Rattle.text_runs.specs.Repeats.{Repeats, are_placed}
+use Rattle.po_messages.specs.Keys.{HoldKeys}
+use Rattle.po_messages.specs.Places.{Repeats, are_placed}
 use Rattle.msgattrib.specs.declared.selected_text.Rows.{Rows}
 use Rattle.msgattrib.specs.declared.selected_text.SelectedSoFar.{SelectedSoFar}
 

@@ -7,7 +7,7 @@ use Rattle.po_messages.specs.Joined.{is_live}
 use Rattle.po_merge.specs.Grouping.{IsDefinition}
 use Rattle.po_merge.specs.Inputs.{NamedEntry}
 use Rattle.po_writer.specs.TextParts.{separated}
-use Rattle.text_runs.specs.Keys.{HoldKeys}
+use Rattle.po_messages.specs.Keys.{HoldKeys}
 use Rattle.msgcat.specs.declared.entries.Entries.{Entries}
 use Rattle.msgcat.specs.declared.entries.EntryRow.{EntryRow}
 

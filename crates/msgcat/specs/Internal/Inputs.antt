@@ -9,10 +9,10 @@ use Rattle.po_messages.specs.Joined.{is_live}
 use Rattle.po_merge.specs.Grouping.{message_numbers}
 use Rattle.po_merge.specs.Inputs.{Named, NamedEntry, all_entries, named}
 use Rattle.msgcat.specs.Internal.Entries.{AreRows, HoldEntries}
-use Rattle.text_runs.specs.Repeats.{Repeats, are_placed}
+use Rattle.po_messages.specs.Places.{Repeats, are_placed}
 use Rattle.msgcat.specs.declared.entries.Entries.{Entries}
 use Rattle.msgcat.specs.declared.inputs.FileFault.{FileFault}
-use Rattle.msgcat.specs.declared.inputs.Inputs.{Inputs}
+use Rattle.msgcat.specs.declared.inputs.NumberedEntries.{NumberedEntries}
 use Rattle.msgcat.specs.declared.inputs.ReadInput.{ReadInput}
 use Rattle.msgcat.specs.declared.inputs.ReadInputs.{ReadInputs}
 use Rattle.runs.specs.NamedFile.{NamedFile}
@@ -63,6 +63,6 @@ pub record IsFirstRepeating (inputs : List Named) (fault : FileFault) : Type 0 w
   pub repeats : Repeats input.entries fault.error
 
 -- these are the entries that are kept, each with the number of its message
-pub record HoldInputs (entries : List NamedEntry) (kept : Inputs) : Type 0 where
+pub record HoldInputs (entries : List NamedEntry) (kept : NumberedEntries) : Type 0 where
   pub rows : AreRows kept.text.items entries kept.rows.items
   pub numbers : kept.numbers.items ≡ message_numbers entries

@@ -1,7 +1,7 @@
 use Rattle.std.proofs.Common.{◌≡◌, ◌++◌, take}
 use Rattle.po_messages.specs.Joined.{is_live}
 use Rattle.msgcat.specs.Internal.Inputs.{AddsEntries}
-use Rattle.text_runs.specs.Repeats.{are_placed}
+use Rattle.po_messages.specs.Places.{are_placed}
 use Rattle.msgcat.proofs.inputs.add_piece.Given as goal
 
 -- the entries so far are added

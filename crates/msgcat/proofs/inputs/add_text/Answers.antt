@@ -4,7 +4,7 @@ use Rattle.std.proofs.lemmas.Result.{err_from_is_err_and}
 use Rattle.po_messages.specs.Joined.{is_live}
 use Rattle.po_entry.specs.Faults.IsReadFault.{in_text}
 use Rattle.po_reader.proofs.PieceReading.{fault_of_text, left_over, whole_left}
-use Rattle.text_runs.specs.Repeats.{are_placed, place_of}
+use Rattle.po_messages.specs.Places.{are_placed, place_of}
 use Rattle.msgcat.proofs.InputLemmas.{adds_more, adds_none}
 use Rattle.msgcat.proofs.inputs.add_text.Goals as goal
 

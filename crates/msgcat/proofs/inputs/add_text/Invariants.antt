@@ -6,7 +6,7 @@ use Rattle.po_entry.specs.Faults.{IsReadFault}
 use Rattle.po_reader.specs.PieceRead.{IsLeftFault}
 use Rattle.po_messages.specs.Joined.{is_live}
 use Rattle.msgcat.specs.Internal.Inputs.{AddsEntries}
-use Rattle.text_runs.specs.Repeats.{are_placed}
+use Rattle.po_messages.specs.Places.{are_placed}
 use Rattle.msgcat.proofs.inputs.add_text.Given as goal
 
 -- the entries so far are added

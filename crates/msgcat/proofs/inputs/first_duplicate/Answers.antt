@@ -3,10 +3,10 @@ use Rattle.std.specs.Prelude.{MatchOption}
 use Rattle.po_messages.specs.Joined.{is_live}
 use Rattle.po_merge.specs.Inputs.{all_entries}
 use Rattle.msgcat.specs.Internal.Entries.{unnamed}
-use Rattle.text_runs.specs.Repeats.{IsEarliestRepeat, NumbersDiffer, numbered}
+use Rattle.po_messages.specs.Places.{IsEarliestRepeat, NumbersDiffer, numbered}
 use Rattle.msgcat.proofs.InputLemmas.{AreLeft, all_left, left_after, none_left, own, own_count, own_numbers, places_are, repeating}
-use Rattle.text_runs.proofs.RepeatLemmas.{none_kept}
-use Rattle.text_runs.proofs.NumberLemmas.{number_in}
+use Rattle.po_messages.proofs.RepeatLemmas.{none_kept}
+use Rattle.po_messages.proofs.NumberLemmas.{number_in}
 use Rattle.msgcat.proofs.inputs.first_duplicate.Goals as goal
 
 pub loop-index-init : goal.loop-index-init
@@ -41,7 +41,7 @@ returns-in-Some c = λ read partial known numbers.
     let own_are = c.split_at_most.ensures.first ∙ ap (λ n. take n rest) long ∙ own_numbers read partial inputs i input rest known inside here left in
     let places = c.deref.ensures.value ∙ places_are read partial inputs i input rest known inside here left in
     let found = subst (λ o. MatchOption o (NumbersDiffer list) (IsEarliestRepeat list)) c.in-Some.is (c.in_ok-found.ensures.found f is_live mine own_are places) in
-    repeating read partial inputs i input rest known inside here left (c.in-Some.first, c.in-Some.later) _ found refl c.duplicate.ensures
+    repeating read partial inputs i input rest known inside here left (c.in-Some.first, c.in-Some.later) _ found refl c.duplicate_at.ensures
 
 pub loop-index-preserved : goal.loop-index-preserved
 loop-index-preserved c = record {

@@ -3,7 +3,7 @@ use Rattle.std.specs.List.{AllZip}
 use Rattle.po_merge.specs.Grouping.{message_numbers}
 use Rattle.po_merge.specs.Inputs.{Named, NamedEntry, all_entries}
 use Rattle.msgcat.specs.Internal.Inputs.{IsReadInput}
-use Rattle.text_runs.specs.Repeats.{IsUnseen}
+use Rattle.po_messages.specs.Repeats.{IsUnseen}
 use Rattle.msgcat.proofs.InputLemmas.{AreLeft}
 use Rattle.msgcat.proofs.inputs.first_duplicate.Given as goal
 

@@ -9,7 +9,7 @@ use Rattle.po_messages.specs.Joined.{is_live}
 use Rattle.po_merge.specs.Inputs.{all_entries, named}
 use Rattle.msgcat.specs.Internal.Entries.{HoldEntries}
 use Rattle.msgcat.specs.Internal.Inputs.{IsReadInput}
-use Rattle.text_runs.specs.Repeats.{are_placed}
+use Rattle.po_messages.specs.Places.{are_placed}
 use Rattle.msgcat.proofs.InputLemmas.{entries_more, known_more, text_more}
 use Rattle.msgcat.proofs.MsgcatLemmas.{file_at, name_lacks}
 use Rattle.runs.specs.NamedFile.{NamedFile, named_file, named_files}

@@ -2,7 +2,7 @@ use Rattle.std.proofs.Common.{◌++◌, ◌∷◌, [], ◌∙◌, refl, subst, s
 use Rattle.std.proofs.lemmas.Result.{on_ok_weaker}
 use Rattle.po_merge.specs.Inputs.{named}
 use Rattle.msgcat.specs.Internal.Entries.{AreRows, unnamed}
-use Rattle.text_runs.specs.Keys.{HoldKeys}
+use Rattle.po_messages.specs.Keys.{HoldKeys}
 use Rattle.msgcat.proofs.EntryLemmas.{row_more, unnamed_more}
 use Rattle.msgcat.proofs.entries.Entries.add.Goals as goal
 

@@ -14,8 +14,8 @@ use Rattle.po_messages.specs.Joined.{in_input, is_live}
 use Rattle.po_messages.specs.Message.{Message, entry_message, same_message}
 use Rattle.po_messages.proofs.FirstOnes.{any_first_ones, found_within}
 use Rattle.po_messages.proofs.MessageIndex.{messages_are, same_message_laws}
-use Rattle.text_runs.specs.Repeats.{IsEarliestRepeat, Repeats, are_numbered, numbered}
-use Rattle.text_runs.proofs.RepeatLemmas.{AreAmong, AreOwn, all_among, duplicate_of}
+use Rattle.po_messages.specs.Places.{IsEarliestRepeat, Repeats, are_numbered, numbered}
+use Rattle.po_messages.proofs.PlaceLemmas.{AreAmong, AreOwn, all_among, duplicate_of}
 
 -- the number of a message among those of the entries
 abbrev pub number_in : List TextEntry → Message → ℕ

@@ -1,12 +1,12 @@
 use Rattle.std.proofs.Common.{None, ap, ap₂, sym, ◌∙◌, ◌+◌, ◌++◌, ◌∷◌, [], drop, map, take}
 use Rattle.std.specs.List.{flat_map}
 use Rattle.std.proofs.lemmas.List.{map_push}
-use Rattle.text_runs.specs.Keys.{key_bytes, key_lengths}
+use Rattle.po_messages.specs.Keys.{key_bytes, key_lengths}
 use Rattle.po_messages.specs.Message.{entry_message}
 use Rattle.po_messages.specs.MessageView.{message_of_key, messages_of_keys}
-use Rattle.text_runs.specs.declared.keys.KeySpans.{KeySpans}
-use Rattle.text_runs.proofs.KeyLemmas.{element_at}
-use Rattle.text_runs.proofs.keys.KeyBuffer.list.Goals as goal
+use Rattle.po_messages.specs.declared.keys.KeySpans.{KeySpans}
+use Rattle.po_messages.proofs.KeyLemmas.{element_at}
+use Rattle.po_messages.proofs.keys.KeyBuffer.list.Goals as goal
 
 pub loop-lengths-preserved : goal.loop-lengths-preserved
 loop-lengths-preserved c = λ entries h.

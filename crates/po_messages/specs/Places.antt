@@ -1,14 +1,12 @@
 -- Live entries that repeat an earlier one, by the numbers of their messages.
-use Rattle.std.specs.Prelude.{◌≡◌, ◌≢◌, ◌==◌, ℕ, Bool, List, ◌∷◌, ◌++◌, AllPairs, Option, None, Some, get_or, map}
-use Rattle.std.specs.Prelude.{if◌then◌else◌}
+use Rattle.std.specs.Prelude.{◌≡◌, ◌≢◌, ℕ, Bool, List, ◌∷◌, ◌++◌, AllPairs, map}
 use Rattle.po_syntax.specs.declared.fault.PoError.{PoError}
 use Rattle.po_entry.specs.TextEntry.{TextEntry}
 use Rattle.po_messages.specs.Duplicate.{IsFirstDuplicate, duplicate_fault}
 use Rattle.po_messages.specs.Joined.{InputEntry, in_input}
 use Rattle.po_messages.specs.Message.{Message, entry_message}
-use Rattle.text_runs.specs.declared.repeats.Numbered.{Numbered}
-use Rattle.text_runs.specs.declared.repeats.EntryPlace.{EntryPlace}
-use Rattle.text_runs.specs.declared.repeats.Seen.{Seen}
+use Rattle.po_messages.specs.declared.places.EntryPlace.{EntryPlace}
+use Rattle.po_messages.specs.declared.places.LiveOnes.{LiveOnes}
 
 -- the numbers of the entries' messages
 abbrev pub are_numbered : (Message → ℕ) → List TextEntry → List ℕ
@@ -20,6 +18,11 @@ place_of is_there entry = record { line = entry.line; is_live = is_there entry }
 
 abbrev pub are_placed : (TextEntry → Bool) → List TextEntry → List EntryPlace
 are_placed is_there entries = map (place_of is_there) entries
+
+-- a live entry: the number of its message, and the line of its msgid
+pub record Numbered : Type 0 where
+  pub number : ℕ
+  pub line : ℕ
 
 abbrev pub numbered : (Message → ℕ) → TextEntry → Numbered
 numbered number_of entry = record { number = number_of (entry_message entry); line = entry.line }
@@ -40,16 +43,10 @@ pub record IsEarliestRepeat (entries : List Numbered) (lines : ℕ × ℕ) : Typ
   pub differ : NumbersDiffer (before ++ first ∷ between)
   pub lines_are : lines ≡ (first.line, later.line)
 
--- the line that was kept of a number in this round
-abbrev pub line_of_round : ℕ → Seen → Option ℕ
-line_of_round round seen = if seen.round == round then Some seen.line else None
-
-abbrev pub line_seen : ℕ → List Seen → ℕ → Option ℕ
-line_seen round seen number = line_of_round round (get_or seen number (record { round = 0; line = 0 }))
-
--- no line was kept in this round
-abbrev pub IsUnseen : ℕ → List Seen → Type 0
-IsUnseen round seen = (number : ℕ) → line_seen round seen number ≡ None
+-- these are the numbers and the lines of the entries
+pub record AreLive (number_of : Message → ℕ) (entries : List TextEntry) (live : LiveOnes) : Type 0 where
+  pub numbers : live.numbers.items ≡ are_numbered number_of entries
+  pub lines : live.lines.items ≡ map (λ (e : TextEntry). e.line) entries
 
 -- the first duplicate of the entries
 abbrev pub Repeats : List TextEntry → PoError → Type 0

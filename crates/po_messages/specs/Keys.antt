@@ -2,8 +2,8 @@
 use Rattle.std.specs.Prelude.{◌≡◌, ℕ, List, [], ◌++◌, length, map, option_map, unwrap_or}
 use Rattle.std.specs.List.{flat_map}
 use Rattle.po_entry.specs.TextEntry.{TextEntry}
-use Rattle.text_runs.specs.declared.keys.KeySpans.{KeySpans}
-use Rattle.text_runs.specs.declared.keys.KeyBuffer.{KeyBuffer}
+use Rattle.po_messages.specs.declared.keys.KeySpans.{KeySpans}
+use Rattle.po_messages.specs.declared.keys.KeyBuffer.{KeyBuffer}
 
 -- the bytes of an entry's message, one after the other
 abbrev pub key_bytes : TextEntry → List ℕ

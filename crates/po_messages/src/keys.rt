@@ -4,13 +4,13 @@
 ghost use Rattle.std.specs.Prelude.{◌≡◌, ◌++◌, ◌∷◌, ℕ, [], IfOk, List, OnOk, Option, drop, length, map, option_map, take, unwrap_or};
 ghost use Rattle.std.specs.Option.{option_copied};
 ghost use Rattle.po_entry.specs.TextEntry.{TextEntry};
-ghost use Rattle.text_runs.specs.Keys.{HoldKeys, key_bytes, key_lengths};
+ghost use Rattle.po_messages.specs.Keys.{HoldKeys, key_bytes, key_lengths};
 ghost use Rattle.po_messages.specs.FirstOnes.{group_numbers};
 ghost use Rattle.po_messages.specs.Message.{entry_message, same_message};
 ghost use Rattle.po_messages.specs.MessageView.{message_of_key, messages_of_keys};
 
+use crate::message_index::{MessageKey, grouped};
 use po_entry::Entry;
-use po_messages::{MessageKey, grouped};
 use std::alloc::{AllocError, Global};
 
 /// How long the context of a message is, where it has one, and its msgid.

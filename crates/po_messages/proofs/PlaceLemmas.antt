@@ -1,100 +1,60 @@
 -- Live entries that repeat an earlier one, by the numbers of their messages.
-use Rattle.std.proofs.Common.{◌≡◌, ◌≢◌, refl, sym, ap, ap₂, ◌∙◌, subst, ℕ, ◌+◌, ◌<◌, Bool, true, false, cond, filter, List, [], ◌∷◌, ◌++◌, Option, Some, None, append_assoc, length, get_or, take, drop, map, arith, All, suc, ◌⊎◌, inl, inr}
+use Rattle.std.proofs.Common.{◌≡◌, ◌≢◌, refl, sym, ap, ap₂, ◌∙◌, subst, ℕ, ◌<◌, Bool, true, false, cond, filter, List, [], ◌∷◌, ◌++◌, length, get_or, take, drop, map, arith, All, AllPairs, length-take, get_or-take, suc}
 use Rattle.std.specs.Prelude.{Contains}
-use Rattle.std.proofs.lemmas.Bool.{cases_eq, ne_eqb}
-use Rattle.std.proofs.lemmas.List.{map-append, take-append-drop, get_or-map, length-map}
-use Rattle.std.proofs.lemmas.List.Elements.{All-nil, All-cons, All-append, All-head}
-use Rattle.std.proofs.lemmas.List.Quantifiers.{all_pairs_push}
+use Rattle.std.proofs.lemmas.List.{map-append, take-append-drop, take-map, get_or-map, length-map}
+use Rattle.std.proofs.lemmas.Simd.{map-map}
+use Rattle.std.proofs.lemmas.List.Elements.{All-head}
 use Rattle.std.proofs.Math.Seq.{drop-cons}
 use Rattle.po_entry.specs.TextEntry.{TextEntry}
 use Rattle.po_messages.specs.Duplicate.{AllDiffer, IsFirstDuplicate, live_entries}
 use Rattle.po_messages.specs.Joined.{InputEntry, entries_of, in_input, is_live}
 use Rattle.po_entry.specs.Facts.AllAppend.{All-left, All-right}
-use Rattle.po_messages.specs.Message.{Message, entry_message}
+use Rattle.po_messages.specs.Message.{IsFirstRepeat, Message, entry_message}
 use Rattle.po_messages.proofs.DuplicateLemmas.{entries_of_input, message_is}
-use Rattle.text_runs.specs.Repeats.{IsEarliestRepeat, IsUnseen, NumbersDiffer, line_seen, numbered}
-use Rattle.text_runs.specs.declared.repeats.Numbered.{Numbered}
-use Rattle.text_runs.specs.declared.repeats.Seen.{Seen}
+use Rattle.po_messages.specs.Places.{IsEarliestRepeat, Numbered, NumbersDiffer, are_numbered, numbered}
 
--- the first of those that have this number has this line
-pub record IsAt (done : List Numbered) (number line : ℕ) : Type 0 where
-  pub before : List Numbered
-  pub first : Numbered
-  pub after : List Numbered
-  pub split : done ≡ before ++ first ∷ after
-  pub number_is : first.number ≡ number
-  pub line_is : line ≡ first.line
+-- where the numbers are apart, no two have one number
+pub numbers_apart : (xs : List Numbered) → AllPairs (λ a b. a ≢ b) (map (λ (n : Numbered). n.number) xs) → NumbersDiffer xs
+numbers_apart xs apart = λ i j d below inside same.
+    let number : Numbered → ℕ = λ n. n.number in
+    apart i j (number d) below (omega (arith, inside, length-map xs number))
+    (get_or-map number xs i d (number d) (omega (arith, below, inside)) ∙ same ∙ sym (get_or-map number xs j d (number d) inside))
 
--- these are the lines that are seen, no two of which have one number
-pub record IsSeen (at : ℕ → Option ℕ) (done : List Numbered) : Type 0 where
-  pub found : (number line : ℕ) → at number ≡ Some line → IsAt done number line
-  pub absent : (number : ℕ) → at number ≡ None → All (λ n. n.number ≢ number) done
-  pub differ : NumbersDiffer done
+pub entries_apart : (number_of : Message → ℕ) (entries : List TextEntry) → AllPairs (λ a b. a ≢ b) (are_numbered number_of entries) → NumbersDiffer (map (numbered number_of) entries)
+entries_apart number_of entries apart =
+    let number : Numbered → ℕ = λ n. n.number in
+    numbers_apart (map (numbered number_of) entries) (subst (AllPairs (λ a b. a ≢ b)) (sym (map-map number (numbered number_of) entries)) apart)
 
-pub seen_none : (at : ℕ → Option ℕ) → ((number : ℕ) → at number ≡ None) → IsSeen at []
-seen_none at none = record {
-  found = λ number line is. absurd (let no = none number in cc (is, no));
-  absent = λ number is. All-nil (λ n. n.number ≢ number);
-  differ = λ i j d below inside. absurd (omega (arith, inside));
-}
-
--- one more, whose number none before it has
-module _ (old new : ℕ → Option ℕ) (xs : List Numbered) (i : ℕ) (x : Numbered) (one : take (i + 1) xs ≡ take i xs ++ x ∷ []) (seen : IsSeen old (take i xs)) (none : old x.number ≡ None) (kept : new x.number ≡ Some x.line)
-    (others : (q : ℕ) → q ≢ x.number → new q ≡ old q) where
-  abbrev done : List Numbered
-  done = take i xs
-
-  found_more : (q line : ℕ) → new q ≡ Some line → (q ≡ x.number) ⊎ (q ≡ x.number → ⊥) → IsAt (done ++ x ∷ []) q line
-  found_more q line is (inl same) =
-      let at : Some x.line ≡ Some line = sym kept ∙ sym (ap new same) ∙ is in
-      let line_is : x.line ≡ line = cc in
-      record { before = done; first = x; after = []; split = refl; number_is = sym same; line_is = sym line_is }
-  found_more q line is (inr other) =
-      let before = seen.found q line (sym (others q other) ∙ is) in
-      record {
-        before = before.before;
-        first = before.first;
-        after = before.after ++ x ∷ [];
-        split = ap (λ l. l ++ x ∷ []) before.split ∙ append_assoc before.before (before.first ∷ before.after) (x ∷ []);
-        number_is = before.number_is;
-        line_is = before.line_is;
-      }
-
-  absent_more : (q : ℕ) → new q ≡ None → (q ≡ x.number) ⊎ (q ≡ x.number → ⊥) → All (λ n. n.number ≢ q) (done ++ x ∷ [])
-  absent_more q is (inl same) = absurd (let at : Some x.line ≡ None = sym kept ∙ sym (ap new same) ∙ is in cc)
-  absent_more q is (inr other) =
-      All-append (λ n. n.number ≢ q) done (x ∷ []) (seen.absent q (sym (others q other) ∙ is))
-      (All-cons (λ n. n.number ≢ q) x [] (λ same. other (sym same)) (All-nil (λ n. n.number ≢ q)))
-
-  pub seen_more : IsSeen new (take (i + 1) xs)
-  seen_more =
-      subst (IsSeen new) (sym one) (record {
-        found = λ q line is. found_more q line is (cases_eq q x.number);
-        absent = λ q is. absent_more q is (cases_eq q x.number);
-        differ = all_pairs_push (λ a b. a.number ≢ b.number) done x seen.differ (seen.absent x.number none);
-      })
-
--- one whose number one before it has
-pub seen_repeats : (old : ℕ → Option ℕ) (xs : List Numbered) (i : ℕ) (x : Numbered) (line : ℕ) → i < length xs → x ≡ get_or xs i x → IsSeen old (take i xs) → old x.number ≡ Some line → IsEarliestRepeat xs (line, x.line)
-seen_repeats old xs i x line inside here seen is =
-    let found = seen.found x.number line is in
-    let rest : drop i xs ≡ x ∷ drop (suc i) xs = drop-cons xs i x inside ∙ ap (λ y. y ∷ drop (suc i) xs) (sym here) in
+-- the first number that stands twice, by the lines
+pub earliest_lines : (number_of : Message → ℕ) (entries : List TextEntry) (first later : ℕ) (lines : ℕ × ℕ) → IsFirstRepeat (are_numbered number_of entries) first later
+    → lines ≡ (get_or (map (λ (e : TextEntry). e.line) entries) first 0, get_or (map (λ (e : TextEntry). e.line) entries) later 0)
+    → IsEarliestRepeat (map (numbered number_of) entries) lines
+earliest_lines number_of entries first later lines repeat lines_are =
+    let number : Numbered → ℕ = λ n. n.number in
+    let line : Numbered → ℕ = λ n. n.line in
+    let xs = map (numbered number_of) entries in
+    let none : Numbered = record { number = 0; line = 0 } in
+    let numbers : are_numbered number_of entries ≡ map number xs = sym (map-map number (numbered number_of) entries) in
+    let its_lines : map (λ (e : TextEntry). e.line) entries ≡ map line xs = sym (map-map line (numbered number_of) entries) in
+    let r = subst (λ ns. IsFirstRepeat ns first later) numbers repeat in
+    let inside : later < length xs = omega (arith, r.within, length-map xs number) in
+    let front = take later xs in
+    let long : first < length front = omega (arith, r.earlier, inside, length-take later xs) in
+    let at_first : get_or front first none ≡ get_or xs first none = get_or-take later xs first none r.earlier in
+    let split : front ≡ take first front ++ get_or xs first none ∷ drop (suc first) front =
+    sym (take-append-drop first front) ∙ ap (λ l. take first front ++ l) (drop-cons front first none long) ∙ ap (λ x. take first front ++ x ∷ drop (suc first) front) at_first in
     record {
-      before = found.before;
-      first = found.first;
-      between = found.after;
-      later = x;
-      after = drop (suc i) xs;
-      order = sym (take-append-drop i xs) ∙ ap₂ (λ l r. l ++ r) found.split rest;
-      same = found.number_is;
-      differ = subst NumbersDiffer found.split seen.differ;
-      lines_are = ap (λ (l : ℕ). (l, x.line)) found.line_is;
+      before = take first front;
+      first = get_or xs first none;
+      between = drop (suc first) front;
+      later = get_or xs later none;
+      after = drop (suc later) xs;
+      order = sym (take-append-drop later xs) ∙ ap₂ (λ a b. a ++ b) split (drop-cons xs later none inside);
+      same = sym (get_or-map number xs first none 0 (omega (arith, r.earlier, inside))) ∙ r.same 0 ∙ get_or-map number xs later none 0 inside;
+      differ = subst NumbersDiffer split (numbers_apart front (subst (AllPairs (λ a b. a ≢ b)) (take-map number later xs) r.apart));
+      lines_are = lines_are ∙ ap (λ (l : List ℕ). (get_or l first 0, get_or l later 0)) its_lines
+          ∙ ap₂ (λ (a b : ℕ). (a, b)) (get_or-map line xs first none 0 (omega (arith, r.earlier, inside))) (get_or-map line xs later none 0 inside);
     }
-
--- no line was kept in an empty table
-pub none_kept : (seen : List Seen) → seen ≡ [] → (round : ℕ) → 0 < round → IsUnseen round seen
-none_kept seen empty round after number =
-    ap (λ l. line_seen round l number) empty ∙ ap (λ b. cond b (Some 0) None) (ne_eqb 0 round (λ same. omega (arith, same, after)))
 
 -- entries among these messages
 abbrev pub AreAmong : List Message → List TextEntry → Type 0

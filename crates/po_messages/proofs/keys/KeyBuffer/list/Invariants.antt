@@ -1,10 +1,10 @@
 use Rattle.std.proofs.Common.{◌≡◌, List, drop, map, take}
 use Rattle.std.specs.List.{flat_map}
 use Rattle.po_entry.specs.TextEntry.{TextEntry}
-use Rattle.text_runs.specs.Keys.{HoldKeys, key_bytes}
+use Rattle.po_messages.specs.Keys.{HoldKeys, key_bytes}
 use Rattle.po_messages.specs.Message.{entry_message}
 use Rattle.po_messages.specs.MessageView.{messages_of_keys}
-use Rattle.text_runs.proofs.keys.KeyBuffer.list.Given as goal
+use Rattle.po_messages.proofs.keys.KeyBuffer.list.Given as goal
 
 abbrev pub invariant-loop-lengths : goal.invariant-loop-lengths
 invariant-loop-lengths l =

@@ -1,3 +1,0 @@
-pub mod KeyLemmas
-pub mod RepeatLemmas
-pub mod NumberLemmas
