@@ -1,6 +1,6 @@
 //! The rows of all inputs, sorted, and the pairs that they are written as.
 
-ghost use Rattle.std.specs.Prelude.{◌≡◌, ◌==◌, ◌<◌, ◌^◌, ◌++◌, ◌∷◌, [], None, IfOk, OnOk, IfSome, map, length, take, drop, IsPermutation, if◌then◌else◌};
+ghost use Rattle.std.specs.Prelude.{◌≡◌, ◌==◌, ◌<◌, ◌^◌, ◌++◌, ◌∷◌, [], None, IfOk, OnOk, IfSome, map, length, IsPermutation, if◌then◌else◌};
 ghost use Rattle.std.specs.List.{list_any};
 ghost use Rattle.mo_file.specs.Key.{AreRising};
 ghost use Rattle.mo_file.specs.Pairs.{messages_of_borrowed};
@@ -15,16 +15,9 @@ use crate::collecting::{Collected, Lengths};
 use crate::prefix::{prefix_of, second_prefix_of};
 use crate::row::{Row, compare};
 use mo_file::BorrowedPair;
+use po_messages::split_at_most;
 use std::alloc::{AllocError, Global};
 use std::cmp::Ordering;
-
-/// Cuts off so many bytes, or all where there are fewer.
-fn split_at_most(bytes: &[u8], len: usize) -> (&[u8], &[u8])
-    ensures first { result.0.now ≡ take len bytes.now }
-    ensures rest { result.1.now ≡ drop len bytes.now }
-{
-    bytes.split_at(len.min(bytes.len()))
-}
 
 /// The row of the message of this index, with the prefix of its key.
 fn row_of<'b>(
