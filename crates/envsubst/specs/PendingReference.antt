@@ -1,4 +1,4 @@
--- Internal: which bytes are held back, and what the next byte makes of them.
+-- Which bytes are held back, and what the next byte makes of them.
 use Rattle.std.specs.Prelude.{ℕ, Bool, true, ◌&&◌, ◌==◌, if◌then◌else◌, List, [], ◌∷◌}
 use Rattle.std.specs.List.{list_all}
 use Rattle.envsubst.specs.References.{is_name_byte, is_name}

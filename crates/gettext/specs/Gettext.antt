@@ -95,12 +95,13 @@ pub record IsNgettextRun (files : List NamedFile) (o : NgettextRequest) (run : R
   pub opens : Opens (codes "ngettext") files chain reported
   pub run_is : run ≡ output_run (ngettext_output chain o) reported
 
--- Without a catalogue a text stands for itself. As the manual says, `-s` acts as `echo` does, `-n`
--- omits the newline, `\c` does so too where `-e` is given, and MSGID is for one.
+-- a request for these MSGIDs, without a context
 abbrev pub request_of : List (List ℕ) → Bool → Bool → Bool → GettextRequest
 request_of texts expand no_newline shell =
     record { arguments = texts; context = None; expand = expand; no_newline = no_newline; shell = shell }
 
+-- Without a catalogue a text stands for itself. As the manual says, `-s` acts as `echo` does, `-n`
+-- omits the newline, `\c` does so too where `-e` is given, and MSGID is for one.
 pub one_text : gettext_output [] (request_of (codes "a\\n" ∷ []) false false false) ≡ codes "a\\n"
 one_text = refl
 

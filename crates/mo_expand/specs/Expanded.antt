@@ -7,8 +7,8 @@ use Rattle.mo_file.specs.Message.{Message}
 use Rattle.mo_expand.specs.declared.platform_text.PlatformText.{PlatformText}
 use Rattle.mo_expand.specs.Segments.{text_at}
 
--- how many system-dependent messages a file has: none where the minor revision is 0, or a table of them ends after the
--- file's end
+-- how many system-dependent messages a file has: none where the minor revision is 0, the file has fewer than 48 bytes,
+-- or a table of them ends after the file's end
 abbrev pub system_count : Order → List ℕ → ℕ
 system_count order bytes =
     if nat_le 48 (length bytes) && nat_le 1 (revision order bytes % 65536)

@@ -52,7 +52,7 @@ first_some f (x ∷ xs) = option_or (f x) (first_some f xs)
 abbrev pub is_plural : InputEntry → Bool
 is_plural e = is_some e.entry.plural
 
--- the entry is a header; of the compiled ones at most one is
+-- the entry is a header; of entries without a duplicate at most one is
 abbrev pub is_header_entry : InputEntry → Bool
 is_header_entry e = is_header e.entry
 

@@ -1,4 +1,4 @@
--- Internal: entries that are grouped by their messages.
+-- Entries that are grouped by their messages.
 use Rattle.std.specs.Prelude.{ℕ, ◌<◌, All, length, List, map, IsUtf8}
 use Rattle.std.specs.Global.{Vec}
 use Rattle.po_messages.specs.FirstOnes.{group_numbers}

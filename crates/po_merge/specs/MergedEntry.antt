@@ -28,7 +28,8 @@ has_previous e = is_some e.previous.context || is_some e.previous.id || is_some 
 abbrev pub has_plural : TextEntry → Bool
 has_plural e = is_some e.plural
 
--- the definition whose forms are first_translated, where the translations aren't joined
+-- the definition whose forms are taken, where the translations aren't joined: the first one with a
+-- translation, or the first of all
 abbrev pub first_translated : List NamedEntry → TextEntry
 first_translated ds = first_with has_translation ds
 

@@ -1,4 +1,4 @@
--- The exit status of the program: 0 where it did what was asked for, and 1 after any fault.
+-- The exit status of the program: 0 where help was given or the tool's run has status 0, else 1.
 use Rattle.std.specs.Prelude.{ℕ, zero, suc, true, false}
 use Rattle.runs.specs.declared.ending.Ending.{Ending}
 use Rattle.runs.specs.declared.ending.Ending.TheVariants.{Ran, Helped, Refused}

@@ -25,7 +25,7 @@ pub data FileCall : Type 0 where
   -- the file at the path itself is opened and emptied; these are its bytes then
   opens : List ℕ → Option (List ℕ) → FileCall
   fails_to_open : List ℕ → FileCall
-  -- the open stream of this number is taken where it stands; these are its bytes so far
+  -- the open stream of this number is taken, one above 2 at its end; these are its bytes so far
   takes_stream : ℕ → Option (List ℕ) → FileCall
   lacks_stream : ℕ → FileCall
   -- the file or stream is closed with these bytes, after this many calls failed, and whether all was taken

@@ -6,7 +6,7 @@ use Rattle.runs.specs.declared.output_files.Rights.{Rights}
 
 -- the bits that are kept of a mode, by whether the file's user and its group are the same as before:
 -- never set-user-id, set-group-id and sticky; where one is another, others may not write; and where
--- the group is another, it and others may what both might before
+-- the group is another, it and others may what both might before, but for writing
 abbrev pub kept_bits : ℕ → (same_user same_group : Bool) → ℕ
 kept_bits mode true true = bit_and mode 0o777
 kept_bits mode false true = bit_and mode 0o775
