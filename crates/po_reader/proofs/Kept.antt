@@ -7,13 +7,9 @@ use Rattle.po_syntax.specs.declared.item.CommentKind.{CommentKind}
 use Rattle.po_syntax.specs.declared.item.CommentKind.TheVariants.{Translator, Extracted, Reference, Flags}
 use Rattle.po_entry.specs.TextEntry.{TextEntry}
 use Rattle.po_entry.specs.EntryParts.{Body, CommentText, PreviousText}
-use Rattle.po_entry.specs.Header.{HasAdmittedCharset}
 use Rattle.po_entry.specs.Comments.{same_kind, texts_of, listed_references, listed_flags, is_fuzzy_flag, with_flag, previous_of}
-use Rattle.po_entry.specs.Validity.{HasTexts, IsTranslatorComment, IsReference}
 use Rattle.po_entry.specs.Spelling.{entry_from}
-use Rattle.po_syntax.specs.ItemContents.{IsComment}
-use Rattle.po_reader.specs.KeptComments.{kept_comments, kept_entry, without_comments}
-use Rattle.po_reader.proofs.SoundCatalogue.{SoundEntry}
+use Rattle.po_reader.specs.KeptComments.{kept_comments, kept_entry}
 
 abbrev is_flags : CommentText → Bool
 is_flags comment_text = same_kind Flags comment_text.kind
@@ -76,32 +72,7 @@ pub all_kept : (entries : List TextEntry) → map (kept_entry true) entries ≡ 
 all_kept [] = refl
 all_kept (entry ∷ entries) = ap (λ es. entry ∷ es) (all_kept entries)
 
--- without their comments, sound entries are sound
-pub sound_without_comments : (entries : List TextEntry) → All SoundEntry entries → All SoundEntry (map without_comments entries)
-sound_without_comments [] h = All-nil SoundEntry
-sound_without_comments (entry ∷ entries) h =
-    let first : SoundEntry entry = All-head SoundEntry entry entries h in
-    All-cons SoundEntry (without_comments entry) (map without_comments entries) (record {
-      comments = All-nil IsTranslatorComment;
-      extracted = All-nil IsComment;
-      references = All-nil IsReference;
-      flags = first.flags;
-      distinct_flags = first.distinct_flags;
-      some_form = first.some_form;
-      one_form = first.one_form;
-    }) (sound_without_comments entries (All-tail SoundEntry entry entries h))
-
--- entries that can have their texts without their comments
-pub texts_without_comments : (entries : List TextEntry) → All HasTexts (map without_comments entries) → All HasTexts entries
-texts_without_comments [] h = All-nil HasTexts
-texts_without_comments (entry ∷ entries) h =
-    let first : HasTexts (without_comments entry) = All-head HasTexts (without_comments entry) (map without_comments entries) h in
-    All-cons HasTexts entry entries (record { utf8 = first.utf8; clean = record { no_nul = first.clean.no_nul; context = first.clean.context; id = first.clean.id } })
-    (texts_without_comments entries (All-tail HasTexts (without_comments entry) (map without_comments entries) h))
-
--- headers whose charsets are admitted without their comments
-pub admitted_without_comments : (entries : List TextEntry) → All HasAdmittedCharset (map without_comments entries) → All HasAdmittedCharset entries
-admitted_without_comments [] h = All-nil HasAdmittedCharset
-admitted_without_comments (entry ∷ entries) h =
-    All-cons HasAdmittedCharset entry entries (All-head HasAdmittedCharset (without_comments entry) (map without_comments entries) h)
-    (admitted_without_comments entries (All-tail HasAdmittedCharset (without_comments entry) (map without_comments entries) h))
+-- what holds of elements that are mapped holds where they are mapped
+pub all_unmapped : {X Y : Type 0} (P : Y → Type 0) (f : X → Y) (xs : List X) → All P (map f xs) → All (λ x. P (f x)) xs
+all_unmapped P f [] h = All-nil (λ x. P (f x))
+all_unmapped P f (x ∷ xs) h = All-cons (λ y. P (f y)) x xs (All-head P (f x) (map f xs) h) (all_unmapped P f xs (All-tail P (f x) (map f xs) h))

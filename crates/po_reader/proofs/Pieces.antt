@@ -2,7 +2,7 @@
 use Rattle.std.proofs.Common.{◌≡◌, ℕ, ◌+◌, ◌<◌, ◌≤◌, Bool, true, false, not, cond, ◌==◌, nat_lt, List, [], ◌∷◌, ◌++◌, length, get_or, refl, arith, inl, inr, zero, suc, lit<}
 use Rattle.std.specs.Prelude.{All, IsUtf8}
 use Rattle.std.specs.List.{slice_split, position_or_len, before_first, after_first, onto_first}
-use Rattle.std.proofs.Math.Seq.{take-append_seam}
+use Rattle.std.proofs.Math.Seq.{take-append_seam, get_or-append_seam}
 use Rattle.std.proofs.lemmas.List.{length-append, length-drop}
 use Rattle.std.proofs.lemmas.List.Elements.{All-nil, All-cons, All-head, All-tail}
 use Rattle.std.proofs.lemmas.List.Sums.{prefix_len_passes, prefix_len_stops}
@@ -19,13 +19,9 @@ utf8_after b text ascii h = IsUtf8-past_char (b ∷ text) text b h (rw (encode_a
 pub utf8_before : (text : List ℕ) (b : ℕ) → b < 128 → IsUtf8 (text ++ b ∷ []) → IsUtf8 text
 utf8_before text b ascii h =
     let inside : length text < length (text ++ b ∷ []) = omega (arith, length-append text (b ∷ [])) in
-    let same : get_or (text ++ b ∷ []) (length text) 0 ≡ b = at_seam text b in
+    let same : get_or (text ++ b ∷ []) (length text) 0 ≡ b = get_or-append_seam text b [] 0 in
     let low : get_or (text ++ b ∷ []) (length text) 0 < 128 = rw same ascii in
     rw take-append_seam at (IsUtf8-take (text ++ b ∷ []) (length text) h (IsCharBoundary-before_ascii (text ++ b ∷ []) (length text) inside low))
-  where
-    at_seam : (text : List ℕ) (b : ℕ) → get_or (text ++ b ∷ []) (length text) 0 ≡ b
-    at_seam [] b = refl
-    at_seam (c ∷ text) b = at_seam text b
 
 pub blank_is_ascii : (b : ℕ) → is_blank b ≡ true → b < 128
 blank_is_ascii b t =

@@ -1,7 +1,7 @@
 -- The entries that the items of a text spell are entries, if they can have their texts.
-use Rattle.std.proofs.Common.{◌≡◌, ◌<◌, List, [], ◌∷◌, ◌++◌, None, length, map}
+use Rattle.std.proofs.Common.{◌≡◌, ◌<◌, List, [], ◌++◌, None, get_or, length, map}
 use Rattle.std.specs.Prelude.{All}
-use Rattle.std.proofs.lemmas.List.Elements.{All-nil, All-cons, All-head, All-tail, All-weaker}
+use Rattle.std.proofs.lemmas.List.Elements.{All-nil, All-cons, All-weaker}
 use Rattle.po_syntax.specs.declared.item.CommentKind.TheVariants.{Translator, Extracted, Reference, Flags}
 use Rattle.po_entry.specs.declared.fields.Fields.{Fields}
 use Rattle.po_entry.specs.EntryView.{entry_view}
@@ -14,6 +14,7 @@ use Rattle.po_entry.specs.Validity.{HasTexts, IsEntry, IsTranslatorComment, IsRe
 use Rattle.po_entry.specs.Facts.AllAppend.{All-left, All-right}
 use Rattle.po_entry.specs.Spelling.{entry_from, SpellsEntries, comments, entries, entry}
 use Rattle.po_syntax.specs.ItemContents.{IsComment, IsCommentOf, HoldsText}
+use Rattle.po_reader.proofs.Kept.{all_unmapped}
 use Rattle.po_reader.proofs.SoundEntries.{SoundCommentText, SoundBody, body_sound, head_sound}
 use Rattle.po_reader.proofs.SoundFields.{SoundFlagElement, SoundFlags, kind_sound, references_sound, all_flag_elements_sound, flags_sound}
 
@@ -69,8 +70,4 @@ entry_valid spelt h t = record {
 
 -- the entries of drafts whose texts were checked
 pub drafts_valid : (made : List Fields) → All SoundEntry (map entry_view made) → All (λ draft. HasTexts (entry_view draft)) made → All (λ draft. IsEntry (entry_view draft)) made
-drafts_valid [] h t = All-nil (λ draft. IsEntry (entry_view draft))
-drafts_valid (draft ∷ made) h t =
-    All-cons (λ d. IsEntry (entry_view d)) draft made
-    (entry_valid (entry_view draft) (All-head SoundEntry (entry_view draft) (map entry_view made) h) (All-head (λ d. HasTexts (entry_view d)) draft made t))
-    (drafts_valid made (All-tail SoundEntry (entry_view draft) (map entry_view made) h) (All-tail (λ d. HasTexts (entry_view d)) draft made t))
+drafts_valid made h t = λ k d inside. entry_valid (entry_view (get_or made k d)) (all_unmapped SoundEntry entry_view made h k d inside) (t k d inside)

@@ -56,13 +56,10 @@ line_text kind text h = record { utf8 = h.comment.valid.utf8; no_nul = h.comment
 -- the parts of a line's text that is cut at ASCII bytes
 line_parts : (p : ℕ → Bool) → ((b : ℕ) → p b ≡ true → b < 128) → (text : List ℕ) → IsLineText text → All IsLineText (slice_split p text)
 line_parts p ascii text h =
-    zipped (slice_split p text) (utf8_parts p ascii (length text) text (omega arith) h.utf8) (all_parts (λ b. b ≢ 0) p text h.no_nul) (all_parts (λ b. b ≢ 10) p text h.one_line)
-  where
-    zipped : (parts : List (List ℕ)) → All IsUtf8 parts → All (Lacks 0) parts → All (Lacks 10) parts → All IsLineText parts
-    zipped [] a b c = All-nil IsLineText
-    zipped (part ∷ parts) a b c =
-        let here : IsLineText part = record { utf8 = All-head IsUtf8 part parts a; no_nul = All-head (Lacks 0) part parts b; one_line = All-head (Lacks 10) part parts c } in
-        All-cons IsLineText part parts here (zipped parts (All-tail IsUtf8 part parts a) (All-tail (Lacks 0) part parts b) (All-tail (Lacks 10) part parts c))
+    let utf8 = utf8_parts p ascii (length text) text (omega arith) h.utf8 in
+    let no_nul = all_parts (λ b. b ≢ 0) p text h.no_nul in
+    let one_line = all_parts (λ b. b ≢ 10) p text h.one_line in
+    λ k d inside. record { utf8 = utf8 k d inside; no_nul = no_nul k d inside; one_line = one_line k d inside }
 
 some_byte : (text : List ℕ) → is_not_empty text ≡ true → text ≢ []
 some_byte text e none = let length_zero : length text ≡ 0 = ap length none in eqb-false _ _ (not-true _ e) length_zero

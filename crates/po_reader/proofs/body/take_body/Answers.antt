@@ -1,26 +1,22 @@
-use Rattle.std.proofs.lemmas.Result.{err_from_is_err_and}
 use Rattle.po_reader.specs.Internal.Body.IsBody.{without_context, with_context}
 use Rattle.po_reader.specs.Internal.Stops.BodyStops.{in_context, at_id, in_id, after_context, after_id}
-use Rattle.po_reader.proofs.Results.{ok_both, err_step}
+use Rattle.po_reader.proofs.Results.{ok_both, err_step, passed_on}
 use Rattle.po_reader.proofs.body.take_body.Goals as goal
 
 pub returns-in_err-id-in-WithoutContext-clause-fault : goal.returns-in_err-id-in-WithoutContext-clause-fault
 returns-in_err-id-in-WithoutContext-clause-fault c =
-    let p = err_from_is_err_and c.from_residual.result c.from_residual.ensures.1 in
     let start = rw c.in-WithoutContext.is at c.in-Some.ensures.start in
-    rw (p.1, p.2) (λ other. in_id start (c.in_err-id-in-WithoutContext.ensures.fault other))
+    passed_on c.from_residual.result _ c.from_residual.ensures.1 (λ other. in_id start (c.in_err-id-in-WithoutContext.ensures.fault other))
 
 pub returns-in_err-context-in-WithContext-clause-fault : goal.returns-in_err-context-in-WithContext-clause-fault
 returns-in_err-context-in-WithContext-clause-fault c =
-    let p = err_from_is_err_and c.from_residual-in_err-context-in-WithContext.result c.from_residual-in_err-context-in-WithContext.ensures.1 in
     let start = rw c.in-WithContext.is at c.in-Some.ensures.start in
-    rw (p.1, p.2) (λ other. in_context start (c.in_err-context-in-WithContext.ensures.fault other))
+    passed_on c.from_residual-in_err-context-in-WithContext.result _ c.from_residual-in_err-context-in-WithContext.ensures.1 (λ other. in_context start (c.in_err-context-in-WithContext.ensures.fault other))
 
 pub returns-in_err-id-in-WithContext-clause-fault : goal.returns-in_err-id-in-WithContext-clause-fault
 returns-in_err-id-in-WithContext-clause-fault c =
-    let p = err_from_is_err_and c.from_residual-in_err-id-in-WithContext.result c.from_residual-in_err-id-in-WithContext.ensures.1 in
     let start = rw c.in-WithContext.is at c.in-Some.ensures.start in
-    rw (p.1, p.2) (λ other. at_id start c.in_ok-context-in-WithContext.ensures.found (c.in_err-id-in-WithContext.ensures.fault other))
+    passed_on c.from_residual-in_err-id-in-WithContext.result _ c.from_residual-in_err-id-in-WithContext.ensures.1 (λ other. at_id start c.in_ok-context-in-WithContext.ensures.found (c.in_err-id-in-WithContext.ensures.fault other))
 
 pub returns-in_ok-id-in-WithoutContext-clause-found : goal.returns-in_ok-id-in-WithoutContext-clause-found
 returns-in_ok-id-in-WithoutContext-clause-found c =

@@ -1,8 +1,8 @@
 use Rattle.std.proofs.Common.{sym, ◌∙◌, append_assoc, arith}
-use Rattle.std.proofs.lemmas.Result.{err_from_is_err_and}
 use Rattle.std.proofs.lemmas.List.{map_push}
 use Rattle.po_reader.specs.Internal.Body.IsForms.{last, more}
 use Rattle.po_reader.specs.Internal.Stops.FormsStop.{here, later}
+use Rattle.po_reader.proofs.Results.{passed_on}
 use Rattle.po_reader.proofs.body.take_forms.Goals as goal
 
 pub loop-forms-preserved : goal.loop-forms-preserved
@@ -21,6 +21,4 @@ returns-then-not-begins_form-clause-found c =
     rw (c.in_ok-push.ensures.items, map_push) (c.loop-forms.invariant.spelt _ _ (last c.in_ok-form.ensures.found ends))
 
 pub returns-in_err-form-clause-fault : goal.returns-in_err-form-clause-fault
-returns-in_err-form-clause-fault c =
-    let p = err_from_is_err_and c.from_residual.result c.from_residual.ensures.1 in
-    rw (p.1, p.2) (λ other. c.loop-forms.invariant.stops _ _ (here (c.in_err-form.ensures.fault other)))
+returns-in_err-form-clause-fault c = passed_on c.from_residual.result _ c.from_residual.ensures.1 (λ other. c.loop-forms.invariant.stops _ _ (here (c.in_err-form.ensures.fault other)))

@@ -1,20 +1,18 @@
 use Rattle.std.proofs.Common.{[], ◌∷◌, ◌++◌, ◌∙◌, ap, append_assoc, arith, inl, inr}
-use Rattle.std.proofs.lemmas.Result.{err_from_is_err_and}
 use Rattle.std.proofs.lemmas.List.{append-nil, map_push}
 use Rattle.po_reader.specs.Internal.Reads.Reads.{comments, entry}
 use Rattle.po_entry.specs.TextEntry.{TextEntry}
 use Rattle.po_entry.specs.Spelling.{entry_from}
 use Rattle.po_reader.specs.KeptComments.{kept_comments, kept_entry}
 use Rattle.po_reader.specs.Internal.ReaderView.{body_view}
+use Rattle.po_reader.proofs.Results.{passed_on}
 use Rattle.po_reader.proofs.Kept.{kept_from}
 use Rattle.po_reader.specs.Internal.Stops.EntriesStop.{in_head, in_body, later}
 use Rattle.po_reader.proofs.HeadEnds.{head_over, over_cases, head_at_end}
 use Rattle.po_reader.proofs.drafts.drafts_of.Goals as goal
 
 pub returns-in_err-head-clause-fault : goal.returns-in_err-head-clause-fault
-returns-in_err-head-clause-fault c =
-    let p = err_from_is_err_and c.from_residual-in_err-head.result c.from_residual-in_err-head.ensures.1 in
-    rw (p.1, p.2) (λ other. c.loop-drafts.invariant.stops _ _ (in_head (c.in_err-head.ensures.fault other)))
+returns-in_err-head-clause-fault c = passed_on c.from_residual-in_err-head.result _ c.from_residual-in_err-head.ensures.1 (λ other. c.loop-drafts.invariant.stops _ _ (in_head (c.in_err-head.ensures.fault other)))
 
 pub returns-then-is_empty-clause-found : goal.returns-then-is_empty-clause-found
 returns-then-is_empty-clause-found c =
@@ -29,9 +27,7 @@ take_body-requires-clause-begins c =
     elim (over_cases stops.0 _ stops.1) [ inl none ↦ absurd ((rw c.if-is_empty.false at c.is_empty.ensures) none) | inr begins ↦ begins ]
 
 pub returns-in_err-body-clause-fault : goal.returns-in_err-body-clause-fault
-returns-in_err-body-clause-fault c =
-    let p = err_from_is_err_and c.from_residual-in_err-body.result c.from_residual-in_err-body.ensures.1 in
-    rw (p.1, p.2) (λ other. c.loop-drafts.invariant.stops _ _ (in_body c.in_ok-head.ensures.found.2 (c.in_err-body.ensures.fault other)))
+returns-in_err-body-clause-fault c = passed_on c.from_residual-in_err-body.result _ c.from_residual-in_err-body.ensures.1 (λ other. c.loop-drafts.invariant.stops _ _ (in_body c.in_ok-head.ensures.found.2 (c.in_err-body.ensures.fault other)))
 
 pub loop-drafts-preserved : goal.loop-drafts-preserved
 loop-drafts-preserved c =

@@ -1,10 +1,10 @@
 use Rattle.std.proofs.Common.{refl, ◌++◌, ◌∷◌, [], ◌∙◌, append_assoc, arith}
-use Rattle.std.proofs.lemmas.Result.{err_from_is_err_and}
 use Rattle.std.proofs.lemmas.List.{append-nil}
 use Rattle.po_entry.specs.EntryParts.{CommentText, PreviousText}
 use Rattle.po_reader.specs.Internal.Head.IsHead.{over, head_comment, previous}
 use Rattle.po_reader.specs.Internal.Stops.HeadStops.{refused, in_previous, after_comment, after_previous}
 use Rattle.po_reader.specs.KeptComments.{kept_comments}
+use Rattle.po_reader.proofs.Results.{passed_on}
 use Rattle.po_reader.proofs.Heads.{holds_nothing, holds_previous}
 use Rattle.po_reader.proofs.Kept.{kept_nothing}
 use Rattle.po_reader.proofs.head.take_head.Goals as goal
@@ -47,9 +47,8 @@ loop-kind-preserved-in-Continue-1 c =
 
 pub returns-in_err-text-in-Ok-Previous-clause-fault : goal.returns-in_err-text-in-Ok-Previous-clause-fault
 returns-in_err-text-in-Ok-Previous-clause-fault c =
-    let p = err_from_is_err_and c.from_residual-in_err-text-in-Ok-Previous.result c.from_residual-in_err-text-in-Ok-Previous.ensures.1 in
     let step = rw c.in-Ok-Previous.field-0-is at c.in-Ok-Previous.ensures.step in
-    rw (p.1, p.2) (λ other. c.loop-kind.invariant.stops _ _ (in_previous step (c.in_err-text-in-Ok-Previous.ensures.fault other)))
+    passed_on c.from_residual-in_err-text-in-Ok-Previous.result _ c.from_residual-in_err-text-in-Ok-Previous.ensures.1 (λ other. c.loop-kind.invariant.stops _ _ (in_previous step (c.in_err-text-in-Ok-Previous.ensures.fault other)))
 
 pub loop-kind-preserved : goal.loop-kind-preserved
 loop-kind-preserved c =

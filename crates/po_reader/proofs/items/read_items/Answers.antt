@@ -1,7 +1,6 @@
 use Rattle.std.proofs.Common.{◌∙◌, List, subst, sym}
 use Rattle.std.specs.Prelude.{All}
 use Rattle.std.proofs.lemmas.List.Elements.{All-map}
-use Rattle.std.proofs.lemmas.Result.{err_from_is_err_and}
 use Rattle.po_entry.specs.Header.{HasAdmittedCharset}
 use Rattle.po_entry.specs.EntryView.{entry_view}
 use Rattle.po_entry.specs.Validity.{HasTexts}
@@ -13,27 +12,23 @@ use Rattle.po_entry.specs.Faults.ItemsStop.{in_items, in_texts, in_charset}
 use Rattle.po_reader.proofs.KeptEntries.{kept_sound, kept_texts, kept_admitted, kept_texts_stop, kept_charset_stops}
 use Rattle.po_reader.proofs.SoundCatalogue.{SoundEntry, entries_sound, drafts_valid}
 use Rattle.po_reader.proofs.NoMemory.{texts_reported}
-use Rattle.po_reader.proofs.Results.{ok_both, ok_step, err_step}
+use Rattle.po_reader.proofs.Results.{ok_both, ok_step, err_step, passed_on}
 use Rattle.po_reader.proofs.items.read_items.Goals as goal
 
 pub returns-in_err-drafts-clause-fault : goal.returns-in_err-drafts-clause-fault
 returns-in_err-drafts-clause-fault c =
-    let p = err_from_is_err_and c.from_residual.result c.from_residual.ensures.1 in
     let stops = rw (c.last_line.ensures, c.deref.ensures.value, c.deref-2.ensures.value) at c.in_err-drafts.ensures.fault in
-    rw (p.1, p.2) (λ other. in_items (items_fault (stops other)))
+    passed_on c.from_residual.result _ c.from_residual.ensures.1 (λ other. in_items (items_fault (stops other)))
 
 pub returns-in_err-check_drafts-clause-fault : goal.returns-in_err-check_drafts-clause-fault
 returns-in_err-check_drafts-clause-fault c =
-    let p = err_from_is_err_and c.from_residual-in_err-check_drafts.result c.from_residual-in_err-check_drafts.ensures.1 in
     let spelt = rw c.deref.ensures.value at c.in_ok-drafts.ensures.found in
     let stops = rw c.deref-3.ensures.value at c.in_err-check_drafts.ensures.fault in
     let kept = subst (λ (es : List TextEntry). TextsStop es c.in_err-check_drafts.field-0.0.kind c.in_err-check_drafts.field-0.0.line) spelt.2 stops in
-    rw (p.1, p.2) (λ other. in_texts (reads_spelt spelt.1) (kept_texts_stop c.args.with_comments spelt.0 kept))
+    passed_on c.from_residual-in_err-check_drafts.result _ c.from_residual-in_err-check_drafts.ensures.1 (λ other. in_texts (reads_spelt spelt.1) (kept_texts_stop c.args.with_comments spelt.0 kept))
 
 pub returns-in_err-check_drafts-clause-memory : goal.returns-in_err-check_drafts-clause-memory
-returns-in_err-check_drafts-clause-memory c =
-    let p = err_from_is_err_and c.from_residual-in_err-check_drafts.result c.from_residual-in_err-check_drafts.ensures.1 in
-    rw (p.1, p.2) (λ memory. absurd (texts_reported c.in_err-check_drafts.ensures.fault memory))
+returns-in_err-check_drafts-clause-memory c = passed_on c.from_residual-in_err-check_drafts.result _ c.from_residual-in_err-check_drafts.ensures.1 (λ memory. absurd (texts_reported c.in_err-check_drafts.ensures.fault memory))
 
 pub catalogue_of-requires : goal.catalogue_of-requires
 catalogue_of-requires c =

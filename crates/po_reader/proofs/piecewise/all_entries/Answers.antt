@@ -1,14 +1,11 @@
 use Rattle.std.proofs.Common.{arith}
-use Rattle.std.proofs.lemmas.Result.{err_from_is_err_and}
 use Rattle.po_reader.specs.PieceRead.IsLeftFault.{in_items, in_lines}
 use Rattle.po_reader.proofs.PieceReading.{faults_over, items_kept}
-use Rattle.po_reader.proofs.Results.{ok_always, ok_step, err_both}
+use Rattle.po_reader.proofs.Results.{ok_always, ok_step, err_both, passed_on}
 use Rattle.po_reader.proofs.piecewise.all_entries.Goals as goal
 
 pub returns-in_err-items-clause-fault : goal.returns-in_err-items-clause-fault
-returns-in_err-items-clause-fault c =
-    let p = err_from_is_err_and c.from_residual.result c.from_residual.ensures.1 in
-    rw (p.1, p.2) (record { fault = λ other. in_lines (c.in_err-items.ensures.fault other); memory = c.in_err-items.ensures.memory })
+returns-in_err-items-clause-fault c = passed_on c.from_residual.result _ c.from_residual.ensures.1 (record { fault = λ other. in_lines (c.in_err-items.ensures.fault other); memory = c.in_err-items.ensures.memory })
 
 pub returns-clause-found : goal.returns-clause-found
 returns-clause-found c =

@@ -1,14 +1,11 @@
-use Rattle.std.proofs.lemmas.Result.{err_from_is_err_and}
 use Rattle.po_reader.specs.PieceRead.IsLeftFault.{in_lines}
 use Rattle.po_reader.specs.PieceRead.ReadsPiece.{all, piece}
 use Rattle.po_reader.proofs.PieceReading.{items_kept, piece_faults}
-use Rattle.po_reader.proofs.Results.{ok_step}
+use Rattle.po_reader.proofs.Results.{ok_step, passed_on}
 use Rattle.po_reader.proofs.piecewise.next_entries.Goals as goal
 
 pub returns-in_err-items-clause-fault : goal.returns-in_err-items-clause-fault
-returns-in_err-items-clause-fault c =
-    let p = err_from_is_err_and c.from_residual.result c.from_residual.ensures.1 in
-    rw (p.1, p.2) (record { fault = λ other. in_lines (c.in_err-items.ensures.fault other); memory = c.in_err-items.ensures.memory })
+returns-in_err-items-clause-fault c = passed_on c.from_residual.result _ c.from_residual.ensures.1 (record { fault = λ other. in_lines (c.in_err-items.ensures.fault other); memory = c.in_err-items.ensures.memory })
 
 pub returns-in-Ok-clause-found : goal.returns-in-Ok-clause-found
 returns-in-Ok-clause-found c =

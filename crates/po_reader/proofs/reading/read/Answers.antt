@@ -1,20 +1,16 @@
 use Rattle.std.proofs.Common.{List, [], ◌++◌, append-nil, append_assoc, subst, sym}
-use Rattle.std.proofs.lemmas.Result.{err_from_is_err_and}
 use Rattle.po_entry.specs.ReadsText.{ReadsText}
 use Rattle.po_entry.specs.TextEntry.{TextEntry}
 use Rattle.po_entry.specs.Faults.IsReadFault.{in_text}
+use Rattle.po_reader.proofs.Results.{passed_on}
 use Rattle.po_reader.proofs.PieceReading.{fault_of_text, left_over, whole_left}
 use Rattle.po_reader.proofs.reading.read.Goals as goal
 
 pub returns-in_err-pieces-clause-fault : goal.returns-in_err-pieces-clause-fault
-returns-in_err-pieces-clause-fault c =
-    let p = err_from_is_err_and c.from_residual.result c.from_residual.ensures.1 in
-    rw (p.1, p.2) (λ other. in_text c.in_err-pieces.ensures.fault)
+returns-in_err-pieces-clause-fault c = passed_on c.from_residual.result _ c.from_residual.ensures.1 (λ other. in_text c.in_err-pieces.ensures.fault)
 
 pub returns-in_err-pieces-clause-memory : goal.returns-in_err-pieces-clause-memory
-returns-in_err-pieces-clause-memory c =
-    let p = err_from_is_err_and c.from_residual.result c.from_residual.ensures.1 in
-    rw (p.1, p.2) (λ memory. absurd (c.in_err-pieces.ensures.memory memory))
+returns-in_err-pieces-clause-memory c = passed_on c.from_residual.result _ c.from_residual.ensures.1 (λ memory. absurd (c.in_err-pieces.ensures.memory memory))
 
 pub loop-pieces-init : goal.loop-pieces-init
 loop-pieces-init c = record {
