@@ -1,5 +1,5 @@
 -- What a run of msgfmt comes to, by the way in which it ends.
-use Rattle.std.proofs.Common.{◌≡◌, ◌≢◌, ◌⊎◌, ℕ, Bool, true, false, List, None, Some, length, IfOk, IfErr, Option, Ok, Err, Result, sym, ap, subst, ◌∙◌, inl, inr, ⊎_elim, arith}
+use Rattle.std.proofs.Common.{◌≡◌, ◌≢◌, ◌⊎◌, ℕ, Bool, true, false, List, None, Some, length, IfOk, Result, sym, ap, subst, ◌∙◌, inl, inr, ⊎_elim, arith}
 use Rattle.std.proofs.lemmas.List.{length-map}
 use Rattle.std.proofs.lemmas.Result.{IfOk-weaker}
 use Rattle.std.proofs.lemmas.Slice.Zip.{AllZip-long}
@@ -18,10 +18,8 @@ use Rattle.po_compile.specs.declared.options.Compiled.{Compiled}
 use Rattle.po_compile.specs.declared.options.Options.{Options}
 use Rattle.msgfmt.specs.declared.options.MsgfmtOptions.{MsgfmtOptions}
 use Rattle.msgfmt.specs.declared.profile.CheckFault.TheVariants.{OutOfMemory}
-use Rattle.runs.specs.declared.program_fault.ProgramFault.{ProgramFault}
-use Rattle.runs.specs.declared.program_fault.ProgramFault.TheVariants.{OutOfMemory as OutOfMemory', WrongArguments}
 use Rattle.runs.specs.declared.run.Run.{Run}
-use Rattle.msgfmt.specs.Msgfmt.{AreChecked, NoneRefused, IsMsgfmtRun, AreWrong, IsRefused, check_line, compile_options, compiled_run, input_texts, join_line}
+use Rattle.msgfmt.specs.Msgfmt.{AreChecked, NoneRefused, IsMsgfmtRun, IsRefused, check_line, compile_options, compiled_run, input_texts, join_line}
 use Rattle.runs.specs.NamedFile.{NamedFile, named_file, named_files}
 use Rattle.msgfmt.specs.Profile.{Reported}
 use Rattle.runs.specs.Run.{RunView, refusal, run_view}
@@ -85,12 +83,3 @@ refused inputs o unchecked run none same (inl reported) bad =
     record { error = reported.error; fault = subst Of same reported.fault; not_memory = reported.not_memory; run_is = reported.run_is }
 refused inputs o unchecked run none same (inr (inl unfit)) bad = let wrong : true ≡ false = sym unfit.asked ∙ none in cc
 refused inputs o unchecked run none same (inr (inr done)) bad = absurd (bad (ap (λ r. r.status) done.run_is))
-
--- what is reported where an input can't be read is reported of the inputs before it
-pub before-reported : (r : Result Run ProgramFault) (inputs others : List NamedFile) (o : MsgfmtOptions) (given : Option ProgramFault) (fault : ProgramFault) → others ≡ inputs → given ≡ Some fault
-    → IfErr r (λ reported. (reported ≡ OutOfMemory') ⊎ ((reported ≡ fault) × NoneRefused others o))
-    → IfErr r (λ reported. (reported ≡ OutOfMemory') ⊎ ((reported ≡ WrongArguments) × AreWrong inputs given) ⊎ ((given ≡ Some reported) × NoneRefused inputs o))
-before-reported (Ok run) inputs others o given fault same is h = tt
-before-reported (Err reported) inputs others o given fault same is h =
-    ⊎_elim (λ memory. inl memory)
-    (λ taken. inr (inr (is ∙ ap (λ (f : ProgramFault). Some f) (sym taken.0), subst (λ (list : List NamedFile). NoneRefused list o) same taken.1))) h

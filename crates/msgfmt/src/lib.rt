@@ -19,6 +19,6 @@ pub use check::profile_check;
 pub use laws::first_profile_fault;
 pub use options::{MsgfmtOptions, msgfmt_options_of, msgfmt_output_of};
 pub use plan::plan_msgfmt;
-pub use plan_inputs::{plan_msgfmt_before, plan_msgfmt_of};
+pub use plan_inputs::plan_msgfmt_of;
 pub use profile::CheckFault;
 pub use whole_run::run;

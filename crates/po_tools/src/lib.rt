@@ -27,7 +27,7 @@ pub use msgattrib::{plan_msgattrib, selection_of};
 pub use msgcat::{merge_options_of, plan_msgcat, plan_msgcat_before, plan_msgcat_of};
 pub use msgfmt::{
     CheckFault, MsgfmtOptions, first_profile_fault, msgfmt_options_of, msgfmt_output_of,
-    plan_msgfmt, plan_msgfmt_before, plan_msgfmt_of, profile_check,
+    plan_msgfmt, plan_msgfmt_of, profile_check,
 };
 pub use msgunfmt::plan_msgunfmt;
 pub use one_input::{run_msgattrib, run_msgfmt, run_msgunfmt};
