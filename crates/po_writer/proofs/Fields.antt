@@ -1,8 +1,10 @@
 -- The comments of a written entry give its fields back.
-use Rattle.std.proofs.Common.{◌≡◌, ◌∙◌, ◌||◌, refl, sym, ap, ℕ, ◌<◌, Bool, true, false, List, [], ◌∷◌, ◌++◌, append_assoc, length, map, filter, fold, bytes_eq, codes, All, Contains, slice_index_or}
+use Rattle.std.proofs.Common.{◌≡◌, ◌∙◌, ◌||◌, refl, sym, ap, ap₂, ℕ, ◌<◌, Bool, true, false, List, [], ◌∷◌, ◌++◌, append_assoc, length, map, filter, fold, bytes_eq, codes, All, Contains, slice_index_or}
 use Rattle.std.specs.List.{flat_map, list_any}
 use Rattle.std.proofs.lemmas.List.{append-nil, map-append, get_or_default}
 use Rattle.std.proofs.lemmas.List.Elements.{All-head, All-tail, filter-append}
+use Rattle.std.proofs.lemmas.List.Folds.{list_any-append, list_any_none}
+use Rattle.std.proofs.lemmas.Bool.{false_from_ne_true}
 use Rattle.std.proofs.lemmas.Slice.Eq.{bytes_eq-Decides}
 use Rattle.po_syntax.specs.declared.item.CommentKind.{CommentKind}
 use Rattle.po_syntax.specs.declared.item.CommentKind.TheVariants.{Translator, Extracted, Reference, Flags}
@@ -77,17 +79,15 @@ flag_elements_kept [] h = refl
 flag_elements_kept (element ∷ elements) h =
     append-nil (listed_flags (32 ∷ element ++ following (44 ∷ 32 ∷ []) elements)) ∙ flags_cut element elements (All-head IsFlagElement element elements h) (All-tail IsFlagElement element elements h)
 
-differs : (a b : List ℕ) (test : Bool) → bytes_eq a b ≡ test → (a ≡ b → ⊥) → bytes_eq a b ≡ false
-differs a b true e h = absurd (h ((bytes_eq-Decides a b).0 e))
-differs a b false e h = e
+differs : (a b : List ℕ) → (a ≡ b → ⊥) → bytes_eq a b ≡ false
+differs a b h = false_from_ne_true (bytes_eq a b) (λ e. h ((bytes_eq-Decides a b).0 e))
 
 -- a flag other than `fuzzy`
 abbrev pub IsPlainFlag : List ℕ → Type 0
 IsPlainFlag flag = flag ≡ codes "fuzzy" → ⊥
 
 none_fuzzy : (flags : List (List ℕ)) → All IsPlainFlag flags → list_any is_fuzzy_flag flags ≡ false
-none_fuzzy [] h = refl
-none_fuzzy (flag ∷ flags) h = rw (differs flag (codes "fuzzy") (bytes_eq flag (codes "fuzzy")) refl (All-head IsPlainFlag flag flags h)) (none_fuzzy flags (All-tail IsPlainFlag flag flags h))
+none_fuzzy flags h = list_any_none is_fuzzy_flag flags (λ k d inside. differs (slice_index_or flags k d) (codes "fuzzy") (h k d inside))
 
 pub fuzzy_kept : (fuzzy : Bool) (flags : List (List ℕ)) → All IsPlainFlag flags → list_any is_fuzzy_flag (all_flags fuzzy flags) ≡ fuzzy
 fuzzy_kept true flags h = refl
@@ -97,13 +97,8 @@ fuzzy_kept false flags h = none_fuzzy flags h
 abbrev IsNew : List (List ℕ) → List ℕ → Type 0
 IsNew texts element = list_any (bytes_eq element) texts ≡ false
 
-new_cases : (same others more : Bool) → (same || others) ≡ false → (others ≡ false → more ≡ false) → (same || more) ≡ false
-new_cases true others more h g = h
-new_cases false others more h g = g h
-
 new_push : (texts : List (List ℕ)) (last element : List ℕ) → IsNew texts element → (element ≡ last → ⊥) → IsNew (texts ++ last ∷ []) element
-new_push [] last element h g = rw (differs element last (bytes_eq element last) refl g) refl
-new_push (text ∷ texts) last element h g = new_cases (bytes_eq element text) (list_any (bytes_eq element) texts) (list_any (bytes_eq element) (texts ++ last ∷ [])) h (λ i. new_push texts last element i g)
+new_push texts last element h g = list_any-append (bytes_eq element) texts (last ∷ []) ∙ ap₂ (λ (a b : Bool). a || (b || false)) h (differs element last g)
 
 found : (rest : List (List ℕ)) (k : ℕ) (d flag : List ℕ) → k < length rest → slice_index_or rest k d ≡ flag → slice_index_or rest k flag ≡ flag
 found rest k d flag inside e = get_or_default rest k flag d inside ∙ e
@@ -114,7 +109,7 @@ still_new texts rest flag h g = λ k d inside. new_push texts flag (slice_index_
 flags_added : (texts flags : List (List ℕ)) → All IsPlainFlag flags → AreDistinct flags → All (IsNew texts) flags → fold with_flag texts flags ≡ texts ++ flags
 flags_added texts [] p d n = sym (append-nil texts)
 flags_added texts (flag ∷ flags) p d n =
-    rw (differs flag (codes "fuzzy") (bytes_eq flag (codes "fuzzy")) refl (All-head IsPlainFlag flag flags p), All-head (IsNew texts) flag flags n)
+    rw (differs flag (codes "fuzzy") (All-head IsPlainFlag flag flags p), All-head (IsNew texts) flag flags n)
     (flags_added (texts ++ flag ∷ []) flags (All-tail IsPlainFlag flag flags p) d.1 (still_new texts flags flag (All-tail (IsNew texts) flag flags n) d.0) ∙ append_assoc texts (flag ∷ []) flags)
 
 pub flags_kept : (fuzzy : Bool) (flags : List (List ℕ)) → All IsPlainFlag flags → AreDistinct flags → fold with_flag [] (all_flags fuzzy flags) ≡ flags

@@ -3,9 +3,10 @@
 use Rattle.std.proofs.Common.{◌≡◌, ◌∙◌, not, refl, sym, ap, Bool, true, false, cond, List, [], ◌∷◌, ◌++◌, map, filter}
 use Rattle.std.specs.List.{flat_map, join_by}
 use Rattle.std.proofs.lemmas.List.{append-nil, map-append}
-use Rattle.std.proofs.lemmas.List.Elements.{filter-append}
+use Rattle.std.proofs.lemmas.List.Elements.{All-weaker, filter-append, filter_passes}
 use Rattle.std.proofs.lemmas.Bool.{not-true}
 use Rattle.po_entry.specs.TextEntry.{TextEntry, with_line}
+use Rattle.po_writer.proofs.Separated.{all_pass, none_pass}
 use Rattle.po_writer.specs.WrittenText.{entry_lines, arranged, written_text}
 
 -- the entries without their lines
@@ -32,22 +33,13 @@ kept_same : (test : Bool → Bool) (entries : List TextEntry) → kept test (unn
 kept_same test [] = refl
 kept_same test (e ∷ entries) = map_cond (test e.obsolete) e _ (kept test entries) (kept_same test entries)
 
-kept_cases : (test other : Bool → Bool) (e : TextEntry) (first : Bool) (xs ys : List TextEntry) → test e.obsolete ≡ first → kept other xs ≡ ys → (first ≡ true → kept other (e ∷ xs) ≡ e ∷ ys) → kept other (cond first (e ∷ xs) xs) ≡ cond first (e ∷ ys) ys
-kept_cases test other e true xs ys same h g = g refl
-kept_cases test other e false xs ys same h g = h
-
 kept_again : (test : Bool → Bool) (entries : List TextEntry) → kept test (kept test entries) ≡ kept test entries
-kept_again test [] = refl
-kept_again test (e ∷ entries) =
-    kept_cases test test e (test e.obsolete) (kept test entries) (kept test entries) refl (kept_again test entries) (λ yes. rw yes (ap (λ t. e ∷ t) (kept_again test entries)))
-
-other_cases : (test other : Bool → Bool) (e : TextEntry) (first : Bool) (xs : List TextEntry) → test e.obsolete ≡ first → ((b : Bool) → test b ≡ true → other b ≡ false) → kept other xs ≡ [] → kept other (cond first (e ∷ xs) xs) ≡ []
-other_cases test other e true xs same apart h = rw (apart e.obsolete same) h
-other_cases test other e false xs same apart h = h
+kept_again test entries = all_pass (λ e. test e.obsolete) (kept test entries) (filter_passes (λ e. test e.obsolete) entries)
 
 kept_other : (test other : Bool → Bool) (entries : List TextEntry) → ((b : Bool) → test b ≡ true → other b ≡ false) → kept other (kept test entries) ≡ []
-kept_other test other [] apart = refl
-kept_other test other (e ∷ entries) apart = other_cases test other e (test e.obsolete) (kept test entries) refl apart (kept_other test other entries apart)
+kept_other test other entries apart =
+    none_pass (λ e. other e.obsolete) (kept test entries)
+    (All-weaker (λ (e : TextEntry). test e.obsolete ≡ true) (λ (e : TextEntry). other e.obsolete ≡ false) (λ e yes. apart e.obsolete yes) (kept test entries) (filter_passes (λ e. test e.obsolete) entries))
 
 not_true : (b : Bool) → b ≡ true → not b ≡ false
 not_true b h = ap not h

@@ -58,21 +58,19 @@ separated entries =
 abbrev pub IsLive : TextEntry → Type 0
 IsLive entry = entry.obsolete ≡ false
 
-live_kept : (entries : List TextEntry) → All IsLive entries → filter (λ e. not e.obsolete) entries ≡ entries
-live_kept [] live = refl
-live_kept (entry ∷ entries) live =
-    let rest = filter (λ e. not e.obsolete) entries in
-    ap (λ mark. cond (not mark) (entry ∷ rest) rest) (All-head IsLive entry entries live) ∙ ap (λ l. entry ∷ l) (live_kept entries (All-tail IsLive entry entries live))
+-- where each element passes, all are kept; where none does, none is
+pub all_pass : {X : Type 0} (p : X → Bool) (xs : List X) → All (λ x. p x ≡ true) xs → filter p xs ≡ xs
+all_pass p [] h = refl
+all_pass p (x ∷ xs) h = ap (λ b. cond b (x ∷ filter p xs) (filter p xs)) (All-head (λ y. p y ≡ true) x xs h) ∙ ap (λ l. x ∷ l) (all_pass p xs (All-tail (λ y. p y ≡ true) x xs h))
 
-none_obsolete : (entries : List TextEntry) → All IsLive entries → filter (λ e. e.obsolete) entries ≡ []
-none_obsolete [] live = refl
-none_obsolete (entry ∷ entries) live =
-    let rest = filter (λ e. e.obsolete) entries in
-    ap (λ mark. cond mark (entry ∷ rest) rest) (All-head IsLive entry entries live) ∙ none_obsolete entries (All-tail IsLive entry entries live)
+pub none_pass : {X : Type 0} (p : X → Bool) (xs : List X) → All (λ x. p x ≡ false) xs → filter p xs ≡ []
+none_pass p [] h = refl
+none_pass p (x ∷ xs) h = ap (λ b. cond b (x ∷ filter p xs) (filter p xs)) (All-head (λ y. p y ≡ false) x xs h) ∙ none_pass p xs (All-tail (λ y. p y ≡ false) x xs h)
 
 -- live entries are arranged as they stand
 pub live_stay : (entries : List TextEntry) → All IsLive entries → arranged entries ≡ entries
-live_stay entries live = rw (live_kept entries live, none_obsolete entries live) (append-nil entries)
+live_stay entries live =
+    rw (all_pass (λ e. not e.obsolete) entries (λ k d inside. ap not (live k d inside)), none_pass (λ e. e.obsolete) entries live) (append-nil entries)
 
 -- one live entry more
 pub one_more : (entries : List TextEntry) (entry : TextEntry) → All IsLive entries → IsLive entry → with_entry (written_text entries) entry ≡ written_text (entries ++ entry ∷ [])

@@ -1,5 +1,5 @@
 -- A line of elements between separators gives the elements back.
-use Rattle.std.proofs.Common.{◌≡◌, ◌∙◌, ◌==◌, ◌||◌, refl, sym, ap, subst, ℕ, suc, ◌+◌, ◌-◌, ◌<◌, Bool, true, false, cond, List, [], ◌∷◌, ◌++◌, append_assoc, length, length-drop, drop, map, filter, All, arith}
+use Rattle.std.proofs.Common.{◌≡◌, ◌∙◌, ◌==◌, refl, sym, ap, subst, ℕ, suc, ◌+◌, ◌-◌, ◌<◌, Bool, true, false, cond, List, [], ◌∷◌, ◌++◌, append_assoc, length, length-drop, drop, map, filter, All, arith}
 use Rattle.std.specs.Prelude.{reverse}
 use Rattle.std.specs.List.{flat_map, slice_split, prefix_len, suffix_len}
 use Rattle.std.proofs.lemmas.List.{append-nil, take_all, length-take, reverse-append, length-reverse}
@@ -7,7 +7,7 @@ use Rattle.std.proofs.lemmas.List.Elements.{All-cons, All-head, All-tail}
 use Rattle.std.proofs.lemmas.List.Folds.{prefix_len-append}
 use Rattle.std.proofs.lemmas.List.Splits.{slice_split_at, slice_split_none}
 use Rattle.std.proofs.lemmas.List.Sums.{prefix_len-le-length, suffix_len-le-length, suffix_len_is}
-use Rattle.std.proofs.lemmas.Bool.{ne_eqb}
+use Rattle.std.proofs.lemmas.Bool.{ne_eqb, or_parts}
 use Rattle.po_syntax.specs.ItemContents.{trim_returns}
 use Rattle.po_syntax.specs.Blanks.{is_blank, skip_blanks}
 use Rattle.po_entry.specs.Bytes.{trimmed, without_end_blanks}
@@ -17,12 +17,8 @@ use Rattle.po_entry.specs.Comments.{listed_references, listed_flags, is_comma, i
 abbrev pub IsEnded : List ℕ → Type 0
 IsEnded element = (0 < length element) × (suffix_len is_blank element ≡ 0)
 
-or_right : (x y : Bool) → (x || y) ≡ false → y ≡ false
-or_right true y h = cc
-or_right false y h = h
-
 no_return : (b : ℕ) → is_blank b ≡ false → (b == 13) ≡ false
-no_return b h = or_right _ (b == 13) h
+no_return b h = (or_parts _ (b == 13) h).1
 
 head_fails : (test : Bool) (n : ℕ) → cond test (1 + n) 0 ≡ 0 → test ≡ false
 head_fails true n h = absurd (omega (arith, h))
@@ -70,13 +66,10 @@ element_ended element h =
     suffix_len_is is_blank element (length element) 0 (omega arith) (λ k low high. absurd (omega (arith, low, high))) (λ some. h.1 (length element - 1) 0 (omega (arith, some))) in
     (h.0, omega (arith, last))
 
-blanks_cut : (element : List ℕ) (elements : List (List ℕ)) → IsElement element → All IsElement elements → listed_references (element ++ following (32 ∷ []) elements) ≡ element ∷ elements
-blanks_cut element [] h g = rw (append-nil element, slice_split_none is_blank element h.1) (one_element element [] h.0)
-blanks_cut element (next ∷ elements) h g =
-    ap (filter is_not_empty) (slice_split_at is_blank element 32 (next ++ following (32 ∷ []) elements) h.1 refl) ∙ one_element element (slice_split is_blank (next ++ following (32 ∷ []) elements)) h.0 ∙ ap (λ t. element ∷ t) (blanks_cut next elements (All-head IsElement next elements g) (All-tail IsElement next elements g))
-
-pub references_cut : (element : List ℕ) (elements : List (List ℕ)) → IsElement element → All IsElement elements → listed_references (32 ∷ element ++ following (32 ∷ []) elements) ≡ element ∷ elements
-references_cut element elements h g = blanks_cut element elements h g
+pub references_cut : (element : List ℕ) (elements : List (List ℕ)) → IsElement element → All IsElement elements → listed_references (element ++ following (32 ∷ []) elements) ≡ element ∷ elements
+references_cut element [] h g = rw (append-nil element, slice_split_none is_blank element h.1) (one_element element [] h.0)
+references_cut element (next ∷ elements) h g =
+    ap (filter is_not_empty) (slice_split_at is_blank element 32 (next ++ following (32 ∷ []) elements) h.1 refl) ∙ one_element element (slice_split is_blank (next ++ following (32 ∷ []) elements)) h.0 ∙ ap (λ t. element ∷ t) (references_cut next elements (All-head IsElement next elements g) (All-tail IsElement next elements g))
 
 -- an element of a `#,` line
 pub record IsFlagElement (element : List ℕ) : Type 0 where
@@ -103,14 +96,11 @@ skip_blank text = ap (λ n. drop n (32 ∷ text)) (one_more (prefix_len is_blank
 trimmed_element : (element : List ℕ) → IsFlagElement element → trimmed (32 ∷ element) ≡ element
 trimmed_element element h = ap without_end_blanks (skip_blank element) ∙ h.no_blank_ends
 
-commas_cut : (element : List ℕ) (elements : List (List ℕ)) → IsFlagElement element → All IsFlagElement elements → listed_flags (32 ∷ element ++ following (44 ∷ 32 ∷ []) elements) ≡ element ∷ elements
-commas_cut element [] h g =
+pub flags_cut : (element : List ℕ) (elements : List (List ℕ)) → IsFlagElement element → All IsFlagElement elements → listed_flags (32 ∷ element ++ following (44 ∷ 32 ∷ []) elements) ≡ element ∷ elements
+flags_cut element [] h g =
     let whole = All-cons (λ b. is_comma b ≡ false) 32 element refl h.no_comma in
     rw (append-nil element, slice_split_none is_comma (32 ∷ element) whole, trimmed_element element h) (one_element element [] h.some)
-commas_cut element (next ∷ elements) h g =
+flags_cut element (next ∷ elements) h g =
     let whole = All-cons (λ b. is_comma b ≡ false) 32 element refl h.no_comma in
     ap (λ t. filter is_not_empty (map trimmed t)) (slice_split_at is_comma (32 ∷ element) 44 (32 ∷ next ++ following (44 ∷ 32 ∷ []) elements) whole refl)
-    ∙ rw (trimmed_element element h) (one_element element (map trimmed (slice_split is_comma (32 ∷ next ++ following (44 ∷ 32 ∷ []) elements))) h.some) ∙ ap (λ t. element ∷ t) (commas_cut next elements (All-head IsFlagElement next elements g) (All-tail IsFlagElement next elements g))
-
-pub flags_cut : (element : List ℕ) (elements : List (List ℕ)) → IsFlagElement element → All IsFlagElement elements → listed_flags (32 ∷ element ++ following (44 ∷ 32 ∷ []) elements) ≡ element ∷ elements
-flags_cut element elements h g = commas_cut element elements h g
+    ∙ rw (trimmed_element element h) (one_element element (map trimmed (slice_split is_comma (32 ∷ next ++ following (44 ∷ 32 ∷ []) elements))) h.some) ∙ ap (λ t. element ∷ t) (flags_cut next elements (All-head IsFlagElement next elements g) (All-tail IsFlagElement next elements g))
