@@ -1,4 +1,3 @@
-pub mod Tools
 pub mod Arguments
 pub mod Offering
 pub mod SpelledOut

@@ -1,13 +1,13 @@
 -- The command of the whole program, with those of its tools.
-use Rattle.std.specs.Prelude.{◌≡◌, ℕ, ◌++◌, true, false, List, [], ◌∷◌, Option, Some, None, codes}
+use Rattle.std.specs.Prelude.{◌≡◌, ℕ, ◌++◌, true, false, List, [], ◌∷◌, Option, Some, None, codes, map}
 use Rattle.std.specs.List.{AllZip}
 use Rattle.clap.specs.Simple.{Shape, app_of, new_shape, on_top, shape_of}
 use Rattle.clap.specs.Walk.{Rule, is_empty}
 use Rattle.clap.specs.declared.builder.command.Command.{Command}
 use Rattle.clap.specs.declared.builder.command.Command.TheViews.{out-Command}
 use Rattle.command_line.specs.Arguments.{Argument, IsRuleOf, arguments_of}
-use Rattle.command_line.specs.Tools.{every_tool, tool_name}
-use Rattle.command_line.specs.declared.tool.Tool.{Tool}
+use Rattle.tool_names.specs.Tools.{every_tool, tool_name}
+use Rattle.tool_names.specs.declared.tool.Tool.{Tool}
 
 -- the command has these arguments more, after those that it has
 pub record AddsArguments (arguments : List Argument) (old new : Command) : Type 0 where
@@ -53,3 +53,8 @@ pub record OffersTools (tools : List Tool) (program : Command) : Type 0 where
 abbrev pub offered_tools : Option Tool → List Tool
 offered_tools None = every_tool
 offered_tools (Some tool) = tool ∷ []
+
+-- the names of the tools that are offered: all, or the one that is named
+abbrev pub offered : Option Tool → List (List ℕ)
+offered None = map tool_name every_tool
+offered (Some tool) = tool_name tool ∷ []

@@ -1,7 +1,7 @@
 //! The command line of pokit, as `clap` takes it: the tools and their options, the texts of help,
 //! and the texts of usage faults.
 //!
-//! The modules in reading order: `tool`, `commands`, `help`, `tips`, `usage`, `laws`.
+//! The modules in reading order: `commands`, `help`, `tips`, `usage`, `laws`.
 
 #![tactic(auto)]
 
@@ -9,9 +9,8 @@ mod commands;
 mod help;
 pub mod laws;
 mod tips;
-mod tool;
 mod usage;
 
 pub use commands::program;
-pub use tool::Tool;
+pub use tool_names::Tool;
 pub use usage::{reworded, spelled_out};

@@ -27,8 +27,8 @@ use Rattle.gettext.specs.Usage.{GettextUsage, NgettextUsage, gettext_usage, nget
 use Rattle.runs.specs.ProgramFaults.{program_text, stdin_text}
 use Rattle.runs.specs.Run.{RunView, is_standard}
 use Rattle.runs.specs.ToolRuns.{RunsInput}
-use Rattle.po_tools.specs.declared.tool.Tool.{Tool}
-use Rattle.po_tools.specs.declared.tool.Tool.TheVariants.{Msgfmt, Msgunfmt, Msgattrib, Msgcat, Gettext, Ngettext, Envsubst}
+use Rattle.tool_names.specs.declared.tool.Tool.{Tool}
+use Rattle.tool_names.specs.declared.tool.Tool.TheVariants.{Msgfmt, Msgunfmt, Msgattrib, Msgcat, Gettext, Ngettext, Envsubst}
 
 -- what the options and arguments of a command line may be, by their names
 pub record CommandLine : Type 1 where

@@ -7,14 +7,13 @@
 //!
 //! Each tool is in a crate of its own, over `runs`: `msgfmt`, `msgunfmt`, `msgattrib`, `msgcat`,
 //! `gettext` (with ngettext) and `envsubst`. Here are all of them under one name, with [`run`], which
-//! runs the tool that is asked for by what its command line gives (`tool`, `tool_run`), the calls that
+//! runs the tool that is asked for by what its command line gives (`tool_run`), the calls that
 //! read one input (`one_input`) and the laws of their runs (`run_laws`).
 
 #![tactic(auto)]
 
 mod one_input;
 mod run_laws;
-mod tool;
 mod tool_run;
 
 pub use envsubst::{EntrySource, EnvsubstArguments, envsubst};
@@ -45,5 +44,5 @@ pub use runs::{
     OutputFiles, Owner, ProgramFault, Rights, Run, STANDARD, STDIN_NAME, deliver, read_one,
     read_whole, report_fault, shown_name, write_run,
 };
-pub use tool::Tool;
+pub use tool_names::Tool;
 pub use tool_run::run;

@@ -2,7 +2,6 @@
 ghost use Rattle.std.specs.Prelude.{◌^◌, ◌<◌};
 ghost use Rattle.po_tools.specs.ToolRun.{ReaderView, RunsEnvsubstLine, RunsGettextLine, RunsNgettextLine, RunsTool, answers_of, line_of, reached, reader_of};
 
-use crate::tool::Tool;
 use devices::{ByteIn, ByteOut};
 use envsubst::{EntrySource, EnvsubstArguments, envsubst};
 use gettext::{
@@ -16,6 +15,7 @@ use runs::{
     Arguments, InputSource, OutputFiles, OutputSystem, ProgramFault, input_of, inputs_of, output_of,
 };
 use std::alloc::Global;
+use tool_names::Tool;
 
 /// Runs a tool by what its command line gives, and returns its status: the inputs are those of `source`,
 /// `reader` is standard input where it is read in blocks, and all output goes to `system`.

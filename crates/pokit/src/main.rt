@@ -89,7 +89,7 @@ fn run_tool(rt: &HostRuntime, matches: &ArgMatches<'_>) -> Ending {
     let given = Options(matches);
     let outcome = po_tools::run(
         rt.alloc(),
-        own_tool(tool),
+        tool,
         &mut System(rt),
         &mut Counted::new(rt.reader()),
         &mut outputs(rt.alloc(), rt),
@@ -98,19 +98,6 @@ fn run_tool(rt: &HostRuntime, matches: &ArgMatches<'_>) -> Ending {
     match outcome {
         Ok(status) => Ending::Ran(status),
         Err(fault) => report_fault(rt, Some(tool), fault),
-    }
-}
-
-/// The tool of a command line, as it is run.
-fn own_tool(tool: Tool) -> po_tools::Tool {
-    match tool {
-        Tool::Msgfmt => po_tools::Tool::Msgfmt,
-        Tool::Msgunfmt => po_tools::Tool::Msgunfmt,
-        Tool::Msgattrib => po_tools::Tool::Msgattrib,
-        Tool::Msgcat => po_tools::Tool::Msgcat,
-        Tool::Gettext => po_tools::Tool::Gettext,
-        Tool::Ngettext => po_tools::Tool::Ngettext,
-        Tool::Envsubst => po_tools::Tool::Envsubst,
     }
 }
 
