@@ -242,5 +242,4 @@ answers-colon parser first start rest (WaitQuestion a ∷ below) t code entries 
     let done = skips before (λ ys. sym (simp (waiting-append, program-append))) (choose_instruction 0) t parser.code parser.start 1 h.code_is h.start_is in
     let same = sym e ∙ h.entries_are in
     (refl, record { code_is = is ∙ ap (λ p. p ++ jump_instruction 0 ∷ []) done ∙ simp (waiting-append, program-append); entries_are = cc })
-answers-colon parser first start rest [] t code entries h e is is' = absurd (let same = sym e ∙ h.entries_are in cc)
-answers-colon parser first start rest (w ∷ below) t code entries h e is is' = absurd (let same = sym e ∙ h.entries_are in cc)
+answers-colon parser first start rest _ t code entries h e is is' = absurd (let same = sym e ∙ h.entries_are in cc)

@@ -7,7 +7,7 @@ use Rattle.plural_rule.specs.declared.token.Token.{Token}
 use Rattle.plural_rule.specs.declared.token.Token.TheVariants.{Count as CountToken, Number as NumberToken, Not as NotToken, Binary as BinaryToken, Question, Colon, Open, Close}
 use Rattle.plural_rule.specs.Expression.{Tree, Not, Binary, Conditional}
 use Rattle.plural_rule.specs.Grammar.{Spells, tighter, conditional, binary, negation, parentheses, count, numeral, level}
-use Rattle.plural_rule.specs.Internal.ShiftReduce.{Waiting, WaitNot, WaitOpen, WaitBinary, WaitQuestion, WaitColon, State, Want, Have, reduce, at_colon, at_close, want_step, have_step, step, alone, finish, outcome_from, outcome}
+use Rattle.plural_rule.specs.Internal.ShiftReduce.{Waiting, WaitNot, WaitOpen, WaitBinary, WaitQuestion, WaitColon, State, Want, Have, reduce, at_colon, at_close, step, alone, finish, outcome_from, outcome}
 use Rattle.plural_rule.proofs.Complete.{Fits, level-range}
 
 -- the tokens that a stack stands for
@@ -89,17 +89,6 @@ abbrev ReadSome : Option State → List Token → Type 0
 ReadSome None read = Unit {0}
 ReadSome (Some state) read = Read state read
 
-want-reads : (stack : List Waiting) (token : Token) (read : List Token) → Waits stack read → ReadSome (want_step stack token) (read ++ token ∷ [])
-want-reads stack CountToken read w = holds read (CountToken ∷ []) w count (Fits-seven stack)
-want-reads stack (NumberToken v) read w =
-    elim (cases_Bool (nat_lt v (2 ^ 64))) [
-      | inl e ↦ rw e (holds read (NumberToken v ∷ []) w (numeral v (grind (arith, nat_tests))) (Fits-seven stack))
-      | inr e ↦ rw e tt
-    ]
-want-reads stack NotToken read w = bang read w
-want-reads stack Open read w = parenthesis read w
-want-reads stack _ read w = tt
-
 operator-reads : (op : Operator) {stack : List Waiting} {t : Tree} {read : List Token} → Holds (level op) stack t read → Waits (WaitBinary op t ∷ stack) (read ++ BinaryToken op ∷ [])
 operator-reads op (holds before own w s f) = operator before own w s f
 
@@ -116,17 +105,22 @@ at_close-reads (WaitOpen ∷ stack) t (holds _ own (parenthesis before w) s f) =
     subst (Holds 7 stack t) is (holds before (Open ∷ (own ++ Close ∷ [])) w (parentheses s) (Fits-seven stack))
 at_close-reads _ t h = tt
 
-have-reads : (stack : List Waiting) (t : Tree) (token : Token) (read : List Token) → Holds 7 stack t read → ReadSome (have_step stack t token) (read ++ token ∷ [])
-have-reads stack t (BinaryToken op) read h =
-    let range = level-range op in operator-reads op (reduces (level op) stack 7 t read (omega arith) (omega arith) h)
-have-reads stack t Question read h = question-reads (reduces 1 stack 7 t read (omega arith) (omega arith) h)
-have-reads stack t Colon read h = at_colon-reads _ _ (reduces 0 stack 7 t read (omega arith) (omega arith) h)
-have-reads stack t Close read h = at_close-reads _ _ (reduces 0 stack 7 t read (omega arith) (omega arith) h)
-have-reads stack t _ read h = tt
-
 step-reads : (state : State) (token : Token) (read : List Token) → Read state read → ReadSome (step state token) (read ++ token ∷ [])
-step-reads (Want stack) token read h = want-reads stack token read h
-step-reads (Have stack t) token read h = have-reads stack t token read h
+step-reads (Want stack) CountToken read w = holds read (CountToken ∷ []) w count (Fits-seven stack)
+step-reads (Want stack) (NumberToken v) read w =
+    elim (cases_Bool (nat_lt v (2 ^ 64))) [
+      | inl e ↦ rw e (holds read (NumberToken v ∷ []) w (numeral v (grind (arith, nat_tests))) (Fits-seven stack))
+      | inr e ↦ rw e tt
+    ]
+step-reads (Want stack) NotToken read w = bang read w
+step-reads (Want stack) Open read w = parenthesis read w
+step-reads (Want stack) _ read w = tt
+step-reads (Have stack t) (BinaryToken op) read h =
+    let range = level-range op in operator-reads op (reduces (level op) stack 7 t read (omega arith) (omega arith) h)
+step-reads (Have stack t) Question read h = question-reads (reduces 1 stack 7 t read (omega arith) (omega arith) h)
+step-reads (Have stack t) Colon read h = at_colon-reads _ _ (reduces 0 stack 7 t read (omega arith) (omega arith) h)
+step-reads (Have stack t) Close read h = at_close-reads _ _ (reduces 0 stack 7 t read (omega arith) (omega arith) h)
+step-reads (Have stack t) _ read h = tt
 
 -- the tree that an operand alone stands for
 alone-reads : (stack : List Waiting) (u t : Tree) {read : List Token} → Holds 0 stack u read → alone stack u ≡ Some t → Spells 0 read t

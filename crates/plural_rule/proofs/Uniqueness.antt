@@ -75,10 +75,7 @@ one_reason limit header Unreadable TooLong h k = absurd (not-too_long limit head
 one_reason limit header TooLong Unreadable h k = absurd (not-too_long limit header k.text k.text_is k.text_fits h)
 
 same-rule : (rule other : RuleView) → rule.source ≡ other.source → rule.nplurals ≡ other.nplurals → rule.tree ≡ other.tree → rule ≡ other
-same-rule rule other source nplurals tree =
-    ap (λ x. record { source = x; nplurals = rule.nplurals; tree = rule.tree }) source
-    ∙ ap (λ x. record { source = other.source; nplurals = x; tree = rule.tree }) nplurals
-    ∙ ap (λ x. record { source = other.source; nplurals = other.nplurals; tree = x }) tree
+same-rule rule other source nplurals tree = rw (source, nplurals, tree) refl
 
 one_rule-by : (limit : ℕ) (header : List ℕ) (rule other : RuleView) (a b : Source) → rule.source ≡ a → other.source ≡ b → Gives limit header rule a → Gives limit header other b → rule ≡ other
 one_rule-by limit header rule other Header Header e e' h k =

@@ -2,7 +2,7 @@
 //! jumps that go forward only.
 ghost use Rattle.std.specs.Prelude.{◌≡◌, ℕ, ◌+◌, ◌*◌, ◌^◌, ◌<◌, ◌≤◌, List, ◌∷◌, length, drop, slice_index_or, ⊤, MatchOption};
 ghost use Rattle.plural_rule.specs.declared.instruction.Instruction.{Instruction};
-ghost use Rattle.plural_rule.specs.declared.instruction.Action.TheVariants.{Binary};
+ghost use Rattle.plural_rule.specs.declared.instruction.Action.TheVariants.{Binary, Branch};
 ghost use Rattle.plural_rule.specs.Instruction.{action_of};
 ghost use Rattle.plural_rule.specs.Expression.{nodes, value, visited};
 ghost use Rattle.plural_rule.specs.PluralRule.{expression_limit};
@@ -135,6 +135,22 @@ fn apply<const N: usize>(operator: Operator, right: u64, values: &mut Values<'_,
     Some(0)
 }
 
+/// Carries out `||` or `&&` before the second operand.
+#[inline(always)]
+fn branch<const N: usize>(operator: Operator, skip: u16, values: &mut Values<'_, N>) -> Option<u16>
+    requires { length values.old ≤ N }
+    ensures { (count low steps : ℕ) →
+        act count (Branch operator skip) low values.old steps ≡ next_of result values.new steps }
+{
+    let left = values.pop()?;
+    if operator.needs_right(left) {
+        values.push(left);
+        return Some(0);
+    }
+    values.push(operator.short_circuit_value());
+    Some(skip)
+}
+
 /// Carries out an instruction, where the next one stands at an index: how many are then skipped, or
 /// `None` where it divides by 0.
 #[inline(always)]
@@ -177,15 +193,7 @@ fn act<const N: usize>(
             let right = values.pop()?;
             apply(operator, right, values)
         }
-        Action::Branch(operator, skip) => {
-            let left = values.pop()?;
-            if operator.needs_right(left) {
-                values.push(left);
-                return Some(0);
-            }
-            values.push(operator.short_circuit_value());
-            Some(skip)
-        }
+        Action::Branch(operator, skip) => branch(operator, skip, values),
         Action::Choose(skip) => {
             let condition = values.pop()?;
             Some(if condition == 0 { skip } else { 0 })
