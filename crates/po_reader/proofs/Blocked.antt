@@ -3,9 +3,9 @@ use Rattle.std.proofs.Common.{◌≡◌, ℕ, Bool, List, [], ◌∷◌, ◌++�
 use Rattle.po_syntax.specs.declared.fault.PoFault.{PoFault}
 use Rattle.po_syntax.specs.declared.item.CommentKind.{CommentKind}
 use Rattle.po_syntax.specs.declared.item.Keyword.{Keyword}
-use Rattle.po_syntax.specs.declared.item.Keyword.TheVariants.{MsgCtxt, MsgId, MsgIdPlural, MsgStr, MsgStrAt}
+use Rattle.po_syntax.specs.declared.item.Keyword.TheVariants.{MsgStrAt}
 use Rattle.po_syntax.specs.declared.item.Marks.{Marks}
-use Rattle.po_syntax.specs.TextItem.{TextItem, Comment, Word, Str}
+use Rattle.po_syntax.specs.TextItem.{TextItem, Word}
 use Rattle.po_entry.specs.TextEntry.{TextEntry}
 use Rattle.po_reader.specs.Internal.Strings as string
 use Rattle.po_reader.specs.Internal.Keywords as word
@@ -59,13 +59,8 @@ pub record Context (whole : List TextItem) (Stops : List TextItem → PoFault �
   pub viable : (others : List TextItem) → IsComplete others → IsViable (own ++ others)
 
 pub first_alike : (item : TextItem) (items others : List TextItem) → Alike (item ∷ items) (item ∷ others)
-first_alike (Comment kind text line) items others = (refl, refl)
-first_alike (Str bytes marks line) items others = (refl, refl)
-first_alike (Word MsgCtxt marks line) items others = (refl, refl)
-first_alike (Word MsgId marks line) items others = (refl, refl)
-first_alike (Word MsgIdPlural marks line) items others = (refl, refl)
-first_alike (Word MsgStr marks line) items others = (refl, refl)
 first_alike (Word (MsgStrAt index) marks line) items others = (refl, refl)
+first_alike item items others = (refl, refl)
 
 alike_after : {items : List TextItem} (rest others own : List TextItem) → items ≡ own ++ rest → Alike rest others → Alike items (own ++ others)
 alike_after rest others [] e alike = (ap string.begins_string e ∙ alike.0, ap begins_form e ∙ alike.1)

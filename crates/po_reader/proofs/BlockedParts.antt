@@ -2,7 +2,7 @@
 use Rattle.std.proofs.Common.{◌≡◌, ℕ, Bool, true, false, List, [], ◌∷◌, ◌++◌, Option, Some, None, refl, sym, subst, ◌∙◌, append_assoc}
 use Rattle.po_syntax.specs.declared.fault.PoFault.{PoFault}
 use Rattle.po_syntax.specs.declared.item.Keyword.{Keyword}
-use Rattle.po_syntax.specs.declared.item.Keyword.TheVariants.{MsgCtxt, MsgId, MsgIdPlural, MsgStr, MsgStrAt}
+use Rattle.po_syntax.specs.declared.item.Keyword.TheVariants.{MsgId, MsgIdPlural, MsgStr, MsgStrAt}
 use Rattle.po_syntax.specs.declared.item.Marks.{Marks}
 use Rattle.po_syntax.specs.TextItem.{TextItem, Word, Str}
 use Rattle.po_entry.specs.Spelling.{own_marks}
@@ -121,9 +121,7 @@ translated : {obsolete : Bool} (items : List TextItem) (keyword : Keyword) (line
 translated items MsgStr line bytes w = (items, as_long items, (None, bytes ∷ [], body.single w))
 translated {obsolete} items MsgIdPlural line bytes w =
     (items ++ empty_form obsolete, (empty_form obsolete, refl), (Some bytes, [] ∷ [], body.plural (extended (keyword_text_cut w) (empty_form obsolete) refl) (forms_empty obsolete)))
-translated items MsgCtxt line bytes w = let wanted = (keyword_prefix w).1 in absurd cc
-translated items MsgId line bytes w = let wanted = (keyword_prefix w).1 in absurd cc
-translated items (MsgStrAt index) line bytes w = let wanted = (keyword_prefix w).1 in absurd cc
+translated items keyword line bytes w = let wanted = (keyword_prefix w).1 in absurd cc
 
 translation_blocked : {end : ℕ} {obsolete : Bool} {whole items : List TextItem} {fault : PoFault} {line : ℕ} → Context whole (stop.TranslationStops end obsolete) (AreTranslated obsolete) items
     → stop.TranslationStops end obsolete items fault line → Blocked end whole fault line

@@ -3,7 +3,7 @@ use Rattle.std.proofs.Common.{◌≡◌, ℕ, Bool, true, false, nat_lt, List, [
 use Rattle.std.specs.Prelude.{if◌then◌else◌}
 use Rattle.po_syntax.specs.declared.fault.PoFault.TheVariants.{BadOrder}
 use Rattle.po_syntax.specs.declared.item.Keyword.{Keyword}
-use Rattle.po_syntax.specs.declared.item.Keyword.TheVariants.{MsgCtxt, MsgId, MsgIdPlural, MsgStr, MsgStrAt}
+use Rattle.po_syntax.specs.declared.item.Keyword.TheVariants.{MsgCtxt, MsgId}
 use Rattle.po_syntax.specs.TextItem.{TextItem, Comment, Word, Str}
 use Rattle.po_reader.specs.Internal.Body.{body_start, NoStart}
 use Rattle.po_entry.specs.EntryParts.{CommentText, PreviousText, rank}
@@ -33,9 +33,7 @@ over_cases above (Word keyword marks line ∷ rest) e = inr (own keyword marks.p
     ranked false p s = cc
   own MsgCtxt false q = λ s. cc
   own MsgId false q = λ s. cc
-  own MsgIdPlural false q = cc
-  own MsgStr false q = cc
-  own (MsgStrAt index) false q = cc
+  own keyword false q = cc
 
 -- a head that runs to the end of the items is comments alone
 pub head_at_end : {above : ℕ} {items rest : List TextItem} {comment_texts : List CommentText} {others : List PreviousText} → IsHead above items comment_texts others rest → rest ≡ [] → (above ≡ 0) × AreComments items

@@ -19,10 +19,8 @@ kept_nothing true = refl
 kept_nothing false = refl
 
 flags_kind : (kind : CommentKind) → same_kind Flags kind ≡ true → Flags ≡ kind
-flags_kind Translator e = cc
-flags_kind Extracted e = cc
-flags_kind Reference e = cc
 flags_kind Flags e = refl
+flags_kind kind e = cc
 
 none_of : (kind : CommentKind) → same_kind kind Flags ≡ false → (comment_texts : List CommentText) → texts_of kind (filter is_flags comment_texts) ≡ []
 none_of kind other [] = refl

@@ -2,7 +2,7 @@
 use Rattle.std.proofs.Common.{◌≡◌, ℕ, Bool, true, false, List, [], Option, refl, sym, subst, inl, inr, ◌⊎◌}
 use Rattle.po_syntax.specs.declared.fault.PoFault.{PoFault}
 use Rattle.po_syntax.specs.declared.item.Keyword.{Keyword}
-use Rattle.po_syntax.specs.declared.item.Keyword.TheVariants.{MsgCtxt, MsgId, MsgIdPlural, MsgStr, MsgStrAt}
+use Rattle.po_syntax.specs.declared.item.Keyword.TheVariants.{MsgIdPlural, MsgStr}
 use Rattle.po_syntax.specs.declared.item.Marks.{Marks}
 use Rattle.po_syntax.specs.TextItem.{TextItem}
 use Rattle.po_entry.specs.TextEntry.{TextEntry}
@@ -29,9 +29,7 @@ translation_keyword {k = k} w = cases k (keyword_prefix w).1 where
   cases : (k : Keyword) → word.is_wanted word.Translation k ≡ true → (k ≡ MsgIdPlural) ⊎ (k ≡ MsgStr)
   cases MsgIdPlural e = inl refl
   cases MsgStr e = inr refl
-  cases MsgCtxt e = absurd cc
-  cases MsgId e = absurd cc
-  cases (MsgStrAt index) e = absurd cc
+  cases k e = absurd cc
 
 -- what follows a msgid, and is no plural, is a translation
 pub translation_alone : {obsolete : Bool} {items rest : List TextItem} {k : Keyword} {l : ℕ} {a : List ℕ} → word.IsKeywordText word.Translation obsolete items k l a rest → (k ≡ MsgIdPlural → ⊥)

@@ -8,7 +8,7 @@ use Rattle.po_syntax.specs.declared.fault.PoFault.{PoFault}
 use Rattle.po_syntax.specs.declared.fault.PoFault.TheVariants.{BadOrder, BadPluralIndex, MixedObsolete}
 use Rattle.po_syntax.specs.declared.item.CommentKind.TheVariants.{Translator}
 use Rattle.po_syntax.specs.declared.item.Keyword.{Keyword}
-use Rattle.po_syntax.specs.declared.item.Keyword.TheVariants.{MsgCtxt, MsgId, MsgIdPlural, MsgStr, MsgStrAt}
+use Rattle.po_syntax.specs.declared.item.Keyword.TheVariants.{MsgId, MsgStr, MsgStrAt}
 use Rattle.po_syntax.specs.declared.item.Marks.{Marks}
 use Rattle.po_syntax.specs.TextItem.{TextItem, Comment, Word, Str}
 use Rattle.po_entry.specs.Spelling.{own_marks}
@@ -33,36 +33,21 @@ abbrev pub CouldFollow : List TextItem → Point → Type 0
 CouldFollow prefix point = (other : TextItem) → Accepts point other → IsViable (prefix ++ other ∷ [])
 
 obsolete_alike : (obsolete : Bool) (item : TextItem) → Alike (item ∷ []) (with_obsolete obsolete item ∷ [])
-obsolete_alike obsolete (Comment kind text line) = (refl, refl)
-obsolete_alike obsolete (Str bytes marks line) = (refl, refl)
-obsolete_alike obsolete (Word MsgCtxt marks line) = (refl, refl)
-obsolete_alike obsolete (Word MsgId marks line) = (refl, refl)
-obsolete_alike obsolete (Word MsgIdPlural marks line) = (refl, refl)
-obsolete_alike obsolete (Word MsgStr marks line) = (refl, refl)
 obsolete_alike obsolete (Word (MsgStrAt found) marks line) = (refl, refl)
+obsolete_alike obsolete item = (refl, refl)
 
 not_mixed : (prefix : List TextItem) (point : Point) (item : TextItem) → NeverAfter prefix point item → ((obsolete : Bool) → IsOwn item → Shuns point (with_obsolete obsolete item)) → IsMixed prefix item → ⊥
 not_mixed prefix point item never shuns w = never (with_obsolete w.1.0 item) (obsolete_alike w.1.0 item) (shuns w.1.0 w.0) w.1.1
 
 not_index : (prefix : List TextItem) (point : Point) (item : TextItem) → NeverAfter prefix point item
     → ((found other : ℕ) (obsolete : Bool) (marks : Marks) (line : ℕ) → item ≡ Word (MsgStrAt found) marks line → other ≢ found → Shuns point (Word (MsgStrAt other) (own_marks obsolete) line)) → IsWrongIndex prefix item → ⊥
-not_index prefix point (Comment kind text line) never shuns w = w
-not_index prefix point (Str bytes marks line) never shuns w = w
-not_index prefix point (Word MsgCtxt marks line) never shuns w = w
-not_index prefix point (Word MsgId marks line) never shuns w = w
-not_index prefix point (Word MsgIdPlural marks line) never shuns w = w
-not_index prefix point (Word MsgStr marks line) never shuns w = w
 not_index prefix point (Word (MsgStrAt found) marks line) never shuns w =
     never (Word (MsgStrAt w.1) (own_marks w.2) line) (refl, ap not w.0) (shuns found w.1 w.2 marks line refl w.3) w.4
+not_index prefix point item never shuns w = w
 
 index_own : (prefix : List TextItem) (item : TextItem) → IsWrongIndex prefix item → IsOwn item
-index_own prefix (Comment kind text line) w = absurd w
-index_own prefix (Str bytes marks line) w = absurd w
-index_own prefix (Word MsgCtxt marks line) w = absurd w
-index_own prefix (Word MsgId marks line) w = absurd w
-index_own prefix (Word MsgIdPlural marks line) w = absurd w
-index_own prefix (Word MsgStr marks line) w = absurd w
 index_own prefix (Word (MsgStrAt found) marks line) w = w.0
+index_own prefix item w = absurd w
 
 -- an item that is no own one is out of order
 foreign : (prefix : List TextItem) (item : TextItem) → (IsOwn item → ⊥) → Misfit prefix item BadOrder
@@ -135,12 +120,7 @@ other_index : (prefix : List TextItem) (wanted : word.Wanted) (obsolete : Bool) 
     → word.is_wrong_form wanted keyword ≡ true → IsWrongIndex prefix (Word keyword marks line)
 other_index prefix (word.Form n) obsolete (MsgStrAt found) marks line could p w f =
     (p, n, obsolete, λ e. eqb-false found n w (sym e), could (Word (MsgStrAt n) (own_marks obsolete) line) (keyword_accepted (word.Form n) obsolete (MsgStrAt n) (own_marks obsolete) line refl refl (eq-eqb n n refl)))
-other_index prefix word.Id obsolete keyword marks line could p w f = absurd cc
-other_index prefix word.Translation obsolete keyword marks line could p w f = absurd cc
-other_index prefix (word.Form n) obsolete MsgCtxt marks line could p w f = absurd cc
-other_index prefix (word.Form n) obsolete MsgId marks line could p w f = absurd cc
-other_index prefix (word.Form n) obsolete MsgIdPlural marks line could p w f = absurd cc
-other_index prefix (word.Form n) obsolete MsgStr marks line could p w f = absurd cc
+other_index prefix wanted obsolete keyword marks line could p w f = absurd cc
 
 abbrev keyword_of : TextItem → Keyword → Keyword
 keyword_of (Word keyword marks line) other = keyword

@@ -4,8 +4,8 @@ use Rattle.po_syntax.specs.declared.fault.PoFault.{PoFault}
 use Rattle.po_syntax.specs.LinesLeft.{LeftStops, LinesLeft, SpellsLeft}
 use Rattle.po_syntax.specs.Piece.{EndsInString, IsNew, LeftAnew}
 use Rattle.po_syntax.specs.PoText.{SpellsText, SpellsLines, LinesStop, TextFault}
-use Rattle.po_syntax.specs.TextItem.{TextItem, Comment, Word, Str}
-use Rattle.po_syntax.specs.declared.item.Keyword.TheVariants.{MsgCtxt, MsgId, MsgIdPlural, MsgStr, MsgStrAt}
+use Rattle.po_syntax.specs.TextItem.{TextItem, Word, Str}
+use Rattle.po_syntax.specs.declared.item.Keyword.TheVariants.{MsgStrAt}
 use Rattle.po_entry.specs.TextEntry.{TextEntry}
 use Rattle.po_entry.specs.ReadsText.{ReadsText, ReadsLeft}
 use Rattle.po_reader.proofs.SpeltReads.{IsApart}
@@ -53,13 +53,9 @@ apart : (left : LinesLeft) (items : List TextItem) → LeftAnew left → SpellsL
 apart left [] anew h = (refl, refl)
 apart left (item ∷ items) anew h = first item (anew item items h) where
   first : (item : TextItem) → IsNew item → IsApart (item ∷ items)
-  first (Comment kind text line) new = (refl, refl)
-  first (Word MsgCtxt marks line) new = (refl, refl)
-  first (Word MsgId marks line) new = (refl, refl)
-  first (Word MsgIdPlural marks line) new = (refl, refl)
-  first (Word MsgStr marks line) new = (refl, refl)
   first (Word (MsgStrAt index) marks line) new = absurd new
   first (Str bytes marks line) new = absurd new
+  first item new = (refl, refl)
 
 -- the faults of what is left after a piece that reads
 pub piece_faults : (old new : LinesLeft) (items : List TextItem) (entries : List TextEntry) → SpellsOn old new items → StopsStay old new → (new.lines ≡ []) ⊎ EndsInString items → LeftAnew new → ReadsItems items entries

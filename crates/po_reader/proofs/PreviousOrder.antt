@@ -1,7 +1,7 @@
 -- Previous texts are in their order exactly where the ranks of their keywords rise.
 use Rattle.std.proofs.Common.{ℕ, ◌<◌, List, [], ◌∷◌, map, arith}
 use Rattle.po_syntax.specs.declared.item.Keyword.{Keyword}
-use Rattle.po_syntax.specs.declared.item.Keyword.TheVariants.{MsgCtxt, MsgId, MsgIdPlural, MsgStr, MsgStrAt}
+use Rattle.po_syntax.specs.declared.item.Keyword.TheVariants.{MsgCtxt, MsgId, MsgIdPlural, MsgStr}
 use Rattle.po_entry.specs.EntryParts.{PreviousText, rank}
 use Rattle.po_entry.specs.Spelling.{AreSome, none, with, without, AreInOrder}
 
@@ -27,35 +27,26 @@ order_rises previous h = some_rise h 0 (omega arith, (omega arith, (omega arith,
 
 none_after : (some : List Keyword) → Rise 3 some → AreSome some []
 none_after [] h = none
-none_after (MsgCtxt ∷ some) h = absurd (omega (arith, h.0))
-none_after (MsgId ∷ some) h = absurd (omega (arith, h.0))
-none_after (MsgIdPlural ∷ some) h = absurd (omega (arith, h.0))
 none_after (MsgStr ∷ some) h = absurd (omega (arith, h.0))
-none_after (MsgStrAt index ∷ some) h = absurd (omega (arith, h.0))
+none_after (keyword ∷ some) h = absurd (omega (arith, h.0))
 
 after_id : (some : List Keyword) → Rise 2 some → AreSome some (MsgIdPlural ∷ [])
 after_id [] h = without none
-after_id (MsgCtxt ∷ some) h = absurd (omega (arith, h.0))
-after_id (MsgId ∷ some) h = absurd (omega (arith, h.0))
 after_id (MsgIdPlural ∷ some) h = with (none_after some h.1)
-after_id (MsgStr ∷ some) h = absurd (omega (arith, h.0))
-after_id (MsgStrAt index ∷ some) h = absurd (omega (arith, h.0))
+after_id (keyword ∷ some) h = absurd (omega (arith, h.0))
 
 after_context : (some : List Keyword) → Rise 1 some → AreSome some (MsgId ∷ MsgIdPlural ∷ [])
 after_context [] h = without (without none)
-after_context (MsgCtxt ∷ some) h = absurd (omega (arith, h.0))
 after_context (MsgId ∷ some) h = with (after_id some h.1)
 after_context (MsgIdPlural ∷ some) h = without (with (none_after some h.1))
-after_context (MsgStr ∷ some) h = absurd (omega (arith, h.0))
-after_context (MsgStrAt index ∷ some) h = absurd (omega (arith, h.0))
+after_context (keyword ∷ some) h = absurd (omega (arith, h.0))
 
 rises_some : (some : List Keyword) → Rise 0 some → AreSome some (MsgCtxt ∷ MsgId ∷ MsgIdPlural ∷ [])
 rises_some [] h = without (without (without none))
 rises_some (MsgCtxt ∷ some) h = with (after_context some h.1)
 rises_some (MsgId ∷ some) h = without (with (after_id some h.1))
 rises_some (MsgIdPlural ∷ some) h = without (without (with (none_after some h.1)))
-rises_some (MsgStr ∷ some) h = absurd (omega (arith, h.0))
-rises_some (MsgStrAt index ∷ some) h = absurd (omega (arith, h.0))
+rises_some (keyword ∷ some) h = absurd (omega (arith, h.0))
 
 pub rise_order : (previous : List PreviousText) → Rise 0 (keywords previous) → AreInOrder previous
 rise_order previous h = rises_some (keywords previous) h

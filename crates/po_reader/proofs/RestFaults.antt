@@ -3,9 +3,9 @@ use Rattle.std.proofs.Common.{◌≡◌, refl, sym, ap, subst, subst₂, ◌∙�
 use Rattle.std.specs.Prelude.{All}
 use Rattle.std.proofs.lemmas.List.Elements.{All-nil, All-head, All-tail, All-append}
 use Rattle.po_syntax.specs.declared.fault.PoFault.{PoFault}
-use Rattle.po_syntax.specs.declared.item.Keyword.TheVariants.{MsgCtxt, MsgId, MsgIdPlural, MsgStr, MsgStrAt}
+use Rattle.po_syntax.specs.declared.item.Keyword.TheVariants.{MsgStrAt}
 use Rattle.po_syntax.specs.Piece.{EndsInString}
-use Rattle.po_syntax.specs.TextItem.{TextItem, Comment, Word, Str}
+use Rattle.po_syntax.specs.TextItem.{TextItem, Word, Str}
 use Rattle.po_entry.specs.TextEntry.{TextEntry}
 use Rattle.po_reader.specs.Internal.Reads.{Reads, comments, entry}
 use Rattle.po_entry.specs.Header.{HasAdmittedCharset}
@@ -32,13 +32,9 @@ use Rattle.po_reader.proofs.OneReading.{spelt_or_stop, spelt_once, read_or_stopp
 -- where neither begins with a string or a form, both together don't
 apart_joined : (front rest : List TextItem) → IsApart front → IsApart rest → IsApart (front ++ rest)
 apart_joined [] rest f r = r
-apart_joined (Comment kind text line ∷ front) rest f r = (refl, refl)
 apart_joined (Str bytes marks line ∷ front) rest f r = f
-apart_joined (Word MsgCtxt marks line ∷ front) rest f r = (refl, refl)
-apart_joined (Word MsgId marks line ∷ front) rest f r = (refl, refl)
-apart_joined (Word MsgIdPlural marks line ∷ front) rest f r = (refl, refl)
-apart_joined (Word MsgStr marks line ∷ front) rest f r = (refl, refl)
 apart_joined (Word (MsgStrAt index) marks line ∷ front) rest f r = f
+apart_joined (item ∷ front) rest f r = (refl, refl)
 
 -- where items stop by themselves, they stop after entries
 stop_after : {front rest : List TextItem} {entries : List TextEntry} {end line : ℕ} {fault : PoFault} → Reads front entries → EndsInString front → IsApart rest → EntriesStop end rest fault line

@@ -27,21 +27,10 @@ record IsLineText (line : List ℕ) : Type 0 where
 
 same_kinds : (a b : CommentKind) → same_kind a b ≡ true → b ≡ a
 same_kinds Translator Translator e = refl
-same_kinds Translator Extracted e = cc
-same_kinds Translator Reference e = cc
-same_kinds Translator Flags e = cc
-same_kinds Extracted Translator e = cc
 same_kinds Extracted Extracted e = refl
-same_kinds Extracted Reference e = cc
-same_kinds Extracted Flags e = cc
-same_kinds Reference Translator e = cc
-same_kinds Reference Extracted e = cc
 same_kinds Reference Reference e = refl
-same_kinds Reference Flags e = cc
-same_kinds Flags Translator e = cc
-same_kinds Flags Extracted e = cc
-same_kinds Flags Reference e = cc
 same_kinds Flags Flags e = refl
+same_kinds a b e = cc
 
 pub kind_sound : (kind : CommentKind) (comment_texts : List CommentText) → All SoundCommentText comment_texts → All (IsCommentOf kind) (texts_of kind comment_texts)
 kind_sound kind [] h = All-nil (IsCommentOf kind)

@@ -2,7 +2,7 @@
 use Rattle.std.proofs.Common.{◌≡◌, ℕ, Bool, true, List, [], ◌∷◌, ◌++◌, Option, Some, None, append_assoc, refl, sym, ap, subst, ◌∙◌}
 use Rattle.std.proofs.lemmas.Bool.{eqb-true}
 use Rattle.po_syntax.specs.declared.item.Keyword.{Keyword}
-use Rattle.po_syntax.specs.declared.item.Keyword.TheVariants.{MsgCtxt, MsgId, MsgIdPlural, MsgStr, MsgStrAt}
+use Rattle.po_syntax.specs.declared.item.Keyword.TheVariants.{MsgCtxt, MsgId, MsgIdPlural, MsgStrAt}
 use Rattle.po_syntax.specs.declared.item.Marks.{Marks}
 use Rattle.po_syntax.specs.TextItem.{TextItem, Comment, Word, Str}
 use Rattle.po_entry.specs.TextEntry.{TextEntry}
@@ -45,18 +45,13 @@ keyword_prefix {wanted} {obsolete} (word.keyword_text {items = items} {text = te
     ((Word keyword (own_marks obsolete) line ∷ later.0, spell.keyword_text later.1, joined items (Word keyword (own_marks obsolete) line ∷ []) text later.0 rest here.0 later.2), here.1)
 
 wanted_id : (keyword : Keyword) → word.is_wanted word.Id keyword ≡ true → keyword ≡ MsgId
-wanted_id MsgCtxt e = cc
 wanted_id MsgId e = refl
 wanted_id MsgIdPlural e = cc
-wanted_id MsgStr e = cc
-wanted_id (MsgStrAt index) e = cc
+wanted_id keyword e = cc
 
 wanted_form : (index : ℕ) (keyword : Keyword) → word.is_wanted (word.Form index) keyword ≡ true → keyword ≡ MsgStrAt index
-wanted_form index MsgCtxt e = cc
-wanted_form index MsgId e = cc
-wanted_form index MsgIdPlural e = cc
-wanted_form index MsgStr e = cc
 wanted_form index (MsgStrAt found) e = ap (λ (i : ℕ). MsgStrAt i) (eqb-true found index e)
+wanted_form index keyword e = cc
 
 -- a form that is wanted bears its index
 form_prefix : {obsolete : Bool} {index : ℕ} {items rest : List TextItem} {keyword : Keyword} {line : ℕ} {form : List ℕ} → word.IsKeywordText (word.Form index) obsolete items keyword line form rest

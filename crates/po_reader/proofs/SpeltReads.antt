@@ -3,7 +3,7 @@ use Rattle.std.proofs.Common.{◌≡◌, ℕ, Bool, true, false, List, [], ◌�
 use Rattle.std.proofs.lemmas.Bool.{lt-ltb, eq-eqb}
 use Rattle.std.specs.Cmp.{bool_eq_equiv}
 use Rattle.po_syntax.specs.declared.item.Keyword.{Keyword}
-use Rattle.po_syntax.specs.declared.item.Keyword.TheVariants.{MsgCtxt, MsgId, MsgIdPlural, MsgStr, MsgStrAt}
+use Rattle.po_syntax.specs.declared.item.Keyword.TheVariants.{MsgStrAt}
 use Rattle.po_syntax.specs.declared.item.Marks.{Marks}
 use Rattle.po_syntax.specs.TextItem.{TextItem, Comment, Word, Str}
 use Rattle.po_entry.specs.TextEntry.{TextEntry}
@@ -90,11 +90,8 @@ body_begins (spell.own_lines (spell.context (spell.keyword_text s)) w t) rest = 
 
 -- a previous text is no plural form
 previous_apart : (keyword : Keyword) (obsolete : Bool) (line : ℕ) (rest : List TextItem) → IsApart (Word keyword (spell.previous_marks obsolete) line ∷ rest)
-previous_apart MsgCtxt obsolete line rest = (refl, refl)
-previous_apart MsgId obsolete line rest = (refl, refl)
-previous_apart MsgIdPlural obsolete line rest = (refl, refl)
-previous_apart MsgStr obsolete line rest = (refl, refl)
 previous_apart (MsgStrAt index) obsolete line rest = (refl, refl)
+previous_apart keyword obsolete line rest = (refl, refl)
 
 pub head_apart : {own : List TextItem} {comment_texts : List CommentText} {previous : List PreviousText} → spell.SpellsHead own comment_texts previous → (rest : List TextItem) → IsApart rest → IsApart (own ++ rest)
 head_apart spell.nothing rest apart = apart

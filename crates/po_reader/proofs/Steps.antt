@@ -8,7 +8,7 @@ use Rattle.po_syntax.specs.declared.fault.PoFault.{PoFault}
 use Rattle.po_syntax.specs.declared.fault.PoFault.TheVariants.{BadOrder, BadPluralIndex, MixedObsolete}
 use Rattle.po_syntax.specs.declared.item.CommentKind.{CommentKind}
 use Rattle.po_syntax.specs.declared.item.Keyword.{Keyword}
-use Rattle.po_syntax.specs.declared.item.Keyword.TheVariants.{MsgCtxt, MsgId, MsgIdPlural, MsgStr, MsgStrAt}
+use Rattle.po_syntax.specs.declared.item.Keyword.TheVariants.{MsgCtxt, MsgId}
 use Rattle.po_syntax.specs.declared.item.Marks.{Marks}
 use Rattle.po_syntax.specs.TextItem.{TextItem, Comment, Word, Str}
 use Rattle.po_syntax.specs.Spelling.{marked}
@@ -65,8 +65,6 @@ pub data StartDoes (item : TextItem) (step : List TextItem → body.Start) : Typ
   starts_nothing : ((rest : List TextItem) → step rest ≡ body.NoStart) → StartDoes item step
 
 pub start_item : (item : TextItem) → StartDoes item (λ rest. body.body_start (item ∷ rest))
-start_item (Comment kind text line) = StartDoes.starts_nothing (λ rest. refl)
-start_item (Str bytes marks line) = StartDoes.starts_nothing (λ rest. refl)
 start_item (Word MsgCtxt marks line) = chosen marks.previous refl where
   chosen : (p : Bool) → marks.previous ≡ p → StartDoes (Word MsgCtxt marks line) (λ rest. if p then body.NoStart else body.WithContext marks.obsolete rest)
   chosen true e = StartDoes.starts_nothing (λ rest. refl)
@@ -75,9 +73,7 @@ start_item (Word MsgId marks line) = chosen marks.previous refl where
   chosen : (p : Bool) → marks.previous ≡ p → StartDoes (Word MsgId marks line) (λ rest. if p then body.NoStart else body.WithoutContext marks.obsolete line rest)
   chosen true e = StartDoes.starts_nothing (λ rest. refl)
   chosen false e = StartDoes.ids marks.obsolete line (ap (λ q. Word MsgId (marked marks.obsolete q) line) e) (λ rest. refl)
-start_item (Word MsgIdPlural marks line) = StartDoes.starts_nothing (λ rest. refl)
-start_item (Word MsgStr marks line) = StartDoes.starts_nothing (λ rest. refl)
-start_item (Word (MsgStrAt index) marks line) = StartDoes.starts_nothing (λ rest. refl)
+start_item item = StartDoes.starts_nothing (λ rest. refl)
 
 pub data HeadDoes (above : ℕ) (item : TextItem) (step : List TextItem → head.HeadStep) : Type 0 where
   head_comments : (kind : CommentKind) (text : List ℕ) (line : ℕ) → item ≡ Comment kind text line
