@@ -1,23 +1,24 @@
 -- The parts of a merged entry, and which messages are kept.
-use Rattle.std.proofs.Common.{◌≡◌, ◌↔◌, ℕ, ◌<◌, Bool, true, false, cond, not, ◌&&◌, ◌||◌, nat_lt, List, [], ◌∷◌, ◌++◌, Option, Some, None, refl, sym, ap, ap₂, ◌∙◌, filter, find, fold, length, get_or, slice_get, arith, append_assoc, bytes_eq}
+use Rattle.std.proofs.Common.{◌≡◌, ◌≢◌, ◌⊎◌, inl, inr, ◌↔◌, ℕ, ◌<◌, Bool, true, false, cond, not, ◌&&◌, ◌||◌, nat_lt, List, [], ◌∷◌, ◌++◌, Option, Some, None, refl, sym, ap, ap₂, ◌∙◌, filter, find, fold, length, get_or, slice_get, arith, append_assoc, bytes_eq, subst, is_some, nat_eq, All}
 use Rattle.std.specs.Prelude.{if◌then◌else◌}
-use Rattle.std.specs.List.{list_any}
+use Rattle.std.specs.List.{list_any, ends_with}
 use Rattle.std.specs.Option.{option_map_or}
-use Rattle.std.proofs.lemmas.Bool.{and_parts, lt-ltb, ltb-true, not-false, not-true, cond_both}
-use Rattle.std.proofs.lemmas.List.Elements.{filter_agree}
-use Rattle.std.proofs.lemmas.List.Folds.{list_any-append}
+use Rattle.std.proofs.lemmas.Bool.{and_parts, eqb-true, eqb-false, lt-ltb, ltb-true, not-false, not-true, cond_both}
+use Rattle.std.proofs.lemmas.List.Elements.{filter_agree, All-weaker}
+use Rattle.std.proofs.lemmas.List.Folds.{list_any-append, list_any_none}
+use Rattle.std.proofs.lemmas.List.Prefix.{end_rest}
 use Rattle.std.proofs.lemmas.List.FromFn.{get_or-map-range_with_len, length-map-range_with_len}
 use Rattle.std.proofs.Math.Bool.{or-false, or_assoc}
 use Rattle.std.proofs.lemmas.List.Sums.{fold_push}
 use Rattle.po_syntax.specs.declared.item.CommentKind.{CommentKind}
 use Rattle.po_syntax.specs.declared.item.CommentKind.TheVariants.{Translator, Extracted, Reference, Flags}
-use Rattle.po_entry.specs.TextEntry.{TextEntry}
+use Rattle.po_entry.specs.TextEntry.{TextEntry, TextPrevious, no_previous}
 use Rattle.po_messages.specs.Joined.{is_live}
 use Rattle.po_merge.specs.declared.input.MergeOptions.{MergeOptions}
 use Rattle.po_merge.specs.Inputs.{NamedEntry}
 use Rattle.po_merge.specs.MergedEntry.{collected, comment_of, ended, first_of, first_with, form_count, has_plural, has_previous, joined_form, joined_forms, marked, merged_entry, first_translated, texts_of, translations, with_others}
 use Rattle.po_merge.specs.Merged.{is_below, is_wanted}
-use Rattle.po_merge.specs.EntryLaws.{FormsAreJoined, JoinedIsFuzzy, KeptByCount, ObsoleteWhereNoneIsLive, PluralOfFirst, PreviousOfFirst, TextsInOrder, TextsOfAll, has_text, input_line}
+use Rattle.po_merge.specs.EntryLaws.{EndsForm, of_nothing, without_feed, with_feed, FormsAreJoined, JoinedIsFuzzy, KeptByCount, ObsoleteWhereNoneIsLive, PluralOfFirst, PreviousOfFirst, TextsInOrder, TextsOfAll, has_text, input_line}
 use Rattle.po_merge.proofs.Sets.{has_others}
 
 -- the texts of one kind of a merged entry
@@ -86,11 +87,54 @@ first_found has (b ∷ before) d after none is = found (has b.entry) none (first
 pub first_is : (has : TextEntry → Bool) (before : List NamedEntry) (d : NamedEntry) (after : List NamedEntry) → list_any (λ b. has b.entry) before ≡ false → has d.entry ≡ true → first_with has (before ++ d ∷ after) ≡ d.entry
 first_is has before d after none is = ap (λ (r : Option NamedEntry). option_map_or (λ (x : NamedEntry). x.entry) r (first_of (before ++ d ∷ after))) (first_found has before d after none is)
 
+none_has : (has : TextEntry → Bool) (P : NamedEntry → Type 0) → ((b : NamedEntry) → P b → has b.entry ≡ false) → (before : List NamedEntry) → All P before
+    → list_any (λ b. has b.entry) before ≡ false
+none_has has P lacks before all = list_any_none (λ b. has b.entry) before (All-weaker P (λ b. has b.entry ≡ false) lacks before all)
+
+some_plural : (plural : Option (List ℕ)) → plural ≢ None → is_some plural ≡ true
+some_plural None is = absurd (is refl)
+some_plural (Some text) is = refl
+
+some_previous : (previous : TextPrevious) → previous ≢ no_previous → (is_some previous.context || is_some previous.id || is_some previous.plural) ≡ true
+some_previous previous is = of previous.context previous.id previous.plural is where
+  of : (context id plural : Option (List ℕ)) → record { context = context; id = id; plural = plural } ≢ no_previous → (is_some context || is_some id || is_some plural) ≡ true
+  of (Some text) id plural is = refl
+  of None (Some text) plural is = refl
+  of None None (Some text) is = refl
+  of None None None is = absurd (is refl)
+
+-- a text is empty or has a last byte
+has_last : (text : List ℕ) → (text ≡ []) ⊎ ((before : List ℕ) × (b : ℕ) × (text ≡ before ++ b ∷ []))
+has_last [] = inl refl
+has_last (b ∷ text) = elim (has_last text) [
+  | inl none ↦ inr ([], b, ap (λ (l : List ℕ). b ∷ l) none)
+  | inr (before, last, is) ↦ inr (b ∷ before, last, ap (λ (l : List ℕ). b ∷ l) is)
+]
+
+last_ended : (text : List ℕ) (b : ℕ) → EndsForm (text ++ b ∷ []) (ended (text ++ b ∷ []))
+last_ended text b =
+    let form = text ++ b ∷ [] in
+    let last : ends_with nat_eq form (10 ∷ []) ≡ (nat_eq 10 b && true) = rw (end_rest form (b ∷ []) text refl) refl in
+    subst (λ (t : Bool). EndsForm form (if t then form else form ++ 10 ∷ [])) (sym last) (by (nat_eq 10 b) refl) where
+      by : (t : Bool) → nat_eq 10 b ≡ t → EndsForm (text ++ b ∷ []) (if t && true then text ++ b ∷ [] else (text ++ b ∷ []) ++ 10 ∷ [])
+      by true e = subst (λ c. EndsForm (text ++ c ∷ []) (text ++ c ∷ [])) (eqb-true 10 b e) (with_feed text)
+      by false e = subst (EndsForm (text ++ b ∷ [])) (sym (append_assoc text (b ∷ []) (10 ∷ []))) (without_feed text (λ same. eqb-false 10 b e (sym same)))
+
+pub forms_end : (form : List ℕ) → EndsForm form (ended form)
+forms_end form = elim (has_last form) [
+  | inl none ↦ subst (λ l. EndsForm l (ended l)) (sym none) of_nothing
+  | inr (text, b, is) ↦ subst (λ l. EndsForm l (ended l)) (sym is) (last_ended text b)
+]
+
 pub previous_of_first : (o : MergeOptions) (before : List NamedEntry) (d : NamedEntry) (after : List NamedEntry) → PreviousOfFirst o before d after
-previous_of_first o before d after none is = ap (λ (e : TextEntry). e.previous) (first_is has_previous before d after none is)
+previous_of_first o before d after none is =
+    ap (λ (e : TextEntry). e.previous)
+    (first_is has_previous before d after (none_has has_previous (λ b. b.entry.previous ≡ no_previous) (λ b e. rw e refl) before none) (some_previous d.entry.previous is))
 
 pub plural_of_first : (o : MergeOptions) (before : List NamedEntry) (d : NamedEntry) (after : List NamedEntry) → PluralOfFirst o before d after
-plural_of_first o before d after none is = ap (λ (e : TextEntry). e.plural) (first_is has_plural before d after none is)
+plural_of_first o before d after none is =
+    ap (λ (e : TextEntry). e.plural)
+    (first_is has_plural before d after (none_has has_plural (λ b. b.entry.plural ≡ None) (λ b e. rw e refl) before none) (some_plural d.entry.plural is))
 
 or_left : (a b : Bool) → (a || b) ≡ false → a ≡ false
 or_left true b e = cc

@@ -10,6 +10,7 @@ use Rattle.po_merge.specs.declared.input.Named.{Named as BorrowedInput}
 use Rattle.po_merge.specs.Inputs.{Named, NamedEntry, named, all_entries}
 use Rattle.po_merge.specs.InputsView.{input_view, inputs_view}
 use Rattle.po_merge.specs.Grouping.{IsDefinition}
+use Rattle.po_merge.specs.MergeLaws.{StandInTurn, no_input, no_further, first_entry}
 
 entries_append : (xs : List Named) (y : Named) → all_entries (xs ++ y ∷ []) ≡ all_entries xs ++ map (named y.name) y.entries
 entries_append [] y = append-nil (map (named y.name) y.entries)
@@ -27,3 +28,12 @@ pub definitions_more : (before : List NamedEntry) (name : List ℕ) (entries : L
 definitions_more before name entries h utf8 no_nul valid =
     All-append IsDefinition before (map (named name) entries) h
     (All-map IsDefinition (named name) entries (All-weaker IsCatalogueEntry (λ e. IsDefinition (named name e)) (λ e v. record { valid = v.valid; utf8 = utf8; no_nul = no_nul }) entries valid))
+
+entries_in_turn : (name : List ℕ) (entries : List TextEntry) (inputs : List Named) → StandInTurn inputs (all_entries inputs)
+    → StandInTurn (record { name = name; entries = entries } ∷ inputs) (map (named name) entries ++ all_entries inputs)
+entries_in_turn name [] inputs rest = no_further rest
+entries_in_turn name (e ∷ entries) inputs rest = first_entry (entries_in_turn name entries inputs rest)
+
+pub stand_in_turn : (inputs : List Named) → StandInTurn inputs (all_entries inputs)
+stand_in_turn [] = no_input
+stand_in_turn (input ∷ inputs) = entries_in_turn input.name input.entries inputs (stand_in_turn inputs)

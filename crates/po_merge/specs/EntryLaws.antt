@@ -1,16 +1,16 @@
 -- What is promised of the entry that the definitions of one message are merged to, and of which
 -- messages are kept (manual, "Invoking the msgcat Program").
-use Rattle.std.specs.Prelude.{◌≡◌, ◌↔◌, ℕ, ◌<◌, Bool, true, false, not, List, [], ◌∷◌, ◌++◌, filter, length, get_or}
-use Rattle.std.specs.Prelude.{slice_get, codes, Some, bytes_eq}
+use Rattle.std.specs.Prelude.{◌≡◌, ◌≢◌, ◌↔◌, ℕ, ◌<◌, Bool, true, false, not, List, [], ◌∷◌, ◌++◌, filter, length, get_or}
+use Rattle.std.specs.Prelude.{slice_get, codes, All, None, Some, bytes_eq}
 use Rattle.std.specs.List.{AllZip, list_any}
 use Rattle.po_syntax.specs.declared.item.CommentKind.{CommentKind}
-use Rattle.po_entry.specs.TextEntry.{TextEntry, SameButLine}
+use Rattle.po_entry.specs.TextEntry.{TextEntry, SameButLine, no_previous}
 use Rattle.po_entry.specs.Header.{is_header}
 use Rattle.po_messages.specs.Joined.{is_live}
 use Rattle.po_merge.specs.declared.input.MergeOptions.{MergeOptions}
 use Rattle.po_merge.specs.Inputs.{NamedEntry}
 use Rattle.po_merge.specs.Groups.{definitions}
-use Rattle.po_merge.specs.MergedEntry.{ended, has_plural, has_previous, is_joined, joined_form, merged_entry, texts_of}
+use Rattle.po_merge.specs.MergedEntry.{ended, is_joined, joined_form, merged_entry, texts_of}
 use Rattle.po_merge.specs.MergedEntry.{translations}
 use Rattle.po_merge.specs.Merged.{is_kept}
 
@@ -49,16 +49,22 @@ FormsAreJoined o ds =
     → get_or (merged_entry o ds).forms i []
     ≡ joined_form before i ++ (input_line t.name ++ ended form) ++ joined_form after i
 
+-- a form of a joined one with its end: a LF is added, if it has none there
+pub data EndsForm : List ℕ → List ℕ → Type 0 where
+  of_nothing : EndsForm [] (10 ∷ [])
+  without_feed : (text : List ℕ) {b : ℕ} → b ≢ 10 → EndsForm (text ++ b ∷ []) (text ++ b ∷ 10 ∷ [])
+  with_feed : (text : List ℕ) → EndsForm (text ++ 10 ∷ []) (text ++ 10 ∷ [])
+
 -- The previous texts are those of the first definition that has some.
 abbrev pub PreviousOfFirst : MergeOptions → List NamedEntry → NamedEntry → List NamedEntry → Type 0
 PreviousOfFirst o before d after =
-    list_any (λ b. has_previous b.entry) before ≡ false → has_previous d.entry ≡ true
+    All (λ b. b.entry.previous ≡ no_previous) before → d.entry.previous ≢ no_previous
     → (merged_entry o (before ++ d ∷ after)).previous ≡ d.entry.previous
 
 -- The plural is that of the first definition that has one.
 abbrev pub PluralOfFirst : MergeOptions → List NamedEntry → NamedEntry → List NamedEntry → Type 0
 PluralOfFirst o before d after =
-    list_any (λ b. has_plural b.entry) before ≡ false → has_plural d.entry ≡ true
+    All (λ b. b.entry.plural ≡ None) before → d.entry.plural ≢ None
     → (merged_entry o (before ++ d ∷ after)).plural ≡ d.entry.plural
 
 -- The entry is obsolete exactly if no entry of the message is live.

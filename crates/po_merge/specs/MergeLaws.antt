@@ -33,6 +33,17 @@ abbrev pub MergedCanStand : MergeOptions → List Named → Type 0
 MergedCanStand o inputs =
     All IsInput inputs → All HasAdmittedCharset (merged o inputs) → All IsCatalogueEntry (merged o inputs)
 
+-- the entries of the inputs, each named by its input: those of the first, in their order, and then
+-- those of the next
+pub data StandInTurn : List Named → List NamedEntry → Type 0 where
+  no_input : StandInTurn [] []
+  no_further : {name : List ℕ} {inputs : List Named} {entries : List NamedEntry} → StandInTurn inputs entries
+      → StandInTurn (record { name = name; entries = [] } ∷ inputs) entries
+  first_entry : {name : List ℕ} {e : TextEntry} {further : List TextEntry} {inputs : List Named}
+      {entries : List NamedEntry} → StandInTurn (record { name = name; entries = further } ∷ inputs) entries
+      → StandInTurn (record { name = name; entries = e ∷ further } ∷ inputs)
+      (record { name = name; entry = e } ∷ entries)
+
 -- one of the entries is of this message
 abbrev pub has_message : Option (List ℕ) → List ℕ → List TextEntry → Bool
 has_message context id entries = list_any (is_of_message context id) entries

@@ -2,10 +2,11 @@
 //! proof.
 ghost use Rattle.std.specs.Prelude.{ℕ, Bool, List, Option};
 ghost use Rattle.po_merge.specs.declared.input.MergeOptions.{MergeOptions};
-ghost use Rattle.po_merge.specs.Inputs.{Named, NamedEntry};
+ghost use Rattle.po_merge.specs.Inputs.{Named, NamedEntry, all_entries};
 ghost use Rattle.po_entry.specs.TextEntry.{TextEntry};
-ghost use Rattle.po_merge.specs.MergeLaws.{FormsAreOfOne, GroupsByNumber, KeptMessagesStand, MergedAreEntries, MergedCanStand, MessagesStandOnce, OneDefinitionStays, OneInputStays, WithItself};
-ghost use Rattle.po_merge.specs.EntryLaws.{FormsAreJoined, JoinedIsFuzzy, KeptByCount, LinesAreNotMerged, ObsoleteWhereNoneIsLive, PluralOfFirst, PreviousOfFirst, TextsInOrder, TextsOfAll};
+ghost use Rattle.po_merge.specs.MergeLaws.{FormsAreOfOne, GroupsByNumber, KeptMessagesStand, MergedAreEntries, MergedCanStand, MessagesStandOnce, OneDefinitionStays, OneInputStays, StandInTurn, WithItself};
+ghost use Rattle.po_merge.specs.EntryLaws.{EndsForm, FormsAreJoined, JoinedIsFuzzy, KeptByCount, LinesAreNotMerged, ObsoleteWhereNoneIsLive, PluralOfFirst, PreviousOfFirst, TextsInOrder, TextsOfAll};
+ghost use Rattle.po_merge.specs.MergedEntry.{ended};
 ghost use Rattle.po_merge.specs.TranslationLaws.{CommentsOfFirst, FormsOfFirst, HeadersAreKept, JoinedAsLongest, JoinedWhereTheyDiffer};
 ghost use Rattle.po_syntax.specs.declared.item.CommentKind.{CommentKind};
 
@@ -27,6 +28,11 @@ pub fn messages_stand_once()
     ensures once { (options : MergeOptions) (inputs : List Named) → MessagesStandOnce options inputs }
     ensures kept { (options : MergeOptions) (inputs : List Named) (context : Option (List ℕ)) (id : List ℕ)
         → KeptMessagesStand options inputs context id }
+{}
+
+/// The entries of the inputs stand input by input, in the order of each, and have its name.
+pub fn entries_stand_by_input()
+    ensures { (inputs : List Named) → StandInTurn inputs (all_entries inputs) }
 {}
 
 /// An input in which no message stands twice, not even among obsolete entries, is merged to its
@@ -78,6 +84,11 @@ pub fn first_translated_definition()
         → FormsOfFirst options definitions definition }
     ensures comments { (options : MergeOptions) (kind : CommentKind) (definitions : List NamedEntry)
         (definition : NamedEntry) → CommentsOfFirst options kind definitions definition }
+{}
+
+/// In a joined form each form ends in a LF, which is added where it has none at its end.
+pub fn joined_forms_are_ended()
+    ensures { (form : List ℕ) → EndsForm form (ended form) }
 {}
 
 /// Previous texts and the plural are those of the first definition that has some.
