@@ -1,13 +1,18 @@
-//! Every truncation of three files, and changes of each of their bytes, in one bit or two and to 0 and 255
-//! (`tests/c/damaged.c` has all): each is refused with the fault that a plain reading of "The Format of
-//! GNU MO Files" finds first, or is asked, and answers as that does.
+//! Every truncation of four files, and every change of one of their bytes: each is refused with the fault that
+//! a plain reading of "The Format of GNU MO Files" finds first, or is asked, and answers as that does.
 
-use crate::samples::{CONTEXTS, ONE, ONE_BIG};
+use crate::samples::{CONTEXTS, ONE, ONE_BIG, TWO};
 use mo_file::{Meter, MoError};
 use mo_lookup::Catalog;
 use std::alloc::{AllocError, Global};
 
-const FILES: &[&[u8]] = &[&ONE, &ONE_BIG, &CONTEXTS];
+const FILES: &[&[u8]] = &[&ONE, &ONE_BIG, &TWO, &CONTEXTS];
+
+/// Where the table of the translations begins in two of the files: what is before it is changed in one
+/// test, and the rest in another, so that neither takes long.
+const TRANSLATIONS_OF_TWO: usize = 44;
+
+const TRANSLATIONS_OF_CONTEXTS: usize = 52;
 
 /// Where the file header says where the table of the originals stands.
 const ORIGINALS: usize = 12;
@@ -221,17 +226,9 @@ fn put(file: &mut [u8], at: usize, byte: u8) {
     }
 }
 
-/// Whether a byte is changed in one bit or two, or to 0 or 255.
-fn is_tried(byte: u8, changed: u8) -> bool {
-    changed == 0 || changed == 255 || (byte ^ changed).count_ones() <= 2
-}
-
-/// Whether a file is read as it should with each of these changes of the byte at a place.
-fn is_read_with_changes(file: &mut [u8], at: usize, byte: u8) -> bool {
+/// Whether a file is read as it should with each value of the byte at a place.
+fn is_read_with_changes(file: &mut [u8], at: usize) -> bool {
     for changed in 0..=255u8 {
-        if !is_tried(byte, changed) {
-            continue;
-        }
         put(file, at, changed);
         if !is_read(file) {
             return false;
@@ -240,14 +237,19 @@ fn is_read_with_changes(file: &mut [u8], at: usize, byte: u8) -> bool {
     true
 }
 
-/// The first place at which another byte is misread, or none.
-fn change_misread(alloc: Global, file: &[u8]) -> Result<Option<usize>, AllocError> {
+/// The first of these places at which another byte is misread, or none.
+fn change_misread(
+    alloc: Global,
+    file: &[u8],
+    from: usize,
+    to: usize,
+) -> Result<Option<usize>, AllocError> {
     let mut changed = file.to_vec(alloc)?;
-    for (at, byte) in file.iter().enumerate() {
-        if !is_read_with_changes(&mut changed, at, *byte) {
+    for at in from..to {
+        if !is_read_with_changes(&mut changed, at) {
             return Ok(Some(at));
         }
-        put(&mut changed, at, *byte);
+        put(&mut changed, at, file.get(at).copied().unwrap_or(0));
     }
     Ok(None)
 }
@@ -261,9 +263,37 @@ fn reads_every_truncation(rt: HostRuntime) {
 }
 
 #[test]
-fn reads_every_changed_byte(rt: HostRuntime) {
-    for (row, file) in FILES.iter().enumerate() {
-        let misread = change_misread(rt.alloc(), file);
-        assert!(rt; misread == Ok(None), "file {row}");
-    }
+fn reads_every_changed_byte_of_one_message(rt: HostRuntime) {
+    assert!(rt; change_misread(rt.alloc(), &ONE, 0, ONE.len()) == Ok(None));
+}
+
+#[test]
+fn reads_every_changed_byte_of_one_message_in_the_other_order(rt: HostRuntime) {
+    assert!(rt; change_misread(rt.alloc(), &ONE_BIG, 0, ONE_BIG.len()) == Ok(None));
+}
+
+#[test]
+fn reads_every_changed_byte_of_two_messages(rt: HostRuntime) {
+    assert!(rt; change_misread(rt.alloc(), &TWO, 0, TRANSLATIONS_OF_TWO) == Ok(None));
+}
+
+#[test]
+fn reads_every_changed_byte_of_their_translations(rt: HostRuntime) {
+    assert!(rt; change_misread(rt.alloc(), &TWO, TRANSLATIONS_OF_TWO, TWO.len()) == Ok(None));
+}
+
+#[test]
+fn reads_every_changed_byte_of_three_contexts(rt: HostRuntime) {
+    assert!(rt; change_misread(rt.alloc(), &CONTEXTS, 0, TRANSLATIONS_OF_CONTEXTS) == Ok(None));
+}
+
+#[test]
+fn reads_every_changed_byte_of_what_follows_them(rt: HostRuntime) {
+    let misread = change_misread(
+        rt.alloc(),
+        &CONTEXTS,
+        TRANSLATIONS_OF_CONTEXTS,
+        CONTEXTS.len(),
+    );
+    assert!(rt; misread == Ok(None));
 }
