@@ -28,8 +28,9 @@ pub fn run<'a, S: InputSource, F: OutputFiles, O: ByteOut, E: ByteOut>(
     // The input is asked for once, and nothing else.
     ensures asked { Asks (S.asked source.old) (S.asked source.new)
         (asked_for argument.now (is_standard argument.now) false) }
-    ensures run { RunsInput S.file S.standard (λ file run. IsMsgattribRun file.name selection.now file.bytes run)
-        argument.now output.now system.old system.new result }
+    ensures run { RunsInput S.file S.standard (S.refused source.new)
+        (λ file run. IsMsgattribRun file.name selection.now file.bytes run) argument.now output.now
+        system.old system.new result }
 {
     let text = read_one(alloc, source, argument)?;
     let Ok(run) = plan_msgattrib(alloc, &text, shown_name(argument), selection) else {

@@ -1,11 +1,14 @@
 -- Names that hold NUL, and names that don't.
-use Rattle.std.proofs.Common.{◌≡◌, ℕ, ◌<◌, List, [], ◌∷◌, true, false, ◌||◌, ◌==◌, eqb, sym, ap, ◌∙◌, get_or, length, inl, inr, arith}
+use Rattle.std.proofs.Common.{◌≡◌, ℕ, ◌<◌, List, [], ◌∷◌, Option, None, Some, true, false, ◌||◌, ◌==◌, eqb, sym, ap, ◌∙◌, get_or, length, inl, inr, arith}
 use Rattle.std.specs.Prelude.{Contains}
 use Rattle.std.specs.List.{list_any}
 use Rattle.std.proofs.Math.ListN.{get_or-map}
-use Rattle.std.proofs.lemmas.Bool.{cases_Bool, eqb-true, eqb-false, or_parts}
+use Rattle.std.specs.Option.{is_some}
+use Rattle.std.proofs.lemmas.Bool.{cases_Bool, eqb-true, eqb-false, false_from_ne_true, or_parts}
 use Rattle.std.proofs.lemmas.List.{length-map}
-use Rattle.std.proofs.lemmas.List.Elements.{All-nil, All-cons, All-head, All-tail}
+use Rattle.std.proofs.lemmas.List.Elements.{All-nil, All-cons, All-head, All-tail, All-from_get_or}
+use Rattle.std.proofs.lemmas.List.Folds.{list_any_at, list_any_none}
+use Rattle.memchr.specs.Find.{IsFirstByte, is_byte}
 use Rattle.po_entry.specs.Bytes.{Lacks}
 use Rattle.runs.specs.declared.inputs.Input.{Input}
 use Rattle.runs.specs.Inputs.{named_input, named_inputs}
@@ -24,3 +27,13 @@ holds (b ∷ name) h lacks = elim (cases_Bool (eqb b 0)) [
 pub among : (inputs : List Input) (i : ℕ) (input : Input) → i < length inputs → input ≡ get_or inputs i input → Contains (named_inputs inputs) (named_input input)
 among inputs i input below at =
     (i, omega (arith, below, length-map inputs named_input), get_or-map named_input inputs i input ∙ ap named_input (sym at))
+
+-- a NUL is found in a name exactly if it holds one
+pub nul_is_found : (name : List ℕ) (nul : Option ℕ) → IsFirstByte (is_byte 0) name nul → is_some nul ≡ list_any (λ b. b == 0) name
+nul_is_found name (Some index) first = sym (list_any_at (λ b. b == 0) name index 0 first.0.high first.1)
+nul_is_found name None nowhere =
+    sym
+    (
+    list_any_none (λ b. b == 0) name
+    (All-from_get_or (λ b. (b == 0) ≡ false) name 0 (λ i inside. false_from_ne_true _ (nowhere i (omega arith) inside)))
+    )

@@ -22,7 +22,8 @@ HaveNoRun inputs unread text =
     HasNulName inputs text ⊎ ((unread ≡ Some text) × ((read : List merge.Named) × AreReadAs inputs read))
 
 -- what msgcat does, by the arguments for its inputs, that for its output and its options
-abbrev pub RunsMsgcat : (List ℕ → Reading → Type 0) → (Reading → Type 0) → List (List ℕ) → List ℕ → MergeOptions
-    → Option (List Asked) → Option (List Asked) → SystemView → SystemView → Result ℕ ProgramFault → Type 0
-RunsMsgcat file standard arguments output o asked asked' before after result =
-    RunsInputs file standard (IsRunOf o) HaveNoRun arguments output asked asked' before after result
+abbrev pub RunsMsgcat : (List ℕ → Reading → Type 0) → (Reading → Type 0) → Type 0 → List (List ℕ) → List ℕ
+    → MergeOptions → Option (List Asked) → Option (List Asked) → SystemView → SystemView
+    → Result ℕ ProgramFault → Type 0
+RunsMsgcat file standard refused arguments output o asked asked' before after result =
+    RunsInputs file standard refused (IsRunOf o) HaveNoRun arguments output asked asked' before after result

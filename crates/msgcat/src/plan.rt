@@ -1,5 +1,5 @@
 //! What msgcat writes and reports: the text of the catalogue that PO texts are merged to.
-ghost use Rattle.std.specs.Prelude.{◌≡◌, ◌⊎◌, All, Err, IfErr, IfOk, List, OnErr};
+ghost use Rattle.std.specs.Prelude.{◌≡◌, ◌⊎◌, All, Err, IfErr, IfOk, List, [], OnErr};
 ghost use Rattle.po_entry.specs.Bytes.{Lacks};
 ghost use Rattle.po_merge.specs.Inputs.{Named};
 ghost use Rattle.msgcat.specs.Msgcat.{AreReadAs, IsMsgcatRun, IsUnread, first_name};
@@ -58,7 +58,13 @@ pub fn plan_msgcat_before<'a>(
     ensures refused { IfOk result (λ run. IsUnread (named_files inputs.now) (run_view run)) }
     ensures fault { IfErr result (λ reported. (reported ≡ ProgramFault.OutOfMemory)
         ⊎ ((reported ≡ fault.entry) × ((read : List Named) × AreReadAs (named_files inputs.now) read))) }
+
+    // Where there is none before it, that fault is reported.
+    ensures first { named_files inputs.now ≡ [] → result ≡ Err fault.entry }
 {
+    if inputs.is_empty() {
+        return Err(fault);
+    }
     match read_inputs(alloc, inputs) {
         Ok(_) => Err(fault),
         Err(unread) => match refused_text(alloc, "msgcat", unread.name, unread.error) {

@@ -1,5 +1,5 @@
 //! What msgcat comes to with the inputs of a command line, also where one can't be read.
-ghost use Rattle.std.specs.Prelude.{◌≡◌, ◌≢◌, ◌⊎◌, ◌==◌, List, All, MatchOption, None, Some, IfOk, IfErr};
+ghost use Rattle.std.specs.Prelude.{◌≡◌, ◌≢◌, ◌⊎◌, ◌==◌, List, All, MatchOption, None, Some, [], Err, IfOk, IfErr, IfSome};
 ghost use Rattle.std.specs.List.{list_any};
 ghost use Rattle.po_entry.specs.Bytes.{Lacks};
 ghost use Rattle.po_merge.specs.Inputs as merge;
@@ -10,6 +10,7 @@ ghost use Rattle.runs.specs.ProgramFaults.{program_text};
 ghost use Rattle.runs.specs.Run.{run_view};
 
 use crate::plan::{plan_msgcat, plan_msgcat_before};
+use memchr::memchr;
 use po_merge::MergeOptions;
 use runs::{Input, Inputs, ProgramFault, Run};
 use std::alloc::Global;
@@ -30,6 +31,10 @@ pub fn plan_msgcat_of<'a>(
         ⊎ (HasNulName (named_inputs inputs.now.texts.items) (program_text reported))
         ⊎ ((inputs.now.fault ≡ Some reported)
         × ((read : List merge.Named) × AreReadAs (named_inputs inputs.now.texts.items) read))) }
+
+    // An input that can't be read is told where there is none before it.
+    ensures first { named_inputs inputs.now.texts.items ≡ []
+        → IfSome inputs.now.fault (λ fault. result ≡ Err fault) }
 {
     if let Some(name) = name_with_nul(&inputs.texts) {
         return Err(ProgramFault::CannotOpen(name));
@@ -58,5 +63,5 @@ fn name_with_nul<'a>(inputs: &[Input<'a>]) -> Option<&'a str>
 fn has_nul(name: &str) -> bool
     ensures { result ≡ list_any (λ b. b == 0) name.now }
 {
-    name.as_bytes().iter().any(|byte| *byte == 0)
+    memchr(0, name.as_bytes()).is_some()
 }

@@ -26,7 +26,8 @@ pub fn run<'a, S: InputSource, F: OutputFiles, O: ByteOut, E: ByteOut>(
     // Each input is asked for in its turn, and standard input once at most.
     ensures asked { AsksFirst (S.asked source.old) (S.asked source.new)
         (asked_by false (map (λ argument. argument.now) arguments.now)) }
-    ensures run { RunsMsgcat S.file S.standard (map (λ argument. argument.now) arguments.now) output.now options.now
+    ensures run { RunsMsgcat S.file S.standard (S.refused source.new)
+        (map (λ argument. argument.now) arguments.now) output.now options.now
         (S.asked source.old) (S.asked source.new) system.old system.new result }
 {
     let inputs = Inputs::read(alloc, source, arguments)?;

@@ -26,7 +26,8 @@ HaveNoRun o inputs unread text =
     ⊎ ((unread ≡ Some text) × NoneRefused inputs o)
 
 -- what msgfmt does, by the arguments for its inputs, that for its output and its options
-abbrev pub RunsMsgfmt : (List ℕ → Reading → Type 0) → (Reading → Type 0) → List (List ℕ) → List ℕ → MsgfmtOptions
-    → Option (List Asked) → Option (List Asked) → SystemView → SystemView → Result ℕ ProgramFault → Type 0
-RunsMsgfmt file standard arguments output o asked asked' before after result =
-    RunsInputs file standard (IsRunOf o) (HaveNoRun o) arguments output asked asked' before after result
+abbrev pub RunsMsgfmt : (List ℕ → Reading → Type 0) → (Reading → Type 0) → Type 0 → List (List ℕ) → List ℕ
+    → MsgfmtOptions → Option (List Asked) → Option (List Asked) → SystemView → SystemView
+    → Result ℕ ProgramFault → Type 0
+RunsMsgfmt file standard refused arguments output o asked asked' before after result =
+    RunsInputs file standard refused (IsRunOf o) (HaveNoRun o) arguments output asked asked' before after result

@@ -1,5 +1,5 @@
 //! What msgfmt comes to with the inputs of a command line, also where one can't be read.
-ghost use Rattle.std.specs.Prelude.{◌≡◌, ◌≢◌, ◌⊎◌, None, Some, IfOk, IfErr, OnOk};
+ghost use Rattle.std.specs.Prelude.{◌≡◌, ◌≢◌, ◌⊎◌, [], None, Some, Err, IfOk, IfErr, IfSome, OnOk};
 ghost use Rattle.msgfmt.specs.Msgfmt.{AreWrong, IsMsgfmtRun, IsRefused, NoneRefused};
 ghost use Rattle.runs.specs.Inputs.{named_inputs};
 ghost use Rattle.runs.specs.Run.{run_view};
@@ -27,6 +27,10 @@ pub fn plan_msgfmt_of<'a>(
     ensures fault { IfErr result (λ reported. (reported ≡ ProgramFault.OutOfMemory)
         ⊎ ((reported ≡ ProgramFault.WrongArguments) × AreWrong (named_inputs inputs.now.texts.items) inputs.now.fault)
         ⊎ ((inputs.now.fault ≡ Some reported) × NoneRefused (named_inputs inputs.now.texts.items) options.now)) }
+
+    // An input that can't be read is told where there is none before it.
+    ensures first { named_inputs inputs.now.texts.items ≡ []
+        → IfSome inputs.now.fault (λ fault. result ≡ Err fault) }
 {
     let texts = inputs.borrowed(alloc)?;
     if texts.len() > u32::MAX as usize {

@@ -26,7 +26,8 @@ pub fn run<'a, S: InputSource, F: OutputFiles, O: ByteOut, E: ByteOut>(
     // The input is asked for once, and nothing else.
     ensures asked { Asks (S.asked source.old) (S.asked source.new)
         (asked_for argument.now (is_standard argument.now) false) }
-    ensures run { RunsInput S.file S.standard IsMsgunfmtRun argument.now output.now system.old system.new result }
+    ensures run { RunsInput S.file S.standard (S.refused source.new) IsMsgunfmtRun argument.now output.now
+        system.old system.new result }
 {
     let bytes = read_one(alloc, source, argument)?;
     let Ok(run) = plan_msgunfmt(alloc, &bytes, shown_name(argument)) else {

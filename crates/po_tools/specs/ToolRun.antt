@@ -74,19 +74,20 @@ reader_of left calls failures = record { left = left; calls = calls; failures = 
 abbrev pub reached : Option (List Asked) → ReaderView → SystemView → Reached
 reached asked reader written = record { asked = asked; reader = reader; written = written }
 
--- a tool of one input is run, by the arguments for its input and its output
-pub record RunsOne (line : CommandLine) (answers : Answers) (IsRun : NamedFile → RunView → Type 0)
+-- A tool of one input is run, by the arguments for its input and its output. Here and below `refused`
+-- says that the input that was asked for last can't be read.
+pub record RunsOne (line : CommandLine) (answers : Answers) (refused : Type 0) (IsRun : NamedFile → RunView → Type 0)
     (before after : Reached) (result : Result ℕ ProgramFault) : Type 0 where
   pub argument : List ℕ
   pub output : List ℕ
   pub argument_is : IsTextOr line.text (codes "FILE") (codes "-") argument
   pub output_is : IsTextOr line.text (codes "output-file") (codes "-") output
   pub asks : Asks before.asked after.asked (asked_for argument (is_standard argument) false)
-  pub runs : RunsInput answers.file answers.standard IsRun argument output before.written after.written result
+  pub runs : RunsInput answers.file answers.standard refused IsRun argument output before.written after.written result
   pub unread : after.reader ≡ before.reader
 
 -- msgfmt is run, by all its arguments and options
-pub record RunsMsgfmtLine (line : CommandLine) (answers : Answers) (before after : Reached)
+pub record RunsMsgfmtLine (line : CommandLine) (answers : Answers) (refused : Type 0) (before after : Reached)
     (result : Result ℕ ProgramFault) : Type 0 where
   pub arguments : List (List ℕ)
   pub output : List ℕ
@@ -94,19 +95,20 @@ pub record RunsMsgfmtLine (line : CommandLine) (answers : Answers) (before after
   pub arguments_are : line.texts (codes "FILE") arguments
   pub output_is : IsTextOr line.text (codes "output-file") default_output output
   pub options_are : AreMsgfmtOptions line.flag line.text options
-  pub runs : RunsMsgfmt answers.file answers.standard arguments output options before.asked after.asked
+  pub runs : RunsMsgfmt answers.file answers.standard refused arguments output options before.asked after.asked
       before.written after.written result
   pub unread : after.reader ≡ before.reader
 
 -- msgattrib is run, by its options
-pub record RunsMsgattribLine (line : CommandLine) (answers : Answers) (before after : Reached)
+pub record RunsMsgattribLine (line : CommandLine) (answers : Answers) (refused : Type 0) (before after : Reached)
     (result : Result ℕ ProgramFault) : Type 0 where
   pub selection : Selection
   pub selection_is : IsSelection line.flag selection
-  pub runs : RunsOne line answers (λ file run. IsMsgattribRun file.name selection file.bytes run) before after result
+  pub runs : RunsOne line answers refused (λ file run. IsMsgattribRun file.name selection file.bytes run)
+      before after result
 
 -- msgcat is run, by all its arguments and options
-pub record RunsMsgcatLine (line : CommandLine) (answers : Answers) (before after : Reached)
+pub record RunsMsgcatLine (line : CommandLine) (answers : Answers) (refused : Type 0) (before after : Reached)
     (result : Result ℕ ProgramFault) : Type 0 where
   pub arguments : List (List ℕ)
   pub output : List ℕ
@@ -114,7 +116,7 @@ pub record RunsMsgcatLine (line : CommandLine) (answers : Answers) (before after
   pub arguments_are : line.texts (codes "FILE") arguments
   pub output_is : IsTextOr line.text (codes "output-file") (codes "-") output
   pub options_are : AreMergeOptions line.flag line.number options
-  pub runs : RunsMsgcat answers.file answers.standard arguments output options before.asked after.asked
+  pub runs : RunsMsgcat answers.file answers.standard refused arguments output options before.asked after.asked
       before.written after.written result
   pub unread : after.reader ≡ before.reader
 
@@ -189,11 +191,12 @@ pub data RunsEnvsubstLine (line : CommandLine) (answers : Answers) (before after
       → RunsEnvsubstLine line answers before after result
 
 -- what a tool does by its command line
-abbrev pub RunsTool : Tool → CommandLine → Answers → Reached → Reached → Result ℕ ProgramFault → Type 0
-RunsTool Msgfmt line answers before after result = RunsMsgfmtLine line answers before after result
-RunsTool Msgunfmt line answers before after result = RunsOne line answers IsMsgunfmtRun before after result
-RunsTool Msgattrib line answers before after result = RunsMsgattribLine line answers before after result
-RunsTool Msgcat line answers before after result = RunsMsgcatLine line answers before after result
-RunsTool Gettext line answers before after result = RunsGettextLine line answers before after result
-RunsTool Ngettext line answers before after result = RunsNgettextLine line answers before after result
-RunsTool Envsubst line answers before after result = RunsEnvsubstLine line answers before after result
+abbrev pub RunsTool : Tool → CommandLine → Answers → Type 0 → Reached → Reached → Result ℕ ProgramFault → Type 0
+RunsTool Msgfmt line answers refused before after result = RunsMsgfmtLine line answers refused before after result
+RunsTool Msgunfmt line answers refused before after result =
+    RunsOne line answers refused IsMsgunfmtRun before after result
+RunsTool Msgattrib line answers refused before after result = RunsMsgattribLine line answers refused before after result
+RunsTool Msgcat line answers refused before after result = RunsMsgcatLine line answers refused before after result
+RunsTool Gettext line answers refused before after result = RunsGettextLine line answers before after result
+RunsTool Ngettext line answers refused before after result = RunsNgettextLine line answers before after result
+RunsTool Envsubst line answers refused before after result = RunsEnvsubstLine line answers before after result

@@ -35,7 +35,7 @@ where
     requires err { system.old.err.failures < 2 ^ 63 }
     ensures { RunsTool tool
         (line_of (A.flag given.now) (A.text given.now) (A.texts given.now) (A.number given.now))
-        (answers_of S.file S.standard (S.variable source.old) (S.entries source.old))
+        (answers_of S.file S.standard (S.variable source.old) (S.entries source.old)) (S.refused source.new)
         (reached (S.asked source.old)
         (reader_of (R.remaining reader.old) (R.calls reader.old) (R.failures reader.old)) system.old)
         (reached (S.asked source.new)

@@ -1,5 +1,5 @@
 //! The inputs of a tool, read in the order of the command line.
-ghost use Rattle.std.specs.Prelude.{◌≡◌, ◌≢◌, ◌⊎◌, ◌^◌, ◌+◌, ◌<◌, ◌≤◌, ◌∷◌, [], take, Err, IfErr, IfSome, IsErrOf, OnErr, OnOk, map, option_map, false, None, Some, MatchOption, MatchResult, IfOk};
+ghost use Rattle.std.specs.Prelude.{◌≡◌, ◌≢◌, ◌⊎◌, ◌^◌, ◌+◌, ◌<◌, ◌≤◌, ◌∷◌, [], take, Err, IfErr, IfSome, IsErrOf, IsOk, OnErr, OnOk, map, option_map, false, true, None, Some, MatchOption, MatchResult, IfOk};
 ghost use Rattle.std.specs.Io.KnownBytes.{Consumes};
 ghost use Rattle.runs.specs.Inputs.{AreInputs, Asks, AsksFirst, IsInputFault, ReadsAs, asked_arguments, asked_by, asked_for, gives, refuses, named_inputs, input_fault_text};
 ghost use Rattle.runs.specs.NamedFile.{named_files};
@@ -95,8 +95,9 @@ impl<'a> Inputs<'a> {
             (asked_by false (asked_arguments (map (λ argument. argument.now) arguments.now)
             (named_inputs inputs.texts.items) (option_map program_text inputs.fault)))) }
 
-        // One that can't be read is never the reason.
-        ensures memory { OnErr result (S.refused source.new → S.refused source.old) }
+        // What can't be read isn't told as out of memory.
+        ensures fault { IfOk result (λ inputs. inputs.fault ≢ Some ProgramFault.OutOfMemory) }
+        ensures memory { OnErr result (S.refused source.new → ⊥) }
     {
         let mut texts = Vec::new(alloc);
         let mut is_stdin_read = false;
@@ -116,7 +117,8 @@ impl<'a> Inputs<'a> {
 
     /// The inputs that were read, borrowed.
     pub fn borrowed(&self, alloc: Global) -> Result<Vec<(&str, &[u8])>, AllocError>
-        ensures { IfOk result (λ borrowed. named_files borrowed.items ≡ named_inputs self.now.texts.items) }
+        ensures files { IfOk result (λ borrowed. named_files borrowed.items ≡ named_inputs self.now.texts.items) }
+        ensures none { self.now.texts.items ≡ [] → IsOk result }
     {
         let mut borrowed = Vec::with_capacity(alloc, self.texts.len())?;
         for input in &self.texts {
@@ -141,6 +143,7 @@ pub fn read_one<'a, S: InputSource>(
         (asked_for argument.now (is_standard argument.now) false) }
 
     // It isn't called out of memory where it can't be read.
+    ensures read { OnOk result (S.refused source.new → ⊥) }
     ensures memory { IsErrOf result ProgramFault.OutOfMemory → S.refused source.new → ⊥ }
 {
     match read_argument(alloc, source, argument, is_standard(argument), false) {
@@ -198,7 +201,8 @@ fn read_argument<S: InputSource>(
         ⊎ ReadsAs S.file S.standard argument.now standard is_stdin_read (refuses why)) }
     ensures asked { Asks (S.asked source.old) (S.asked source.new)
         (asked_for argument.now standard is_stdin_read) }
-    ensures refused { MatchResult result (λ _. S.refused source.new → S.refused source.old)
+    ensures refused { MatchResult result
+        (λ _. S.refused source.new → S.refused source.old × (is_stdin_read ≡ true))
         (λ why. why ≡ InputFault.OutOfMemory → S.refused source.new → ⊥) }
 {
     match (standard, is_stdin_read) {
@@ -216,7 +220,7 @@ fn ended<'a>(
 ) -> Result<Inputs<'a>, AllocError>
     ensures inputs { IfOk result (λ inputs. (inputs.texts.items ≡ texts.entry.items)
         × (option_map program_text inputs.fault ≡ Some (input_fault_text (shown_name argument.now) why))
-        × (why ≢ InputFault.OutOfMemory)) }
+        × (why ≢ InputFault.OutOfMemory) × (inputs.fault ≢ Some ProgramFault.OutOfMemory)) }
     ensures memory { OnErr result (why ≡ InputFault.OutOfMemory) }
 {
     let fault = Some(fault_of(shown_name(argument), why).ok_or(AllocError)?);

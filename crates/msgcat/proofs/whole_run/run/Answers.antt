@@ -2,21 +2,22 @@ use Rattle.std.proofs.Common.{refl}
 use Rattle.std.proofs.lemmas.Result.{err_from_is_err_and}
 use Rattle.runs.specs.Inputs.{named_inputs}
 use Rattle.runs.specs.Run.{run_view}
-use Rattle.runs.specs.ToolRuns.{no_memory, runs}
-use Rattle.msgcat.proofs.WholeRuns.{ended, planned}
+use Rattle.runs.specs.ToolRuns.{no_memory_to_read, runs}
+use Rattle.msgcat.proofs.WholeRuns.{ended, none_unread, planned}
 use Rattle.msgcat.proofs.whole_run.run.Goals as goal
 
 pub returns-in_err-inputs-clause-run : goal.returns-in_err-inputs-clause-run
 returns-in_err-inputs-clause-run g c =
     let p = err_from_is_err_and c.from_residual.result c.from_residual.ensures.1 in
-    rw (p.1, p.2) (no_memory c.read.ensures.asked refl)
+    rw (p.1, p.2) (no_memory_to_read c.read.ensures.asked c.in_err-inputs.ensures.memory refl)
 
 pub returns-in_err-run-clause-run : goal.returns-in_err-run-clause-run
 returns-in_err-run-clause-run g c =
     let p = err_from_is_err_and c.from_residual-in_err-run.result c.from_residual-in_err-run.ensures.1 in
     let read = c.in_ok-inputs.ensures in
     rw (p.1, p.2) (ended c.in_ok-inputs.inputs.fault c.in_err-run.field-0.0
-    (record { are = read.inputs; asks = read.asked_read }) c.read.ensures.asked c.in_err-run.ensures.fault)
+    (record { are = read.inputs; asks = read.asked_read })
+    (none_unread _ c.in_ok-inputs.inputs.fault c.in_err-run.field-0.0 read.fault c.in_err-run.ensures.first) c.in_err-run.ensures.fault)
 
 pub returns-clause-run : goal.returns-clause-run
 returns-clause-run g c =

@@ -10,7 +10,7 @@ pub loop-argument-init : goal.loop-argument-init
 loop-argument-init g c = record {
   inputs = rw c.new-texts.ensures.items (Completes-none _ _ _);
   asked = AsksBefore-none _ _;
-  refused = λ r. r;
+  refused = λ seen. absurd cc;
   count = rw c.new-texts.ensures.items refl;
 }
 
@@ -42,7 +42,7 @@ loop-argument-preserved g c =
       asked = subst AskedOnce seen
           (AsksBefore-more _ _ _ c.args.arguments.now c.loop-argument.argument-index _ c.loop-argument.is_stdin_read c.loop-argument-test.true c.loop-argument.invariant.asked
           (rw c.is_standard-standard.ensures at c.read_argument.ensures.asked));
-      refused = λ now. c.loop-argument.invariant.refused (c.in-Ok.ensures.refused now);
+      refused = λ seen now. let before = c.in-Ok.ensures.refused now in c.loop-argument.invariant.refused before.1 before.0;
       count = ap length texts ∙ length-append (named_inputs c.loop-argument.texts.items) _ ∙ ap (λ n. n + 1) c.loop-argument.invariant.count;
     }
 

@@ -1,4 +1,4 @@
-use Rattle.std.proofs.Common.{◌≡◌, length}
+use Rattle.std.proofs.Common.{◌≡◌, length, true}
 use Rattle.runs.specs.Inputs.{named_inputs}
 use Rattle.runs.proofs.InputLemmas.{AsksBefore, Completes}
 use Rattle.runs.proofs.inputs.Inputs.read.Given as goal
@@ -7,6 +7,6 @@ abbrev pub invariant-loop-argument : goal.invariant-loop-argument
 invariant-loop-argument g l = record {
   inputs : Completes g.S.InputSource.file g.S.InputSource.standard l.arguments l.argument-index l.is_stdin_read (named_inputs l.texts.items);
   asked : AsksBefore (g.S.InputSource.asked l.fn.source) (g.S.InputSource.asked l.source) l.arguments l.argument-index l.is_stdin_read;
-  refused : g.S.InputSource.refused l.source → g.S.InputSource.refused l.fn.source;
+  refused : l.is_stdin_read ≡ true → g.S.InputSource.refused l.source → ⊥;
   count : length (named_inputs l.texts.items) ≡ l.argument-index;
 }
