@@ -3,7 +3,7 @@
 //! crate once more together with the tests in it.
 //!
 //! The modules in reading order: `arguments`, `locales`, `substitution`, `answers`,
-//! `readers_and_writers`, `failing_calls`, `fake_system`, `whole_tools`,
+//! `readers_and_writers`, `one_input`, `fake_system`, `whole_tools`,
 //! `whole_look_ups`, `damaged_files`.
 
 #![tactic(auto)]
@@ -15,11 +15,11 @@ mod arguments;
 #[cfg(test)]
 mod damaged_files;
 #[cfg(test)]
-mod failing_calls;
-#[cfg(test)]
 mod fake_system;
 #[cfg(test)]
 mod locales;
+#[cfg(test)]
+mod one_input;
 #[cfg(test)]
 mod readers_and_writers;
 #[cfg(test)]

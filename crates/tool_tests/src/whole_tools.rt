@@ -91,6 +91,20 @@ const ROWS: &[Row] = &[
         status: 0,
     },
     Row {
+        tool: Tool::Msgunfmt,
+        line: Line {
+            files: &[],
+            others: &[],
+            output: None,
+            flags: &[],
+        },
+        input: b"\xde\x12\x04\x95",
+        asked: 1,
+        output: b"",
+        messages: b"pokit msgunfmt: <stdin>: file too short\n",
+        status: 1,
+    },
+    Row {
         tool: Tool::Msgattrib,
         line: Line {
             files: &["a.po"],
