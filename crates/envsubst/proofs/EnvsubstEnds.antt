@@ -1,6 +1,6 @@
 -- What a run of envsubst has written is what its text becomes, or after a fault a beginning of it.
 use Rattle.std.proofs.Common.{◌≡◌, inl, inr, ℕ, List, ◌++◌, Option, Some, None, Ok, Err, refl, sym, ap, ◌∙◌, subst, take, drop, take-append-drop}
-use Rattle.std.specs.Io.KnownBytes.{Appends, Consumes}
+use Rattle.std.specs.Io.KnownBytes.{Appends}
 use Rattle.devices.specs.declared.fault.ToolFault.{ToolFault}
 use Rattle.devices.specs.declared.fault.ToolFault.TheVariants.{ReadFault, WriteFault, OutOfMemory}
 use Rattle.envsubst.specs.Envsubst.{EndsAs, HasGoneOut, StopsWithin, StopsAtEnd}

@@ -1,5 +1,5 @@
 //! envsubst by its arguments.
-ghost use Rattle.std.specs.Prelude.{◌≡◌, ◌+◌, ◌^◌, ◌<◌, ◌≤◌, ◌⊎◌, OnOk, OnErr, IsErrOf, IfOk, map};
+ghost use Rattle.std.specs.Prelude.{◌≡◌, ◌+◌, ◌^◌, ◌<◌, ◌≤◌, IfOk, map};
 ghost use Rattle.std.specs.Option.{option_copied};
 ghost use Rattle.envsubst.specs.ByArguments.{RunsEnvsubst, WritesNames};
 ghost use Rattle.envsubst.specs.Failures.{ReadsFail, write_failures};

@@ -1,5 +1,5 @@
 //! Names and references ("Invoking the envsubst program" of the GNU gettext manual).
-ghost use Rattle.std.specs.Prelude.{◌≡◌, ◌<◌, ◌≤◌, [], map, length, IfNone, IfSome, IfOk, OnErr, Err};
+ghost use Rattle.std.specs.Prelude.{◌≡◌, ◌<◌, [], map, length, IfNone, IfSome, IfOk, OnErr, Err};
 ghost use Rattle.std.specs.Option.{option_map};
 ghost use Rattle.std.specs.List.{cons_option};
 ghost use Rattle.envsubst.specs.References as spec;

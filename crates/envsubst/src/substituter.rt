@@ -1,6 +1,6 @@
 //! Substitution in one pass, whatever the pieces ("Invoking the envsubst program" of the GNU
 //! gettext manual).
-ghost use Rattle.std.specs.Prelude.{◌≡◌, ◌+◌, ◌-◌, ◌*◌, ◌^◌, ◌<◌, ◌≤◌, min, true, false, [], ◌++◌, take, drop, length, if◌then◌else◌, is_err, IsErr, IfOk, OnOk, OnErr, Err};
+ghost use Rattle.std.specs.Prelude.{◌≡◌, ◌+◌, ◌-◌, ◌*◌, ◌^◌, ◌<◌, ◌≤◌, min, true, false, [], ◌++◌, drop, length, if◌then◌else◌, is_err, IsErr, IfOk, OnOk, OnErr, Err};
 ghost use Rattle.std.specs.Io.KnownBytes.{Appends, Keeps};
 ghost use Rattle.devices.specs.Device.{AppendsPrefix};
 ghost use Rattle.envsubst.specs.PendingReference.{is_undecided};

@@ -1,6 +1,6 @@
 //! The candidates by their positions, for callers that keep numbers alone.
 
-ghost use Rattle.std.specs.Prelude.{◌≡◌, ◌≤◌, [], ◌∷◌, ◌++◌, drop, length, MatchOption};
+ghost use Rattle.std.specs.Prelude.{◌≡◌, ◌≤◌, [], ◌∷◌, drop, length, MatchOption};
 ghost use Rattle.std.specs.List.{flat_map};
 ghost use Rattle.locale_names.specs.Names.{candidates, candidates_of_name, language_parts};
 ghost use Rattle.locale_names.specs.Candidate.{names_from, names_left, text_of};

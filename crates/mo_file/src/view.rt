@@ -1,6 +1,6 @@
 //! An MO file that has been checked, read where it lies.
 
-ghost use Rattle.std.specs.Prelude.{◌≡◌, ◌+◌, ◌-◌, ◌^◌, ◌<◌, ◌≤◌, ℕ, List, Some, length, IfOk, IsOk, MatchResult, slice_get};
+ghost use Rattle.std.specs.Prelude.{◌≡◌, ◌+◌, ◌-◌, ◌^◌, ◌<◌, ◌≤◌, List, Some, length, IfOk, IsOk, MatchResult, slice_get};
 ghost use Rattle.std.specs.Option.{option_copied};
 ghost use Rattle.mo_file.specs.declared.byte_order.Order.{Order};
 ghost use Rattle.mo_file.specs.FileHeader.{HasMagicOf};

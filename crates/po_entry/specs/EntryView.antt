@@ -1,9 +1,8 @@
 -- What contracts see of the fields of an entry that the code holds.
-use Rattle.std.specs.Prelude.{ℕ, Bool, List, Option, option_copied}
-use Rattle.std.specs.Global.{Vec}
+use Rattle.std.specs.Prelude.{ℕ, List, Option, option_copied}
 use Rattle.std.specs.Borrow.{Bor}
 use Rattle.po_entry.specs.declared.fields.Fields.{Fields}
-use Rattle.po_entry.specs.TextEntry.{TextEntry, TextPrevious, texts, optional_text, slice_texts, plain_entry}
+use Rattle.po_entry.specs.TextEntry.{TextEntry, texts, optional_text, slice_texts, plain_entry}
 
 -- the entry that these fields make
 abbrev pub entry_view : Fields → TextEntry

@@ -3,7 +3,7 @@
 use Rattle.std.specs.Prelude.{◌≡◌, ◌≢◌, ℕ, Bool, false, List, [], ◌∷◌, ◌++◌}
 use Rattle.po_syntax.specs.declared.fault.PoFault.{PoFault}
 use Rattle.po_syntax.specs.declared.fault.PoFault.TheVariants.{BadOrder, BadPluralIndex, MixedObsolete}
-use Rattle.po_syntax.specs.declared.item.Keyword.TheVariants.{MsgCtxt, MsgId, MsgIdPlural, MsgStr, MsgStrAt}
+use Rattle.po_syntax.specs.declared.item.Keyword.TheVariants.{MsgStrAt}
 use Rattle.po_syntax.specs.TextItem.{TextItem, Comment, Word, Str, line_of}
 use Rattle.po_entry.specs.Spelling.{own_marks}
 use Rattle.po_entry.specs.TextEntry.{TextEntry}

@@ -1,6 +1,6 @@
 //! An entry of a catalogue, of which each field is valid.
 
-ghost use Rattle.std.specs.Prelude.{◌≡◌, ◌<◌, IfOk, IfErr, IsOkUnless, Some, None, IsTrue, ◌↔◌, map, [], true, false, length, option_copied};
+ghost use Rattle.std.specs.Prelude.{◌≡◌, ◌<◌, IfOk, IfErr, IsOkUnless, None, map, [], false, length, option_copied};
 ghost use Rattle.po_entry.specs.TextEntry.{texts, no_previous};
 ghost use Rattle.po_entry.specs.EntryView.{entry_view, borrowed_entry};
 ghost use Rattle.po_entry.specs.Header.{is_header};

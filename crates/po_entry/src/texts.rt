@@ -1,8 +1,8 @@
 //! What the texts of an entry may hold: UTF-8, and no byte that can't be written.
 
-ghost use Rattle.std.specs.Prelude.{◌≡◌, MatchResult, All, IfSome, IsUtf8, IsTrue, ◌↔◌, option_to_list, option_copied};
+ghost use Rattle.std.specs.Prelude.{MatchResult, All, IsUtf8, IsTrue, ◌↔◌, option_to_list, option_copied};
 ghost use Rattle.po_entry.specs.EntryView.{entry_view};
-ghost use Rattle.po_entry.specs.TextEntry.{quoted_texts, previous_texts, texts, optional_text};
+ghost use Rattle.po_entry.specs.TextEntry.{quoted_texts, previous_texts, texts};
 ghost use Rattle.po_entry.specs.Bytes.{Lacks};
 ghost use Rattle.po_entry.specs.Validity.{EntryTextFault, HasTexts, IsClean};
 

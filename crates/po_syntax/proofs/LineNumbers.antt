@@ -16,7 +16,7 @@ use Rattle.po_syntax.specs.declared.fault.PoFault.TheVariants.{NotUtf8, Forbidde
 use Rattle.po_syntax.specs.declared.item.Marks.{Marks}
 use Rattle.po_syntax.specs.LineFaults.{LineFault}
 use Rattle.po_syntax.specs.LineNumbers.{HasFeeds, none, feed, other, BeginsLine, at_start, after_feed, at_end, before_feed, HasLine, IsOnItsLine, ItemsAreOnTheirLines, HasFaultOnLine, no_line, not_utf8, nul, in_line, marked_text, MarkIsOmitted}
-use Rattle.po_syntax.specs.PoText.{HasNoNul, line_number, lines_of, LinesStop, SpellsLines, SpellsText, TextFault, without_byte_order_mark}
+use Rattle.po_syntax.specs.PoText.{HasNoNul, line_number, lines_of, LinesStop, SpellsLines, TextFault, without_byte_order_mark}
 use Rattle.po_syntax.specs.PoText as text_faults
 use Rattle.po_syntax.specs.Spelling.{HoldsItems, HoldsTokens}
 use Rattle.po_syntax.specs.Spelling as spelt

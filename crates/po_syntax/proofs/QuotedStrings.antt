@@ -1,5 +1,5 @@
 -- A run of bytes that stand for themselves inside a quoted string.
-use Rattle.std.proofs.Common.{◌≡◌, ◌==◌, ◌⊎◌, inl, inr, ℕ, zero, suc, ◌<◌, ◌≤◌, Bool, true, false, if◌then◌else◌, nat_lt, List, [], ◌∷◌, ◌++◌, length, get_or, take, drop, Option, Some, None, unwrap_or, refl, subst, arith}
+use Rattle.std.proofs.Common.{◌≡◌, ◌==◌, ◌⊎◌, inl, inr, ℕ, zero, suc, ◌<◌, ◌≤◌, false, List, [], ◌∷◌, ◌++◌, length, get_or, take, drop, Option, Some, None, unwrap_or, refl, subst, arith}
 use Rattle.po_syntax.specs.Escapes.{SpellsEscape}
 use Rattle.po_syntax.proofs.Escapes.{EscapeSays, escape_says, escape_shorter, StepSays, step_says, quoted_spelt, string_shorter}
 use Rattle.std.proofs.lemmas.Bool.{or_parts, false_from_ne_true}

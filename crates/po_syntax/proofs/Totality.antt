@@ -7,7 +7,7 @@ use Rattle.std.proofs.lemmas.Bool.{cases_lt, false≢true}
 use Rattle.po_syntax.specs.declared.fault.PoFault.{PoFault}
 use Rattle.po_syntax.specs.declared.fault.PoFault.TheVariants.{NotUtf8, BadToken, ForbiddenByte, TooLarge}
 use Rattle.po_syntax.specs.declared.item.Marks.{Marks}
-use Rattle.po_syntax.specs.Internal.Line.{Shape, CommentLine, Tokens, NoShape, shape_of, SpellsTokens, none, word, string, TokensStop, halt, in_string, after_word, after_string, SpellsLine, comment, tokens, LineStops, no_shape, in_tokens}
+use Rattle.po_syntax.specs.Internal.Line.{Shape, CommentLine, Tokens, NoShape, shape_of, SpellsTokens, none, word, string, TokensStop, halt, in_string, after_word, after_string, comment, tokens, no_shape, in_tokens}
 use Rattle.po_syntax.specs.ItemContents.{trim_returns}
 use Rattle.po_syntax.specs.PoText.{IsSmall, line_number, without_byte_order_mark, lines_of, SpellsLines, LinesStop, SpellsText, TextFault, too_large, not_utf8, nul, stops}
 use Rattle.po_syntax.specs.Internal.QuotedString.{Step, End, Byte, Stop, step_at, IsQuoted, ended, spelt, QuotedStops, here, later}

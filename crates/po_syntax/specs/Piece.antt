@@ -5,7 +5,7 @@ use Rattle.po_syntax.specs.LinesLeft.{LinesLeft, SpellsLeft, left_after, lines_l
 use Rattle.po_syntax.specs.Spelling.{HoldsItems}
 use Rattle.po_syntax.specs.PoText.{SpellsLines}
 use Rattle.po_syntax.specs.TextItem.{TextItem, Comment, Word, Str}
-use Rattle.po_syntax.specs.declared.item.Keyword.TheVariants.{MsgCtxt, MsgId, MsgIdPlural, MsgStr, MsgStrAt}
+use Rattle.po_syntax.specs.declared.item.Keyword.TheVariants.{MsgStr, MsgStrAt}
 
 -- a quoted string
 abbrev pub IsString : TextItem → Type 0

@@ -1,6 +1,5 @@
 -- The parts of a message, from what cuts its strings.
-use Rattle.std.proofs.Common.{append-nil, ◌≡◌, ◌≢◌, ℕ, ◌==◌, Bool, true, false, cond, List, [], ◌∷◌, ◌++◌, Option, None, Some, refl, sym, ap, ◌∙◌, subst, take, All}
-use Rattle.std.specs.Prelude.{slice_get}
+use Rattle.std.proofs.Common.{append-nil, ◌≡◌, ◌≢◌, ℕ, ◌==◌, Bool, true, false, List, [], ◌∷◌, ◌++◌, Option, None, Some, refl, sym, ap, ◌∙◌, subst, take, All}
 use Rattle.std.specs.List.{AllZip, join_with_byte, onto_first}
 use Rattle.std.proofs.lemmas.Bool.Decides.{Decides-eqb}
 use Rattle.std.proofs.lemmas.List.Splits.{join_with_byte-slice_split, slice_split-cons_no, slice_split-cons_yes}
@@ -9,10 +8,9 @@ use Rattle.mo_file.specs.Key.{is_nul, key_of}
 use Rattle.mo_file.specs.Message.{Message}
 use Rattle.mo_lookup.specs.CatalogView.{forms}
 use Rattle.po_entry.specs.Bytes.{Lacks}
-use Rattle.po_entry.specs.TextEntry.{TextEntry}
 use Rattle.po_unformat.specs.MessageParts.{ContainsMsgid, msgid_alone, after_context, IsAfterPart, at_end, at_nul, ContainsKey, key_alone, before_plural, ContainsForms, first_part, each_part, IsEntryOf}
-use Rattle.po_unformat.specs.Unformatted.{context_of, entry_of_message, id_of, plural_of, taken_forms, unformatted}
-use Rattle.po_unformat.proofs.CutLemmas.{context_cut, context_none, id_all, id_cut, first_all, first_cut, key_all, key_cut, plural_cut, plural_none, forms_cut, forms_one}
+use Rattle.po_unformat.specs.Unformatted.{context_of, id_of, plural_of, taken_forms, unformatted}
+use Rattle.po_unformat.proofs.CutLemmas.{context_cut, context_none, id_all, id_cut, first_all, first_cut, key_all, key_cut, plural_cut, plural_none}
 
 -- a text has a first such byte, or none
 data Cut (byte : ℕ) : List ℕ → Type 0 where

@@ -1,6 +1,6 @@
 //! Keys of a test's own: every second letter, with a count of the comparisons.
 
-ghost use Rattle.std.specs.Prelude.{◌≡◌, ◌+◌, ◌*◌, ◌≤◌, ◌<◌, ◌^◌, [], ◌∷◌, map};
+ghost use Rattle.std.specs.Prelude.{◌≡◌, ◌+◌, ◌*◌, ◌≤◌, ◌<◌, [], ◌∷◌, map};
 ghost use Rattle.std.specs.List.{range_with_len};
 
 use mo_file::compare_key;
