@@ -11,7 +11,7 @@ use Rattle.std.proofs.lemmas.List.FromFn.{get_or-map-range_with_len, length-map-
 use Rattle.std.proofs.Math.Bool.{or-false, or_assoc}
 use Rattle.std.proofs.lemmas.List.Sums.{fold_push}
 use Rattle.po_syntax.specs.declared.item.CommentKind.{CommentKind}
-use Rattle.po_syntax.specs.declared.item.CommentKind.TheVariants.{Translator, Extracted, Reference, Flags}
+use Rattle.po_syntax.specs.declared.item.CommentKind.TheVariants.{Translator}
 use Rattle.po_entry.specs.TextEntry.{TextEntry, TextPrevious, no_previous}
 use Rattle.po_messages.specs.Joined.{is_live}
 use Rattle.po_merge.specs.declared.input.MergeOptions.{MergeOptions}
@@ -24,9 +24,7 @@ use Rattle.po_merge.proofs.Sets.{has_others}
 -- the texts of one kind of a merged entry
 pub texts_merged : (o : MergeOptions) (kind : CommentKind) (ds : List NamedEntry) → texts_of kind (merged_entry o ds) ≡ comment_of o kind ds
 texts_merged o Translator ds = refl
-texts_merged o Extracted ds = refl
-texts_merged o Reference ds = refl
-texts_merged o Flags ds = refl
+texts_merged o kind ds = refl
 
 texts_collected : (o : MergeOptions) (kind : CommentKind) (ds : List NamedEntry) → o.use_first ≡ false → texts_of kind (merged_entry o ds) ≡ collected (texts_of kind) ds
 texts_collected o kind ds off = texts_merged o kind ds ∙ ap (λ (b : Bool). if b then texts_of kind (first_translated ds) else collected (texts_of kind) ds) off

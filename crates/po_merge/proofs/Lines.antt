@@ -48,9 +48,7 @@ translated_unlined ds = with_unlined has_translation (λ e. refl) ds
 
 texts_unlined : (kind : CommentKind) (e : TextEntry) → texts_of kind (with_line 0 e) ≡ texts_of kind e
 texts_unlined Translator e = refl
-texts_unlined Extracted e = refl
-texts_unlined Reference e = refl
-texts_unlined Flags e = refl
+texts_unlined kind e = refl
 
 collected_unlined : (kind : CommentKind) (done : List (List ℕ)) (ds : List NamedEntry)
     → fold (λ done d. with_others done (texts_of kind d.entry)) done (map unlined ds) ≡ fold (λ done d. with_others done (texts_of kind d.entry)) done ds

@@ -4,7 +4,7 @@ use Rattle.std.specs.Prelude.{All, Contains, if◌then◌else◌}
 use Rattle.std.specs.List.{list_any}
 use Rattle.std.specs.Option.{option_map_or}
 use Rattle.std.specs.Cmp.{IsEquivalence}
-use Rattle.std.proofs.lemmas.Bool.{and_parts, lt-ltb, ltb-true, ltb-false, ne_eqb, not-true, or_parts, false≢true}
+use Rattle.std.proofs.lemmas.Bool.{cond_both, and_parts, lt-ltb, ltb-true, ltb-false, ne_eqb, not-true, or_parts, false≢true}
 use Rattle.std.proofs.lemmas.List.Elements.{All-nil, All-cons, All-head, All-tail, All-contains, All-contains_itself, All-filter, All-weaker, filter_passes}
 use Rattle.std.proofs.lemmas.Map.Views.{list_any-from_Contains}
 use Rattle.std.proofs.Math.Bool.{or-false}
@@ -80,11 +80,10 @@ module _ {X : Type 0} (p : X → Bool) where
   -- an element that passes a test is among those that do
   passing : (xs : List X) → All (λ y. p y ≡ true → Contains (filter p xs) y) xs
   passing [] = All-nil (λ y. p y ≡ true → Contains [] y)
-  passing (x ∷ xs) = found (p x) refl (passing xs) where
-    found : (b : Bool) → p x ≡ b → All (λ y. p y ≡ true → Contains (filter p xs) y) xs → All (λ y. p y ≡ true → Contains (cond b (x ∷ filter p xs) (filter p xs)) y) (x ∷ xs)
-    found true e more = All-cons (λ y. p y ≡ true → Contains (x ∷ filter p xs) y) x xs (λ _. (0, omega arith, refl))
-        (All-weaker (λ y. p y ≡ true → Contains (filter p xs) y) (λ y. p y ≡ true → Contains (x ∷ filter p xs) y) (λ y c h. let found = c h in let l = found.1 in (suc found.0, omega (arith, l), found.2)) xs more)
-    found false e more = All-cons (λ y. p y ≡ true → Contains (filter p xs) y) x xs (λ h. absurd (false≢true (sym e ∙ h))) more
+  passing (x ∷ xs) = cond_both (p x) (x ∷ filter p xs) (filter p xs) (λ l. All (λ y. p y ≡ true → Contains l y) (x ∷ xs))
+      (λ e. All-cons (λ y. p y ≡ true → Contains (x ∷ filter p xs) y) x xs (λ _. (0, omega arith, refl))
+      (All-weaker (λ y. p y ≡ true → Contains (filter p xs) y) (λ y. p y ≡ true → Contains (x ∷ filter p xs) y) (λ y c h. let found = c h in let l = found.1 in (suc found.0, omega (arith, l), found.2)) xs (passing xs)))
+      (λ e. All-cons (λ y. p y ≡ true → Contains (filter p xs) y) x xs (λ h. absurd (false≢true (sym e ∙ h))) (passing xs))
 
 any_of : (ds : List NamedEntry) (d : NamedEntry) → Contains ds d → IsTranslated d → list_any (same_forms d) (translations ds) ≡ true
 any_of ds d h is =

@@ -1,10 +1,10 @@
 -- What valid definitions are merged to is valid.
-use Rattle.std.proofs.Common.{◌≡◌, ℕ, ◌<◌, ◌≤◌, Bool, true, false, cond, not, ◌&&◌, ◌==◌, List, [], ◌∷◌, ◌++◌, Option, Some, None, refl, sym, ap, ◌∙◌, subst, filter, fold, find, length, arith, codes, inl, inr, zero, suc, nat_lt, nat_eq, max}
+use Rattle.std.proofs.Common.{◌≡◌, ℕ, ◌<◌, ◌≤◌, Bool, true, false, not, ◌&&◌, ◌==◌, List, [], ◌∷◌, ◌++◌, Option, Some, None, refl, sym, ap, ◌∙◌, filter, fold, find, length, arith, codes, inl, inr, zero, suc, nat_lt, nat_eq, max, get_or, ◌||◌}
 use Rattle.std.specs.Prelude.{All, Contains, IfSome, option_to_list, slice_get, is_some, bytes_eq, if◌then◌else◌}
 use Rattle.std.specs.List.{list_any, list_all, range_with_len, ends_with}
 use Rattle.std.specs.Option.{option_map_or}
 use Rattle.std.specs.Str.{IsAscii}
-use Rattle.std.proofs.lemmas.Bool.{and_parts, cond_both, ltb-true, false≢true, eqb-false, not-true}
+use Rattle.std.proofs.lemmas.Bool.{and_parts, cond_both, false_from_ne_true, ltb-true, false≢true, eqb-false, not-true}
 use Rattle.std.proofs.lemmas.Str.{IsUtf8-nil, IsUtf8-append, IsUtf8-from_ascii}
 use Rattle.std.proofs.lemmas.Slice.Eq.{bytes_eq-Decides}
 use Rattle.std.proofs.lemmas.List.{length-map}
@@ -177,29 +177,20 @@ some_forms (t ∷ ts) some h = let here = All-head (λ x. 0 < length x.entry.for
 count_joined : (ts : List NamedEntry) → length (joined_forms ts) ≡ form_count ts
 count_joined ts = length-map (range_with_len 0 (form_count ts)) (joined_form ts) ∙ length-range_with_len 0 (form_count ts)
 
+found_has : (has : TextEntry → Bool) (ds : List NamedEntry) (e : TextEntry) → list_any (λ d. has d.entry) ds ≡ true → has (option_map_or (λ (d : NamedEntry). d.entry) (find (λ d. has d.entry) ds) e) ≡ true
+found_has has [] e some = absurd (false≢true some)
+found_has has (d ∷ ds) e some =
+    cond_both (has d.entry) (Some d) (find (λ x. has x.entry) ds) (λ r. has (option_map_or (λ (x : NamedEntry). x.entry) r e) ≡ true) (λ here. here)
+    (λ other. found_has has ds e (ap (λ (b : Bool). b || list_any (λ x. has x.entry) ds) (sym other) ∙ some))
+
+nothing : (p : Option (List ℕ)) → is_some p ≡ false → p ≡ None
+nothing None h = refl
+nothing (Some t) h = cc
+
 no_plural : (ds : List NamedEntry) → (first_with has_plural ds).plural ≡ None → All (λ d. d.entry.plural ≡ None) ds
-no_plural ds e = none ds (found (find (λ d. has_plural d.entry) ds) refl e) where
-  passes : (xs : List NamedEntry) (x : NamedEntry) → find (λ d. has_plural d.entry) xs ≡ Some x → has_plural x.entry ≡ true
-  passes [] x f = cc
-  passes (y ∷ ys) x f = at (has_plural y.entry) refl f (passes ys x) where
-    at : (b : Bool) → has_plural y.entry ≡ b → cond b (Some y) (find (λ d. has_plural d.entry) ys) ≡ Some x → (find (λ d. has_plural d.entry) ys ≡ Some x → has_plural x.entry ≡ true) → has_plural x.entry ≡ true
-    at true h g more = let same : y ≡ x = cc in subst (λ (z : NamedEntry). has_plural z.entry ≡ true) same h
-    at false h g more = more g
-
-  found : (r : Option NamedEntry) → find (λ d. has_plural d.entry) ds ≡ r → (option_map_or (λ (d : NamedEntry). d.entry) r (first_of ds)).plural ≡ None → find (λ d. has_plural d.entry) ds ≡ None
-  found None f g = f
-  found (Some d) f g = absurd (false≢true (sym (ap (λ (p : Option (List ℕ)). is_some p) g) ∙ passes ds d f))
-
-  nothing : (p : Option (List ℕ)) → is_some p ≡ false → p ≡ None
-  nothing None h = refl
-  nothing (Some t) h = cc
-
-  none : (xs : List NamedEntry) → find (λ d. has_plural d.entry) xs ≡ None → All (λ d. d.entry.plural ≡ None) xs
-  none [] f = All-nil (λ d. d.entry.plural ≡ None)
-  none (x ∷ xs) f = at (has_plural x.entry) refl f (none xs) where
-    at : (b : Bool) → has_plural x.entry ≡ b → cond b (Some x) (find (λ d. has_plural d.entry) xs) ≡ None → (find (λ d. has_plural d.entry) xs ≡ None → All (λ d. d.entry.plural ≡ None) xs) → All (λ d. d.entry.plural ≡ None) (x ∷ xs)
-    at true h g more = cc
-    at false h g more = All-cons (λ d. d.entry.plural ≡ None) x xs (nothing x.entry.plural h) (more g)
+no_plural ds e = λ k d inside.
+    nothing (get_or ds k d).entry.plural (false_from_ne_true (has_plural (get_or ds k d).entry) (λ has.
+    false≢true (sym (ap (λ (p : Option (List ℕ)). is_some p) e) ∙ found_has has_plural ds (first_of ds) (list_any_at (λ x. has_plural x.entry) ds k d inside has))))
 
 -- the merged entry
 

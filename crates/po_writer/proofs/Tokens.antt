@@ -5,7 +5,7 @@ use Rattle.po_syntax.specs.declared.item.Keyword.{Keyword}
 use Rattle.po_syntax.specs.declared.item.Keyword.TheVariants.{MsgCtxt, MsgId, MsgIdPlural, MsgStr}
 use Rattle.po_syntax.specs.declared.item.Marks.{Marks}
 use Rattle.po_syntax.specs.QuotedForm.{quoted, written_bytes}
-use Rattle.po_syntax.specs.Spelling.{IsBlank, space, tab, vertical_tab, form_feed, carriage_return, IsWordByte, upper, lower, digit, underscore, EndsWord, HasNoBracket, SpellsKeyword, msgctxt, msgid, msgid_plural, msgstr, HoldsTokens, end, blank, keyword, string, marked, HoldsItems, live, previous, obsolete, obsolete_previous}
+use Rattle.po_syntax.specs.Spelling.{IsBlank, space, IsWordByte, upper, lower, digit, underscore, EndsWord, HasNoBracket, SpellsKeyword, msgctxt, msgid, msgid_plural, msgstr, HoldsTokens, end, blank, keyword, string, marked, HoldsItems, live, previous, obsolete, obsolete_previous}
 use Rattle.po_syntax.specs.TextItem.{TextItem, Word, Str}
 use Rattle.po_syntax.proofs.Escapes.{quoted_spelt}
 use Rattle.po_syntax.proofs.QuotedForms.{bytes_spell}
@@ -49,10 +49,7 @@ word_ends rest = λ is. no_word_byte is refl
 
 quote_no_blank : {b : ℕ} → IsBlank b → b ≡ 34 → ⊥
 quote_no_blank space e = omega (arith, e)
-quote_no_blank tab e = omega (arith, e)
-quote_no_blank vertical_tab e = omega (arith, e)
-quote_no_blank form_feed e = omega (arith, e)
-quote_no_blank carriage_return e = omega (arith, e)
+quote_no_blank is e = omega (arith, e)
 
 no_bracket : (rest : List ℕ) → HasNoBracket (32 ∷ 34 ∷ rest)
 no_bracket rest = by where
