@@ -11,7 +11,8 @@
  * pokit_open checks the bytes of a file of any origin, in either byte order, and reports its first fault by name. After
  * that a look-up makes at most floor(log2 N) + 1 comparisons among N messages and evaluates each node of the plural
  * expression at most once. Nothing is allocated and nothing is to be freed; there is no locale, no errno and no global
- * state. The library is proved to meet its contracts; the inline functions of this header are not part of the proof.
+ * state. The library is proved to meet its contracts; the inline functions of this header aren't part of that proof,
+ * and have one of their own, with Frama-C (pokit.acsl.h).
  *
  * Who owns what. The caller owns the catalogue and the bytes. A catalogue refers to the bytes, so they outlive it and
  * don't change while it is in use. The text of an answer is a part of these bytes, or the msgid or plural of the

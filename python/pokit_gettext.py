@@ -166,11 +166,6 @@ class Translations(gettext.GNUTranslations):
     def __getstate__(self):
         return {name: value for name, value in self.__dict__.items() if name != "plural"}
 
-    def _asks(self, context, msgid, count):
-        """Whether the library is asked: a subclass may have another catalogue."""
-        return (isinstance(msgid, str) and isinstance(context, str) and isinstance(count, int) and 0 <= count < _COUNTS
-                and _SEPARATOR not in msgid and _SEPARATOR not in context and isinstance(self._catalog, _Catalog))
-
     def _look(self, context, msgid, count):
         """The translation, None where there is none, or NotImplemented where GNUTranslations' own methods answer. A
         count selects the form; without a plural form the text is found by any count."""
