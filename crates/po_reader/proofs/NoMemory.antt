@@ -3,11 +3,11 @@ use Rattle.std.proofs.Common.{◌≢◌, ℕ, List}
 use Rattle.po_syntax.specs.declared.fault.PoFault.{PoFault}
 use Rattle.po_syntax.specs.declared.fault.PoFault.TheVariants.{OutOfMemory}
 use Rattle.po_syntax.specs.TextItem.{TextItem}
-use Rattle.po_syntax.specs.PoText.{TextFault}
 use Rattle.po_entry.specs.TextEntry.{TextEntry}
 use Rattle.po_entry.proofs.TextsFaults.{texts_fault_reported}
 use Rattle.po_entry.specs.Faults as fault
 use Rattle.po_entry.specs.Viable.{Misfit, index, mixed, order, ItemsFault, at, at_end}
+use Rattle.po_syntax.proofs.NoMemory.{text_reported}
 
 misfit_reported : {prefix : List TextItem} {item : TextItem} {kind : PoFault} → Misfit prefix item kind → kind ≢ OutOfMemory
 misfit_reported (index wrong) = λ same. cc
@@ -22,8 +22,8 @@ pub texts_reported : {entries : List TextEntry} {kind : PoFault} {line : ℕ} �
 texts_reported (fault.TextsStop.here why is) = texts_fault_reported why
 texts_reported (fault.TextsStop.later readable stops) = texts_reported stops
 
-pub read_reported : ((text : List ℕ) (kind : PoFault) (line : ℕ) → TextFault text kind line → kind ≢ OutOfMemory) → (text : List ℕ) (kind : PoFault) (line : ℕ) → fault.IsReadFault text kind line → kind ≢ OutOfMemory
-read_reported text_reported text kind line (fault.in_text why) = text_reported text kind line why
-read_reported text_reported text kind line (fault.IsReadFault.in_items spelt (fault.ItemsStop.in_items why)) = items_reported why
-read_reported text_reported text kind line (fault.IsReadFault.in_items spelt (fault.in_texts reads stops)) = texts_reported stops
-read_reported text_reported text kind line (fault.IsReadFault.in_items spelt (fault.in_charset reads readable stops)) = λ same. cc
+pub read_reported : (text : List ℕ) (kind : PoFault) (line : ℕ) → fault.IsReadFault text kind line → kind ≢ OutOfMemory
+read_reported text kind line (fault.in_text why) = text_reported text kind line why
+read_reported text kind line (fault.IsReadFault.in_items spelt (fault.ItemsStop.in_items why)) = items_reported why
+read_reported text kind line (fault.IsReadFault.in_items spelt (fault.in_texts reads stops)) = texts_reported stops
+read_reported text kind line (fault.IsReadFault.in_items spelt (fault.in_charset reads readable stops)) = λ same. cc

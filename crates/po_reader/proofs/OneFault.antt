@@ -3,7 +3,6 @@ use Rattle.std.proofs.Common.{◌≡◌, ℕ, List, refl, sym, ◌∙◌, subst}
 use Rattle.std.specs.Prelude.{All}
 use Rattle.po_syntax.specs.declared.fault.PoFault.{PoFault}
 use Rattle.po_syntax.specs.TextItem.{TextItem}
-use Rattle.po_syntax.specs.PoText.{SpellsText, TextFault}
 use Rattle.po_entry.specs.TextEntry.{TextEntry}
 use Rattle.po_entry.specs.Validity.{HasTexts}
 use Rattle.po_entry.specs.Spelling.{SpellsEntries}
@@ -12,6 +11,7 @@ use Rattle.po_entry.specs.Viable.{ItemsFault}
 use Rattle.po_entry.proofs.TextsFaults.{no_texts_fault, one_texts_fault}
 use Rattle.po_reader.proofs.ItemsFaults.{fault_unread, items_fault_once}
 use Rattle.po_reader.proofs.OneReading.{spelt_once, texts_go_on}
+use Rattle.po_syntax.proofs.Uniqueness.{text_once as items_once, text_not_faulty as no_fault, fault_once}
 
 -- the same fault on the same line
 abbrev Same : PoFault → PoFault → ℕ → ℕ → Type 0
@@ -43,11 +43,8 @@ stops_once i (fault.ItemsStop.in_texts r t) (fault.ItemsStop.in_charset q u v) =
 stops_once i (fault.ItemsStop.in_charset r u t) (fault.ItemsStop.in_texts q v) = absurd (texts_go_on v (subst (All HasTexts) (spelt_once i r q) u))
 stops_once {n = n} i (fault.ItemsStop.in_charset r u t) (fault.ItemsStop.in_charset q w v) = (refl, charset_stop_once t (subst (λ (e : List TextEntry). fault.CharsetStops e n) (sym (spelt_once i r q)) v))
 
-pub text_fault_once : ((text : List ℕ) (items others : List TextItem) → SpellsText text items → SpellsText text others → items ≡ others)
-    → ((text : List ℕ) (items : List TextItem) (kind : PoFault) (line : ℕ) → SpellsText text items → TextFault text kind line → ⊥)
-    → ((text : List ℕ) (kind other : PoFault) (line other_line : ℕ) → TextFault text kind line → TextFault text other other_line → (kind ≡ other) × (line ≡ other_line))
-    → (text : List ℕ) (kind other : PoFault) (line other_line : ℕ) → fault.IsReadFault text kind line → fault.IsReadFault text other other_line → (kind ≡ other) × (line ≡ other_line)
-text_fault_once items_once no_fault fault_once text kind other line other_line (fault.IsReadFault.in_text f) (fault.IsReadFault.in_text g) = fault_once text kind other line other_line f g
-text_fault_once items_once no_fault fault_once text kind other line other_line (fault.IsReadFault.in_text f) (fault.IsReadFault.in_items {items = items} s t) = absurd (no_fault text items kind line s f)
-text_fault_once items_once no_fault fault_once text kind other line other_line (fault.IsReadFault.in_items {items = items} s t) (fault.IsReadFault.in_text g) = absurd (no_fault text items other other_line s g)
-text_fault_once items_once no_fault fault_once text kind other line other_line (fault.IsReadFault.in_items {items = items} s t) (fault.IsReadFault.in_items {items = others} k v) = stops_once (items_once text items others s k) t v
+pub text_fault_once : (text : List ℕ) (kind other : PoFault) (line other_line : ℕ) → fault.IsReadFault text kind line → fault.IsReadFault text other other_line → (kind ≡ other) × (line ≡ other_line)
+text_fault_once text kind other line other_line (fault.IsReadFault.in_text f) (fault.IsReadFault.in_text g) = fault_once text kind other line other_line f g
+text_fault_once text kind other line other_line (fault.IsReadFault.in_text f) (fault.IsReadFault.in_items {items = items} s t) = absurd (no_fault text items kind line s f)
+text_fault_once text kind other line other_line (fault.IsReadFault.in_items {items = items} s t) (fault.IsReadFault.in_text g) = absurd (no_fault text items other other_line s g)
+text_fault_once text kind other line other_line (fault.IsReadFault.in_items {items = items} s t) (fault.IsReadFault.in_items {items = others} k v) = stops_once (items_once text items others s k) t v

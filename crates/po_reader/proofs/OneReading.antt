@@ -4,7 +4,6 @@ use Rattle.std.specs.Prelude.{All}
 use Rattle.std.proofs.lemmas.List.Elements.{All-head, All-tail}
 use Rattle.po_syntax.specs.declared.fault.PoFault.{PoFault}
 use Rattle.po_syntax.specs.TextItem.{TextItem, Comment, Word, Str}
-use Rattle.po_syntax.specs.PoText.{SpellsText, TextFault}
 use Rattle.po_entry.specs.TextEntry.{TextEntry}
 use Rattle.po_entry.specs.Header.{HasAdmittedCharset}
 use Rattle.po_reader.specs.Internal.Head as head
@@ -21,6 +20,7 @@ use Rattle.po_reader.specs.Internal.Stops as stop
 use Rattle.po_entry.specs.Faults as fault
 use Rattle.po_reader.proofs.ItemsFaults.{fault_unread}
 use Rattle.po_reader.proofs.Once.{head_once, head_or_stop, body_once, body_or_stop}
+use Rattle.po_syntax.proofs.Uniqueness.{text_once as items_once, text_not_faulty as no_fault}
 
 over_end : (above : ℕ) (items : List TextItem) → head.head_step above items ≡ head.Over → AreComments items → items ≡ []
 over_end above [] e only = refl
@@ -92,11 +92,9 @@ read_or_stopped {a = a} i h (fault.ItemsStop.in_items s) = fault_unread s (subst
 read_or_stopped i h (fault.ItemsStop.in_texts reads s) = texts_go_on s (subst (All HasTexts) (spelt_once i h.reads reads) h.texts)
 read_or_stopped i h (fault.ItemsStop.in_charset reads texts s) = charsets_go_on s (subst (All HasAdmittedCharset) (spelt_once i h.reads reads) h.charsets)
 
-pub text_once : ((text : List ℕ) (items others : List TextItem) → SpellsText text items → SpellsText text others → items ≡ others) → (text : List ℕ) (a b : List TextEntry) → ReadsText text a → ReadsText text b → a ≡ b
-text_once items_once text a b h k = spelt_once (items_once text h.items k.items h.spelt k.spelt) h.read.reads k.read.reads
+pub text_once : (text : List ℕ) (a b : List TextEntry) → ReadsText text a → ReadsText text b → a ≡ b
+text_once text a b h k = spelt_once (items_once text h.items k.items h.spelt k.spelt) h.read.reads k.read.reads
 
-pub text_or_fault : ((text : List ℕ) (items others : List TextItem) → SpellsText text items → SpellsText text others → items ≡ others)
-    → ((text : List ℕ) (items : List TextItem) (kind : PoFault) (line : ℕ) → SpellsText text items → TextFault text kind line → ⊥)
-    → (text : List ℕ) (a : List TextEntry) (kind : PoFault) (line : ℕ) → ReadsText text a → fault.IsReadFault text kind line → ⊥
-text_or_fault items_once no_fault text a kind line h (fault.IsReadFault.in_text f) = no_fault text h.items kind line h.spelt f
-text_or_fault items_once no_fault text a kind line h (fault.IsReadFault.in_items {items = items} spelt s) = read_or_stopped (items_once text h.items items h.spelt spelt) h.read s
+pub text_or_fault : (text : List ℕ) (a : List TextEntry) (kind : PoFault) (line : ℕ) → ReadsText text a → fault.IsReadFault text kind line → ⊥
+text_or_fault text a kind line h (fault.IsReadFault.in_text f) = no_fault text h.items kind line h.spelt f
+text_or_fault text a kind line h (fault.IsReadFault.in_items {items = items} spelt s) = read_or_stopped (items_once text h.items items h.spelt spelt) h.read s

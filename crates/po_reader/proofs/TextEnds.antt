@@ -2,8 +2,6 @@
 use Rattle.std.proofs.Common.{ℕ, List, inl, inr, ◌⊎◌}
 use Rattle.po_syntax.specs.declared.fault.PoFault.{PoFault}
 use Rattle.po_syntax.specs.declared.fault.PoFault.TheVariants.{ForeignCharset}
-use Rattle.po_syntax.specs.TextItem.{TextItem}
-use Rattle.po_syntax.specs.PoText.{SpellsText, TextFault}
 use Rattle.po_entry.specs.TextEntry.{TextEntry}
 use Rattle.po_entry.specs.ReadsText.{ReadsText}
 use Rattle.po_reader.proofs.Spelt.{reads_spelt}
@@ -12,10 +10,10 @@ use Rattle.po_entry.specs.Viable.{last_line}
 use Rattle.po_reader.proofs.StopFaults.{items_fault}
 use Rattle.po_reader.proofs.Readable.{texts_end, charsets_end}
 use Rattle.po_reader.proofs.Totality.{entries_end}
+use Rattle.po_syntax.proofs.Totality.{text_ends as items_or_fault}
 
-pub text_ends : ((text : List ℕ) → ((items : List TextItem) × SpellsText text items) ⊎ ((kind : PoFault) × (line : ℕ) × TextFault text kind line))
-    → (text : List ℕ) → ((entries : List TextEntry) × ReadsText text entries) ⊎ ((kind : PoFault) × (line : ℕ) × fault.IsReadFault text kind line)
-text_ends items_or_fault text = elim (items_or_fault text) [
+pub text_ends : (text : List ℕ) → ((entries : List TextEntry) × ReadsText text entries) ⊎ ((kind : PoFault) × (line : ℕ) × fault.IsReadFault text kind line)
+text_ends text = elim (items_or_fault text) [
   | inl spelt ↦ elim (entries_end (last_line spelt.0) spelt.0) [
     | inl read ↦ elim (texts_end read.0) [
       | inl readable ↦ elim (charsets_end read.0) [

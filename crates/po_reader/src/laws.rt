@@ -10,8 +10,6 @@ ghost use Rattle.po_entry.specs.Spelling.{SpellsEntries};
 ghost use Rattle.po_entry.specs.Faults.{IsReadFault};
 ghost use Rattle.po_reader.specs.Internal.Reads.{Reads};
 
-use po_syntax::laws as syntax;
-
 /// Going through items from the left, the reader finds these entries exactly if the items spell
 /// them: the items of each entry in turn, and then comments that belong to no entry.
 pub fn entries_are_spelt()
@@ -23,50 +21,35 @@ pub fn entries_are_spelt()
 pub fn one_reading()
     ensures { (text : List ℕ) (entries others : List TextEntry)
         → ReadsText text entries → ReadsText text others → entries ≡ others }
-{
-    syntax::one_reading();
-}
+{}
 
 /// No text both reads as entries and has a fault.
 pub fn no_fault_where_entries()
     ensures { (text : List ℕ) (entries : List TextEntry) (fault : PoFault) (line : ℕ)
         → ReadsText text entries → IsReadFault text fault line → ⊥ }
-{
-    syntax::one_reading();
-    syntax::no_fault_where_items();
-}
+{}
 
 /// A text has at most one first fault, on one line.
 pub fn one_fault()
     ensures { (text : List ℕ) (fault other : PoFault) (line index : ℕ)
         → IsReadFault text fault line → IsReadFault text other index
         → (fault ≡ other) × (line ≡ index) }
-{
-    syntax::one_reading();
-    syntax::no_fault_where_items();
-    syntax::one_fault();
-}
+{}
 
 /// The entries that a text reads as can stand in a catalogue.
 pub fn entries_can_stand()
     ensures { (text : List ℕ) (entries : List TextEntry) → ReadsText text entries → All IsCatalogueEntry entries }
-{
-    syntax::items_hold_text();
-}
+{}
 
 /// Every text either reads as entries or has a first fault.
 pub fn entries_or_fault()
     ensures { (text : List ℕ)
         → ((entries : List TextEntry) × ReadsText text entries)
         ⊎ ((fault : PoFault) × (line : ℕ) × IsReadFault text fault line) }
-{
-    syntax::items_or_fault();
-}
+{}
 
 /// No fault of a text is out of memory.
 pub fn no_fault_is_memory()
     ensures { (text : List ℕ) (fault : PoFault) (line : ℕ)
         → IsReadFault text fault line → fault ≢ PoFault.OutOfMemory }
-{
-    syntax::no_fault_is_memory();
-}
+{}

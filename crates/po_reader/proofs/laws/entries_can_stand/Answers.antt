@@ -2,4 +2,4 @@ use Rattle.po_reader.proofs.ValidEntries.{read_valid}
 use Rattle.po_reader.proofs.laws.entries_can_stand.Goals as goal
 
 pub returns : goal.returns
-returns c = read_valid c.items_hold_text.ensures
+returns c = read_valid

@@ -2,4 +2,4 @@ use Rattle.po_reader.proofs.TextEnds.{text_ends}
 use Rattle.po_reader.proofs.laws.entries_or_fault.Goals as goal
 
 pub returns : goal.returns
-returns c = text_ends c.items_or_fault.ensures
+returns c = text_ends

@@ -2,4 +2,4 @@ use Rattle.po_reader.proofs.NoMemory.{read_reported}
 use Rattle.po_reader.proofs.laws.no_fault_is_memory.Goals as goal
 
 pub returns : goal.returns
-returns c = read_reported c.no_fault_is_memory.ensures
+returns c = read_reported

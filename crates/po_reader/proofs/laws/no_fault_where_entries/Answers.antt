@@ -2,4 +2,4 @@ use Rattle.po_reader.proofs.OneReading.{text_or_fault}
 use Rattle.po_reader.proofs.laws.no_fault_where_entries.Goals as goal
 
 pub returns : goal.returns
-returns c = text_or_fault c.one_reading.ensures c.no_fault_where_items.ensures
+returns c = text_or_fault

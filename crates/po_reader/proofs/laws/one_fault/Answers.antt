@@ -2,4 +2,4 @@ use Rattle.po_reader.proofs.OneFault.{text_fault_once}
 use Rattle.po_reader.proofs.laws.one_fault.Goals as goal
 
 pub returns : goal.returns
-returns c = text_fault_once c.one_reading.ensures c.no_fault_where_items.ensures c.one_fault.ensures
+returns c = text_fault_once

@@ -2,4 +2,4 @@ use Rattle.po_reader.proofs.OneReading.{text_once}
 use Rattle.po_reader.proofs.laws.one_reading.Goals as goal
 
 pub returns : goal.returns
-returns c = text_once c.one_reading.ensures
+returns c = text_once
