@@ -1,5 +1,5 @@
 -- Groups of rows, and what is written of them.
-use Rattle.std.proofs.Common.{◌≡◌, refl, sym, ap, ap₂, ◌∙◌, subst, ℕ, zero, suc, ◌+◌, ◌<◌, ◌==◌, Bool, true, false, cond, not, ◌||◌, ◌&&◌, filter, List, [], ◌∷◌, ◌++◌, append-nil, arith, length, get_or, take, map, inl, inr}
+use Rattle.std.proofs.Common.{◌≡◌, refl, sym, ap, ap₂, ◌∙◌, subst, ℕ, suc, ◌+◌, ◌<◌, ◌==◌, Bool, true, false, cond, not, ◌||◌, filter, List, [], ◌∷◌, ◌++◌, append-nil, arith, length, get_or, take, map, inl, inr}
 use Rattle.std.specs.Prelude.{All, IsUtf8, if◌then◌else◌}
 use Rattle.std.specs.Global.{Vec}
 use Rattle.std.specs.List.{AllZip, flat_map, list_any, range_with_len}
@@ -8,7 +8,6 @@ use Rattle.std.proofs.lemmas.List.Elements.{All-cons, All-nil, All-push}
 use Rattle.po_syntax.specs.declared.fault.PoError.{PoError}
 use Rattle.po_syntax.specs.PoText.{IsSmall}
 use Rattle.po_entry.specs.Bytes.{Lacks}
-use Rattle.po_entry.specs.Facts.AllAppend.{All-left, All-right}
 use Rattle.po_entry.specs.Header.{HasAdmittedCharset, is_header}
 use Rattle.po_entry.specs.ReadsText.{ReadsText}
 use Rattle.po_entry.specs.TextEntry.{TextEntry, SameButLine, with_line}

@@ -1,7 +1,7 @@
 //! Reading inputs: a piece is read, its entries are written and kept by their messages, and the
 //! piece is dropped before the next one is read. After the last input an index of all messages
 //! tells which entries are of one message.
-ghost use Rattle.std.specs.Prelude.{◌≡◌, ◌≢◌, ◌⊎◌, ◌++◌, All, IfErr, IfOk, List, MatchOption, OnOk, length, map};
+ghost use Rattle.std.specs.Prelude.{◌≡◌, ◌≢◌, ◌⊎◌, ◌++◌, All, IfErr, IfOk, List, MatchOption, OnOk};
 ghost use Rattle.std.specs.List.{AllZip};
 ghost use Rattle.po_messages.specs.Duplicate.{HasNoDuplicate};
 ghost use Rattle.po_messages.specs.Joined.{is_live};

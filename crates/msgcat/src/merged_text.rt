@@ -2,7 +2,6 @@
 //! copied, and several are read again from their texts.
 ghost use Rattle.std.specs.Prelude.{◌≡◌, ◌<◌, ◌++◌, ◌∷◌, ℕ, [], All, IfErr, IfOk, List, MatchResult, OnOk, length, map};
 ghost use Rattle.std.specs.List.{AllZip};
-ghost use Rattle.po_entry.specs.Header.{HasAdmittedCharset};
 ghost use Rattle.po_entry.specs.TextEntry.{TextEntry};
 ghost use Rattle.po_merge.specs.EntryLaws.{IsSameButLine};
 ghost use Rattle.po_merge.specs.Grouping.{IsDefinition};
@@ -12,7 +11,6 @@ ghost use Rattle.po_merge.specs.InputsView.{named_entries};
 ghost use Rattle.po_merge.specs.Merged.{IsMergeFault, merged_messages};
 ghost use Rattle.po_merge.specs.MergedEntry.{merged_entry};
 ghost use Rattle.po_writer.specs.TextParts.{separated};
-ghost use Rattle.po_writer.specs.WrittenText.{written_text};
 ghost use Rattle.msgcat.specs.Internal.Entries.{AreRows, IsRow};
 ghost use Rattle.msgcat.specs.Internal.Inputs.{HoldInputs};
 ghost use Rattle.msgcat.specs.Internal.MergedText.{AreGroups, AreReadBack, AreWritten, IsOnly, IsTextOfMerged};

@@ -5,7 +5,6 @@ ghost use Rattle.po_entry.specs.Bytes.{Lacks};
 ghost use Rattle.po_merge.specs.Inputs as merge;
 ghost use Rattle.msgcat.specs.Msgcat.{AreReadAs, HasNulName, IsMsgcatRun, IsUnread};
 ghost use Rattle.runs.specs.Inputs.{named_inputs};
-ghost use Rattle.runs.specs.NamedFile.{named_files};
 ghost use Rattle.runs.specs.ProgramFaults.{program_text};
 ghost use Rattle.runs.specs.Run.{run_view};
 

@@ -1,6 +1,6 @@
 //! The MO file of PO texts.
 
-ghost use Rattle.std.specs.Prelude.{◌≡◌, ◌≢◌, ◌⊎◌, ◌<◌, ◌^◌, ℕ, [], ◌∷◌, List, length, IfOk, IfErr, MatchResult};
+ghost use Rattle.std.specs.Prelude.{◌≢◌, ◌⊎◌, ◌<◌, ◌^◌, ℕ, [], ◌∷◌, List, length, IfOk, IfErr, MatchResult};
 ghost use Rattle.std.specs.List.{AllZip};
 ghost use Rattle.po_entry.specs.TextEntry.{TextEntry, slice_texts};
 ghost use Rattle.po_messages.specs.Joined.{joined_entries};

@@ -1,6 +1,6 @@
 //! The entries of all inputs, grouped by context and msgid.
 
-ghost use Rattle.std.specs.Prelude.{◌≡◌, ◌≤◌, ◌+◌, ◌++◌, ◌∷◌, [], ℕ, All, IfOk, IsUtf8, List, OnOk, get_or, length, map, max};
+ghost use Rattle.std.specs.Prelude.{◌≡◌, ◌≤◌, ◌+◌, ◌++◌, [], ℕ, All, IfOk, IsUtf8, List, OnOk, get_or, length, map, max};
 ghost use Rattle.po_messages.specs.FirstOnes.{first_ones, group_numbers};
 ghost use Rattle.po_messages.specs.Message.{Message, same_message};
 ghost use Rattle.po_messages.specs.MessageView.{messages_of_keys};

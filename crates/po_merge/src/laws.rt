@@ -3,7 +3,6 @@
 ghost use Rattle.std.specs.Prelude.{ℕ, Bool, List, Option};
 ghost use Rattle.po_merge.specs.declared.input.MergeOptions.{MergeOptions};
 ghost use Rattle.po_merge.specs.Inputs.{Named, NamedEntry, all_entries};
-ghost use Rattle.po_entry.specs.TextEntry.{TextEntry};
 ghost use Rattle.po_merge.specs.MergeLaws.{FormsAreOfOne, GroupsByNumber, KeptMessagesStand, MergedAreEntries, MergedCanStand, MessagesStandOnce, OneDefinitionStays, OneInputStays, StandInTurn, WithItself};
 ghost use Rattle.po_merge.specs.EntryLaws.{EndsForm, FormsAreJoined, JoinedIsFuzzy, KeptByCount, LinesAreNotMerged, ObsoleteWhereNoneIsLive, PluralOfFirst, PreviousOfFirst, TextsInOrder, TextsOfAll};
 ghost use Rattle.po_merge.specs.MergedEntry.{ended};

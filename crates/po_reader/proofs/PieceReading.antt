@@ -13,7 +13,6 @@ use Rattle.po_reader.proofs.RestFaults.{items_stop_after, reads_joined, reads_no
 use Rattle.po_entry.specs.Faults.{IsReadFault}
 use Rattle.po_entry.specs.Faults as faults
 use Rattle.po_entry.specs.ReadsText.{ReadsItems}
-use Rattle.po_entry.specs.Faults.{ItemsStop}
 use Rattle.po_reader.specs.PieceRead.{ReadsOn, FaultsStay, IsLeftFault}
 use Rattle.po_reader.specs.Internal.Keeping.{SpellsOn, KeepsReading, KeepsItems, StopsStay}
 use Rattle.po_reader.specs.PieceRead as piece

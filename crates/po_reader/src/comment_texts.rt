@@ -3,7 +3,7 @@
 ghost use Rattle.std.specs.Prelude.{◌≡◌, ◌<◌, ◌≤◌, ◌++◌, ◌∷◌, [], ℕ, Bool, length, position, IfSome, MatchOption, OnOk};
 ghost use Rattle.std.specs.List.{slice_split, suffix_len};
 ghost use Rattle.po_syntax.specs.Blanks.{is_blank};
-ghost use Rattle.po_entry.specs.Bytes.{trimmed, without_end_blanks};
+ghost use Rattle.po_entry.specs.Bytes.{trimmed};
 ghost use Rattle.po_entry.specs.TextEntry.{slice_texts, texts};
 ghost use Rattle.po_entry.specs.Comments.{is_comma, listed_references, listed_flags};
 

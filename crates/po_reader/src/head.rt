@@ -1,6 +1,6 @@
 //! The first half of an entry: comments, previous texts and context.
 
-ghost use Rattle.std.specs.Prelude.{◌≡◌, ◌≢◌, ◌<◌, ◌≤◌, ◌++◌, ◌∷◌, [], Some, ℕ, List, length, IfOk, IfErr, OnOk, OnErr, IfSome, MatchResult, ◌||◌};
+ghost use Rattle.std.specs.Prelude.{◌≡◌, ◌≢◌, ◌<◌, ◌≤◌, ◌++◌, ◌∷◌, [], Some, List, length, IfOk, IfErr, OnOk, MatchResult, ◌||◌};
 ghost use Rattle.po_entry.specs.EntryParts.{CommentText, PreviousText, rank};
 ghost use Rattle.po_reader.specs.Internal.Head.{IsHead, head_step, begins_body};
 ghost use Rattle.po_reader.specs.Internal.Head as spec;

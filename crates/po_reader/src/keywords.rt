@@ -1,6 +1,6 @@
 //! A keyword that is wanted here, and its string.
 
-ghost use Rattle.std.specs.Prelude.{◌≡◌, ◌≢◌, ◌<◌, length, IfOk, IfErr, OnOk, MatchResult, MatchOption, ℕ, List};
+ghost use Rattle.std.specs.Prelude.{◌≡◌, ◌<◌, length, IfOk, IfErr, OnOk, MatchResult, MatchOption, ℕ, List};
 ghost use Rattle.po_syntax.specs.TextItem.{TextItem};
 ghost use Rattle.po_reader.specs.Internal.Keywords.{IsKeywordText, next_keyword, keyword_step, is_wanted, is_wrong_form};
 ghost use Rattle.po_reader.specs.Internal.Keywords as spec;

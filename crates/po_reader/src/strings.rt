@@ -1,8 +1,7 @@
 //! A string in several pieces, each on a line of its own.
 
-ghost use Rattle.std.specs.Prelude.{◌≡◌, ◌≢◌, ◌<◌, length, IfOk, IfErr, OnOk, MatchResult};
+ghost use Rattle.std.specs.Prelude.{◌≡◌, ◌<◌, length, IfOk, IfErr, OnOk, MatchResult};
 ghost use Rattle.po_reader.specs.Internal.Strings.{IsStrings, string_step, begins_string};
-ghost use Rattle.po_entry.specs.Spelling.{own_marks};
 ghost use Rattle.po_reader.specs.Internal.Strings as spec;
 ghost use Rattle.po_entry.specs.Faults.{IsStop};
 ghost use Rattle.po_reader.specs.Internal.Stops.{StringsStop};

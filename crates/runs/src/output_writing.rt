@@ -1,5 +1,4 @@
 //! How an output is made: whole in a new file beside the one that it replaces, which then gets its path.
-ghost use Rattle.std.specs.Prelude.{◌≡◌};
 ghost use Rattle.runs.specs.FileCalls.{Call, Runs, fault_in};
 ghost use Rattle.runs.specs.OutputFiles.{Closes, Fills, Finishes, Puts, Replaces, WritesFile, WritesInPlace, WritesStream};
 

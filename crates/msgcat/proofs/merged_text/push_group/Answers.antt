@@ -4,7 +4,7 @@ use Rattle.std.specs.Global.{Vec}
 use Rattle.po_entry.specs.Validity.{IsCatalogueEntry}
 use Rattle.po_merge.proofs.GroupsMerged.{definitions_some, kept_one}
 use Rattle.po_merge.specs.Groups.{definitions, definitions_by}
-use Rattle.po_merge.specs.Merged.{IsMergeFault, is_kept_by, merged_messages}
+use Rattle.po_merge.specs.Merged.{IsMergeFault, is_kept_by}
 use Rattle.po_writer.specs.TextParts.{AreParts}
 use Rattle.msgcat.specs.Internal.Entries.{AreRows}
 use Rattle.msgcat.specs.Internal.MergedText.{AreWritten}
