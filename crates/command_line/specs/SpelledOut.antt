@@ -1,5 +1,5 @@
 -- The command `help`, as the option that it stands for.
-use Rattle.std.specs.Prelude.{ℕ, List, [], ◌∷◌, codes}
+use Rattle.std.specs.Prelude.{ℕ, List, [], ◌∷◌, if◌then◌else◌, codes}
 use Rattle.std.specs.Str.{bytes_eq}
 
 -- `help` is `--help`, and `help TOOL` with anything after it is `TOOL --help`; the first word is the
