@@ -7,6 +7,7 @@ pub mod RawRuns
 pub mod Uniqueness
 pub mod Totality
 pub mod QuotedForms
+pub mod QuotedLengths
 pub mod Rests
 pub mod CleanLines
 pub mod TrimmedReturns

@@ -144,6 +144,20 @@ fn write_quoted(bytes: &[u8], out: &mut Vec<u8>) -> Result<(), AllocError>
     out.extend_from_slice(b"\"")
 }
 
+/// Makes room for the quoted form, whose length is asked only where there isn't room for four bytes for
+/// each.
+#[tactic(auto, using(crate::proofs::QuotedLengths::quoted_at_most))]
+fn make_room(bytes: &[u8], out: &mut Vec<u8>) -> Result<(), AllocError>
+    ensures unchanged { out.new.items ≡ out.old.items }
+    ensures room { OnOk result (vec_len out.new + length (quoted bytes.now) ≤ vec_capacity out.new) }
+    ensures enough { vec_len out.old + length (quoted bytes.now) ≤ vec_capacity out.old → IsOk result }
+{
+    if (out.capacity() - out.len()) / 4 > bytes.len() {
+        return Ok(());
+    }
+    out.reserve(quoted_len(bytes))
+}
+
 /// Appends the quoted form of a text, as PO files are written (manual, "The Format of PO Files").
 /// Room for all of it is made first. Refused only where that allocation failed; then `out` is as it
 /// was.
@@ -155,7 +169,7 @@ pub fn quote(bytes: &[u8], out: &mut Vec<u8>) -> Result<(), PoError>
     // Where there is room for it, nothing is refused.
     ensures room { vec_len out.old + length (quoted bytes.now) ≤ vec_capacity out.old → IsOk result }
 {
-    out.reserve(quoted_len(bytes))?;
+    make_room(bytes, out)?;
     write_quoted(bytes, out)?;
     Ok(())
 }
