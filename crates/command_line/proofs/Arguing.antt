@@ -12,8 +12,8 @@ use Rattle.clap.specs.declared.builder.command.Command.{Command}
 use Rattle.clap.specs.declared.builder.command.Command.TheViews.{out-Command}
 use Rattle.command_line.specs.Arguments.{Argument, IsRuleOf, arguments_of}
 use Rattle.command_line.specs.Offering.{AddsArguments, IsToolCommand, IsToolShape, OffersTools, offered, offered_tools, top_of}
-use Rattle.tool_names.specs.Tools.{every_tool, tool_name}
-use Rattle.tool_names.specs.declared.tool.Tool.{Tool}
+use Rattle.runs.specs.Tools.{every_tool, tool_name}
+use Rattle.runs.specs.declared.tool.Tool.{Tool}
 
 -- one pair more
 zip_more : {X Y : Type 0} (R : X → Y → Type 0) (xs : List X) (ys : List Y) (x : X) (y : Y) → AllZip R xs ys → R x y

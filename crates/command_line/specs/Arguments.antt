@@ -7,9 +7,9 @@ use Rattle.clap.specs.Simple.{new_rule}
 use Rattle.clap.specs.Walk.{Rule, texts}
 use Rattle.clap.specs.declared.builder.action.ArgAction.TheVariants.{Append, SetTrue}
 use Rattle.clap.specs.declared.builder.value_parser.ValueParser.TheVariants.{Names, Signed}
-use Rattle.tool_names.specs.declared.tool.Tool.{Tool}
-use Rattle.tool_names.specs.declared.tool.Tool.TheVariants.{Msgfmt, Msgunfmt, Msgattrib, Msgcat, Gettext, Ngettext}
-use Rattle.tool_names.specs.declared.tool.Tool.TheVariants.{Envsubst}
+use Rattle.runs.specs.declared.tool.Tool.{Tool}
+use Rattle.runs.specs.declared.tool.Tool.TheVariants.{Msgfmt, Msgunfmt, Msgattrib, Msgcat, Gettext, Ngettext}
+use Rattle.runs.specs.declared.tool.Tool.TheVariants.{Envsubst}
 
 -- an argument or an option, by the name by which it is read; a letter is its code
 pub data Argument : Type 0 where

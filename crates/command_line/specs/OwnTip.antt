@@ -5,9 +5,9 @@ use Rattle.std.specs.Prelude.{Option, Some, None, option_and_then, nat_eq, codes
 use Rattle.std.specs.List.{before_first, list_any, starts_with}
 use Rattle.std.specs.Option.{option_or}
 use Rattle.std.specs.Str.{bytes_eq}
-use Rattle.tool_names.specs.declared.tool.Tool.{Tool}
-use Rattle.tool_names.specs.declared.tool.Tool.TheVariants.{Msgfmt, Msgunfmt, Msgattrib, Msgcat}
-use Rattle.tool_names.specs.Tools.{tool_name}
+use Rattle.runs.specs.declared.tool.Tool.{Tool}
+use Rattle.runs.specs.declared.tool.Tool.TheVariants.{Msgfmt, Msgunfmt, Msgattrib, Msgcat}
+use Rattle.runs.specs.Tools.{tool_name}
 
 -- the tool's arguments are files
 abbrev pub takes_files : Option Tool → Bool

@@ -2,7 +2,7 @@
 use Rattle.std.specs.Prelude.{ℕ, Bool, ◌==◌, ◌&&◌, ◌||◌, if◌then◌else◌, List, [], ◌∷◌, Option, Some, None, nat_eq, codes}
 use Rattle.std.specs.List.{flat_map, onto_first, starts_with, zip}
 use Rattle.std.specs.Str.{bytes_eq}
-use Rattle.tool_names.specs.declared.tool.Tool.{Tool}
+use Rattle.runs.specs.declared.tool.Tool.{Tool}
 use Rattle.command_line.specs.OwnTip.{own_tip, takes_files}
 
 -- the lines of a text, each with the LF that ends it, if one does

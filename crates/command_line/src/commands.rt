@@ -9,14 +9,14 @@ ghost use Rattle.clap.specs.declared.builder.value_parser.ValueParser.TheVariant
 ghost use Rattle.command_line.specs.Arguments.{IsRuleOf};
 ghost use Rattle.command_line.specs.Internal.Kind.{argument_of};
 ghost use Rattle.command_line.specs.Offering.{AddsArguments, IsToolCommand, OffersTools, offered, offered_tools};
-ghost use Rattle.tool_names.specs.Tools.{every_tool};
-ghost use Rattle.tool_names.specs.declared.tool.Tool.TheVariants as tool;
+ghost use Rattle.runs.specs.Tools.{every_tool};
+ghost use Rattle.runs.specs.declared.tool.Tool.TheVariants as tool;
 
 use crate::help;
 use Kind::{ByteOrder, File, Files, Flag, Forms, Letter, Number, Output, ShortFlag, Text};
 use clap::{Arg, ArgAction, Command, value_parser};
+use runs::Tool;
 use std::alloc::{AllocError, Global};
-use tool_names::Tool;
 
 static BYTE_ORDERS: [&str; 2] = ["little", "big"];
 

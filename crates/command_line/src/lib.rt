@@ -12,5 +12,5 @@ mod tips;
 mod usage;
 
 pub use commands::program;
-pub use tool_names::Tool;
+pub use runs::Tool;
 pub use usage::{reworded, spelled_out};

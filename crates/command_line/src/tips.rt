@@ -8,8 +8,8 @@ ghost use Rattle.command_line.specs.OwnTip.{is_among, long_options, manual_of, o
 ghost use Rattle.command_line.specs.OwnTip.{short_option, takes_files, tip_on, tool_tip, unknown_option};
 ghost use Rattle.command_line.specs.OwnTip.{unknown_tool, word_after};
 
+use runs::Tool;
 use std::alloc::{AllocError, Global};
-use tool_names::Tool;
 
 /// How clap's text of an unknown option begins.
 const UNKNOWN_OPTION: &str = "error: unexpected argument '";

@@ -6,8 +6,8 @@ ghost use Rattle.command_line.specs.Reworded.{spaced_line};
 ghost use Rattle.command_line.specs.SpelledOut.{spelled_out};
 
 use crate::tips;
+use runs::Tool;
 use std::alloc::{AllocError, Global};
-use tool_names::Tool;
 
 /// The option that asks for help.
 const HELP_OPTION: &str = "--help";

@@ -1,7 +1,7 @@
 -- What envsubst does by its arguments.
 use Rattle.std.proofs.Common.{◌≡◌, ℕ, List, Option, Result, option_map, subst}
 use Rattle.std.specs.Borrow.{Bor}
-use Rattle.devices.specs.declared.fault.ToolFault.{ToolFault}
+use Rattle.runs.specs.declared.tool_fault.ToolFault.{ToolFault}
 use Rattle.envsubst.specs.Envsubst.{EndsAs}
 use Rattle.envsubst.specs.References.{names_in}
 use Rattle.envsubst.specs.Substitution.{names_given, pairs_in, values_of, values_of_slices}

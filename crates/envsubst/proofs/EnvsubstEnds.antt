@@ -1,8 +1,8 @@
 -- What a run of envsubst has written is what its text becomes, or after a fault a beginning of it.
 use Rattle.std.proofs.Common.{◌≡◌, inl, inr, ℕ, List, ◌++◌, Option, Some, None, Ok, Err, refl, sym, ap, ◌∙◌, subst, take, drop, take-append-drop}
 use Rattle.std.specs.Io.KnownBytes.{Appends}
-use Rattle.devices.specs.declared.fault.ToolFault.{ToolFault}
-use Rattle.devices.specs.declared.fault.ToolFault.TheVariants.{ReadFault, WriteFault, OutOfMemory}
+use Rattle.runs.specs.declared.tool_fault.ToolFault.{ToolFault}
+use Rattle.runs.specs.declared.tool_fault.ToolFault.TheVariants.{ReadFault, WriteFault, OutOfMemory}
 use Rattle.envsubst.specs.Envsubst.{EndsAs, HasGoneOut, StopsWithin, StopsAtEnd}
 use Rattle.envsubst.specs.EnvsubstLaw.{Took, TookAll, TookAllRead, TookBeginning, TookBeginningOfRead}
 use Rattle.envsubst.specs.Replacing.{Replaces}

@@ -4,9 +4,9 @@ use Rattle.std.proofs.KnownBytes.{Appends-nil, Appends-trans, Consumes-nil, Cons
 use Rattle.std.proofs.Math.Seq.{take-add, take-append-add}
 use Rattle.std.proofs.lemmas.List.{take_all}
 use Rattle.std.specs.Io.KnownBytes.{Appends, Consumes, Keeps, IsAtEnd}
-use Rattle.devices.specs.declared.fault.ToolFault.{ToolFault}
-use Rattle.devices.specs.declared.fault.ToolFault.TheVariants.{ReadFault, WriteFault, OutOfMemory}
-use Rattle.devices.specs.Device.{AppendsPrefix}
+use Rattle.runs.specs.declared.tool_fault.ToolFault.{ToolFault}
+use Rattle.runs.specs.declared.tool_fault.ToolFault.TheVariants.{ReadFault, WriteFault, OutOfMemory}
+use Rattle.runs.specs.Device.{AppendsPrefix}
 use Rattle.envsubst.specs.Envsubst.{EndsAs, HasGoneOut, Substitutes, StopsAtEnd, StopsWithin}
 use Rattle.envsubst.specs.Stream.{Advances, Stops}
 use Rattle.envsubst.specs.Substitution.{Values, values_of, substitution}

@@ -1,9 +1,9 @@
 -- What a run of envsubst comes to, by its arguments ("Invoking the envsubst program" of the GNU gettext manual).
 use Rattle.std.specs.Prelude.{◌≡◌, ℕ, List, Option, option_map, Result, Ok, Err}
 use Rattle.std.specs.Io.KnownBytes.{Appends}
-use Rattle.devices.specs.declared.fault.ToolFault.{ToolFault}
-use Rattle.devices.specs.declared.fault.ToolFault.TheVariants.{ReadFault, WriteFault, OutOfMemory}
-use Rattle.devices.specs.Device.{AppendsPrefix}
+use Rattle.runs.specs.declared.tool_fault.ToolFault.{ToolFault}
+use Rattle.runs.specs.declared.tool_fault.ToolFault.TheVariants.{ReadFault, WriteFault, OutOfMemory}
+use Rattle.runs.specs.Device.{AppendsPrefix}
 use Rattle.envsubst.specs.Envsubst.{EndsAs}
 use Rattle.envsubst.specs.References.{names_in, name_lines}
 use Rattle.envsubst.specs.Substitution.{values_of}

@@ -2,9 +2,9 @@
 -- gettext manual).
 use Rattle.std.specs.Prelude.{◌⊎◌, ◌≤◌, ℕ, List, length, Option, IfSome, Result, Ok, Err}
 use Rattle.std.specs.Io.KnownBytes.{Appends, Consumes}
-use Rattle.devices.specs.declared.fault.ToolFault.{ToolFault}
-use Rattle.devices.specs.declared.fault.ToolFault.TheVariants.{ReadFault, WriteFault, OutOfMemory}
-use Rattle.devices.specs.Device.{AppendsPrefix}
+use Rattle.runs.specs.declared.tool_fault.ToolFault.{ToolFault}
+use Rattle.runs.specs.declared.tool_fault.ToolFault.TheVariants.{ReadFault, WriteFault, OutOfMemory}
+use Rattle.runs.specs.Device.{AppendsPrefix}
 use Rattle.envsubst.specs.Substitution.{Values, substitution}
 use Rattle.envsubst.specs.Stream.{Advances, Stops}
 

@@ -1,7 +1,7 @@
 -- How often a run's reader and its writer failed, by the result of the run (this project's own).
 use Rattle.std.specs.Prelude.{◌≡◌, ◌⊎◌, ◌+◌, ◌^◌, ℕ, Result, Err, IsErrOf}
-use Rattle.devices.specs.declared.fault.ToolFault.{ToolFault}
-use Rattle.devices.specs.declared.fault.ToolFault.TheVariants.{ReadFault, WriteFault}
+use Rattle.runs.specs.declared.tool_fault.ToolFault.{ToolFault}
+use Rattle.runs.specs.declared.tool_fault.ToolFault.TheVariants.{ReadFault, WriteFault}
 
 -- one failure of the reader where the run ends with a read fault, and none where it doesn't
 abbrev pub read_failures : {T : Type 0} → Result T ToolFault → ℕ

@@ -10,7 +10,7 @@ use crate::arguments::EnvsubstArguments;
 use crate::reference::{name_lines, names};
 use crate::variable::variables_in;
 use crate::whole_input::run_envsubst_in_blocks;
-use devices::{ByteIn, ByteOut, ToolFault, put_all};
+use runs::{ByteIn, ByteOut, ToolFault, put_all};
 use std::alloc::{AllocError, Global};
 
 /// Where the entries of an environment are read from.

@@ -7,7 +7,7 @@ ghost use Rattle.envsubst.specs.References.{names_in};
 ghost use Rattle.envsubst.specs.Replacing.{HasValue, HoldsNames, IsReplaced, Replaces};
 ghost use Rattle.envsubst.specs.Stream.{FeedCallsAgree};
 ghost use Rattle.envsubst.specs.Substitution.{Values, substitution, values_of};
-ghost use Rattle.devices.specs.declared.fault.ToolFault.{ToolFault};
+ghost use Rattle.runs.specs.declared.tool_fault.ToolFault.{ToolFault};
 
 /// However a text is cut into pieces, the calls that take them write, together with what is still
 /// held back, what the whole text becomes.

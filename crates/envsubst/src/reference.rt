@@ -4,8 +4,8 @@ ghost use Rattle.std.specs.Option.{option_map};
 ghost use Rattle.std.specs.List.{cons_option};
 ghost use Rattle.envsubst.specs.References as spec;
 
-use devices::ToolFault;
 use locale_names::len_before;
+use runs::ToolFault;
 use std::alloc::Global;
 
 /// How many bytes a name has at most.

@@ -2,7 +2,7 @@
 //! gettext manual).
 ghost use Rattle.std.specs.Prelude.{◌≡◌, ◌+◌, ◌-◌, ◌*◌, ◌^◌, ◌<◌, ◌≤◌, min, true, false, [], ◌++◌, drop, length, if◌then◌else◌, is_err, IsErr, IfOk, OnOk, OnErr, Err};
 ghost use Rattle.std.specs.Io.KnownBytes.{Appends, Keeps};
-ghost use Rattle.devices.specs.Device.{AppendsPrefix};
+ghost use Rattle.runs.specs.Device.{AppendsPrefix};
 ghost use Rattle.envsubst.specs.PendingReference.{is_undecided};
 ghost use Rattle.envsubst.specs.Internal.Sorted.{values_of_replacements};
 ghost use Rattle.envsubst.specs.Stream.{Advances, Stops};
@@ -12,7 +12,7 @@ ghost use Rattle.envsubst.specs.Substitution.{substitution, pairs_in, names_give
 use crate::holding::{Step, ending, next_step};
 use crate::replacements::Replacements;
 use arrayvec::ArrayVec;
-use devices::{ByteOut, ToolFault, put_all};
+use runs::{ByteOut, ToolFault, put_all};
 use std::marker::Model;
 
 /// Room for `${` and the longest name.

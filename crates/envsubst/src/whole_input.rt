@@ -8,7 +8,7 @@ ghost use Rattle.envsubst.specs.Substitution.{values_of_slices};
 
 use crate::sorted::{sorted_names, sorted_variables};
 use crate::substituter::Substituter;
-use devices::{ByteIn, ByteOut, Counted, ToolFault, put_all};
+use runs::{ByteIn, ByteOut, Counted, ToolFault, put_all};
 use std::alloc::Global;
 
 /// How often a run calls its reader at most, once for each piece: 4,294,967,296 times.

@@ -5,8 +5,8 @@ ghost use Rattle.std.specs.Option.{option_map};
 ghost use Rattle.locale_names.specs.Candidate.{text_of};
 ghost use Rattle.gettext.specs.Locales as spec;
 
-use devices::ToolFault;
 use locale_names::{Candidate, Candidates};
+use runs::ToolFault;
 use std::alloc::{AllocError, Global};
 use std::collections::BTreeSet;
 

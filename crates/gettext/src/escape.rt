@@ -3,8 +3,8 @@
 ghost use Rattle.std.specs.Prelude.{◌≡◌, ◌≤◌, length, IfSome, IfOk, OnErr, Err};
 ghost use Rattle.gettext.specs.Escapes as spec;
 
-use devices::ToolFault;
 use locale_names::len_before;
+use runs::ToolFault;
 use std::alloc::Global;
 
 /// A text with its escapes expanded.

@@ -6,8 +6,8 @@ ghost use Rattle.gettext.specs.Locales.{candidates_of};
 ghost use Rattle.gettext.specs.Paths.{folder_of, path_of, paths_of};
 
 use crate::candidates::{Environment, candidate_names, non_empty};
-use devices::ToolFault;
 use locale_names::is_path_part;
+use runs::ToolFault;
 use std::alloc::{AllocError, Global};
 
 /// The folder that the catalogues lie below where TEXTDOMAINDIR is unset or empty.

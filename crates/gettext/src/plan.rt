@@ -16,10 +16,9 @@ ghost use Rattle.gettext.specs.Internal.OpensFile.{OpensFile};
 use crate::catalogues::bytes_of;
 use crate::count::count_of;
 use crate::escape::{Expanded, expand};
-use devices::ToolFault;
 use mo_file::{Meter, MoError};
 use mo_lookup::{Catalog, Chain};
-use runs::{Run, push_location, push_mo_text};
+use runs::{Run, ToolFault, push_location, push_mo_text};
 use std::alloc::{AllocError, Global};
 
 /// What `gettext` is asked for, as its arguments were given.

@@ -8,8 +8,7 @@ ghost use Rattle.gettext.specs.WholeRun.{RunsLookUp};
 use crate::catalogues::{borrowed_catalogues, find_catalogues};
 use crate::environment::VariableSource;
 use crate::plan::{GettextOptions, NgettextOptions, plan_gettext, plan_ngettext};
-use devices::ByteOut;
-use runs::{InputSource, OutputFiles, OutputSystem, ProgramFault, STANDARD};
+use runs::{ByteOut, InputSource, OutputFiles, OutputSystem, ProgramFault, STANDARD};
 use std::alloc::Global;
 
 /// Runs `gettext`: reads the catalogues of the text domain that an argument or the option `-d` gives,

@@ -4,9 +4,8 @@ ghost use Rattle.msgattrib.specs.Msgattrib.{IsMsgattribRun};
 ghost use Rattle.runs.specs.Run.{run_view};
 
 use crate::selected_text::selected_text;
-use devices::ToolFault;
 use po_select::Selection;
-use runs::Run;
+use runs::{Run, ToolFault};
 use std::alloc::Global;
 use text_runs::{refused_text, text_run};
 

@@ -6,9 +6,8 @@ ghost use Rattle.runs.specs.Run.{is_standard};
 ghost use Rattle.runs.specs.ToolRuns.{RunsInput};
 
 use crate::plan::plan_msgattrib;
-use devices::ByteOut;
 use po_select::Selection;
-use runs::{InputSource, OutputFiles, OutputSystem, ProgramFault, read_one, shown_name};
+use runs::{ByteOut, InputSource, OutputFiles, OutputSystem, ProgramFault, read_one, shown_name};
 use std::alloc::Global;
 
 /// Runs `msgattrib`: reads the input of its argument, plans as `plan_msgattrib` does, and writes the run.

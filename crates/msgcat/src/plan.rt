@@ -8,9 +8,8 @@ ghost use Rattle.runs.specs.Run.{run_view};
 
 use crate::inputs::read_inputs;
 use crate::merged_text::merged_text;
-use devices::ToolFault;
 use po_merge::MergeOptions;
-use runs::{ProgramFault, Run};
+use runs::{ProgramFault, Run, ToolFault};
 use std::alloc::Global;
 use text_runs::{refused_text, text_run};
 

@@ -4,9 +4,8 @@ ghost use Rattle.msgcat.specs.WholeRun.{RunsMsgcat};
 ghost use Rattle.runs.specs.Inputs.{AsksFirst, asked_by};
 
 use crate::plan_inputs::plan_msgcat_of;
-use devices::ByteOut;
 use po_merge::MergeOptions;
-use runs::{InputSource, Inputs, OutputFiles, OutputSystem, ProgramFault};
+use runs::{ByteOut, InputSource, Inputs, OutputFiles, OutputSystem, ProgramFault};
 use std::alloc::Global;
 
 /// Runs `msgcat`: reads the inputs of its arguments in their order, plans as `plan_msgcat_of` does, and

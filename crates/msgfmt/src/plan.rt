@@ -9,9 +9,8 @@ ghost use Rattle.runs.specs.Run.{run_view};
 use crate::check::checked;
 use crate::fault_lines::{failed_check_run, refused_run};
 use crate::options::MsgfmtOptions;
-use devices::ToolFault;
 use po_compile::{Collected, Compiled, Options, collect_all, compile_collected};
-use runs::Run;
+use runs::{Run, ToolFault};
 use std::alloc::{AllocError, Global};
 
 /// The texts of the inputs.

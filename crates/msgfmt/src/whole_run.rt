@@ -5,8 +5,7 @@ ghost use Rattle.runs.specs.Inputs.{AsksFirst, asked_by};
 
 use crate::options::MsgfmtOptions;
 use crate::plan_inputs::plan_msgfmt_of;
-use devices::ByteOut;
-use runs::{InputSource, Inputs, OutputFiles, OutputSystem, ProgramFault};
+use runs::{ByteOut, InputSource, Inputs, OutputFiles, OutputSystem, ProgramFault};
 use std::alloc::Global;
 
 /// Runs `msgfmt`: reads the inputs of its arguments in their order, plans as `plan_msgfmt_of` does, and

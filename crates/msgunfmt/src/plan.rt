@@ -4,10 +4,9 @@ ghost use Rattle.po_unformat.specs.UnformattedText.{IsUnformatted};
 ghost use Rattle.msgunfmt.specs.Msgunfmt.{IsMsgunfmtRun, unformat_line, unformat_text, unformatted_run};
 ghost use Rattle.runs.specs.Run.{refusal, run_view};
 
-use devices::ToolFault;
 use po_unformat::laws::empty_text;
 use po_unformat::{UnformatError, unformat};
-use runs::{Run, push_location, push_mo_text, push_numbered, refused};
+use runs::{Run, ToolFault, push_location, push_mo_text, push_numbered, refused};
 use std::alloc::{AllocError, Global};
 
 /// Appends why a file has no PO text.

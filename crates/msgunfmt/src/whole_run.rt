@@ -6,8 +6,7 @@ ghost use Rattle.runs.specs.Run.{is_standard};
 ghost use Rattle.runs.specs.ToolRuns.{RunsInput};
 
 use crate::plan::plan_msgunfmt;
-use devices::ByteOut;
-use runs::{InputSource, OutputFiles, OutputSystem, ProgramFault, read_one, shown_name};
+use runs::{ByteOut, InputSource, OutputFiles, OutputSystem, ProgramFault, read_one, shown_name};
 use std::alloc::Global;
 
 /// Runs `msgunfmt`: reads the input of its argument, plans as `plan_msgunfmt` does, and writes the run.

@@ -1,13 +1,9 @@
 //! What stands below the tools for the shell, under one name: readers and writers that count their
-//! failures (`devices`); locales, the paths of their catalogues, escapes and counts (`gettext`); and
+//! failures (`runs`); locales, the paths of their catalogues, escapes and counts (`gettext`); and
 //! the substitution of variables (`envsubst`).
 
 #![tactic(auto)]
 
-pub use devices::{
-    ByteIn, ByteOut, Counted, Failing, INPUT_LIMIT, ToolFault, put_all, read_input,
-    read_sized_input,
-};
 pub use envsubst::{
     LONGEST_NAME, MOST_READS, Substituter, name_and_value, name_lines, names, run_envsubst,
     run_envsubst_in_blocks, variables_in,
@@ -15,4 +11,8 @@ pub use envsubst::{
 pub use gettext::{
     DEFAULT_FOLDER, Environment, Expanded, OTHER_COUNT, OwnedEnvironment, VariableSource,
     catalogue_path, catalogue_paths, count_of, expand, locale_candidates,
+};
+pub use runs::{
+    ByteIn, ByteOut, Counted, Failing, INPUT_LIMIT, ToolFault, put_all, read_input,
+    read_sized_input,
 };

@@ -9,7 +9,7 @@ use Rattle.msgunfmt.specs.Msgunfmt.{IsMsgunfmtRun}
 use Rattle.msgfmt.specs.Options.{AreMsgfmtOptions, default_output}
 use Rattle.po_merge.specs.declared.input.MergeOptions.{MergeOptions}
 use Rattle.po_select.specs.declared.selection.Selection.{Selection}
-use Rattle.devices.specs.declared.fault.ToolFault.{ToolFault}
+use Rattle.runs.specs.declared.tool_fault.ToolFault.{ToolFault}
 use Rattle.msgattrib.specs.Msgattrib.{IsMsgattribRun}
 use Rattle.msgcat.specs.WholeRun.{RunsMsgcat}
 use Rattle.msgattrib.specs.Options.{IsSelection}
@@ -27,8 +27,8 @@ use Rattle.gettext.specs.Usage.{GettextUsage, NgettextUsage, gettext_usage, nget
 use Rattle.runs.specs.ProgramFaults.{program_text, stdin_text}
 use Rattle.runs.specs.Run.{RunView, is_standard}
 use Rattle.runs.specs.ToolRuns.{RunsInput}
-use Rattle.tool_names.specs.declared.tool.Tool.{Tool}
-use Rattle.tool_names.specs.declared.tool.Tool.TheVariants.{Msgfmt, Msgunfmt, Msgattrib, Msgcat, Gettext, Ngettext, Envsubst}
+use Rattle.runs.specs.declared.tool.Tool.{Tool}
+use Rattle.runs.specs.declared.tool.Tool.TheVariants.{Msgfmt, Msgunfmt, Msgattrib, Msgcat, Gettext, Ngettext, Envsubst}
 
 -- what the options and arguments of a command line may be, by their names
 pub record CommandLine : Type 1 where

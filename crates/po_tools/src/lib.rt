@@ -41,8 +41,7 @@ pub use run_laws::{
 };
 pub use runs::{
     Arguments, FileKind, Input, InputFault, InputSource, Inputs, MakeFault, OutputFault,
-    OutputFiles, Owner, ProgramFault, Rights, Run, STANDARD, STDIN_NAME, deliver, read_one,
+    OutputFiles, Owner, ProgramFault, Rights, Run, STANDARD, STDIN_NAME, Tool, deliver, read_one,
     read_whole, report_fault, shown_name, write_run,
 };
-pub use tool_names::Tool;
 pub use tool_run::run;

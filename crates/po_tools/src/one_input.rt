@@ -6,12 +6,11 @@ ghost use Rattle.msgunfmt.specs.Msgunfmt.{IsMsgunfmtRunOf};
 ghost use Rattle.msgattrib.specs.Msgattrib.{IsMsgattribRun};
 ghost use Rattle.runs.specs.Delivered.{IsCut, IsDelivered};
 
-use devices::{ByteIn, ByteOut, ToolFault, read_input};
 use msgattrib::plan_msgattrib;
 use msgfmt::{MsgfmtOptions, plan_msgfmt};
 use msgunfmt::plan_msgunfmt;
 use po_select::Selection;
-use runs::deliver;
+use runs::{ByteIn, ByteOut, ToolFault, deliver, read_input};
 use std::alloc::Global;
 
 /// Reads one input, plans as `plan_msgfmt` does with this name, and writes the run: its output and

@@ -2,7 +2,6 @@
 ghost use Rattle.std.specs.Prelude.{◌^◌, ◌<◌};
 ghost use Rattle.po_tools.specs.ToolRun.{ReaderView, RunsEnvsubstLine, RunsGettextLine, RunsNgettextLine, RunsTool, answers_of, line_of, reached, reader_of};
 
-use devices::{ByteIn, ByteOut};
 use envsubst::{EntrySource, EnvsubstArguments, envsubst};
 use gettext::{
     GettextArguments, NgettextArguments, VariableSource, gettext_options_of, ngettext_options_of,
@@ -12,10 +11,10 @@ use msgattrib::selection_of;
 use msgcat::merge_options_of;
 use msgfmt::{msgfmt_options_of, msgfmt_output_of};
 use runs::{
-    Arguments, InputSource, OutputFiles, OutputSystem, ProgramFault, input_of, inputs_of, output_of,
+    Arguments, ByteIn, ByteOut, InputSource, OutputFiles, OutputSystem, ProgramFault, Tool,
+    input_of, inputs_of, output_of,
 };
 use std::alloc::Global;
-use tool_names::Tool;
 
 /// Runs a tool by what its command line gives, and returns its status: the inputs are those of `source`,
 /// `reader` is standard input where it is read in blocks, and all output goes to `system`.

@@ -1,10 +1,9 @@
 //! Inputs by their names, and outputs.
 ghost use Rattle.std.specs.Prelude.{◌≡◌};
 
-use devices::Counted;
 use runs::{
-    FileKind, InputFault, InputSource, MakeFault, OutputFault, OutputFiles, OutputSystem, Owner,
-    Rights, read_whole,
+    Counted, FileKind, InputFault, InputSource, MakeFault, OutputFault, OutputFiles, OutputSystem,
+    Owner, Rights, read_whole,
 };
 use std::alloc::Global;
 use std::fs::{self, File, Metadata, OpenFile, OpenOptions, Permissions};
@@ -96,7 +95,7 @@ pub(crate) struct SystemFiles<'r> {
 // No contract can say what a file of the system holds, so the log of the calls isn't known.
 impl<'r> OutputFiles for SystemFiles<'r> {
     ghost use Rattle.std.specs.Prelude.{◌≡◌, ◌∷◌, [], None};
-    ghost use Rattle.devices.specs.Counted.{counted_failures};
+    ghost use Rattle.runs.specs.Counted.{counted_failures};
     ghost use Rattle.runs.specs.FileCalls.{closes, logged};
 
     type File = Opened;

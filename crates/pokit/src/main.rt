@@ -14,10 +14,9 @@ mod streams;
 use clap::ArgMatches;
 use clap::error::ErrorKind;
 use command_line::Tool;
-use devices::Counted;
 use files::{System, outputs};
 use options::Options;
-use runs::{Ending, ProgramFault};
+use runs::{Counted, Ending, ProgramFault};
 use std::alloc::{AllocError, Global};
 use std::process::ExitCode;
 

@@ -1,3 +1,4 @@
+pub mod DeviceLemmas
 pub mod InputLemmas
 pub mod OutputLemmas
 mod NewPaths

@@ -1,8 +1,8 @@
 -- How the calls of a function join to those of its caller.
 use Rattle.std.proofs.Common.{◌≡◌, ◌+◌, ◌<◌, ◌^◌, true, false, ℕ, List, [], ◌∷◌, ◌++◌, Option, Some, None, Result, Ok, Err, OnOk, OnErr, is_ok, refl, sym, ap, ◌∙◌, subst, append_assoc, append-nil}
 use Rattle.std.specs.Io.KnownBytes.{Appends}
-use Rattle.devices.specs.Device.{AppendsPrefix}
-use Rattle.devices.specs.declared.fault.ToolFault.{ToolFault}
+use Rattle.runs.specs.Device.{AppendsPrefix}
+use Rattle.runs.specs.declared.tool_fault.ToolFault.{ToolFault}
 use Rattle.runs.specs.declared.output_files.OutputFault.{OutputFault}
 use Rattle.runs.specs.declared.output_files.FileKind.TheVariants.{Regular}
 use Rattle.runs.specs.declared.output_files.MakeFault.{MakeFault}

@@ -1,3 +1,7 @@
+pub mod Tools
+pub mod Device
+pub mod Counted
+pub mod Failing
 pub mod Run
 pub mod ProgramFaults
 pub mod FaultText

@@ -1,7 +1,7 @@
 -- Where a run is written: to its output file, or to standard output, and then to standard error.
 use Rattle.std.specs.Prelude.{◌≡◌, ◌+◌, ◌++◌, ℕ, List, Option, Some, None, codes}
 use Rattle.std.specs.Io.KnownBytes.{Appends}
-use Rattle.devices.specs.Device.{AppendsPrefix}
+use Rattle.runs.specs.Device.{AppendsPrefix}
 use Rattle.runs.specs.declared.output_files.OutputFault.{OutputFault}
 use Rattle.runs.specs.declared.output_files.OutputFault.TheVariants.{CannotCreate, WriteFault, OutOfMemory}
 use Rattle.runs.specs.FileCalls.{FileLog, Runs}

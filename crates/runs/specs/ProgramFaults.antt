@@ -2,9 +2,9 @@
 -- words, since the manual leaves them open.
 use Rattle.std.specs.Prelude.{ℕ, List, [], ◌∷◌, ◌++◌, Option, Some, None, codes}
 use Rattle.std.specs.Borrow.{Bor}
-use Rattle.devices.specs.declared.fault.ToolFault.{ToolFault}
-use Rattle.devices.specs.declared.fault.ToolFault.TheVariants.{ReadFault as NotRead, WriteFault as NotWritten}
-use Rattle.devices.specs.declared.fault.ToolFault.TheVariants.{OutOfMemory as NoMemory}
+use Rattle.runs.specs.declared.tool_fault.ToolFault.{ToolFault}
+use Rattle.runs.specs.declared.tool_fault.ToolFault.TheVariants.{ReadFault as NotRead, WriteFault as NotWritten}
+use Rattle.runs.specs.declared.tool_fault.ToolFault.TheVariants.{OutOfMemory as NoMemory}
 use Rattle.runs.specs.declared.program_fault.ProgramFault.{ProgramFault}
 use Rattle.runs.specs.declared.program_fault.ProgramFault.TheVariants.{NotText, WrongArguments, CannotOpen}
 use Rattle.runs.specs.declared.program_fault.ProgramFault.TheVariants.{CannotCreate, ReadFault, WriteFault}

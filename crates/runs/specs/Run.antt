@@ -3,7 +3,7 @@
 use Rattle.std.specs.Prelude.{ℕ, Bool, not, ◌&&◌, if◌then◌else◌, List, [], false, Option, Some, None, codes, ◌⊎◌}
 use Rattle.std.specs.Io.KnownBytes.{Appends, Keeps}
 use Rattle.std.specs.Str.{bytes_eq}
-use Rattle.devices.specs.Device.{AppendsPrefix}
+use Rattle.runs.specs.Device.{AppendsPrefix}
 use Rattle.runs.specs.declared.run.Run.{Run}
 
 -- What contracts see of a run: the bytes of its output, whether a file is made of them, what it

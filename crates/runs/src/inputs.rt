@@ -6,9 +6,11 @@ ghost use Rattle.runs.specs.NamedFile.{named_files};
 ghost use Rattle.runs.specs.ProgramFaults.{program_text};
 ghost use Rattle.runs.specs.Run.{is_standard, shown_name};
 
+use crate::device::ByteIn;
 use crate::program_fault::ProgramFault;
 use crate::run::{STANDARD, shown_name};
-use devices::{ByteIn, ToolFault, read_sized_input};
+use crate::tool_fault::ToolFault;
+use crate::whole_input::read_sized_input;
 use std::alloc::{AllocError, Global};
 
 /// Why an input isn't read.

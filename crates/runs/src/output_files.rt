@@ -2,7 +2,7 @@
 ghost use Rattle.std.specs.Prelude.{◌≡◌, []};
 ghost use Rattle.runs.specs.FileCalls.{logged};
 
-use devices::Counted;
+use crate::device::Counted;
 use std::alloc::Global;
 use std::io::Write;
 
@@ -63,7 +63,7 @@ pub enum OutputFault {
 pub trait OutputFiles {
     ghost use Rattle.std.specs.Prelude.{◌∷◌, MatchResult, MatchOption, option_map};
     ghost use Rattle.std.specs.String.{string_bytes};
-    ghost use Rattle.devices.specs.Counted.{counted_failures, counted_inner};
+    ghost use Rattle.runs.specs.Counted.{counted_failures, counted_inner};
     ghost use Rattle.runs.specs.FileCalls.{FileLog, asks, reads_link, fails_to_read_link, numbers, makes, fails_to_make, sets_owner, sets_mode, opens, fails_to_open, takes_stream, lacks_stream, closes, renames, removes};
 
     /// A file or a stream that is open to be written.

@@ -3,11 +3,11 @@ ghost use Rattle.std.specs.Prelude.{◌^◌, ◌<◌};
 ghost use Rattle.runs.specs.Run.{run_view};
 ghost use Rattle.runs.specs.ToolRuns.{Writes};
 
+use crate::device::ByteOut;
 use crate::output_files::OutputFiles;
 use crate::outputs::write_run;
 use crate::program_fault::ProgramFault;
 use crate::run::Run;
-use devices::ByteOut;
 use std::alloc::Global;
 use std::marker::Model;
 

@@ -2,10 +2,11 @@
 ghost use Rattle.runs.specs.FileCalls.{Call, Runs, fault_in};
 ghost use Rattle.runs.specs.OutputFiles.{Closes, Fills, Finishes, Puts, Replaces, WritesFile, WritesInPlace, WritesStream};
 
+use crate::delivery::put_all;
+use crate::device::Counted;
 use crate::output_files::{FileKind, MakeFault, OutputFault, OutputFiles, Rights};
 use crate::output_paths::{beside, link_target, stream_named};
 use crate::output_rights::{first_mode, kept_mode};
-use devices::{Counted, put_all};
 use std::alloc::Global;
 
 /// How many further names are tried for a new file, where one is taken.

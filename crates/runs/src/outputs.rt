@@ -5,11 +5,12 @@ ghost use Rattle.runs.specs.Outputs.{IsOutputFault, MakesFile, WriterView, Write
 ghost use Rattle.runs.specs.ProgramFaults.{program_text};
 ghost use Rattle.runs.specs.Run.{run_view, output_file};
 
+use crate::delivery::put_all;
+use crate::device::ByteOut;
 use crate::output_files::{OutputFault, OutputFiles};
 use crate::output_writing::write_file;
 use crate::program_fault::ProgramFault;
 use crate::run::{Run, deliver};
-use devices::{ByteOut, put_all};
 use std::alloc::Global;
 
 /// How many links are followed at most from the argument for an output file.

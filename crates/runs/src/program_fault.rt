@@ -2,13 +2,15 @@
 ghost use Rattle.std.specs.Prelude.{◌≡◌, ◌+◌, ◌^◌, ◌<◌, ◌≤◌, ◌++◌, length, IfOk, OnOk, OnErr, Err};
 ghost use Rattle.std.specs.Io.KnownBytes.{Appends};
 ghost use Rattle.std.specs.Option.{option_copied};
-ghost use Rattle.devices.specs.Device.{GivesFirst};
+ghost use Rattle.runs.specs.Device.{GivesFirst};
 ghost use Rattle.runs.specs.ProgramFaults.{input_fault, program_line, program_text, stdin_text, tool_prefix};
 ghost use Rattle.runs.specs.declared.program_fault.ProgramFault.TheVariants.{OutOfMemory};
 
+use crate::delivery::put_all;
+use crate::device::ByteOut;
 use crate::run::STDIN_NAME;
+use crate::tool_fault::ToolFault;
 use arrayvec::{ArrayVec, CapacityError};
-use devices::{ByteOut, ToolFault, put_all};
 use std::alloc::{AllocError, AllocFailed};
 use thiserror::Error;
 

@@ -4,7 +4,9 @@ ghost use Rattle.std.specs.Io.KnownBytes.{Appends};
 ghost use Rattle.std.specs.Option.{option_copied};
 ghost use Rattle.runs.specs.Run.{run_view, output_file, refusal, shown_name, DeliversPrefix};
 
-use devices::{ByteOut, ToolFault, put_all};
+use crate::delivery::put_all;
+use crate::device::ByteOut;
+use crate::tool_fault::ToolFault;
 use std::alloc::Global;
 
 /// The argument for standard input among the inputs, and for standard output.

@@ -1,6 +1,6 @@
 //! A system in memory: inputs that fail at a call, a file, and standard streams that fail at a call.
 ghost use Rattle.std.specs.Prelude.{◌≡◌, ◌∷◌, [], None};
-ghost use Rattle.devices.specs.Counted.{counted_failures};
+ghost use Rattle.runs.specs.Counted.{counted_failures};
 ghost use Rattle.runs.specs.FileCalls.{closes, logged};
 
 use po_shell::{Counted, Failing};

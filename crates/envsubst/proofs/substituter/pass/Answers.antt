@@ -1,6 +1,6 @@
 use Rattle.std.proofs.Common.{◌≤◌, ◌-◌, length, take, drop, ◌∙◌, length-drop, arith}
 use Rattle.std.proofs.lemmas.List.{take_rest}
-use Rattle.devices.proofs.DeviceLemmas.{on-err}
+use Rattle.runs.proofs.DeviceLemmas.{on-err}
 use Rattle.envsubst.proofs.StreamLemmas.{pass-advances, pass-stops}
 use Rattle.envsubst.proofs.substituter.pass.Goals as goal
 

@@ -1,5 +1,5 @@
 use Rattle.std.proofs.Common.{◌+◌, arith, ◌∙◌}
-use Rattle.devices.proofs.DeviceLemmas.{on-err}
+use Rattle.runs.proofs.DeviceLemmas.{on-err}
 use Rattle.envsubst.proofs.EnvsubstLemmas.{Gathers-out, Gathers-part, Gathers-piece, Gathers-stopped, none-out, same-values}
 use Rattle.envsubst.proofs.whole_input.feed_in_blocks.Goals as goal
 

@@ -1,6 +1,6 @@
 use Rattle.std.proofs.Common.{◌<◌, length, lit≤, inl, inr, refl, ◌∙◌, arith}
 use Rattle.std.proofs.KnownBytes.{Keeps-refl}
-use Rattle.devices.proofs.DeviceLemmas.{at-err}
+use Rattle.runs.proofs.DeviceLemmas.{at-err}
 use Rattle.envsubst.proofs.EnvsubstLemmas.{fed-none, fed-more, fed-read_fault, fed-write_fault, fed-end_fault, same-values}
 use Rattle.envsubst.proofs.whole_input.run_envsubst.Goals as goal
 

@@ -1,8 +1,8 @@
 -- The tools that the program has, by their names.
 use Rattle.std.specs.Prelude.{ℕ, List, [], ◌∷◌, codes}
-use Rattle.tool_names.specs.declared.tool.Tool.{Tool}
-use Rattle.tool_names.specs.declared.tool.Tool.TheVariants.{Msgfmt, Msgunfmt, Msgattrib, Msgcat, Gettext, Ngettext}
-use Rattle.tool_names.specs.declared.tool.Tool.TheVariants.{Envsubst}
+use Rattle.runs.specs.declared.tool.Tool.{Tool}
+use Rattle.runs.specs.declared.tool.Tool.TheVariants.{Msgfmt, Msgunfmt, Msgattrib, Msgcat, Gettext, Ngettext}
+use Rattle.runs.specs.declared.tool.Tool.TheVariants.{Envsubst}
 
 abbrev pub tool_name : Tool → List ℕ
 tool_name Msgfmt = codes "msgfmt"

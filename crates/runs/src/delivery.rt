@@ -1,10 +1,10 @@
 //! Writing a whole piece.
 ghost use Rattle.std.specs.Prelude.{◌≡◌, ◌≢◌, [], ◌+◌, ◌-◌, ◌^◌, ◌<◌, OnOk, OnErr, Err};
 ghost use Rattle.std.specs.Io.KnownBytes.{Appends};
-ghost use Rattle.devices.specs.Device.{AppendsPrefix, GivesFirst};
+ghost use Rattle.runs.specs.Device.{AppendsPrefix, GivesFirst};
 
 use crate::device::ByteOut;
-use crate::fault::ToolFault;
+use crate::tool_fault::ToolFault;
 
 /// Writes all of `piece`, in as many calls as the writer wants. A `WriteFault` comes where a call
 /// failed, or took no byte, and then a prefix of `piece` has gone out.

@@ -1,7 +1,7 @@
 use Rattle.std.proofs.Common.{◌≤◌, length, rules, arith, length-take-le}
 use Rattle.std.proofs.lemmas.List.{places}
-use Rattle.devices.proofs.DeviceLemmas.{filled-end, filled-more, taken-full}
-use Rattle.devices.proofs.input.read_sized_input.Goals as goal
+use Rattle.runs.proofs.DeviceLemmas.{filled-end, filled-more, taken-full}
+use Rattle.runs.proofs.whole_input.read_sized_input.Goals as goal
 
 pub returns-in-Ok-eq0-clause-input : goal.returns-in-Ok-eq0-clause-input
 returns-in-Ok-eq0-clause-input g c =

@@ -1,6 +1,6 @@
 //! The faults of a tool's surroundings: of its reader, its writers and the allocator.
 ghost use Rattle.std.specs.Prelude.{◌≡◌};
-ghost use Rattle.devices.specs.declared.fault.ToolFault.TheVariants.{OutOfMemory};
+ghost use Rattle.runs.specs.declared.tool_fault.ToolFault.TheVariants.{OutOfMemory};
 
 use std::alloc::{AllocError, AllocFailed};
 use thiserror::Error;

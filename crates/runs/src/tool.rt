@@ -1,7 +1,7 @@
 //! A tool, and its name.
 ghost use Rattle.std.specs.Prelude.{◌≡◌, ◌≢◌, MatchOption};
-ghost use Rattle.tool_names.specs.Tools.{tool_name};
-ghost use Rattle.tool_names.specs.declared.tool.Tool.{Tool as ATool};
+ghost use Rattle.runs.specs.Tools.{tool_name};
+ghost use Rattle.runs.specs.declared.tool.Tool.{Tool as ATool};
 
 /// A tool of the program.
 #[derive(Clone, Copy, Debug, PartialEq, Eq)]

@@ -1,8 +1,8 @@
 use Rattle.std.proofs.Common.{◌≡◌, ◌≤◌, ◌-◌, length, take, drop, ap, arith, length-drop}
 use Rattle.std.proofs.lemmas.Bool.Decides.{nat_tests}
 use Rattle.std.proofs.lemmas.List.{take_rest}
-use Rattle.devices.proofs.DeviceLemmas.{Appends-rest, Gives-next}
-use Rattle.devices.proofs.delivery.put_all.Goals as goal
+use Rattle.runs.proofs.DeviceLemmas.{Appends-rest, Gives-next}
+use Rattle.runs.proofs.delivery.put_all.Goals as goal
 
 pub loop-at-preserved : goal.loop-at-preserved
 loop-at-preserved g c =

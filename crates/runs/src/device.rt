@@ -3,8 +3,8 @@ ghost use Rattle.std.specs.Prelude.{◌≡◌, ℕ, ◌+◌, ◌-◌, ◌^◌, �
 ghost use Rattle.std.specs.Prelude.{None, Option};
 ghost use Rattle.std.specs.Io.{ReadsAtMost, WritesAtMost};
 ghost use Rattle.std.specs.Io.KnownBytes.{ReadConsumes, WriteAppends};
-ghost use Rattle.devices.specs.Device.{Gives, failure_of_read, failure_of_write};
-ghost use Rattle.devices.specs.Counted.{counted_inner, counted_calls, counted_failures};
+ghost use Rattle.runs.specs.Device.{Gives, failure_of_read, failure_of_write};
+ghost use Rattle.runs.specs.Counted.{counted_inner, counted_calls, counted_failures};
 
 use std::io::{self, Read, Write};
 

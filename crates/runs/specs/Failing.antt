@@ -1,7 +1,7 @@
 -- What clauses see of a `Failing`: the device below, how many calls come before the one that fails,
 -- if one is still to fail, and how many bytes a call moves at most.
 use Rattle.std.specs.Prelude.{ℕ, suc, zero, Option, Some, None}
-use Rattle.devices.specs.declared.failing.Failing.{Failing}
+use Rattle.runs.specs.declared.failing.Failing.{Failing}
 
 abbrev pub failing_inner : {D : Type 0} → Failing D → D
 failing_inner f = f.inner

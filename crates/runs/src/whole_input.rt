@@ -1,10 +1,10 @@
 //! Reading a whole input.
 ghost use Rattle.std.specs.Prelude.{◌≡◌, ◌≢◌, ◌+◌, ◌-◌, ◌^◌, ◌<◌, ◌≤◌, take, drop, length, vec_len, IfOk, OnOk, IfSome, IsErrOf, Err};
 ghost use Rattle.std.specs.Io.KnownBytes.{Consumes, IsAtEnd};
-ghost use Rattle.devices.specs.Device.{failure_of_read};
+ghost use Rattle.runs.specs.Device.{failure_of_read};
 
 use crate::device::ByteIn;
-use crate::fault::ToolFault;
+use crate::tool_fault::ToolFault;
 use std::alloc::{AllocError, Global};
 use std::io;
 

@@ -1,6 +1,6 @@
 -- What clauses see of a `Counted`: the reader or writer below, and its two counts.
 use Rattle.std.specs.Prelude.{ℕ}
-use Rattle.devices.specs.declared.device.Counted.{Counted}
+use Rattle.runs.specs.declared.device.Counted.{Counted}
 
 abbrev pub counted_inner : {D : Type 0} → Counted D → D
 counted_inner c = c.inner
