@@ -41,8 +41,8 @@
 #define POKIT_H
 
 #define POKIT_VERSION_MAJOR 0
-#define POKIT_VERSION_MINOR 1
-#define POKIT_VERSION "0.1"
+#define POKIT_VERSION_MINOR 2
+#define POKIT_VERSION "0.2"
 
 #include <stddef.h>
 #include <stdint.h>

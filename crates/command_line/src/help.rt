@@ -3,7 +3,7 @@
 
 /// The version is that of `POKIT_VERSION` in include/pokit.h, with which tests/options compares it.
 pub(crate) const ABOUT: &str =
-    "pokit 0.1 compiles message catalogues and looks messages up in them";
+    "pokit 0.2 compiles message catalogues and looks messages up in them";
 
 pub(crate) const PROGRAM: &str =
     "'pokit TOOL --help' and 'pokit help TOOL' show the options of a tool.
